@@ -1,0 +1,14 @@
+//! The text of a program: its tokens, the form that they have to be of, and the program that they mean.
+#![tactic(auto)]
+
+pub mod expr;
+pub mod list;
+pub mod program;
+pub mod refusal;
+pub mod stmt;
+
+pub use expr::{BinOp, Expr, ExprKind};
+pub use list::List;
+pub use program::{Body, CellDecl, Decl, Prog};
+pub use refusal::{Refusal, RuleName};
+pub use stmt::{Stmt, StmtKind};
