@@ -3,3 +3,10 @@ pub mod ExpressionView
 pub mod Statement
 pub mod StatementView
 pub mod Program
+pub mod Words
+pub mod Lexeme
+pub mod Tokens
+pub mod Grammar
+pub mod FirstForm
+pub mod FirstNames
+pub mod FirstMeaning

@@ -1,5 +1,5 @@
 -- A resolved program, as contracts see it.
-use Rattle.std.specs.Prelude.{◌≡◌, ◌+◌, ◌<◌, ◌≤◌, ℕ, List, length}
+use Rattle.std.specs.Prelude.{◌<◌, ℕ, List, length}
 use Rattle.std.specs.List.{AllByRecursion}
 use Rattle.twe_syntax.specs.Expression.{Expression, Literal, CellValue, Binary}
 use Rattle.twe_syntax.specs.Statement.{Statement, SetCell}

@@ -2,13 +2,16 @@
 #![tactic(auto)]
 
 pub mod expr;
+pub mod first;
 pub mod list;
 pub mod program;
 pub mod refusal;
 pub mod stmt;
+pub mod token;
 
 pub use expr::{BinOp, Expr, ExprKind};
 pub use list::List;
 pub use program::{Body, CellDecl, Decl, Prog};
 pub use refusal::{Refusal, RuleName};
 pub use stmt::{Stmt, StmtKind};
+pub use token::{Token, Tokens};

@@ -1,0 +1,5 @@
+//! Texts of the first form.
+
+pub mod form;
+
+pub use form::FirstForm;
