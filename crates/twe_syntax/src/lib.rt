@@ -1,0 +1,8 @@
+//! The text of a program: its tokens, the form that they have to be of, and the program that they mean.
+#![tactic(auto)]
+
+pub mod lexer;
+pub mod token;
+
+pub use lexer::{ReadTokensFail, read_tokens};
+pub use token::{Token, Tokens};
