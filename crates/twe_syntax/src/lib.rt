@@ -3,6 +3,7 @@
 
 pub mod expr;
 pub mod first;
+pub mod lexer;
 pub mod list;
 pub mod program;
 pub mod refusal;
@@ -10,6 +11,7 @@ pub mod stmt;
 pub mod token;
 
 pub use expr::{BinOp, Expr, ExprKind};
+pub use lexer::{ReadTokensFail, read_tokens};
 pub use list::List;
 pub use program::{Body, CellDecl, Decl, Prog};
 pub use refusal::{Refusal, RuleName};
