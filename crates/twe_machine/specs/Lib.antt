@@ -1,0 +1,6 @@
+pub mod Interference
+pub mod Legal
+pub mod Moves
+pub mod Runs
+pub mod Segment
+pub mod Waiting
