@@ -31,13 +31,17 @@ abbrev pub admitted : State → ℕ → Option TaskRow → State
 admitted st t None = st
 admitted st t (Some row) = with_row st t (admitted_row row)
 
+-- the row of a task that is done with this value
+abbrev pub done_row : TaskRow → Frame → ℤ → TaskRow
+done_row row frame value = record row { frame = frame; status = status.Done; value = value }
+
 -- the state after a segment of task t that stopped so, and what the move ended in
 abbrev pub ended : State → ℕ → TaskRow → Stopped → Stop → State × End
 ended st t row after (stops.Done value) = (
     record st {
       cells = after.cells;
       prints = st.prints ++ after.prints;
-      tasks = slice_set st.tasks t (record row { frame = after.frame; status = status.Done; value = value });
+      tasks = slice_set st.tasks t (done_row row after.frame value);
     },
     ends.Done value)
 
@@ -58,11 +62,11 @@ moved p lim st mv = taken p st mv.kind mv.task
 abbrev pub entry_call : Decl → Call
 entry_call decl = record { method = None; vars = replicate decl.body.vars (pos 0); stack = record { block = 0; after = 0 } ∷ [] }
 
--- task 0 before its admission
-abbrev pub first_frame : Program → Bounds → Decl → Frame
-first_frame p lim decl = record {
+-- what task 0, a task of this declaration, keeps before its first segment
+abbrev pub start_frame : ℕ → Bounds → Decl → Frame
+start_frame number lim decl = record {
   task = 0;
-  decl = p.main;
+  decl = number;
   calls = entry_call decl ∷ [];
   fuel = lim.fuel;
   futures = replicate decl.body.futures None;
@@ -72,12 +76,13 @@ first_frame p lim decl = record {
   prints = [];
 }
 
-abbrev pub first_row : Program → Bounds → Decl → TaskRow
-first_row p lim decl = record {
-  decl = p.main;
+-- task 0 before its admission
+abbrev pub first_row : ℕ → Bounds → Decl → TaskRow
+first_row number lim decl = record {
+  decl = number;
   args = [];
   effects = decl.summary;
-  frame = first_frame p lim decl;
+  frame = start_frame number lim decl;
   parent = None;
   joined = false;
   out = [];
@@ -85,15 +90,15 @@ first_row p lim decl = record {
   value = pos 0;
 }
 
-abbrev pub first_rows : Program → Bounds → Option Decl → List TaskRow
-first_rows p lim None = []
-first_rows p lim (Some decl) = first_row p lim decl ∷ []
+abbrev pub first_rows : ℕ → Bounds → Option Decl → List TaskRow
+first_rows number lim None = []
+first_rows number lim (Some decl) = first_row number lim decl ∷ []
 
 -- a run starts with task 0, a `main` that is made, and with each cell at its first value
 abbrev pub start_of : Program → Bounds → State
 start_of p lim = record {
   cells = map (λ cell. cell.init) p.cells;
-  tasks = first_rows p lim (slice_get p.tasks p.main);
+  tasks = first_rows p.main lim (slice_get p.tasks p.main);
   prints = [];
   asked = 0;
   first_fault = None;

@@ -1,6 +1,7 @@
 //! The sequential machine: a state, the moves that may be taken in it, what a move makes of it, and how a run ends.
 #![tactic(auto)]
 
+mod copies;
 mod first_state;
 mod frame;
 mod legal;

@@ -1,15 +1,13 @@
 //! One move.
-ghost use Rattle.std.specs.Prelude.{◌≡◌, ◌<◌, length, IfOk, Some, slice_get};
-ghost use Rattle.std.specs.List.{AllByRecursion};
-ghost use Rattle.twe_syntax.specs.Program.{UsesBelow};
+ghost use Rattle.std.specs.Prelude.{◌≡◌, ◌<◌, length, pos, IfOk, slice_get};
+ghost use Rattle.twe_syntax.specs.Program.{cell_count};
 ghost use Rattle.twe_machine.specs.Legal.{MayMove};
-ghost use Rattle.twe_machine.specs.Moves.{admitted, ran, moved};
+ghost use Rattle.twe_machine.specs.Moves.{admitted, done_row, ran, moved};
 ghost use Rattle.twe_machine.specs.Runs.{IsReached};
-ghost use Rattle.twe_machine.specs.Segment.{remaining};
-ghost use Rattle.twe_machine.specs.declared.state.TaskRow.{TaskRow};
+ghost use Rattle.twe_machine.specs.Segment.{at_end, executed_all, remaining};
 
 use crate::segment::{end, execute_all, left};
-use crate::state::{State, TaskStatus};
+use crate::state::{State, TaskRow, TaskStatus};
 use seg_journal::{End, Kind, Limits, Move};
 use std::alloc::Global;
 use std::mem;
@@ -45,18 +43,25 @@ fn admit(alloc: Global, st: &mut State, task: usize)
 /// Runs a task to its end.
 fn run(alloc: Global, p: &Prog, st: &mut State, task: usize) -> End
     requires there { task < length st.old.tasks }
-    requires cells { (row : TaskRow) → slice_get st.old.tasks task ≡ Some row →
-        AllByRecursion (UsesBelow (length st.old.cells)) (remaining p.now row.frame) }
+    requires cells { length st.old.cells ≡ cell_count p.now }
     ensures { (st.new, result) ≡ ran p.now st.old task (slice_get st.old.tasks task) }
 {
     let mut rows = mem::replace(&mut st.tasks, List::new(alloc)).into_vec();
-    let mut cells = mem::replace(&mut st.cells, Ints::new(alloc)).into_vec();
-    let row = &mut rows[task];
-    execute_all(left(p, &row.frame), &mut cells);
+    run_row(alloc, p, &mut rows[task], &mut st.cells);
+    st.tasks = List::from_vec(rows);
+    End::Done { value: 0 }
+}
+
+/// Runs the segment of a task over the cells.
+fn run_row(alloc: Global, p: &Prog, row: &mut TaskRow, cells: &mut Ints)
+    requires { length cells.old ≡ cell_count p.now }
+    ensures row { row.new ≡ done_row row.old (at_end row.old.frame (pos 0)) (pos 0) }
+    ensures cells { cells.new ≡ executed_all (remaining p.now row.old.frame) cells.old }
+{
+    let mut values = mem::replace(cells, Ints::new(alloc)).into_vec();
+    execute_all(left(p, &row.frame), values.as_mut_slice());
+    *cells = Ints::from(values);
     end(alloc, &mut row.frame, 0);
     row.status = TaskStatus::Done;
     row.value = 0;
-    st.tasks = List::from_vec(rows);
-    st.cells = Ints::from(cells);
-    End::Done { value: 0 }
 }

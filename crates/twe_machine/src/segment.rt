@@ -1,8 +1,8 @@
 //! A segment: the statements that a frame has still to carry out, carried out by a plain evaluator.
-ghost use Rattle.std.specs.Prelude.{◌≡◌, length, pos};
+ghost use Rattle.std.specs.Prelude.{◌≡◌, length, pos, slice_get};
 ghost use Rattle.std.specs.List.{AllByRecursion};
-ghost use Rattle.twe_syntax.specs.Program.{ReadsBelow, UsesBelow};
-ghost use Rattle.twe_machine.specs.Segment.{value_of, executed, executed_all, left_in, left_of, remaining, at_end};
+ghost use Rattle.twe_syntax.specs.Program.{ReadsBelow, UsesBelow, cell_count};
+ghost use Rattle.twe_machine.specs.Segment.{value_of, executed, executed_all, left_in, left_of, statements_of, remaining, at_end};
 
 use crate::frame::{Call, Frame, Next, Position};
 use std::alloc::Global;
@@ -69,14 +69,24 @@ fn left_in_call<'a>(stmts: &'a [Stmt], calls: &[Call]) -> &'a [Stmt]
     }
 }
 
-/// The statements that a frame has still to carry out.
-pub fn left<'a>(p: &'a Prog, frame: &Frame) -> &'a [Stmt]
-    ensures { result.now ≡ remaining p.now frame.now }
+/// The statements of a task's declaration, and none where there is no such declaration. They use only cells of the
+/// program.
+fn statements(p: &Prog, task: u32) -> &[Stmt]
+    ensures statements { result.now ≡ statements_of (slice_get p.now.tasks task) }
+    ensures cells { AllByRecursion (UsesBelow (cell_count p.now)) result.now }
 {
-    match p.tasks.as_slice().get(frame.decl as usize) {
-        None => left_in_call(&[], frame.calls.as_slice()),
-        Some(decl) => left_in_call(decl.body.stmts.as_slice(), frame.calls.as_slice()),
+    match p.tasks.as_slice().get(task as usize) {
+        None => &[],
+        Some(decl) => decl.body.stmts.as_slice(),
     }
+}
+
+/// The statements that a frame has still to carry out. They use only cells of the program.
+pub fn left<'a>(p: &'a Prog, frame: &Frame) -> &'a [Stmt]
+    ensures statements { result.now ≡ remaining p.now frame.now }
+    ensures cells { AllByRecursion (UsesBelow (cell_count p.now)) result.now }
+{
+    left_in_call(statements(p, frame.decl), frame.calls.as_slice())
 }
 
 /// Ends a frame with a value.

@@ -1,0 +1,3 @@
+pub mod OneTask
+pub mod Ran
+pub mod Statements
