@@ -1,3 +1,4 @@
 pub mod Lexeme
+pub mod Reading
 pub mod Tokens
 pub mod Words

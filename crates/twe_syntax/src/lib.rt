@@ -1,6 +1,8 @@
 //! The text of a program: its tokens, the form that they have to be of, and the program that they mean.
 #![tactic(auto)]
 
+mod bytes;
+mod lexeme;
 pub mod lexer;
 pub mod token;
 

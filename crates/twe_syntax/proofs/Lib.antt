@@ -1,0 +1,4 @@
+pub mod Beginnings
+pub mod Comments
+pub mod Heads
+pub mod Longest
