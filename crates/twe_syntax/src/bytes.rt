@@ -1,6 +1,6 @@
 //! The classes of the bytes of a text, and how long a run of one class is.
 ghost use Rattle.std.specs.Prelude.{◌≡◌, not};
-ghost use Rattle.std.specs.List.{prefix_len};
+ghost use Rattle.std.specs.List.{prefix_len, list_all};
 ghost use Rattle.std.specs.Char.{is_ascii_digit};
 ghost use Rattle.twe_syntax.specs.Lexeme.{is_line_end, is_blank, is_allowed, is_letter, is_word_byte};
 
@@ -30,6 +30,27 @@ pub(crate) fn is_word_byte(byte: u8) -> bool
     ensures { result ≡ is_word_byte byte }
 {
     is_letter(byte) || byte.is_ascii_digit()
+}
+
+/// Whether each byte may stand in a text.
+pub(crate) fn are_allowed(bytes: &[u8]) -> bool
+    ensures { result ≡ list_all is_allowed bytes.now }
+{
+    bytes.iter().all(|byte| is_allowed(*byte))
+}
+
+/// Whether each byte is a letter or a digit.
+pub(crate) fn are_word_bytes(bytes: &[u8]) -> bool
+    ensures { result ≡ list_all is_word_byte bytes.now }
+{
+    bytes.iter().all(|byte| is_word_byte(*byte))
+}
+
+/// Whether each byte is a digit.
+pub(crate) fn are_digits(bytes: &[u8]) -> bool
+    ensures { result ≡ list_all is_ascii_digit bytes.now }
+{
+    bytes.iter().all(|byte| byte.is_ascii_digit())
 }
 
 /// How many letters and digits the text begins with.

@@ -4,7 +4,9 @@
 mod bytes;
 mod lexeme;
 pub mod lexer;
+mod places;
 pub mod token;
+mod words;
 
-pub use lexer::{ReadTokensFail, read_tokens};
+pub use lexer::{ReadTokensFail, one_reading, read_tokens};
 pub use token::{Token, Tokens};
