@@ -1,12 +1,11 @@
 -- What the first lexeme of a text is, for each way in which a text can begin.
-use Rattle.std.proofs.Common.{◌≡◌, ℕ, ◌+◌, ◌<◌, ◌≤◌, Bool, true, false, not, ◌&&◌, List, [], ◌∷◌, ◌++◌, length, get_or, take, drop, suc, eqb, sym, refl, ap, ◌∙◌, subst, arith}
-use Rattle.std.specs.List.{prefix_len, list_all}
+use Rattle.std.proofs.Common.{◌≡◌, ℕ, ◌+◌, ◌<◌, ◌≤◌, Bool, true, false, not, List, [], ◌∷◌, ◌++◌, length, get_or, take, drop, suc, eqb, sym, refl, ap, ◌∙◌, subst, arith}
+use Rattle.std.specs.List.{prefix_len}
 use Rattle.std.specs.Char.{is_ascii_digit}
 use Rattle.std.proofs.lemmas.Bool.{and_from, and_left, or_left, false≢true, eq-eqb}
 use Rattle.std.proofs.lemmas.List.{length-take-le, append_assoc, length-append, take_at, take-append-drop}
 use Rattle.std.proofs.lemmas.List.Sums.{prefix_len-le-length}
 use Rattle.std.proofs.Math.Numerals.{one-add}
-use Rattle.twe_syntax.specs.declared.lexeme.Lexeme.{Lexeme}
 use Rattle.twe_syntax.specs.Lexeme.{is_line_end, is_blank, is_letter, is_word_byte, is_long_symbol, is_word, is_number, HasClose, IsUnclosedComment, IsLexeme, one_byte, long_symbol, word, number, line_comment, block_comment}
 use Rattle.twe_syntax.specs.Tokens.{is_gap}
 use Rattle.twe_syntax.specs.Reading.{Begins}
@@ -93,8 +92,8 @@ block_from_body inside at fits closes none =
     (ap (λ bytes. not (is_gap bytes)) (sym front))
     (subst (λ bytes. ¬ IsUnclosedComment bytes) (sym front) (closes_itself body))
   where
-  closes_itself : (body : List ℕ) → ¬ IsUnclosedComment (47 ∷ 42 ∷ (body ++ (42 ∷ 47 ∷ [])))
-  closes_itself body (other, is, unclosed) = let same : body ++ (42 ∷ 47 ∷ []) ≡ other = cc in unclosed (body, [], sym same)
+    closes_itself : (body : List ℕ) → ¬ IsUnclosedComment (47 ∷ 42 ∷ (body ++ (42 ∷ 47 ∷ [])))
+    closes_itself body (other, is, unclosed) = let same : body ++ (42 ∷ 47 ∷ []) ≡ other = cc in unclosed (body, [], sym same)
 
 pub block_begins : (text : List ℕ) (n at : ℕ) → take 2 text ≡ 47 ∷ 42 ∷ [] → at + 2 ≤ length (drop 2 text) → drop at (drop 2 text) ≡ 42 ∷ 47 ∷ drop (at + 2) (drop 2 text) → ¬ HasClose (take at (drop 2 text)) → n ≡ at + 4 → Begins (record { len = n; is_token = false }) text
 block_begins text n at opens fits closes none counted =

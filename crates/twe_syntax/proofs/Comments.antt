@@ -1,5 +1,5 @@
 -- Where `*/` stands, by index and as a part of the bytes.
-use Rattle.std.proofs.Common.{◌≡◌, ℕ, ◌+◌, ◌-◌, ◌<◌, ◌≤◌, List, [], ◌∷◌, ◌++◌, length, get_or, take, drop, sym, refl, ap, ◌∙◌, arith, get_or-take, add-zero, suc}
+use Rattle.std.proofs.Common.{◌≡◌, ℕ, ◌+◌, ◌-◌, ◌<◌, ◌≤◌, List, ◌∷◌, ◌++◌, length, get_or, take, drop, sym, ap, ◌∙◌, arith, get_or-take, add-zero, suc}
 use Rattle.std.proofs.lemmas.List.{length-append, length-take-le, get_or-append-add, drop_more, take_all}
 use Rattle.twe_syntax.specs.Lexeme.{HasClose}
 
@@ -26,8 +26,7 @@ pub first_close : (body : List ℕ) (at : ℕ) → 1 ≤ at → at < length body
     (at - 1 + 2 ≤ length body) × (drop (at - 1) body ≡ 42 ∷ 47 ∷ drop (at - 1 + 2) body) × ¬ HasClose (take (at - 1) body)
 first_close body at positive fits none star slash =
     let next : at - 1 + 1 ≡ at = omega arith in
-    let behind : at - 1 + 1 + 1 ≡ at - 1 + 2 = omega arith in
-    (
+    let behind : at - 1 + 1 + 1 ≡ at - 1 + 2 = omega arith in (
       omega arith,
       close_from_reads body (at - 1) (omega arith) star (ap (λ i. get_or body i 0) next ∙ slash) ∙ ap (λ i. 42 ∷ 47 ∷ drop i body) behind,
       HasClose-take body (at - 1) (omega arith) (λ k below. none k (omega arith)),

@@ -1,10 +1,10 @@
 -- How long a lexeme at the front of a text can be.
-use Rattle.std.proofs.Common.{◌≡◌, ℕ, ◌+◌, ◌<◌, ◌≤◌, Bool, true, false, not, ◌&&◌, List, [], ◌∷◌, ◌++◌, length, get_or, take, drop, suc, eqb, sym, refl, ap, ◌∙◌, subst, arith}
+use Rattle.std.proofs.Common.{◌≡◌, ℕ, ◌+◌, ◌≤◌, Bool, true, false, not, List, [], ◌∷◌, ◌++◌, length, take, drop, suc, sym, ap, ◌∙◌, subst, arith}
 use Rattle.std.specs.List.{prefix_len}
 use Rattle.std.specs.Char.{is_ascii_digit}
 use Rattle.std.proofs.lemmas.Bool.{and_parts, false≢true, eq-eqb}
 use Rattle.std.proofs.lemmas.List.{length-take-le, take-append-drop, length-append, take_at, append_assoc}
-use Rattle.twe_syntax.specs.Lexeme.{is_line_end, is_letter, is_word_byte, is_long_symbol, is_word, is_number, HasClose, IsLineComment, IsBlockComment, IsUnclosedComment, IsLexeme, IsFirstLexeme, one_byte, long_symbol, word, number, line_comment, block_comment, unclosed_comment}
+use Rattle.twe_syntax.specs.Lexeme.{is_line_end, is_letter, is_word_byte, is_long_symbol, HasClose, IsLexeme, IsFirstLexeme, one_byte, long_symbol, word, number, line_comment, block_comment, unclosed_comment}
 use Rattle.twe_syntax.proofs.Heads.{letter_no_digit, letter_begins, digit_begins, symbol_pair, run_bound}
 
 -- no lexeme at the front of the text has more bytes
@@ -25,7 +25,7 @@ pub one_byte_bound : (first : ℕ) (others : List ℕ) → is_letter first ≡ f
     ((rest : List ℕ) → first ∷ others ≡ 47 ∷ 47 ∷ rest → ⊥) → ((rest : List ℕ) → first ∷ others ≡ 47 ∷ 42 ∷ rest → ⊥) → IsBound 1 (first ∷ others)
 one_byte_bound first others no_letter no_digit no_symbol no_line no_block =
     bound_behind 1 first others (λ more behind lexeme split. elim lexeme [
-      one_byte alone ↦ omega arith
+      | one_byte alone ↦ omega arith
       | long_symbol symbol ↦ absurd (no_pair more behind symbol split)
       | word passes ↦ absurd (false≢true (sym no_letter ∙ (and_parts _ _ passes).0))
       | number passes ↦ absurd (false≢true (sym no_digit ∙ (and_parts _ _ passes).0))
@@ -34,18 +34,18 @@ one_byte_bound first others no_letter no_digit no_symbol no_line no_block =
       | unclosed_comment comment ↦ let is = comment.1 in absurd (no_block (comment.0 ++ behind) (ap (λ bytes. first ∷ bytes) split ∙ ap (λ bytes. bytes ++ behind) is))
     ])
   where
-  no_pair : (more behind : List ℕ) → is_long_symbol (first ∷ more) ≡ true → others ≡ more ++ behind → ⊥
-  no_pair more behind symbol split =
-      let two : length (first ∷ more) ≡ 2 = (symbol_pair (first ∷ more) symbol).two in
-      let front : take 2 (first ∷ others) ≡ first ∷ more = ap (λ bytes. take 2 (first ∷ bytes)) split ∙ take_at (first ∷ more) behind 2 two in
-      false≢true (sym no_symbol ∙ ap is_long_symbol front ∙ symbol)
+    no_pair : (more behind : List ℕ) → is_long_symbol (first ∷ more) ≡ true → others ≡ more ++ behind → ⊥
+    no_pair more behind symbol split =
+        let two : length (first ∷ more) ≡ 2 = (symbol_pair (first ∷ more) symbol).two in
+        let front : take 2 (first ∷ others) ≡ first ∷ more = ap (λ bytes. take 2 (first ∷ bytes)) split ∙ take_at (first ∷ more) behind 2 two in
+        false≢true (sym no_symbol ∙ ap is_long_symbol front ∙ symbol)
 
 -- a word ends where its run of letters and digits does
 pub word_bound : (first : ℕ) (others : List ℕ) → is_letter first ≡ true → IsBound (1 + prefix_len is_word_byte others) (first ∷ others)
 word_bound first others letter =
     let no_slash = (letter_begins first letter).no_slash in
     bound_behind (1 + prefix_len is_word_byte others) first others (λ more behind lexeme split. elim lexeme [
-      one_byte alone ↦ omega arith
+      | one_byte alone ↦ omega arith
       | long_symbol symbol ↦ absurd (false≢true (sym (symbol_pair (first ∷ more) symbol).no_letter ∙ letter))
       | word passes ↦ let bounded : length more ≤ prefix_len is_word_byte others = rw split (run_bound is_word_byte more behind (and_parts _ _ passes).1) in omega arith
       | number passes ↦ absurd (letter_no_digit first letter (and_parts _ _ passes).0)
@@ -59,7 +59,7 @@ pub number_bound : (first : ℕ) (others : List ℕ) → is_ascii_digit first �
 number_bound first others digit =
     let no_slash = (digit_begins first digit).no_slash in
     bound_behind (1 + prefix_len is_ascii_digit others) first others (λ more behind lexeme split. elim lexeme [
-      one_byte alone ↦ omega arith
+      | one_byte alone ↦ omega arith
       | long_symbol symbol ↦ absurd (false≢true (sym (symbol_pair (first ∷ more) symbol).no_digit ∙ digit))
       | word passes ↦ absurd (letter_no_digit first (and_parts _ _ passes).0 digit)
       | number passes ↦ let bounded : length more ≤ prefix_len is_ascii_digit others = rw split (run_bound is_ascii_digit more behind (and_parts _ _ passes).1) in omega arith
@@ -73,7 +73,7 @@ pub symbol_bound : (first second : ℕ) (others : List ℕ) → is_long_symbol (
 symbol_bound first second others symbol =
     let pair = symbol_pair (first ∷ second ∷ []) symbol in
     bound_behind 2 first (second ∷ others) (λ more behind lexeme split. elim lexeme [
-      one_byte alone ↦ omega arith
+      | one_byte alone ↦ omega arith
       | long_symbol other ↦ let two = (symbol_pair (first ∷ more) other).two in omega (arith, two)
       | word passes ↦ absurd (false≢true (sym pair.no_letter ∙ (and_parts _ _ passes).0))
       | number passes ↦ absurd (false≢true (sym pair.no_digit ∙ (and_parts _ _ passes).0))
@@ -87,7 +87,7 @@ pub line_bound : (others : List ℕ) → IsBound (2 + prefix_len (λ byte. not (
 line_bound others =
     let in_line : ℕ → Bool = λ byte. not (is_line_end byte) in
     bound_behind (2 + prefix_len in_line others) 47 (47 ∷ others) (λ more behind lexeme split. elim lexeme [
-      one_byte alone ↦ omega arith
+      | one_byte alone ↦ omega arith
       | long_symbol symbol ↦ absurd (false≢true symbol)
       | word passes ↦ absurd (false≢true passes)
       | number passes ↦ absurd (false≢true passes)
@@ -144,7 +144,7 @@ open_bound (head ∷ body) (first ∷ other) after behind split none =
 pub block_bound : (body after : List ℕ) → IsBound (length body + 4) (47 ∷ 42 ∷ (body ++ (42 ∷ 47 ∷ after)))
 block_bound body after =
     bound_behind (length body + 4) 47 (42 ∷ (body ++ (42 ∷ 47 ∷ after))) (λ more behind lexeme split. elim lexeme [
-      one_byte alone ↦ omega arith
+      | one_byte alone ↦ omega arith
       | long_symbol symbol ↦ absurd (false≢true symbol)
       | word passes ↦ absurd (false≢true passes)
       | number passes ↦ absurd (false≢true passes)

@@ -1,5 +1,5 @@
 -- What the lexer keeps: the lexemes in front of the rest of the text, and their tokens.
-use Rattle.std.proofs.Common.{◌≡◌, ℕ, ◌+◌, ◌<◌, ◌≤◌, Bool, true, false, cond, not, List, [], ◌∷◌, ◌++◌, length, take, drop, zero, suc, IsAscii, sym, refl, ap, ◌∙◌, subst, arith}
+use Rattle.std.proofs.Common.{◌≡◌, ℕ, ◌+◌, ◌<◌, ◌≤◌, true, false, not, List, [], ◌∷◌, ◌++◌, length, take, drop, zero, suc, IsAscii, sym, refl, ap, ◌∙◌, subst, arith}
 use Rattle.std.specs.List.{AllByRecursion, list_all, suffix_len}
 use Rattle.std.proofs.lemmas.Bool.{cond-true, cond-false, not-false, not-true, and_parts}
 use Rattle.std.proofs.lemmas.Bool.Decides.{nat_tests}
@@ -14,7 +14,7 @@ use Rattle.twe_syntax.specs.Reading.{Begins, IsUnclosed}
 
 no_lexeme : ¬ IsLexeme []
 no_lexeme lexeme = elim lexeme [
-  one_byte alone ↦ omega arith
+  | one_byte alone ↦ omega arith
   | long_symbol symbol ↦ cc
   | word passes ↦ cc
   | number passes ↦ cc
@@ -29,8 +29,7 @@ one_first bytes others text rest behind first other =
     let at_most = other.longest bytes rest first.lexeme first.split in
     let at_least = first.longest others behind other.lexeme other.split in
     let same_len : length others ≡ length bytes = omega arith in
-    let split = sym first.split ∙ other.split in
-    (
+    let split = sym first.split ∙ other.split in (
       sym (take_at bytes rest (length bytes) refl) ∙ ap (take (length bytes)) split ∙ take_at others behind (length bytes) same_len,
       sym (drop_at bytes rest (length bytes) refl) ∙ ap (drop (length bytes)) split ∙ drop_at others behind (length bytes) same_len,
     )

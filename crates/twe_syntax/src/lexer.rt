@@ -75,5 +75,4 @@ pub fn read_tokens(alloc: Global, text: &[u8]) -> Result<Tokens, ReadTokensFail>
 /// A text has at most one list of tokens.
 pub fn one_reading()
     ensures { (text : List ℕ) (tokens others : List Token) → Tokenizes text tokens → Tokenizes text others → tokens ≡ others }
-{
-}
+{}

@@ -25,7 +25,7 @@ place_behind-place-requires-clause-columns c = omega (arith, columns_fit _ _ _ _
 pub loop-rest-preserved : goal.loop-rest-preserved
 loop-rest-preserved c = record {
   read = elim c.if-lexeme.branch [
-    then-lexeme+in_ok-new+in_ok-push w ↦
+    | then-lexeme+in_ok-new+in_ok-push w ↦
         token_more _ _ _ _ _ c.in-Some.lexeme _ _ _ c.loop-rest.invariant.read c.in-Some.ensures c.split_at.ensures.front c.split_at.ensures.back c.place_behind-place.ensures w.if-lexeme.true
         (w.tokens-is ∙ w.in_ok-push.ensures.ok ∙ ap (λ token. c.loop-rest.tokens ++ token ∷ []) w.in_ok-new.ensures)
     | else-lexeme w ↦
