@@ -6,6 +6,7 @@ pub mod FirstNames
 pub mod Grammar
 pub mod Lexeme
 pub mod Program
+pub mod Reading
 pub mod Statement
 pub mod StatementView
 pub mod Tokens
