@@ -17,7 +17,7 @@ use Rattle.twe_machine.specs.declared.state.TaskStatus.{TaskStatus}
 use Rattle.twe_machine.specs.declared.state.TaskStatus.TheVariants.{Made, Enabled, Done, Faulted}
 use Rattle.twe_machine.specs.Legal.{MayMove, MayTake, Isolated}
 use Rattle.twe_machine.specs.Moves.{taken, start_of, first_rows, admitted, admitted_row, ran}
-use Rattle.twe_machine.specs.Runs.{replayed, LegalFrom, IsReached, IsReachable}
+use Rattle.twe_machine.specs.Runs.{replayed, state_after, IsReached}
 use Rattle.twe_machine.specs.Segment.{value_of, executed, executed_all, remaining, at_end}
 use Rattle.twe_machine.specs.Waiting.{IsRow, HasStatus, WaitsFor, awaited}
 
@@ -95,6 +95,10 @@ kept p st Run t one = after_run p st t (slice_get st.tasks t) refl one
 run_kept : (p : Program) (lim : Bounds) (st : State) (entries : List Entry) → IsAlone p st → IsAlone p (replayed p lim st entries)
 run_kept p lim st [] one = one
 run_kept p lim st (entry ∷ entries) one = run_kept p lim ((taken p st entry.mv.kind entry.mv.task).0) entries (kept p st entry.mv.kind entry.mv.task one)
+
+-- whatever the entries, there is at most one task behind them
+pub run_is_alone : (p : Program) (lim : Bounds) (entries : List Entry) → IsAlone p (state_after p lim entries)
+run_is_alone p lim entries = run_kept p lim (start_of p lim) entries (at_start p lim)
 
 -- each state that a run comes to has at most one task
 pub reached_is_alone : (p : Program) (lim : Bounds) (st : State) → IsReached p lim st → IsAlone p st

@@ -1,6 +1,6 @@
 -- Which moves may be taken in a state, and what keeps a move from it.
 use Rattle.std.specs.Prelude.{◌≡◌, ◌≢◌, ◌≤◌, ◌<◌, ◌⊎◌, ℕ, length}
-use Rattle.twe_machine.specs.Interference.{SummariesInterfere}
+use Rattle.effect_sets.specs.Interference.{SomeInterfere}
 use Rattle.seg_journal.specs.declared.moves.Kind.{Kind}
 use Rattle.seg_journal.specs.declared.moves.Kind.TheVariants.{Admit, Run}
 use Rattle.seg_journal.specs.declared.moves.Move.{Move}
@@ -14,7 +14,7 @@ use Rattle.twe_machine.specs.Waiting as waiting
 
 -- some effects of the two tasks interfere
 abbrev pub Interfere : State → ℕ → ℕ → Type 0
-Interfere st s t = (a : TaskRow) × (b : TaskRow) × IsRow st s a × IsRow st t b × SummariesInterfere a.effects b.effects
+Interfere st s t = (a : TaskRow) × (b : TaskRow) × IsRow st s a × IsRow st t b × SomeInterfere a.effects.effects b.effects.effects
 
 -- s is a bar to t: it is another task, it may run, its effects interfere with those of t, and it doesn't yield to t
 abbrev pub IsBar : State → ℕ → ℕ → Type 0

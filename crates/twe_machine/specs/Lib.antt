@@ -1,4 +1,3 @@
-pub mod Interference
 pub mod Legal
 pub mod Moves
 pub mod Runs

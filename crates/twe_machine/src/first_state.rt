@@ -2,7 +2,6 @@
 ghost use Rattle.std.specs.Prelude.{◌≡◌, ℤ, pos, map, replicate, IfOk, None};
 ghost use Rattle.twe_machine.specs.Moves.{start_of, start_frame, first_row, entry_call};
 
-use crate::copies::copy_summary;
 use crate::frame::{Call, Frame, Next, Position};
 use crate::state::{State, TaskRow, TaskStatus};
 use seg_journal::Limits;
@@ -47,7 +46,7 @@ fn first_task(alloc: Global, number: u32, main: &Decl, lim: Limits) -> Result<Ta
     Ok(TaskRow {
         decl: number,
         args: Ints::new(alloc),
-        effects: copy_summary(alloc, &main.summary)?,
+        effects: main.summary.copy(alloc)?,
         frame: first_frame(alloc, number, main, lim)?,
         parent: None,
         joined: false,

@@ -28,7 +28,7 @@ pub fn may(p: &Prog, st: &State, mv: Move) -> Result<(), Why>
     ensures legal { IsOk result ↔ MayMove st.now mv }
     ensures why { IfErr result (Forbids st.now mv.kind mv.task) }
 {
-    let Some(row) = st.tasks.as_slice().get(mv.task as usize) else {
+    let Some(row) = st.tasks.get(mv.task as usize) else {
         return Err(Why::NoTask);
     };
     match (mv.kind, row.status) {

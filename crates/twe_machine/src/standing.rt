@@ -1,7 +1,9 @@
 //! How a run stands that has come to a state.
-ghost use Rattle.twe_machine.specs.Runs.{IsReachable, IsOutcome};
+ghost use Rattle.std.specs.Prelude.{◌≡◌};
+ghost use Rattle.std.specs.List.{list_all};
+ghost use Rattle.twe_machine.specs.Runs.{IsReachable, IsOutcome, is_done_row};
 
-use crate::outcome::Outcome;
+use crate::ending::Outcome;
 use crate::state::{State, TaskRow, TaskStatus};
 use twe_syntax::Prog;
 
@@ -17,10 +19,17 @@ pub fn outcome(p: &Prog, st: &State) -> Outcome
             place: fault.place,
         };
     }
-    let done = |row: &TaskRow| row.status == TaskStatus::Done;
-    if st.tasks.as_slice().iter().all(done) {
+    if all_done(st.tasks.as_slice()) {
         Outcome::AllDone
     } else {
+        // A program of the first form makes no second task, for which the first could wait.
         Outcome::Unfinished
     }
+}
+
+/// Whether each task is done.
+fn all_done(rows: &[TaskRow]) -> bool
+    ensures { result ≡ list_all is_done_row rows.now }
+{
+    rows.iter().all(|row| matches!(row.status, TaskStatus::Done))
 }
