@@ -5,6 +5,7 @@ pub mod FirstMeaning
 pub mod FirstNames
 pub mod Grammar
 pub mod Lexeme
+pub mod Numbering
 pub mod Program
 pub mod Statement
 pub mod StatementView

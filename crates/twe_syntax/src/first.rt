@@ -1,5 +1,8 @@
 //! Texts of the first form.
 
+mod fail;
 pub mod form;
+mod names;
 
+pub use fail::FirstFail;
 pub use form::FirstForm;
