@@ -1,9 +1,10 @@
 //! An effect, lists of effects that contracts see as lists, and the summary of a declaration.
-ghost use Rattle.std.specs.Prelude.{◌≡◌, [], length, slice_get, option_copied};
+ghost use Rattle.std.specs.Prelude.{◌≡◌, ◌↔◌, [], ◌∷◌, ◌++◌, IsTrue, OnErr, OnOk, length, slice_get, option_copied};
 
 use region_paths::Path;
 use std::alloc::Global;
 use std::marker::Model;
+use twe_io::Memory;
 
 /// A read of the regions of a path, or a write, which covers reads too.
 #[derive(Debug, Drop)]
@@ -30,48 +31,66 @@ impl Model for Effects {
 }
 
 impl Effects {
-    /// No effects. It takes no memory.
-    pub fn new(alloc: Global) -> Effects
-        ensures empty { result ≡ [] }
+    /// The empty list. It takes no memory.
+    pub fn new(alloc: Global) -> Self
+        ensures { result ≡ [] }
     {
         Effects {
             items: Vec::new(alloc),
         }
     }
 
-    /// The effects of the vector, in its memory.
-    pub fn from_vec(items: Vec<Effect>) -> Effects
-        ensures same { result ≡ items.items }
-    {
-        Effects { items }
-    }
-
-    /// The effects as a vector, in the memory that they had.
+    /// The effects as the vector that holds them. It takes no memory.
     pub fn into_vec(self) -> Vec<Effect>
-        ensures same { result.items ≡ self }
+        ensures { result.items ≡ self }
     {
         self.items
     }
 
     /// How many effects there are.
     pub fn len(&self) -> usize
-        ensures counted { result ≡ length self.now }
+        ensures { result ≡ length self.now }
     {
         self.items.len()
     }
 
-    /// The effect at a place counted from 0, or nothing behind the last.
+    /// Whether there are no effects.
+    pub fn is_empty(&self) -> bool
+        ensures { IsTrue result ↔ (self.now ≡ []) }
+    {
+        self.items.is_empty()
+    }
+
+    /// The effect at a place counted from 0, or `None` behind the last one.
     pub fn get(&self, at: usize) -> Option<&Effect>
-        ensures at_place { option_copied result ≡ slice_get self.now at }
+        ensures { option_copied result ≡ slice_get self.now at }
     {
         self.items.get(at)
     }
 
     /// The effects as a slice.
     pub fn as_slice(&self) -> &[Effect]
-        ensures same { result.now ≡ self.now }
+        ensures { result.now ≡ self.now }
     {
         self.items.as_slice()
+    }
+
+    /// Puts an effect behind the others. After `Memory` the list is as before, and the effect is gone.
+    pub fn push(&mut self, effect: Effect) -> Result<(), Memory>
+        ensures ok { OnOk result (self.new ≡ self.old ++ effect ∷ []) }
+        ensures err { OnErr result (self.new ≡ self.old) }
+    {
+        self.items.push(effect)?;
+        Ok(())
+    }
+}
+
+impl From<Vec<Effect>> for Effects {
+    ghost from_gives = { λ items list. list ≡ items.items };
+
+    /// The vector's effects. It takes no memory.
+    fn from(items: Vec<Effect>) -> Self {
+        Effects { items }
     }
 }
 
