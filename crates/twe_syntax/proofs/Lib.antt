@@ -1,2 +1,4 @@
+pub mod NamesDiffer
 pub mod NumberingLemmas
 pub mod Positions
+pub mod Steps

@@ -1,6 +1,6 @@
 -- The first place in a list at which a test passes.
-use Rattle.std.proofs.Common.{◌≡◌, ℕ, ◌+◌, ◌<◌, ◌≤◌, Bool, true, false, cond, eqb, ltb, List, [], ◌∷◌, ◌++◌, length, get_or, Option, None, Some, arith, refl, ap, sym, ◌∙◌}
-use Rattle.std.specs.List.{position, position_or_len}
+use Rattle.std.proofs.Common.{◌≡◌, ℕ, suc, ◌+◌, ◌<◌, ◌≤◌, Bool, true, false, not, ◌||◌, cond, eqb, ltb, List, [], ◌∷◌, ◌++◌, length, get_or, Option, None, Some, is_some, arith, refl, ap, sym, ◌∙◌}
+use Rattle.std.specs.List.{position, position_or_len, list_any}
 use Rattle.std.proofs.lemmas.List.{length_push}
 use Rattle.std.proofs.lemmas.List.Folds.{position_or_len_push}
 use Rattle.std.proofs.lemmas.List.Sums.{prefix_len-le-length}
@@ -27,3 +27,19 @@ position_push_first p xs y passes none =
     let long = length_push xs y in
     let all = none_at (position_or_len p xs) (length xs) (position_or_len-le p xs) none in
     rw (at, long, passes, all) (grind (arith, nat_tests))
+
+first_is_some : (b : Bool) (k n : ℕ) (any : Bool) → is_some {T = ℕ} (cond (ltb k n) (Some k) None) ≡ any → is_some {T = ℕ} (cond (ltb (cond (not b) (1 + k) 0) (suc n)) (Some (cond (not b) (1 + k) 0)) None) ≡ (b || any)
+first_is_some true k n any at = grind (arith, nat_tests)
+first_is_some false k n any at = grind (arith, nat_tests)
+
+-- there is a first place exactly where some element passes
+pub is_some_position : {X : Type 0} (p : X → Bool) (xs : List X) → is_some (position p xs) ≡ list_any p xs
+is_some_position p [] = refl
+is_some_position p (x ∷ xs) = first_is_some (p x) (position_or_len p xs) (length xs) (list_any p xs) (is_some_position p xs)
+
+pub position_none : {X : Type 0} (p : X → Bool) (xs : List X) → list_any p xs ≡ false → position p xs ≡ None
+position_none p xs none = none_from (position p xs) (is_some_position p xs ∙ none)
+  where
+    none_from : (o : Option ℕ) → is_some o ≡ false → o ≡ None
+    none_from None h = refl
+    none_from (Some n) h = cc

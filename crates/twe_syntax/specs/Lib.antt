@@ -1,6 +1,7 @@
 pub mod Expression
 pub mod ExpressionView
 pub mod FirstForm
+pub mod FirstLiterals
 pub mod FirstMeaning
 pub mod FirstNames
 pub mod Grammar

@@ -1,5 +1,6 @@
 //! Texts of the first form.
 
+mod declared;
 mod fail;
 pub mod form;
 mod names;

@@ -12,6 +12,19 @@ pub struct Token {
     pub place: Place,
 }
 
+impl Token {
+    ghost use Rattle.std.specs.Prelude.{◌≡◌, ◌≤◌, IsTrue, SomeIff, pos};
+    ghost use Rattle.twe_syntax.specs.Words.{is_literal, number_of};
+
+    /// The number that the digits write, if it is at most 2147483647.
+    pub fn literal_value(&self) -> Option<i32>
+        requires { IsTrue (is_literal self.now.text) }
+        ensures { SomeIff result (number_of self.now.text ≤ 2147483647) (pos (number_of self.now.text)) }
+    {
+        None
+    }
+}
+
 /// The tokens of a text, in their order. Contracts see them as a list.
 #[derive(Debug, Drop)]
 pub struct Tokens {

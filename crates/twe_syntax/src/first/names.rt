@@ -1,5 +1,6 @@
 //! Names that are numbered in the order in which they were put in.
 ghost use Rattle.std.specs.Prelude.{◌≡◌, [], ◌∷◌, ◌++◌, None, bytes_eq, position, OnOk, OnErr};
+ghost use Rattle.std.specs.List.{list_any};
 
 use std::alloc::Global;
 use std::collections::BTreeMap;
@@ -56,6 +57,13 @@ impl Names {
         ensures found { result ≡ position (bytes_eq name.now) self.now }
     {
         self.numbers.get(name.as_str()).copied()
+    }
+
+    /// Whether a name is there.
+    pub fn has(&self, name: &Word) -> bool
+        ensures found { result ≡ list_any (bytes_eq name.now) self.now }
+    {
+        self.number_of(name).is_some()
     }
 
     /// The names as a vector, in the memory that they had.
