@@ -3,6 +3,7 @@
 mod declared;
 mod fail;
 pub mod form;
+mod meaning;
 mod names;
 
 pub use fail::FirstFail;
