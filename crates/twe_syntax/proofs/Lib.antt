@@ -1,4 +1,10 @@
+pub mod Beginnings
+pub mod Comments
+pub mod Heads
+pub mod Longest
 pub mod NamesDiffer
 pub mod NumberingLemmas
+pub mod Numbers
 pub mod Positions
+pub mod ReadSoFar
 pub mod Steps

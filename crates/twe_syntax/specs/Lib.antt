@@ -8,6 +8,7 @@ pub mod Grammar
 pub mod Lexeme
 pub mod Numbering
 pub mod Program
+pub mod Reading
 pub mod Statement
 pub mod StatementView
 pub mod Tokens
