@@ -8,3 +8,4 @@ pub mod Numbers
 pub mod Positions
 pub mod ReadSoFar
 pub mod Steps
+pub mod WritableLemmas

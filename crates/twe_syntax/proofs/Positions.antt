@@ -1,6 +1,9 @@
 -- The first place in a list at which a test passes.
 use Rattle.std.proofs.Common.{◌≡◌, ℕ, suc, ◌+◌, ◌<◌, ◌≤◌, Bool, true, false, not, ◌||◌, cond, eqb, ltb, List, [], ◌∷◌, ◌++◌, length, get_or, Option, None, Some, is_some, arith, refl, ap, sym, ◌∙◌}
-use Rattle.std.specs.List.{position, position_or_len, list_any}
+use Rattle.std.specs.List.{position, position_or_len, list_any, Contains}
+use Rattle.std.specs.Str.{bytes_eq}
+use Rattle.std.specs.Cmp.Lexicographic.{bytes_decides, nat_list_eq_equiv}
+use Rattle.std.proofs.lemmas.Map.Views.{Contains-from_any, list_any-from_Contains}
 use Rattle.std.proofs.lemmas.List.{length_push}
 use Rattle.std.proofs.lemmas.List.Folds.{position_or_len_push}
 use Rattle.std.proofs.lemmas.List.Sums.{prefix_len-le-length}
@@ -43,3 +46,14 @@ position_none p xs none = none_from (position p xs) (is_some_position p xs ∙ n
     none_from : (o : Option ℕ) → is_some o ≡ false → o ≡ None
     none_from None h = refl
     none_from (Some n) h = cc
+
+-- the places of names
+pub Contains-from_position : (name : List ℕ) (names : List (List ℕ)) (n : ℕ) → position (bytes_eq name) names ≡ Some n → Contains names name
+Contains-from_position name names n at =
+    Contains-from_any (λ x y same. (bytes_decides x y).0 same) name names (sym (is_some_position (bytes_eq name) names) ∙ ap (λ o. is_some o) at)
+
+pub absent_from_position : (name : List ℕ) (names : List (List ℕ)) → position (bytes_eq name) names ≡ None → ¬ Contains names name
+absent_from_position name names none there =
+    let found : list_any (bytes_eq name) names ≡ true = list_any-from_Contains nat_list_eq_equiv name names there in
+    let missed : list_any (bytes_eq name) names ≡ false = sym (is_some_position (bytes_eq name) names) ∙ ap (λ o. is_some o) none in
+    cc

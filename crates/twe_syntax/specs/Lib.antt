@@ -13,3 +13,4 @@ pub mod Statement
 pub mod StatementView
 pub mod Tokens
 pub mod Words
+pub mod Writable

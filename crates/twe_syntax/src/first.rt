@@ -5,6 +5,7 @@ mod fail;
 pub mod form;
 mod meaning;
 mod names;
+mod writable;
 
 pub use fail::FirstFail;
 pub use form::FirstForm;
