@@ -5,6 +5,7 @@ mod fail;
 pub mod form;
 mod meaning;
 mod names;
+mod statements;
 mod writable;
 
 pub use fail::FirstFail;
