@@ -8,4 +8,5 @@ pub mod Numbers
 pub mod Positions
 pub mod ReadSoFar
 pub mod Steps
+pub mod WellFormed
 pub mod WritableLemmas

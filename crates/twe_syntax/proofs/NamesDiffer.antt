@@ -1,12 +1,14 @@
 -- When names differ, and that a name which stands twice makes a list that is not distinct.
-use Rattle.std.proofs.Common.{◌≡◌, ℕ, Bool, true, false, ◌||◌, List, [], ◌∷◌, ◌++◌, None, Result, Ok, Err, codes, refl, sym, ap, ◌∙◌, subst, append_assoc, append-nil}
-use Rattle.std.specs.List.{AllByRecursion, IsDistinct, list_any, position}
+use Rattle.std.proofs.Common.{◌≡◌, ◌≤◌, ℕ, map, length, Bool, true, false, ◌||◌, List, [], ◌∷◌, ◌++◌, None, Result, Ok, Err, codes, refl, sym, ap, ◌∙◌, subst, append_assoc, append-nil}
+use Rattle.std.specs.List.{AllByRecursion, Contains, IsDistinct, list_any, position}
 use Rattle.std.specs.Result.{OnOk, OnErr}
 use Rattle.std.specs.Str.{bytes_eq}
 use Rattle.std.specs.Cmp.Lexicographic.{nat_list_eq_equiv}
 use Rattle.std.proofs.lemmas.List.Folds.{list_any-append}
 use Rattle.std.proofs.lemmas.Map.Keys.{IsDistinct-push}
-use Rattle.twe_syntax.specs.FirstNames.{all_names}
+use Rattle.twe_syntax.specs.declared.first.form.CellLine.{CellLine}
+use Rattle.twe_syntax.specs.declared.first.form.FirstForm.{FirstForm}
+use Rattle.twe_syntax.specs.FirstNames.{text_of, all_names, region_names, cell_names, IsAllowed, NamesAreRight}
 use Rattle.twe_syntax.proofs.Positions.{position_none}
 
 all_at : {X : Type 0} (P : X → Type 0) (front : List X) (x : X) (later : List X) → AllByRecursion P (front ++ x ∷ later) → P x
@@ -66,3 +68,30 @@ distinct_after_region (Err _) regions cells after name no_cells ok err distinct 
 pub repeated_line : (old now all line others : List (List ℕ)) → now ++ (line ++ others) ≡ old ++ all → ((later : List (List ℕ)) → ¬ IsDistinct bytes_eq (all_names now (line ++ later))) → (later : List (List ℕ)) → ¬ IsDistinct bytes_eq (all_names old (all ++ later))
 repeated_line old now all line others same repeats later distinct =
     repeats (others ++ later) (subst (λ names. IsDistinct bytes_eq (codes "main" ∷ names)) (sym (append_assoc old all later) ∙ (ap (λ names. names ++ later) (sym same) ∙ simp append_assoc)) distinct)
+
+distinct_behind : (front names : List (List ℕ)) → IsDistinct bytes_eq (front ++ names) → IsDistinct bytes_eq names
+unfolding IsDistinct
+distinct_behind [] names distinct = distinct
+distinct_behind (x ∷ front) names distinct = distinct_behind front names distinct.1
+
+-- the cells differ from each other
+pub distinct_cells : (regions cells : List (List ℕ)) → IsDistinct bytes_eq (all_names regions cells) → IsDistinct bytes_eq cells
+distinct_cells regions cells distinct = distinct_behind (codes "main" ∷ regions) cells distinct
+
+-- what is said of the items of a list and of names holds of the same items and names
+pub contains_moved : {X : Type 0} (key : X → List ℕ) (names names' : List (List ℕ)) (items items' : List X) → names ≡ names' → items ≡ items' → AllByRecursion (λ x. Contains names (key x)) items → AllByRecursion (λ x. Contains names' (key x)) items'
+contains_moved key names names' items items' same same_items all =
+    subst (λ ns. AllByRecursion (λ x. Contains ns (key x)) items') same (subst (λ xs. AllByRecursion (λ x. Contains names (key x)) xs) same_items all)
+
+-- the names are right, where the declared ones are those of the form
+pub names_are_right : (f : FirstForm) (regions cells : List (List ℕ)) (lines : List CellLine) → regions ≡ region_names f.regions → cells ≡ cell_names f.cells → lines ≡ f.cells → IsDistinct bytes_eq (all_names regions cells)
+    → AllByRecursion (λ line. Contains regions (text_of line.region)) lines → AllByRecursion (λ token. Contains (region_names f.regions) (text_of token)) f.writes
+    → AllByRecursion (IsAllowed f.cells (map text_of f.writes)) f.assignments → length f.writes ≤ 8 → length f.cells ≤ 65536 → NamesAreRight f
+names_are_right f regions cells lines same_regions same_cells same_lines different declared writes assignments few_effects few_cells = record {
+  different = subst (λ rs. IsDistinct bytes_eq (all_names rs (cell_names f.cells))) same_regions (subst (λ cs. IsDistinct bytes_eq (all_names regions cs)) same_cells different);
+  cells = contains_moved (λ line. text_of line.region) regions (region_names f.regions) lines f.cells same_regions same_lines declared;
+  writes = writes;
+  assignments = assignments;
+  few_effects = few_effects;
+  few_cells = few_cells;
+}
