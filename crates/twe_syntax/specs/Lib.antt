@@ -3,6 +3,7 @@ pub mod ExpressionView
 pub mod FirstForm
 pub mod FirstMeaning
 pub mod FirstNames
+pub mod FirstReading
 pub mod Grammar
 pub mod Lexeme
 pub mod Program
