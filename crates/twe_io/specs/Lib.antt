@@ -1,0 +1,5 @@
+pub mod Faults
+pub mod Told
+pub mod Runs
+pub mod ReadFail
+pub mod Plain

@@ -8,7 +8,7 @@ use Rattle.twe_syntax.specs.declared.first.form.Assignment.{Assignment}
 use Rattle.twe_syntax.specs.Grammar.{Symbol, word, marked, name}
 use Rattle.twe_syntax.specs.FirstForm.{more_names, summary_of, term, addend, assignment}
 use Rattle.twe_syntax.specs.FirstReading.{◌>>=◌, is_the_word, is_name, begins, token_at, term_at, with_front, items_at, more_names_at, task_head_at, summary_at, addend_at, assignment_at}
-use Rattle.twe_syntax.proofs.Beginning.{Begins, Begins-nil, same_from_Begins, Begins-append, Begins-split, Begins-length}
+use Rattle.twe_syntax.proofs.FormBegins.{Begins, Begins-nil, same_from_Begins, Begins-append, Begins-split, Begins-length}
 use Rattle.twe_syntax.proofs.FirstTokens.{bind_some, chosen, chosen_first, chosen_second, some_is, word_takes, word_gives, word_begins, marked_takes, marked_gives, marked_begins, name_takes, name_gives, name_begins, term_takes, term_gives}
 use Rattle.twe_syntax.proofs.Repeats.{Shrinks, Takes, Gives, Opens, with_front_some, items_take, items_give}
 use Rattle.twe_syntax.proofs.FirstLines.{more_names_take, more_names_give}

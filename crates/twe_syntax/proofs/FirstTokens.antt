@@ -14,7 +14,7 @@ use Rattle.twe_syntax.specs.Words.{is_keyword, is_identifier, is_literal, number
 use Rattle.twe_syntax.specs.Grammar.{Symbol, word, marked, name, literal, FitsAt, Fits, IsSmallLiteral}
 use Rattle.twe_syntax.specs.FirstForm.{term}
 use Rattle.twe_syntax.specs.FirstReading.{◌>>=◌, is_the_word, is_name, is_small_literal, begins, next_of, token_at, term_at}
-use Rattle.twe_syntax.proofs.Beginning.{Begins}
+use Rattle.twe_syntax.proofs.FormBegins.{Begins}
 
 -- the value of a step that did not fail
 pub bind_some : {A B : Type 0} (o : Option A) (f : A → Option B) (y : B) → (o >>= f) ≡ Some y → (x : A) × (o ≡ Some x) × (f x ≡ Some y)

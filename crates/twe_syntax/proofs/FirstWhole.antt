@@ -9,7 +9,7 @@ use Rattle.twe_syntax.specs.Words.{is_identifier}
 use Rattle.twe_syntax.specs.Grammar.{Symbol, word, marked, Fits}
 use Rattle.twe_syntax.specs.FirstForm.{region_line, cell_line, summary_of, assignment, first_form}
 use Rattle.twe_syntax.specs.FirstReading.{◌>>=◌, is_the_word, is_name, begins, token_at, items_at, region_line_at, cell_line_at, task_head_at, summary_at, assignment_at, form_at}
-use Rattle.twe_syntax.proofs.Beginning.{Begins, Begins-nil, same_from_Begins, Begins-append, Begins-split, Begins-from_Fits, Fits-from_Begins}
+use Rattle.twe_syntax.proofs.FormBegins.{Begins, Begins-nil, same_from_Begins, Begins-append, Begins-split, Begins-from_Fits, Fits-from_Begins}
 use Rattle.twe_syntax.proofs.FirstTokens.{bind_some, some_is, word_takes, word_gives, word_begins, marked_takes, marked_gives, marked_begins}
 use Rattle.twe_syntax.proofs.Repeats.{Takes, Gives}
 use Rattle.twe_syntax.proofs.FirstLines.{region_lines_take, region_lines_give, cell_lines_take, cell_lines_give}

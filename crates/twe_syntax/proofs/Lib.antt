@@ -1,6 +1,12 @@
-pub mod Beginning
+pub mod Beginnings
+pub mod Comments
 pub mod FirstLines
 pub mod FirstTask
 pub mod FirstTokens
 pub mod FirstWhole
+pub mod FormBegins
+pub mod Heads
+pub mod Longest
+pub mod Numbers
+pub mod ReadSoFar
 pub mod Repeats

@@ -7,7 +7,7 @@ use Rattle.twe_syntax.specs.declared.first.fail.FirstFail.{FirstFail}
 use Rattle.twe_syntax.specs.declared.first.fail.FirstFail.TheVariants as fails
 use Rattle.twe_syntax.specs.Grammar.{Symbol}
 use Rattle.twe_syntax.specs.FirstReading.{◌>>=◌, Fails, begins, with_front, items_within, items_at}
-use Rattle.twe_syntax.proofs.Beginning.{Begins, Begins-nil, same_from_Begins, Begins-append, Begins-split}
+use Rattle.twe_syntax.proofs.FormBegins.{Begins, Begins-nil, same_from_Begins, Begins-append, Begins-split}
 use Rattle.twe_syntax.proofs.FirstTokens.{bind_some, chosen, chosen_first, chosen_second, some_is}
 
 -- an item takes a token at least

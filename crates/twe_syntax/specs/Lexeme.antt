@@ -2,24 +2,25 @@
 use Rattle.std.specs.Prelude.{◌≡◌, ℕ, ◌≤◌, Bool, false, ◌&&◌, ◌||◌, not, List, [], ◌∷◌, ◌++◌, length, ◌==◌, nat_le, IsTrue, codes, bytes_eq}
 use Rattle.std.specs.List.{list_all, list_any}
 use Rattle.std.specs.Char.{is_ascii_alphabetic, is_ascii_digit}
+use Rattle.std.specs.Str.{byte}
 
 -- the byte that ends a line
 abbrev pub is_line_end : ℕ → Bool
-is_line_end byte = byte == 10
+is_line_end code = code == 10
 
 -- white space: a tab, the end of a line, a carriage return, a space
 abbrev pub is_blank : ℕ → Bool
-is_blank byte = (byte == 9) || is_line_end byte || (byte == 13) || (byte == 32)
+is_blank code = (code == 9) || is_line_end code || (code == 13) || (code == byte " ")
 
 -- what may stand in a text, comments included: white space, and the bytes that print
 abbrev pub is_allowed : ℕ → Bool
-is_allowed byte = is_blank byte || (nat_le 32 byte && nat_le byte 126)
+is_allowed code = is_blank code || (nat_le (byte " ") code && nat_le code (byte "~"))
 
 abbrev pub is_letter : ℕ → Bool
-is_letter byte = is_ascii_alphabetic byte || (byte == 95)
+is_letter code = is_ascii_alphabetic code || (code == byte "_")
 
 abbrev pub is_word_byte : ℕ → Bool
-is_word_byte byte = is_letter byte || is_ascii_digit byte
+is_word_byte code = is_letter code || is_ascii_digit code
 
 -- a letter, and then letters and digits
 abbrev pub is_word : List ℕ → Bool
@@ -44,7 +45,7 @@ HasClose bytes = (before : List ℕ) × (after : List ℕ) × (bytes ≡ before 
 
 -- `//`, and then anything but the end of a line
 abbrev pub IsLineComment : List ℕ → Type 0
-IsLineComment bytes = (body : List ℕ) × (bytes ≡ codes "//" ++ body) × IsTrue (list_all (λ byte. not (is_line_end byte)) body)
+IsLineComment bytes = (body : List ℕ) × (bytes ≡ codes "//" ++ body) × IsTrue (list_all (λ code. not (is_line_end code)) body)
 
 -- `/*`, and then what stands in front of the first `*/`, and this `*/`
 abbrev pub IsBlockComment : List ℕ → Type 0

@@ -7,6 +7,7 @@ pub mod FirstReading
 pub mod Grammar
 pub mod Lexeme
 pub mod Program
+pub mod Reading
 pub mod Statement
 pub mod StatementView
 pub mod Tokens

@@ -1,6 +1,7 @@
 -- The tokens of a text, with their places.
-use Rattle.std.specs.Prelude.{◌≡◌, ℕ, ◌+◌, Bool, false, ◌&&◌, ◌||◌, not, List, [], ◌∷◌, ◌++◌, ◌==◌, IsTrue, codes, count_by, if◌then◌else◌}
-use Rattle.std.specs.List.{list_all, suffix_len, AllByRecursion, starts_with}
+use Rattle.std.specs.Prelude.{◌≡◌, ℕ, ◌+◌, Bool, false, ◌&&◌, ◌||◌, not, List, [], ◌∷◌, ◌++◌, ◌==◌, IsTrue, count_by, if◌then◌else◌}
+use Rattle.std.specs.Str.{byte}
+use Rattle.std.specs.List.{list_all, suffix_len, AllByRecursion}
 use Rattle.twe_io.specs.declared.place.Place.{Place}
 use Rattle.twe_syntax.specs.declared.token.Token.{Token}
 use Rattle.twe_syntax.specs.Lexeme.{is_line_end, is_blank, is_allowed, IsUnclosedComment, AreLexemes}
@@ -9,14 +10,14 @@ use Rattle.twe_syntax.specs.Lexeme.{is_line_end, is_blank, is_allowed, IsUnclose
 abbrev pub place_after : List ℕ → Place
 place_after before = record {
   line = 1 + count_by is_line_end before;
-  col = 1 + suffix_len (λ byte. not (is_line_end byte)) before;
+  col = 1 + suffix_len (λ code. not (is_line_end code)) before;
 }
 
 -- a lexeme that is no token: a blank, or what begins as a comment
 abbrev pub is_gap : List ℕ → Bool
 is_gap [] = false
-is_gap (byte ∷ []) = is_blank byte
-is_gap (first ∷ second ∷ others) = (first == 47) && ((second == 47) || (second == 42))
+is_gap (code ∷ []) = is_blank code
+is_gap (first ∷ second ∷ others) = (first == byte "/") && ((second == byte "/") || (second == byte "*"))
 
 -- the lexemes that are tokens, each with its place behind the text before
 abbrev pub tokens_behind : List ℕ → List (List ℕ) → List Token

@@ -1,6 +1,7 @@
 //! A token of a text, and lists of tokens.
 ghost use Rattle.std.specs.Prelude.{◌≡◌, ◌↔◌, [], ◌∷◌, ◌++◌, length, slice_get, IsTrue, IfOk, OnOk, OnErr, option_copied};
 
+use crate::words::{is_keyword, is_number, is_word, number_of};
 use std::alloc::Global;
 use std::marker::Model;
 use twe_io::{Memory, Place, Word};
@@ -10,6 +11,52 @@ use twe_io::{Memory, Place, Word};
 pub struct Token {
     pub text: Word,
     pub place: Place,
+}
+
+impl Token {
+    ghost use Rattle.std.specs.Prelude.{◌≡◌, ◌≤◌, ◌↔◌, IsTrue, IfOk, IsAscii, SomeIff, pos};
+    ghost use Rattle.twe_syntax.specs.Words.{is_identifier, is_literal, number_of};
+
+    /// A token of the same bytes, which are ASCII.
+    pub fn new(alloc: Global, bytes: &[u8], place: Place) -> Result<Self, Memory>
+        requires ascii { IsAscii bytes.now }
+        ensures { IfOk result (λ token. token ≡ record { text = bytes.now; place = place }) }
+    {
+        let Ok(text) = str::from_utf8(bytes) else {
+            unreachable!()
+        };
+        let text = Word::from_text(alloc, text)?;
+        Ok(Token { text, place })
+    }
+
+    /// Whether the token is this text.
+    pub fn is(&self, text: &[u8]) -> bool
+        ensures { IsTrue result ↔ (self.now.text ≡ text.now) }
+    {
+        self.text.as_bytes() == text
+    }
+
+    /// Whether the token is a name: a letter or `_`, then letters, digits and `_`, and no keyword.
+    pub fn is_identifier(&self) -> bool
+        ensures { result ≡ is_identifier self.now.text }
+    {
+        is_word(self.text.as_bytes()) && !is_keyword(self.text.as_str())
+    }
+
+    /// Whether the token is one or more digits.
+    pub fn is_literal(&self) -> bool
+        ensures { result ≡ is_literal self.now.text }
+    {
+        is_number(self.text.as_bytes())
+    }
+
+    /// The number that the digits write, if it is at most 2147483647.
+    pub fn literal_value(&self) -> Option<i32>
+        requires { IsTrue (is_literal self.now.text) }
+        ensures { SomeIff result (number_of self.now.text ≤ 2147483647) (pos (number_of self.now.text)) }
+    {
+        number_of(self.text.as_bytes())
+    }
 }
 
 /// The tokens of a text, in their order. Contracts see them as a list.
@@ -35,6 +82,14 @@ impl Tokens {
         Tokens {
             items: Vec::new(alloc),
         }
+    }
+
+    /// The tokens as the vector that holds them. It takes no memory.
+    pub fn into_vec(self) -> Vec<Token>
+        ensures { result.items ≡ self }
+    {
+        let Tokens { items } = self;
+        items
     }
 
     /// How many tokens there are.

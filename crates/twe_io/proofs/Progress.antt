@@ -1,0 +1,92 @@
+-- How far a loop over an end has come.
+use Rattle.std.proofs.Common.{◌≡◌, ℕ, ◌+◌, ◌≤◌, List, ◌++◌, Option, Some, false, length, take, drop, refl, sym, ap, ◌∙◌, subst, arith, le_refl, length-drop, length-append, length-take-le, drop_at}
+use Rattle.std.proofs.Math.Seq.{take-add}
+use Rattle.std.proofs.lemmas.List.{take-append-le}
+use Rattle.std.proofs.lemmas.Slice.{take-put_mid_below}
+use Rattle.std.proofs.KnownBytes.{Appends-nil, Appends-trans, Consumes-nil, Consumes-trans}
+use Rattle.std.specs.Io.KnownBytes.{Appends, Consumes}
+use borrow.Rule.Slice.PartMut.{put_mid, post_of}
+use Rattle.twe_io.specs.Runs.{Reads, Writes}
+
+-- a buffer is filled with the bytes that a source gave since it was `first`
+pub record Filled {S : Type 0} (faults : S → ℕ) (left : S → Option (List ℕ)) (gives : S → ℕ → Option ℕ → S → Type 0)
+    (first now : S) (buffer : List ℕ) (taken : ℕ) : Type 0 where
+  pub within : taken ≤ length buffer
+  pub given : Consumes (left first) (left now) (take taken buffer)
+  pub counts : faults first ≤ faults now
+  pub reads : Reads gives first false now
+
+-- a first part of a text is written to a sink since it was `first`
+pub record Sent {S : Type 0} (faults : S → ℕ) (written : S → Option (List ℕ)) (gives : S → List ℕ → Option ℕ → S → Type 0)
+    (first now : S) (text : List ℕ) (taken : ℕ) : Type 0 where
+  pub within : taken ≤ length text
+  pub appended : Appends (written first) (written now) (take taken text)
+  pub counts : faults first ≤ faults now
+  pub writes : Writes gives text first taken now
+
+module _ {S : Type 0} (faults : S → ℕ) (written : S → Option (List ℕ)) (gives : S → List ℕ → Option ℕ → S → Type 0) where
+  -- nothing is written yet
+  pub Sent-none : (first : S) (text : List ℕ) → Sent faults written gives first first text 0
+  Sent-none first text = record {
+    within = omega arith;
+    appended = Appends-nil (written first);
+    counts = le_refl _;
+    writes = Writes.none;
+  }
+
+  -- one write more
+  pub Sent-more : (first now next : S) (text piece : List ℕ) (taken more : ℕ) → Sent faults written gives first now text taken
+      → piece ≡ drop taken text → more ≤ length piece → Appends (written now) (written next) (take more piece)
+      → faults now ≤ faults next → gives now piece (Some more) next
+      → Sent faults written gives first next text (taken + more)
+  Sent-more first now next text piece taken more sent e fits appended counts step = record {
+    within = omega (arith, sent.within, subst (λ (p : List ℕ). more ≤ length p) e fits, length-drop taken text);
+    appended = subst (Appends (written first) (written next))
+        (ap (λ (p : List ℕ). take taken text ++ take more p) e ∙ sym (take-add taken more text))
+        (Appends-trans _ _ _ _ _ sent.appended appended);
+    counts = omega (arith, sent.counts, counts);
+    writes = Writes.write taken more sent.writes (subst (λ (p : List ℕ). gives now p (Some more) next) e step) refl;
+  }
+
+-- after a write to the rest of a buffer it is no shorter than its front and that part
+length-put_mid : (buffer part : List ℕ) (taken room : ℕ) → taken ≤ length buffer → taken + length part ≤ length (put_mid taken room buffer part)
+length-put_mid buffer part taken room within =
+    omega (
+      arith,
+      length-append (take taken buffer) (part ++ post_of taken room buffer),
+      length-append part (post_of taken room buffer),
+      length-take-le taken buffer within,
+    )
+
+-- what was filled, and then the first bytes of the part written behind it
+take-put_mid_part : (buffer part : List ℕ) (taken room more : ℕ) → taken ≤ length buffer → more ≤ length part
+    → take (taken + more) (put_mid taken room buffer part) ≡ take taken buffer ++ take more part
+take-put_mid_part buffer part taken room more within fits =
+    let after = post_of taken room buffer in
+    let front : take taken (put_mid taken room buffer part) ≡ take taken buffer = take-put_mid_below taken room buffer part taken (le_refl _) within in
+    let back : take more (drop taken (put_mid taken room buffer part)) ≡ take more part =
+    ap (take more) (drop_at (take taken buffer) (part ++ after) taken (length-take-le taken buffer within)) ∙ take-append-le more part after fits in
+    take-add taken more (put_mid taken room buffer part) ∙ cc (front, back)
+
+module _ {S : Type 0} (faults : S → ℕ) (left : S → Option (List ℕ)) (gives : S → ℕ → Option ℕ → S → Type 0) where
+  -- nothing is read yet
+  pub Filled-none : (first : S) (buffer : List ℕ) → Filled faults left gives first first buffer 0
+  Filled-none first buffer = record {
+    within = omega arith;
+    given = Consumes-nil (left first);
+    counts = le_refl _;
+    reads = Reads.none;
+  }
+
+  -- one read more, into the rest of the buffer
+  pub Filled-more : (first now next : S) (buffer part : List ℕ) (taken room more asked : ℕ) → Filled faults left gives first now buffer taken
+      → more ≤ length part → Consumes (left now) (left next) (take more part) → faults now ≤ faults next
+      → gives now asked (Some more) next
+      → Filled faults left gives first next (put_mid taken room buffer part) (taken + more)
+  Filled-more first now next buffer part taken room more asked filled fits given counts step = record {
+    within = omega (arith, fits, length-put_mid buffer part taken room filled.within);
+    given = subst (Consumes (left first) (left next)) (sym (take-put_mid_part buffer part taken room more filled.within fits))
+        (Consumes-trans _ _ _ _ _ filled.given given);
+    counts = omega (arith, filled.counts, counts);
+    reads = Reads.read asked (Some more) filled.reads step refl;
+  }
