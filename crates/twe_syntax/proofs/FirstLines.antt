@@ -89,12 +89,12 @@ first_value_takes tokens found e =
     elim (chosen (begins (is_the_word (codes "=")) tokens) _ (Some nothing) (Some found) e) [
       | inr right ↦ subst P (some_is nothing found right.1) (Begins-nil tokens)
       | inl left ↦
-        let a = bind_some (token_at (is_the_word (codes "=")) tokens) _ found left.1 in
-        let b = bind_some (token_at is_small_literal a.0.1) _ found a.2 in
-        let made : Option Token × List Token = (Some b.0.0, b.0.1) in
-        let value = literal_takes [] a.0.1 b.0 b.0.1 b.1 (Begins-nil b.0.1) in
-        let whole : P made = word_takes (codes "=") _ tokens a.0 b.0.1 a.1 value in
-        subst P (some_is made found b.2) whole
+          let a = bind_some (token_at (is_the_word (codes "=")) tokens) _ found left.1 in
+          let b = bind_some (token_at is_small_literal a.0.1) _ found a.2 in
+          let made : Option Token × List Token = (Some b.0.0, b.0.1) in
+          let value = literal_takes [] a.0.1 b.0 b.0.1 b.1 (Begins-nil b.0.1) in
+          let whole : P made = word_takes (codes "=") _ tokens a.0 b.0.1 a.1 value in
+          subst P (some_is made found b.2) whole
     ]
 
 first_value_gives : (value : Option Token) (tokens rest : List Token) → Begins (first_value value) tokens rest → begins (is_the_word (codes "=")) rest ≡ false → first_value_at tokens ≡ Some (value, rest)

@@ -47,17 +47,17 @@ unfolding summary_at
 summary_takes tokens found e =
     elim (chosen (begins (is_the_word (codes "pure")) tokens) _ _ (Some found) e) [
       | inl left ↦
-        let a = bind_some (token_at (is_the_word (codes "pure")) tokens) _ found left.1 in
-        let made : List Token × List Token = ([], a.0.1) in
-        let whole : Begins (summary_of made.0) tokens made.1 = word_takes (codes "pure") [] tokens a.0 a.0.1 a.1 (Begins-nil a.0.1) in
-        subst (λ (p : List Token × List Token). Begins (summary_of p.0) tokens p.1) (some_is made found a.2) whole
+          let a = bind_some (token_at (is_the_word (codes "pure")) tokens) _ found left.1 in
+          let made : List Token × List Token = ([], a.0.1) in
+          let whole : Begins (summary_of made.0) tokens made.1 = word_takes (codes "pure") [] tokens a.0 a.0.1 a.1 (Begins-nil a.0.1) in
+          subst (λ (p : List Token × List Token). Begins (summary_of p.0) tokens p.1) (some_is made found a.2) whole
       | inr right ↦
-        let a = bind_some (token_at (is_the_word (codes "writes")) tokens) _ found right.1 in
-        let b = bind_some (token_at is_name a.0.1) _ found a.2 in
-        let c = with_front_some (b.0.0 ∷ []) (more_names_at b.0.1) found b.2 in
-        let names = name_takes _ a.0.1 b.0 found.1 b.1 (more_names_take b.0.1 (c.0, found.1) c.1) in
-        let whole : Begins (summary_of (b.0.0 ∷ c.0)) tokens found.1 = word_takes (codes "writes") _ tokens a.0 found.1 a.1 names in
-        subst (λ (names : List Token). Begins (summary_of names) tokens found.1) (sym c.2) whole
+          let a = bind_some (token_at (is_the_word (codes "writes")) tokens) _ found right.1 in
+          let b = bind_some (token_at is_name a.0.1) _ found a.2 in
+          let c = with_front_some (b.0.0 ∷ []) (more_names_at b.0.1) found b.2 in
+          let names = name_takes _ a.0.1 b.0 found.1 b.1 (more_names_take b.0.1 (c.0, found.1) c.1) in
+          let whole : Begins (summary_of (b.0.0 ∷ c.0)) tokens found.1 = word_takes (codes "writes") _ tokens a.0 found.1 a.1 names in
+          subst (λ (names : List Token). Begins (summary_of names) tokens found.1) (sym c.2) whole
     ]
 
 pub summary_gives : (names : List Token) (tokens rest : List Token) → Begins (summary_of names) tokens rest → begins (is_the_word (codes ",")) rest ≡ false → summary_at tokens ≡ Some (names, rest)

@@ -3,7 +3,6 @@ use Rattle.std.proofs.Common.{◌≡◌, ℕ, ◌≤◌, Bool, true, false, ◌&
 use Rattle.std.specs.Prelude.{bytes_eq}
 use Rattle.std.proofs.lemmas.Bool.{and_parts, and_from, and_left, leb-true, le-leb}
 use Rattle.std.proofs.lemmas.Bool.Decides.{nat_tests}
-
 use Rattle.std.proofs.lemmas.Slice.Eq.{bytes_eq-Decides}
 use Rattle.std.specs.Char.{is_ascii_digit}
 use Rattle.twe_syntax.specs.declared.token.Token.{Token}
@@ -114,8 +113,8 @@ term_takes symbols (token ∷ tokens) found rest e behind =
     elim (chosen (is_name token) (Some named) (cond (is_small_literal token) (Some number) None) (Some found) e) [
       | inl left ↦ subst P (some_is named found left.1) (λ h. ((refl, left.0), h)) behind
       | inr right ↦
-        let g = guard_some (is_small_literal token) number found right.1 in
-        subst P g.1 (λ h. ((refl, small_from token g.0), h)) behind
+          let g = guard_some (is_small_literal token) number found right.1 in
+          subst P g.1 (λ h. ((refl, small_from token g.0), h)) behind
     ]
 
 -- What fits is read.
@@ -160,10 +159,11 @@ term_gives (NamedCell this) symbols (token ∷ tokens) rest h =
     let named : Term × List Token = (NamedCell token, tokens) in
     (tokens, chosen_first (is_name token) (Some named) _ h.0.1 ∙ ap (λ (t : Token). Some (NamedCell t, tokens)) h.0.0, h.1)
 term_gives (Number this) symbols (token ∷ tokens) rest h =
-    let number : Term × List Token = (Number token, tokens) in
-    (tokens,
-     chosen_second (is_name token) _ _ (literal_is_no_name token h.0.1) ∙ chosen_first (is_small_literal token) (Some number) None (small_to token h.0.1) ∙ ap (λ (t : Token). Some (Number t, tokens)) h.0.0,
-     h.1)
+    let number : Term × List Token = (Number token, tokens) in (
+      tokens,
+      chosen_second (is_name token) _ _ (literal_is_no_name token h.0.1) ∙ chosen_first (is_small_literal token) (Some number) None (small_to token h.0.1) ∙ ap (λ (t : Token). Some (Number t, tokens)) h.0.0,
+      h.1,
+    )
 
 -- What cannot be read next.
 

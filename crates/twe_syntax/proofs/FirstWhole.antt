@@ -1,14 +1,17 @@
 -- A whole text of the first form: what is read is written so, and what is written so is read.
-use Rattle.std.proofs.Common.{◌≡◌, ℕ, Bool, true, false, List, [], ◌∷◌, ◌++◌, Option, None, Some, refl, sym, ap, subst, ◌∙◌}
-use Rattle.std.specs.Prelude.{codes, bytes_eq}
+use Rattle.std.proofs.Common.{◌≡◌, ℕ, Bool, true, false, List, [], ◌∷◌, ◌++◌, Option, None, Some, Err, refl, sym, ap, subst, ◌∙◌}
+use Rattle.std.specs.Prelude.{codes, bytes_eq, IsErrOf}
+use Rattle.std.proofs.lemmas.Option.{none-some}
 use Rattle.std.specs.List.{flat_map}
 use Rattle.twe_syntax.specs.declared.token.Token.{Token}
+use Rattle.twe_syntax.specs.declared.first.fail.FirstFail.{FirstFail}
+use Rattle.twe_syntax.specs.declared.first.fail.FirstFail.TheVariants as fails
 use Rattle.twe_syntax.specs.declared.first.form.CellLine.{CellLine}
 use Rattle.twe_syntax.specs.declared.first.form.FirstForm.{FirstForm}
 use Rattle.twe_syntax.specs.Words.{is_identifier}
 use Rattle.twe_syntax.specs.Grammar.{Symbol, word, marked, Fits}
 use Rattle.twe_syntax.specs.FirstForm.{region_line, cell_line, summary_of, assignment, first_form}
-use Rattle.twe_syntax.specs.FirstReading.{◌>>=◌, is_the_word, is_name, begins, token_at, items_at, region_line_at, cell_line_at, task_head_at, summary_at, assignment_at, form_at}
+use Rattle.twe_syntax.specs.FirstReading.{◌>>=◌, Fails, is_the_word, is_name, begins, token_at, items_at, region_line_at, cell_line_at, task_head_at, summary_at, assignment_at, form_at}
 use Rattle.twe_syntax.proofs.FormBegins.{Begins, Begins-nil, same_from_Begins, Begins-append, Begins-split, Begins-from_Fits, Fits-from_Begins}
 use Rattle.twe_syntax.proofs.FirstTokens.{bind_some, some_is, word_takes, word_gives, word_begins, marked_takes, marked_gives, marked_begins}
 use Rattle.twe_syntax.proofs.Repeats.{Takes, Gives}
@@ -82,3 +85,14 @@ pub one : (tokens : List Token) (form other : FirstForm) → Fits (first_form fo
 one tokens form other fits fits' =
     let same = some_is (form, []) (other, []) (sym (form_read tokens form fits) ∙ form_read tokens other fits') in
     ap (λ (p : FirstForm × List Token). p.0) same
+
+-- nothing fits tokens that are refused
+pub no_form : (fail : FirstFail) (tokens : List Token) → Fails fail (form_at tokens) → IsErrOf {T = FirstForm} (Err fail) fails.Form → (form : FirstForm) → Fits (first_form form) tokens → ⊥
+no_form fails.Form tokens e same form fits = none-some (form, []) (sym e ∙ form_read tokens form fits)
+no_form fails.Memory tokens e same form fits = absurd cc
+
+-- nothing fits tokens of which some are left
+pub no_form_of_more : (tokens rest : List Token) (found : FirstForm) → form_at tokens ≡ Some (found, rest) → (rest ≡ [] → ⊥) → (form : FirstForm) → Fits (first_form form) tokens → ⊥
+no_form_of_more tokens rest found e more form fits =
+    let same = some_is (found, rest) (form, []) (sym e ∙ form_read tokens form fits) in
+    more (ap (λ (p : FirstForm × List Token). p.1) same)

@@ -47,7 +47,6 @@ same_after None f g same = refl
 same_after (Some x) f g same = same x refl
 
 module _ {X : Type 0} (passes : Token → Bool) (item : List Token → Option (X × List Token)) where
-
   -- more turns than tokens read the same
   within-enough : Shrinks item → (m n : ℕ) (tokens : List Token) → length tokens < m → length tokens < n → items_within m passes item tokens ≡ items_within n passes item tokens
   unfolding items_within
@@ -55,8 +54,8 @@ module _ {X : Type 0} (passes : Token → Bool) (item : List Token → Option (X
   within-enough shrinks (suc m) zero tokens h k = absurd (omega arith)
   within-enough shrinks (suc m) (suc n) tokens h k =
       let same = same_after (item tokens) (λ first. with_front (first.0 ∷ []) (items_within m passes item first.1)) (λ first. with_front (first.0 ∷ []) (items_within n passes item first.1)) (λ found e.
-        let shorter = shrinks tokens found e in
-        ap (λ (read : Option (List X × List Token)). with_front (found.0 ∷ []) read) (within-enough shrinks m n found.1 (omega arith) (omega arith)))
+      let shorter = shrinks tokens found e in
+      ap (λ (read : Option (List X × List Token)). with_front (found.0 ∷ []) read) (within-enough shrinks m n found.1 (omega arith) (omega arith)))
       in
       ap (λ (read : Option (List X × List Token)). cond (begins passes tokens) read (Some ([], tokens))) same
 
@@ -113,12 +112,12 @@ module _ {X : Type 0} (passes : Token → Bool) (item : List Token → Option (X
       elim (chosen (begins passes tokens) _ (Some nothing) (Some found) e) [
         | inr right ↦ subst P (some_is nothing found right.1) (Begins-nil tokens)
         | inl left ↦
-          let a = bind_some (item tokens) (λ first. with_front (first.0 ∷ []) (items_within turns passes item first.1)) found left.1 in
-          let b = with_front_some (a.0.0 ∷ []) (items_within turns passes item a.0.1) found a.2 in
-          let first = takes tokens a.0 a.1 in
-          let others = within_takes written takes turns a.0.1 (b.0, found.1) b.1 in
-          let both = Begins-append (written a.0.0) (flat_map written b.0) tokens a.0.1 found.1 first others in
-          subst (λ (xs : List X). Begins (flat_map written xs) tokens found.1) (sym b.2) both
+            let a = bind_some (item tokens) (λ first. with_front (first.0 ∷ []) (items_within turns passes item first.1)) found left.1 in
+            let b = with_front_some (a.0.0 ∷ []) (items_within turns passes item a.0.1) found a.2 in
+            let first = takes tokens a.0 a.1 in
+            let others = within_takes written takes turns a.0.1 (b.0, found.1) b.1 in
+            let both = Begins-append (written a.0.0) (flat_map written b.0) tokens a.0.1 found.1 first others in
+            subst (λ (xs : List X). Begins (flat_map written xs) tokens found.1) (sym b.2) both
       ]
 
   pub items_take : (written : X → List Symbol) → Takes written item → (tokens : List Token) (found : List X × List Token) → items_at passes item tokens ≡ Some found → Begins (flat_map written found.0) tokens found.1
