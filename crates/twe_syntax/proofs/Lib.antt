@@ -1,5 +1,10 @@
 pub mod Beginnings
 pub mod Comments
+pub mod FirstLines
+pub mod FirstTask
+pub mod FirstTokens
+pub mod FirstWhole
+pub mod FormBegins
 pub mod Heads
 pub mod Longest
 pub mod NamesDiffer
@@ -7,6 +12,8 @@ pub mod NumberingLemmas
 pub mod Numbers
 pub mod Positions
 pub mod ReadSoFar
+pub mod Repeats
+pub mod SmallLiterals
 pub mod Steps
 pub mod WellFormed
 pub mod WritableLemmas

@@ -4,6 +4,7 @@ pub mod FirstForm
 pub mod FirstLiterals
 pub mod FirstMeaning
 pub mod FirstNames
+pub mod FirstReading
 pub mod Grammar
 pub mod Lexeme
 pub mod Numbering
