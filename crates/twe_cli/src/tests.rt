@@ -1,0 +1,139 @@
+//! Whole calls: words and a text go in, and a status and the bytes of both sinks come out.
+use crate::book::Book;
+use crate::top::twe;
+use std::alloc::Global;
+use std::test::Fail;
+use twe_io::{Bytes, Calls, MemSink, MemSource, Memory, PlainSink, PlainSource, Sink, Source, Word};
+
+const INCREMENT: &[u8] = b"region A;\nint x in A = 41;\ntask void main() writes A { x = x + 1; }\n";
+const NOTHING: &[u8] = b"task void main() pure { }\n";
+const RESULT: &[u8] = b"x = 42\ntasks 1\n";
+const REFUSED: &[u8] = b"refused: Form at 1:1\n";
+const USAGE: &[u8] = b"usage: twe check | run [--workers k] [--fuel f] [--tasks t] [--journal] | replay [--fuel f] [--tasks t] | load N [--workers k]\n";
+
+/// One call, and what it has to answer.
+struct Case {
+    words: &'static [&'static str],
+    text: &'static [u8],
+    status: u8,
+    out: &'static [u8],
+    err: &'static [u8],
+}
+
+const CASES: &[Case] = &[
+    Case { words: &["run"], text: INCREMENT, status: 0, out: RESULT, err: b"" },
+    Case { words: &["run"], text: NOTHING, status: 0, out: b"tasks 1\n", err: b"" },
+    Case { words: &["run"], text: b"", status: 1, out: b"", err: REFUSED },
+    Case { words: &["walk"], text: INCREMENT, status: 2, out: b"", err: USAGE },
+    Case { words: &[], text: INCREMENT, status: 2, out: b"", err: USAGE },
+    Case { words: &["run", "run"], text: INCREMENT, status: 2, out: b"", err: USAGE },
+    Case { words: &["run", "--"], text: INCREMENT, status: 2, out: b"", err: USAGE },
+    Case { words: &["--help"], text: INCREMENT, status: 2, out: b"", err: USAGE },
+    Case {
+        words: &["run"],
+        text: b"region A; int a in A = 2147483647; int b in A; task void main() writes A { b = a + 1; a = b + b; }",
+        status: 0,
+        out: b"a = 0\nb = -2147483648\ntasks 1\n",
+        err: b"",
+    },
+    Case {
+        words: &["run"],
+        text: b"region A, B; int a in A = 1; int b in B = 2; task void main() writes B, A { a = a + b + 3; b = a; }",
+        status: 0,
+        out: b"a = 6\nb = 6\ntasks 1\n",
+        err: b"",
+    },
+    Case {
+        words: &["run"],
+        text: b"region A; int a in A; int b in A = 7; task void main() writes A { a = b + a; b = 007; a = a + a; }",
+        status: 0,
+        out: b"a = 14\nb = 7\ntasks 1\n",
+        err: b"",
+    },
+    Case {
+        words: &["run"],
+        text: b"region A; int x in A; task void main() pure { x = 1; }",
+        status: 1,
+        out: b"",
+        err: REFUSED,
+    },
+];
+
+/// Makes one call over these ends, and says its status.
+fn call<S: Source>(
+    alloc: Global,
+    words: &[&str],
+    src: &mut S,
+    out: &mut PlainSink,
+    err: &mut PlainSink,
+) -> Result<u8, Memory> {
+    let mut list = Vec::new(alloc);
+    for word in words {
+        list.push(Word::from_text(alloc, word)?)?;
+    }
+    let mut book = Book::new(alloc);
+    Ok(twe(alloc, list.as_slice(), src, out, err, &mut book).code())
+}
+
+#[test]
+fn each_call_has_its_status_and_its_bytes(rt: HostRuntime) -> Result<(), Fail> {
+    for case in CASES {
+        let mut src = PlainSource::new(Bytes::from_slice(rt.alloc(), case.text)?);
+        let mut out = PlainSink::new(rt.alloc(), 200)?;
+        let mut err = PlainSink::new(rt.alloc(), 200)?;
+        let status = call(rt.alloc(), case.words, &mut src, &mut out, &mut err)?;
+        assert_eq!(rt; status, case.status);
+        assert_eq!(rt; out.bytes(), case.out);
+        assert_eq!(rt; err.bytes(), case.err);
+    }
+    Ok(())
+}
+
+#[test]
+fn a_text_may_have_a_mebibyte_and_no_more(rt: HostRuntime) -> Result<(), Fail> {
+    for (count, status) in [(1_048_576usize, 1u8), (1_048_577, 8)] {
+        let blanks = vec![in rt.alloc(); b' '; count]?;
+        let mut src = PlainSource::new(Bytes::from(blanks));
+        let mut out = PlainSink::new(rt.alloc(), 200)?;
+        let mut err = PlainSink::new(rt.alloc(), 200)?;
+        let answer = call(rt.alloc(), &["run"], &mut src, &mut out, &mut err)?;
+        assert_eq!(rt; answer, status);
+        let wanted = if status == 8 { b"input too long\n".as_slice() } else { REFUSED };
+        assert_eq!(rt; err.bytes(), wanted);
+        assert_eq!(rt; out.bytes().len(), 0);
+    }
+    Ok(())
+}
+
+#[test]
+fn a_source_that_fails_at_any_call_is_a_read_fault(rt: HostRuntime) -> Result<(), Fail> {
+    for at in 1..29u64 {
+        let text = Bytes::from_slice(rt.alloc(), NOTHING)?;
+        let mut src = MemSource::new(text, 1, Calls::from_slice(rt.alloc(), &[at])?);
+        let mut out = PlainSink::new(rt.alloc(), 200)?;
+        let mut err = PlainSink::new(rt.alloc(), 200)?;
+        let status = call(rt.alloc(), &["run"], &mut src, &mut out, &mut err)?;
+        // The text has 26 bytes, and call 27 finds the end.
+        assert_eq!(rt; status, if at < 28 { 5 } else { 0 });
+        let wanted = if at < 28 { b"read fault\n".as_slice() } else { b"" };
+        assert_eq!(rt; err.bytes(), wanted);
+    }
+    Ok(())
+}
+
+#[test]
+fn a_sink_that_fails_at_any_call_keeps_what_it_took(rt: HostRuntime) -> Result<(), Fail> {
+    for at in 1..17u64 {
+        let mut src = PlainSource::new(Bytes::from_slice(rt.alloc(), INCREMENT)?);
+        let fails = Calls::from_slice(rt.alloc(), &[at])?;
+        let mut out = MemSink::new(rt.alloc(), 200, 1, fails)?;
+        let mut err = PlainSink::new(rt.alloc(), 200)?;
+        let mut book = Book::new(rt.alloc());
+        let words = [Word::from_text(rt.alloc(), "run")?];
+        let status = twe(rt.alloc(), &words, &mut src, &mut out, &mut err, &mut book);
+        assert_eq!(rt; status.code(), if at < 16 { 6 } else { 0 });
+        assert_eq!(rt; out.bytes(), &RESULT[..(at - 1) as usize]);
+        assert_eq!(rt; err.bytes().len(), 0);
+    }
+    Ok(())
+}

@@ -1,0 +1,52 @@
+//! The top call.
+ghost use Rattle.std.specs.Prelude.{◌≡◌, [], IfOk};
+ghost use Rattle.twe_cli.specs.Answers.{input, output, Answers};
+ghost use Rattle.twe_cli.specs.Texts as texts;
+ghost use Rattle.twe_cli.specs.Theorem.{IsNew};
+ghost use Rattle.twe_cli.specs.Words.{command_of};
+ghost use Rattle.twe_cli.specs.declared.status.Status.TheVariants.{Usage};
+
+use crate::answer::{Answer, tell};
+use crate::book::Book;
+use crate::report::usage_text;
+use crate::single::twe_single;
+use crate::status::Status;
+use crate::words::read_words;
+use std::alloc::Global;
+use twe_io::{Bytes, Memory, Sink, Source, Word};
+
+/// Does what the words of the command line say: the whole program, but for where its bytes come from and go to.
+///
+/// `Answers` says what each status means and what is written with it. A list of words that is no command has the usage
+/// line, and nothing of the source is taken then. After `Memory` nothing was written.
+pub fn twe<S: Source, O: Sink, E: Sink>(
+    alloc: Global,
+    words: &[Word],
+    src: &mut S,
+    out: &mut O,
+    err: &mut E,
+    book: &mut Book,
+) -> Status
+    requires { IsNew book.old }
+    ensures { Answers (command_of words.now)
+        (input (S.left src.old) (S.faults src.old)) (input (S.left src.new) (S.faults src.new))
+        (output (O.written out.old) (E.written err.old) (O.faults out.old) (E.faults err.old))
+        (output (O.written out.new) (E.written err.new) (O.faults out.new) (E.faults err.new))
+        book.new result }
+{
+    match read_words(words) {
+        Some(cmd) => twe_single(alloc, &cmd, src, out, err, book),
+        None => tell(usage(alloc), out, err),
+    }
+}
+
+/// What the program has to say to words that are no command.
+fn usage(alloc: Global) -> Result<Answer, Memory>
+    ensures { IfOk result (λ answer. answer ≡ record { status = Usage; out = []; err = texts.usage_text }) }
+{
+    Ok(Answer {
+        status: Status::Usage,
+        out: Bytes::new(alloc),
+        err: usage_text(alloc)?,
+    })
+}
