@@ -1,7 +1,9 @@
 //! An effect, lists of effects that contracts see as lists, and the summary of a declaration.
-ghost use Rattle.std.specs.Prelude.{◌≡◌, ◌↔◌, [], ◌∷◌, ◌++◌, IsTrue, OnErr, OnOk, length, slice_get, option_copied};
+ghost use Rattle.std.specs.Prelude.{◌≡◌, ◌↔◌, [], ◌∷◌, ◌++◌, IfOk, IsTrue, OnErr, OnOk, length, slice_get, option_copied};
+ghost use Rattle.region_paths.specs.Filled.{filled, has_args, no_var};
+ghost use Rattle.effect_sets.specs.Filled.{all_filled, all_have_args, fill_effect, fill_summary};
 
-use region_paths::Path;
+use region_paths::{Elem, Path};
 use std::alloc::Global;
 use std::marker::Model;
 use twe_io::Memory;
@@ -99,4 +101,56 @@ impl From<Vec<Effect>> for Effects {
 pub struct Summary {
     /// The effects.
     pub effects: Effects,
+}
+
+impl Effect {
+    /// The effect in whose path each variable is the argument of its number.
+    pub fn fill(&self, alloc: Global, args: &[Elem]) -> Result<Effect, Memory>
+        ensures exact { IfOk result (λ effect. effect ≡ fill_effect args.now self.now) }
+        ensures complete { IsTrue (has_args args.now self.now.path) → IsTrue (no_var args.now)
+            → IfOk result (λ effect. IsTrue (filled effect.path)) }
+    {
+        let path = self.path.fill(alloc, args)?;
+        Ok(Effect {
+            write: self.write,
+            path,
+        })
+    }
+
+    /// An equal effect in memory of its own.
+    pub fn copy(&self, alloc: Global) -> Result<Effect, Memory>
+        ensures { IfOk result (λ effect. effect ≡ self.now) }
+    {
+        let path = self.path.copy(alloc)?;
+        Ok(Effect {
+            write: self.write,
+            path,
+        })
+    }
+}
+
+impl Summary {
+    /// The summary in each of whose effects each variable is the argument of its number.
+    pub fn fill(&self, alloc: Global, args: &[Elem]) -> Result<Summary, Memory>
+        ensures exact { IfOk result (λ summary. summary ≡ fill_summary args.now self.now) }
+        ensures complete { IsTrue (all_have_args args.now self.now.effects) → IsTrue (no_var args.now)
+            → IfOk result (λ summary. IsTrue (all_filled summary.effects)) }
+    {
+        let mut effects = Effects::new(alloc);
+        for effect in self.effects.as_slice() {
+            effects.push(effect.fill(alloc, args)?)?;
+        }
+        Ok(Summary { effects })
+    }
+
+    /// An equal summary in memory of its own.
+    pub fn copy(&self, alloc: Global) -> Result<Summary, Memory>
+        ensures { IfOk result (λ summary. summary ≡ self.now) }
+    {
+        let mut effects = Effects::new(alloc);
+        for effect in self.effects.as_slice() {
+            effects.push(effect.copy(alloc)?)?;
+        }
+        Ok(Summary { effects })
+    }
 }

@@ -34,7 +34,7 @@ around_from elems tail c h =
     record {
       room = room;
       front = sym (each_stands-take elems c) ∙ ends.0;
-      back = back_is tail c (omega arith) ∙ each_stands-reverse tail _ ends.1
+      back = back_is tail c (omega arith) ∙ each_stands-reverse tail _ ends.1;
     }
 
 pub around_to : (elems tail : List Elem) (c : ConcretePath) → Around elems tail c → both_ends_stand elems tail c ≡ true
@@ -54,7 +54,7 @@ along_from elems c h =
     record {
       long = long;
       front = each_is elems c long ∙ h;
-      back = each_is (reverse elems) (reverse c) (omega (arith, length-reverse elems, length-reverse c)) ∙ each_stands-reverse elems c h
+      back = each_is (reverse elems) (reverse c) (omega (arith, length-reverse elems, length-reverse c)) ∙ each_stands-reverse elems c h;
     }
 
 pub along_to : (elems : List Elem) (c : ConcretePath) → length elems ≡ length c → front_stands elems c ≡ true → each_stands elems c ≡ true

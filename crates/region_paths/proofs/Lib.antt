@@ -2,6 +2,9 @@ pub mod Standing
 pub mod ElementLaws
 pub mod Lists
 pub mod Ends
-pub mod Laws
+pub mod Soundness
+pub mod Pairs
+pub mod Filling
+pub mod Exactness
 pub mod Outside
 pub mod Meeting

@@ -39,7 +39,7 @@ clash_from_front-stands v (x ∷ xs) (y ∷ ys) (c ∷ cs) h s t =
     let first = and_parts _ _ s in
     let second = and_parts _ _ t in
     elim (or_cases _ _ h) [
-      inl here ↦ clash-stands v x y c here first.0 second.0
+      | inl here ↦ clash-stands v x y c here first.0 second.0
       | inr later ↦ clash_from_front-stands v xs ys cs later first.1 second.1
     ]
 
@@ -93,28 +93,30 @@ escape_later : (x y : Elem) (xs ys : List Elem) (c : ConcretePath) → is_var x 
 escape_later x y xs ys c plain later = record {
   stands = and_from _ _ (example-stands x plain) later.stands;
   escapes = λ rest. and_right (elem_stands y (example x)) _ (later.escapes rest);
-  as_long = λ short. ap suc (later.as_long (omega arith))
+  as_long = λ short. ap suc (later.as_long (omega arith));
 }
 
 escape_here : (x y : Elem) (xs ys : List Elem) → is_var x ≡ false → no_var xs ≡ true → within x y ≡ false → Escapes (x ∷ xs) (y ∷ ys) (escape x y ∷ map example xs)
 escape_here x y xs ys plain filled apart = record {
   stands = and_from _ _ (escape-stands x y plain) (examples-stand xs filled);
   escapes = λ rest. and_left _ _ (escape-escapes x y plain apart);
-  as_long = λ short. ap suc (length-map xs example)
+  as_long = λ short. ap suc (length-map xs example);
 }
 
 pub escapes : (xs ys : List Elem) → no_var xs ≡ true → starts_within xs ys ≡ false → (c : ConcretePath) × Escapes xs ys c
 escapes xs [] h w = absurd (false≢true (sym w))
-escapes [] (y ∷ ys) h w =
-    (stranger y ∷ [], record {
-      stands = refl;
-      escapes = λ rest. and_left _ _ (stranger-stands y);
-      as_long = λ short. absurd (omega arith)
-    })
+escapes [] (y ∷ ys) h w = (
+  stranger y ∷ [],
+  record {
+    stands = refl;
+    escapes = λ rest. and_left _ _ (stranger-stands y);
+    as_long = λ short. absurd (omega arith);
+  },
+)
 escapes (x ∷ xs) (y ∷ ys) h w =
     let parts = no_var-parts x xs h in
     elim (and_cases _ _ w) [
-      inl here ↦ (escape x y ∷ map example xs, escape_here x y xs ys parts.0 parts.1 here)
+      | inl here ↦ (escape x y ∷ map example xs, escape_here x y xs ys parts.0 parts.1 here)
       | inr later ↦ let rest = escapes xs ys parts.1 later in (example x ∷ rest.0, escape_later x y xs ys rest.0 parts.0 rest.1)
     ]
 
@@ -133,9 +135,11 @@ commons (x ∷ xs) (y ∷ ys) h k w =
     let here = or_parts _ _ w in
     let first = no_var-parts x xs h in
     let second = no_var-parts y ys k in
-    let rest = commons xs ys first.1 second.1 here.1 in
-    (common x y ∷ rest.0, record {
-      first = and_from _ _ (common-stands-first x y first.0 second.0 here.0) rest.1.first;
-      second = and_from _ _ (common-stands-second x y first.0 second.0 here.0) rest.1.second;
-      as_long = omega (arith, rest.1.as_long)
-    })
+    let rest = commons xs ys first.1 second.1 here.1 in (
+      common x y ∷ rest.0,
+      record {
+        first = and_from _ _ (common-stands-first x y first.0 second.0 here.0) rest.1.first;
+        second = and_from _ _ (common-stands-second x y first.0 second.0 here.0) rest.1.second;
+        as_long = omega (arith, rest.1.as_long);
+      },
+    )

@@ -11,7 +11,7 @@ use Rattle.region_paths.specs.Sets.{SetsApart, SetsMeet}
 use Rattle.region_paths.proofs.Standing.{front_stands, each_stands-append}
 use Rattle.region_paths.proofs.Lists.{no_var-parts, no_var-cons, no_var-reverse, Common, commons}
 use Rattle.region_paths.proofs.Ends.{Around, around_to, along_to}
-use Rattle.region_paths.proofs.Laws.{written}
+use Rattle.region_paths.proofs.Soundness.{written}
 use Rattle.region_paths.proofs.Outside.{along_turned, around_made}
 
 no_var-split : (xs ys : List Elem) → no_var (xs ++ ys) ≡ true → (no_var xs ≡ true) × (no_var ys ≡ true)
@@ -36,11 +36,10 @@ meet_split front back elems tail front_plain back_plain elems_plain tail_plain l
     let turned : clash_from_front (reverse back ++ reverse front) (reverse tail) ≡ false = ap (λ (xs : List Elem). clash_from_front xs (reverse tail)) (sym (reverse-append front back)) ∙ no_back in
     let last = commons (reverse back) (reverse tail) (no_var-reverse back back_plain) (no_var-reverse tail tail_plain) (clash_from_front-front (reverse back) (reverse front) (reverse tail) turned) in
     let along_first = along_to front first.0 (omega (arith, first.1.as_long)) first.1.first in
-    let along_last = along_turned back last.0 (omega (arith, last.1.as_long, length-reverse back, length-reverse tail)) last.1.first in
-    (
+    let along_last = along_turned back last.0 (omega (arith, last.1.as_long, length-reverse back, length-reverse tail)) last.1.first in (
       first.0 ++ reverse last.0,
       each_stands-append front first.0 back (reverse last.0) along_first along_last,
-      around_made elems tail first.0 last.0 first.1.second last.1.second
+      around_made elems tail first.0 last.0 first.1.second last.1.second,
     )
 
 -- a plain path and one round a star that are not apart
@@ -71,11 +70,10 @@ meet-parts pe true pt qe false qt p_plain p_tail q_plain q_tail h =
 meet-parts pe true pt qe true qt p_plain p_tail q_plain q_tail h =
     let parts = or_parts _ _ h in
     let front = commons pe qe p_plain q_plain parts.0 in
-    let back = commons (reverse pt) (reverse qt) (no_var-reverse pt p_tail) (no_var-reverse qt q_tail) parts.1 in
-    (
+    let back = commons (reverse pt) (reverse qt) (no_var-reverse pt p_tail) (no_var-reverse qt q_tail) parts.1 in (
       front.0 ++ reverse back.0,
       around_to pe pt _ (around_made pe pt front.0 back.0 front.1.first back.1.first),
-      around_to qe qt _ (around_made qe qt front.0 back.0 front.1.second back.1.second)
+      around_to qe qt _ (around_made qe qt front.0 back.0 front.1.second back.1.second),
     )
 
 -- filled paths that are not apart have a concrete path in common

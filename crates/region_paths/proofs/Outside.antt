@@ -13,7 +13,7 @@ use Rattle.region_paths.proofs.Standing.{front_stands, front_stands-append, fron
 use Rattle.region_paths.proofs.ElementLaws.{example}
 use Rattle.region_paths.proofs.Lists.{no_var-append, no_var-reverse, examples-stand, Escapes, escapes, Common, commons}
 use Rattle.region_paths.proofs.Ends.{Around, Along, around_from, around_to, along_from, along_to}
-use Rattle.region_paths.proofs.Laws.{written}
+use Rattle.region_paths.proofs.Soundness.{written}
 
 -- a concrete path that is in the first set and not in the second
 abbrev pub Outside : WrittenPath → WrittenPath → Type 0
@@ -35,7 +35,7 @@ pub around_made : (elems tail : List Elem) (front back : ConcretePath) → front
 around_made elems tail front back h k = record {
   room = omega (arith, front_stands-length elems front h, front_stands-length (reverse tail) back k, length-reverse tail, length-reverse back, length-append front (reverse back));
   front = front_stands-append elems front (reverse back) h;
-  back = turned_append tail front back k
+  back = turned_append tail front back k;
 }
 
 -- a list against a concrete path of its length, both turned round
@@ -52,29 +52,29 @@ examples_along xs h = along_to xs (map example xs) (sym (length-map xs example))
 outside_plain : (pe qe : List Elem) → no_var pe ≡ true → each_within pe qe ≡ false → (c : ConcretePath) × (each_stands pe c ≡ true) × (each_stands qe c ≡ false)
 outside_plain pe qe plain h =
     elim (cases_eq (length pe) (length qe)) [
-      inl same ↦
-        let differs : starts_within pe qe ≡ false = elim (and_cases _ _ h) [ inl longer ↦ absurd (eqb-false (length pe) (length qe) longer same) | inr place ↦ place ] in
-        let found = escapes pe qe plain differs in
-        (found.0, along_to pe found.0 (sym (found.1.as_long (omega arith))) found.1.stands, no_from _ (λ t. both_ways _ (found.1.escapes []) (ap (front_stands qe) (append-nil found.0) ∙ (along_from qe found.0 t).front)))
+      | inl same ↦
+          let differs : starts_within pe qe ≡ false = elim (and_cases _ _ h) [ inl longer ↦ absurd (eqb-false (length pe) (length qe) longer same) | inr place ↦ place ] in
+          let found = escapes pe qe plain differs in
+          (found.0, along_to pe found.0 (sym (found.1.as_long (omega arith))) found.1.stands, no_from _ (λ t. both_ways _ (found.1.escapes []) (ap (front_stands qe) (append-nil found.0) ∙ (along_from qe found.0 t).front)))
       | inr differ ↦
-        (map example pe, examples_along pe plain, no_from _ (λ t. differ (omega (arith, each_stands-length qe (map example pe) t, length-map pe example))))
+          (map example pe, examples_along pe plain, no_from _ (λ t. differ (omega (arith, each_stands-length qe (map example pe) t, length-map pe example))))
     ]
 
 -- a plain path and one round a star: it is too short, or its front or its end shows it
 outside_ends : (pe qe qt : List Elem) → no_var pe ≡ true → inside_ends pe qe qt ≡ false → (c : ConcretePath) × (each_stands pe c ≡ true) × (Around qe qt c → ⊥)
 outside_ends pe qe qt plain h =
     elim (cases_lt (length pe) (length qe + length qt)) [
-      inl short ↦ (map example pe, examples_along pe plain, λ a. omega (arith, a.room, length-map pe example))
+      | inl short ↦ (map example pe, examples_along pe plain, λ a. omega (arith, a.room, length-map pe example))
       | inr fits ↦ elim (and_cases _ _ h) [
-        inl longer ↦ let short : length pe < length qe + length qt = leb-false _ _ longer in absurd (omega arith)
+        | inl longer ↦ let short : length pe < length qe + length qt = leb-false _ _ longer in absurd (omega arith)
         | inr ends ↦ elim (and_cases _ _ ends) [
-          inl front ↦
-            let found = escapes pe qe plain front in
-            (found.0, along_to pe found.0 (sym (found.1.as_long (omega arith))) found.1.stands, λ a. both_ways _ (found.1.escapes []) (ap (front_stands qe) (append-nil found.0) ∙ a.front))
+          | inl front ↦
+              let found = escapes pe qe plain front in
+              (found.0, along_to pe found.0 (sym (found.1.as_long (omega arith))) found.1.stands, λ a. both_ways _ (found.1.escapes []) (ap (front_stands qe) (append-nil found.0) ∙ a.front))
           | inr back ↦
-            let found = escapes (reverse pe) (reverse qt) (no_var-reverse pe plain) back in
-            let long : length found.0 ≡ length (reverse pe) = found.1.as_long (omega (arith, length-reverse pe, length-reverse qt)) in
-            (reverse found.0, along_turned pe found.0 (omega (arith, length-reverse pe)) found.1.stands, λ a. both_ways _ (found.1.escapes []) (ap (front_stands (reverse qt)) (append-nil found.0 ∙ sym (reverse-reverse found.0)) ∙ a.back))
+              let found = escapes (reverse pe) (reverse qt) (no_var-reverse pe plain) back in
+              let long : length found.0 ≡ length (reverse pe) = found.1.as_long (omega (arith, length-reverse pe, length-reverse qt)) in
+              (reverse found.0, along_turned pe found.0 (omega (arith, length-reverse pe)) found.1.stands, λ a. both_ways _ (found.1.escapes []) (ap (front_stands (reverse qt)) (append-nil found.0 ∙ sym (reverse-reverse found.0)) ∙ a.back))
         ]
       ]
     ]
@@ -84,8 +84,7 @@ outside_longer : (pe pt qe : List Elem) → no_var pe ≡ true → no_var pt ≡
 outside_longer pe pt qe plain plain_tail =
     let filler : ConcretePath = replicate (length qe + 1) (number (pos 0)) in
     let front : ConcretePath = map example pe ++ filler in
-    let back : ConcretePath = map example (reverse pt) in
-    (
+    let back : ConcretePath = map example (reverse pt) in (
       front ++ reverse back,
       around_made pe pt front back (front_stands-append pe (map example pe) filler (examples-stand pe plain)) (examples-stand (reverse pt) (no_var-reverse pt plain_tail)),
       no_from _ (λ t. omega (
@@ -93,8 +92,8 @@ outside_longer pe pt qe plain plain_tail =
         each_stands-length qe (front ++ reverse back) t,
         length-append front (reverse back),
         length-append (map example pe) filler,
-        length-replicate {A = ConcreteElem} (length qe + 1) (number (pos 0))
-      ))
+        length-replicate {A = ConcreteElem} (length qe + 1) (number (pos 0)),
+      )),
     )
 
 -- two paths round a star: the front or the end shows it
@@ -102,23 +101,21 @@ outside_star : (pe pt qe qt : List Elem) → no_var pe ≡ true → no_var pt �
 outside_star pe pt qe qt plain plain_tail h =
     let turned_plain = no_var-reverse pt plain_tail in
     elim (and_cases _ _ h) [
-      inl front ↦
-        let found = escapes pe qe plain front in
-        let back : ConcretePath = map example (reverse pt) in
-        (
-          found.0 ++ reverse back,
-          around_made pe pt found.0 back found.1.stands (examples-stand (reverse pt) turned_plain),
-          λ a. both_ways _ (found.1.escapes (reverse back)) a.front
-        )
+      | inl front ↦
+          let found = escapes pe qe plain front in
+          let back : ConcretePath = map example (reverse pt) in (
+            found.0 ++ reverse back,
+            around_made pe pt found.0 back found.1.stands (examples-stand (reverse pt) turned_plain),
+            λ a. both_ways _ (found.1.escapes (reverse back)) a.front,
+          )
       | inr back ↦
-        let found = escapes (reverse pt) (reverse qt) turned_plain back in
-        let front : ConcretePath = map example pe in
-        let e : reverse (front ++ reverse found.0) ≡ found.0 ++ reverse front = reverse-append front (reverse found.0) ∙ ap (λ (ds : ConcretePath). ds ++ reverse front) (reverse-reverse found.0) in
-        (
-          front ++ reverse found.0,
-          around_made pe pt front found.0 (examples-stand pe plain) found.1.stands,
-          λ a. both_ways _ (found.1.escapes (reverse front)) (ap (front_stands (reverse qt)) (sym e) ∙ a.back)
-        )
+          let found = escapes (reverse pt) (reverse qt) turned_plain back in
+          let front : ConcretePath = map example pe in
+          let e : reverse (front ++ reverse found.0) ≡ found.0 ++ reverse front = reverse-append front (reverse found.0) ∙ ap (λ (ds : ConcretePath). ds ++ reverse front) (reverse-reverse found.0) in (
+            front ++ reverse found.0,
+            around_made pe pt front found.0 (examples-stand pe plain) found.1.stands,
+            λ a. both_ways _ (found.1.escapes (reverse front)) (ap (front_stands (reverse qt)) (sym e) ∙ a.back),
+          )
     ]
 
 outside-parts : (pe : List Elem) (ps : Bool) (pt qe : List Elem) (qs : Bool) (qt : List Elem) → no_var pe ≡ true → no_var pt ≡ true → inside (written pe ps pt) (written qe qs qt) ≡ false → Outside (written pe ps pt) (written qe qs qt)

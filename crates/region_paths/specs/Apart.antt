@@ -1,6 +1,7 @@
 -- The rule by which two written paths lie apart.
-use Rattle.std.specs.Prelude.{◌+◌, ◌==◌, nat_lt, Bool, true, false, not, ◌||◌, if◌then◌else◌, List, [], ◌∷◌, length, reverse}
+use Rattle.std.specs.Prelude.{◌+◌, ◌==◌, nat_lt, Bool, true, false, not, ◌||◌, if◌then◌else◌, List, length, reverse, zip}
 use Rattle.std.specs.Ordering.{int_eq}
+use Rattle.std.specs.List.{list_any}
 use Rattle.region_paths.specs.declared.elements.Elem.{Elem}
 use Rattle.region_paths.specs.declared.elements.Elem.TheVariants.{Name, Index, Var, AnyIndex}
 use Rattle.region_paths.specs.Written.{WrittenPath}
@@ -19,9 +20,7 @@ clash _ _ = false
 
 -- the lists clash at a place, counted from the front, that both have
 abbrev pub clash_from_front : List Elem → List Elem → Bool
-clash_from_front [] ys = false
-clash_from_front (x ∷ xs) [] = false
-clash_from_front (x ∷ xs) (y ∷ ys) = clash x y || clash_from_front xs ys
+clash_from_front xs ys = list_any (λ pair. clash pair.0 pair.1) (zip xs ys)
 
 -- the lists clash at a place, counted from the end, that both have
 abbrev pub clash_from_end : List Elem → List Elem → Bool
@@ -38,8 +37,8 @@ abbrev pub apart : WrittenPath → WrittenPath → Bool
 apart p q =
     if p.star
     then (if q.star
-        then clash_from_front p.elems q.elems || clash_from_end p.tail q.tail
-        else apart_from_ends q.elems p.elems p.tail)
+    then clash_from_front p.elems q.elems || clash_from_end p.tail q.tail
+    else apart_from_ends q.elems p.elems p.tail)
     else (if q.star
-        then apart_from_ends p.elems q.elems q.tail
-        else not (length p.elems == length q.elems) || clash_from_front p.elems q.elems)
+    then apart_from_ends p.elems q.elems q.tail
+    else not (length p.elems == length q.elems) || clash_from_front p.elems q.elems)

@@ -1,5 +1,5 @@
 -- Variables of a written path: whether it has any, what it is under a valuation, and filling them.
-use Rattle.std.specs.Prelude.{ℕ, ℤ, Bool, true, false, ◌&&◌, List, [], ◌∷◌, map, slice_index_or, take_while}
+use Rattle.std.specs.Prelude.{ℕ, ℤ, Bool, true, false, ◌&&◌, List, [], ◌∷◌, length, map, nat_lt, slice_index_or, take_while}
 use Rattle.region_paths.specs.declared.elements.Elem.{Elem}
 use Rattle.region_paths.specs.declared.elements.Elem.TheVariants.{Name, Index, Var, AnyIndex}
 use Rattle.region_paths.specs.Written.{WrittenPath}
@@ -39,6 +39,16 @@ fill_elem args (Name n) = Name n
 fill_elem args (Index i) = Index i
 fill_elem args (Var k) = slice_index_or args k (Var k)
 fill_elem args AnyIndex = AnyIndex
+
+-- each variable is below the number
+abbrev pub vars_below : ℕ → List Elem → Bool
+vars_below n [] = true
+vars_below n (Var k ∷ es) = nat_lt k n && vars_below n es
+vars_below n (_ ∷ es) = vars_below n es
+
+-- there is an argument for each variable of the path
+abbrev pub has_args : List Elem → WrittenPath → Bool
+has_args args p = vars_below (length args) p.elems && vars_below (length args) p.tail
 
 -- the path in which each variable is its argument, before the star and behind it
 abbrev pub fill : List Elem → WrittenPath → WrittenPath

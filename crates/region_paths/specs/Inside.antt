@@ -39,6 +39,6 @@ abbrev pub inside : WrittenPath → WrittenPath → Bool
 inside p q =
     if q.star
     then (if p.star
-        then starts_within p.elems q.elems && ends_within p.tail q.tail
-        else inside_ends p.elems q.elems q.tail)
+    then starts_within p.elems q.elems && ends_within p.tail q.tail
+    else inside_ends p.elems q.elems q.tail)
     else (not p.star && each_within p.elems q.elems)

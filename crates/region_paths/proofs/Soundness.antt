@@ -43,7 +43,7 @@ inside-parts v pe false pt qe true qt h c s =
     around_to _ _ c (record {
       room = omega (arith, along.long, length-map pe (elem_under v), length-map qe (elem_under v), length-map qt (elem_under v));
       front = starts_within-stands v pe qe c ends.0 along.front;
-      back = ends_within-stands v pe qt (reverse c) ends.1 along.back
+      back = ends_within-stands v pe qt (reverse c) ends.1 along.back;
     })
 inside-parts v pe true pt qe true qt h c s =
     let ends = and_parts _ _ h in
@@ -51,7 +51,7 @@ inside-parts v pe true pt qe true qt h c s =
     around_to _ _ c (record {
       room = omega (arith, around.room, starts_within-length pe qe ends.0, starts_within-length (reverse pt) (reverse qt) ends.1, length-reverse pt, length-reverse qt, length-map pe (elem_under v), length-map pt (elem_under v), length-map qe (elem_under v), length-map qt (elem_under v));
       front = starts_within-stands v pe qe c ends.0 around.front;
-      back = ends_within-stands v pt qt (reverse c) ends.1 around.back
+      back = ends_within-stands v pt qt (reverse c) ends.1 around.back;
     })
 
 pub inside-within : (p q : WrittenPath) → IsTrue (inside p q) → (v : Valuation) → SetWithin (under v p) (under v q)
@@ -61,9 +61,9 @@ inside-within p q h v = inside-parts v p.elems p.star p.tail q.elems q.star q.ta
 apart_along : (v : Valuation) (xs elems tail : List Elem) (c : ConcretePath) → apart_from_ends xs elems tail ≡ true → Along (map (elem_under v) xs) c → Around (map (elem_under v) elems) (map (elem_under v) tail) c → ⊥
 apart_along v xs elems tail c h along around =
     elim (or_cases _ _ h) [
-      inl short ↦ let is_short : length xs < length elems + length tail = ltb-true _ _ short in absurd (omega (arith, along.long, around.room, length-map xs (elem_under v), length-map elems (elem_under v), length-map tail (elem_under v)))
+      | inl short ↦ let is_short : length xs < length elems + length tail = ltb-true _ _ short in absurd (omega (arith, along.long, around.room, length-map xs (elem_under v), length-map elems (elem_under v), length-map tail (elem_under v)))
       | inr clashes ↦ elim (or_cases _ _ clashes) [
-        inl front ↦ clash_from_front-stands v xs elems c front along.front around.front
+        | inl front ↦ clash_from_front-stands v xs elems c front along.front around.front
         | inr back ↦ clash_from_end-stands v xs tail (reverse c) back along.back around.back
       ]
     ]
@@ -73,7 +73,7 @@ apart-parts v pe false pt qe false qt h c s t =
     let first = along_from _ c s in
     let second = along_from _ c t in
     elim (or_cases _ _ h) [
-      inl longer ↦ eqb-false (length pe) (length qe) (not-true _ longer) (omega (arith, first.long, second.long, length-map pe (elem_under v), length-map qe (elem_under v)))
+      | inl longer ↦ eqb-false (length pe) (length qe) (not-true _ longer) (omega (arith, first.long, second.long, length-map pe (elem_under v), length-map qe (elem_under v)))
       | inr clashes ↦ clash_from_front-stands v pe qe c clashes first.front second.front
     ]
 apart-parts v pe true pt qe false qt h c s t = apart_along v qe pe pt c h (along_from _ c t) (around_from _ _ c s)
@@ -82,7 +82,7 @@ apart-parts v pe true pt qe true qt h c s t =
     let first = around_from _ _ c s in
     let second = around_from _ _ c t in
     elim (or_cases _ _ h) [
-      inl front ↦ clash_from_front-stands v pe qe c front first.front second.front
+      | inl front ↦ clash_from_front-stands v pe qe c front first.front second.front
       | inr back ↦ clash_from_end-stands v pt qt (reverse c) back first.back second.back
     ]
 
