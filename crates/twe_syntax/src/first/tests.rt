@@ -182,16 +182,6 @@ fn text_that_adds(alloc: Global, times: u32) -> Result<String, AllocError> {
     Ok(text)
 }
 
-/// A text with this many cells.
-fn text_with_cells(alloc: Global, count: u32) -> Result<String, AllocError> {
-    let mut text = String::new(alloc);
-    for number in 0..count {
-        write!(text, "int x{number} in Console;")?;
-    }
-    text.push_str("task void main() pure { }")?;
-    Ok(text)
-}
-
 #[test]
 fn texts_keep_to_the_limits(rt: HostRuntime) -> Result<(), Fail> {
     let writes = "region A,B,C,D,E,F,G,H; task void main() writes A,B,C,D,E,F,G,H { }";
@@ -200,11 +190,6 @@ fn texts_keep_to_the_limits(rt: HostRuntime) -> Result<(), Fail> {
         let text = text_that_adds(rt.alloc(), times)?;
         let outcome = parse_first(rt.alloc(), text.as_bytes());
         assert_eq!(rt; outcome.is_ok(), of_the_form, "{times} additions");
-    }
-    for (count, of_the_form) in [(65_536, true), (65_537, false)] {
-        let text = text_with_cells(rt.alloc(), count)?;
-        let outcome = parse_first(rt.alloc(), text.as_bytes());
-        assert_eq!(rt; outcome.is_ok(), of_the_form, "{count} cells");
     }
     Ok(())
 }
