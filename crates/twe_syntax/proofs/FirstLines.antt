@@ -9,7 +9,7 @@ use Rattle.twe_syntax.specs.Grammar.{Symbol, word, marked, name, literal}
 use Rattle.twe_syntax.specs.FirstForm.{more_names, region_line, first_value, cell_line}
 use Rattle.twe_syntax.specs.FirstReading.{◌>>=◌, is_the_word, is_name, is_small_literal, begins, token_at, with_front, items_at, another_name_at, more_names_at, region_line_at, first_value_at, cell_line_at}
 use Rattle.twe_syntax.proofs.FormBegins.{Begins, Begins-nil, same_from_Begins, Begins-append, Begins-split, Begins-length}
-use Rattle.twe_syntax.proofs.FirstTokens.{bind_some, chosen, chosen_first, chosen_second, some_is, word_takes, word_gives, word_begins, name_takes, name_gives, literal_takes, literal_gives}
+use Rattle.twe_syntax.proofs.FirstTokens.{bind_some, Begins-found, chosen, chosen_first, chosen_second, some_is, word_takes, word_gives, word_begins, name_takes, name_gives, literal_takes, literal_gives}
 use Rattle.twe_syntax.proofs.Repeats.{Shrinks, Takes, Gives, Opens, with_front-nil, items_take, items_give}
 
 -- "," ident
@@ -55,7 +55,7 @@ region_line_takes tokens found e =
     let behind = Begins-append (more_names c.0.0) (word (codes ";") ∷ []) b.0.1 c.0.1 d.0.1 others end in
     let named = name_takes _ a.0.1 b.0 d.0.1 b.1 behind in
     let whole : Begins (region_line made.0) tokens made.1 = word_takes (codes "region") _ tokens a.0 d.0.1 a.1 named in
-    subst (λ (p : RegionLine × List Token). Begins (region_line p.0) tokens p.1) (some_is made found d.2) whole
+    Begins-found region_line tokens made found d.2 whole
 
 region_line_gives : Gives region_line region_line_at
 unfolding region_line_at
@@ -85,16 +85,15 @@ first_value_takes : Takes first_value first_value_at
 unfolding first_value_at
 first_value_takes tokens found e =
     let nothing : Option Token × List Token = (None, tokens) in
-    let P : Option Token × List Token → Type 0 = λ p. Begins (first_value p.0) tokens p.1 in
     elim (chosen (begins (is_the_word (codes "=")) tokens) _ (Some nothing) (Some found) e) [
-      | inr right ↦ subst P (some_is nothing found right.1) (Begins-nil tokens)
+      | inr right ↦ Begins-found first_value tokens nothing found right.1 (Begins-nil tokens)
       | inl left ↦
           let a = bind_some (token_at (is_the_word (codes "=")) tokens) _ found left.1 in
           let b = bind_some (token_at is_small_literal a.0.1) _ found a.2 in
           let made : Option Token × List Token = (Some b.0.0, b.0.1) in
           let value = literal_takes [] a.0.1 b.0 b.0.1 b.1 (Begins-nil b.0.1) in
-          let whole : P made = word_takes (codes "=") _ tokens a.0 b.0.1 a.1 value in
-          subst P (some_is made found b.2) whole
+          let whole : Begins (first_value made.0) tokens made.1 = word_takes (codes "=") _ tokens a.0 b.0.1 a.1 value in
+          Begins-found first_value tokens made found b.2 whole
     ]
 
 first_value_gives : (value : Option Token) (tokens rest : List Token) → Begins (first_value value) tokens rest → begins (is_the_word (codes "=")) rest ≡ false → first_value_at tokens ≡ Some (value, rest)
@@ -124,7 +123,7 @@ cell_line_takes tokens found e =
     let behind = Begins-append (first_value f.0.0) (word (codes ";") ∷ []) d.0.1 f.0.1 g.0.1 (first_value_takes d.0.1 f.0 f.1) end in
     let placed = word_takes (codes "in") _ b.0.1 c.0 g.0.1 c.1 (name_takes _ c.0.1 d.0 g.0.1 d.1 behind) in
     let whole : Begins (cell_line made.0) tokens made.1 = word_takes (codes "int") _ tokens a.0 g.0.1 a.1 (name_takes _ a.0.1 b.0 g.0.1 b.1 placed) in
-    subst (λ (p : CellLine × List Token). Begins (cell_line p.0) tokens p.1) (some_is made found g.2) whole
+    Begins-found cell_line tokens made found g.2 whole
 
 cell_line_gives : Gives cell_line cell_line_at
 unfolding cell_line_at

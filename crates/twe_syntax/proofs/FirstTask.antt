@@ -9,7 +9,7 @@ use Rattle.twe_syntax.specs.Grammar.{Symbol, word, marked, name}
 use Rattle.twe_syntax.specs.FirstForm.{more_names, summary_of, term, addend, assignment}
 use Rattle.twe_syntax.specs.FirstReading.{◌>>=◌, is_the_word, is_name, begins, token_at, term_at, with_front, items_at, more_names_at, task_head_at, summary_at, addend_at, assignment_at}
 use Rattle.twe_syntax.proofs.FormBegins.{Begins, Begins-nil, same_from_Begins, Begins-append, Begins-split, Begins-length}
-use Rattle.twe_syntax.proofs.FirstTokens.{bind_some, chosen, chosen_first, chosen_second, some_is, word_takes, word_gives, word_begins, marked_takes, marked_gives, marked_begins, name_takes, name_gives, name_begins, term_takes, term_gives}
+use Rattle.twe_syntax.proofs.FirstTokens.{bind_some, Begins-found, chosen, chosen_first, chosen_second, some_is, word_takes, word_gives, word_begins, marked_takes, marked_gives, marked_begins, name_takes, name_gives, name_begins, term_takes, term_gives}
 use Rattle.twe_syntax.proofs.Repeats.{Shrinks, Takes, Gives, Opens, with_front_some, items_take, items_give}
 use Rattle.twe_syntax.proofs.FirstLines.{more_names_take, more_names_give}
 
@@ -29,7 +29,7 @@ task_head_takes tokens found e =
     let brackets = word_takes (codes "(") _ c.0.1 d.0 f.0.1 d.1 (word_takes (codes ")") [] d.0.1 f.0 f.0.1 f.1 (Begins-nil f.0.1)) in
     let named = marked_takes (codes "main") _ b.0.1 c.0 f.0.1 c.1 brackets in
     let whole : Begins (task_head made.0) tokens made.1 = word_takes (codes "task") _ tokens a.0 f.0.1 a.1 (word_takes (codes "void") _ a.0.1 b.0 f.0.1 b.1 named) in
-    subst (λ (p : Token × List Token). Begins (task_head p.0) tokens p.1) (some_is made found f.2) whole
+    Begins-found task_head tokens made found f.2 whole
 
 pub task_head_gives : Gives task_head task_head_at
 unfolding task_head_at
@@ -50,7 +50,7 @@ summary_takes tokens found e =
           let a = bind_some (token_at (is_the_word (codes "pure")) tokens) _ found left.1 in
           let made : List Token × List Token = ([], a.0.1) in
           let whole : Begins (summary_of made.0) tokens made.1 = word_takes (codes "pure") [] tokens a.0 a.0.1 a.1 (Begins-nil a.0.1) in
-          subst (λ (p : List Token × List Token). Begins (summary_of p.0) tokens p.1) (some_is made found a.2) whole
+          Begins-found summary_of tokens made found a.2 whole
       | inr right ↦
           let a = bind_some (token_at (is_the_word (codes "writes")) tokens) _ found right.1 in
           let b = bind_some (token_at is_name a.0.1) _ found a.2 in
@@ -80,7 +80,7 @@ addend_takes tokens found e =
     let b = bind_some (term_at a.0.1) _ found a.2 in
     let made : Addend × List Token = (record { plus = a.0.0; term = b.0.0 }, b.0.1) in
     let whole : Begins (addend made.0) tokens made.1 = marked_takes (codes "+") _ tokens a.0 b.0.1 a.1 (term_takes [] a.0.1 b.0 b.0.1 b.1 (Begins-nil b.0.1)) in
-    subst (λ (p : Addend × List Token). Begins (addend p.0) tokens p.1) (some_is made found b.2) whole
+    Begins-found addend tokens made found b.2 whole
 
 addend_gives : Gives addend addend_at
 unfolding addend_at
@@ -115,7 +115,7 @@ assignment_takes tokens found e =
     let behind = Begins-append (flat_map addend d.0.0) (word (codes ";") ∷ []) c.0.1 d.0.1 f.0.1 (addends_take c.0.1 d.0 d.1) end in
     let sum = word_takes (codes "=") _ a.0.1 b.0 f.0.1 b.1 (term_takes _ b.0.1 c.0 f.0.1 c.1 behind) in
     let whole : Begins (assignment made.0) tokens made.1 = name_takes _ tokens a.0 f.0.1 a.1 sum in
-    subst (λ (p : Assignment × List Token). Begins (assignment p.0) tokens p.1) (some_is made found f.2) whole
+    Begins-found assignment tokens made found f.2 whole
 
 assignment_gives : Gives assignment assignment_at
 unfolding assignment_at

@@ -74,6 +74,10 @@ literal_is_no_name token h = and_left (is_word token.text) _ (no_word token.text
 
 -- What was read fits.
 
+-- what is read is what was made of the parts that were read
+pub Begins-found : {X : Type 0} (written : X → List Symbol) (tokens : List Token) (made found : X × List Token) → Some made ≡ Some found → Begins (written made.0) tokens made.1 → Begins (written found.0) tokens found.1
+Begins-found {X} written tokens made found e whole = subst (λ (p : X × List Token). Begins (written p.0) tokens p.1) (some_is made found e) whole
+
 Begins-cons : (symbol : Symbol) (symbols : List Symbol) (tokens : List Token) (found : Token × List Token) (rest : List Token) → tokens ≡ found.0 ∷ found.1 → FitsAt symbol found.0 → Begins symbols found.1 rest → Begins (symbol ∷ symbols) tokens rest
 unfolding Begins
 Begins-cons symbol symbols tokens found rest e fits behind = subst (λ (start : List Token). Begins (symbol ∷ symbols) start rest) (sym e) (fits, behind)

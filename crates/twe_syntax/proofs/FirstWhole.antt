@@ -13,7 +13,7 @@ use Rattle.twe_syntax.specs.Grammar.{Symbol, word, marked, Fits}
 use Rattle.twe_syntax.specs.FirstForm.{region_line, cell_line, summary_of, assignment, first_form}
 use Rattle.twe_syntax.specs.FirstReading.{◌>>=◌, Fails, is_the_word, is_name, begins, token_at, items_at, region_line_at, cell_line_at, task_head_at, summary_at, assignment_at, form_at}
 use Rattle.twe_syntax.proofs.FormBegins.{Begins, Begins-nil, same_from_Begins, Begins-append, Begins-split, Begins-from_Fits, Fits-from_Begins}
-use Rattle.twe_syntax.proofs.FirstTokens.{bind_some, some_is, word_takes, word_gives, word_begins, marked_takes, marked_gives, marked_begins}
+use Rattle.twe_syntax.proofs.FirstTokens.{bind_some, Begins-found, some_is, word_takes, word_gives, word_begins, marked_takes, marked_gives, marked_begins}
 use Rattle.twe_syntax.proofs.Repeats.{Takes, Gives}
 use Rattle.twe_syntax.proofs.FirstLines.{region_lines_take, region_lines_give, cell_lines_take, cell_lines_give}
 use Rattle.twe_syntax.proofs.FirstTask.{task_head, task_head_takes, task_head_gives, summary_takes, summary_gives, assignments_take, assignments_give}
@@ -48,12 +48,12 @@ form_takes tokens found e =
     let made : FirstForm × List Token = (form, k.0.1) in
     let end = marked_takes (codes "}") [] g.0.1 k.0 k.0.1 k.1 (Begins-nil k.0.1) in
     let assignments = Begins-append (flat_map assignment g.0.0) (marked (codes "}") k.0.0 ∷ []) f.0.1 g.0.1 k.0.1 (assignments_take f.0.1 g.0 g.1) end in
-    let braces : Begins (braces_of form) d.0.1 k.0.1 = word_takes (codes "{") _ d.0.1 f.0 k.0.1 f.1 assignments in
+    let braces : Begins (braces_of form) d.0.1 k.0.1 = word_takes (codes "{") (flat_map assignment g.0.0 ++ marked (codes "}") k.0.0 ∷ []) d.0.1 f.0 k.0.1 f.1 assignments in
     let summary : Begins (summary_and_braces_of form) c.0.1 k.0.1 = Begins-append (summary_of d.0.0) (braces_of form) c.0.1 d.0.1 k.0.1 (summary_takes c.0.1 d.0 d.1) braces in
     let task : Begins (task_of form) b.0.1 k.0.1 = Begins-append (task_head c.0.0) (summary_and_braces_of form) b.0.1 c.0.1 k.0.1 (task_head_takes b.0.1 c.0 c.1) summary in
     let cells = Begins-append (flat_map cell_line b.0.0) (task_of form) a.0.1 b.0.1 k.0.1 (cell_lines_take a.0.1 b.0 b.1) task in
     let whole : Begins (first_form form) tokens k.0.1 = Begins-append (flat_map region_line a.0.0) (flat_map cell_line b.0.0 ++ task_of form) tokens a.0.1 k.0.1 (region_lines_take tokens a.0 a.1) cells in
-    subst (λ (p : FirstForm × List Token). Begins (first_form p.0) tokens p.1) (some_is made found k.2) whole
+    Begins-found first_form tokens made found k.2 whole
 
 form_gives : Gives first_form form_at
 unfolding form_at

@@ -8,7 +8,7 @@ use Rattle.twe_syntax.specs.declared.first.fail.FirstFail.TheVariants as fails
 use Rattle.twe_syntax.specs.Grammar.{Symbol}
 use Rattle.twe_syntax.specs.FirstReading.{◌>>=◌, Fails, begins, with_front, items_within, items_at}
 use Rattle.twe_syntax.proofs.FormBegins.{Begins, Begins-nil, same_from_Begins, Begins-append, Begins-split}
-use Rattle.twe_syntax.proofs.FirstTokens.{bind_some, chosen, chosen_first, chosen_second, some_is}
+use Rattle.twe_syntax.proofs.FirstTokens.{bind_some, Begins-found, chosen, chosen_first, chosen_second, some_is}
 
 -- an item takes a token at least
 abbrev pub Shrinks : {X : Type 0} → (List Token → Option (X × List Token)) → Type 0
@@ -108,9 +108,8 @@ module _ {X : Type 0} (passes : Token → Bool) (item : List Token → Option (X
   within_takes written takes zero tokens found e = absurd cc
   within_takes written takes (suc turns) tokens found e =
       let nothing : List X × List Token = ([], tokens) in
-      let P : List X × List Token → Type 0 = λ p. Begins (flat_map written p.0) tokens p.1 in
       elim (chosen (begins passes tokens) _ (Some nothing) (Some found) e) [
-        | inr right ↦ subst P (some_is nothing found right.1) (Begins-nil tokens)
+        | inr right ↦ Begins-found (flat_map written) tokens nothing found right.1 (Begins-nil tokens)
         | inl left ↦
             let a = bind_some (item tokens) (λ first. with_front (first.0 ∷ []) (items_within turns passes item first.1)) found left.1 in
             let b = with_front_some (a.0.0 ∷ []) (items_within turns passes item a.0.1) found a.2 in
