@@ -8,6 +8,7 @@
 mod bytes;
 mod calls;
 mod ints;
+mod mem;
 mod memory;
 mod place;
 mod plain;
@@ -20,6 +21,7 @@ mod word;
 pub use bytes::Bytes;
 pub use calls::Calls;
 pub use ints::Ints;
+pub use mem::{MemSink, MemSource};
 pub use memory::{Failed, Memory};
 pub use place::Place;
 pub use plain::{PlainSink, PlainSource};
@@ -28,3 +30,6 @@ pub use source::Source;
 pub use standard::{StdSink, StdSource};
 pub use whole::{ReadFail, WriteFault, read_all, write_whole};
 pub use word::Word;
+
+#[cfg(test)]
+mod tests;
