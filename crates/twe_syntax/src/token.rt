@@ -86,6 +86,14 @@ impl Tokens {
         }
     }
 
+    /// The tokens as the vector that holds them. It takes no memory.
+    pub fn into_vec(self) -> Vec<Token>
+        ensures { result.items ≡ self }
+    {
+        let Tokens { items } = self;
+        items
+    }
+
     /// How many tokens there are.
     pub fn len(&self) -> usize
         ensures { result ≡ length self.now }
