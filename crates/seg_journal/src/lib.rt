@@ -7,6 +7,7 @@
 mod journal;
 mod limits;
 mod moves;
+mod number;
 mod text;
 
 pub use journal::{End, Entry, FaultKind, Journal};

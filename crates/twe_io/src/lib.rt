@@ -30,3 +30,6 @@ pub use source::Source;
 pub use standard::{StdSink, StdSource};
 pub use whole::{ReadFail, WriteFault, read_all, write_whole};
 pub use word::Word;
+
+#[cfg(test)]
+mod tests;

@@ -9,7 +9,9 @@ use twe_io::{Memory, Place, Word};
 /// A token: its bytes, and the place of the first of them.
 #[derive(Debug, Drop)]
 pub struct Token {
+    /// The bytes.
     pub text: Word,
+    /// The place of the first byte.
     pub place: Place,
 }
 
@@ -17,7 +19,7 @@ impl Token {
     ghost use Rattle.std.specs.Prelude.{◌≡◌, ◌≤◌, ◌↔◌, IsTrue, IfOk, IsAscii, SomeIff, pos};
     ghost use Rattle.twe_syntax.specs.Words.{is_identifier, is_literal, number_of};
 
-    /// A token of the same bytes, which are ASCII.
+    /// A token of the same bytes, which are ASCII, in memory of its own.
     pub fn new(alloc: Global, bytes: &[u8], place: Place) -> Result<Self, Memory>
         requires ascii { IsAscii bytes.now }
         ensures { IfOk result (λ token. token ≡ record { text = bytes.now; place = place }) }
@@ -50,7 +52,7 @@ impl Token {
         is_number(self.text.as_bytes())
     }
 
-    /// The number that the digits write, if it is at most 2147483647.
+    /// The number that the digits write, if it is at most 2147483647. Zeros may lead.
     pub fn literal_value(&self) -> Option<i32>
         requires { IsTrue (is_literal self.now.text) }
         ensures { SomeIff result (number_of self.now.text ≤ 2147483647) (pos (number_of self.now.text)) }
@@ -99,12 +101,14 @@ impl Tokens {
         self.items.len()
     }
 
+    /// Whether there is no token.
     pub fn is_empty(&self) -> bool
         ensures { IsTrue result ↔ (self.now ≡ []) }
     {
         self.items.is_empty()
     }
 
+    /// The tokens as a slice.
     pub fn as_slice(&self) -> &[Token]
         ensures { result.now ≡ self.now }
     {

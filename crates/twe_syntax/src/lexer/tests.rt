@@ -82,7 +82,10 @@ fn the_longest_tokens_stand_at_their_places(rt: HostRuntime) -> Result<(), Fail>
 fn names_and_numbers_are_known_by_their_bytes(rt: HostRuntime) -> Result<(), Fail> {
     let rows = [
         ("x _1 While whil", "name name name name "),
-        ("while in Root executeLater deterministic", "other other other other other "),
+        (
+            "while in Root executeLater deterministic",
+            "other other other other other ",
+        ),
         ("0 2147483647 2147483648", "0 2147483647 too great "),
         ("000000000000000000000042", "42 "),
         ("99999999999999999999999", "too great "),

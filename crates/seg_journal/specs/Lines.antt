@@ -1,0 +1,42 @@
+-- The lines of a text, and the first of them that has no place in a journal.
+use Rattle.std.specs.Prelude.{◌≡◌, ◌⊎◌, ℕ, ◌+◌, ◌==◌, if◌then◌else◌, List, [], ◌∷◌, ◌++◌, length}
+use Rattle.seg_journal.specs.Limits.{Bounds}
+use Rattle.seg_journal.specs.Spelling.{move_line, head_line, HasTask, AreLimits}
+use Rattle.seg_journal.specs.declared.moves.Move.{Move}
+
+-- the lines that begin with this byte, and go on with the first of the others
+abbrev pub with_byte : ℕ → List (List ℕ) → List (List ℕ)
+with_byte byte [] = (byte ∷ []) ∷ []
+with_byte byte (line ∷ lines) = (byte ∷ line) ∷ lines
+
+-- The lines of a text. Each has the byte 10 that ends it, which the last may lack.
+abbrev pub lines_of : List ℕ → List (List ℕ)
+lines_of [] = []
+lines_of (byte ∷ text) = if byte == 10 then (byte ∷ []) ∷ lines_of text else with_byte byte (lines_of text)
+
+-- the line is that of some move
+abbrev pub IsMoveLine : List ℕ → Type 0
+IsMoveLine line = (mv : Move) × HasTask mv × (line ≡ move_line mv)
+
+-- the line is a head
+abbrev pub IsHeadLine : List ℕ → Type 0
+IsHeadLine line = (limits : Bounds) × AreLimits limits × (line ≡ head_line limits)
+
+-- the line of this number, counted from 1, is a head on line 1, or a move
+abbrev pub IsGoodLine : ℕ → List ℕ → Type 0
+IsGoodLine number line = ((number ≡ 1) × IsHeadLine line) ⊎ IsMoveLine line
+
+-- each of these lines is good, the first of them being the line of this number
+abbrev pub AreGoodLines : ℕ → List (List ℕ) → Type 0
+AreGoodLines number [] = Unit {0}
+AreGoodLines number (line ∷ lines) = IsGoodLine number line × AreGoodLines (number + 1) lines
+
+-- the line of this number is the first of the text that is not good
+pub record IsFirstBadLine (text : List ℕ) (number : ℕ) : Type 0 where
+  pub before : List (List ℕ)
+  pub line : List ℕ
+  pub after : List (List ℕ)
+  pub split : lines_of text ≡ before ++ line ∷ after
+  pub counted : number ≡ length before + 1
+  pub good : AreGoodLines 1 before
+  pub bad : ¬ IsGoodLine number line

@@ -1,0 +1,40 @@
+-- How a journal is spelled: a line for the limits, if it has a head, and a line for each move. Numbers are decimal,
+-- without leading zeros, and each line ends in the byte 10.
+use Rattle.std.specs.Prelude.{◌≡◌, ◌<◌, ◌^◌, ℕ, List, [], ◌∷◌, ◌++◌, Option, None, Some, IfSome, codes, decimal}
+use Rattle.std.specs.List.{AllByRecursion, flat_map}
+use Rattle.seg_journal.specs.Limits.{Bounds, IsWithin}
+use Rattle.seg_journal.specs.declared.moves.Kind.{Kind}
+use Rattle.seg_journal.specs.declared.moves.Kind.TheVariants.{Admit, Run}
+use Rattle.seg_journal.specs.declared.moves.Move.{Move}
+
+-- the word of a kind of move, and the blank behind it
+abbrev pub kind_word : Kind → List ℕ
+kind_word Admit = codes "admit "
+kind_word Run = codes "run "
+
+-- the line of a move
+abbrev pub move_line : Move → List ℕ
+move_line mv = kind_word mv.kind ++ (decimal mv.task ++ 10 ∷ [])
+
+-- the head: the line of the limits
+abbrev pub head_line : Bounds → List ℕ
+head_line limits = codes "twe-journal 2 fuel " ++ (decimal limits.fuel ++ (codes " tasks " ++ (decimal limits.tasks ++ 10 ∷ [])))
+
+-- the head, where there is one
+abbrev pub head_part : Option Bounds → List ℕ
+head_part None = []
+head_part (Some limits) = head_line limits
+
+-- the number of a task has 32 bits
+abbrev pub HasTask : Move → Type 0
+HasTask mv = mv.task < 2 ^ 32
+
+-- limits within their ranges
+abbrev pub AreLimits : Bounds → Type 0
+AreLimits limits = IsWithin limits.fuel limits.tasks
+
+-- the text spells the journal of this head, or of none, and of these moves
+pub record Spells (text : List ℕ) (head : Option Bounds) (moves : List Move) : Type 0 where
+  pub lines : text ≡ head_part head ++ flat_map move_line moves
+  pub limits : IfSome head AreLimits
+  pub tasks : AllByRecursion HasTask moves
