@@ -1,1 +1,6 @@
 pub mod Written
+pub mod Concrete
+pub mod Inside
+pub mod Apart
+pub mod Filled
+pub mod Sets

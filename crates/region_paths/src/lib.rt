@@ -2,8 +2,14 @@
 //! two tests on written paths, whether one lies inside another and whether two lie apart.
 #![tactic(auto)]
 
+mod disjointness;
 mod elements;
+mod inclusion;
+mod laws;
 mod paths;
 
+pub use disjointness::disjoint;
 pub use elements::{Elem, Elems};
+pub use inclusion::includes;
+pub use laws::{apart_is_sound, filled_tests_are_exact, inside_is_sound};
 pub use paths::Path;

@@ -1,9 +1,12 @@
 //! The written path: elements, at most one star, and the elements behind the star.
-ghost use Rattle.std.specs.Prelude.{◌≡◌};
+ghost use Rattle.std.specs.Prelude.{◌≡◌, IfOk, IsTrue, length, map};
 ghost use Rattle.region_paths.specs.Written.{IsWellFormed};
+ghost use Rattle.region_paths.specs.Filled.{fill, fill_elem, filled, has_args, is_solid, no_var, solid_prefix};
 
-use crate::elements::Elems;
+use crate::elements::{Elem, Elems};
+use std::alloc::{AllocError, Global};
 use std::marker::Model;
+use twe_io::Memory;
 
 /// A path as programs write it. `elems` stand before the star and `tail` behind it. Without a star `tail` is
 /// empty, which the type keeps. Contracts see a `WrittenPath`.
@@ -55,4 +58,73 @@ impl Path {
     {
         &self.tail
     }
+
+    /// How many elements stand before the first that is neither a name nor a literal index, none of them behind
+    /// the star.
+    pub fn solid_prefix(&self) -> usize
+        ensures { result ≡ length (solid_prefix self.now) }
+    {
+        let elems = self.elems.as_slice();
+        elems.iter().take_while(|e| elem_is_solid(**e)).count()
+    }
+
+    /// The path in which each variable is the argument of its number, before the star and behind it. A variable
+    /// that has no argument stays.
+    pub fn fill(&self, alloc: Global, args: &[Elem]) -> Result<Path, Memory>
+        ensures exact { IfOk result (λ path. path ≡ fill args.now self.now) }
+        ensures complete { IsTrue (has_args args.now self.now) → IsTrue (no_var args.now)
+            → IfOk result (λ path. IsTrue (filled path)) }
+    {
+        let elems = fill_elems(alloc, self.elems.as_slice(), args)?;
+        let tail = fill_elems(alloc, self.tail.as_slice(), args)?;
+        Ok(Path {
+            elems: Elems::from(elems),
+            star: self.star,
+            tail: Elems::from(tail),
+        })
+    }
+
+    /// An equal path in memory of its own.
+    pub fn copy(&self, alloc: Global) -> Result<Path, Memory>
+        ensures { IfOk result (λ path. path ≡ self.now) }
+    {
+        let elems = self.elems.copy(alloc)?;
+        let tail = self.tail.copy(alloc)?;
+        Ok(Path {
+            elems,
+            star: self.star,
+            tail,
+        })
+    }
+}
+
+/// Whether an element is a name or a literal index.
+fn elem_is_solid(elem: Elem) -> bool
+    ensures { result ≡ is_solid elem }
+{
+    match elem {
+        Elem::Name(_) => true,
+        Elem::Index(_) => true,
+        Elem::Var(_) => false,
+        Elem::AnyIndex => false,
+    }
+}
+
+/// The element, or the argument of its number where it is a variable that has one.
+fn fill_one(elem: Elem, args: &[Elem]) -> Elem
+    ensures { result ≡ fill_elem args.now elem }
+{
+    match elem {
+        Elem::Var(k) => args.get(k as usize).copied().unwrap_or(elem),
+        Elem::Name(_) => elem,
+        Elem::Index(_) => elem,
+        Elem::AnyIndex => elem,
+    }
+}
+
+/// The elements, each filled.
+fn fill_elems(alloc: Global, elems: &[Elem], args: &[Elem]) -> Result<Vec<Elem>, AllocError>
+    ensures { IfOk result (λ list. list.items ≡ map (fill_elem args.now) elems.now) }
+{
+    elems.iter().map(|e| fill_one(*e, args)).collect(alloc)
 }

@@ -1,2 +1,4 @@
 pub mod Progress
 pub mod TooLong
+pub mod MemReads
+pub mod MemWrites

@@ -3,3 +3,5 @@ pub mod Told
 pub mod Runs
 pub mod ReadFail
 pub mod Plain
+pub mod Named
+pub mod Memory

@@ -8,6 +8,7 @@
 mod bytes;
 mod calls;
 mod ints;
+mod mem;
 mod memory;
 mod place;
 mod plain;
@@ -20,6 +21,7 @@ mod word;
 pub use bytes::Bytes;
 pub use calls::Calls;
 pub use ints::Ints;
+pub use mem::{MemSink, MemSource};
 pub use memory::{Failed, Memory};
 pub use place::Place;
 pub use plain::{PlainSink, PlainSource};

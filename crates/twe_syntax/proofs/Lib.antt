@@ -7,6 +7,13 @@ pub mod FirstWhole
 pub mod FormBegins
 pub mod Heads
 pub mod Longest
+pub mod NamesDiffer
+pub mod NumberingLemmas
 pub mod Numbers
+pub mod Positions
 pub mod ReadSoFar
 pub mod Repeats
+pub mod SmallLiterals
+pub mod Steps
+pub mod WellFormed
+pub mod WritableLemmas

@@ -38,12 +38,15 @@ abbrev pub first_value_of : Option Token → ℤ
 first_value_of None = pos 0
 first_value_of (Some token) = value_of token
 
+-- the cell with this number
+abbrev pub cell_of : List (List ℕ) → ℕ → CellLine → CellDecl
+cell_of regions number line =
+    record { name = text_of line.name; path = path_of regions line.region; first = number; init = first_value_of line.value; place = line.name.place }
+
 -- the cells that the lines declare, numbered from this number on
 abbrev pub cells_from : List (List ℕ) → ℕ → List CellLine → List CellDecl
 cells_from regions number [] = []
-cells_from regions number (line ∷ lines) =
-    record { name = text_of line.name; path = path_of regions line.region; first = number; init = first_value_of line.value; place = line.name.place }
-    ∷ cells_from regions (number + 1) lines
+cells_from regions number (line ∷ lines) = cell_of regions number line ∷ cells_from regions (number + 1) lines
 
 abbrev pub term_of : List (List ℕ) → Term → Expression
 term_of cells (NamedCell token) = CellValue (number_in cells token) token.place
@@ -54,16 +57,23 @@ abbrev pub sum_of : List (List ℕ) → Expression → List Addend → Expressio
 sum_of cells left [] = left
 sum_of cells left (a ∷ others) = sum_of cells (Binary Add left (term_of cells a.term) a.plus.place) others
 
+-- the statement behind this point
+abbrev pub statement_of : List (List ℕ) → ℕ → Assignment → Statement
+statement_of cells point a =
+    SetCell point (number_in cells a.target) (sum_of cells (term_of cells a.first) a.others) a.target.place
+
 -- the statements, with their points numbered from this number on
 abbrev pub statements_from : List (List ℕ) → ℕ → List Assignment → List Statement
 statements_from cells point [] = []
-statements_from cells point (a ∷ others) =
-    SetCell point (number_in cells a.target) (sum_of cells (term_of cells a.first) a.others) a.target.place
-    ∷ statements_from cells (point + 1) others
+statements_from cells point (a ∷ others) = statement_of cells point a ∷ statements_from cells (point + 1) others
+
+-- the write of a region
+abbrev pub write_of : List (List ℕ) → Token → Effect
+write_of regions token = record { write = true; path = path_of regions token }
 
 -- the write of each region behind `writes`
 abbrev pub effects_of : List (List ℕ) → List Token → List Effect
-effects_of regions tokens = map (λ token. record { write = true; path = path_of regions token }) tokens
+effects_of regions tokens = map (write_of regions) tokens
 
 -- the task `main`
 abbrev pub main_of : FirstForm → Decl

@@ -23,6 +23,10 @@ region_names lines = codes "Console" ∷ declared_regions lines
 abbrev pub cell_names : List CellLine → List (List ℕ)
 cell_names lines = map (λ line. text_of line.name) lines
 
+-- the names that have to differ: `main`, the regions and the cells
+abbrev pub all_names : List (List ℕ) → List (List ℕ) → List (List ℕ)
+all_names regions cells = codes "main" ∷ (regions ++ cells)
+
 -- a cell line with this name whose region stands behind `writes`
 abbrev pub IsWritable : List CellLine → List (List ℕ) → List ℕ → Type 0
 IsWritable cells writes cell = (line : CellLine) × Contains cells line × (text_of line.name ≡ cell) × Contains writes (text_of line.region)
@@ -41,7 +45,7 @@ pub record IsAllowed (cells : List CellLine) (writes : List (List ℕ)) (a : Ass
 -- The names of a text mean something, and the text keeps to the limits.
 pub record NamesAreRight (f : FirstForm) : Type 0 where
   -- the declared names, `main` and `Console` are all different
-  pub different : IsDistinct bytes_eq (codes "main" ∷ (region_names f.regions ++ cell_names f.cells))
+  pub different : IsDistinct bytes_eq (all_names (region_names f.regions) (cell_names f.cells))
   -- a name behind `in` or `writes` is a region
   pub cells : AllByRecursion (λ line. Contains (region_names f.regions) (text_of line.region)) f.cells
   pub writes : AllByRecursion (λ token. Contains (region_names f.regions) (text_of token)) f.writes

@@ -1,14 +1,17 @@
 pub mod Expression
 pub mod ExpressionView
 pub mod FirstForm
+pub mod FirstLiterals
 pub mod FirstMeaning
 pub mod FirstNames
 pub mod FirstReading
 pub mod Grammar
 pub mod Lexeme
+pub mod Numbering
 pub mod Program
 pub mod Reading
 pub mod Statement
 pub mod StatementView
 pub mod Tokens
 pub mod Words
+pub mod Writable

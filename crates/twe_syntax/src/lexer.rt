@@ -76,3 +76,6 @@ pub fn read_tokens(alloc: Global, text: &[u8]) -> Result<Tokens, ReadTokensFail>
 pub fn one_reading()
     ensures { (text : List ℕ) (tokens others : List Token) → Tokenizes text tokens → Tokenizes text others → tokens ≡ others }
 {}
+
+#[cfg(test)]
+mod tests;

@@ -1,5 +1,5 @@
 //! Lists of any items, which contracts see as lists.
-ghost use Rattle.std.specs.Prelude.{◌≡◌, [], ◌∷◌, ◌++◌, length, OnOk, OnErr};
+ghost use Rattle.std.specs.Prelude.{◌≡◌, [], ◌∷◌, ◌++◌, length, slice_get, option_copied, OnOk, OnErr};
 
 use std::alloc::Global;
 use std::marker::Model;
@@ -48,6 +48,13 @@ impl<T> List<T> {
         ensures counted { result ≡ length self.now }
     {
         self.items.len()
+    }
+
+    /// The item at a place counted from 0, or nothing behind the last.
+    pub fn get(&self, at: usize) -> Option<&T>
+        ensures at_place { option_copied result ≡ slice_get self.now at }
+    {
+        self.items.get(at)
     }
 
     /// The items as a slice.

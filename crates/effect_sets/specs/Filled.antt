@@ -1,0 +1,23 @@
+-- Filling the variables of effects.
+use Rattle.std.specs.Prelude.{Bool, ◌&&◌, List, map}
+use Rattle.std.specs.List.{list_all}
+use Rattle.region_paths.specs.declared.elements.Elem.{Elem}
+use Rattle.region_paths.specs.Filled.{fill, filled, has_args}
+use Rattle.effect_sets.specs.declared.effects.Effect.{Effect}
+use Rattle.effect_sets.specs.declared.effects.Summary.{Summary}
+
+-- the effect in whose path each variable is its argument
+abbrev pub fill_effect : List Elem → Effect → Effect
+fill_effect args e = record { write = e.write; path = fill args e.path }
+
+-- the summary each of whose effects is filled
+abbrev pub fill_summary : List Elem → Summary → Summary
+fill_summary args s = record { effects = map (fill_effect args) s.effects }
+
+-- no effect has a variable
+abbrev pub all_filled : List Effect → Bool
+all_filled es = list_all (λ e. filled e.path) es
+
+-- there is an argument for each variable of each effect
+abbrev pub all_have_args : List Elem → List Effect → Bool
+all_have_args args es = list_all (λ e. has_args args e.path) es

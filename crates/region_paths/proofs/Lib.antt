@@ -1,0 +1,10 @@
+pub mod Standing
+pub mod ElementLaws
+pub mod Lists
+pub mod Ends
+pub mod Soundness
+pub mod Pairs
+pub mod Filling
+pub mod Exactness
+pub mod Outside
+pub mod Meeting

@@ -1,0 +1,66 @@
+-- Variables of a written path: whether it has any, what it is under a valuation, and filling them.
+use Rattle.std.specs.Prelude.{ℕ, ℤ, Bool, true, false, ◌&&◌, List, [], ◌∷◌, length, map, nat_lt, slice_index_or, take_while}
+use Rattle.region_paths.specs.declared.elements.Elem.{Elem}
+use Rattle.region_paths.specs.declared.elements.Elem.TheVariants.{Name, Index, Var, AnyIndex}
+use Rattle.region_paths.specs.Written.{WrittenPath}
+
+abbrev pub is_var : Elem → Bool
+is_var (Var k) = true
+is_var _ = false
+
+-- no element is a variable
+abbrev pub no_var : List Elem → Bool
+no_var [] = true
+no_var (Var k ∷ es) = false
+no_var (_ ∷ es) = no_var es
+
+-- a path without variables
+abbrev pub filled : WrittenPath → Bool
+filled p = no_var p.elems && no_var p.tail
+
+-- a whole number for each variable
+abbrev pub Valuation : Type 0
+Valuation = ℕ → ℤ
+
+-- a variable is the index that it has, and everything else is itself
+abbrev pub elem_under : Valuation → Elem → Elem
+elem_under v (Name n) = Name n
+elem_under v (Index i) = Index i
+elem_under v (Var k) = Index (v k)
+elem_under v AnyIndex = AnyIndex
+
+-- the path in which each variable is the index that it has
+abbrev pub under : Valuation → WrittenPath → WrittenPath
+under v p = record { elems = map (elem_under v) p.elems; star = p.star; tail = map (elem_under v) p.tail }
+
+-- a variable is its argument, where it has one, and everything else is itself
+abbrev pub fill_elem : List Elem → Elem → Elem
+fill_elem args (Name n) = Name n
+fill_elem args (Index i) = Index i
+fill_elem args (Var k) = slice_index_or args k (Var k)
+fill_elem args AnyIndex = AnyIndex
+
+-- each variable is below the number
+abbrev pub vars_below : ℕ → List Elem → Bool
+vars_below n [] = true
+vars_below n (Var k ∷ es) = nat_lt k n && vars_below n es
+vars_below n (_ ∷ es) = vars_below n es
+
+-- there is an argument for each variable of the path
+abbrev pub has_args : List Elem → WrittenPath → Bool
+has_args args p = vars_below (length args) p.elems && vars_below (length args) p.tail
+
+-- the path in which each variable is its argument, before the star and behind it
+abbrev pub fill : List Elem → WrittenPath → WrittenPath
+fill args p = record { elems = map (fill_elem args) p.elems; star = p.star; tail = map (fill_elem args) p.tail }
+
+-- a name or a literal index
+abbrev pub is_solid : Elem → Bool
+is_solid (Name n) = true
+is_solid (Index i) = true
+is_solid (Var k) = false
+is_solid AnyIndex = false
+
+-- the elements before the first that is neither a name nor a literal index, none of them behind the star
+abbrev pub solid_prefix : WrittenPath → List Elem
+solid_prefix p = take_while is_solid p.elems

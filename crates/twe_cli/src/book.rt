@@ -1,0 +1,36 @@
+//! What a call of the program leaves for its caller.
+
+use seg_journal::Journal;
+use std::alloc::Global;
+use twe_machine::Outcome;
+use twe_syntax::{Prog, Refusal};
+
+/// What a call of the program has made: the program that its text means and the journal and outcome of its run, or
+/// the refusal of the text.
+#[derive(Debug, Drop)]
+pub struct Book {
+    /// The program, where the text was accepted.
+    pub prog: Option<Prog>,
+    /// The journal of the run.
+    pub journal: Journal,
+    /// How the run ended.
+    pub outcome: Option<Outcome>,
+    /// Why the text was refused.
+    pub refusal: Option<Refusal>,
+}
+
+impl Book {
+    ghost use Rattle.twe_cli.specs.Theorem.{IsNew};
+
+    /// A book in which nothing stands yet. It takes no memory.
+    pub fn new(alloc: Global) -> Book
+        ensures { IsNew result }
+    {
+        Book {
+            prog: None,
+            journal: Journal::new(alloc),
+            outcome: None,
+            refusal: None,
+        }
+    }
+}

@@ -1,0 +1,39 @@
+//! The statuses that the program ends with.
+ghost use Rattle.std.specs.Prelude.{◌≡◌};
+ghost use Rattle.twe_cli.specs.Codes.{code_of};
+
+/// What a call of the program comes to.
+#[derive(Clone, Copy, Debug, PartialEq, Eq)]
+pub enum Status {
+    /// The program has run, and every task is done.
+    Done,
+    /// The text is refused.
+    Refused,
+    /// The words are no command.
+    Usage,
+    /// A read of the source failed.
+    ReadFault,
+    /// A write to a sink failed.
+    WriteFault,
+    /// There was not enough memory.
+    Memory,
+    /// The source has more bytes than a text may have.
+    TooLong,
+}
+
+impl Status {
+    /// The number that the process ends with.
+    pub fn code(self) -> u8
+        ensures { result ≡ code_of self }
+    {
+        match self {
+            Status::Done => 0,
+            Status::Refused => 1,
+            Status::Usage => 2,
+            Status::ReadFault => 5,
+            Status::WriteFault => 6,
+            Status::Memory => 7,
+            Status::TooLong => 8,
+        }
+    }
+}

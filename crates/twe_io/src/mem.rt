@@ -1,0 +1,211 @@
+//! The ends in memory that fail on purpose, for whoever wants to see what a fault leaves behind.
+//!
+//! Both give or take a few bytes a call and fail in the calls that they are told to, by number. What one call leaves
+//! is said by `ReadsMem` and `WritesMem`.
+ghost use Rattle.std.specs.Prelude.{◌≡◌, ◌≤◌, ◌↔◌, ℕ, [], length, take, min, IsTrue, IfOk};
+ghost use Rattle.twe_io.specs.Named.{NextIsNamed};
+
+mod exact;
+
+use crate::{Bytes, Calls, Failed, Memory, Sink, Source};
+use std::alloc::Global;
+use std::marker::Model;
+
+/// A source of bytes in memory that gives at most `step` bytes a call, and fails in the calls named in `fails`.
+#[derive(Debug, Drop)]
+pub struct MemSource {
+    bytes: Bytes,
+    at: usize,
+    step: usize,
+    calls: u64,
+    fails: Calls,
+    faults: u64,
+}
+
+impl Model for MemSource {
+    ghost use Rattle.std.specs.Prelude.{◌≤◌, length};
+    ghost use Rattle.twe_io.specs.Memory.{MemReading};
+
+    ghost Value = { MemReading };
+
+    ghost view = { λ source. record {
+      bytes = source.bytes;
+      at = source.at;
+      step = source.step;
+      calls = source.calls;
+      fails = source.fails;
+      faults = source.faults;
+    } };
+
+    ghost invariant = { λ source. (source.at ≤ length source.bytes) × (1 ≤ source.step) };
+}
+
+impl MemSource {
+    /// A source of which all of the bytes are left, and no call was made. It takes no memory.
+    pub fn new(bytes: Bytes, step: usize, fails: Calls) -> Self
+        requires { 1 ≤ step }
+        ensures { result ≡ record { bytes = bytes; at = 0; step = step; calls = 0; fails = fails; faults = 0 } }
+    {
+        MemSource {
+            bytes,
+            at: 0,
+            step,
+            calls: 0,
+            fails,
+            faults: 0,
+        }
+    }
+
+    /// How many reads were made.
+    pub fn calls(&self) -> u64
+        ensures { result ≡ self.now.calls }
+    {
+        self.calls
+    }
+
+    /// How many reads have failed.
+    pub fn faults(&self) -> u64
+        ensures { result ≡ self.now.faults }
+    {
+        self.faults
+    }
+}
+
+impl Source for MemSource {
+    ghost use Rattle.std.specs.Prelude.{Some};
+    ghost use Rattle.twe_io.specs.Memory.{left_of, ReadsMem};
+
+    ghost faults = { λ source. source.faults };
+
+    ghost left = { λ source. Some (left_of source) };
+
+    ghost read_gives = { ReadsMem };
+
+    fn read(&mut self, buffer: &mut [u8]) -> Result<usize, Failed> {
+        let fails = is_next_named(&self.fails, self.calls);
+        self.calls = self.calls.saturating_add(1);
+        if fails {
+            self.faults = self.faults.saturating_add(1);
+            return Err(Failed);
+        }
+        let given = copy_front(&self.bytes.as_slice()[self.at..], buffer, self.step);
+        self.at += given;
+        Ok(given)
+    }
+}
+
+/// A sink into memory of a fixed size that takes at most `step` bytes a call, and fails in the calls named in `fails`
+/// and where its room is filled.
+#[derive(Debug, Drop)]
+pub struct MemSink {
+    bytes: Vec<u8>,
+    room: usize,
+    step: usize,
+    calls: u64,
+    fails: Calls,
+    faults: u64,
+}
+
+impl Model for MemSink {
+    ghost use Rattle.std.specs.Prelude.{◌≤◌, vec_len, vec_capacity};
+    ghost use Rattle.twe_io.specs.Memory.{MemWriting};
+
+    ghost Value = { MemWriting };
+
+    ghost view = { λ sink. record {
+      bytes = sink.bytes.items;
+      room = sink.room;
+      step = sink.step;
+      calls = sink.calls;
+      fails = sink.fails;
+      faults = sink.faults;
+    } };
+
+    ghost invariant = { λ sink.
+        (vec_len sink.bytes ≤ sink.room) × (sink.room ≤ vec_capacity sink.bytes) × (1 ≤ sink.step) };
+}
+
+impl MemSink {
+    /// An empty sink with room for so many bytes, of which no call was made. It takes the memory for them, so that its
+    /// writes take none.
+    pub fn new(alloc: Global, room: usize, step: usize, fails: Calls) -> Result<Self, Memory>
+        requires { 1 ≤ step }
+        ensures { IfOk result (λ sink.
+            sink ≡ record { bytes = []; room = room; step = step; calls = 0; fails = fails; faults = 0 }) }
+    {
+        Ok(MemSink {
+            bytes: Vec::with_capacity(alloc, room)?,
+            room,
+            step,
+            calls: 0,
+            fails,
+            faults: 0,
+        })
+    }
+
+    /// The bytes that were written.
+    pub fn bytes(&self) -> &[u8]
+        ensures { result.now ≡ self.now.bytes }
+    {
+        self.bytes.as_slice()
+    }
+
+    /// How many writes were made.
+    pub fn calls(&self) -> u64
+        ensures { result ≡ self.now.calls }
+    {
+        self.calls
+    }
+
+    /// How many writes have failed.
+    pub fn faults(&self) -> u64
+        ensures { result ≡ self.now.faults }
+    {
+        self.faults
+    }
+}
+
+impl Sink for MemSink {
+    ghost use Rattle.std.specs.Prelude.{Some};
+    ghost use Rattle.twe_io.specs.Memory.{WritesMem};
+
+    ghost faults = { λ sink. sink.faults };
+
+    ghost written = { λ sink. Some sink.bytes };
+
+    ghost write_gives = { WritesMem };
+
+    fn write(&mut self, piece: &[u8]) -> Result<usize, Failed> {
+        let room = self.room - self.bytes.len();
+        let fails = room == 0 || is_next_named(&self.fails, self.calls);
+        self.calls = self.calls.saturating_add(1);
+        if fails {
+            self.faults = self.faults.saturating_add(1);
+            return Err(Failed);
+        }
+        let taken = piece.len().min(self.step.min(room));
+        self.bytes.extend_from_slice(&piece[..taken]).unwrap();
+        Ok(taken)
+    }
+}
+
+/// Copies bytes from the front of one slice to the front of another, as many as there are and fit, but no more than
+/// `most`, and says how many.
+fn copy_front(from: &[u8], to: &mut [u8], most: usize) -> usize
+    ensures count { result ≡ min (length to.old) (min most (length from.now)) }
+    ensures copied { take result to.new ≡ take result from.now }
+{
+    let count = to.len().min(most.min(from.len()));
+    to[..count].copy_from_slice(&from[..count]);
+    count
+}
+
+/// Whether, after so many calls, the next is among the named ones. Calls that can no longer be counted have no number.
+fn is_next_named(fails: &Calls, calls: u64) -> bool
+    ensures { IsTrue result ↔ NextIsNamed fails.now calls }
+{
+    match calls.checked_add(1) {
+        Some(number) => fails.as_slice().contains(&number),
+        None => false,
+    }
+}

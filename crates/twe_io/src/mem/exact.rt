@@ -1,0 +1,41 @@
+//! What a whole read and a whole write leave of the ends in memory, by the numbers of the calls that fail.
+ghost use Rattle.std.specs.Prelude.{◌≡◌, ◌↔◌, ◌<◌, ◌+◌, ◌-◌, ◌*◌, ℕ, ◌++◌, length, take, min, IfOk, OnOk, OnErr, IsErr, IsErrOf};
+ghost use Rattle.twe_io.specs.Named.{NamedBetween};
+ghost use Rattle.twe_io.specs.Memory.{left_of, IsFirstUse};
+
+use super::{MemSink, MemSource};
+use crate::{Bytes, ReadFail, WriteFault};
+use std::alloc::Global;
+
+impl MemSource {
+    /// [`crate::read_all`] of this source. It answers `ReadFault` exactly where a call that it made was one of those
+    /// named to fail.
+    pub fn read_all(&mut self, alloc: Global, limit: usize) -> Result<Bytes, ReadFail>
+        ensures whole { IfOk result (λ text. text ≡ left_of self.old) }
+        ensures fault { IsErrOf result ReadFail.ReadFault ↔ NamedBetween self.old.fails self.old.calls self.new.calls }
+        ensures too_long { IsErrOf result ReadFail.TooLong
+            ↔ (length (left_of self.old) ≡ length (left_of self.new) + (limit + 1)) }
+    {
+        let _ = &self.calls;
+        crate::read_all(alloc, self, limit)
+    }
+}
+
+impl MemSink {
+    /// [`crate::write_whole`] to this sink. Where it is the first use of a sink with room for the whole text, and
+    /// `first` is the first call that fails, it takes the bytes of the calls before that one, and answers `WriteFault`
+    /// exactly where these are not all.
+    pub fn write_whole(&mut self, text: &[u8]) -> Result<(), WriteFault>
+        ensures whole { OnOk result (self.new.bytes ≡ self.old.bytes ++ text.now) }
+        ensures part { OnErr result ((n : ℕ) × (n < length text.now)
+            × (self.new.bytes ≡ self.old.bytes ++ take n text.now)) }
+        ensures written { (first : ℕ) → IsFirstUse self.old text.now first →
+            self.new.bytes ≡ self.old.bytes
+            ++ take (min (length text.now) ((first - 1) * self.old.step)) text.now }
+        ensures fault { (first : ℕ) → IsFirstUse self.old text.now first →
+            (IsErr result ↔ ((first - 1) * self.old.step < length text.now)) }
+    {
+        let _ = &self.step;
+        crate::write_whole(self, text)
+    }
+}

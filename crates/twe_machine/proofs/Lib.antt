@@ -1,0 +1,5 @@
+pub mod Alone
+pub mod OneTask
+pub mod Ran
+pub mod Statements
+pub mod WholeRun

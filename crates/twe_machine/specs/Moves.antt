@@ -1,0 +1,105 @@
+-- What a move makes of a state, and the state that a run starts from.
+use Rattle.std.specs.Prelude.{◌++◌, ℕ, ℤ, pos, List, [], ◌∷◌, map, replicate, Bool, false, Option, None, Some, slice_get, slice_set}
+use Rattle.effect_sets.specs.declared.effects.Summary.{Summary}
+use Rattle.seg_journal.specs.declared.journal.End.{End}
+use Rattle.seg_journal.specs.declared.journal.End.TheVariants.{Admitted}
+use Rattle.seg_journal.specs.declared.journal.End.TheVariants as ends
+use Rattle.seg_journal.specs.declared.moves.Kind.{Kind}
+use Rattle.seg_journal.specs.declared.moves.Kind.TheVariants.{Admit, Run}
+use Rattle.seg_journal.specs.declared.moves.Move.{Move}
+use Rattle.seg_journal.specs.Limits.{Bounds}
+use Rattle.twe_syntax.specs.declared.program.Decl.{Decl}
+use Rattle.twe_syntax.specs.Program.{Program}
+use Rattle.twe_machine.specs.declared.frame.Call.{Call}
+use Rattle.twe_machine.specs.declared.frame.Frame.{Frame}
+use Rattle.twe_machine.specs.declared.frame.Next.TheVariants.{Go}
+use Rattle.twe_machine.specs.declared.state.State.{State}
+use Rattle.twe_machine.specs.declared.state.TaskRow.{TaskRow}
+use Rattle.twe_machine.specs.declared.state.TaskStatus.TheVariants.{Made, Enabled}
+use Rattle.twe_machine.specs.declared.state.TaskStatus.TheVariants as status
+use Rattle.twe_machine.specs.Segment.{Stop, Stopped, segment}
+use Rattle.twe_machine.specs.Segment as stops
+
+abbrev pub with_row : State → ℕ → TaskRow → State
+with_row st t row = record st { tasks = slice_set st.tasks t row }
+
+-- t becomes enabled, and nothing else changes
+abbrev pub admitted_row : TaskRow → TaskRow
+admitted_row row = record row { status = Enabled }
+
+abbrev pub admitted : State → ℕ → Option TaskRow → State
+admitted st t None = st
+admitted st t (Some row) = with_row st t (admitted_row row)
+
+-- the row of a task that is done with this value
+abbrev pub done_row : TaskRow → Frame → ℤ → TaskRow
+done_row row frame value = record row { frame = frame; status = status.Done; value = value }
+
+-- the state after a segment of task t that stopped so, and what the move ended in
+abbrev pub ended : State → ℕ → TaskRow → Stopped → Stop → State × End
+ended st t row after (stops.Done value) = (
+    record st {
+      cells = after.cells;
+      prints = st.prints ++ after.prints;
+      tasks = slice_set st.tasks t (done_row row after.frame value);
+    },
+    ends.Done value)
+
+-- one segment of task t
+abbrev pub ran : Program → State → ℕ → Option TaskRow → State × End
+ran p st t None = (st, Admitted)
+ran p st t (Some row) = let after = segment p row.frame st.cells in ended st t row after after.stop
+
+abbrev pub taken : Program → State → Kind → ℕ → State × End
+taken p st Admit t = (admitted st t (slice_get st.tasks t), Admitted)
+taken p st Run t = ran p st t (slice_get st.tasks t)
+
+-- the state after a legal move, and what the move ended in
+abbrev pub moved : Program → Bounds → State → Move → State × End
+moved p lim st mv = taken p st mv.kind mv.task
+
+-- the body of a declaration before its first statement
+abbrev pub entry_call : Decl → Call
+entry_call decl = record { method = None; vars = replicate decl.body.vars (pos 0); stack = record { block = 0; after = 0 } ∷ [] }
+
+-- what task 0, a task of this declaration, keeps before its first segment
+abbrev pub start_frame : ℕ → Bounds → Decl → Frame
+start_frame number lim decl = record {
+  task = 0;
+  decl = number;
+  calls = entry_call decl ∷ [];
+  fuel = lim.fuel;
+  futures = replicate decl.body.futures None;
+  out = [];
+  next = Go;
+  value = pos 0;
+  prints = [];
+}
+
+-- task 0 before its admission
+abbrev pub first_row : ℕ → Bounds → Decl → TaskRow
+first_row number lim decl = record {
+  decl = number;
+  args = [];
+  effects = decl.summary;
+  frame = start_frame number lim decl;
+  parent = None;
+  joined = false;
+  out = [];
+  status = Made;
+  value = pos 0;
+}
+
+abbrev pub first_rows : ℕ → Bounds → Option Decl → List TaskRow
+first_rows number lim None = []
+first_rows number lim (Some decl) = first_row number lim decl ∷ []
+
+-- a run starts with task 0, a `main` that is made, and with each cell at its first value
+abbrev pub start_of : Program → Bounds → State
+start_of p lim = record {
+  cells = map (λ cell. cell.init) p.cells;
+  tasks = first_rows p.main lim (slice_get p.tasks p.main);
+  prints = [];
+  asked = 0;
+  first_fault = None;
+}

@@ -1,0 +1,21 @@
+//! The sequential machine: a state, the moves that may be taken in it, what a move makes of it, and how a run ends.
+#![tactic(auto)]
+
+mod ending;
+mod first_state;
+mod frame;
+mod legal;
+mod one_move;
+mod segment;
+mod standing;
+mod state;
+mod whole_run;
+
+pub use first_state::start;
+pub use frame::{Call, Frame, Next, Position};
+pub use legal::{Why, may};
+pub use one_move::step;
+pub use ending::Outcome;
+pub use standing::outcome;
+pub use state::{FirstFault, State, TaskRow, TaskStatus};
+pub use whole_run::run_main;

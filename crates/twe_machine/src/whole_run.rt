@@ -1,0 +1,57 @@
+//! The run of a program that makes no task besides `main`.
+ghost use Rattle.std.specs.Prelude.{◌≡◌, [], ◌∷◌, ◌++◌, IfOk, OnOk};
+ghost use Rattle.twe_machine.specs.Legal.{MayMove};
+ghost use Rattle.twe_machine.specs.Runs.{IsRun, Legal, state_after, IsOutcome, EachOnce, AlwaysIsolated, entry_of};
+ghost use Rattle.twe_machine.specs.declared.ending.Outcome.TheVariants.{AllDone};
+
+use crate::first_state::start;
+use crate::one_move::step;
+use crate::state::State;
+use seg_journal::{Entry, Journal, Kind, Limits, Move};
+use std::alloc::Global;
+use twe_io::Memory;
+use twe_syntax::Prog;
+
+/// The journal of a whole run of the program under these limits, and the state that it leads to: `main` is admitted
+/// and runs to its end. The journal is legal, and in the end every task is done.
+pub fn run_main(alloc: Global, p: &Prog, lim: Limits) -> Result<(Journal, State), Memory>
+    ensures legal { IfOk result (λ run. Legal p.now lim run.0) }
+    ensures state { IfOk result (λ run. run.1 ≡ state_after p.now lim run.0) }
+    ensures all_done { IfOk result (λ run. IsOutcome run.1 AllDone) }
+    ensures once { IfOk result (λ run. EachOnce run.0 run.1) }
+    ensures isolated { IfOk result (λ run. AlwaysIsolated p.now lim run.0) }
+{
+    let _main = p.main;
+    let mut st = start(alloc, p, lim)?;
+    let mut journal = Journal::new(alloc);
+    let admit = Move {
+        kind: Kind::Admit,
+        task: 0,
+    };
+    take(alloc, p, lim, &mut st, &mut journal, admit)?;
+    let run = Move {
+        kind: Kind::Run,
+        task: 0,
+    };
+    take(alloc, p, lim, &mut st, &mut journal, run)?;
+    Ok((journal, st))
+}
+
+/// Takes a legal move at the end of a run, and enters it into the run's journal.
+fn take(
+    alloc: Global,
+    p: &Prog,
+    lim: Limits,
+    st: &mut State,
+    journal: &mut Journal,
+    mv: Move,
+) -> Result<(), Memory>
+    requires run { IsRun p.now lim journal.old st.old }
+    requires legal { MayMove st.old mv }
+    ensures entered { OnOk result (journal.new ≡ journal.old ++ entry_of p.now lim st.old mv ∷ []) }
+    ensures run { OnOk result (IsRun p.now lim journal.new st.new) }
+{
+    let end = step(alloc, p, lim, st, mv)?;
+    journal.push(Entry { mv, end })?;
+    Ok(())
+}
