@@ -1,6 +1,7 @@
 pub mod Beginnings
 pub mod Comments
 pub mod FirstLines
+pub mod FirstProgram
 pub mod FirstTask
 pub mod FirstTokens
 pub mod FirstWhole

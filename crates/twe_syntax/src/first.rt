@@ -59,3 +59,6 @@ pub fn one_first_program()
         → IsFirstProgram text program → IsFirstProgram text other → program ≡ other }
 {
 }
+
+#[cfg(test)]
+mod tests;
