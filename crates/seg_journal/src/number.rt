@@ -1,5 +1,5 @@
 //! Decimal numbers without leading zeros.
-ghost use Rattle.std.specs.Prelude.{◌≡◌, ◌<◌, ◌≤◌, ◌^◌, ℕ, List, ◌∷◌, ◌++◌, decimal, IfSome, IsSomeAnd};
+ghost use Rattle.std.specs.Prelude.{◌≡◌, ◌≢◌, ◌<◌, ◌≤◌, ◌^◌, ℕ, List, ◌∷◌, ◌++◌, decimal, IfSome, IfNone, IsSomeAnd};
 ghost use Rattle.std.specs.Char.{IsAsciiDigit};
 
 use std::str;
@@ -7,13 +7,13 @@ use std::str;
 /// The number that a text spells, if it spells one.
 fn number_of(text: &[u8]) -> Option<u64>
     ensures found { IfSome result (λ n. text.now ≡ decimal n) }
-    ensures only { (n : ℕ) → n < 2 ^ 64 → text.now ≡ decimal n → result ≡ Some n }
+    ensures none { IfNone result ((n : ℕ) → n < 2 ^ 64 → text.now ≢ decimal n) }
 {
-    match text {
-        [b'0'] => Some(0),
-        [b'1'..=b'9', ..] => str::from_utf8(text).ok()?.parse().ok(),
-        _ => None,
+    let first = *text.first()?;
+    if !first.is_ascii_digit() || (first == b'0' && text.len() > 1) {
+        return None;
     }
+    str::from_utf8(text).ok()?.parse().ok()
 }
 
 /// The number at the front of a text, no larger than `most`, and what stands behind the byte that ends it.
