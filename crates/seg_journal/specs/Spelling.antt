@@ -6,6 +6,7 @@ use Rattle.seg_journal.specs.Limits.{Bounds, IsWithin}
 use Rattle.seg_journal.specs.declared.moves.Kind.{Kind}
 use Rattle.seg_journal.specs.declared.moves.Kind.TheVariants.{Admit, Run}
 use Rattle.seg_journal.specs.declared.moves.Move.{Move}
+use Rattle.seg_journal.specs.declared.journal.Entry.{Entry}
 
 -- the word of a kind of move, and the blank behind it
 abbrev pub kind_word : Kind → List ℕ
@@ -16,9 +17,13 @@ kind_word Run = codes "run "
 abbrev pub move_line : Move → List ℕ
 move_line mv = kind_word mv.kind ++ (decimal mv.task ++ 10 ∷ [])
 
+-- the part of the head that has the number of tasks
+abbrev pub tasks_part : ℕ → List ℕ
+tasks_part tasks = codes " tasks " ++ (decimal tasks ++ 10 ∷ [])
+
 -- the head: the line of the limits
 abbrev pub head_line : Bounds → List ℕ
-head_line limits = codes "twe-journal 2 fuel " ++ (decimal limits.fuel ++ (codes " tasks " ++ (decimal limits.tasks ++ 10 ∷ [])))
+head_line limits = codes "twe-journal 2 fuel " ++ (decimal limits.fuel ++ tasks_part limits.tasks)
 
 -- the head, where there is one
 abbrev pub head_part : Option Bounds → List ℕ
@@ -38,3 +43,7 @@ pub record Spells (text : List ℕ) (head : Option Bounds) (moves : List Move) :
   pub lines : text ≡ head_part head ++ flat_map move_line moves
   pub limits : IfSome head AreLimits
   pub tasks : AllByRecursion HasTask moves
+
+-- the move of an entry
+abbrev pub move_of : Entry → Move
+move_of entry = entry.mv

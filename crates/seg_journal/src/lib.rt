@@ -6,6 +6,7 @@
 
 mod journal;
 mod limits;
+mod line;
 mod moves;
 mod number;
 mod text;
@@ -13,4 +14,4 @@ mod text;
 pub use journal::{End, Entry, FaultKind, Journal};
 pub use limits::Limits;
 pub use moves::{Kind, Move, Moves};
-pub use text::{JournalFail, JournalText};
+pub use text::{JournalFail, JournalText, one_spelling, print_journal, read_journal};

@@ -1,6 +1,17 @@
 //! Journals as text.
+ghost use Rattle.std.specs.Prelude.{◌≡◌, ◌⊎◌, ◌<◌, ◌≤◌, ◌+◌, ◌^◌, List, ℕ, Some, ◌++◌, length, map, IfOk, OnOk, IsErrOf, MatchResult};
+ghost use Rattle.std.specs.List.{AllByRecursion, flat_map};
+ghost use Rattle.seg_journal.specs.declared.text.JournalFail.TheVariants.{Memory as NoMemory};
+ghost use Rattle.seg_journal.specs.declared.moves.Move.{Move};
+ghost use Rattle.seg_journal.specs.Limits.{Bounds};
+ghost use Rattle.seg_journal.specs.Spelling.{Spells, move_line, move_of, HasTask};
+ghost use Rattle.seg_journal.specs.Lines.{IsFirstBadLine};
+ghost use Rattle.seg_journal.specs.Stops.{StopsAt};
 
-use crate::{Limits, Moves};
+use crate::line::{head_at, move_at, push_head, push_move};
+use crate::{Entry, Journal, Limits, Moves};
+use std::alloc::Global;
+use twe_io::{Bytes, Memory};
 
 /// What a text says of a journal: its limits, if it has a head, and its moves.
 #[derive(Debug, Drop)]
@@ -9,10 +20,98 @@ pub struct JournalText {
     pub moves: Moves,
 }
 
-/// Why a text is no journal: the line of this number, counted from 1, is the first that is neither a head on
-/// line 1 nor a move; or there was not enough memory.
+/// Why a text is no journal.
 #[derive(Clone, Copy, Debug, PartialEq, Eq)]
 pub enum JournalFail {
+    /// The line of this number, counted from 1, is the first that is neither a head on line 1 nor a move.
     BadLine(u64),
+    /// There was not enough memory.
     Memory,
 }
+
+impl From<Memory> for JournalFail {
+    ghost from_gives = { λ _ fail. fail ≡ NoMemory };
+
+    fn from(_: Memory) -> Self {
+        JournalFail::Memory
+    }
+}
+
+/// The text of a journal: the head with the limits, and the move of each entry.
+pub fn print_journal(alloc: Global, journal: &Journal, limits: Limits) -> Result<Bytes, Memory>
+    ensures { IfOk result (λ text. Spells text (Some limits) (map move_of journal.now)) }
+{
+    let mut text = Bytes::new(alloc);
+    push_head(&mut text, limits)?;
+    push_moves(&mut text, journal.as_slice())?;
+    Ok(text)
+}
+
+/// Writes the line of each entry's move behind a text.
+fn push_moves(text: &mut Bytes, entries: &[Entry]) -> Result<(), Memory>
+    ensures written { OnOk result (text.new ≡ text.old ++ flat_map move_line (map move_of entries.now)) }
+    ensures tasks { OnOk result (AllByRecursion HasTask (map move_of entries.now)) }
+{
+    for entry in entries {
+        push_move(text, entry.mv)?;
+    }
+    Ok(())
+}
+
+/// The limits and the moves that a text spells.
+pub fn read_journal(alloc: Global, text: &[u8]) -> Result<JournalText, JournalFail>
+    // What is read is so spelled.
+    ensures spelled { IfOk result (λ found. Spells text.now found.head found.moves) }
+
+    // What is so spelled is read, unless memory runs out.
+    ensures only { (head : _) (moves : List Move) → Spells text.now head moves → MatchResult result
+        (λ found. (found.head ≡ head) × (found.moves ≡ moves)) (λ fail. fail ≡ JournalFail.Memory) }
+
+    // It names the first bad line, and where there is one answers that, unless memory runs out.
+    ensures bad_line { (n : ℕ) → IsErrOf result (JournalFail.BadLine n) → IsFirstBadLine text.now n }
+    ensures first_bad { (n : ℕ) → IsFirstBadLine text.now n
+        → IsErrOf result (JournalFail.BadLine n) ⊎ IsErrOf result JournalFail.Memory }
+{
+    read_lines(alloc, text)
+}
+
+/// The limits and the moves that a text spells, or its first bad line.
+fn read_lines(alloc: Global, text: &[u8]) -> Result<JournalText, JournalFail>
+    ensures spelled { IfOk result (λ found. Spells text.now found.head found.moves) }
+    ensures bad_line { (n : ℕ) → IsErrOf result (JournalFail.BadLine n) → IsFirstBadLine text.now n }
+{
+    match head_at(text) {
+        Some((limits, rest)) => Ok(JournalText {
+            head: Some(limits),
+            moves: read_moves(alloc, rest, 2)?,
+        }),
+        None => Ok(JournalText {
+            head: None,
+            moves: read_moves(alloc, text, 1)?,
+        }),
+    }
+}
+
+/// The moves that a text spells, whose first line has this number.
+fn read_moves(alloc: Global, text: &[u8], first: u64) -> Result<Moves, JournalFail>
+    requires { first + length text.now ≤ 2 ^ 64 }
+    ensures spelled { IfOk result (λ moves. (text.now ≡ flat_map move_line moves) × AllByRecursion HasTask moves) }
+    ensures bad_line { (n : ℕ) → IsErrOf result (JournalFail.BadLine n) → StopsAt text.now first n }
+{
+    let mut moves = Moves::new(alloc);
+    let mut rest = text;
+    while !rest.is_empty() {
+        let Some((mv, after)) = move_at(rest) else {
+            return Err(JournalFail::BadLine(first + moves.len() as u64));
+        };
+        moves.push(mv)?;
+        rest = after;
+    }
+    Ok(moves)
+}
+
+/// No text spells two journals. So what was printed is read again as the same limits and moves.
+pub fn one_spelling()
+    ensures { (text : List ℕ) (head other : _) (moves others : List Move) → Spells text head moves
+        → Spells text other others → (head ≡ other) × (moves ≡ others) }
+{}
