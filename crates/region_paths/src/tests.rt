@@ -83,15 +83,18 @@ fn a_path_is_filled_on_both_sides_of_its_star(rt: HostRuntime) -> Result<(), Fai
     let copied = filled.copy(rt.alloc())?;
     let want = [Elem::Name(4), Elem::Index(-7), Elem::AnyIndex];
     assert_eq!(rt; copied.elems().as_slice(), want.as_slice());
-    assert_eq!(rt; copied.tail().as_slice(), [Elem::Index(3), Elem::Name(5)].as_slice());
+    assert_eq!(rt;
+        copied.tail().as_slice(),
+        [Elem::Index(3), Elem::Name(5)].as_slice()
+    );
     Ok(())
 }
 
 /// The filled paths that are compared, each with each.
 const FILLED: [&str; 36] = [
-    "", "A", "B", "1", "?", "*", "AB", "BA", "A1", "A7", "A?", "1?", "??", "A*", "1*", "?*", "*A", "*B",
-    "*1", "*?", "A*A", "A*B", "B*A", "A*?", "?*1", "A1*", "A?*", "*1A", "*?A", "AB?", "A?B", "A1*B", "A*1B",
-    "?*??", "A*A?", "AA*A",
+    "", "A", "B", "1", "?", "*", "AB", "BA", "A1", "A7", "A?", "1?", "??", "A*", "1*", "?*", "*A",
+    "*B", "*1", "*?", "A*A", "A*B", "B*A", "A*?", "?*1", "A1*", "A?*", "*1A", "*?A", "AB?", "A?B",
+    "A1*B", "A*1B", "?*??", "A*A?", "AA*A",
 ];
 
 /// All lists of at most four concrete elements, of which two are names and three are indexes: the place of each
@@ -160,8 +163,20 @@ fn both_tests_answer_as_a_plain_search_does(rt: HostRuntime) -> Result<(), Fail>
         for q in &cases {
             let within = p.members.iter().zip(&q.members).all(|(a, b)| !*a || *b);
             let meet = p.members.iter().zip(&q.members).any(|(a, b)| *a && *b);
-            assert_eq!(rt; includes(&q.path, &p.path), within, "{:?} inside {:?}", p.path, q.path);
-            assert_eq!(rt; disjoint(&p.path, &q.path), !meet, "{:?} apart from {:?}", p.path, q.path);
+            assert_eq!(rt;
+                includes(&q.path, &p.path),
+                within,
+                "{:?} inside {:?}",
+                p.path,
+                q.path
+            );
+            assert_eq!(rt;
+                disjoint(&p.path, &q.path),
+                !meet,
+                "{:?} apart from {:?}",
+                p.path,
+                q.path
+            );
         }
     }
     Ok(())
