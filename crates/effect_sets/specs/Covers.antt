@@ -1,5 +1,5 @@
 -- Which effects a summary covers.
-use Rattle.std.specs.Prelude.{Bool, not, ◌&&◌, ◌||◌, List, IsTrue, Any}
+use Rattle.std.specs.Prelude.{Bool, not, ◌&&◌, ◌||◌, IsTrue}
 use Rattle.std.specs.List.{list_any}
 use Rattle.region_paths.specs.Inside.{inside}
 use Rattle.region_paths.specs.Sets.{SetWithin}

@@ -18,7 +18,10 @@ fn covers_one(declared: &Effect, effect: &Effect) -> bool
 fn some_covers(s: &Summary, e: &Effect) -> bool
     ensures { result ≡ covers s.now e.now }
 {
-    s.effects.as_slice().iter().any(|declared| covers_one(declared, e))
+    s.effects
+        .as_slice()
+        .iter()
+        .any(|declared| covers_one(declared, e))
 }
 
 /// Whether some effect of the summary includes the path of the effect, and writes if it does. Of effects without

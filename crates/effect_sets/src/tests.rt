@@ -6,7 +6,9 @@ use std::test::Fail;
 use twe_io::Memory;
 
 const A: Elem = Elem::Name(0);
+
 const B: Elem = Elem::Name(1);
+
 const TWO: Elem = Elem::Index(2);
 
 /// An effect on a path without a star.
