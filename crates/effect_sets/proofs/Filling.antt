@@ -1,5 +1,5 @@
 -- Filling the variables of effects.
-use Rattle.std.proofs.Common.{◌≡◌, Bool, true, IsTrue, ◌&&◌, List, [], ◌∷◌, map, refl}
+use Rattle.std.proofs.Common.{IsTrue, List, [], ◌∷◌, map, refl}
 use Rattle.std.proofs.lemmas.Bool.{and_parts, and_from}
 use Rattle.region_paths.specs.declared.elements.Elem.{Elem}
 use Rattle.region_paths.specs.Filled.{no_var}

@@ -1,5 +1,5 @@
 -- Which effects a summary covers.
-use Rattle.std.specs.Prelude.{Bool, not, ◌&&◌, ◌||◌, List, IsTrue, Any}
+use Rattle.std.specs.Prelude.{Bool, not, ◌&&◌, ◌||◌, IsTrue}
 use Rattle.std.specs.List.{list_any}
 use Rattle.region_paths.specs.Inside.{inside}
 use Rattle.region_paths.specs.Sets.{SetWithin}
@@ -10,7 +10,7 @@ use Rattle.effect_sets.specs.declared.effects.Summary.{Summary}
 abbrev pub effect_covers : Effect → Effect → Bool
 effect_covers d e = inside e.path d.path && (not e.write || d.write)
 
--- some effect of the summary does
+-- some effect of the summary covers the effect
 abbrev pub covers : Summary → Effect → Bool
 covers s e = list_any (λ d. effect_covers d e) s.effects
 

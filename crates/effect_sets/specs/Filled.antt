@@ -1,5 +1,5 @@
 -- Filling the variables of effects.
-use Rattle.std.specs.Prelude.{Bool, ◌&&◌, List, map}
+use Rattle.std.specs.Prelude.{Bool, List, map}
 use Rattle.std.specs.List.{list_all}
 use Rattle.region_paths.specs.declared.elements.Elem.{Elem}
 use Rattle.region_paths.specs.Filled.{fill, filled, has_args}

@@ -1,6 +1,8 @@
 //! Whether a summary covers an effect.
-ghost use Rattle.std.specs.Prelude.{◌≡◌};
-ghost use Rattle.effect_sets.specs.Covers.{effect_covers, covers};
+ghost use Rattle.std.specs.Prelude.{◌≡◌, ◌↔◌, Any, IsTrue};
+ghost use Rattle.region_paths.specs.Filled.{filled};
+ghost use Rattle.effect_sets.specs.Covers.{EffectWithin, covers, effect_covers};
+ghost use Rattle.effect_sets.specs.Filled.{all_filled};
 
 use crate::effects::{Effect, Summary};
 use region_paths::includes;
@@ -12,9 +14,22 @@ fn covers_one(declared: &Effect, effect: &Effect) -> bool
     includes(&declared.path, &effect.path) && (!effect.write || declared.write)
 }
 
-/// Whether some effect of the summary includes the path of the effect, and writes if it does.
+/// Whether some effect of the summary covers the effect.
+fn some_covers(s: &Summary, e: &Effect) -> bool
+    ensures { result ≡ covers s.now e.now }
+{
+    s.effects
+        .as_slice()
+        .iter()
+        .any(|declared| covers_one(declared, e))
+}
+
+/// Whether some effect of the summary includes the path of the effect, and writes if it does. Of effects without
+/// variables that is so exactly where each region of the effect is one of that effect of the summary.
 pub fn covers(s: &Summary, e: &Effect) -> bool
     ensures exact { result ≡ covers s.now e.now }
+    ensures sets { IsTrue (all_filled s.now.effects) → IsTrue (filled e.now.path)
+        → IsTrue result ↔ Any (λ declared. EffectWithin declared e.now) s.now.effects }
 {
-    s.effects.as_slice().iter().any(|declared| covers_one(declared, e))
+    some_covers(s, e)
 }

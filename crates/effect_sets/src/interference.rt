@@ -29,7 +29,10 @@ fn interferes_with_some(a: &Effect, t: &Summary) -> bool
 fn some_interfere(a: &Summary, b: &Summary) -> bool
     ensures { result ≡ statically_interfere a.now b.now }
 {
-    a.effects.as_slice().iter().any(|effect| interferes_with_some(effect, b))
+    a.effects
+        .as_slice()
+        .iter()
+        .any(|effect| interferes_with_some(effect, b))
 }
 
 /// Whether some effects of the two summaries interfere. Of summaries without variables that is so exactly where

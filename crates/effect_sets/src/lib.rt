@@ -4,6 +4,8 @@
 mod cover;
 mod effects;
 mod interference;
+#[cfg(test)]
+mod tests;
 
 pub use cover::covers;
 pub use effects::{Effect, Effects, Summary};

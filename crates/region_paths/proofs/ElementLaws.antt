@@ -1,5 +1,5 @@
 -- What the two tests on elements say of the concrete elements that they stand against.
-use Rattle.std.proofs.Common.{◌≡◌, ℕ, ◌+◌, ℤ, pos, ◌+ℤ◌, Bool, true, false, not, refl, sym, ap, ◌∙◌, subst, arith, eqb-true, eq-eqb, ne_eqb, int_eq}
+use Rattle.std.proofs.Common.{◌≡◌, ℕ, ℤ, pos, ◌+ℤ◌, true, false, refl, sym, ap, ◌∙◌, subst, arith, eqb-true, eq-eqb, ne_eqb, int_eq}
 use Rattle.std.proofs.lemmas.Bool.{false≢true, eqb-false, not-false, not_from_true, false_from_ne_true}
 use Rattle.std.proofs.lemmas.Bool.Decides.{Decides-int_eq, not_from_Decides}
 use Rattle.std.proofs.lemmas.Int.{ints}

@@ -1,10 +1,10 @@
 -- A concrete path in a set, as its length and what stands against its front and, counted backwards, its end.
-use Rattle.std.proofs.Common.{◌≡◌, ℕ, ◌+◌, ◌-◌, ◌≤◌, Bool, true, false, ◌&&◌, List, [], ◌∷◌, ◌++◌, length, take, drop, reverse, refl, sym, ap, ◌∙◌, subst, arith, length-drop, take-append-drop, append-nil}
+use Rattle.std.proofs.Common.{◌≡◌, ◌+◌, ◌-◌, ◌≤◌, true, List, [], ◌++◌, length, take, drop, reverse, sym, ap, ◌∙◌, arith, length-drop, take-append-drop, append-nil}
 use Rattle.std.proofs.lemmas.List.{reverse-append, reverse-reverse, length-reverse}
 use Rattle.std.proofs.lemmas.Bool.{and_parts, and_from, leb-true, le-leb}
 use Rattle.region_paths.specs.declared.elements.Elem.{Elem}
-use Rattle.region_paths.specs.Concrete.{ConcreteElem, ConcretePath, elem_stands, each_stands, both_ends_stand}
-use Rattle.region_paths.proofs.Standing.{front_stands, each_stands-take, front_stands-each, front_stands-length, each_stands-length, each_stands-reverse}
+use Rattle.region_paths.specs.Concrete.{ConcretePath, each_stands, both_ends_stand}
+use Rattle.region_paths.proofs.Standing.{front_stands, each_stands-take, front_stands-each, each_stands-length, each_stands-reverse}
 
 -- the concrete path has room for both lists, and they stand against its front and its end
 pub record Around (elems tail : List Elem) (c : ConcretePath) : Type 0 where

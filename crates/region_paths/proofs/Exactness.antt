@@ -1,8 +1,7 @@
 -- For filled paths the two tests say how their sets lie.
-use Rattle.std.proofs.Common.{◌≡◌, ◌↔◌, ℤ, ℕ, pos, Bool, true, false, IsTrue, IsFalse, refl, sym, ap, ◌∙◌, subst}
-use Rattle.std.proofs.lemmas.Bool.{true_from_ne_false, false_from_ne_true, both_ways}
+use Rattle.std.proofs.Common.{◌≡◌, ◌↔◌, pos, Bool, IsTrue, IsFalse, sym, ◌∙◌, subst}
+use Rattle.std.proofs.lemmas.Bool.{false_from_ne_true}
 use Rattle.region_paths.specs.Written.{WrittenPath}
-use Rattle.region_paths.specs.Concrete.{ConcretePath, InSet}
 use Rattle.region_paths.specs.Inside.{inside}
 use Rattle.region_paths.specs.Apart.{apart}
 use Rattle.region_paths.specs.Filled.{Valuation, under, filled}

@@ -1,11 +1,10 @@
 -- Filling the variables of a path, and what a path is under a valuation.
-use Rattle.std.proofs.Common.{◌≡◌, ℕ, ℤ, ◌<◌, ◌≤◌, Bool, true, false, IsTrue, ◌&&◌, List, [], ◌∷◌, map, length, get_or, nat_lt, slice_index_or, refl, sym, ap, ap₂, ◌∙◌, zero, suc, arith, ltb-true}
-use Rattle.std.proofs.lemmas.Bool.{false≢true, and_parts, and_from}
-use Rattle.std.proofs.lemmas.List.{get_or-map}
+use Rattle.std.proofs.Common.{◌≡◌, ℕ, ◌<◌, true, false, IsTrue, List, [], ◌∷◌, map, length, get_or, refl, ap₂, zero, suc, arith, ltb-true}
+use Rattle.std.proofs.lemmas.Bool.{and_parts, and_from}
 use Rattle.region_paths.specs.declared.elements.Elem.{Elem}
 use Rattle.region_paths.specs.declared.elements.Elem.TheVariants.{Name, Index, Var, AnyIndex}
 use Rattle.region_paths.specs.Written.{WrittenPath}
-use Rattle.region_paths.specs.Filled.{Valuation, elem_under, under, fill_elem, fill, filled, is_var, no_var, vars_below, has_args}
+use Rattle.region_paths.specs.Filled.{Valuation, under, fill_elem, fill, filled, is_var, no_var, vars_below, has_args}
 use Rattle.region_paths.proofs.Lists.{no_var-parts, no_var-cons, map-elem_under}
 
 -- an argument that is there is no variable where none of them is

@@ -1,13 +1,13 @@
 -- The tests on lists of elements against the fronts of concrete paths.
-use Rattle.std.proofs.Common.{◌≡◌, ℕ, suc, ◌+◌, ◌-◌, ◌≤◌, max, Bool, true, false, ◌&&◌, ◌||◌, List, [], ◌∷◌, ◌++◌, map, length, reverse, inl, inr, append-nil, refl, sym, ap, ◌∙◌, arith}
+use Rattle.std.proofs.Common.{◌≡◌, suc, ◌≤◌, max, true, false, List, [], ◌∷◌, ◌++◌, map, length, reverse, inl, inr, refl, sym, ap, ◌∙◌, arith}
 use Rattle.std.proofs.lemmas.Grind.{reverse_onto}
 use Rattle.std.proofs.lemmas.List.{map-append, length-map}
-use Rattle.std.proofs.lemmas.Bool.{false≢true, and_parts, and_from, and_cases, and_left, or_parts, or_cases, cases_Bool, and_right}
+use Rattle.std.proofs.lemmas.Bool.{false≢true, and_parts, and_from, and_cases, and_left, or_parts, or_cases, and_right}
 use Rattle.region_paths.specs.declared.elements.Elem.{Elem}
 use Rattle.region_paths.specs.declared.elements.Elem.TheVariants.{Name, Index, Var, AnyIndex}
-use Rattle.region_paths.specs.Concrete.{ConcreteElem, ConcretePath, elem_stands}
+use Rattle.region_paths.specs.Concrete.{ConcretePath, elem_stands}
 use Rattle.region_paths.specs.Inside.{within, starts_within}
-use Rattle.region_paths.specs.Apart.{clash, clash_from_front}
+use Rattle.region_paths.specs.Apart.{clash_from_front}
 use Rattle.region_paths.specs.Filled.{Valuation, elem_under, is_var, no_var}
 use Rattle.region_paths.proofs.Standing.{front_stands}
 use Rattle.region_paths.proofs.ElementLaws.{within-stands, clash-stands, example, example-stands, stranger, stranger-stands, escape, escape-stands, escape-escapes, common, common-stands-first, common-stands-second}

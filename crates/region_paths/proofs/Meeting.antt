@@ -1,15 +1,15 @@
 -- Where two filled paths do not lie apart, a concrete path is in both of their sets.
-use Rattle.std.proofs.Common.{◌≡◌, ℕ, ◌+◌, ◌-◌, ◌≤◌, ◌<◌, max, Bool, true, false, not, IsTrue, ◌&&◌, ◌||◌, List, [], ◌∷◌, ◌++◌, length, reverse, take, drop, inl, inr, refl, sym, ap, ◌∙◌, arith, eqb-true, length-take, length-drop, take-append-drop}
+use Rattle.std.proofs.Common.{◌≡◌, ◌+◌, ◌≤◌, Bool, true, false, IsTrue, List, [], ◌∷◌, ◌++◌, length, reverse, take, drop, refl, sym, ap, ◌∙◌, arith, eqb-true, length-take, length-drop, take-append-drop}
 use Rattle.std.proofs.lemmas.List.{length-reverse, reverse-append}
-use Rattle.std.proofs.lemmas.Bool.{false≢true, true_from_ne_false, and_parts, or_parts, or_from, ltb-false, not-false}
+use Rattle.std.proofs.lemmas.Bool.{true_from_ne_false, and_parts, or_parts, or_from, ltb-false, not-false}
 use Rattle.region_paths.specs.declared.elements.Elem.{Elem}
 use Rattle.region_paths.specs.Written.{WrittenPath}
-use Rattle.region_paths.specs.Concrete.{ConcretePath, InSet, each_stands}
-use Rattle.region_paths.specs.Apart.{clash, apart, clash_from_front, clash_from_end, apart_from_ends}
+use Rattle.region_paths.specs.Concrete.{ConcretePath, each_stands}
+use Rattle.region_paths.specs.Apart.{apart, clash_from_front, clash_from_end, apart_from_ends}
 use Rattle.region_paths.specs.Filled.{no_var, filled}
 use Rattle.region_paths.specs.Sets.{SetsApart, SetsMeet}
-use Rattle.region_paths.proofs.Standing.{front_stands, each_stands-append}
-use Rattle.region_paths.proofs.Lists.{no_var-parts, no_var-cons, no_var-reverse, Common, commons}
+use Rattle.region_paths.proofs.Standing.{each_stands-append}
+use Rattle.region_paths.proofs.Lists.{no_var-parts, no_var-cons, no_var-reverse, commons}
 use Rattle.region_paths.proofs.Ends.{Around, around_to, along_to}
 use Rattle.region_paths.proofs.Soundness.{written}
 use Rattle.region_paths.proofs.Outside.{along_turned, around_made}

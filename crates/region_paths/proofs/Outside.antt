@@ -1,18 +1,18 @@
 -- Where a filled path does not lie inside another one, a concrete path of its set shows it.
-use Rattle.std.proofs.Common.{◌≡◌, ℕ, ◌+◌, ◌-◌, ◌≤◌, ◌<◌, max, pos, Bool, true, false, not, IsTrue, ◌&&◌, ◌||◌, List, [], ◌∷◌, ◌++◌, map, length, reverse, take, drop, replicate, inl, inr, refl, sym, ap, ◌∙◌, subst, arith, eqb-true, length-append, length-take, length-drop, take-append-drop, append-nil}
+use Rattle.std.proofs.Common.{◌≡◌, ◌+◌, ◌<◌, pos, Bool, true, false, IsTrue, ◌&&◌, List, [], ◌++◌, map, length, reverse, replicate, inl, inr, refl, sym, ap, ◌∙◌, arith, length-append, append-nil}
 use Rattle.std.proofs.lemmas.List.{length-replicate, length-reverse, length-map, reverse-append, reverse-reverse}
-use Rattle.std.proofs.lemmas.Bool.{false≢true, true_from_ne_false, cases_eq, cases_lt, eq-eqb, both_ways, and_parts, and_from, or_cases, and_cases, and_left, and_right, or_parts, leb-true, leb-false, lt-leb, ltb-true, ltb-false, not-true, not-false, eqb-false, ne_eqb}
+use Rattle.std.proofs.lemmas.Bool.{true_from_ne_false, cases_eq, cases_lt, both_ways, and_parts, and_cases, leb-false, eqb-false}
 use Rattle.region_paths.specs.declared.elements.Elem.{Elem}
 use Rattle.region_paths.specs.Written.{WrittenPath}
-use Rattle.region_paths.specs.Concrete.{ConcreteElem, region, number, ConcretePath, InSet, stands, each_stands}
+use Rattle.region_paths.specs.Concrete.{ConcreteElem, number, ConcretePath, InSet, stands, each_stands}
 use Rattle.region_paths.specs.Inside.{inside, starts_within, ends_within, each_within, inside_ends}
-use Rattle.region_paths.specs.Apart.{apart, clash_from_front, clash_from_end, apart_from_ends}
+use Rattle.region_paths.specs.Apart.{apart}
 use Rattle.region_paths.specs.Filled.{no_var, filled}
-use Rattle.region_paths.specs.Sets.{SetWithin, SetsApart, SetsMeet}
-use Rattle.region_paths.proofs.Standing.{front_stands, front_stands-append, front_stands-length, each_stands-append, each_stands-length, each_stands-reverse}
+use Rattle.region_paths.specs.Sets.{SetWithin}
+use Rattle.region_paths.proofs.Standing.{front_stands, front_stands-append, front_stands-length, each_stands-length, each_stands-reverse}
 use Rattle.region_paths.proofs.ElementLaws.{example}
-use Rattle.region_paths.proofs.Lists.{no_var-append, no_var-reverse, examples-stand, Escapes, escapes, Common, commons}
-use Rattle.region_paths.proofs.Ends.{Around, Along, around_from, around_to, along_from, along_to}
+use Rattle.region_paths.proofs.Lists.{no_var-reverse, examples-stand, escapes}
+use Rattle.region_paths.proofs.Ends.{Around, around_from, around_to, along_from, along_to}
 use Rattle.region_paths.proofs.Soundness.{written}
 
 -- a concrete path that is in the first set and not in the second

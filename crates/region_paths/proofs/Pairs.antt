@@ -1,5 +1,5 @@
 -- The tests on lists of elements as the chains over the pairs of their elements say them.
-use Rattle.std.proofs.Common.{◌≡◌, ℕ, suc, ◌+◌, ◌≤◌, ◌<◌, Bool, true, false, leb, ◌&&◌, List, [], ◌∷◌, length, reverse, zip, refl, sym, ap, ◌∙◌, arith, le-leb}
+use Rattle.std.proofs.Common.{◌≡◌, ℕ, suc, Bool, true, false, leb, ◌&&◌, List, [], ◌∷◌, length, zip, refl, sym, ap, ◌∙◌, arith, le-leb}
 use Rattle.std.specs.List.{list_all}
 use Rattle.std.proofs.lemmas.List.{length-reverse}
 use Rattle.std.proofs.lemmas.Bool.{lt-leb}

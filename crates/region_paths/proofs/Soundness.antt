@@ -1,12 +1,12 @@
 -- The laws of inside and apart under every valuation.
-use Rattle.std.proofs.Common.{◌≡◌, ℕ, ◌+◌, ◌≤◌, ◌<◌, Bool, true, false, not, IsTrue, ◌&&◌, ◌||◌, List, [], ◌∷◌, ◌++◌, map, length, reverse, inl, inr, refl, sym, ap, ◌∙◌, subst, arith, eqb-true}
+use Rattle.std.proofs.Common.{◌≡◌, ◌+◌, ◌≤◌, ◌<◌, Bool, true, false, IsTrue, List, map, length, reverse, inl, inr, sym, ap, ◌∙◌, arith, eqb-true}
 use Rattle.std.proofs.lemmas.List.{length-reverse, length-map}
-use Rattle.std.proofs.lemmas.Bool.{false≢true, and_parts, and_from, or_cases, leb-true, ltb-true, not-true, eqb-false}
+use Rattle.std.proofs.lemmas.Bool.{false≢true, and_parts, or_cases, leb-true, ltb-true, not-true, eqb-false}
 use Rattle.region_paths.specs.declared.elements.Elem.{Elem}
 use Rattle.region_paths.specs.Written.{WrittenPath}
-use Rattle.region_paths.specs.Concrete.{ConcretePath, InSet, stands}
-use Rattle.region_paths.specs.Inside.{inside, starts_within, ends_within, each_within, inside_ends}
-use Rattle.region_paths.specs.Apart.{apart, clash_from_front, clash_from_end, apart_from_ends}
+use Rattle.region_paths.specs.Concrete.{ConcretePath}
+use Rattle.region_paths.specs.Inside.{inside, ends_within}
+use Rattle.region_paths.specs.Apart.{apart, clash_from_end, apart_from_ends}
 use Rattle.region_paths.specs.Filled.{Valuation, elem_under, under}
 use Rattle.region_paths.specs.Sets.{SetWithin, SetsApart}
 use Rattle.region_paths.proofs.Standing.{front_stands}

@@ -1,11 +1,9 @@
 -- A list of elements against the front of a concrete path, and the set of a written path in these words.
-use Rattle.std.proofs.Common.{◌≡◌, ℕ, ◌+◌, ◌-◌, ◌<◌, ◌≤◌, Bool, true, false, ◌&&◌, List, [], ◌∷◌, ◌++◌, length, take, drop, reverse, refl, sym, ap, ◌∙◌, cond, leb, subst, arith, length-append, length-drop, take-append-drop, append-nil}
+use Rattle.std.proofs.Common.{◌≡◌, ◌≤◌, Bool, true, false, ◌&&◌, List, [], ◌∷◌, ◌++◌, length, take, reverse, refl, ap, arith}
 use Rattle.std.proofs.lemmas.Grind.{reverse_onto}
-use Rattle.std.proofs.lemmas.List.{reverse-append, length-reverse}
-use Rattle.std.proofs.lemmas.Bool.{and_parts, and_from, leb-true, le-leb, false≢true}
+use Rattle.std.proofs.lemmas.Bool.{and_parts, and_from, false≢true}
 use Rattle.region_paths.specs.declared.elements.Elem.{Elem}
-use Rattle.region_paths.specs.Written.{WrittenPath}
-use Rattle.region_paths.specs.Concrete.{ConcreteElem, ConcretePath, elem_stands, each_stands, both_ends_stand, stands, InSet}
+use Rattle.region_paths.specs.Concrete.{ConcretePath, elem_stands, each_stands}
 
 -- the path is at least as long as the list, whose elements stand against its first ones
 abbrev pub front_stands : List Elem → ConcretePath → Bool

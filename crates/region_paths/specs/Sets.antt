@@ -1,5 +1,4 @@
 -- How the sets of two written paths lie to one another.
-use Rattle.std.specs.Prelude.{ℕ}
 use Rattle.region_paths.specs.Written.{WrittenPath}
 use Rattle.region_paths.specs.Concrete.{ConcretePath, InSet}
 

@@ -7,6 +7,8 @@ mod elements;
 mod inclusion;
 mod laws;
 mod paths;
+#[cfg(test)]
+mod tests;
 
 pub use disjointness::disjoint;
 pub use elements::{Elem, Elems};
