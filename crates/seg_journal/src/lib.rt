@@ -1,0 +1,15 @@
+//! The journal of a run: its moves, what each ended in, and the limits that the run was made under.
+//!
+//! A journal is what a scheduler leaves behind: whoever takes its moves again, one after another, comes to the
+//! same state. What a move does to a state is left to the machine above.
+#![tactic(auto)]
+
+mod journal;
+mod limits;
+mod moves;
+mod text;
+
+pub use journal::{End, Entry, FaultKind, Journal};
+pub use limits::Limits;
+pub use moves::{Kind, Move, Moves};
+pub use text::{JournalFail, JournalText};
