@@ -1,4 +1,6 @@
 //! The links of one task.
+ghost use Rattle.std.specs.Prelude.{◌≡◌};
+ghost use Rattle.wait_graph.specs.Link.{new_link};
 
 /// What links a task to others.
 #[derive(Clone, Copy, Debug, PartialEq, Eq)]
@@ -11,4 +13,18 @@ pub struct Link {
     pub joined: bool,
     /// Whether this task is done.
     pub done: bool,
+}
+
+impl Link {
+    /// The links of a new task: it waits for nobody, and is neither joined nor done.
+    pub(crate) fn new(parent: Option<u32>) -> Self
+        ensures { result ≡ new_link parent }
+    {
+        Link {
+            waits: None,
+            parent,
+            joined: false,
+            done: false,
+        }
+    }
 }
