@@ -1,2 +1,5 @@
 pub mod ChainLemmas
 pub mod WaitingLemmas
+pub mod WalkLemmas
+pub mod RoundLemmas
+pub mod FirstRoundLemmas

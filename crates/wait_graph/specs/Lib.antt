@@ -1,3 +1,4 @@
 pub mod Chain
 pub mod Link
 pub mod Waiting
+pub mod Walk
