@@ -1,20 +1,14 @@
 -- A walk that comes to a number again goes round from there on.
 use Rattle.std.proofs.Common.{◌≡◌, ◌≢◌, ℕ, zero, suc, ◌+◌, ◌-◌, ◌<◌, ◌≤◌, List, [], ◌∷◌, ◌++◌, length, get_or, take, drop, refl, sym, ap, ◌∙◌, ◌⊎◌, inl, inr, ⊎_elim, arith, add-one, add-zero}
 use Rattle.std.proofs.lemmas.Bool.{cases_lt}
-use Rattle.wait_graph.specs.Walk.{walk}
-use Rattle.wait_graph.proofs.WalkLemmas.{after, after-suc, after-add}
+use Rattle.wait_graph.specs.Walk.{walk, after, ComesAgain}
+use Rattle.wait_graph.proofs.WalkLemmas.{after-suc, after-add}
 
 -- the walk from t comes back to t after p steps, and not before
 pub record IsRound (next : ℕ → ℕ) (p t : ℕ) : Type 0 where
   pub some : 0 < p
   pub back : after next p t ≡ t
   pub first : (i : ℕ) → 0 < i → i < p → after next i t ≢ t
-
--- the walk from t is at n numbers, one after another, which are all different, and then again where it was after m steps
-pub record ComesAgain (next : ℕ → ℕ) (m n t : ℕ) : Type 0 where
-  pub before : m < n
-  pub again : after next n t ≡ after next m t
-  pub distinct : (i j : ℕ) → i < j → j < n → after next i t ≢ after next j t
 
 -- from there it goes round
 pub IsRound-again : (next : ℕ → ℕ) (m p t : ℕ) → ComesAgain next m (m + p) t → IsRound next p (after next m t)

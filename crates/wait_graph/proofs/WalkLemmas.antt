@@ -1,12 +1,7 @@
 -- Walks along a function on numbers: where they are after some steps, and which lists they make.
 use Rattle.std.proofs.Common.{◌≡◌, ℕ, zero, suc, ◌+◌, ◌<◌, ◌≤◌, List, [], ◌∷◌, ◌++◌, length, get_or, take, drop, refl, sym, ap, ◌∙◌, arith, zero-add}
 use Rattle.std.proofs.lemmas.List.{drop_at, take_at, length-append}
-use Rattle.wait_graph.specs.Walk.{walk}
-
--- where the walk from t is after n steps
-abbrev pub after : (ℕ → ℕ) → ℕ → ℕ → ℕ
-after next zero t = t
-after next (suc n) t = after next n (next t)
+use Rattle.wait_graph.specs.Walk.{walk, after}
 
 -- one step more
 pub after-suc : (next : ℕ → ℕ) (n t : ℕ) → after next (suc n) t ≡ next (after next n t)

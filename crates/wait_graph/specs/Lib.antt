@@ -2,3 +2,4 @@ pub mod Chain
 pub mod Link
 pub mod Waiting
 pub mod Walk
+pub mod StuckCycle

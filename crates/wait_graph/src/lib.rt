@@ -3,7 +3,10 @@
 
 mod chains;
 mod graph;
+mod stuck;
 mod tasks;
+mod walk;
 
 pub use graph::Links;
+pub use stuck::{Cycle, Edge};
 pub use tasks::Link;

@@ -1,0 +1,124 @@
+//! The walk along waits and holders, and the cycle that it ends in.
+ghost use Rattle.std.specs.Prelude.{◌≡◌, ℕ, ◌<◌, ◌≤◌, ◌++◌, false, not, length, map, take, drop, vec_len, nat_lt, IfOk, OnOk};
+ghost use Rattle.std.specs.List.{All, Any, IsFirstBest, position};
+ghost use Rattle.wait_graph.specs.Link.{IsOrdered};
+ghost use Rattle.wait_graph.specs.Walk.{walk, after, ComesAgain};
+ghost use Rattle.wait_graph.specs.StuckCycle.{IsUndone, LeavesNoneAlone, edge_from, next_of, lowest_undone};
+
+use crate::chains;
+use crate::stuck::Edge;
+use crate::tasks::Link;
+use std::alloc::Global;
+use twe_io::Memory;
+
+/// The edge by which the walk leaves `t`: to the task that it waits for, and where it waits for nobody, to its holder.
+fn edge_from(links: &[Link], held: &[Option<u32>], t: u32) -> Edge
+    requires ordered { IsOrdered links.now }
+    requires holders { length held.now ≡ length links.now }
+    requires onward { LeavesNoneAlone links.now held.now }
+    requires undone { IsUndone links.now t }
+    ensures value { result ≡ edge_from links.now held.now t }
+    ensures undone { IsUndone links.now result.to }
+{
+    match chains::awaited(links, t) {
+        Some(to) => Edge {
+            from: t,
+            held: false,
+            to,
+        },
+        None => Edge {
+            from: t,
+            held: true,
+            to: held[t as usize].unwrap_or(t),
+        },
+    }
+}
+
+/// The place of the first task that isn't done.
+fn first_undone(links: &[Link]) -> Option<usize>
+    ensures { result ≡ position (λ link. not link.done) links.now }
+{
+    links.iter().position(|link| !link.done)
+}
+
+/// The lowest task that isn't done.
+fn lowest_undone(links: &[Link]) -> u32
+    requires ordered { IsOrdered links.now }
+    requires some { Any (λ link. link.done ≡ false) links.now }
+    ensures value { result ≡ lowest_undone links.now }
+    ensures undone { IsUndone links.now result }
+{
+    first_undone(links).unwrap_or(0) as u32
+}
+
+/// The tasks that a walk met before it came to one of them again.
+struct Walk {
+    /// Each task once, in the order in which the walk met them.
+    tasks: Vec<u32>,
+    /// The place of the one that the walk came to again.
+    again: usize,
+}
+
+/// The walk from `start`, up to the first task that it comes to again.
+fn walk_from(
+    alloc: Global,
+    links: &[Link],
+    held: &[Option<u32>],
+    start: u32,
+) -> Result<Walk, Memory>
+    requires ordered { IsOrdered links.now }
+    requires holders { length held.now ≡ length links.now }
+    requires onward { LeavesNoneAlone links.now held.now }
+    requires undone { IsUndone links.now start }
+    ensures tasks { IfOk result (λ found. found.tasks.items ≡ walk (next_of links.now held.now) (vec_len found.tasks) start) }
+    ensures again { IfOk result (λ found. ComesAgain (next_of links.now held.now) found.again (vec_len found.tasks) start) }
+    ensures within { IfOk result (λ found. vec_len found.tasks ≤ length links.now) }
+{
+    let mut places: Vec<Option<u32>> = vec![in alloc; None; links.len()]?;
+    let mut tasks = Vec::new(alloc);
+    let mut at = start;
+    loop {
+        if let Some(again) = places[at as usize] {
+            return Ok(Walk {
+                tasks,
+                again: again as usize,
+            });
+        }
+        places[at as usize] = Some(tasks.len() as u32);
+        tasks.push(at)?;
+        at = edge_from(links, held, at).to;
+    }
+}
+
+/// The place of the lowest task.
+fn lowest_place(tasks: &[u32]) -> usize
+    requires { 0 < length tasks.now }
+    ensures { IsFirstBest nat_lt tasks.now (length tasks.now) result }
+{
+    let mut lowest = 0;
+    for i in 1..tasks.len() {
+        if tasks[i] < tasks[lowest] {
+            lowest = i;
+        }
+    }
+    lowest
+}
+
+/// Puts the edges by which the walk leaves these tasks behind the others.
+fn push_edges(
+    links: &[Link],
+    held: &[Option<u32>],
+    tasks: &[u32],
+    edges: &mut Vec<Edge>,
+) -> Result<(), Memory>
+    requires ordered { IsOrdered links.now }
+    requires holders { length held.now ≡ length links.now }
+    requires onward { LeavesNoneAlone links.now held.now }
+    requires undone { All (IsUndone links.now) tasks.now }
+    ensures { OnOk result (edges.new.items ≡ edges.old.items ++ map (edge_from links.now held.now) tasks.now) }
+{
+    for t in tasks {
+        edges.push(edge_from(links, held, *t))?;
+    }
+    Ok(())
+}
