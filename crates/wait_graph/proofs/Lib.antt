@@ -6,3 +6,6 @@ pub mod FirstRoundLemmas
 pub mod UndoneLemmas
 pub mod PlacesLemmas
 pub mod TurnedLemmas
+pub mod EdgeLemmas
+pub mod CycleLemmas
+pub mod FoundLemmas

@@ -1,6 +1,6 @@
 -- The cycle of tasks none of which can go on: each waits for the next or is held by it.
-use Rattle.std.specs.Prelude.{◌≡◌, ◌≢◌, ℕ, suc, ◌<◌, ◌++◌, ◌⊎◌, Bool, true, false, not, MatchBool, List, length, map, take, drop, Option, Some, None, unwrap_or, slice_index_or}
-use Rattle.std.specs.List.{position, AllPairs}
+use Rattle.std.specs.Prelude.{◌≡◌, ◌≢◌, ℕ, suc, ◌<◌, ◌++◌, ◌⊎◌, Bool, true, false, not, MatchBool, List, [], ◌∷◌, length, map, take, drop, Option, Some, None, unwrap_or, slice_index_or}
+use Rattle.std.specs.List.{position, All, AllPairs}
 use Rattle.wait_graph.specs.declared.tasks.Link.{Link}
 use Rattle.wait_graph.specs.declared.stuck.Edge.{Edge}
 use Rattle.wait_graph.specs.Link.{link_of}
@@ -60,3 +60,16 @@ IsClosed edges =
 -- no task stands in it twice
 abbrev pub HasEachOnce : List Edge → Type 0
 HasEachOnce edges = AllPairs (λ (d e : Edge). d.from ≢ e.from) edges
+
+-- its first edge begins at the lowest of its tasks
+abbrev pub BeginsLowest : List Edge → Type 0
+BeginsLowest [] = Unit {0}
+BeginsLowest (first ∷ others) = All (λ (e : Edge). first.from < e.from) others
+
+-- true edges that go round once, from the lowest task on
+pub record IsCycle (links : List Link) (held : List (Option ℕ)) (edges : List Edge) : Type 0 where
+  pub some : 0 < length edges
+  pub true_edges : All (IsTrueEdge links held) edges
+  pub closed : IsClosed edges
+  pub once : HasEachOnce edges
+  pub begins_lowest : BeginsLowest edges

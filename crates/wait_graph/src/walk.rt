@@ -1,9 +1,9 @@
 //! The walk along waits and holders, and the cycle that it ends in.
-ghost use Rattle.std.specs.Prelude.{◌≡◌, ℕ, ◌<◌, ◌≤◌, ◌++◌, false, not, length, map, take, drop, vec_len, nat_lt, IfOk, OnOk};
-ghost use Rattle.std.specs.List.{All, Any, IsFirstBest, position};
+ghost use Rattle.std.specs.Prelude.{◌≡◌, ℕ, ◌<◌, ◌≤◌, ◌++◌, false, not, length, map, vec_len, IfOk, OnOk};
+ghost use Rattle.std.specs.List.{All, Any, position};
 ghost use Rattle.wait_graph.specs.Link.{IsOrdered};
-ghost use Rattle.wait_graph.specs.Walk.{walk, after, ComesAgain};
-ghost use Rattle.wait_graph.specs.StuckCycle.{IsUndone, LeavesNoneAlone, edge_from, next_of, lowest_undone};
+ghost use Rattle.wait_graph.specs.Walk.{walk, ComesAgain, lowest_place, turned};
+ghost use Rattle.wait_graph.specs.StuckCycle.{IsUndone, LeavesNoneAlone, IsCycle, edge_from, next_of, lowest_undone, stuck_cycle};
 
 use crate::chains;
 use crate::stuck::Edge;
@@ -52,6 +52,7 @@ fn lowest_undone(links: &[Link]) -> u32
 }
 
 /// The tasks that a walk met before it came to one of them again.
+#[derive(Drop)]
 struct Walk {
     /// Each task once, in the order in which the walk met them.
     tasks: Vec<u32>,
@@ -93,7 +94,8 @@ fn walk_from(
 /// The place of the lowest task.
 fn lowest_place(tasks: &[u32]) -> usize
     requires { 0 < length tasks.now }
-    ensures { IsFirstBest nat_lt tasks.now (length tasks.now) result }
+    ensures value { result ≡ lowest_place tasks.now }
+    ensures within { result < length tasks.now }
 {
     let mut lowest = 0;
     for i in 1..tasks.len() {
@@ -121,4 +123,42 @@ fn push_edges(
         edges.push(edge_from(links, held, *t))?;
     }
     Ok(())
+}
+
+/// The edges by which the walk leaves the tasks of a round, from the lowest of them on.
+fn turned_edges(
+    alloc: Global,
+    links: &[Link],
+    held: &[Option<u32>],
+    round: &[u32],
+) -> Result<Vec<Edge>, Memory>
+    requires ordered { IsOrdered links.now }
+    requires holders { length held.now ≡ length links.now }
+    requires onward { LeavesNoneAlone links.now held.now }
+    requires undone { All (IsUndone links.now) round.now }
+    requires some { 0 < length round.now }
+    ensures { IfOk result (λ edges. edges.items ≡ map (edge_from links.now held.now) (turned round.now)) }
+{
+    let (before, rest) = round.split_at(lowest_place(round));
+    let mut edges = Vec::with_capacity(alloc, round.len())?;
+    push_edges(links, held, rest, &mut edges)?;
+    push_edges(links, held, before, &mut edges)?;
+    Ok(edges)
+}
+
+/// The cycle that the walk from the lowest task that isn't done ends in, from the lowest of its tasks on.
+pub(crate) fn find_cycle(
+    alloc: Global,
+    links: &[Link],
+    held: &[Option<u32>],
+) -> Result<Vec<Edge>, Memory>
+    requires ordered { IsOrdered links.now }
+    requires holders { length held.now ≡ length links.now }
+    requires some { Any (λ link. link.done ≡ false) links.now }
+    requires onward { LeavesNoneAlone links.now held.now }
+    ensures exact { IfOk result (λ edges. edges.items ≡ stuck_cycle links.now held.now) }
+    ensures cycle { IfOk result (λ edges. IsCycle links.now held.now edges.items) }
+{
+    let walk = walk_from(alloc, links, held, lowest_undone(links))?;
+    turned_edges(alloc, links, held, &walk.tasks[walk.again..])
 }
