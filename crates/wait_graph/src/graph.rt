@@ -1,9 +1,11 @@
 //! The links of all tasks, in which a wait leads to a higher number and a parent has a lower one.
-ghost use Rattle.std.specs.Prelude.{◌≡◌, ℕ, ◌-◌, ◌^◌, ◌<◌, ◌↔◌, [], ◌∷◌, ◌++◌, length, IsTrue, IfSome, IfNone, IfOk, OnOk, OnErr};
+ghost use Rattle.std.specs.Prelude.{◌≡◌, ℕ, ◌-◌, ◌^◌, ◌<◌, ◌↔◌, [], ◌∷◌, ◌++◌, false, length, IsTrue, IfSome, IfNone, IfOk, OnOk, OnErr};
 ghost use Rattle.std.specs.Option.{ForSome};
+ghost use Rattle.std.specs.List.{All, Any};
 
-use crate::chains;
+use crate::stuck::Cycle;
 use crate::tasks::Link;
+use crate::{chains, walk};
 use std::alloc::Global;
 use std::marker::Model;
 use twe_io::Memory;
@@ -32,6 +34,7 @@ impl Model for Links {
 impl Links {
     ghost use Rattle.wait_graph.specs.Link.{IsOrdered, new_link, link_of, with_wait, with_joined, with_done};
     ghost use Rattle.wait_graph.specs.Waiting.{WaitsFor, WaitsForNobody, WaitsOn, YieldsTo};
+    ghost use Rattle.wait_graph.specs.StuckCycle.{LeavesNoneAlone, stuck_cycle, IsTrueEdge, IsClosed, HasEachOnce, BeginsLowest};
 
     /// No task. It takes no memory.
     pub fn new(alloc: Global) -> Self
@@ -127,5 +130,26 @@ impl Links {
         ensures { IsTrue result ↔ YieldsTo self.now s t }
     {
         chains::yields(&self.tasks, s, t)
+    }
+
+    /// The cycle in which the tasks are stuck, where each task of `held` is the holder of the task of that number.
+    ///
+    /// The walk starts at the lowest task that isn't done. From a task that waits it goes to the task waited for, and
+    /// from another one to its holder. The tasks from the first one that it comes to again on are the cycle, which
+    /// begins with the lowest of them. It takes time linear in the number of tasks.
+    pub fn find_cycle(&self, alloc: Global, held: &[Option<u32>]) -> Result<Cycle, Memory>
+        requires holders { length held.now ≡ length self.now }
+        requires some_undone { Any (λ link. link.done ≡ false) self.now }
+        requires none_alone { LeavesNoneAlone self.now held.now }
+        ensures exact { IfOk result (λ cycle. cycle ≡ stuck_cycle self.now held.now) }
+
+        // What the edges of that cycle are.
+        ensures some { IfOk result (λ cycle. 0 < length cycle) }
+        ensures true_edges { IfOk result (λ cycle. All (IsTrueEdge self.now held.now) cycle) }
+        ensures closed { IfOk result (λ cycle. IsClosed cycle) }
+        ensures once { IfOk result (λ cycle. HasEachOnce cycle) }
+        ensures begins_lowest { IfOk result (λ cycle. BeginsLowest cycle) }
+    {
+        Ok(Cycle::from(walk::find_cycle(alloc, &self.tasks, held)?))
     }
 }
