@@ -1,5 +1,5 @@
 -- What holds of every chain of steps, and of chains whose steps leave no choice.
-use Rattle.std.proofs.Common.{◌≡◌, ◌≢◌, ℕ, refl, sym, subst}
+use Rattle.std.proofs.Common.{◌≡◌, ◌≢◌, ℕ, refl, subst}
 use Rattle.wait_graph.specs.Chain.{Chain, none, more}
 
 -- a chain goes on by a step

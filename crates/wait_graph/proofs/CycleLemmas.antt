@@ -1,7 +1,7 @@
 -- The edges of a round of the walk make a cycle.
-use Rattle.std.proofs.Common.{◌≡◌, ◌≢◌, ℕ, zero, suc, ◌+◌, ◌<◌, ◌≤◌, List, [], ◌∷◌, ◌++◌, length, get_or, map, take, drop, Option, refl, sym, ap, ◌∙◌, subst, ⊎_elim, arith}
-use Rattle.std.specs.List.{All, AllPairs}
-use Rattle.std.proofs.lemmas.Bool.{cases_eq, cases_lt}
+use Rattle.std.proofs.Common.{◌≡◌, ◌≢◌, ℕ, zero, suc, ◌<◌, ◌≤◌, List, [], ◌∷◌, ◌++◌, length, get_or, map, take, drop, Option, refl, sym, ap, ◌∙◌, subst, ⊎_elim, arith}
+use Rattle.std.specs.List.{All}
+use Rattle.std.proofs.lemmas.Bool.{cases_eq}
 use Rattle.std.proofs.lemmas.List.{length-map, get_or-map}
 use Rattle.std.proofs.lemmas.List.Elements.{All-from_get_or, All-map}
 use Rattle.wait_graph.specs.declared.tasks.Link.{Link}
@@ -9,7 +9,7 @@ use Rattle.wait_graph.specs.declared.stuck.Edge.{Edge}
 use Rattle.wait_graph.specs.Link.{IsOrdered}
 use Rattle.wait_graph.specs.Walk.{walk, after}
 use Rattle.wait_graph.specs.StuckCycle.{IsUndone, LeavesNoneAlone, IsTrueEdge, IsClosed, HasEachOnce, BeginsLowest, IsCycle, edge_from, next_of}
-use Rattle.wait_graph.proofs.WalkLemmas.{after-suc, walk-push, length-walk, get_or-walk}
+use Rattle.wait_graph.proofs.WalkLemmas.{walk-push, length-walk, get_or-walk}
 use Rattle.wait_graph.proofs.RoundLemmas.{IsRound, IsRound-distinct}
 use Rattle.wait_graph.proofs.EdgeLemmas.{from-edge_from, GoesOn-undone}
 
@@ -23,8 +23,8 @@ pub IsUndone-walk : (links : List Link) (held : List (Option ℕ)) (n t : ℕ) �
 IsUndone-walk links held n t ordered alone undone =
     All-from_get_or (IsUndone links) (walk (next_of links held) n t) 0
     (λ i h.
-        let k : i < n = let l = length-walk (next_of links held) n t in omega arith in
-        subst (λ (u : ℕ). IsUndone links u) (sym (get_or-walk (next_of links held) n t i 0 k)) (IsUndone-after links held i t ordered alone undone))
+    let k : i < n = let l = length-walk (next_of links held) n t in omega arith in
+    subst (λ (u : ℕ). IsUndone links u) (sym (get_or-walk (next_of links held) n t i 0 k)) (IsUndone-after links held i t ordered alone undone))
 
 -- the edges of the first n tasks of the walk from t
 abbrev pub edges_of : List Link → List (Option ℕ) → ℕ → ℕ → List Edge

@@ -1,5 +1,5 @@
 -- The edge by which the walk leaves a task that isn't done.
-use Rattle.std.proofs.Common.{◌≡◌, ℕ, Bool, true, false, cond, List, Option, Some, None, unwrap_or, refl, sym, ap, ◌∙◌, subst, ◌⊎◌, inl, inr, ⊎_elim}
+use Rattle.std.proofs.Common.{◌≡◌, ℕ, Bool, true, false, cond, List, Option, Some, None, refl, sym, ap, ◌∙◌, subst, ◌⊎◌, inl, inr, ⊎_elim}
 use Rattle.wait_graph.specs.declared.tasks.Link.{Link}
 use Rattle.wait_graph.specs.declared.stuck.Edge.{Edge}
 use Rattle.wait_graph.specs.Link.{link_of, IsOrdered}
@@ -15,8 +15,10 @@ unfolding Awaits
 awaits_at links s u e false d =
     inl (u, ap (undone_task links) e ∙ ap (λ b. cond b None (Some u)) d, record { waits = e; undone = d })
 awaits_at links s u e true d =
-    inr (ap (undone_task links) e ∙ ap (λ b. cond b None (Some u)) d,
-     λ v w. let p = w.waits in let q = w.undone in let same : v ≡ u = cc in let r = ap (λ x. (link_of links x).done) same in cc)
+    inr (
+      ap (undone_task links) e ∙ ap (λ b. cond b None (Some u)) d,
+      λ v w. let p = w.waits in let q = w.undone in let same : v ≡ u = cc in let r = ap (λ x. (link_of links x).done) same in cc,
+    )
 
 awaits_from : (links : List Link) (s : ℕ) (on : Option ℕ) → (link_of links s).waits ≡ on → Awaits links s
 unfolding Awaits
@@ -44,19 +46,19 @@ pub GoesOn-undone : (links : List Link) (held : List (Option ℕ)) (t : ℕ) →
 GoesOn-undone links held t ordered alone undone =
     ⊎_elim
     (λ found.
-        let edge : edge_from links held t ≡ record { from = t; held = false; to = found.0 } = ap (λ on. edge_to t on (holder_of held t)) found.1 in
-        record {
-          onward = subst (λ (u : ℕ). IsUndone links u) (sym (ap (λ e. e.to) edge)) (record { there = (ordered.waits_up t found.0 found.2.waits).1; undone = found.2.undone });
-          true_edge = subst (λ (e : Edge). IsTrueEdge links held e) (sym edge) found.2;
-        })
+    let edge : edge_from links held t ≡ record { from = t; held = false; to = found.0 } = ap (λ on. edge_to t on (holder_of held t)) found.1 in
+    record {
+      onward = subst (λ (u : ℕ). IsUndone links u) (sym (ap (λ e. e.to) edge)) (record { there = (ordered.waits_up t found.0 found.2.waits).1; undone = found.2.undone });
+      true_edge = subst (λ (e : Edge). IsTrueEdge links held e) (sym edge) found.2;
+    })
     (λ nobody.
-        ⊎_elim (λ wait. absurd (nobody.1 wait.0 wait.1))
-        (λ holder.
-            let edge : edge_from links held t ≡ record { from = t; held = true; to = holder.0 } =
-                ap (λ on. edge_to t on (holder_of held t)) nobody.0 ∙ ap (λ h. edge_to t None h) holder.1 in
-            record {
-              onward = subst (λ (u : ℕ). IsUndone links u) (sym (ap (λ e. e.to) edge)) holder.2;
-              true_edge = subst (λ (e : Edge). IsTrueEdge links held e) (sym edge) (nobody.1, holder.1);
-            })
-        (alone t undone))
+    ⊎_elim (λ wait. absurd (nobody.1 wait.0 wait.1))
+    (λ holder.
+    let edge : edge_from links held t ≡ record { from = t; held = true; to = holder.0 } =
+    ap (λ on. edge_to t on (holder_of held t)) nobody.0 ∙ ap (λ h. edge_to t None h) holder.1 in
+    record {
+      onward = subst (λ (u : ℕ). IsUndone links u) (sym (ap (λ e. e.to) edge)) holder.2;
+      true_edge = subst (λ (e : Edge). IsTrueEdge links held e) (sym edge) (nobody.1, holder.1);
+    })
+    (alone t undone))
     (awaited-cases links t)

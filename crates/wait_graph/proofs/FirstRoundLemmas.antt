@@ -1,5 +1,5 @@
 -- Which part of a walk `first_round` is.
-use Rattle.std.proofs.Common.{◌≡◌, ◌≢◌, ℕ, zero, suc, ◌+◌, ◌-◌, ◌<◌, ◌≤◌, Bool, true, false, cond, eqb, List, [], ◌∷◌, ◌++◌, length, get_or, take, drop, refl, sym, ap, ◌∙◌, subst, ⊎_elim, arith, eq-eqb}
+use Rattle.std.proofs.Common.{◌≡◌, ◌≢◌, ℕ, zero, suc, ◌+◌, ◌<◌, true, false, cond, eqb, List, ◌∷◌, ◌++◌, length, get_or, take, refl, sym, ap, ◌∙◌, subst, ⊎_elim, arith, eq-eqb}
 use Rattle.std.specs.List.{list_any, before_first}
 use Rattle.std.proofs.lemmas.Bool.{cases_lt, ne_eqb}
 use Rattle.std.proofs.lemmas.List.{take_at, length-append, get_or_at, get_or_append_left}
@@ -7,7 +7,7 @@ use Rattle.std.proofs.lemmas.List.Elements.{All-from_get_or}
 use Rattle.std.proofs.lemmas.List.Folds.{list_any_none, list_any_at}
 use Rattle.std.proofs.lemmas.List.Sums.{position_or_len_is}
 use Rattle.wait_graph.specs.Walk.{walk, first_round, after, ComesAgain}
-use Rattle.wait_graph.proofs.WalkLemmas.{after-suc, after-add, walk-add, length-walk, get_or-walk}
+use Rattle.wait_graph.proofs.WalkLemmas.{after-suc, walk-add, length-walk, get_or-walk}
 
 -- a number stands again where it stands anywhere
 list_any_middle : (t : ℕ) (xs ys : List ℕ) → list_any (λ u. eqb u t) (xs ++ t ∷ ys) ≡ true
@@ -20,8 +20,8 @@ before_first_middle : (t : ℕ) (xs ys : List ℕ) → ((i : ℕ) → i < length
 before_first_middle t xs ys away =
     ap (λ n. take n (xs ++ t ∷ ys))
     (position_or_len_is (λ u. eqb u t) (xs ++ t ∷ ys) (length xs) 0 (let e = length-append xs (t ∷ ys) in omega arith)
-     (λ k h. ap (λ u. eqb u t) (get_or_append_left xs (t ∷ ys) 0 k h) ∙ ne_eqb (get_or xs k 0) t (away k h))
-     (λ h. ap (λ u. eqb u t) (get_or_at xs t ys 0 (length xs) refl) ∙ eq-eqb t t refl))
+    (λ k h. ap (λ u. eqb u t) (get_or_append_left xs (t ∷ ys) 0 k h) ∙ ne_eqb (get_or xs k 0) t (away k h))
+    (λ h. ap (λ u. eqb u t) (get_or_at xs t ys 0 (length xs) refl) ∙ eq-eqb t t refl))
     ∙ take_at xs (t ∷ ys) (length xs) refl
 
 first_round-at : (t : ℕ) (ts xs ys : List ℕ) → ts ≡ xs ++ t ∷ ys → ((i : ℕ) → i < length xs → get_or xs i 0 ≢ t) → first_round (t ∷ ts) ≡ t ∷ xs
@@ -63,8 +63,8 @@ first_round-walk next zero (suc p) more t c =
     ∙ first_round-at t (walk next (p + suc more) (next t)) (walk next p (next t)) ys
     (walk-add next p (suc more) (next t) ∙ ap (λ u. walk next p (next t) ++ u ∷ ys) back)
     (λ i h e.
-        let k : i < p = let l = length-walk next p (next t) in omega arith in
-        c.distinct 0 (suc i) (omega arith) (omega arith) (sym e ∙ get_or-walk next p (next t) i 0 k))
+    let k : i < p = let l = length-walk next p (next t) in omega arith in
+    c.distinct 0 (suc i) (omega arith) (omega arith) (sym e ∙ get_or-walk next p (next t) i 0 k))
 first_round-walk next (suc m) p more t c =
     let long : suc m + p + more ≡ suc (m + p + more) = omega arith in
     let turns : suc m + p ≡ suc (m + p) = omega arith in
@@ -72,10 +72,10 @@ first_round-walk next (suc m) p more t c =
     ap (λ k. first_round (walk next (suc k) t)) long
     ∙ first_round-past t (walk next (suc (m + p + more)) (next t))
     (λ i h e.
-        let k : i < suc (m + p + more) = let l = length-walk next (suc (m + p + more)) (next t) in omega arith in
-        let rest = ComesAgain-next next m (m + p) t again in
-        let s = stays next m (m + p) (next t) rest.before rest.again i in
-        let low = s.1 in
-        again.distinct 0 (suc s.0) (omega arith) (omega arith)
-        (sym e ∙ get_or-walk next (suc (m + p + more)) (next t) i 0 k ∙ s.2))
+    let k : i < suc (m + p + more) = let l = length-walk next (suc (m + p + more)) (next t) in omega arith in
+    let rest = ComesAgain-next next m (m + p) t again in
+    let s = stays next m (m + p) (next t) rest.before rest.again i in
+    let low = s.1 in
+    again.distinct 0 (suc s.0) (omega arith) (omega arith)
+    (sym e ∙ get_or-walk next (suc (m + p + more)) (next t) i 0 k ∙ s.2))
     ∙ first_round-walk next m p more (next t) (ComesAgain-next next m (m + p) t again)

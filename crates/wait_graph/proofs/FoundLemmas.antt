@@ -1,5 +1,5 @@
 -- The round that a walk was found to end in is the one that the stuck cycle is made of.
-use Rattle.std.proofs.Common.{◌≡◌, ℕ, suc, ◌+◌, ◌-◌, ◌<◌, ◌≤◌, List, length, map, drop, Option, refl, sym, ap, ◌∙◌, subst, arith}
+use Rattle.std.proofs.Common.{◌≡◌, ℕ, suc, ◌+◌, ◌-◌, ◌≤◌, List, length, map, drop, Option, sym, ap, ◌∙◌, subst, arith}
 use Rattle.wait_graph.specs.declared.tasks.Link.{Link}
 use Rattle.wait_graph.specs.declared.stuck.Edge.{Edge}
 use Rattle.wait_graph.specs.Link.{IsOrdered}
@@ -9,7 +9,7 @@ use Rattle.wait_graph.proofs.WalkLemmas.{drop-walk}
 use Rattle.wait_graph.proofs.RoundLemmas.{IsRound, IsRound-again}
 use Rattle.wait_graph.proofs.FirstRoundLemmas.{first_round-walk}
 use Rattle.wait_graph.proofs.TurnedLemmas.{IsTurned-round}
-use Rattle.wait_graph.proofs.CycleLemmas.{IsUndone-after, IsCycle-edges_of, edges_of}
+use Rattle.wait_graph.proofs.CycleLemmas.{IsUndone-after, IsCycle-edges_of}
 
 -- what a walk found: its tasks, and the place of the one that it came to again, within so many steps
 pub record IsFound (next : ℕ → ℕ) (start m size : ℕ) (tasks : List ℕ) : Type 0 where
@@ -50,7 +50,7 @@ IsRoundOf-found next start m size tasks f =
     let same : drop m (walk next (m + (n - m)) start) ≡ drop m tasks = ap (λ k. drop m (walk next k start)) parts ∙ ap (drop m) (sym f.tasks_are) in
     subst (λ (ts : List ℕ). IsRoundOf next start m size ts) same
     (subst (λ (k : ℕ). IsRoundOf next start m k (drop m (walk next (m + (n - m)) start))) whole
-        (found_parts next start m (n - m) (size - n) c))
+    (found_parts next start m (n - m) (size - n) c))
 
 -- the edges of the turned round are the stuck cycle
 pub stuck_cycle-round : (links : List Link) (held : List (Option ℕ)) (m : ℕ) (round : List ℕ) → IsRoundOf (next_of links held) (lowest_undone links) m (length links) round → map (edge_from links held) (turned round) ≡ stuck_cycle links held

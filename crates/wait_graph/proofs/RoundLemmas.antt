@@ -1,8 +1,7 @@
 -- A walk that comes to a number again goes round from there on.
-use Rattle.std.proofs.Common.{◌≡◌, ◌≢◌, ℕ, zero, suc, ◌+◌, ◌-◌, ◌<◌, ◌≤◌, List, [], ◌∷◌, ◌++◌, length, get_or, take, drop, refl, sym, ap, ◌∙◌, ◌⊎◌, inl, inr, ⊎_elim, arith, add-one, add-zero}
-use Rattle.std.proofs.lemmas.Bool.{cases_lt}
-use Rattle.wait_graph.specs.Walk.{walk, after, ComesAgain}
-use Rattle.wait_graph.proofs.WalkLemmas.{after-suc, after-add}
+use Rattle.std.proofs.Common.{◌≡◌, ◌≢◌, ℕ, ◌+◌, ◌-◌, ◌<◌, sym, ap, ◌∙◌, arith}
+use Rattle.wait_graph.specs.Walk.{after, ComesAgain}
+use Rattle.wait_graph.proofs.WalkLemmas.{after-add}
 
 -- the walk from t comes back to t after p steps, and not before
 pub record IsRound (next : ℕ → ℕ) (p t : ℕ) : Type 0 where
@@ -23,12 +22,12 @@ pub IsRound-turned : (next : ℕ → ℕ) (m n t : ℕ) → IsRound next (m + n)
 IsRound-turned next m n t r = record {
   some = r.some;
   back =
-    sym (after-add next m (m + n) t) ∙ ap (λ k. after next k t) (let e : m + (m + n) ≡ (m + n) + m = omega arith in e)
-    ∙ after-add next (m + n) m t ∙ ap (after next m) r.back;
+      sym (after-add next m (m + n) t) ∙ ap (λ k. after next k t) (let e : m + (m + n) ≡ (m + n) + m = omega arith in e)
+      ∙ after-add next (m + n) m t ∙ ap (after next m) r.back;
   first = λ i h k e. r.first i h k
-    (ap (after next i) (sym r.back) ∙ sym (after-add next (m + n) i t)
-     ∙ ap (λ j. after next j t) (let e : (m + n) + i ≡ (m + i) + n = omega arith in e)
-     ∙ after-add next (m + i) n t ∙ ap (after next n) (after-add next m i t ∙ e) ∙ sym (after-add next m n t) ∙ r.back);
+      (ap (after next i) (sym r.back) ∙ sym (after-add next (m + n) i t)
+      ∙ ap (λ j. after next j t) (let e : (m + n) + i ≡ (m + i) + n = omega arith in e)
+      ∙ after-add next (m + i) n t ∙ ap (after next n) (after-add next m i t ∙ e) ∙ sym (after-add next m n t) ∙ r.back);
 }
 
 -- the numbers of a round are all different
@@ -36,4 +35,4 @@ pub IsRound-distinct : (next : ℕ → ℕ) (p t i j : ℕ) → IsRound next p t
 IsRound-distinct next p t i j r h k e =
     r.first (i + (p - j)) (omega arith) (omega arith)
     (after-add next i (p - j) t ∙ ap (after next (p - j)) e ∙ sym (after-add next j (p - j) t)
-     ∙ ap (λ q. after next q t) (let f : j + (p - j) ≡ p = omega arith in f) ∙ r.back)
+    ∙ ap (λ q. after next q t) (let f : j + (p - j) ≡ p = omega arith in f) ∙ r.back)

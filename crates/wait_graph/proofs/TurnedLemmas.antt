@@ -1,5 +1,5 @@
 -- A round turned so that its lowest number stands first.
-use Rattle.std.proofs.Common.{◌≡◌, ℕ, ◌+◌, ◌-◌, ◌<◌, ◌≤◌, Bool, true, false, nat_lt, nat_le, List, [], ◌∷◌, ◌++◌, suc, ⊎_elim, length, get_or, take, drop, refl, sym, ap, ◌∙◌, subst, arith}
+use Rattle.std.proofs.Common.{◌≡◌, ℕ, ◌+◌, ◌-◌, ◌<◌, ◌≤◌, Bool, true, false, nat_lt, nat_le, List, [], ◌∷◌, ◌++◌, suc, ⊎_elim, length, get_or, take, drop, sym, ap, ◌∙◌, subst, arith}
 use Rattle.std.specs.List.{list_all, position_or_len, All, IsFirstBest}
 use Rattle.std.proofs.lemmas.Bool.{cases_lt, false≢true, le-leb, leb-true, ltb-true, ltb-false}
 use Rattle.std.proofs.lemmas.Bool.Decides.{nat_tests}
@@ -20,12 +20,12 @@ lowest_place-first xs b best =
     let low = best.0 in
     position_or_len_is (λ t. list_all (nat_le t) xs) xs b 0 (omega arith)
     (λ k h.
-        list_all_at (nat_le (get_or xs k 0)) xs b 0 low
-        (nat_le-above (get_or xs k 0) (get_or xs b 0) (ltb-true (get_or xs b 0) (get_or xs k 0) (best.2 k 0 h))))
+    list_all_at (nat_le (get_or xs k 0)) xs b 0 low
+    (nat_le-above (get_or xs k 0) (get_or xs b 0) (ltb-true (get_or xs b 0) (get_or xs k 0) (best.2 k 0 h))))
     (λ h.
-        list_all-from_AllPass (nat_le (get_or xs b 0)) xs
-        (All-from_get_or (λ x. nat_le (get_or xs b 0) x ≡ true) xs 0
-            (λ i k. le-leb (get_or xs b 0) (get_or xs i 0) (ltb-false (get_or xs i 0) (get_or xs b 0) (best.1 i 0 k)))))
+    list_all-from_AllPass (nat_le (get_or xs b 0)) xs
+    (All-from_get_or (λ x. nat_le (get_or xs b 0) x ≡ true) xs 0
+    (λ i k. le-leb (get_or xs b 0) (get_or xs i 0) (ltb-false (get_or xs i 0) (get_or xs b 0) (best.1 i 0 k)))))
 
 -- a round cut in two, with the parts exchanged, is the same round from another number on
 exchanged : (next : ℕ → ℕ) (m n t : ℕ) → after next (m + n) t ≡ t → drop m (walk next (m + n) t) ++ take m (walk next (m + n) t) ≡ walk next (m + n) (after next m t)
@@ -57,12 +57,12 @@ lowest_place-lowest xs h =
     let least = lowest_at xs h in
     let p : ℕ → Bool = λ t. list_all (nat_le t) xs in
     let passes : p (get_or xs least.0 0) ≡ true =
-        list_all-from_AllPass (nat_le (get_or xs least.0 0)) xs
-        (All-weaker (λ y. get_or xs least.0 0 ≤ y) (λ y. nat_le (get_or xs least.0 0) y ≡ true) (λ y k. le-leb (get_or xs least.0 0) y k) xs least.2) in
+    list_all-from_AllPass (nat_le (get_or xs least.0 0)) xs
+    (All-weaker (λ y. get_or xs least.0 0 ≤ y) (λ y. nat_le (get_or xs least.0 0) y ≡ true) (λ y k. le-leb (get_or xs least.0 0) y k) xs least.2) in
     let found : position_or_len p xs < length xs =
-        ⊎_elim (λ k. k)
-        (λ k. absurd (false≢true (sym (fails_before_first p xs least.0 0 (let l = least.1 in omega arith)) ∙ passes)))
-        (cases_lt (position_or_len p xs) (length xs)) in
+    ⊎_elim (λ k. k)
+    (λ k. absurd (false≢true (sym (fails_before_first p xs least.0 0 (let l = least.1 in omega arith)) ∙ passes)))
+    (cases_lt (position_or_len p xs) (length xs)) in
     let place = lowest_place xs in
     let all = AllPass-from_list_all (nat_le (get_or xs place 0)) xs (passes_at_first p xs 0 found) in
     (found, λ i k. leb-true (get_or xs place 0) (get_or xs i 0) (all i 0 k))
@@ -79,9 +79,11 @@ round_at next p t back b i low high =
     ⊎_elim
     (λ h. (b + i, h, sym (after-add next b i t)))
     (λ h.
-        let parts : b + i ≡ p + ((b + i) - p) = omega arith in
-        ((b + i) - p, omega arith,
-         sym (after-add next b i t) ∙ ap (λ k. after next k t) parts ∙ after-add next p ((b + i) - p) t ∙ ap (after next ((b + i) - p)) back))
+    let parts : b + i ≡ p + ((b + i) - p) = omega arith in (
+      (b + i) - p,
+      omega arith,
+      sym (after-add next b i t) ∙ ap (λ k. after next k t) parts ∙ after-add next p ((b + i) - p) t ∙ ap (after next ((b + i) - p)) back,
+    ))
     (cases_lt (b + i) p)
 
 -- the turned round is the round from its lowest number on
@@ -102,10 +104,10 @@ IsTurned-round next p t r =
           subst (λ (k : ℕ). IsRound next k (after next b t)) parts
           (IsRound-turned next b (p - b) t (subst (λ (k : ℕ). IsRound next k t) (sym parts) r));
       lowest = λ i h.
-        let at = round_at next p t r.back b i low h in
-        let here : get_or ts b 0 ≡ after next b t = get_or-walk next p t b 0 low in
-        let there : get_or ts at.0 0 ≡ after next at.0 t = get_or-walk next p t at.0 0 at.1 in
-        let least_there = least.1 at.0 (let l = at.1 in omega arith) in
-        let same = at.2 in
-        omega arith;
+          let at = round_at next p t r.back b i low h in
+          let here : get_or ts b 0 ≡ after next b t = get_or-walk next p t b 0 low in
+          let there : get_or ts at.0 0 ≡ after next at.0 t = get_or-walk next p t at.0 0 at.1 in
+          let least_there = least.1 at.0 (let l = at.1 in omega arith) in
+          let same = at.2 in
+          omega arith;
     }

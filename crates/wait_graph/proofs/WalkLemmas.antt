@@ -1,6 +1,6 @@
 -- Walks along a function on numbers: where they are after some steps, and which lists they make.
-use Rattle.std.proofs.Common.{◌≡◌, ℕ, zero, suc, ◌+◌, ◌<◌, ◌≤◌, List, [], ◌∷◌, ◌++◌, length, get_or, take, drop, refl, sym, ap, ◌∙◌, arith, zero-add}
-use Rattle.std.proofs.lemmas.List.{drop_at, take_at, length-append}
+use Rattle.std.proofs.Common.{◌≡◌, ℕ, zero, suc, ◌+◌, ◌<◌, [], ◌∷◌, ◌++◌, length, get_or, take, drop, refl, ap, ◌∙◌, arith, zero-add}
+use Rattle.std.proofs.lemmas.List.{drop_at, take_at}
 use Rattle.wait_graph.specs.Walk.{walk, after}
 
 -- one step more

@@ -1,5 +1,5 @@
 -- The cycle of tasks none of which can go on: each waits for the next or is held by it.
-use Rattle.std.specs.Prelude.{◌≡◌, ◌≢◌, ℕ, suc, ◌<◌, ◌++◌, ◌⊎◌, Bool, true, false, not, MatchBool, List, [], ◌∷◌, length, map, take, drop, Option, Some, None, unwrap_or, slice_index_or}
+use Rattle.std.specs.Prelude.{◌≡◌, ◌≢◌, ℕ, suc, ◌<◌, ◌++◌, ◌⊎◌, true, false, not, MatchBool, List, [], ◌∷◌, length, map, take, drop, Option, Some, None, unwrap_or, slice_index_or}
 use Rattle.std.specs.List.{position, All, AllPairs}
 use Rattle.wait_graph.specs.declared.tasks.Link.{Link}
 use Rattle.wait_graph.specs.declared.stuck.Edge.{Edge}

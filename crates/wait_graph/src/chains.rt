@@ -16,7 +16,11 @@ pub(crate) fn awaited(links: &[Link], t: u32) -> Option<u32>
     ensures above { IfSome result (λ u. (t < u) × (u < length links.now)) }
 {
     let on = links[t as usize].waits?;
-    if links[on as usize].done { None } else { Some(on) }
+    if links[on as usize].done {
+        None
+    } else {
+        Some(on)
+    }
 }
 
 /// The last task of the chain of waits from `t`.

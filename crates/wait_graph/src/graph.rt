@@ -1,7 +1,7 @@
 //! The links of all tasks, in which a wait leads to a higher number and a parent has a lower one.
-ghost use Rattle.std.specs.Prelude.{◌≡◌, ℕ, ◌-◌, ◌^◌, ◌<◌, ◌↔◌, [], ◌∷◌, ◌++◌, false, length, IsTrue, IfSome, IfNone, IfOk, OnOk, OnErr};
+ghost use Rattle.std.specs.Prelude.{◌≡◌, ℕ, ◌-◌, ◌^◌, ◌<◌, ◌↔◌, [], ◌∷◌, ◌++◌, length, IsTrue, IfSome, IfNone, IfOk, OnOk, OnErr};
 ghost use Rattle.std.specs.Option.{ForSome};
-ghost use Rattle.std.specs.List.{All, Any};
+ghost use Rattle.std.specs.List.{All};
 
 use crate::stuck::Cycle;
 use crate::tasks::Link;
@@ -34,7 +34,7 @@ impl Model for Links {
 impl Links {
     ghost use Rattle.wait_graph.specs.Link.{IsOrdered, new_link, link_of, with_wait, with_joined, with_done};
     ghost use Rattle.wait_graph.specs.Waiting.{WaitsFor, WaitsForNobody, WaitsOn, YieldsTo};
-    ghost use Rattle.wait_graph.specs.StuckCycle.{LeavesNoneAlone, stuck_cycle, IsTrueEdge, IsClosed, HasEachOnce, BeginsLowest};
+    ghost use Rattle.wait_graph.specs.StuckCycle.{IsUndone, LeavesNoneAlone, stuck_cycle, IsTrueEdge, IsClosed, HasEachOnce, BeginsLowest};
 
     /// No task. It takes no memory.
     pub fn new(alloc: Global) -> Self
@@ -139,7 +139,7 @@ impl Links {
     /// begins with the lowest of them. It takes time linear in the number of tasks.
     pub fn find_cycle(&self, alloc: Global, held: &[Option<u32>]) -> Result<Cycle, Memory>
         requires holders { length held.now ≡ length self.now }
-        requires some_undone { Any (λ link. link.done ≡ false) self.now }
+        requires some_undone { (t : ℕ) × IsUndone self.now t }
         requires none_alone { LeavesNoneAlone self.now held.now }
         ensures exact { IfOk result (λ cycle. cycle ≡ stuck_cycle self.now held.now) }
 

@@ -1,6 +1,6 @@
 //! The walk along waits and holders, and the cycle that it ends in.
-ghost use Rattle.std.specs.Prelude.{◌≡◌, ℕ, ◌<◌, ◌≤◌, ◌++◌, false, not, length, map, vec_len, IfOk, OnOk};
-ghost use Rattle.std.specs.List.{All, Any, position};
+ghost use Rattle.std.specs.Prelude.{◌≡◌, ℕ, ◌<◌, ◌≤◌, ◌++◌, not, length, map, vec_len, IfOk, OnOk};
+ghost use Rattle.std.specs.List.{All, position};
 ghost use Rattle.wait_graph.specs.Link.{IsOrdered};
 ghost use Rattle.wait_graph.specs.Walk.{walk, ComesAgain, lowest_place, turned};
 ghost use Rattle.wait_graph.specs.StuckCycle.{IsUndone, LeavesNoneAlone, IsCycle, edge_from, next_of, lowest_undone, stuck_cycle};
@@ -44,7 +44,7 @@ fn first_undone(links: &[Link]) -> Option<usize>
 /// The lowest task that isn't done.
 fn lowest_undone(links: &[Link]) -> u32
     requires ordered { IsOrdered links.now }
-    requires some { Any (λ link. link.done ≡ false) links.now }
+    requires some { (t : ℕ) × IsUndone links.now t }
     ensures value { result ≡ lowest_undone links.now }
     ensures undone { IsUndone links.now result }
 {
@@ -154,7 +154,7 @@ pub(crate) fn find_cycle(
 ) -> Result<Vec<Edge>, Memory>
     requires ordered { IsOrdered links.now }
     requires holders { length held.now ≡ length links.now }
-    requires some { Any (λ link. link.done ≡ false) links.now }
+    requires some { (t : ℕ) × IsUndone links.now t }
     requires onward { LeavesNoneAlone links.now held.now }
     ensures exact { IfOk result (λ edges. edges.items ≡ stuck_cycle links.now held.now) }
     ensures cycle { IfOk result (λ edges. IsCycle links.now held.now edges.items) }

@@ -10,9 +10,10 @@ pub loop-at-init : goal.loop-at-init
 loop-at-init c = record { within = c.requires.there; chain = none; only = λ d. d }
 
 pub returns-in_default : goal.returns-in_default
-returns-in_default c =
-    (λ h. absurd (false≢true h),
-     λ d. absurd (c.loop-at-test.true (Chain-stays c.in_default.ensures.none (c.loop-at.invariant.only d))))
+returns-in_default c = (
+  λ h. absurd (false≢true h),
+  λ d. absurd (c.loop-at-test.true (Chain-stays c.in_default.ensures.none (c.loop-at.invariant.only d))),
+)
 
 pub loop-at-preserved : goal.loop-at-preserved
 loop-at-preserved c =

@@ -1,5 +1,4 @@
 -- The chain begins with the task itself, and goes on by each wait.
-use Rattle.std.proofs.Common.{arith}
 use Rattle.wait_graph.specs.Chain.{none}
 use Rattle.wait_graph.proofs.ChainLemmas.{Chain-push}
 use Rattle.wait_graph.proofs.chains.end_of_waits.Goals as goal

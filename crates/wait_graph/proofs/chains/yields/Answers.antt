@@ -9,9 +9,10 @@ pub loop-at-init : goal.loop-at-init
 loop-at-init c = record { within = c.requires.waiter; chain = none; only = λ y. y }
 
 pub returns-in_default : goal.returns-in_default
-returns-in_default c =
-    (λ h. absurd (false≢true h),
-     λ y. c.loop-at-test.ensures.1 (YieldsTo-alone c.in_default.ensures.none (c.loop-at.invariant.only y)))
+returns-in_default c = (
+  λ h. absurd (false≢true h),
+  λ y. c.loop-at-test.ensures.1 (YieldsTo-alone c.in_default.ensures.none (c.loop-at.invariant.only y)),
+)
 
 pub loop-at-preserved : goal.loop-at-preserved
 loop-at-preserved c =

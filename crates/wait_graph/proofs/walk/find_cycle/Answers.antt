@@ -1,11 +1,10 @@
 -- The walk found a round, whose tasks aren't done and whose turned edges are the stuck cycle.
-use Rattle.std.proofs.Common.{◌≡◌, ℕ, ◌-◌, List, length, map, take, drop, sym, ap, ◌∙◌, subst}
+use Rattle.std.proofs.Common.{ℕ, ◌-◌, List, length, take, drop, sym, ◌∙◌, subst}
 use Rattle.std.proofs.lemmas.List.{take_rest}
 use Rattle.std.proofs.lemmas.List.Elements.{All-same, All-drop}
 use Rattle.std.proofs.lemmas.Result.{IfOk-weaker}
 use Rattle.wait_graph.specs.declared.stuck.Edge.{Edge}
-use Rattle.wait_graph.specs.StuckCycle.{IsUndone, IsCycle, edge_from, next_of, stuck_cycle}
-use Rattle.wait_graph.specs.Walk.{turned}
+use Rattle.wait_graph.specs.StuckCycle.{IsUndone, IsCycle, next_of}
 use Rattle.wait_graph.proofs.CycleLemmas.{IsUndone-walk}
 use Rattle.wait_graph.proofs.FoundLemmas.{IsFound-from, IsRoundOf, IsRoundOf-found, stuck_cycle-round, IsCycle-round}
 use Rattle.wait_graph.proofs.walk.find_cycle.Goals as goal
@@ -18,8 +17,8 @@ turned_edges-requires-clause-undone c =
     let walked = c.deref.ensures.value ∙ c.in_ok-walk.ensures.tasks in
     All-same (IsUndone links) (take (length tasks - m) (drop m tasks)) (drop m tasks) (take_rest tasks m)
     (All-drop (IsUndone links) m tasks
-        (All-same (IsUndone links) tasks _ walked
-            (IsUndone-walk links c.args.held.now _ c.lowest_undone.result c.requires.ordered c.requires.onward c.lowest_undone.ensures.undone)))
+    (All-same (IsUndone links) tasks _ walked
+    (IsUndone-walk links c.args.held.now _ c.lowest_undone.result c.requires.ordered c.requires.onward c.lowest_undone.ensures.undone)))
 
 -- the tasks that the edges are made of are the round that was found
 found : (c : goal.After-drop-walk) → IsRoundOf (next_of c.args.links.now c.args.held.now) c.lowest_undone.result c.in_ok-walk.walk.again (length c.args.links.now) (take (length c.deref.result.now - c.in_ok-walk.walk.again) (drop c.in_ok-walk.walk.again c.deref.result.now))
