@@ -8,18 +8,18 @@ use Rattle.wait_graph.specs.declared.tasks.Link.{Link}
 use Rattle.wait_graph.specs.declared.stuck.Edge.{Edge}
 use Rattle.wait_graph.specs.Link.{IsOrdered}
 use Rattle.wait_graph.specs.Walk.{walk, after}
-use Rattle.wait_graph.specs.StuckCycle.{IsUndone, LeavesNoneAlone, IsTrueEdge, IsClosed, HasEachOnce, BeginsLowest, IsCycle, edge_from, next_of}
+use Rattle.wait_graph.specs.StuckCycle.{IsUndone, AllAreHeldUp, IsTrueEdge, IsClosed, HasEachOnce, BeginsLowest, IsCycle, edge_from, next_of}
 use Rattle.wait_graph.proofs.WalkLemmas.{walk-push, length-walk, get_or-walk}
 use Rattle.wait_graph.proofs.RoundLemmas.{IsRound, IsRound-distinct}
 use Rattle.wait_graph.proofs.EdgeLemmas.{from-edge_from, GoesOn-undone}
 
 -- each task that a walk comes to isn't done
-pub IsUndone-after : (links : List Link) (held : List (Option ℕ)) (n t : ℕ) → IsOrdered links → LeavesNoneAlone links held → IsUndone links t → IsUndone links (after (next_of links held) n t)
+pub IsUndone-after : (links : List Link) (held : List (Option ℕ)) (n t : ℕ) → IsOrdered links → AllAreHeldUp links held → IsUndone links t → IsUndone links (after (next_of links held) n t)
 IsUndone-after links held zero t ordered alone undone = undone
 IsUndone-after links held (suc n) t ordered alone undone =
     IsUndone-after links held n (next_of links held t) ordered alone (GoesOn-undone links held t ordered alone undone).onward
 
-pub IsUndone-walk : (links : List Link) (held : List (Option ℕ)) (n t : ℕ) → IsOrdered links → LeavesNoneAlone links held → IsUndone links t → All (IsUndone links) (walk (next_of links held) n t)
+pub IsUndone-walk : (links : List Link) (held : List (Option ℕ)) (n t : ℕ) → IsOrdered links → AllAreHeldUp links held → IsUndone links t → All (IsUndone links) (walk (next_of links held) n t)
 IsUndone-walk links held n t ordered alone undone =
     All-from_get_or (IsUndone links) (walk (next_of links held) n t) 0
     (λ i h.
@@ -66,7 +66,7 @@ once links held p t r = λ i j d h k.
     λ e. IsRound-distinct (next_of links held) p t i j r h low
     (sym (at-edges_of links held p t i d (omega arith)) ∙ e ∙ at-edges_of links held p t j d low)
 
-true_edges : (links : List Link) (held : List (Option ℕ)) (p t : ℕ) → IsOrdered links → LeavesNoneAlone links held → IsUndone links t → All (IsTrueEdge links held) (edges_of links held p t)
+true_edges : (links : List Link) (held : List (Option ℕ)) (p t : ℕ) → IsOrdered links → AllAreHeldUp links held → IsUndone links t → All (IsTrueEdge links held) (edges_of links held p t)
 true_edges links held p t ordered alone undone =
     All-map (IsTrueEdge links held) (λ u. edge_from links held u) (walk (next_of links held) p t)
     (λ k d h. (GoesOn-undone links held (get_or (walk (next_of links held) p t) k d) ordered alone (IsUndone-walk links held p t ordered alone undone k d h)).true_edge)
@@ -85,7 +85,7 @@ begins_lowest links held (suc p) t r low = λ k d h.
     let above : t < place = ⊎_elim (λ e. absurd (differs e)) (λ n. omega arith) (cases_eq place t) in
     omega arith
 
-pub IsCycle-edges_of : (links : List Link) (held : List (Option ℕ)) (p t : ℕ) → IsOrdered links → LeavesNoneAlone links held → IsUndone links t → IsRound (next_of links held) p t → ((i : ℕ) → i < p → t ≤ after (next_of links held) i t) → IsCycle links held (edges_of links held p t)
+pub IsCycle-edges_of : (links : List Link) (held : List (Option ℕ)) (p t : ℕ) → IsOrdered links → AllAreHeldUp links held → IsUndone links t → IsRound (next_of links held) p t → ((i : ℕ) → i < p → t ≤ after (next_of links held) i t) → IsCycle links held (edges_of links held p t)
 IsCycle-edges_of links held p t ordered alone undone r low = record {
   some = let l = length-edges_of links held p t in let s = r.some in omega arith;
   true_edges = true_edges links held p t ordered alone undone;

@@ -4,7 +4,7 @@ use Rattle.wait_graph.specs.declared.tasks.Link.{Link}
 use Rattle.wait_graph.specs.declared.stuck.Edge.{Edge}
 use Rattle.wait_graph.specs.Link.{link_of, IsOrdered}
 use Rattle.wait_graph.specs.Waiting.{awaited, undone_task, WaitsFor, WaitsForNobody}
-use Rattle.wait_graph.specs.StuckCycle.{IsUndone, LeavesNoneAlone, IsTrueEdge, holder_of, edge_from, edge_to, next_of}
+use Rattle.wait_graph.specs.StuckCycle.{IsUndone, AllAreHeldUp, IsTrueEdge, holder_of, edge_from, edge_to, next_of}
 
 -- s waits for the task that the function gives, or for nobody
 Awaits : List Link → ℕ → Type 0
@@ -42,7 +42,7 @@ pub record GoesOn (links : List Link) (held : List (Option ℕ)) (t : ℕ) : Typ
   pub onward : IsUndone links (next_of links held t)
   pub true_edge : IsTrueEdge links held (edge_from links held t)
 
-pub GoesOn-undone : (links : List Link) (held : List (Option ℕ)) (t : ℕ) → IsOrdered links → LeavesNoneAlone links held → IsUndone links t → GoesOn links held t
+pub GoesOn-undone : (links : List Link) (held : List (Option ℕ)) (t : ℕ) → IsOrdered links → AllAreHeldUp links held → IsUndone links t → GoesOn links held t
 GoesOn-undone links held t ordered alone undone =
     ⊎_elim
     (λ found.

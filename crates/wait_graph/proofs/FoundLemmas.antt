@@ -4,7 +4,7 @@ use Rattle.wait_graph.specs.declared.tasks.Link.{Link}
 use Rattle.wait_graph.specs.declared.stuck.Edge.{Edge}
 use Rattle.wait_graph.specs.Link.{IsOrdered}
 use Rattle.wait_graph.specs.Walk.{walk, after, first_round, turned, lowest_place, ComesAgain}
-use Rattle.wait_graph.specs.StuckCycle.{IsUndone, LeavesNoneAlone, IsCycle, edge_from, next_of, lowest_undone, stuck_cycle}
+use Rattle.wait_graph.specs.StuckCycle.{IsUndone, AllAreHeldUp, IsCycle, edge_from, next_of, lowest_undone, stuck_cycle}
 use Rattle.wait_graph.proofs.WalkLemmas.{drop-walk}
 use Rattle.wait_graph.proofs.RoundLemmas.{IsRound, IsRound-again}
 use Rattle.wait_graph.proofs.FirstRoundLemmas.{first_round-walk}
@@ -58,7 +58,7 @@ unfolding stuck_cycle
 stuck_cycle-round links held m round r = ap (λ ts. map (edge_from links held) (turned ts)) (sym r.first)
 
 -- and they make a cycle
-pub IsCycle-round : (links : List Link) (held : List (Option ℕ)) (start m size : ℕ) (round : List ℕ) → IsOrdered links → LeavesNoneAlone links held → IsUndone links start → IsRoundOf (next_of links held) start m size round → IsCycle links held (map (edge_from links held) (turned round))
+pub IsCycle-round : (links : List Link) (held : List (Option ℕ)) (start m size : ℕ) (round : List ℕ) → IsOrdered links → AllAreHeldUp links held → IsUndone links start → IsRoundOf (next_of links held) start m size round → IsCycle links held (map (edge_from links held) (turned round))
 IsCycle-round links held start m size round ordered alone undone r =
     let next = next_of links held in
     let t = after next m start in

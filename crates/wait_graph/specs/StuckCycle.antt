@@ -16,10 +16,13 @@ pub record IsUndone (links : List Link) (t : ℕ) : Type 0 where
   pub there : t < length links
   pub undone : (link_of links t).done ≡ false
 
--- no task is left alone: each that isn't done waits for one that isn't done, or has a holder that isn't
-abbrev pub LeavesNoneAlone : List Link → List (Option ℕ) → Type 0
-LeavesNoneAlone links held =
-    (t : ℕ) → IsUndone links t → ((u : ℕ) × WaitsFor links t u) ⊎ ((h : ℕ) × (holder_of held t ≡ Some h) × IsUndone links h)
+-- t waits for a task that isn't done, or has a holder that isn't
+abbrev pub IsHeldUp : List Link → List (Option ℕ) → ℕ → Type 0
+IsHeldUp links held t = ((u : ℕ) × WaitsFor links t u) ⊎ ((h : ℕ) × (holder_of held t ≡ Some h) × IsUndone links h)
+
+-- each task that isn't done is held up
+abbrev pub AllAreHeldUp : List Link → List (Option ℕ) → Type 0
+AllAreHeldUp links held = (t : ℕ) → IsUndone links t → IsHeldUp links held t
 
 -- the edge from t to the task that it waits for, or else to its holder. Where there is neither it leads back to t.
 abbrev pub edge_to : ℕ → Option ℕ → Option ℕ → Edge

@@ -34,7 +34,7 @@ impl Model for Links {
 impl Links {
     ghost use Rattle.wait_graph.specs.Link.{IsOrdered, new_link, link_of, with_wait, with_joined, with_done};
     ghost use Rattle.wait_graph.specs.Waiting.{WaitsFor, WaitsForNobody, WaitsOn, YieldsTo};
-    ghost use Rattle.wait_graph.specs.StuckCycle.{IsUndone, LeavesNoneAlone, stuck_cycle, IsTrueEdge, IsClosed, HasEachOnce, BeginsLowest};
+    ghost use Rattle.wait_graph.specs.StuckCycle.{IsUndone, AllAreHeldUp, stuck_cycle, IsTrueEdge, IsClosed, HasEachOnce, BeginsLowest};
 
     /// No task. It takes no memory.
     pub fn new(alloc: Global) -> Self
@@ -140,7 +140,7 @@ impl Links {
     pub fn find_cycle(&self, alloc: Global, held: &[Option<u32>]) -> Result<Cycle, Memory>
         requires holders { length held.now ≡ length self.now }
         requires some_undone { (t : ℕ) × IsUndone self.now t }
-        requires none_alone { LeavesNoneAlone self.now held.now }
+        requires all_held_up { AllAreHeldUp self.now held.now }
         ensures exact { IfOk result (λ cycle. cycle ≡ stuck_cycle self.now held.now) }
 
         // What the edges of that cycle are.

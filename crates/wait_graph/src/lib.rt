@@ -10,10 +10,9 @@ mod chains;
 mod graph;
 mod stuck;
 mod tasks;
-mod walk;
-
 #[cfg(test)]
 mod tests;
+mod walk;
 
 pub use graph::Links;
 pub use stuck::{Cycle, Edge};

@@ -1,8 +1,8 @@
 //! What the calls answer on small graphs and on long chains.
 ghost use Rattle.std.specs.Prelude.{◌≡◌, ℕ, ◌-◌, ◌^◌, ◌<◌, length, IsTrue, IfOk};
-ghost use Rattle.wait_graph.specs.StuckCycle.{IsUndone, LeavesNoneAlone};
+ghost use Rattle.wait_graph.specs.StuckCycle.{IsUndone, IsHeldUp, AllAreHeldUp};
 
-use crate::{Edge, Links};
+use crate::{Cycle, Edge, Links};
 use std::alloc::Global;
 use std::process::Abort;
 use std::test::Fail;
@@ -36,6 +36,15 @@ fn set_waits(links: &mut Links, waits: &[Option<u32>])
     }
 }
 
+/// Lets each task wait for the next.
+fn wait_in_a_row(links: &mut Links)
+    ensures { length links.new ≡ length links.old }
+{
+    for t in 1..links.task_count() {
+        links.set_wait(t - 1, Some(t));
+    }
+}
+
 /// Whether this task is there and isn't done.
 fn is_undone(links: &Links, task: Option<u32>) -> bool
     ensures { IsTrue result → (t : ℕ) × (task ≡ Some t) × IsUndone links.now t }
@@ -43,39 +52,50 @@ fn is_undone(links: &Links, task: Option<u32>) -> bool
     task.is_some_and(|t| t < links.task_count() && !links.link(t).done)
 }
 
-/// Whether some task isn't done, and each such task waits or has a holder that isn't done.
-fn is_stuck(links: &Links, held: &[Option<u32>]) -> bool
-    requires { length held.now ≡ length links.now }
-    ensures some { IsTrue result → (t : ℕ) × IsUndone links.now t }
-    ensures none_alone { IsTrue result → LeavesNoneAlone links.now held.now }
+/// Whether this task is done, waits, or has a holder that isn't done.
+fn is_done_or_held_up(links: &Links, held: &[Option<u32>], t: u32) -> bool
+    requires holders { length held.now ≡ length links.now }
+    requires there { t < length links.now }
+    ensures { IsTrue result → IsUndone links.now t → IsHeldUp links.now held.now t }
 {
-    let mut some = false;
+    links.link(t).done || links.awaited(t).is_some() || is_undone(links, held[t as usize])
+}
+
+/// Whether that holds of each task.
+fn all_are_held_up(links: &Links, held: &[Option<u32>]) -> bool
+    requires { length held.now ≡ length links.now }
+    ensures { IsTrue result → AllAreHeldUp links.now held.now }
+{
     for t in 0..links.task_count() {
-        if !links.link(t).done {
-            some = true;
-            if links.awaited(t).is_none() && !is_undone(links, held[t as usize]) {
-                return false;
-            }
+        if !is_done_or_held_up(links, held, t) {
+            return false;
         }
     }
-    some
+    true
+}
+
+/// The cycle of tasks that are all held up, task 0 among them.
+fn cycle_of<R: Abort + AllocGlobal>(
+    rt: &R,
+    links: &Links,
+    held: &[Option<u32>],
+) -> Result<Cycle, Fail> {
+    assert!(rt; held.len() == links.task_count() as usize);
+    assert!(rt; is_undone(links, Some(0)));
+    assert!(rt; all_are_held_up(links, held));
+    Ok(links.find_cycle(rt.alloc(), held)?)
 }
 
 fn assert_cycle<R: Abort + AllocGlobal>(
     rt: &R,
-    done: u32,
     waits: &[Option<u32>],
     held: &[Option<u32>],
     want: &[Edge],
 ) -> Result<(), Fail> {
-    assert!(rt; waits.len() < 100 && waits.len() == held.len());
+    assert!(rt; waits.len() < 100);
     let mut links = spawned_in_a_row(rt.alloc(), waits.len() as u32)?;
     set_waits(&mut links, waits);
-    for t in 0..done.min(links.task_count()) {
-        links.set_done(t);
-    }
-    assert!(rt; is_stuck(&links, held));
-    let cycle = links.find_cycle(rt.alloc(), held)?;
+    let cycle = cycle_of(rt, &links, held)?;
     assert_eq!(rt; cycle.as_slice(), want);
     Ok(())
 }
@@ -98,18 +118,16 @@ const fn held(from: u32, to: u32) -> Edge {
 
 #[test]
 fn a_cycle_has_waits_and_holders_from_the_lowest_task_on(rt: HostRuntime) -> Result<(), Fail> {
-    // Two tasks wait, each for a task that the other holds.
+    // Tasks 1 and 2 wait, each for a task that the other holds. Task 0 waits for 1, and is no part of the cycle.
     assert_cycle(
         &rt,
-        1,
-        &[None, Some(3), Some(4), None, None],
+        &[Some(1), Some(3), Some(4), None, None],
         &[None, None, None, Some(2), Some(1)],
         &[waits(1, 3), held(3, 2), waits(2, 4), held(4, 1)],
     )?;
-    // Task 0 leads into the cycle at task 3, and is no part of it.
+    // The walk comes to the cycle at task 3, which isn't its lowest.
     assert_cycle(
         &rt,
-        0,
         &[Some(3), Some(3), None, None],
         &[None, None, Some(0), Some(1)],
         &[waits(1, 3), held(3, 1)],
@@ -117,23 +135,19 @@ fn a_cycle_has_waits_and_holders_from_the_lowest_task_on(rt: HostRuntime) -> Res
 }
 
 #[test]
-fn a_waiting_child_is_passed_once_its_parent_waits_for_it(rt: HostRuntime) -> Result<(), Fail> {
-    // Task 1 spawned 2, which waits for 3, and the effects of 1 and 2 interfere with those of 3.
-    let mut links = Links::new(rt.alloc());
+fn a_waiting_child_is_passed_and_its_parent_once_it_waits_for_it(
+    rt: HostRuntime,
+) -> Result<(), Fail> {
+    // Task 0 spawned 1, which waits for 2. Both hold effects that 2 asks for.
+    let mut links = spawned_in_a_row(rt.alloc(), 2)?;
     links.add(None)?;
-    links.add(None)?;
-    links.add(Some(1))?;
-    links.add(None)?;
-    links.set_wait(2, Some(3));
-    assert!(rt; links.yields(2, 3));
-    assert!(rt; !links.yields(1, 3));
     links.set_wait(1, Some(2));
-    assert!(rt; links.yields(1, 3));
-    assert_eq!(rt; links.end_of_waits(1), 3);
+    assert!(rt; links.yields(1, 2) && !links.yields(0, 2));
+    links.set_wait(0, Some(1));
+    assert!(rt; links.yields(0, 2) && links.end_of_waits(0) == 2);
     // A wait for a done task is none.
-    links.set_done(3);
-    assert_eq!(rt; links.end_of_waits(1), 2);
-    assert!(rt; !links.yields(1, 3));
+    links.set_done(2);
+    assert!(rt; !links.yields(0, 2) && links.end_of_waits(0) == 1);
     Ok(())
 }
 
@@ -143,45 +157,35 @@ fn a_task_yields_to_its_unjoined_descendants(rt: HostRuntime) -> Result<(), Fail
     for (s, t, want) in [(2, 2, true), (1, 3, true), (3, 1, false)] {
         assert_eq!(rt; links.yields(s, t), want, "{s} to {t}");
     }
-    // Task 0 waits for 1 and so for 3, and 2 is joined: it stands for its parents no more.
-    links.set_wait(0, Some(1));
+    // Task 1 waits for 3, and 2 is joined: it has no ancestors any more, and its parent's wait is none of its own.
     links.set_wait(1, Some(3));
+    links.set_joined(3);
     links.set_joined(2);
-    for (s, t, want) in [(0, 2, false), (0, 3, true), (1, 2, false), (2, 3, true)] {
-        assert_eq!(rt; links.yields(s, t), want, "{s} to {t} with a joined child");
+    for (s, t, want) in [(1, 2, false), (1, 3, true), (2, 3, false)] {
+        assert_eq!(rt; links.yields(s, t), want, "{s} to {t} with joined children");
     }
-    Ok(())
-}
-
-#[test]
-fn a_wait_of_the_parent_is_none_of_the_child(rt: HostRuntime) -> Result<(), Fail> {
-    let mut links = spawned_in_a_row(rt.alloc(), 2)?;
-    let other = links.add(None)?;
-    links.set_wait(0, Some(other));
-    assert!(rt; links.yields(0, other));
-    assert!(rt; !links.yields(1, other));
     Ok(())
 }
 
 #[test]
 fn long_chains_need_no_deep_stack(rt: HostRuntime) -> Result<(), Fail> {
-    let last: u32 = 99_999;
-    let mut waits = vec![in rt.alloc()]?;
-    let mut held: Vec<Option<u32>> = vec![in rt.alloc(); None; 100_000]?;
-    for t in 0..100_000u32 {
-        waits.push(if t < last { Some(t + 1) } else { None })?;
-    }
-    held[99_999] = Some(0);
     let mut links = spawned_in_a_row(rt.alloc(), 100_000)?;
-    assert!(rt; links.yields(0, last));
-    assert!(rt; !links.yields(last, 0));
-    set_waits(&mut links, &waits);
-    assert_eq!(rt; links.end_of_waits(0), last);
-    links.set_joined(last);
-    assert!(rt; links.yields(0, last));
-    assert!(rt; is_stuck(&links, &held));
-    let cycle = links.find_cycle(rt.alloc(), &held)?;
+    assert!(rt; links.yields(0, 99_999) && !links.yields(99_999, 0));
+    wait_in_a_row(&mut links);
+    assert_eq!(rt; links.end_of_waits(0), 99_999);
+    links.set_joined(99_999);
+    assert!(rt; links.yields(0, 99_999));
+    Ok(())
+}
+
+#[test]
+fn a_long_cycle_needs_no_deep_stack(rt: HostRuntime) -> Result<(), Fail> {
+    let mut links = spawned_in_a_row(rt.alloc(), 100_000)?;
+    wait_in_a_row(&mut links);
+    let mut held: Vec<Option<u32>> = vec![in rt.alloc(); None; 100_000]?;
+    held[99_999] = Some(0);
+    let cycle = cycle_of(&rt, &links, &held)?;
     assert_eq!(rt; cycle.len(), 100_000);
-    assert_eq!(rt; cycle.get(99_999), Some(self::held(last, 0)));
+    assert_eq!(rt; cycle.get(99_999), Some(self::held(99_999, 0)));
     Ok(())
 }

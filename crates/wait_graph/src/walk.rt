@@ -3,7 +3,7 @@ ghost use Rattle.std.specs.Prelude.{◌≡◌, ℕ, ◌<◌, ◌≤◌, ◌++◌
 ghost use Rattle.std.specs.List.{All, position};
 ghost use Rattle.wait_graph.specs.Link.{IsOrdered};
 ghost use Rattle.wait_graph.specs.Walk.{walk, ComesAgain, lowest_place, turned};
-ghost use Rattle.wait_graph.specs.StuckCycle.{IsUndone, LeavesNoneAlone, IsCycle, edge_from, next_of, lowest_undone, stuck_cycle};
+ghost use Rattle.wait_graph.specs.StuckCycle.{IsUndone, AllAreHeldUp, IsCycle, edge_from, next_of, lowest_undone, stuck_cycle};
 
 use crate::chains;
 use crate::stuck::Edge;
@@ -15,7 +15,7 @@ use twe_io::Memory;
 fn edge_from(links: &[Link], held: &[Option<u32>], t: u32) -> Edge
     requires ordered { IsOrdered links.now }
     requires holders { length held.now ≡ length links.now }
-    requires onward { LeavesNoneAlone links.now held.now }
+    requires held_up { AllAreHeldUp links.now held.now }
     requires undone { IsUndone links.now t }
     ensures value { result ≡ edge_from links.now held.now t }
     ensures undone { IsUndone links.now result.to }
@@ -69,7 +69,7 @@ fn walk_from(
 ) -> Result<Walk, Memory>
     requires ordered { IsOrdered links.now }
     requires holders { length held.now ≡ length links.now }
-    requires onward { LeavesNoneAlone links.now held.now }
+    requires held_up { AllAreHeldUp links.now held.now }
     requires undone { IsUndone links.now start }
     ensures tasks { IfOk result (λ found. found.tasks.items ≡ walk (next_of links.now held.now) (vec_len found.tasks) start) }
     ensures again { IfOk result (λ found. ComesAgain (next_of links.now held.now) found.again (vec_len found.tasks) start) }
@@ -115,7 +115,7 @@ fn push_edges(
 ) -> Result<(), Memory>
     requires ordered { IsOrdered links.now }
     requires holders { length held.now ≡ length links.now }
-    requires onward { LeavesNoneAlone links.now held.now }
+    requires held_up { AllAreHeldUp links.now held.now }
     requires undone { All (IsUndone links.now) tasks.now }
     ensures { OnOk result (edges.new.items ≡ edges.old.items ++ map (edge_from links.now held.now) tasks.now) }
 {
@@ -134,7 +134,7 @@ fn turned_edges(
 ) -> Result<Vec<Edge>, Memory>
     requires ordered { IsOrdered links.now }
     requires holders { length held.now ≡ length links.now }
-    requires onward { LeavesNoneAlone links.now held.now }
+    requires held_up { AllAreHeldUp links.now held.now }
     requires undone { All (IsUndone links.now) round.now }
     requires some { 0 < length round.now }
     ensures { IfOk result (λ edges. edges.items ≡ map (edge_from links.now held.now) (turned round.now)) }
@@ -155,7 +155,7 @@ pub(crate) fn find_cycle(
     requires ordered { IsOrdered links.now }
     requires holders { length held.now ≡ length links.now }
     requires some { (t : ℕ) × IsUndone links.now t }
-    requires onward { LeavesNoneAlone links.now held.now }
+    requires held_up { AllAreHeldUp links.now held.now }
     ensures exact { IfOk result (λ edges. edges.items ≡ stuck_cycle links.now held.now) }
     ensures cycle { IfOk result (λ edges. IsCycle links.now held.now edges.items) }
 {

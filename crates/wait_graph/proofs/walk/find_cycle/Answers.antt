@@ -18,7 +18,7 @@ turned_edges-requires-clause-undone c =
     All-same (IsUndone links) (take (length tasks - m) (drop m tasks)) (drop m tasks) (take_rest tasks m)
     (All-drop (IsUndone links) m tasks
     (All-same (IsUndone links) tasks _ walked
-    (IsUndone-walk links c.args.held.now _ c.lowest_undone.result c.requires.ordered c.requires.onward c.lowest_undone.ensures.undone)))
+    (IsUndone-walk links c.args.held.now _ c.lowest_undone.result c.requires.ordered c.requires.held_up c.lowest_undone.ensures.undone)))
 
 -- the tasks that the edges are made of are the round that was found
 found : (c : goal.After-drop-walk) → IsRoundOf (next_of c.args.links.now c.args.held.now) c.lowest_undone.result c.in_ok-walk.walk.again (length c.args.links.now) (take (length c.deref.result.now - c.in_ok-walk.walk.again) (drop c.in_ok-walk.walk.again c.deref.result.now))
@@ -46,5 +46,5 @@ returns-clause-cycle c =
     let held = c.args.held.now in
     let m = c.in_ok-walk.walk.again in
     let round = take (length c.deref.result.now - m) (drop m c.deref.result.now) in
-    let cycle = IsCycle-round links held c.lowest_undone.result m (length links) round c.requires.ordered c.requires.onward c.lowest_undone.ensures.undone (found c) in
+    let cycle = IsCycle-round links held c.lowest_undone.result m (length links) round c.requires.ordered c.requires.held_up c.lowest_undone.ensures.undone (found c) in
     IfOk-weaker c.turned_edges.result _ _ (λ edges e. subst (λ (es : List Edge). IsCycle links held es) (sym e) cycle) c.turned_edges.ensures
