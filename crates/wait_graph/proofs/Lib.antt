@@ -1,0 +1,11 @@
+pub mod ChainLemmas
+pub mod WaitingLemmas
+pub mod WalkLemmas
+pub mod RoundLemmas
+pub mod FirstRoundLemmas
+pub mod UndoneLemmas
+pub mod PlacesLemmas
+pub mod TurnedLemmas
+pub mod EdgeLemmas
+pub mod CycleLemmas
+pub mod FoundLemmas

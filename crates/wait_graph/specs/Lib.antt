@@ -1,0 +1,5 @@
+pub mod Chain
+pub mod Link
+pub mod Waiting
+pub mod Walk
+pub mod StuckCycle
