@@ -1,5 +1,5 @@
 -- What the program answers, and why.
-use Rattle.std.specs.Prelude.{◌≡◌, ◌⊎◌, ◌+◌, ℕ, List, [], Option, None, Some, IfSome, Result, Ok, Err}
+use Rattle.std.specs.Prelude.{◌≡◌, ◌⊎◌, ◌+◌, ◌≤◌, ℕ, List, [], length, Option, None, Some, IfSome, Result, Ok, Err}
 use Rattle.std.specs.Io.KnownBytes.{Appends, IsAtEnd}
 use Rattle.twe_io.specs.Faults.{Rose}
 use Rattle.twe_io.specs.Told.{Gives, TakesPart}
@@ -41,9 +41,9 @@ input left faults = record { left = left; faults = faults }
 abbrev pub output : Option (List ℕ) → Option (List ℕ) → ℕ → ℕ → Output
 output out err out_faults err_faults = record { out = out; err = err; out_faults = out_faults; err_faults = err_faults }
 
--- the source gave all of its bytes, and they are this text
+-- the source gave all of its bytes, no more than a text may have, and they are this text
 abbrev pub GaveAll : Input → Input → List ℕ → Type 0
-GaveAll before after text = IfSome before.left (λ left. text ≡ left) × IsAtEnd after.left
+GaveAll before after text = IfSome before.left (λ left. text ≡ left) × IsAtEnd after.left × (length text ≤ most_bytes)
 
 -- the source gave more bytes than a text may have
 abbrev pub GaveTooMany : Input → Input → Type 0

@@ -1,10 +1,9 @@
 -- What the only task of a state may do.
-use Rattle.std.proofs.Common.{◌≡◌, ◌≢◌, ◌⊎◌, ◌&&◌, inl, inr, get_or, ℕ, zero, suc, Bool, true, false, List, [], ◌∷◌, Option, None, Some, refl, sym, ap, ◌∙◌, subst}
+use Rattle.std.proofs.Common.{◌≡◌, ◌≢◌, ◌⊎◌, ◌&&◌, inl, inr, get_or, ℕ, Bool, true, false, List, [], ◌∷◌, Some, refl, sym, ap, ◌∙◌, subst}
 use Rattle.std.specs.Prelude.{slice_get}
 use Rattle.std.specs.List.{list_all}
 use Rattle.std.proofs.lemmas.List.Folds.{list_all_at}
 use Rattle.std.proofs.lemmas.Option.{slice_get_within, get_or_from_slice_get}
-use Rattle.seg_journal.specs.declared.moves.Kind.{Kind}
 use Rattle.seg_journal.specs.declared.moves.Kind.TheVariants.{Admit, Run}
 use Rattle.seg_journal.specs.declared.moves.Move.{Move}
 use Rattle.twe_syntax.specs.Program.{Program}
@@ -14,7 +13,7 @@ use Rattle.twe_machine.specs.declared.state.TaskStatus.{TaskStatus}
 use Rattle.twe_machine.specs.declared.state.TaskStatus.TheVariants.{Made, Enabled, Done, Faulted}
 use Rattle.twe_machine.specs.Legal.{MayMove, MayTake}
 use Rattle.twe_machine.specs.Runs.{AllTasksDone, is_done_status, is_done_row}
-use Rattle.twe_machine.specs.Waiting.{IsRow, HasStatus}
+use Rattle.twe_machine.specs.Waiting.{HasStatus}
 use Rattle.twe_machine.proofs.OneTask.{AtMostOne, IsAlone, nobody_else, waits_for_none}
 
 pub may_admit : (p : Program) (st : State) (mv : Move) (row : TaskRow) → IsAlone p st → slice_get st.tasks mv.task ≡ Some row → mv.kind ≡ Admit → row.status ≡ Made → MayMove st mv

@@ -1,25 +1,24 @@
 -- A program of the first form makes no task: each state that it comes to has task 0 and no other, and task 0 waits
 -- for nobody.
-use Rattle.std.proofs.Common.{◌≡◌, ◌≢◌, ◌⊎◌, ℕ, ℤ, ◌<◌, ◌≤◌, zero, suc, List, [], ◌∷◌, length, map, Option, None, Some, refl, sym, ap, ◌∙◌, subst, arith, length-set}
-use Rattle.std.specs.Prelude.{slice_get, slice_set, pos}
+use Rattle.std.proofs.Common.{◌≡◌, ◌≢◌, ℕ, ℤ, zero, suc, List, [], ◌∷◌, length, Option, None, Some, refl, sym, ◌∙◌, subst, length-set}
+use Rattle.std.specs.Prelude.{slice_get, slice_set}
 use Rattle.std.proofs.lemmas.List.{length-map}
 use Rattle.seg_journal.specs.declared.journal.Entry.{Entry}
 use Rattle.seg_journal.specs.declared.moves.Kind.{Kind}
 use Rattle.seg_journal.specs.declared.moves.Kind.TheVariants.{Admit, Run}
-use Rattle.seg_journal.specs.declared.moves.Move.{Move}
 use Rattle.seg_journal.specs.Limits.{Bounds}
 use Rattle.twe_syntax.specs.declared.program.Decl.{Decl}
-use Rattle.twe_syntax.specs.Program.{Program, IsWellFormed, cell_count}
+use Rattle.twe_syntax.specs.Program.{Program, cell_count}
 use Rattle.twe_syntax.specs.Statement.{Statement, SetCell}
 use Rattle.twe_machine.specs.declared.state.State.{State}
 use Rattle.twe_machine.specs.declared.state.TaskRow.{TaskRow}
 use Rattle.twe_machine.specs.declared.state.TaskStatus.{TaskStatus}
-use Rattle.twe_machine.specs.declared.state.TaskStatus.TheVariants.{Made, Enabled, Done, Faulted}
-use Rattle.twe_machine.specs.Legal.{MayMove, MayTake, Isolated}
+use Rattle.twe_machine.specs.declared.state.TaskStatus.TheVariants.{Enabled, Faulted}
+use Rattle.twe_machine.specs.Legal.{Isolated}
 use Rattle.twe_machine.specs.Moves.{taken, start_of, first_rows, admitted, admitted_row, ran}
 use Rattle.twe_machine.specs.Runs.{replayed, state_after, IsReached}
-use Rattle.twe_machine.specs.Segment.{value_of, executed, executed_all, remaining, at_end}
-use Rattle.twe_machine.specs.Waiting.{IsRow, HasStatus, WaitsFor, awaited}
+use Rattle.twe_machine.specs.Segment.{value_of, executed, executed_all, remaining}
+use Rattle.twe_machine.specs.Waiting.{HasStatus, WaitsFor, awaited}
 
 -- no row but that of task 0, which waits for nobody and has no fault
 abbrev pub AtMostOne : List TaskRow → Type 0

@@ -1,5 +1,5 @@
 -- The state after a run of a task, put together from its parts.
-use Rattle.std.proofs.Common.{◌≡◌, ℕ, ℤ, List, [], ◌++◌, Option, Some, sym, ap, ◌∙◌, subst}
+use Rattle.std.proofs.Common.{◌≡◌, ℕ, ℤ, List, Some, sym, ap, ◌∙◌}
 use Rattle.std.proofs.lemmas.List.{append-nil}
 use Rattle.std.specs.Prelude.{pos, slice_get, slice_set}
 use Rattle.seg_journal.specs.declared.journal.End.TheVariants as ends

@@ -1,5 +1,5 @@
 -- The run of a program that makes no task: `main` is admitted, and runs to its end.
-use Rattle.std.proofs.Common.{◌≡◌, ◌≢◌, ◌⊎◌, ◌<◌, ◌≤◌, ℕ, zero, suc, List, [], ◌∷◌, ◌++◌, length, take, map, Option, None, Some, refl, sym, ap, ◌∙◌, subst, arith, inl, inr}
+use Rattle.std.proofs.Common.{◌≡◌, ◌<◌, ℕ, zero, suc, List, [], ◌∷◌, ◌++◌, length, take, map, Option, None, Some, refl, sym, ap, ◌∙◌, subst, arith}
 use Rattle.std.specs.Prelude.{pos, slice_get, count_by, if◌then◌else◌, is_some}
 use Rattle.seg_journal.specs.declared.journal.End.TheVariants as ends
 use Rattle.seg_journal.specs.declared.journal.Entry.{Entry}
@@ -11,14 +11,12 @@ use Rattle.twe_syntax.specs.Program.{Program, IsWellFormed}
 use Rattle.twe_machine.specs.declared.ending.Outcome.TheVariants.{AllDone}
 use Rattle.twe_machine.specs.declared.state.State.{State}
 use Rattle.twe_machine.specs.declared.state.TaskRow.{TaskRow}
-use Rattle.twe_machine.specs.declared.state.TaskStatus.TheVariants.{Made, Enabled, Done}
-use Rattle.twe_machine.specs.Legal.{MayMove, Isolated}
+use Rattle.twe_machine.specs.Legal.{MayMove}
 use Rattle.twe_machine.specs.Moves.{moved, start_of, first_row, first_rows, admitted_row, done_row}
-use Rattle.twe_machine.specs.Runs.{replayed, LegalFrom, Legal, state_after, IsRun, entry_of, IsOutcome, AllTasksDone, EachOnce, AlwaysIsolated, makes, admits, finishes}
+use Rattle.twe_machine.specs.Runs.{replayed, LegalFrom, state_after, IsRun, entry_of, IsOutcome, EachOnce, AlwaysIsolated, admits, finishes}
 use Rattle.twe_machine.specs.Segment as segments
-use Rattle.twe_machine.specs.Waiting.{IsRow}
 use Rattle.twe_machine.proofs.Alone.{may_admit, may_run}
-use Rattle.twe_machine.proofs.OneTask.{IsAlone, AtMostOne, only_row, run_is_alone, alone_is_isolated}
+use Rattle.twe_machine.proofs.OneTask.{IsAlone, run_is_alone, alone_is_isolated}
 
 -- a journal goes on by one move
 pub replayed-more : (p : Program) (lim : Bounds) (st : State) (entries : List Entry) (last : Entry) → replayed p lim st (entries ++ last ∷ []) ≡ (moved p lim (replayed p lim st entries) last.mv).0
@@ -105,9 +103,12 @@ at_zero row r (suc t) e = absurd (cc)
 
 -- in the end all is done
 pub whole_is_done : (p : Program) (lim : Bounds) → IsWhole p lim (start_of p lim) → IsOutcome (state_after p lim whole_journal) AllDone
-whole_is_done p lim w = (w.no_fault, λ t r found.
-    let here = at_zero (last_row p lim w.decl) r t (ap (λ (l : List TaskRow). slice_get l t) (sym w.rows) ∙ found) in
-    ap (λ (x : TaskRow). x.status) here.1)
+whole_is_done p lim w = (
+  w.no_fault,
+  λ t r found.
+      let here = at_zero (last_row p lim w.decl) r t (ap (λ (l : List TaskRow). slice_get l t) (sym w.rows) ∙ found) in
+      ap (λ (x : TaskRow). x.status) here.1,
+)
 
 -- each thing happened once
 pub whole_once : (p : Program) (lim : Bounds) → IsWhole p lim (start_of p lim) → EachOnce whole_journal (state_after p lim whole_journal)
@@ -117,8 +118,8 @@ whole_once p lim w =
       made = λ t above below. absurd (omega arith);
       no_other = λ t other. refl;
       enabled = λ t r found.
-        let here = at_zero (last_row p lim w.decl) r t (ap (λ (l : List TaskRow). slice_get l t) (sym w.rows) ∙ found) in
-        ap (λ n. count_by (admits n) whole_journal) here.0 ∙ sym (ap (λ (x : TaskRow). (if is_some x.parent then 0 else 1)) here.1);
+          let here = at_zero (last_row p lim w.decl) r t (ap (λ (l : List TaskRow). slice_get l t) (sym w.rows) ∙ found) in
+          ap (λ n. count_by (admits n) whole_journal) here.0 ∙ sym (ap (λ (x : TaskRow). (if is_some x.parent then 0 else 1)) here.1);
       done = λ t below. let here : t ≡ 0 = omega arith in ap (λ n. count_by (finishes n) whole_journal) here;
     }
 

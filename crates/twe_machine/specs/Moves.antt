@@ -1,6 +1,5 @@
 -- What a move makes of a state, and the state that a run starts from.
-use Rattle.std.specs.Prelude.{◌++◌, ℕ, ℤ, pos, List, [], ◌∷◌, map, replicate, Bool, false, Option, None, Some, slice_get, slice_set}
-use Rattle.effect_sets.specs.declared.effects.Summary.{Summary}
+use Rattle.std.specs.Prelude.{◌++◌, ℕ, ℤ, pos, List, [], ◌∷◌, map, replicate, false, Option, None, Some, slice_get, slice_set}
 use Rattle.seg_journal.specs.declared.journal.End.{End}
 use Rattle.seg_journal.specs.declared.journal.End.TheVariants.{Admitted}
 use Rattle.seg_journal.specs.declared.journal.End.TheVariants as ends
@@ -38,12 +37,13 @@ done_row row frame value = record row { frame = frame; status = status.Done; val
 -- the state after a segment of task t that stopped so, and what the move ended in
 abbrev pub ended : State → ℕ → TaskRow → Stopped → Stop → State × End
 ended st t row after (stops.Done value) = (
-    record st {
-      cells = after.cells;
-      prints = st.prints ++ after.prints;
-      tasks = slice_set st.tasks t (done_row row after.frame value);
-    },
-    ends.Done value)
+  record st {
+    cells = after.cells;
+    prints = st.prints ++ after.prints;
+    tasks = slice_set st.tasks t (done_row row after.frame value);
+  },
+  ends.Done value,
+)
 
 -- one segment of task t
 abbrev pub ran : Program → State → ℕ → Option TaskRow → State × End

@@ -1,6 +1,5 @@
 -- Runs: the journals that the machine allows, the states that they lead to, and how a run ends.
-use Rattle.std.specs.Prelude.{◌≡◌, ◌≢◌, ◌⊎◌, ◌<◌, ◌≤◌, ◌==◌, ◌&&◌, ℕ, List, [], ◌∷◌, length, take, Bool, true, false, Option, None, Some, count_by, if◌then◌else◌, is_some}
-use Rattle.std.specs.List.{AllByRecursion}
+use Rattle.std.specs.Prelude.{◌≡◌, ◌⊎◌, ◌<◌, ◌≤◌, ◌==◌, ◌&&◌, ℕ, List, [], ◌∷◌, length, take, Bool, true, false, None, Some, count_by, if◌then◌else◌, is_some}
 use Rattle.seg_journal.specs.declared.journal.End.{End}
 use Rattle.seg_journal.specs.declared.journal.End.TheVariants.{Admitted, Made, Waits, Joins}
 use Rattle.seg_journal.specs.declared.journal.End.TheVariants as ends

@@ -1,6 +1,6 @@
 -- The meaning of a segment: of the statements that a task has still to carry out, up to its next task operation or
 -- its end.
-use Rattle.std.specs.Prelude.{◌+◌, ℕ, ℤ, pos, List, [], ◌∷◌, drop, Option, None, Some, slice_get, slice_set}
+use Rattle.std.specs.Prelude.{ℤ, pos, List, [], ◌∷◌, drop, Option, None, Some, slice_get, slice_set}
 use Rattle.std.specs.Int.{int_wrapping_add, w32}
 use Rattle.twe_syntax.specs.declared.expr.BinOp.{BinOp}
 use Rattle.twe_syntax.specs.declared.expr.BinOp.TheVariants.{Add}

@@ -1,5 +1,5 @@
 -- Who waits for whom, and who yields to whom.
-use Rattle.std.specs.Prelude.{◌≡◌, ◌⊎◌, ℕ, List, [], ◌∷◌, Option, None, Some, Bool, false, slice_get}
+use Rattle.std.specs.Prelude.{◌≡◌, ◌⊎◌, ℕ, List, [], ◌∷◌, Option, None, Some, false, slice_get}
 use Rattle.twe_machine.specs.declared.frame.Next.{Next}
 use Rattle.twe_machine.specs.declared.frame.Next.TheVariants.{Go, Get, Join, Closing, Ended}
 use Rattle.twe_machine.specs.declared.state.State.{State}

@@ -11,11 +11,11 @@ mod standing;
 mod state;
 mod whole_run;
 
+pub use ending::Outcome;
 pub use first_state::start;
 pub use frame::{Call, Frame, Next, Position};
 pub use legal::{Why, may};
 pub use one_move::step;
-pub use ending::Outcome;
 pub use standing::outcome;
 pub use state::{FirstFault, State, TaskRow, TaskStatus};
 pub use whole_run::run_main;

@@ -17,7 +17,12 @@ fn value(expr: &Expr, cells: &[i32]) -> i32
     match &expr.kind {
         ExprKind::Lit(value) => *value,
         ExprKind::Cell { cell, .. } => cells[*cell as usize],
-        ExprKind::Bin { op, left, right, .. } => {
+        ExprKind::Bin {
+            op,
+            left,
+            right,
+            ..
+        } => {
             let (left, right) = (value(left, cells), value(right, cells));
             match op {
                 BinOp::Add => left.wrapping_add(right),

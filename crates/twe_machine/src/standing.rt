@@ -31,5 +31,6 @@ pub fn outcome(p: &Prog, st: &State) -> Outcome
 fn all_done(rows: &[TaskRow]) -> bool
     ensures { result ≡ list_all is_done_row rows.now }
 {
-    rows.iter().all(|row| matches!(row.status, TaskStatus::Done))
+    rows.iter()
+        .all(|row| matches!(row.status, TaskStatus::Done))
 }

@@ -1,7 +1,6 @@
-use Rattle.std.proofs.Common.{◌≡◌, ◌+◌, ◌<◌, sym, ap, ◌∙◌, subst, List, ◌∷◌, length, drop, suc, add-one, drop-cons}
+use Rattle.std.proofs.Common.{◌≡◌, ◌+◌, ◌<◌, sym, ap, ◌∙◌, subst, ◌∷◌, length, drop, suc, add-one, drop-cons}
 use Rattle.std.specs.List.{AllByRecursion}
 use Rattle.twe_syntax.specs.Program.{UsesBelow}
-use Rattle.twe_syntax.specs.Statement.{Statement}
 use Rattle.twe_machine.specs.Segment.{executed_all}
 use Rattle.twe_machine.proofs.segment.execute_all.Goals as goal
 
@@ -15,5 +14,5 @@ loop-stmt-preserved c =
     record {
       same = ap (executed_all (drop (i + 1) stmts)) c.execute.ensures ∙ (ap (λ x. executed_all x c.loop-stmt.cells) (sym split) ∙ c.loop-stmt.invariant.same);
       below = let all : AllByRecursion (UsesBelow (length c.loop-stmt.cells)) (c.stmt-item.result ∷ drop (i + 1) stmts) = subst (AllByRecursion (UsesBelow (length c.loop-stmt.cells))) split c.loop-stmt.invariant.below in
-        subst (λ n. AllByRecursion (UsesBelow n) (drop (i + 1) stmts)) (sym c.execute.auto.cells) all.1;
+          subst (λ n. AllByRecursion (UsesBelow n) (drop (i + 1) stmts)) (sym c.execute.auto.cells) all.1;
     }

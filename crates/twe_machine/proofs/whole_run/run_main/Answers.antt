@@ -1,11 +1,10 @@
 use Rattle.std.proofs.Common.{◌≡◌, List, [], ◌∷◌, ◌++◌, sym, ap, ◌∙◌, subst}
 use Rattle.seg_journal.specs.declared.journal.Entry.{Entry}
 use Rattle.twe_syntax.specs.Program.{IsWellFormed}
-use Rattle.twe_machine.specs.declared.ending.Outcome.TheVariants.{AllDone}
 use Rattle.twe_machine.specs.declared.state.State.{State}
 use Rattle.twe_machine.specs.Legal.{MayMove}
 use Rattle.twe_machine.specs.Moves.{moved, start_of}
-use Rattle.twe_machine.specs.Runs.{state_after, entry_of, IsOutcome, EachOnce}
+use Rattle.twe_machine.specs.Runs.{state_after, entry_of}
 use Rattle.twe_machine.proofs.WholeRun.{whole, whole_is, whole_end, admit_main, run_main, always_isolated}
 use Rattle.twe_machine.proofs.whole_run.run_main.Goals as goal
 
