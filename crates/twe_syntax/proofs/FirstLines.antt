@@ -1,15 +1,15 @@
 -- The lines that declare regions and cells: what is read is written so, and what is written so is read.
-use Rattle.std.proofs.Common.{◌≡◌, ℕ, suc, ◌+◌, ◌<◌, Bool, true, false, inl, inr, List, [], ◌∷◌, ◌++◌, length, Option, None, Some, refl, sym, ap, subst, ◌∙◌, arith}
+use Rattle.std.proofs.Common.{◌≡◌, false, inl, inr, List, [], ◌∷◌, Option, None, Some, refl, sym, ap, ◌∙◌, arith}
 use Rattle.std.specs.Prelude.{codes, bytes_eq}
 use Rattle.std.specs.List.{flat_map}
 use Rattle.twe_syntax.specs.declared.token.Token.{Token}
 use Rattle.twe_syntax.specs.declared.first.form.RegionLine.{RegionLine}
 use Rattle.twe_syntax.specs.declared.first.form.CellLine.{CellLine}
-use Rattle.twe_syntax.specs.Grammar.{Symbol, word, marked, name, literal}
+use Rattle.twe_syntax.specs.Grammar.{Symbol, word, name}
 use Rattle.twe_syntax.specs.FirstForm.{more_names, region_line, first_value, cell_line}
-use Rattle.twe_syntax.specs.FirstReading.{◌>>=◌, is_the_word, is_name, is_small_literal, begins, token_at, with_front, items_at, another_name_at, more_names_at, region_line_at, first_value_at, cell_line_at}
+use Rattle.twe_syntax.specs.FirstReading.{is_the_word, is_name, is_small_literal, begins, token_at, with_front, items_at, another_name_at, more_names_at, region_line_at, first_value_at, cell_line_at}
 use Rattle.twe_syntax.proofs.FormBegins.{Begins, Begins-nil, same_from_Begins, Begins-append, Begins-split, Begins-length}
-use Rattle.twe_syntax.proofs.FirstTokens.{bind_some, Begins-found, chosen, chosen_first, chosen_second, some_is, word_takes, word_gives, word_begins, name_takes, name_gives, literal_takes, literal_gives}
+use Rattle.twe_syntax.proofs.FirstTokens.{bind_some, Begins-found, chosen, chosen_first, chosen_second, word_takes, word_gives, word_begins, name_takes, name_gives, literal_takes, literal_gives}
 use Rattle.twe_syntax.proofs.Repeats.{Shrinks, Takes, Gives, Opens, with_front-nil, items_take, items_give}
 
 -- "," ident

@@ -1,15 +1,15 @@
 -- The summary and the assignments of the task `main`: what is read is written so, and what is written so is read.
-use Rattle.std.proofs.Common.{◌≡◌, ℕ, suc, ◌+◌, ◌<◌, Bool, true, false, inl, inr, List, [], ◌∷◌, ◌++◌, length, Option, None, Some, refl, sym, ap, subst, ◌∙◌, arith}
+use Rattle.std.proofs.Common.{◌≡◌, false, inl, inr, List, [], ◌∷◌, Some, refl, sym, subst, ◌∙◌, arith}
 use Rattle.std.specs.Prelude.{codes, bytes_eq}
 use Rattle.std.specs.List.{flat_map}
 use Rattle.twe_syntax.specs.declared.token.Token.{Token}
 use Rattle.twe_syntax.specs.declared.first.form.Addend.{Addend}
 use Rattle.twe_syntax.specs.declared.first.form.Assignment.{Assignment}
-use Rattle.twe_syntax.specs.Grammar.{Symbol, word, marked, name}
-use Rattle.twe_syntax.specs.FirstForm.{more_names, summary_of, term, addend, assignment}
-use Rattle.twe_syntax.specs.FirstReading.{◌>>=◌, is_the_word, is_name, begins, token_at, term_at, with_front, items_at, more_names_at, task_head_at, summary_at, addend_at, assignment_at}
+use Rattle.twe_syntax.specs.Grammar.{Symbol, word, marked}
+use Rattle.twe_syntax.specs.FirstForm.{summary_of, addend, assignment}
+use Rattle.twe_syntax.specs.FirstReading.{is_the_word, is_name, begins, token_at, term_at, items_at, more_names_at, task_head_at, summary_at, addend_at, assignment_at}
 use Rattle.twe_syntax.proofs.FormBegins.{Begins, Begins-nil, same_from_Begins, Begins-append, Begins-split, Begins-length}
-use Rattle.twe_syntax.proofs.FirstTokens.{bind_some, Begins-found, chosen, chosen_first, chosen_second, some_is, word_takes, word_gives, word_begins, marked_takes, marked_gives, marked_begins, name_takes, name_gives, name_begins, term_takes, term_gives}
+use Rattle.twe_syntax.proofs.FirstTokens.{bind_some, Begins-found, chosen, chosen_first, chosen_second, word_takes, word_gives, word_begins, marked_takes, marked_gives, marked_begins, name_takes, name_gives, name_begins, term_takes, term_gives}
 use Rattle.twe_syntax.proofs.Repeats.{Shrinks, Takes, Gives, Opens, with_front_some, items_take, items_give}
 use Rattle.twe_syntax.proofs.FirstLines.{more_names_take, more_names_give}
 

@@ -1,6 +1,5 @@
 -- Reading one token gives the token that the form begins with.
-use Rattle.std.proofs.Common.{◌≡◌, ℕ, ◌≤◌, Bool, true, false, ◌&&◌, cond, leb, ◌⊎◌, inl, inr, List, [], ◌∷◌, Option, None, Some, IsTrue, refl, sym, ap, subst, ◌∙◌, arith}
-use Rattle.std.specs.Prelude.{bytes_eq}
+use Rattle.std.proofs.Common.{◌≡◌, ℕ, Bool, true, false, cond, leb, ◌⊎◌, inl, inr, List, [], ◌∷◌, Option, None, Some, refl, sym, ap, subst, ◌∙◌, arith}
 use Rattle.std.proofs.lemmas.Bool.{and_parts, and_from, and_left, leb-true, le-leb}
 use Rattle.std.proofs.lemmas.Bool.Decides.{nat_tests}
 use Rattle.std.proofs.lemmas.Slice.Eq.{bytes_eq-Decides}
@@ -9,10 +8,10 @@ use Rattle.twe_syntax.specs.declared.token.Token.{Token}
 use Rattle.twe_syntax.specs.declared.first.form.Term.{Term}
 use Rattle.twe_syntax.specs.declared.first.form.Term.TheVariants.{NamedCell, Number}
 use Rattle.twe_syntax.specs.Lexeme.{is_letter, is_word, is_number}
-use Rattle.twe_syntax.specs.Words.{is_keyword, is_identifier, is_literal, number_of}
-use Rattle.twe_syntax.specs.Grammar.{Symbol, word, marked, name, literal, FitsAt, Fits, IsSmallLiteral}
+use Rattle.twe_syntax.specs.Words.{is_literal, number_of}
+use Rattle.twe_syntax.specs.Grammar.{Symbol, word, marked, name, literal, FitsAt, IsSmallLiteral}
 use Rattle.twe_syntax.specs.FirstForm.{term}
-use Rattle.twe_syntax.specs.FirstReading.{◌>>=◌, is_the_word, is_name, is_small_literal, begins, next_of, token_at, term_at}
+use Rattle.twe_syntax.specs.FirstReading.{◌>>=◌, is_the_word, is_name, is_small_literal, begins, token_at, term_at}
 use Rattle.twe_syntax.proofs.FormBegins.{Begins}
 
 -- the value of a step that did not fail

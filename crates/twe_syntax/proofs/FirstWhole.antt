@@ -1,5 +1,5 @@
 -- A whole text of the first form: what is read is written so, and what is written so is read.
-use Rattle.std.proofs.Common.{◌≡◌, ℕ, Bool, true, false, List, [], ◌∷◌, ◌++◌, Option, None, Some, Err, refl, sym, ap, subst, ◌∙◌}
+use Rattle.std.proofs.Common.{◌≡◌, false, List, [], ◌∷◌, ◌++◌, Some, Err, refl, sym, ap, ◌∙◌}
 use Rattle.std.specs.Prelude.{codes, bytes_eq, IsErrOf}
 use Rattle.std.proofs.lemmas.Option.{none-some}
 use Rattle.std.specs.List.{flat_map}
@@ -11,7 +11,7 @@ use Rattle.twe_syntax.specs.declared.first.form.FirstForm.{FirstForm}
 use Rattle.twe_syntax.specs.Words.{is_identifier}
 use Rattle.twe_syntax.specs.Grammar.{Symbol, word, marked, Fits}
 use Rattle.twe_syntax.specs.FirstForm.{region_line, cell_line, summary_of, assignment, first_form}
-use Rattle.twe_syntax.specs.FirstReading.{◌>>=◌, Fails, is_the_word, is_name, begins, token_at, items_at, region_line_at, cell_line_at, task_head_at, summary_at, assignment_at, form_at}
+use Rattle.twe_syntax.specs.FirstReading.{Fails, is_the_word, is_name, begins, token_at, items_at, region_line_at, cell_line_at, task_head_at, summary_at, assignment_at, form_at}
 use Rattle.twe_syntax.proofs.FormBegins.{Begins, Begins-nil, same_from_Begins, Begins-append, Begins-split, Begins-from_Fits, Fits-from_Begins}
 use Rattle.twe_syntax.proofs.FirstTokens.{bind_some, Begins-found, some_is, word_takes, word_gives, word_begins, marked_takes, marked_gives, marked_begins}
 use Rattle.twe_syntax.proofs.Repeats.{Takes, Gives}

@@ -1,7 +1,7 @@
 -- A form that tokens begin with, and the rest of them.
-use Rattle.std.proofs.Common.{◌≡◌, ℕ, ◌+◌, Bool, List, [], ◌∷◌, ◌++◌, length, refl, sym, ap, subst, ◌∙◌, arith}
+use Rattle.std.proofs.Common.{◌≡◌, ◌+◌, List, [], ◌∷◌, ◌++◌, length, refl, sym, ap, subst, arith}
 use Rattle.twe_syntax.specs.declared.token.Token.{Token}
-use Rattle.twe_syntax.specs.Grammar.{Symbol, word, marked, name, literal, FitsAt, Fits}
+use Rattle.twe_syntax.specs.Grammar.{Symbol, FitsAt, Fits}
 
 -- the tokens begin with what fits the form, and go on with the rest
 unfoldable pub Begins : List Symbol → List Token → List Token → Type 0

@@ -1,5 +1,5 @@
 -- The literals of a form are small, where some tokens fit it.
-use Rattle.std.proofs.Common.{◌≡◌, ℕ, List, [], ◌∷◌, ◌++◌, None, Some, Option, subst}
+use Rattle.std.proofs.Common.{List, [], ◌∷◌, ◌++◌, None, Some, Option, subst}
 use Rattle.std.specs.List.{AllByRecursion, flat_map}
 use Rattle.twe_syntax.specs.declared.token.Token.{Token}
 use Rattle.twe_syntax.specs.declared.first.form.Term.{Term}

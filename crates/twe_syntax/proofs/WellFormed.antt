@@ -1,6 +1,6 @@
 -- The program that a form means is well formed, where its names are right.
-use Rattle.std.proofs.Common.{◌≡◌, ℕ, suc, subst, ◌+◌, ◌<◌, List, [], ◌∷◌, ◌++◌, length, map, Option, None, Some, is_some, true, arith, refl, sym, ap, ◌∙◌, unwrap_or}
-use Rattle.std.specs.List.{AllByRecursion, position, list_any, Contains}
+use Rattle.std.proofs.Common.{◌≡◌, ℕ, suc, subst, ◌+◌, ◌<◌, List, [], ◌∷◌, length, map, Option, None, Some, is_some, true, arith, refl, ap, ◌∙◌, unwrap_or}
+use Rattle.std.specs.List.{AllByRecursion, position, Contains}
 use Rattle.std.specs.Str.{bytes_eq}
 use Rattle.std.specs.Cmp.Lexicographic.{nat_list_eq_equiv}
 use Rattle.std.proofs.lemmas.List.{length-map, get_or-map}
@@ -14,8 +14,8 @@ use Rattle.twe_syntax.specs.declared.first.form.Addend.{Addend}
 use Rattle.twe_syntax.specs.declared.first.form.CellLine.{CellLine}
 use Rattle.twe_syntax.specs.declared.first.form.Assignment.{Assignment}
 use Rattle.twe_syntax.specs.declared.first.form.FirstForm.{FirstForm}
-use Rattle.twe_syntax.specs.Expression.{Expression, Literal, CellValue, Binary}
-use Rattle.twe_syntax.specs.Program.{Program, ReadsBelow, UsesBelow, BodyUsesBelow, IsWellFormed}
+use Rattle.twe_syntax.specs.Expression.{Expression, Binary}
+use Rattle.twe_syntax.specs.Program.{Program, ReadsBelow, UsesBelow, IsWellFormed}
 use Rattle.twe_syntax.specs.FirstNames.{text_of, cell_names, region_names, IsWritable, TermIsWritable, IsAllowed, NamesAreRight}
 use Rattle.twe_syntax.specs.FirstMeaning.{number_in, term_of, sum_of, statements_from, cells_from, main_of, program_of}
 use Rattle.twe_syntax.proofs.Positions.{is_some_position}
@@ -49,9 +49,10 @@ module _ (lines : List CellLine) (writes : List (List ℕ)) where
 
   statements_below : (point : ℕ) (assignments : List Assignment) → AllByRecursion (IsAllowed lines writes) assignments → AllByRecursion (UsesBelow (length (cell_names lines))) (statements_from (cell_names lines) point assignments)
   statements_below point [] allowed = tt
-  statements_below point (a ∷ others) allowed =
-      ((cell_below a.target allowed.0.target, sum_below (term_of (cell_names lines) a.first) a.others (term_below a.first allowed.0.first) allowed.0.others),
-      statements_below (point + 1) others allowed.1)
+  statements_below point (a ∷ others) allowed = (
+    (cell_below a.target allowed.0.target, sum_below (term_of (cell_names lines) a.first) a.others (term_below a.first allowed.0.first) allowed.0.others),
+    statements_below (point + 1) others allowed.1,
+  )
 
 length-cells_from : (regions : List (List ℕ)) (number : ℕ) (lines : List CellLine) → length (cells_from regions number lines) ≡ length (cell_names lines)
 length-cells_from regions number [] = refl

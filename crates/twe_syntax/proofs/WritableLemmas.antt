@@ -1,5 +1,5 @@
 -- Which cells may be written, by the numbers of their names.
-use Rattle.std.proofs.Common.{◌≡◌, ℕ, zero, suc, ◌+◌, ◌<◌, ◌≤◌, Bool, true, false, ◌||◌, List, [], ◌∷◌, ◌++◌, length, get_or, map, Option, None, Some, arith, refl, ap, sym, ◌∙◌, subst}
+use Rattle.std.proofs.Common.{◌≡◌, ℕ, zero, suc, ◌<◌, Bool, true, false, ◌||◌, List, [], ◌∷◌, length, get_or, map, None, Some, arith, refl, ap, sym, ◌∙◌, subst}
 use Rattle.std.specs.List.{position, list_any, Contains, IsDistinct}
 use Rattle.std.specs.Str.{bytes_eq}
 use Rattle.std.specs.Cmp.Lexicographic.{bytes_decides, nat_list_eq_equiv}
@@ -35,7 +35,7 @@ mark_at : (lines : List CellLine) (writes : List Token) (n : ℕ) (line : CellLi
 mark_at lines writes n line mark within here read =
     let long = length-map lines (λ line. is_written writes line.region) in
     let at : get_or (written_marks lines writes) n (is_written writes line.region) ≡ is_written writes line.region =
-        get_or-map (λ line. is_written writes line.region) lines n line (is_written writes line.region) within ∙ ap (λ line. is_written writes line.region) here in
+    get_or-map (λ line. is_written writes line.region) lines n line (is_written writes line.region) within ∙ ap (λ line. is_written writes line.region) here in
     read ∙ (get_or_default (written_marks lines writes) n mark (is_written writes line.region) (omega arith) ∙ at)
 
 name_at : (lines : List CellLine) (n : ℕ) (line : CellLine) → n < length lines → get_or lines n line ≡ line → get_or (cell_names lines) n (text_of line.name) ≡ text_of line.name
@@ -62,9 +62,10 @@ module _ (lines : List CellLine) (writes : List Token) (name : List ℕ) where
   same_place n k found distinct within here =
       let at = position-Some (bytes_eq name) (cell_names lines) n name found in
       let same_name : name ≡ get_or (cell_names lines) n name = (bytes_decides name (get_or (cell_names lines) n name)).0 at.1 in
-      let itself : bytes_eq name name ≡ true = (bytes_decides name name).1 refl in
-      (λ before. let apart = apart_from_distinct bytes_eq (cell_names lines) n k name distinct before within in cc,
-      λ behind. let apart = at.2 k behind in cc)
+      let itself : bytes_eq name name ≡ true = (bytes_decides name name).1 refl in (
+        λ before. let apart = apart_from_distinct bytes_eq (cell_names lines) n k name distinct before within in cc,
+        λ behind. let apart = at.2 k behind in cc,
+      )
 
   -- a cell whose mark is not set
   pub not_writable_from_mark : (n : ℕ) (mark : Bool) → position (bytes_eq name) (cell_names lines) ≡ Some n → IsDistinct bytes_eq (cell_names lines) → mark ≡ get_or (written_marks lines writes) n mark → mark ≡ false → ¬ IsWritable lines (map text_of writes) name

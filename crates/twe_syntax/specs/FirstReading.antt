@@ -1,6 +1,6 @@
 -- Reading the tokens of a text of the first form from left to right. What is read is what is written as
 -- `FirstForm` says: the laws of `read_form` are about the grammar alone, and this is what its parts give.
-use Rattle.std.specs.Prelude.{◌≡◌, ◌≤◌, ◌+◌, ℕ, zero, suc, Bool, false, ◌&&◌, List, [], ◌∷◌, ◌++◌, length, Option, None, Some, Result, Ok, Err, option_and_then, nat_le, codes, bytes_eq, if◌then◌else◌}
+use Rattle.std.specs.Prelude.{◌≡◌, ℕ, zero, suc, Bool, false, ◌&&◌, List, [], ◌∷◌, ◌++◌, length, Option, None, Some, Result, Ok, Err, option_and_then, nat_le, codes, bytes_eq, if◌then◌else◌}
 use Rattle.twe_syntax.specs.declared.token.Token.{Token}
 use Rattle.twe_syntax.specs.declared.first.fail.FirstFail.{FirstFail}
 use Rattle.twe_syntax.specs.declared.first.fail.FirstFail.TheVariants as fails

@@ -1,5 +1,5 @@
 -- The cells whose regions stand behind `writes`.
-use Rattle.std.specs.Prelude.{ℕ, Bool, List, map, bytes_eq}
+use Rattle.std.specs.Prelude.{Bool, List, map, bytes_eq}
 use Rattle.std.specs.List.{list_any}
 use Rattle.twe_syntax.specs.declared.token.Token.{Token}
 use Rattle.twe_syntax.specs.declared.first.form.CellLine.{CellLine}

@@ -19,14 +19,13 @@ mod statements;
 mod stream;
 mod writable;
 
+use crate::lexer::{ReadTokensFail, read_tokens};
+use crate::program::Prog;
+use crate::token::Tokens;
 pub use fail::FirstFail;
 pub use form::FirstForm;
 pub use read::{one_form, read_form};
 pub use resolve::resolve_first;
-
-use crate::lexer::{ReadTokensFail, read_tokens};
-use crate::program::Prog;
-use crate::token::Tokens;
 use std::alloc::Global;
 
 /// The tokens of a text. It is `Form` where the text cannot be read.
@@ -57,8 +56,7 @@ pub fn parse_first(alloc: Global, text: &[u8]) -> Result<Prog, FirstFail>
 pub fn one_first_program()
     ensures one { (text : List ℕ) (program other : Program)
         → IsFirstProgram text program → IsFirstProgram text other → program ≡ other }
-{
-}
+{}
 
 #[cfg(test)]
 mod tests;

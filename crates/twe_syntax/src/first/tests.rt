@@ -114,7 +114,10 @@ fn meaning(alloc: Global, text: &str) -> Result<String, AllocError> {
 #[test]
 fn names_and_places_become_the_program(rt: HostRuntime) -> Result<(), Fail> {
     let rows = [
-        ("task void main() pure { }", "Console task main@1:11 writes; points 1@1:25"),
+        (
+            "task void main() pure { }",
+            "Console task main@1:11 writes; points 1@1:25",
+        ),
         (
             "region A;\nint x in A = 41;\ntask void main() writes A { x = x + 1; }\n",
             "Console A 0: x@2:5 in 1 = 41; task main@3:11 writes 1; 0: cell 0@3:29 = (cell 0@3:33 +@3:35 1); points 2@3:40",

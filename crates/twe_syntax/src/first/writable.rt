@@ -74,7 +74,7 @@ impl<'a> Cells<'a> {
         ensures { MatchOption result
             (¬ IsWritable self.now.lines.now (map text_of self.now.writes.now) (text_of name.now))
             (λ number. IsWritable self.now.lines.now (map text_of self.now.writes.now) (text_of name.now)
-                × (number ≡ number_in (cell_names self.now.lines.now) name.now)) }
+            × (number ≡ number_in (cell_names self.now.lines.now) name.now)) }
     {
         let number = self.names.number_of(&name.text)?;
         if self.marks[number as usize] {

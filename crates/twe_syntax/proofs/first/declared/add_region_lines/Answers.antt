@@ -1,4 +1,4 @@
-use Rattle.std.proofs.Common.{◌≡◌, [], ◌∷◌, ◌++◌, ◌+◌, drop, map, arith, subst}
+use Rattle.std.proofs.Common.{◌≡◌, ◌∷◌, ◌++◌, ◌+◌, drop, map, arith, subst}
 use Rattle.twe_syntax.specs.FirstNames.{text_of, declared_regions}
 use Rattle.twe_syntax.proofs.NamesDiffer.{repeated_line}
 use Rattle.twe_syntax.proofs.Steps.{at_turn}
@@ -13,5 +13,5 @@ returns-in_err-add_region_line-clause-taken c =
     let line = text_of c.line-item.result.first ∷ map text_of c.line-item.result.others in
     let others = declared_regions (drop (i + 1) lines) in
     let same : now ++ (line ++ others) ≡ old ++ declared_regions lines =
-        subst (λ left. now ++ left ≡ old ++ declared_regions lines) (at_turn declared_regions lines i c.line-item.result (omega arith) c.line-item.is) c.loop-line.invariant.0 in
+    subst (λ left. now ++ left ≡ old ++ declared_regions lines) (at_turn declared_regions lines i c.line-item.result (omega arith) c.line-item.is) c.loop-line.invariant.0 in
     λ is_form. repeated_line old now (declared_regions lines) line others same (c.in_err-add_region_line.ensures.taken (grind arith))

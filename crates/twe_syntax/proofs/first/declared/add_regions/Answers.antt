@@ -12,5 +12,5 @@ returns-in_err-add_region-clause-taken c =
     let now = c.loop-name.declared.regions in
     let others = map text_of (drop (i + 1) names) in
     let same : now ++ (c.name-item.result.text ∷ others) ≡ old ++ map text_of names =
-        subst (λ left. now ++ left ≡ old ++ map text_of names) (at_turn (λ left. map text_of left) names i c.name-item.result (omega arith) c.name-item.is) c.loop-name.invariant.0 in
+    subst (λ left. now ++ left ≡ old ++ map text_of names) (at_turn (λ left. map text_of left) names i c.name-item.result (omega arith) c.name-item.is) c.loop-name.invariant.0 in
     λ is_form. repeated_line old now (map text_of names) (c.name-item.result.text ∷ []) others same (c.in_err-add_region.ensures.taken (grind arith))

@@ -5,7 +5,6 @@ use Rattle.twe_syntax.proofs.NamesDiffer.{contains_moved, names_are_right}
 use Rattle.twe_syntax.proofs.WellFormed.{well_formed_program}
 use Rattle.twe_syntax.proofs.first.resolve.resolve_first.Goals as goal
 
-
 pub returns-in_err-cells-clause-form : goal.returns-in_err-cells-clause-form
 returns-in_err-cells-clause-form c = λ is_form right.
     c.in_err-cells.ensures.unknown (grind arith)
@@ -23,7 +22,7 @@ invariant_of-result c =
     let declared = c.in_ok-declared.declared in
     let form = c.args.form.now in
     let right = names_are_right form declared.regions declared.cells c.as_slice.result.now c.in_ok-declared.ensures.regions c.in_ok-declared.ensures.cells c.as_slice.ensures.same declared.different
-        c.in_ok-cells.ensures.declared c.in_ok-main.ensures.writes c.in_ok-main.ensures.allowed (omega arith) (omega arith) in
+    c.in_ok-cells.ensures.declared c.in_ok-main.ensures.writes c.in_ok-main.ensures.allowed (omega arith) (omega arith) in
     let cells : c.in_ok-cells.cells ≡ cells_from (region_names form.regions) 0 form.cells = grind arith in
     let tasks : c.push.new.self ≡ main_of form ∷ [] = grind arith in
     well_formed_program _ form cells tasks refl right

@@ -1,4 +1,4 @@
-use Rattle.std.proofs.Common.{◌∷◌, ◌++◌, ap, sym, ◌∙◌, subst}
+use Rattle.std.proofs.Common.{◌∷◌, ◌++◌, sym, ◌∙◌, subst}
 use Rattle.twe_syntax.proofs.NamesDiffer.{fresh_parts, distinct_after_region, repeated_cell}
 use Rattle.std.specs.List.{IsDistinct}
 use Rattle.std.specs.Str.{bytes_eq}

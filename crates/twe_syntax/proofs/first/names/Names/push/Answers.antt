@@ -1,5 +1,5 @@
 -- The map has the new name under the number that was the count of the others.
-use Rattle.std.proofs.Common.{◌≡◌, ◌++◌, ◌∷◌, [], List, length, string_bytes, arith}
+use Rattle.std.proofs.Common.{◌≡◌, ◌++◌, ◌∷◌, [], length, string_bytes, arith}
 use Rattle.std.proofs.lemmas.Map.Text.{btree_map_updates_text}
 use Rattle.twe_syntax.proofs.NumberingLemmas.{numbering_push}
 use Rattle.twe_syntax.proofs.first.names.Names.push.Goals as goal
