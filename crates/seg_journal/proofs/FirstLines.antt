@@ -1,5 +1,5 @@
 -- The lines of a text that begins with the lines of a journal.
-use Rattle.std.proofs.Common.{◌≡◌, ◌≢◌, ◌<◌, ◌==◌, ℕ, ◌+◌, List, [], ◌∷◌, ◌++◌, length, map, Bool, true, false, if◌then◌else◌, sym, ap, ◌∙◌, refl, subst, arith, inl, inr, append-nil, append_assoc, codes, decimal, lit<}
+use Rattle.std.proofs.Common.{◌≡◌, ◌≢◌, ◌<◌, ◌==◌, ℕ, ◌+◌, List, [], ◌∷◌, ◌++◌, map, false, sym, ap, ◌∙◌, refl, arith, inl, inr, append_assoc, codes, decimal, lit<}
 use Rattle.std.proofs.lemmas.Bool.{ne_eqb, cases_Bool}
 use Rattle.std.specs.List.{AllByRecursion, flat_map}
 use Rattle.std.specs.Char.{IsAsciiDigit}

@@ -1,14 +1,14 @@
 -- No two journals are spelled alike.
-use Rattle.std.proofs.Common.{◌≡◌, ◌≢◌, ◌<◌, ◌^◌, ℕ, List, [], ◌∷◌, ◌++◌, map, Option, None, Some, sym, ap, ◌∙◌, refl, arith, append_assoc, codes, decimal}
+use Rattle.std.proofs.Common.{◌≡◌, ◌≢◌, ◌<◌, ◌^◌, ℕ, List, [], ◌∷◌, ◌++◌, map, Option, None, Some, sym, ap, ◌∙◌, refl, arith, codes, decimal}
 use Rattle.std.proofs.lemmas.Fmt.{decimal_injective}
 use Rattle.std.proofs.lemmas.List.{append_cancel_left, append_cancel_right}
 use Rattle.std.specs.Char.{IsAsciiDigit}
-use Rattle.std.specs.List.{AllByRecursion, flat_map}
+use Rattle.std.specs.List.{AllByRecursion}
 use Rattle.seg_journal.specs.Limits.{Bounds}
 use Rattle.seg_journal.specs.declared.moves.Move.{Move}
 use Rattle.seg_journal.specs.declared.moves.Kind.{Kind}
 use Rattle.seg_journal.specs.declared.moves.Kind.TheVariants.{Admit, Run}
-use Rattle.seg_journal.specs.Spelling.{Spells, kind_word, move_line, head_line, head_lines, HasTask, AreLimits}
+use Rattle.seg_journal.specs.Spelling.{Spells, kind_word, move_line, head_line, HasTask, AreLimits}
 use Rattle.seg_journal.proofs.Decimal.{decimal_avoids}
 use Rattle.seg_journal.proofs.BadLines.{lines_of-spelled}
 
