@@ -1,5 +1,5 @@
 -- Texts in two parts: a word and what stands behind it, and what stands before and behind the first byte of a value.
-use Rattle.std.proofs.Common.{◌≡◌, ◌≢◌, ◌==◌, ℕ, ◌+◌, ◌<◌, List, [], ◌∷◌, ◌++◌, length, get_or, take, drop, Option, None, Some, IfSome, IsSomeAnd, MatchOption, Bool, true, false, sym, ap, ◌∙◌, refl, subst, arith, take-append-drop, take_at, drop_at, length-append, add-one}
+use Rattle.std.proofs.Common.{◌≡◌, ◌≢◌, ◌==◌, ℕ, ◌+◌, List, [], ◌∷◌, ◌++◌, length, get_or, take, drop, Option, None, Some, IfSome, IsSomeAnd, MatchOption, true, false, sym, ap, ◌∙◌, refl, arith, take-append-drop, take_at, drop_at, length-append, add-one}
 use Rattle.std.proofs.Math.Seq.{drop-cons, drop-drop}
 use Rattle.std.proofs.lemmas.Bool.{eq-eqb, ne_eqb, lt-ltb}
 use Rattle.std.proofs.lemmas.List.{append_cancel_left}

@@ -30,6 +30,11 @@ abbrev pub head_part : Option Bounds → List ℕ
 head_part None = []
 head_part (Some limits) = head_line limits
 
+-- the lines before those of the moves
+abbrev pub head_lines : Option Bounds → List (List ℕ)
+head_lines None = []
+head_lines (Some limits) = head_line limits ∷ []
+
 -- the number of a task has 32 bits
 abbrev pub HasTask : Move → Type 0
 HasTask mv = mv.task < 2 ^ 32

@@ -6,20 +6,25 @@ use std::alloc::Global;
 use std::marker::Model;
 use twe_io::{Memory, Place};
 
-/// What stops a task for good: a division by zero, an index outside its array, the end of its fuel, too many
-/// method calls at once, or a task more than the limits allow.
+/// What stops a task for good.
 #[derive(Clone, Copy, Debug, PartialEq, Eq)]
 pub enum FaultKind {
+    /// A division by zero, or a remainder of one.
     DivZero,
+    /// An index outside its array.
     Index,
+    /// The end of its fuel.
     Fuel,
+    /// Too many method calls at once.
     Depth,
+    /// A task more than the limits allow.
     TaskLimit,
 }
 
 /// What a move ended in. An admission ends in `Admitted`, and a segment in one of the others.
 #[derive(Clone, Copy, Debug, PartialEq, Eq)]
 pub enum End {
+    /// The task was admitted.
     Admitted,
     /// The segment made the task of this number.
     Made { child: u32 },
@@ -72,12 +77,14 @@ impl Journal {
         self.items.len()
     }
 
+    /// Whether there are none.
     pub fn is_empty(&self) -> bool
         ensures { IsTrue result ↔ (self.now ≡ []) }
     {
         self.items.is_empty()
     }
 
+    /// The entries, in their order.
     pub fn as_slice(&self) -> &[Entry]
         ensures { result.now ≡ self.now }
     {

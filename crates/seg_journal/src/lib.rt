@@ -15,3 +15,6 @@ pub use journal::{End, Entry, FaultKind, Journal};
 pub use limits::Limits;
 pub use moves::{Kind, Move, Moves};
 pub use text::{JournalFail, JournalText, one_spelling, print_journal, read_journal};
+
+#[cfg(test)]
+mod tests;

@@ -69,7 +69,8 @@ fn word_of(kind: Kind) -> &'static [u8]
 
 /// Writes the line of a move behind a text.
 pub(crate) fn push_move(text: &mut Bytes, mv: Move) -> Result<(), Memory>
-    ensures { OnOk result (text.new ≡ text.old ++ move_line mv) }
+    ensures written { OnOk result (text.new ≡ text.old ++ move_line mv) }
+    ensures task { HasTask mv }
 {
     text.push_all(word_of(mv.kind))?;
     push_number(text, u64::from(mv.task))?;

@@ -8,7 +8,9 @@ use twe_io::Memory;
 /// What a move does with its task: admit it, or run one segment of it.
 #[derive(Clone, Copy, Debug, PartialEq, Eq)]
 pub enum Kind {
+    /// The task may run from now on.
     Admit,
+    /// The task runs up to its next stop.
     Run,
 }
 
@@ -51,12 +53,14 @@ impl Moves {
         self.items.len()
     }
 
+    /// Whether there are none.
     pub fn is_empty(&self) -> bool
         ensures { IsTrue result ↔ (self.now ≡ []) }
     {
         self.items.is_empty()
     }
 
+    /// The moves, in their order.
     pub fn as_slice(&self) -> &[Move]
         ensures { result.now ≡ self.now }
     {

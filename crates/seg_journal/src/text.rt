@@ -1,10 +1,10 @@
 //! Journals as text.
-ghost use Rattle.std.specs.Prelude.{◌≡◌, ◌⊎◌, ◌<◌, ◌≤◌, ◌+◌, ◌^◌, List, ℕ, Some, ◌++◌, length, map, IfOk, OnOk, IsErrOf, MatchResult};
+ghost use Rattle.std.specs.Prelude.{◌≡◌, ◌≢◌, ◌⊎◌, ◌<◌, ◌≤◌, ◌+◌, ◌^◌, List, ℕ, Some, ◌++◌, length, map, IfOk, IfSome, IsNone, OnOk, IsErrOf, MatchResult};
 ghost use Rattle.std.specs.List.{AllByRecursion, flat_map};
 ghost use Rattle.seg_journal.specs.declared.text.JournalFail.TheVariants.{Memory as NoMemory};
 ghost use Rattle.seg_journal.specs.declared.moves.Move.{Move};
 ghost use Rattle.seg_journal.specs.Limits.{Bounds};
-ghost use Rattle.seg_journal.specs.Spelling.{Spells, move_line, move_of, HasTask};
+ghost use Rattle.seg_journal.specs.Spelling.{Spells, head_line, head_part, head_lines, move_line, move_of, HasTask, AreLimits};
 ghost use Rattle.seg_journal.specs.Lines.{IsFirstBadLine};
 ghost use Rattle.seg_journal.specs.Stops.{StopsAt};
 
@@ -80,15 +80,23 @@ fn read_lines(alloc: Global, text: &[u8]) -> Result<JournalText, JournalFail>
     ensures spelled { IfOk result (λ found. Spells text.now found.head found.moves) }
     ensures bad_line { (n : ℕ) → IsErrOf result (JournalFail.BadLine n) → IsFirstBadLine text.now n }
 {
+    let (head, first, rest) = split_head(text);
+    let moves = read_moves(alloc, rest, first)?;
+    Ok(JournalText { head, moves })
+}
+
+/// The limits of a text, if it has a head, the number of the first line behind that, and what stands there.
+fn split_head(text: &[u8]) -> (Option<Limits>, u64, &[u8])
+    ensures split { text.now ≡ head_part result.0 ++ result.2.now }
+    ensures limits { IfSome result.0 AreLimits }
+    ensures headless { IsNone result.0 → (limits : Bounds) (rest : List ℕ) → AreLimits limits
+        → text.now ≢ head_line limits ++ rest }
+    ensures counted { result.1 ≡ length (head_lines result.0) + 1 }
+    ensures fits { result.1 + length result.2.now ≤ length text.now + 1 }
+{
     match head_at(text) {
-        Some((limits, rest)) => Ok(JournalText {
-            head: Some(limits),
-            moves: read_moves(alloc, rest, 2)?,
-        }),
-        None => Ok(JournalText {
-            head: None,
-            moves: read_moves(alloc, text, 1)?,
-        }),
+        Some((limits, rest)) => (Some(limits), 2, rest),
+        None => (None, 1, text),
     }
 }
 

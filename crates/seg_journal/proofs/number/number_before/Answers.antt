@@ -1,4 +1,4 @@
-use Rattle.std.proofs.Common.{◌≡◌, ◌<◌, ◌^◌, ℕ, Some, arith, ap, ◌∙◌, sym}
+use Rattle.std.proofs.Common.{arith}
 use Rattle.seg_journal.proofs.Decimal.{decimal_avoids, Some-same}
 use Rattle.seg_journal.proofs.number.number_before.Goals as goal
 
