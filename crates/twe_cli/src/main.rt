@@ -30,7 +30,14 @@ fn main(rt: HostRuntime) -> ExitCode {
     let mut out = StdSink::new(rt.stdout());
     let mut err = StdSink::new(rt.stderr());
     let mut book = Book::new(alloc);
-    let status = twe(alloc, words.as_slice(), &mut src, &mut out, &mut err, &mut book);
+    let status = twe(
+        alloc,
+        words.as_slice(),
+        &mut src,
+        &mut out,
+        &mut err,
+        &mut book,
+    );
     ExitCode::from(status.code())
 }
 

@@ -15,7 +15,10 @@ use twe_syntax::{CellDecl, Prog, Refusal, RuleName};
 pub fn usage_text(alloc: Global) -> Result<Bytes, Memory>
     ensures { IfOk result (λ text. text ≡ texts.usage_text) }
 {
-    Bytes::from_slice(alloc, b"usage: twe check | run [--workers k] [--fuel f] [--tasks t] [--journal] | replay [--fuel f] [--tasks t] | load N [--workers k]\n")
+    Bytes::from_slice(
+        alloc,
+        b"usage: twe check | run [--workers k] [--fuel f] [--tasks t] [--journal] | replay [--fuel f] [--tasks t] | load N [--workers k]\n",
+    )
 }
 
 /// The line for a read that failed.

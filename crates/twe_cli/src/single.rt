@@ -57,12 +57,10 @@ fn answer<S: Source>(
         (input (S.left src.old) (S.faults src.old)) (input (S.left src.new) (S.faults src.new))
         book.new answer.status answer.out answer.err) }
 {
-    let Command::Run { lim } = *cmd;
+    let lim = cmd.limits();
     match read_all(alloc, src, MOST_BYTES) {
-        Ok(text) => run_text(alloc, lim, text.as_slice(), book),
-        Err(ReadFail::ReadFault) => {
-            complaint(alloc, Status::ReadFault, read_fault_text(alloc)?)
-        }
+        Ok(text) => Ok(run_text(alloc, lim, text.as_slice(), book)?),
+        Err(ReadFail::ReadFault) => { complaint(alloc, Status::ReadFault, read_fault_text(alloc)?) }
         Err(ReadFail::TooLong) => complaint(alloc, Status::TooLong, too_long_text(alloc)?),
         Err(ReadFail::Memory) => Err(Memory),
     }
@@ -86,7 +84,7 @@ fn run_text(alloc: Global, lim: Limits, text: &[u8], book: &mut Book) -> Result<
 {
     match parse_first(alloc, text) {
         Ok(p) => run_program(alloc, lim, p, book),
-        Err(FirstFail::Form) => refuse(alloc, book),
+        Err(FirstFail::Form) => Ok(refuse(alloc, book)?),
         Err(FirstFail::Memory) => Err(Memory),
     }
 }

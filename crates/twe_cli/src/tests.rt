@@ -3,13 +3,20 @@ use crate::book::Book;
 use crate::top::twe;
 use std::alloc::Global;
 use std::test::Fail;
-use twe_io::{Bytes, Calls, MemSink, MemSource, Memory, PlainSink, PlainSource, Sink, Source, Word};
+use twe_io::{
+    Bytes, Calls, MemSink, MemSource, Memory, PlainSink, PlainSource, Sink, Source, Word,
+};
 
 const INCREMENT: &[u8] = b"region A;\nint x in A = 41;\ntask void main() writes A { x = x + 1; }\n";
+
 const NOTHING: &[u8] = b"task void main() pure { }\n";
+
 const RESULT: &[u8] = b"x = 42\ntasks 1\n";
+
 const REFUSED: &[u8] = b"refused: Form at 1:1\n";
-const USAGE: &[u8] = b"usage: twe check | run [--workers k] [--fuel f] [--tasks t] [--journal] | replay [--fuel f] [--tasks t] | load N [--workers k]\n";
+
+const USAGE: &[u8] =
+    b"usage: twe check | run [--workers k] [--fuel f] [--tasks t] [--journal] | replay [--fuel f] [--tasks t] | load N [--workers k]\n";
 
 /// One call, and what it has to answer.
 struct Case {
@@ -21,14 +28,62 @@ struct Case {
 }
 
 const CASES: &[Case] = &[
-    Case { words: &["run"], text: INCREMENT, status: 0, out: RESULT, err: b"" },
-    Case { words: &["run"], text: NOTHING, status: 0, out: b"tasks 1\n", err: b"" },
-    Case { words: &["run"], text: b"", status: 1, out: b"", err: REFUSED },
-    Case { words: &["walk"], text: INCREMENT, status: 2, out: b"", err: USAGE },
-    Case { words: &[], text: INCREMENT, status: 2, out: b"", err: USAGE },
-    Case { words: &["run", "run"], text: INCREMENT, status: 2, out: b"", err: USAGE },
-    Case { words: &["run", "--"], text: INCREMENT, status: 2, out: b"", err: USAGE },
-    Case { words: &["--help"], text: INCREMENT, status: 2, out: b"", err: USAGE },
+    Case {
+        words: &["run"],
+        text: INCREMENT,
+        status: 0,
+        out: RESULT,
+        err: b"",
+    },
+    Case {
+        words: &["run"],
+        text: NOTHING,
+        status: 0,
+        out: b"tasks 1\n",
+        err: b"",
+    },
+    Case {
+        words: &["run"],
+        text: b"",
+        status: 1,
+        out: b"",
+        err: REFUSED,
+    },
+    Case {
+        words: &["walk"],
+        text: INCREMENT,
+        status: 2,
+        out: b"",
+        err: USAGE,
+    },
+    Case {
+        words: &[],
+        text: INCREMENT,
+        status: 2,
+        out: b"",
+        err: USAGE,
+    },
+    Case {
+        words: &["run", "run"],
+        text: INCREMENT,
+        status: 2,
+        out: b"",
+        err: USAGE,
+    },
+    Case {
+        words: &["run", "--"],
+        text: INCREMENT,
+        status: 2,
+        out: b"",
+        err: USAGE,
+    },
+    Case {
+        words: &["--help"],
+        text: INCREMENT,
+        status: 2,
+        out: b"",
+        err: USAGE,
+    },
     Case {
         words: &["run"],
         text: b"region A; int a in A = 2147483647; int b in A; task void main() writes A { b = a + 1; a = b + b; }",
@@ -98,7 +153,11 @@ fn a_text_may_have_a_mebibyte_and_no_more(rt: HostRuntime) -> Result<(), Fail> {
         let mut err = PlainSink::new(rt.alloc(), 200)?;
         let answer = call(rt.alloc(), &["run"], &mut src, &mut out, &mut err)?;
         assert_eq!(rt; answer, status);
-        let wanted = if status == 8 { b"input too long\n".as_slice() } else { REFUSED };
+        let wanted = if status == 8 {
+            b"input too long\n".as_slice()
+        } else {
+            REFUSED
+        };
         assert_eq!(rt; err.bytes(), wanted);
         assert_eq!(rt; out.bytes().len(), 0);
     }
@@ -115,7 +174,11 @@ fn a_source_that_fails_at_any_call_is_a_read_fault(rt: HostRuntime) -> Result<()
         let status = call(rt.alloc(), &["run"], &mut src, &mut out, &mut err)?;
         // The text has 26 bytes, and call 27 finds the end.
         assert_eq!(rt; status, if at < 28 { 5 } else { 0 });
-        let wanted = if at < 28 { b"read fault\n".as_slice() } else { b"" };
+        let wanted = if at < 28 {
+            b"read fault\n".as_slice()
+        } else {
+            b""
+        };
         assert_eq!(rt; err.bytes(), wanted);
     }
     Ok(())

@@ -15,12 +15,25 @@ pub enum Command {
     },
 }
 
+impl Command {
+    ghost use Rattle.twe_cli.specs.declared.words.Command.TheVariants.{Run};
+
+    /// The limits of the run.
+    pub fn limits(self) -> Limits
+        ensures { self ≡ Run result }
+    {
+        match self {
+            Command::Run { lim } => lim,
+        }
+    }
+}
+
 /// The command that the words mean, or none where they mean no command.
 pub fn read_words(words: &[Word]) -> Option<Command>
     ensures { result ≡ command_of words.now }
 {
     match words {
-        [word] if word.as_bytes() == b"run" => Some(Command::Run {
+        [word] if word.as_bytes() == b"run".as_slice() => Some(Command::Run {
             lim: Limits::default(),
         }),
         _ => None,
