@@ -1,14 +1,13 @@
 -- Runs of reads of a source in memory.
-use Rattle.std.proofs.Common.{◌≡◌, ◌≤◌, ◌↔◌, ◌^◌, ◌-◌, ℕ, List, Option, None, Some, Result, Ok, Err, IsErrOf, Bool, true, false, Contains, sym, ap, ◌∙◌, subst, refl, le_refl, arith, inl, inr}
+use Rattle.std.proofs.Common.{◌≡◌, ◌≤◌, ◌↔◌, ◌^◌, ◌+◌, ◌-◌, ℕ, length, List, Option, None, Some, Result, Ok, Err, IsErrOf, Bool, true, false, Contains, sym, ap, ◌∙◌, subst, refl, le_refl, arith, inl, inr}
 use Rattle.std.proofs.lemmas.Bool.{cases_lt}
 use Rattle.std.specs.Option.{is_none}
 use Rattle.twe_io.specs.Faults.{one_more}
 use Rattle.twe_io.specs.Named.{NamedBetween}
 use Rattle.twe_io.specs.Memory.{MemReading, ReadsMem}
-use Rattle.twe_io.specs.Runs.{Reads}
-use Rattle.twe_io.specs.ReadFail.{is_read_fault}
+use Rattle.twe_io.specs.Runs.{Reads, ReadsThen, ReadsWhole}
 use Rattle.twe_io.specs.declared.whole.ReadFail.{ReadFail}
-use Rattle.twe_io.specs.declared.whole.ReadFail.TheVariants.{ReadFault, TooLong, Memory}
+use Rattle.twe_io.specs.declared.whole.ReadFail.TheVariants.{ReadFault, TooLong, OutOfMemory}
 
 -- a run of reads, in which a call is named exactly where one failed
 pub record RunOf (first last : MemReading) (failed : Bool) : Type 0 where
@@ -64,7 +63,7 @@ run-more first before last failed run next =
       ];
     }
 
-pub run_of : (first : MemReading) {failed : Bool} {last : MemReading} → first.calls ≤ 2 ^ 64 - 1 → Reads ReadsMem first failed last → RunOf first last failed
+pub run_of : (first : MemReading) {room n : ℕ} {last : MemReading} → first.calls ≤ 2 ^ 64 - 1 → Reads ReadsMem room first n last → RunOf first last false
 run_of first counted Reads.none = record {
   same = refl;
   later = le_refl _;
@@ -72,15 +71,29 @@ run_of first counted Reads.none = record {
   fault = λ yes. cc;
   no_fault = λ no h. omega (arith, h.after, h.up_to);
 }
-run_of first counted (Reads.read {failed} {before} {after} room answer reads step e) =
+run_of first {room} counted (Reads.read {n} {before} {after} taken more reads less some step e) =
     let run = run_of first counted reads in
-    let next = run-one before after room answer run.counted step in
-    run-more first before after failed run (subst (RunOf before after) e next)
+    run-more first before after false run (run-one before after (room - taken) (Some more) run.counted step)
+
+-- reads, and then one that ends them
+run_then : (first : MemReading) (room n : ℕ) (answer : Option ℕ) (last : MemReading) → first.calls ≤ 2 ^ 64 - 1
+    → ReadsThen ReadsMem room first n answer last → RunOf first last (is_none answer)
+run_then first room n answer last counted h =
+    let run = run_of first counted h.reads in
+    run-more first h.before last (is_none answer) run (run-one h.before last (room - n) answer run.counted h.ends)
 
 -- so the answer of a whole read is `ReadFault` exactly where a call that it made is named
-pub read_fault_iff : {T : Type 0} (answer : Result T ReadFail) (first last : MemReading) → RunOf first last (is_read_fault answer)
+pub read_fault_iff : (limit : ℕ) (answer : Result (List ℕ) ReadFail) (first last : MemReading) → first.calls ≤ 2 ^ 64 - 1
+    → ReadsWhole ReadsMem limit first answer last
     → IsErrOf answer ReadFault ↔ NamedBetween first.fails first.calls last.calls
-read_fault_iff (Ok text) first last run = ((λ e. cc), (λ h. absurd (run.no_fault refl h)))
-read_fault_iff (Err ReadFault) first last run = ((λ e. run.fault refl), (λ h. refl))
-read_fault_iff (Err TooLong) first last run = ((λ e. cc), (λ h. absurd (run.no_fault refl h)))
-read_fault_iff (Err Memory) first last run = ((λ e. cc), (λ h. absurd (run.no_fault refl h)))
+read_fault_iff limit (Ok text) first last counted h =
+    let run = run_then first (limit + 1) (length text) (Some 0) last counted h in
+    ((λ e. cc), (λ named. absurd (run.no_fault refl named)))
+read_fault_iff limit (Err ReadFault) first last counted h =
+    let run = run_then first (limit + 1) h.0 None last counted h.1 in
+    ((λ e. run.fault refl), (λ named. refl))
+read_fault_iff limit (Err TooLong) first last counted h =
+    let run = run_of first counted h in
+    ((λ e. cc), (λ named. absurd (run.no_fault refl named)))
+read_fault_iff limit (Err (OutOfMemory memory)) first last counted h =
+    ((λ e. cc), (λ named. absurd (omega (arith, named.after, named.up_to, ap (λ (s : MemReading). s.calls) h))))

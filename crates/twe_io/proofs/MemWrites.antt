@@ -79,7 +79,7 @@ module _ (first : MemWriting) (text : List ℕ) (stepping : 1 ≤ first.step) (s
 
   pub took_of : {taken : ℕ} {now : MemWriting} → Writes WritesMem text first taken now → TookOf first text now taken
   took_of Writes.none = TookOf-none
-  took_of (Writes.write {n} {before} {after} taken more writes step e) =
+  took_of (Writes.write {n} {before} {after} taken more writes less some step e) =
       subst (TookOf first text after) e (TookOf-more before after taken more (took_of writes) step)
 
 -- after the calls before the first that fails, these bytes are taken, and it fails where these are not all

@@ -1,12 +1,12 @@
 -- How far a loop over an end has come.
-use Rattle.std.proofs.Common.{◌≡◌, ℕ, ◌+◌, ◌≤◌, List, ◌++◌, Option, Some, false, length, take, drop, refl, sym, ap, ◌∙◌, subst, arith, le_refl, length-drop, length-append, length-take-le, drop_at}
+use Rattle.std.proofs.Common.{◌≡◌, ℕ, ◌+◌, ◌-◌, ◌≤◌, ◌<◌, List, ◌++◌, Option, Some, Result, Ok, Err, OnErr, length, take, drop, refl, sym, ap, ◌∙◌, subst, arith, le_refl, length-drop, length-append, length-take-le, drop_at}
 use Rattle.std.proofs.Math.Seq.{take-add}
 use Rattle.std.proofs.lemmas.List.{take-append-le}
 use Rattle.std.proofs.lemmas.Slice.{take-put_mid_below}
 use Rattle.std.proofs.KnownBytes.{Appends-nil, Appends-trans, Consumes-nil, Consumes-trans}
 use Rattle.std.specs.Io.KnownBytes.{Appends, Consumes}
 use borrow.Rule.Slice.PartMut.{put_mid, post_of}
-use Rattle.twe_io.specs.Runs.{Reads, Writes}
+use Rattle.twe_io.specs.Runs.{Reads, ReadsThen, Writes}
 
 -- a buffer is filled with the bytes that a source gave since it was `first`
 pub record Filled {S : Type 0} (faults : S → ℕ) (left : S → Option (List ℕ)) (gives : S → ℕ → Option ℕ → S → Type 0)
@@ -14,7 +14,7 @@ pub record Filled {S : Type 0} (faults : S → ℕ) (left : S → Option (List �
   pub within : taken ≤ length buffer
   pub given : Consumes (left first) (left now) (take taken buffer)
   pub counts : faults first ≤ faults now
-  pub reads : Reads gives first false now
+  pub reads : Reads gives (length buffer) first taken now
 
 -- a first part of a text is written to a sink since it was `first`
 pub record Sent {S : Type 0} (faults : S → ℕ) (written : S → Option (List ℕ)) (gives : S → List ℕ → Option ℕ → S → Type 0)
@@ -36,16 +36,16 @@ module _ {S : Type 0} (faults : S → ℕ) (written : S → Option (List ℕ)) (
 
   -- one write more
   pub Sent-more : (first now next : S) (text piece : List ℕ) (taken more : ℕ) → Sent faults written gives first now text taken
-      → piece ≡ drop taken text → more ≤ length piece → Appends (written now) (written next) (take more piece)
+      → taken < length text → piece ≡ drop taken text → 0 < more → more ≤ length piece → Appends (written now) (written next) (take more piece)
       → faults now ≤ faults next → gives now piece (Some more) next
       → Sent faults written gives first next text (taken + more)
-  Sent-more first now next text piece taken more sent e fits appended counts step = record {
+  Sent-more first now next text piece taken more sent less e some fits appended counts step = record {
     within = omega (arith, sent.within, subst (λ (p : List ℕ). more ≤ length p) e fits, length-drop taken text);
     appended = subst (Appends (written first) (written next))
         (ap (λ (p : List ℕ). take taken text ++ take more p) e ∙ sym (take-add taken more text))
         (Appends-trans _ _ _ _ _ sent.appended appended);
     counts = omega (arith, sent.counts, counts);
-    writes = Writes.write taken more sent.writes (subst (λ (p : List ℕ). gives now p (Some more) next) e step) refl;
+    writes = Writes.write taken more sent.writes less some (subst (λ (p : List ℕ). gives now p (Some more) next) e step) refl;
   }
 
 -- after a write to the rest of a buffer it is no shorter than its front and that part
@@ -58,7 +58,7 @@ length-put_mid buffer part taken room within =
       length-take-le taken buffer within,
     )
 
--- what was filled, and then the first bytes of the part written behind it
+-- what was filled, and then the first bytes of the part written after it
 take-put_mid_part : (buffer part : List ℕ) (taken room more : ℕ) → taken ≤ length buffer → more ≤ length part
     → take (taken + more) (put_mid taken room buffer part) ≡ take taken buffer ++ take more part
 take-put_mid_part buffer part taken room more within fits =
@@ -80,13 +80,35 @@ module _ {S : Type 0} (faults : S → ℕ) (left : S → Option (List ℕ)) (giv
 
   -- one read more, into the rest of the buffer
   pub Filled-more : (first now next : S) (buffer part : List ℕ) (taken room more asked : ℕ) → Filled faults left gives first now buffer taken
-      → more ≤ length part → Consumes (left now) (left next) (take more part) → faults now ≤ faults next
-      → gives now asked (Some more) next
+      → taken < length buffer → 0 < more → more ≤ length part → Consumes (left now) (left next) (take more part) → faults now ≤ faults next
+      → asked ≡ length buffer - taken → length (put_mid taken room buffer part) ≡ length buffer → gives now asked (Some more) next
       → Filled faults left gives first next (put_mid taken room buffer part) (taken + more)
-  Filled-more first now next buffer part taken room more asked filled fits given counts step = record {
+  Filled-more first now next buffer part taken room more asked filled less some fits given counts room_left same step = record {
     within = omega (arith, fits, length-put_mid buffer part taken room filled.within);
     given = subst (Consumes (left first) (left next)) (sym (take-put_mid_part buffer part taken room more filled.within fits))
         (Consumes-trans _ _ _ _ _ filled.given given);
     counts = omega (arith, filled.counts, counts);
-    reads = Reads.read asked (Some more) filled.reads step refl;
+    reads = subst (λ (n : ℕ). Reads gives n first (taken + more) next) (sym same)
+        (Reads.read taken more filled.reads less some (subst (λ (n : ℕ). gives now n (Some more) next) room_left step) refl);
   }
+
+-- the room has this size
+pub in_room : {S : Type 0} (gives : S → ℕ → Option ℕ → S → Type 0) (room size : ℕ) (first last : S) (n : ℕ) (answer : Option ℕ) → room ≡ size
+    → ReadsThen gives room first n answer last → ReadsThen gives size first n answer last
+in_room gives room size first last n answer same reads = subst (λ (k : ℕ). ReadsThen gives k first n answer last) same reads
+
+-- a buffer was filled so far, and then a read gave nothing or failed
+pub reads_then : {S : Type 0} (faults : S → ℕ) (left : S → Option (List ℕ)) (gives : S → ℕ → Option ℕ → S → Type 0) (size : ℕ) (first before last : S) (buffer : List ℕ)
+    (n asked : ℕ) (answer : Option ℕ) → Filled faults left gives first before buffer n → length buffer ≡ size → n < size
+    → asked ≡ size - n → gives before asked answer last → ReadsThen gives size first n answer last
+reads_then faults left gives size first before last buffer n asked answer filled same less rest ends =
+    in_room gives (length buffer) size first last n answer same (record {
+      before = before;
+      less = omega arith;
+      reads = filled.reads;
+      ends = subst (λ (k : ℕ). gives before k answer last) (omega arith) ends;
+    })
+
+pub on_err : {T E : Type 0} (P : Type 0) (answer : Result T E) → P → OnErr answer P
+on_err P (Ok x) p = tt
+on_err P (Err e) p = p

@@ -3,7 +3,8 @@ use Rattle.std.proofs.Common.{◌≡◌, ◌↔◌, ℕ, ◌+◌, List, [], ◌+
 use Rattle.std.proofs.KnownBytes.{Consumes-nil}
 use Rattle.twe_io.specs.declared.whole.ReadFail.{ReadFail}
 use Rattle.twe_io.specs.declared.whole.ReadFail.TheVariants.{TooLong}
-use Rattle.twe_io.specs.Told.{Gives, GivesLess}
+use Rattle.twe_io.specs.Told.{Gives}
+use Rattle.twe_io.specs.inner.Filling.{GivesLess}
 
 -- a source that gave fewer bytes didn't give that many
 GivesLess-not-Gives : (before after : Option (List ℕ)) (n : ℕ) → GivesLess before after n → IfSome before (λ _. Gives before after n → ⊥)

@@ -1,7 +1,9 @@
 pub mod Faults
+pub mod Lending
 pub mod Told
 pub mod Runs
-pub mod ReadFail
 pub mod Plain
 pub mod Named
 pub mod Memory
+pub mod Standard
+pub mod inner

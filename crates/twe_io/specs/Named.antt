@@ -2,7 +2,7 @@
 use Rattle.std.specs.Prelude.{◌<◌, ◌≤◌, ℕ, List, Contains}
 use Rattle.twe_io.specs.Faults.{one_more}
 
--- one of the calls behind the first `from`, up to the call of number `to`, is named
+-- one of the calls after the first `from`, up to the call of number `to`, is named
 pub record NamedBetween (named : List ℕ) (from to : ℕ) : Type 0 where
   pub number : ℕ
   pub is_named : Contains named number

@@ -11,10 +11,6 @@ Gives before after n = (given : List ℕ) × Consumes before after given × (len
 abbrev pub GivesAtMost : Option (List ℕ) → Option (List ℕ) → ℕ → Type 0
 GivesAtMost before after n = (given : List ℕ) × Consumes before after given × (length given ≤ n)
 
--- the source gave fewer than n bytes
-abbrev pub GivesLess : Option (List ℕ) → Option (List ℕ) → ℕ → Type 0
-GivesLess before after n = (given : List ℕ) × Consumes before after given × (length given < n)
-
 -- the sink took a first part of the text, and not all of it
 abbrev pub TakesPart : Option (List ℕ) → Option (List ℕ) → List ℕ → Type 0
 TakesPart before after text = (n : ℕ) × (n < length text) × Appends before after (take n text)

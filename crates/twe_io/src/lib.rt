@@ -2,12 +2,10 @@
 //!
 //! A program text comes in through a [`Source`] and the answer goes out through a [`Sink`]. This crate has
 //! both traits with the ends that meet them, the two calls that use them, and the lists, places and the one
-//! answer for want of memory. What a text means is left to the crates above.
+//! answer for running out of memory. What a text means is left to the crates above.
 #![tactic(auto)]
 
-mod bytes;
-mod calls;
-mod ints;
+mod list;
 mod mem;
 mod memory;
 mod place;
@@ -18,9 +16,7 @@ mod standard;
 mod whole;
 mod word;
 
-pub use bytes::Bytes;
-pub use calls::Calls;
-pub use ints::Ints;
+pub use list::{Bytes, Calls, Ints, List};
 pub use mem::{MemSink, MemSource};
 pub use memory::{Failed, Memory};
 pub use place::Place;

@@ -1,4 +1,4 @@
-//! The ends in memory that fail on purpose, for whoever wants to see what a fault leaves behind.
+//! The ends in memory that fail on purpose, for whoever wants to see what a fault leaves.
 //!
 //! Both give or take a few bytes a call and fail in the calls that they are told to, by number. What one call leaves
 //! is said by `ReadsMem` and `WritesMem`.

@@ -1,12 +1,43 @@
-//! The answers that carry nothing but their cause: want of memory, and a call of the outside that failed.
+//! The answers that carry nothing but their cause: out of memory, and a call of the outside that failed.
+ghost use Rattle.std.specs.Prelude.{◌≤◌, ◌-◌, ◌^◌};
 
 use std::alloc::{AllocError, AllocFailed};
 use std::error::Error;
 use std::fmt;
 
 /// There was not enough memory. The one answer for it in every crate.
+///
+/// Outside this crate one is made only from an allocation that failed, or of a text whose places cannot be counted.
 #[derive(Clone, Copy, Debug, PartialEq, Eq)]
-pub struct Memory;
+pub struct Memory {
+    shortage: Shortage,
+}
+
+/// What there was not enough of.
+#[derive(Clone, Copy, Debug, PartialEq, Eq)]
+enum Shortage {
+    /// Memory that was asked for.
+    Room,
+    /// Numbers of the type that has to count something.
+    Numbers,
+}
+
+impl Memory {
+    /// A text of so many bytes is too long: its places can't be counted in 32 bits.
+    pub fn of_uncountable(bytes: usize) -> Self
+        requires { 2 ^ 32 - 1 ≤ bytes }
+    {
+        let _ = bytes;
+        Self::of_numbers()
+    }
+
+    /// A number doesn't fit the type that has to hold it.
+    pub(crate) fn of_numbers() -> Self {
+        Memory {
+            shortage: Shortage::Numbers,
+        }
+    }
+}
 
 impl fmt::Display for Memory {
     fn fmt<W: fmt::Write>(&self, f: &mut fmt::Formatter<W>) -> fmt::Result {
@@ -18,13 +49,17 @@ impl Error for Memory {}
 
 impl From<AllocError> for Memory {
     fn from(_: AllocError) -> Self {
-        Memory
+        Memory {
+            shortage: Shortage::Room,
+        }
     }
 }
 
 impl<T: Drop> From<AllocFailed<T>> for Memory {
     fn from(_: AllocFailed<T>) -> Self {
-        Memory
+        Memory {
+            shortage: Shortage::Room,
+        }
     }
 }
 

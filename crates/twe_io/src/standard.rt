@@ -4,19 +4,24 @@ ghost use Rattle.std.specs.Prelude.{◌≡◌};
 use crate::{Failed, Sink, Source};
 use std::io::{Read, Write};
 
-/// A stream that is read. It counts the reads that failed, and tells no content.
+/// A stream that is read. It counts the bytes given and the reads that failed, and tells no content.
 #[derive(Drop)]
 pub struct StdSource<R: Read> {
     stream: R,
+    given: u64,
     faults: u64,
 }
 
 impl<R: Read> StdSource<R> {
-    /// A source over a stream, with no faults. It takes no memory.
+    /// A source over a stream, which has given nothing, with no faults. It takes no memory.
     pub fn new(stream: R) -> Self
         ensures { ⟦<StdSource<R> as Source>⟧.faults result ≡ 0 }
     {
-        StdSource { stream, faults: 0 }
+        StdSource {
+            stream,
+            given: 0,
+            faults: 0,
+        }
     }
 }
 
@@ -27,9 +32,18 @@ impl<R: Read> Source for StdSource<R> {
 
     ghost left = { λ _. None };
 
+    ghost use Rattle.std.specs.Prelude.{◌≡◌};
+    ghost use Rattle.twe_io.specs.Standard.{counted, counted_after};
+
+    ghost read_gives = { λ before room answer after.
+        counted after.given after.faults ≡ counted_after (counted before.given before.faults) answer };
+
     fn read(&mut self, buffer: &mut [u8]) -> Result<usize, Failed> {
         match self.stream.read(buffer) {
-            Ok(given) => Ok(given),
+            Ok(given) => {
+                self.given = self.given.saturating_add(given as u64);
+                Ok(given)
+            }
             Err(_) => {
                 self.faults = self.faults.saturating_add(1);
                 Err(Failed)
@@ -38,19 +52,25 @@ impl<R: Read> Source for StdSource<R> {
     }
 }
 
-/// A stream that is written to. It counts the writes that failed or took nothing, and tells no content.
+/// A stream that is written to. It counts the bytes taken and the writes that failed or took nothing, and tells no
+/// content.
 #[derive(Drop)]
 pub struct StdSink<W: Write> {
     stream: W,
+    taken: u64,
     faults: u64,
 }
 
 impl<W: Write> StdSink<W> {
-    /// A sink over a stream, with no faults. It takes no memory.
+    /// A sink over a stream, which has taken nothing, with no faults. It takes no memory.
     pub fn new(stream: W) -> Self
         ensures { ⟦<StdSink<W> as Sink>⟧.faults result ≡ 0 }
     {
-        StdSink { stream, faults: 0 }
+        StdSink {
+            stream,
+            taken: 0,
+            faults: 0,
+        }
     }
 }
 
@@ -61,9 +81,18 @@ impl<W: Write> Sink for StdSink<W> {
 
     ghost written = { λ _. None };
 
+    ghost use Rattle.std.specs.Prelude.{◌≡◌};
+    ghost use Rattle.twe_io.specs.Standard.{counted, counted_after};
+
+    ghost write_gives = { λ before piece answer after.
+        counted after.taken after.faults ≡ counted_after (counted before.taken before.faults) answer };
+
     fn write(&mut self, piece: &[u8]) -> Result<usize, Failed> {
         match self.stream.write(piece) {
-            Ok(taken) if taken > 0 => Ok(taken),
+            Ok(taken) if taken > 0 => {
+                self.taken = self.taken.saturating_add(taken as u64);
+                Ok(taken)
+            }
             _ => {
                 self.faults = self.faults.saturating_add(1);
                 Err(Failed)

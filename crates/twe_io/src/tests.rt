@@ -94,12 +94,14 @@ fn a_text_of_a_byte_more_than_the_limit_is_too_long(rt: HostRuntime) -> Result<(
         (1, 0, Some(ReadFail::TooLong)),
         (5, 4, Some(ReadFail::TooLong)),
         (5, 5, None),
-        (5, usize::MAX, Some(ReadFail::Memory)),
     ] {
         let mut source = PlainSource::new(Bytes::from_slice(rt.alloc(), &READ[..length])?);
         let answer = read_all(rt.alloc(), &mut source, limit);
         assert_eq!(rt; answer.err(), wanted, "{length} bytes, at most {limit}");
     }
+    let mut source = PlainSource::new(Bytes::from_slice(rt.alloc(), READ)?);
+    let answer = read_all(rt.alloc(), &mut source, usize::MAX);
+    assert!(rt; matches!(answer, Err(ReadFail::OutOfMemory(_))));
     Ok(())
 }
 
@@ -158,6 +160,12 @@ fn lists_and_words_keep_what_they_are_given(rt: HostRuntime) -> Result<(), Fail>
         [-7, 0, 7].as_slice()
     );
     assert_eq!(rt; (numbers.len(), numbers.is_empty()), (3, false));
+    *numbers.item_mut(1) = 9;
+    numbers.set(2, 8);
+    assert_eq!(rt;
+        (numbers.pop(), numbers.get(1).copied()),
+        (Some(8), Some(9))
+    );
     let mut word = Word::from_text(rt.alloc(), "tas")?;
     word.push_text("k")?;
     assert_eq!(rt; AsStr::as_str(&word), "task");

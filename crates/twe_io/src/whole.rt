@@ -1,12 +1,11 @@
 //! A whole text from a source, and a whole text to a sink.
 ghost use Rattle.std.specs.Prelude.{◌≡◌, ◌↔◌, ◌+◌, ◌<◌, ◌≤◌, length, take, OnOk, OnErr, IfOk, IfSome, IsErrOf, vec_len};
-ghost use Rattle.std.specs.Result.{is_err};
 ghost use Rattle.std.specs.Io.KnownBytes.{Appends, Consumes, IsAtEnd};
 ghost use Rattle.twe_io.specs.Faults.{Rose};
-ghost use Rattle.twe_io.specs.Told.{Gives, GivesAtMost, GivesLess, TakesPart};
-ghost use Rattle.twe_io.specs.Runs.{Reads, WritesWhole};
-ghost use Rattle.twe_io.specs.ReadFail.{is_read_fault};
-ghost use Rattle.twe_io.specs.declared.whole.ReadFail.TheVariants.{ReadFault, Memory as NoMemory};
+ghost use Rattle.twe_io.specs.Told.{Gives, GivesAtMost, TakesPart};
+ghost use Rattle.twe_io.specs.Runs.{ReadsWhole, WritesWhole};
+ghost use Rattle.twe_io.specs.inner.Filling.{FillsUp, BreaksOff, GivesLess};
+ghost use Rattle.twe_io.specs.declared.whole.ReadFail.TheVariants.{ReadFault, OutOfMemory};
 
 use crate::{Bytes, Failed, Memory, Sink, Source};
 use std::alloc::Global;
@@ -18,8 +17,8 @@ pub enum ReadFail {
     ReadFault,
     /// There are more bytes than the limit.
     TooLong,
-    /// There was not enough memory.
-    Memory,
+    /// There was not enough memory for a byte more than the limit.
+    OutOfMemory(Memory),
 }
 
 /// A write failed.
@@ -27,10 +26,10 @@ pub enum ReadFail {
 pub struct WriteFault;
 
 impl From<Memory> for ReadFail {
-    ghost from_gives = { λ _ fail. fail ≡ NoMemory };
+    ghost from_gives = { λ memory fail. fail ≡ OutOfMemory memory };
 
-    fn from(_: Memory) -> Self {
-        ReadFail::Memory
+    fn from(memory: Memory) -> Self {
+        ReadFail::OutOfMemory(memory)
     }
 }
 
@@ -50,9 +49,9 @@ impl From<Failed> for WriteFault {
 
 /// All bytes that are left of a source, if there are no more than `limit`.
 ///
-/// It takes its memory, `limit + 1` bytes, before the first read, so after `Memory` nothing was taken; a limit of
-/// `usize::MAX` is `Memory` too. Each read but the last gives a byte at least. After `TooLong` exactly `limit + 1`
-/// bytes were taken, and after `ReadFault` those taken before the fault are lost.
+/// It takes its memory, `limit + 1` bytes, before the first read, so after `OutOfMemory` nothing was taken; a limit of
+/// `usize::MAX` is `OutOfMemory` too. Each read but the last gives a byte at least. `TooLong` comes exactly where
+/// `limit + 1` bytes were taken, and after `ReadFault` those taken before the fault are lost.
 pub fn read_all<S: Source>(alloc: Global, source: &mut S, limit: usize) -> Result<Bytes, ReadFail>
     ensures whole { IfOk result (λ text. IfSome (S.left source.old) (λ left. text ≡ left)) }
     ensures ended { OnOk result (IsAtEnd (S.left source.new)) }
@@ -61,11 +60,11 @@ pub fn read_all<S: Source>(alloc: Global, source: &mut S, limit: usize) -> Resul
     ensures fault { IsErrOf result ReadFail.ReadFault → Rose (S.faults source.old) (S.faults source.new) }
     ensures too_long { IfSome (S.left source.old) (λ _.
         IsErrOf result ReadFail.TooLong ↔ Gives (S.left source.old) (S.left source.new) (limit + 1)) }
-    ensures memory { IsErrOf result ReadFail.Memory → source.new ≡ source.old }
 
     ensures taken { GivesAtMost (S.left source.old) (S.left source.new) (limit + 1) }
     ensures counts { S.faults source.old ≤ S.faults source.new }
-    ensures reads { Reads S.read_gives source.old (is_read_fault result) source.new }
+    // Which reads were made, and how they ended.
+    ensures reads { ReadsWhole S.read_gives limit source.old result source.new }
 {
     let mut buffer = buffer_for(alloc, limit)?;
     let taken = fill(source, &mut buffer)?;
@@ -80,7 +79,9 @@ pub fn read_all<S: Source>(alloc: Global, source: &mut S, limit: usize) -> Resul
 fn buffer_for(alloc: Global, limit: usize) -> Result<Vec<u8>, Memory>
     ensures { IfOk result (λ buffer. vec_len buffer ≡ limit + 1) }
 {
-    let size = limit.checked_add(1).ok_or(Memory)?;
+    let Some(size) = limit.checked_add(1) else {
+        return Err(Memory::of_numbers());
+    };
     Ok(vec![in alloc; 0; size]?)
 }
 
@@ -93,7 +94,8 @@ fn fill<S: Source>(source: &mut S, buffer: &mut [u8]) -> Result<usize, Failed>
     ensures lost { OnErr result (GivesLess (S.left source.old) (S.left source.new) (length buffer.old)) }
     ensures fault { OnErr result (Rose (S.faults source.old) (S.faults source.new)) }
     ensures counts { S.faults source.old ≤ S.faults source.new }
-    ensures reads { Reads S.read_gives source.old (is_err result) source.new }
+    ensures reads { IfOk result (λ n. FillsUp S.read_gives (length buffer.old) source.old n source.new) }
+    ensures broken { OnErr result (BreaksOff S.read_gives (length buffer.old) source.old source.new) }
 {
     let mut taken = 0;
     while taken < buffer.len() {

@@ -72,7 +72,7 @@ impl Word {
         self.text.as_bytes()
     }
 
-    /// Puts a text behind this one. After `Memory` the word is as before.
+    /// Puts a text after this one. After `Memory` the word is as before.
     pub fn push_text(&mut self, text: &str) -> Result<(), Memory>
         ensures ok { OnOk result (self.new ≡ self.old ++ text.now) }
         ensures err { OnErr result (self.new ≡ self.old) }

@@ -1,7 +1,8 @@
 //! What a whole read and a whole write leave of the ends in memory, by the numbers of the calls that fail.
-ghost use Rattle.std.specs.Prelude.{◌≡◌, ◌↔◌, ◌<◌, ◌+◌, ◌-◌, ◌*◌, ℕ, ◌++◌, length, take, min, IfOk, OnOk, OnErr, IsErr, IsErrOf};
+ghost use Rattle.std.specs.Prelude.{◌≡◌, ◌↔◌, ◌<◌, ◌≤◌, ◌+◌, ◌-◌, ◌*◌, ℕ, ◌++◌, length, take, min, IfOk, OnOk, OnErr, IsErr, IsErrOf};
 ghost use Rattle.twe_io.specs.Named.{NamedBetween};
-ghost use Rattle.twe_io.specs.Memory.{left_of, IsFirstUse};
+ghost use Rattle.twe_io.specs.Memory.{left_of, ReadsMem, WritesMem, IsFirstUse};
+ghost use Rattle.twe_io.specs.Runs.{ReadsWhole, WritesWhole};
 
 use super::{MemSink, MemSource};
 use crate::{Bytes, ReadFail, WriteFault};
@@ -12,9 +13,12 @@ impl MemSource {
     /// named to fail.
     pub fn read_all(&mut self, alloc: Global, limit: usize) -> Result<Bytes, ReadFail>
         ensures whole { IfOk result (λ text. text ≡ left_of self.old) }
+        ensures short { IfOk result (λ text. length text ≤ limit) }
         ensures fault { IsErrOf result ReadFail.ReadFault ↔ NamedBetween self.old.fails self.old.calls self.new.calls }
         ensures too_long { IsErrOf result ReadFail.TooLong
             ↔ (length (left_of self.old) ≡ length (left_of self.new) + (limit + 1)) }
+        // Which reads were made, each as `ReadsMem` says: so what stands in the source after them.
+        ensures reads { ReadsWhole ReadsMem limit self.old result self.new }
     {
         let _ = &self.calls;
         crate::read_all(alloc, self, limit)
@@ -34,6 +38,8 @@ impl MemSink {
             ++ take (min (length text.now) ((first - 1) * self.old.step)) text.now }
         ensures fault { (first : ℕ) → IsFirstUse self.old text.now first →
             (IsErr result ↔ ((first - 1) * self.old.step < length text.now)) }
+        // Which writes were made, each as `WritesMem` says: so what stands in the sink after them.
+        ensures writes { WritesWhole WritesMem text.now self.old result self.new }
     {
         let _ = &self.step;
         crate::write_whole(self, text)

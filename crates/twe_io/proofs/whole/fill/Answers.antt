@@ -1,6 +1,6 @@
-use Rattle.std.proofs.Common.{None, refl, rules}
-use Rattle.twe_io.specs.Runs.{Reads}
-use Rattle.twe_io.proofs.Progress.{Filled-none, Filled-more}
+use Rattle.std.proofs.Common.{rules, inr, arith, length}
+use Rattle.twe_io.specs.inner.Filling.{BreaksOff}
+use Rattle.twe_io.proofs.Progress.{Filled-none, Filled-more, reads_then, on_err}
 use Rattle.twe_io.proofs.whole.fill.Goals as goal
 
 pub loop-taken-init : goal.loop-taken-init
@@ -9,10 +9,14 @@ loop-taken-init g c = Filled-none _ _ _ _ _
 pub loop-taken-preserved : goal.loop-taken-preserved
 loop-taken-preserved g c =
     let said = c.in_ok-given.ensures in
-    Filled-more _ _ _ _ _ _ _ _ _ _ _ _ c.loop-taken.invariant (search rules) said.given said.counts said.gives
+    Filled-more _ _ _ _ _ _ _ _ _ _ _ _ c.loop-taken.invariant (omega arith) (omega arith) (search rules) said.given said.counts (search rules) (search rules) said.gives
 
-pub returns-in_err-given-clause-reads : goal.returns-in_err-given-clause-reads
-returns-in_err-given-clause-reads g c = Reads.read _ None c.loop-taken.invariant.reads c.in_err-given.ensures.gives (search rules)
+pub returns-in_err-given-clause-broken : goal.returns-in_err-given-clause-broken
+returns-in_err-given-clause-broken g c =
+    let broken : BreaksOff g.S.Source.read_gives (length c.args.buffer.now) c.args.source.now c.read.new.self =
+    (c.loop-taken.taken, reads_then _ _ _ _ _ _ _ _ _ _ _ c.loop-taken.invariant (search rules) (omega arith) (search rules) c.in_err-given.ensures.gives) in
+    on_err _ _ broken
 
 pub returns-then-given-eq0-clause-reads : goal.returns-then-given-eq0-clause-reads
-returns-then-given-eq0-clause-reads g c = Reads.read _ _ c.loop-taken.invariant.reads c.in_ok-given.ensures.gives refl
+returns-then-given-eq0-clause-reads g c =
+    inr (rw (← c.if-given-eq0.true) (reads_then _ _ _ _ _ _ _ _ _ _ _ c.loop-taken.invariant (search rules) (omega arith) (search rules) c.in_ok-given.ensures.gives))

@@ -1,0 +1,16 @@
+-- How the filling of a buffer went.
+use Rattle.std.specs.Prelude.{◌≡◌, ◌⊎◌, ◌<◌, ℕ, List, length, Option, None, Some}
+use Rattle.std.specs.Io.KnownBytes.{Consumes}
+use Rattle.twe_io.specs.Runs.{Reads, ReadsThen}
+
+-- n bytes were given, until the buffer was full or a read gave nothing
+abbrev pub FillsUp : {S : Type 0} → (S → ℕ → Option ℕ → S → Type 0) → ℕ → S → ℕ → S → Type 0
+FillsUp gives room first n last = ((n ≡ room) × Reads gives room first n last) ⊎ ReadsThen gives room first n (Some 0) last
+
+-- a read failed before the buffer was full
+abbrev pub BreaksOff : {S : Type 0} → (S → ℕ → Option ℕ → S → Type 0) → ℕ → S → S → Type 0
+BreaksOff gives room first last = (n : ℕ) × ReadsThen gives room first n None last
+
+-- the source gave fewer than n bytes
+abbrev pub GivesLess : Option (List ℕ) → Option (List ℕ) → ℕ → Type 0
+GivesLess before after n = (given : List ℕ) × Consumes before after given × (length given < n)
