@@ -1,0 +1,26 @@
+-- An expression, as contracts see it: a tree.
+use Rattle.std.specs.Prelude.{ℕ, ℤ, Bool}
+use Rattle.twe_io.specs.declared.place.Place.{Place}
+use Rattle.twe_program.specs.declared.expr.BinOp.{BinOp}
+
+mutual
+  pub data Expression : Type 0 where
+    -- a literal, or one of the two truth values
+    Literal : (value : ℤ) → Expression
+    Truth : (value : Bool) → Expression
+    -- the value of a parameter or a local; it is fixed where it is a parameter or a `final int` local
+    Variable : (var : ℕ) (fixed : Bool) → Expression
+    -- the value of a cell, of an element of an array, or of an element of a grid
+    CellValue : (cell : ℕ) (place : Place) → Expression
+    ArrayElement : (array : ℕ) (index : Expression) (place : Place) → Expression
+    GridElement : (array : ℕ) (row column : Expression) (place : Place) → Expression
+    -- what a method returns
+    CallValue : (method : ℕ) (args : Arguments) (place : Place) → Expression
+    Negative : (operand : Expression) → Expression
+    Negation : (operand : Expression) → Expression
+    Binary : (op : BinOp) (left right : Expression) (place : Place) → Expression
+
+  -- the arguments of a call, from the left
+  pub data Arguments : Type 0 where
+    no_more : Arguments
+    argument : (first : Expression) (others : Arguments) → Arguments

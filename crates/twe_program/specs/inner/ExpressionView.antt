@@ -1,0 +1,21 @@
+-- The expression that a node of the program stands for.
+use Rattle.std.specs.Prelude.{List, [], ◌∷◌, None, Some}
+use Rattle.twe_program.specs.Expression.{Expression, Literal, Truth, Variable, CellValue, ArrayElement, GridElement, CallValue, Negative, Negation, Binary, Arguments, no_more, argument}
+use Rattle.twe_program.specs.declared.expr.ExprKind.{ExprKind}
+use Rattle.twe_program.specs.declared.expr.ExprKind.TheVariants as kinds
+
+abbrev pub arguments_of : List Expression → Arguments
+arguments_of [] = no_more
+arguments_of (first ∷ others) = argument first (arguments_of others)
+
+abbrev pub expression_of : ExprKind → Expression
+expression_of (kinds.Lit value) = Literal value
+expression_of (kinds.Truth value) = Truth value
+expression_of (kinds.Var var fixed) = Variable var fixed
+expression_of (kinds.Cell cell place) = CellValue cell place
+expression_of (kinds.At array index None place) = ArrayElement array index.value place
+expression_of (kinds.At array index (Some second) place) = GridElement array index.value second.value place
+expression_of (kinds.Call method args place) = CallValue method args place
+expression_of (kinds.Neg operand) = Negative operand.value
+expression_of (kinds.Not operand) = Negation operand.value
+expression_of (kinds.Bin op left right place) = Binary op left.value right.value place

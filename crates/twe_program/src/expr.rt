@@ -1,0 +1,161 @@
+//! Expressions. Contracts see one as an `Expression`, a tree without its places in memory.
+ghost use Rattle.std.specs.Prelude.{◌≡◌, IfOk, List};
+ghost use Rattle.twe_program.specs.Expression.{Literal};
+
+use std::alloc::Global;
+use std::marker::Model;
+use twe_io::{Memory, Place};
+
+/// An operator with two operands.
+#[derive(Clone, Copy, Debug, PartialEq, Eq)]
+pub enum BinOp {
+    /// Whether one of the two is true; the right one is evaluated only where the left one is false.
+    Or,
+    /// Whether both are true; the right one is evaluated only where the left one is true.
+    And,
+    /// Whether the two are equal.
+    Equal,
+    /// Whether the two differ.
+    NotEqual,
+    /// Whether the left one is less.
+    Less,
+    /// Whether the left one is less or equal.
+    LessEqual,
+    /// Whether the left one is greater.
+    Greater,
+    /// Whether the left one is greater or equal.
+    GreaterEqual,
+    /// The sum, which wraps in 32 bits.
+    Add,
+    /// The difference, which wraps in 32 bits.
+    Sub,
+    /// The product, which wraps in 32 bits.
+    Mul,
+    /// The quotient, rounded toward zero.
+    Div,
+    /// The remainder, with the sign of the dividend.
+    Rem,
+}
+
+/// An expression.
+#[cycle(expr)]
+#[derive(Debug, Drop)]
+pub struct Expr {
+    /// What the expression is.
+    pub kind: ExprKind,
+}
+
+/// The arguments of a call, from the left.
+#[cycle(expr)]
+#[derive(Debug, Drop)]
+pub struct Args {
+    /// The expressions.
+    pub items: Vec<Expr>,
+}
+
+/// What an expression is.
+#[cycle(expr)]
+#[derive(Debug, Drop)]
+pub enum ExprKind {
+    /// A literal.
+    Lit(i32),
+    /// A truth value.
+    Truth(bool),
+    /// The value of a parameter or a local.
+    Var {
+        /// Its number.
+        var: u32,
+        /// Whether it is a parameter or a `final int` local.
+        fixed: bool,
+    },
+    /// The value of a cell.
+    Cell {
+        /// The number of the cell.
+        cell: u32,
+        /// The place of its name.
+        place: Place,
+    },
+    /// The value of an element of an array or of a grid.
+    At {
+        /// The number of the declaration of the array or grid among the cells' declarations.
+        array: u32,
+        /// The index, or the row.
+        index: Box<Expr>,
+        /// The column, for a grid.
+        second: Option<Box<Expr>>,
+        /// The place of the array's name.
+        place: Place,
+    },
+    /// What a method returns.
+    Call {
+        /// The number of the method.
+        method: u32,
+        /// The arguments.
+        args: Args,
+        /// The place of the method's name.
+        place: Place,
+    },
+    /// The negative of a number, which wraps in 32 bits.
+    Neg(Box<Expr>),
+    /// The negation of a truth value.
+    Not(Box<Expr>),
+    /// An operator and its operands.
+    Bin {
+        /// The operator.
+        op: BinOp,
+        /// The operand before it.
+        left: Box<Expr>,
+        /// The operand after it.
+        right: Box<Expr>,
+        /// The place of the operator.
+        place: Place,
+    },
+}
+
+impl Model for Expr {
+    ghost use Rattle.twe_program.specs.Expression.{Expression};
+    ghost use Rattle.twe_program.specs.inner.ExpressionCode.{expression_code};
+    ghost use Rattle.twe_program.specs.inner.ExpressionSize.{depth};
+
+    ghost Value = { Expression };
+
+    ghost coded = { expression_code };
+
+    ghost use Rattle.twe_program.specs.inner.ExpressionView.{expression_of};
+
+    ghost view = { λ e. expression_of e.kind };
+
+    ghost size = { depth };
+}
+
+impl Model for Args {
+    ghost use Rattle.twe_program.specs.Expression.{Arguments};
+    ghost use Rattle.twe_program.specs.inner.ExpressionCode.{arguments_code};
+    ghost use Rattle.twe_program.specs.inner.ExpressionSize.{depth_of_all};
+
+    ghost Value = { Arguments };
+
+    ghost coded = { arguments_code };
+
+    ghost use Rattle.twe_program.specs.inner.ExpressionView.{arguments_of};
+
+    ghost view = { λ args. arguments_of args.items.items };
+
+    ghost size = { depth_of_all };
+
+    ghost use Rattle.std.proofs.Common.{arith};
+    ghost use Rattle.twe_program.specs.inner.ArgumentsSize.{most_deep};
+
+    ghost size_decreases = { λ args h. Prim.omega (arith, most_deep args.items.items) };
+}
+
+impl Expr {
+    /// A literal.
+    pub fn literal(value: i32) -> Expr
+        ensures { result ≡ Literal value }
+    {
+        Expr {
+            kind: ExprKind::Lit(value),
+        }
+    }
+}
