@@ -1,6 +1,6 @@
 //! Expressions. Contracts see one as an `Expression`, a tree without its places in memory.
-ghost use Rattle.std.specs.Prelude.{◌≡◌, IfOk, List};
-ghost use Rattle.twe_program.specs.Expression.{Literal};
+ghost use Rattle.std.specs.Prelude.{◌≡◌, IfOk};
+ghost use Rattle.twe_program.specs.Expression.{Literal, CellValue, Binary};
 
 use std::alloc::Global;
 use std::marker::Model;
@@ -70,14 +70,14 @@ pub enum ExprKind {
     },
     /// The value of a cell.
     Cell {
-        /// The number of the cell.
+        /// The number of its declaration among those of the cells.
         cell: u32,
         /// The place of its name.
         place: Place,
     },
     /// The value of an element of an array or of a grid.
     At {
-        /// The number of the declaration of the array or grid among the cells' declarations.
+        /// The number of its declaration among those of the cells.
         array: u32,
         /// The index, or the row.
         index: Box<Expr>,
@@ -157,5 +157,35 @@ impl Expr {
         Expr {
             kind: ExprKind::Lit(value),
         }
+    }
+
+    /// The value of a cell.
+    pub fn cell(cell: u32, place: Place) -> Expr
+        ensures { result ≡ CellValue cell place }
+    {
+        Expr {
+            kind: ExprKind::Cell { cell, place },
+        }
+    }
+
+    /// An operator with its operands.
+    pub fn binary(
+        alloc: Global,
+        op: BinOp,
+        left: Expr,
+        right: Expr,
+        place: Place,
+    ) -> Result<Expr, Memory>
+        ensures { IfOk result (λ e. e ≡ Binary op left right place) }
+    {
+        let left = Box::new(alloc, left)?;
+        let right = Box::new(alloc, right)?;
+        let kind = ExprKind::Bin {
+            op,
+            left,
+            right,
+            place,
+        };
+        Ok(Expr { kind })
     }
 }

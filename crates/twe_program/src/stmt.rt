@@ -64,7 +64,7 @@ pub enum StmtKind {
     },
     /// The assignment of a value to a cell.
     SetCell {
-        /// The number of the cell.
+        /// The number of its declaration among those of the cells.
         cell: u32,
         /// The value.
         value: Expr,
@@ -73,7 +73,7 @@ pub enum StmtKind {
     },
     /// The assignment of a value to an element of an array or of a grid.
     SetAt {
-        /// The number of the declaration of the array or grid among the cells' declarations.
+        /// The number of its declaration among those of the cells.
         array: u32,
         /// The index, or the row.
         index: Expr,

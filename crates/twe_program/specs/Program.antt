@@ -1,0 +1,28 @@
+-- A resolved program, as contracts see it.
+use Rattle.std.specs.Prelude.{ℕ, ◌*◌, List, sum_by}
+use Rattle.twe_program.specs.declared.program.Dims.{Dims}
+use Rattle.twe_program.specs.declared.program.Dims.TheVariants.{Scalar, Row, Grid}
+use Rattle.twe_program.specs.declared.program.CellDecl.{CellDecl}
+use Rattle.twe_program.specs.declared.program.Decl.{Decl}
+
+-- the names of the regions, the declarations of cells, methods and tasks, and the number of the task `main`
+pub record Program : Type 0 where
+  pub regions : List (List ℕ)
+  pub cells : List CellDecl
+  pub methods : List Decl
+  pub tasks : List Decl
+  pub main : ℕ
+
+-- how many cells a declaration makes: an array one for each element, and a grid for each element of each row
+abbrev pub size_of : Dims → ℕ
+size_of Scalar = 1
+size_of (Row count) = count
+size_of (Grid rows columns) = rows * columns
+
+-- how many cells the declarations make together
+abbrev pub cells_made : List CellDecl → ℕ
+cells_made cells = sum_by (λ cell. size_of cell.dims) cells
+
+-- how many cells the program has
+abbrev pub cell_count : Program → ℕ
+cell_count p = cells_made p.cells
