@@ -1,5 +1,5 @@
 -- An expression, as contracts see it: a tree.
-use Rattle.std.specs.Prelude.{ℕ, ℤ, Bool}
+use Rattle.std.specs.Prelude.{ℕ, ℤ, Bool, List, [], ◌∷◌}
 use Rattle.twe_io.specs.declared.place.Place.{Place}
 use Rattle.twe_program.specs.declared.expr.BinOp.{BinOp}
 
@@ -24,3 +24,8 @@ mutual
   pub data Arguments : Type 0 where
     no_more : Arguments
     argument : (first : Expression) (others : Arguments) → Arguments
+
+-- these expressions, as arguments
+abbrev pub arguments_of : List Expression → Arguments
+arguments_of [] = no_more
+arguments_of (first ∷ others) = argument first (arguments_of others)

@@ -1,6 +1,6 @@
 -- A statement, as contracts see it: a tree. `point` is the number of the point just before it; that of a `while` is
 -- just before each test of its condition.
-use Rattle.std.specs.Prelude.{ℕ, Bool, Option}
+use Rattle.std.specs.Prelude.{ℕ, Bool, Option, List, [], ◌∷◌}
 use Rattle.twe_io.specs.declared.place.Place.{Place}
 use Rattle.twe_program.specs.Expression.{Expression, Arguments}
 
@@ -35,3 +35,8 @@ mutual
     arm : (condition : Expression) (body : Statements) (others : Arms) → Arms
     otherwise : (body : Statements) → Arms
     no_else : Arms
+
+-- these statements, as those of a block
+abbrev pub statements_of : List Statement → Statements
+statements_of [] = no_more
+statements_of (first ∷ others) = statement first (statements_of others)

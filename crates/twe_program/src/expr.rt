@@ -129,15 +129,13 @@ impl Model for Expr {
 }
 
 impl Model for Args {
-    ghost use Rattle.twe_program.specs.Expression.{Arguments};
+    ghost use Rattle.twe_program.specs.Expression.{Arguments, arguments_of};
     ghost use Rattle.twe_program.specs.inner.ExpressionCode.{arguments_code};
     ghost use Rattle.twe_program.specs.inner.ExpressionSize.{depth_of_all};
 
     ghost Value = { Arguments };
 
     ghost coded = { arguments_code };
-
-    ghost use Rattle.twe_program.specs.inner.ExpressionView.{arguments_of};
 
     ghost view = { λ args. arguments_of args.items.items };
 

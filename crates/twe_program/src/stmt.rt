@@ -158,15 +158,13 @@ impl Model for Stmt {
 }
 
 impl Model for Block {
-    ghost use Rattle.twe_program.specs.Statement.{Statements};
+    ghost use Rattle.twe_program.specs.Statement.{Statements, statements_of};
     ghost use Rattle.twe_program.specs.inner.StatementCode.{statements_code};
     ghost use Rattle.twe_program.specs.inner.StatementSize.{depth_of_all};
 
     ghost Value = { Statements };
 
     ghost coded = { statements_code };
-
-    ghost use Rattle.twe_program.specs.inner.StatementView.{statements_of};
 
     ghost view = { λ block. statements_of block.stmts.items };
 

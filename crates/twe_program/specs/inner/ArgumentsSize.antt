@@ -1,9 +1,8 @@
 -- Each argument is less deep than all together.
 use Rattle.std.specs.Prelude.{◌+◌, ◌≤◌, List, [], ◌∷◌}
 use Rattle.std.proofs.Common.{arith}
-use Rattle.twe_program.specs.Expression.{Expression}
+use Rattle.twe_program.specs.Expression.{Expression, arguments_of}
 use Rattle.twe_program.specs.inner.ExpressionSize.{depth, depth_of_all}
-use Rattle.twe_program.specs.inner.ExpressionView.{arguments_of}
 use denote.Param.Weighed.{most}
 
 pub most_deep : (items : List Expression) → most (λ e. depth e + 1) items ≤ depth_of_all (arguments_of items)

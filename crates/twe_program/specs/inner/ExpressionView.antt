@@ -1,12 +1,8 @@
 -- The expression that a node of the program stands for.
-use Rattle.std.specs.Prelude.{List, [], ◌∷◌, None, Some}
-use Rattle.twe_program.specs.Expression.{Expression, Literal, Truth, Variable, CellValue, ArrayElement, GridElement, CallValue, Negative, Negation, Binary, Arguments, no_more, argument}
+use Rattle.std.specs.Prelude.{None, Some}
+use Rattle.twe_program.specs.Expression.{Expression, Literal, Truth, Variable, CellValue, ArrayElement, GridElement, CallValue, Negative, Negation, Binary}
 use Rattle.twe_program.specs.declared.expr.ExprKind.{ExprKind}
 use Rattle.twe_program.specs.declared.expr.ExprKind.TheVariants as kinds
-
-abbrev pub arguments_of : List Expression → Arguments
-arguments_of [] = no_more
-arguments_of (first ∷ others) = argument first (arguments_of others)
 
 abbrev pub expression_of : ExprKind → Expression
 expression_of (kinds.Lit value) = Literal value

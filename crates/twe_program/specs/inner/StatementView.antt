@@ -1,14 +1,10 @@
 -- The statement that a node of the program stands for.
 use Rattle.std.specs.Prelude.{ℕ, List, [], ◌∷◌, Option, None, Some}
 use Rattle.twe_program.specs.Statement as seen
-use Rattle.twe_program.specs.Statement.{Statement, Statements, no_more, statement, Arms, arm, otherwise, no_else}
+use Rattle.twe_program.specs.Statement.{Statement, Statements, Arms, arm, otherwise, no_else}
 use Rattle.twe_program.specs.declared.stmt.Arm.{Arm}
 use Rattle.twe_program.specs.declared.stmt.StmtKind.{StmtKind}
 use Rattle.twe_program.specs.declared.stmt.StmtKind.TheVariants as kinds
-
-abbrev pub statements_of : List Statement → Statements
-statements_of [] = no_more
-statements_of (first ∷ others) = statement first (statements_of others)
 
 abbrev pub last_of : Option Statements → Arms
 last_of None = no_else

@@ -1,9 +1,8 @@
 -- Each statement is less deep than the block that it stands in.
 use Rattle.std.specs.Prelude.{◌+◌, ◌≤◌, List, [], ◌∷◌}
 use Rattle.std.proofs.Common.{arith}
-use Rattle.twe_program.specs.Statement.{Statement}
+use Rattle.twe_program.specs.Statement.{Statement, statements_of}
 use Rattle.twe_program.specs.inner.StatementSize.{depth, depth_of_all}
-use Rattle.twe_program.specs.inner.StatementView.{statements_of}
 use denote.Param.Weighed.{most}
 
 pub most_deep : (items : List Statement) → most (λ s. depth s + 1) items ≤ depth_of_all (statements_of items)
