@@ -1,5 +1,5 @@
 -- A resolved program, as contracts see it.
-use Rattle.std.specs.Prelude.{ℕ, ◌*◌, List, sum_by}
+use Rattle.std.specs.Prelude.{ℕ, ◌+◌, ◌*◌, List, [], ◌∷◌}
 use Rattle.twe_program.specs.declared.program.Dims.{Dims}
 use Rattle.twe_program.specs.declared.program.Dims.TheVariants.{Scalar, Row, Grid}
 use Rattle.twe_program.specs.declared.program.CellDecl.{CellDecl}
@@ -21,7 +21,8 @@ size_of (Grid rows columns) = rows * columns
 
 -- how many cells the declarations make together
 abbrev pub cells_made : List CellDecl → ℕ
-cells_made cells = sum_by (λ cell. size_of cell.dims) cells
+cells_made [] = 0
+cells_made (cell ∷ cells) = size_of cell.dims + cells_made cells
 
 -- how many cells the program has
 abbrev pub cell_count : Program → ℕ

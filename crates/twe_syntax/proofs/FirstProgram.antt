@@ -7,7 +7,7 @@ use Rattle.twe_syntax.specs.Grammar.{Fits}
 use Rattle.twe_syntax.specs.FirstForm.{first_form}
 use Rattle.twe_syntax.specs.FirstNames.{NamesAreRight}
 use Rattle.twe_syntax.specs.FirstMeaning.{program_of, IsFirstProgram}
-use Rattle.twe_syntax.specs.Program.{Program}
+use Rattle.twe_program.specs.Program.{Program}
 use Rattle.twe_syntax.proofs.ReadSoFar.{one_tokenizing}
 use Rattle.twe_syntax.proofs.FirstWhole.{one}
 

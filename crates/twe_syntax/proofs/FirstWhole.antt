@@ -89,7 +89,7 @@ one tokens form other fits fits' =
 -- nothing fits tokens that are refused
 pub no_form : (fail : FirstFail) (tokens : List Token) → Fails fail (form_at tokens) → IsErrOf {T = FirstForm} (Err fail) fails.Form → (form : FirstForm) → Fits (first_form form) tokens → ⊥
 no_form fails.Form tokens e same form fits = none-some (form, []) (sym e ∙ form_read tokens form fits)
-no_form fails.Memory tokens e same form fits = absurd cc
+no_form (fails.OutOfMemory memory) tokens e same form fits = absurd cc
 
 -- nothing fits tokens of which some are left
 pub no_form_of_more : (tokens rest : List Token) (found : FirstForm) → form_at tokens ≡ Some (found, rest) → (rest ≡ [] → ⊥) → (form : FirstForm) → Fits (first_form form) tokens → ⊥

@@ -90,7 +90,7 @@ module _ {X : Type 0} (passes : Token → Bool) (item : List Token → Option (X
 
   pub breaks_off : (fail : FirstFail) (front : List X) (tokens : List Token) (whole : Option (List X × List Token)) → begins passes tokens ≡ true → Fails fail (item tokens)
       → with_front front (items_at passes item tokens) ≡ whole → Fails fail whole
-  breaks_off fails.Memory front tokens whole h e so_far = tt
+  breaks_off (fails.OutOfMemory memory) front tokens whole h e so_far = tt
   breaks_off fails.Form front tokens whole h e so_far =
       sym so_far ∙ ap (λ (read : Option (List X × List Token)). with_front front read) (items_at-fails tokens h e)
 

@@ -4,12 +4,13 @@ use Rattle.region_paths.specs.declared.elements.Elem.TheVariants.{Name}
 use Rattle.region_paths.specs.Written.{WrittenPath}
 use Rattle.effect_sets.specs.declared.effects.Effect.{Effect}
 use Rattle.twe_syntax.specs.declared.token.Token.{Token}
-use Rattle.twe_syntax.specs.declared.expr.BinOp.TheVariants.{Add}
-use Rattle.twe_syntax.specs.declared.program.CellDecl.{CellDecl}
-use Rattle.twe_syntax.specs.declared.program.Decl.{Decl}
-use Rattle.twe_syntax.specs.Expression.{Expression, Literal, CellValue, Binary}
-use Rattle.twe_syntax.specs.Statement.{Statement, SetCell}
-use Rattle.twe_syntax.specs.Program.{Program}
+use Rattle.twe_program.specs.declared.expr.BinOp.TheVariants.{Add}
+use Rattle.twe_program.specs.declared.program.CellDecl.{CellDecl}
+use Rattle.twe_program.specs.declared.program.Decl.{Decl}
+use Rattle.twe_program.specs.declared.program.Dims.TheVariants.{Scalar}
+use Rattle.twe_program.specs.Expression.{Expression, Literal, CellValue, Binary}
+use Rattle.twe_program.specs.Statement.{Statement, SetCell, statements_of}
+use Rattle.twe_program.specs.Program.{Program}
 use Rattle.twe_syntax.specs.Words.{number_of}
 use Rattle.twe_syntax.specs.Tokens.{Tokenizes}
 use Rattle.twe_syntax.specs.Grammar.{Fits}
@@ -41,7 +42,7 @@ first_value_of (Some token) = value_of token
 -- the cell with this number
 abbrev pub cell_of : List (List ℕ) → ℕ → CellLine → CellDecl
 cell_of regions number line =
-    record { name = text_of line.name; path = path_of regions line.region; first = number; init = first_value_of line.value; place = line.name.place }
+    record { name = text_of line.name; path = path_of regions line.region; dims = Scalar; first = number; init = first_value_of line.value; place = line.name.place }
 
 -- the cells that the lines declare, numbered from this number on
 abbrev pub cells_from : List (List ℕ) → ℕ → List CellLine → List CellDecl
@@ -84,7 +85,7 @@ main_of f = record {
   deterministic = false;
   summary = record { effects = effects_of (region_names f.regions) f.writes };
   body = record {
-    stmts = statements_from (cell_names f.cells) 0 f.assignments;
+    block = statements_of (statements_from (cell_names f.cells) 0 f.assignments);
     vars = 0;
     futures = 0;
     points = length f.assignments + 1;

@@ -20,7 +20,7 @@ o >>= f = option_and_then f o
 -- What a function returned, and the tokens behind it, are what is read, unless memory ran out.
 abbrev pub Fails : {Y : Type 0} → FirstFail → Option Y → Type 0
 Fails fails.Form read = read ≡ None
-Fails fails.Memory read = Unit {0}
+Fails (fails.OutOfMemory memory) read = Unit {0}
 
 abbrev pub Reads : {X : Type 0} → Result X FirstFail → List Token → Option (X × List Token) → Type 0
 Reads (Ok x) rest read = read ≡ Some (x, rest)

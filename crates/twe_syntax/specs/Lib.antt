@@ -1,5 +1,3 @@
-pub mod Expression
-pub mod ExpressionView
 pub mod FirstForm
 pub mod FirstLiterals
 pub mod FirstMeaning
@@ -8,10 +6,7 @@ pub mod FirstReading
 pub mod Grammar
 pub mod Lexeme
 pub mod Numbering
-pub mod Program
 pub mod Reading
-pub mod Statement
-pub mod StatementView
 pub mod Tokens
 pub mod Words
 pub mod Writable

@@ -2,7 +2,7 @@
 ghost use Rattle.std.specs.Prelude.{◌≡◌, ℕ, List, IfOk, IsErrOf};
 ghost use Rattle.twe_syntax.specs.declared.token.Token.{Token};
 ghost use Rattle.twe_syntax.specs.FirstMeaning.{IsFirstProgram};
-ghost use Rattle.twe_syntax.specs.Program.{Program};
+ghost use Rattle.twe_program.specs.Program.{Program};
 ghost use Rattle.twe_syntax.specs.Tokens.{Tokenizes};
 
 mod declared;
@@ -20,13 +20,13 @@ mod stream;
 mod writable;
 
 use crate::lexer::{ReadTokensFail, read_tokens};
-use crate::program::Prog;
 use crate::token::Tokens;
 pub use fail::FirstFail;
 pub use form::FirstForm;
 pub use read::{one_form, read_form};
 pub use resolve::resolve_first;
 use std::alloc::Global;
+use twe_program::Prog;
 
 /// The tokens of a text. It is `Form` where the text cannot be read.
 fn tokens_of(alloc: Global, text: &[u8]) -> Result<Tokens, FirstFail>
@@ -36,7 +36,7 @@ fn tokens_of(alloc: Global, text: &[u8]) -> Result<Tokens, FirstFail>
     match read_tokens(alloc, text) {
         Ok(tokens) => Ok(tokens),
         Err(ReadTokensFail::Unreadable) => Err(FirstFail::Form),
-        Err(ReadTokensFail::Memory) => Err(FirstFail::Memory),
+        Err(ReadTokensFail::OutOfMemory(memory)) => Err(FirstFail::OutOfMemory(memory)),
     }
 }
 
@@ -57,6 +57,3 @@ pub fn one_first_program()
     ensures one { (text : List ℕ) (program other : Program)
         → IsFirstProgram text program → IsFirstProgram text other → program ≡ other }
 {}
-
-#[cfg(test)]
-mod tests;

@@ -18,15 +18,15 @@ pub enum ReadTokensFail {
     /// A byte of it is not allowed, or a comment is not closed.
     Unreadable,
     /// There was not enough memory, or the text is too long for its places to be counted.
-    Memory,
+    OutOfMemory(Memory),
 }
 
 impl fmt::Display for ReadTokensFail {
     fn fmt<W: fmt::Write>(&self, f: &mut fmt::Formatter<W>) -> fmt::Result {
-        f.write_str(match self {
-            ReadTokensFail::Unreadable => "the text cannot be read",
-            ReadTokensFail::Memory => "out of memory",
-        })
+        match self {
+            ReadTokensFail::Unreadable => f.write_str("the text cannot be read"),
+            ReadTokensFail::OutOfMemory(memory) => memory.fmt(f),
+        }
     }
 }
 
@@ -34,17 +34,17 @@ impl Error for ReadTokensFail {}
 
 impl From<Memory> for ReadTokensFail {
     ghost use Rattle.std.specs.Prelude.{◌≡◌};
-    ghost use Rattle.twe_syntax.specs.declared.lexer.ReadTokensFail.TheVariants.{Memory};
+    ghost use Rattle.twe_syntax.specs.declared.lexer.ReadTokensFail.TheVariants.{OutOfMemory};
 
-    ghost from_gives = { λ _ fail. fail ≡ Memory };
+    ghost from_gives = { λ memory fail. fail ≡ OutOfMemory memory };
 
-    fn from(_: twe_io::Memory) -> Self {
-        ReadTokensFail::Memory
+    fn from(memory: Memory) -> Self {
+        ReadTokensFail::OutOfMemory(memory)
     }
 }
 
 /// The tokens of a text: at each place the longest one, without blanks and comments. It takes time and memory
-/// linear in the text. `Memory` also stands for a text of 2^32 - 1 bytes or more, whose places can't be counted.
+/// linear in the text. `OutOfMemory` also stands for a text of 2^32 - 1 bytes or more, whose places can't be counted.
 pub fn read_tokens(alloc: Global, text: &[u8]) -> Result<Tokens, ReadTokensFail>
     ensures tokens { IfOk result (λ tokens. Tokenizes text.now tokens) }
     ensures unreadable { IsErrOf result ReadTokensFail.Unreadable → (tokens : List Token) → ¬ Tokenizes text.now tokens }
@@ -53,7 +53,7 @@ pub fn read_tokens(alloc: Global, text: &[u8]) -> Result<Tokens, ReadTokensFail>
         return Err(ReadTokensFail::Unreadable);
     }
     if text.len() >= u32::MAX as usize {
-        return Err(ReadTokensFail::Memory);
+        return Err(ReadTokensFail::from(Memory::of_uncountable(text.len())));
     }
     let mut tokens = Tokens::new(alloc);
     let mut place = first_place();
@@ -76,6 +76,3 @@ pub fn read_tokens(alloc: Global, text: &[u8]) -> Result<Tokens, ReadTokensFail>
 pub fn one_reading()
     ensures { (text : List ℕ) (tokens others : List Token) → Tokenizes text tokens → Tokenizes text others → tokens ≡ others }
 {}
-
-#[cfg(test)]
-mod tests;

@@ -1,10 +1,7 @@
-//! A token of a text, and lists of tokens.
-ghost use Rattle.std.specs.Prelude.{◌≡◌, ◌↔◌, [], ◌∷◌, ◌++◌, length, slice_get, IsTrue, IfOk, OnOk, OnErr, option_copied};
-
+//! A token of a text.
 use crate::words::{is_keyword, is_number, is_word, number_of};
 use std::alloc::Global;
-use std::marker::Model;
-use twe_io::{Memory, Place, Word};
+use twe_io::{List, Memory, Place, Word};
 
 /// A token: its bytes, and the place of the first of them.
 #[derive(Debug, Drop)]
@@ -61,73 +58,5 @@ impl Token {
     }
 }
 
-/// The tokens of a text, in their order. Contracts see them as a list.
-#[derive(Debug, Drop)]
-pub struct Tokens {
-    items: Vec<Token>,
-}
-
-impl Model for Tokens {
-    ghost use Rattle.std.specs.Prelude.{List};
-    ghost use Rattle.twe_syntax.specs.declared.token.Token.{Token};
-
-    ghost Value = { List Token };
-
-    ghost view = { λ list. list.items.items };
-}
-
-impl Tokens {
-    /// No tokens. It takes no memory.
-    pub fn new(alloc: Global) -> Self
-        ensures { result ≡ [] }
-    {
-        Tokens {
-            items: Vec::new(alloc),
-        }
-    }
-
-    /// The tokens as the vector that holds them. It takes no memory.
-    pub fn into_vec(self) -> Vec<Token>
-        ensures { result.items ≡ self }
-    {
-        let Tokens { items } = self;
-        items
-    }
-
-    /// How many tokens there are.
-    pub fn len(&self) -> usize
-        ensures { result ≡ length self.now }
-    {
-        self.items.len()
-    }
-
-    /// Whether there is no token.
-    pub fn is_empty(&self) -> bool
-        ensures { IsTrue result ↔ (self.now ≡ []) }
-    {
-        self.items.is_empty()
-    }
-
-    /// The tokens as a slice.
-    pub fn as_slice(&self) -> &[Token]
-        ensures { result.now ≡ self.now }
-    {
-        self.items.as_slice()
-    }
-
-    /// The token at an index counted from 0, if there is one.
-    pub fn get(&self, index: usize) -> Option<&Token>
-        ensures { option_copied result ≡ slice_get self.now index }
-    {
-        self.items.get(index)
-    }
-
-    /// Puts a token behind the others. After `Memory` the list is as before.
-    pub fn push(&mut self, token: Token) -> Result<(), Memory>
-        ensures ok { OnOk result (self.new ≡ self.old ++ token ∷ []) }
-        ensures err { OnErr result (self.new ≡ self.old) }
-    {
-        self.items.push(token)?;
-        Ok(())
-    }
-}
+/// The tokens of a text, in their order.
+pub type Tokens = List<Token>;

@@ -12,14 +12,14 @@ pub enum FirstFail {
     /// It is not of the first form.
     Form,
     /// There was not enough memory.
-    Memory,
+    OutOfMemory(Memory),
 }
 
 impl fmt::Display for FirstFail {
     fn fmt<W: fmt::Write>(&self, f: &mut fmt::Formatter<W>) -> fmt::Result {
         match self {
             FirstFail::Form => f.write_str("the text is not of the first form"),
-            FirstFail::Memory => f.write_str("out of memory"),
+            FirstFail::OutOfMemory(memory) => memory.fmt(f),
         }
     }
 }
@@ -27,9 +27,9 @@ impl fmt::Display for FirstFail {
 impl Error for FirstFail {}
 
 impl From<Memory> for FirstFail {
-    ghost from_gives = { λ _ fail. fail ≡ fails.Memory };
+    ghost from_gives = { λ memory fail. fail ≡ fails.OutOfMemory memory };
 
-    fn from(_: Memory) -> Self {
-        FirstFail::Memory
+    fn from(memory: Memory) -> Self {
+        FirstFail::OutOfMemory(memory)
     }
 }

@@ -1,8 +1,8 @@
 //! The parts of a text of the first form: region lines, cell lines, and the task `main` that gives sums to cells.
 //! The names are still tokens here.
 
-use crate::list::List;
 use crate::token::Token;
+use twe_io::List;
 
 /// A term of a sum.
 #[derive(Debug, Drop)]

@@ -10,13 +10,12 @@ ghost use Rattle.twe_syntax.specs.Grammar.{IsSmallLiteral};
 use crate::first::fail::FirstFail;
 use crate::first::form::CellLine;
 use crate::first::names::Names;
-use crate::list::List;
-use crate::program::CellDecl;
 use crate::token::Token;
 use effect_sets::{Effect, Effects};
 use region_paths::{Elem, Elems, Path};
 use std::alloc::Global;
-use twe_io::Memory;
+use twe_io::{List, Memory};
+use twe_program::{CellDecl, Dims};
 
 /// The value of a small literal.
 pub fn literal_value(token: &Token) -> i32
@@ -74,6 +73,7 @@ fn declared_cell(
     Ok(CellDecl {
         name: line.name.text.copy(alloc)?,
         path,
+        dims: Dims::Scalar,
         first: number,
         init: first_value(&line.value),
         place: line.name.place,

@@ -43,7 +43,10 @@ impl Names {
         ensures ok { OnOk result (self.new ≡ self.old ++ name.now ∷ []) }
         ensures err { OnErr result (self.new ≡ self.old) }
     {
-        let number = u32::try_from(self.words.len()).map_err(|_| Memory)?;
+        if self.words.len() > u32::MAX as usize {
+            return Err(Memory::of_uncountable(self.words.len()));
+        }
+        let number = self.words.len() as u32;
         let word = name.copy(alloc)?;
         let key = name.copy(alloc)?.into_string();
         self.words.reserve(1)?;

@@ -53,6 +53,3 @@ pub fn read_form(alloc: Global, tokens: Tokens) -> Result<FirstForm, FirstFail>
 pub fn one_form()
     ensures one { (tokens : List Token) (form other : FirstForm) → Fits (first_form form) tokens → Fits (first_form other) tokens → form ≡ other }
 {}
-
-#[cfg(test)]
-mod tests;

@@ -6,9 +6,9 @@ use super::fail::FirstFail;
 use super::form::{CellLine, RegionLine};
 use super::read_tokens::{read_literal, read_name, read_word};
 use super::stream::TokenStream;
-use crate::list::List;
 use crate::token::Token;
 use std::alloc::Global;
+use twe_io::List;
 
 #[tactic(auto, unfolding(crate::specs::FirstReading::another_name_at))]
 fn read_another_name(tokens: &mut TokenStream) -> Result<Token, FirstFail>

@@ -7,9 +7,9 @@ use super::form::{Addend, Assignment};
 use super::read_lines::read_more_names;
 use super::read_tokens::{read_name, read_term, read_word};
 use super::stream::TokenStream;
-use crate::list::List;
 use crate::token::Token;
 use std::alloc::Global;
+use twe_io::List;
 
 /// Reads what stands before the summary of the task `main`, and gives the word `main`.
 #[tactic(auto, unfolding(crate::specs::FirstReading::task_head_at))]

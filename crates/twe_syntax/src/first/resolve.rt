@@ -1,5 +1,5 @@
 //! The program that a first form means, where its names are right.
-ghost use Rattle.std.specs.Prelude.{◌≡◌, map, Contains, IfOk, IsErrOf};
+ghost use Rattle.std.specs.Prelude.{◌≡◌, ◌+◌, map, Contains, IfOk, IsErrOf};
 ghost use Rattle.std.specs.List.{AllByRecursion};
 ghost use Rattle.twe_syntax.specs.FirstNames.{text_of, region_names, cell_names, IsAllowed, NamesAreRight};
 ghost use Rattle.twe_syntax.specs.FirstLiterals.{HasSmallLiterals};
@@ -11,17 +11,26 @@ use crate::first::form::FirstForm;
 use crate::first::meaning::{declared_cells, written_effects};
 use crate::first::statements::statements;
 use crate::first::writable::Cells;
-use crate::list::List;
-use crate::program::{Body, Decl, Prog};
 use effect_sets::Summary;
 use std::alloc::Global;
-use twe_io::Word;
+use twe_io::{List, Memory, Word};
+use twe_program::{Body, Decl, Prog};
 
 /// How many names may stand behind `writes`.
 const MOST_WRITES: usize = 8;
 
 /// How many cells a text may declare.
 const MOST_CELLS: usize = 65536;
+
+/// How many points a body of so many assignments has: one before each of them, and one at the end.
+fn point_count(assignments: usize) -> Result<u32, Memory>
+    ensures { IfOk result (λ points. points ≡ assignments + 1) }
+{
+    if assignments >= u32::MAX as usize {
+        return Err(Memory::of_uncountable(assignments));
+    }
+    Ok(assignments as u32 + 1)
+}
 
 /// The body of the task `main`. It is `Form` where a statement is not allowed.
 fn main_body(alloc: Global, form: &FirstForm, declared: &Declared) -> Result<Body, FirstFail>
@@ -32,12 +41,7 @@ fn main_body(alloc: Global, form: &FirstForm, declared: &Declared) -> Result<Bod
     ensures form { IsErrOf result FirstFail.Form
         → ¬ AllByRecursion (IsAllowed form.now.cells (map text_of form.now.writes)) form.now.assignments }
 {
-    let Ok(last_point) = u32::try_from(form.assignments.len()) else {
-        return Err(FirstFail::Memory);
-    };
-    let Some(points) = last_point.checked_add(1) else {
-        return Err(FirstFail::Memory);
-    };
+    let points = point_count(form.assignments.len())?;
     let cells = Cells::new(
         alloc,
         form.cells.as_slice(),
@@ -45,7 +49,7 @@ fn main_body(alloc: Global, form: &FirstForm, declared: &Declared) -> Result<Bod
         &declared.cells,
     )?;
     Ok(Body {
-        stmts: statements(alloc, &cells, form.assignments.as_slice())?,
+        block: statements(alloc, &cells, form.assignments.as_slice())?,
         vars: 0,
         futures: 0,
         points,
@@ -93,7 +97,7 @@ pub fn resolve_first(alloc: Global, form: &FirstForm) -> Result<Prog, FirstFail>
     tasks.push(main)?;
     let Declared { regions, cells: _ } = declared;
     Ok(Prog {
-        regions: List::from_vec(regions.into_vec()),
+        regions: List::from(regions.into_vec()),
         cells,
         methods: List::new(alloc),
         tasks,

@@ -3,16 +3,16 @@ ghost use Rattle.std.specs.Prelude.{◌≡◌, ◌≤◌, ◌<◌, ◌^◌, leng
 ghost use Rattle.std.specs.List.{AllByRecursion};
 ghost use Rattle.twe_syntax.specs.FirstNames.{text_of, cell_names, TermIsWritable, IsAllowed};
 ghost use Rattle.twe_syntax.specs.FirstLiterals.{TermIsSmall, AssignmentIsSmall};
+ghost use Rattle.twe_program.specs.Statement.{statements_of};
 ghost use Rattle.twe_syntax.specs.FirstMeaning.{term_of, sum_of, statement_of, statements_from};
 
-use crate::expr::{BinOp, Expr};
 use crate::first::fail::FirstFail;
 use crate::first::form::{Addend, Assignment, Term};
 use crate::first::meaning::literal_value;
 use crate::first::writable::Cells;
-use crate::list::List;
-use crate::stmt::{Stmt, StmtKind};
 use std::alloc::Global;
+use twe_io::List;
+use twe_program::{BinOp, Block, Expr, Stmt, StmtKind};
 
 /// How often a statement may add.
 const MOST_ADDITIONS: usize = 200;
@@ -77,9 +77,9 @@ fn statement(
         return Err(FirstFail::Form);
     };
     let first = term_value(cells, &assignment.first)?;
-    let expr = sum_value(alloc, cells, first, assignment.others.as_slice())?;
+    let value = sum_value(alloc, cells, first, assignment.others.as_slice())?;
     let place = assignment.target.place;
-    let kind = StmtKind::SetCell { cell, expr, place };
+    let kind = StmtKind::SetCell { cell, value, place };
     Ok(Stmt { point, kind })
 }
 
@@ -88,12 +88,12 @@ pub fn statements(
     alloc: Global,
     cells: &Cells<'_>,
     assignments: &[Assignment],
-) -> Result<List<Stmt>, FirstFail>
+) -> Result<Block, FirstFail>
     requires small { AllByRecursion AssignmentIsSmall assignments.now }
     requires few { length assignments.now < 2 ^ 32 }
     ensures allowed { IfOk result (λ _. AllByRecursion
         (IsAllowed cells.now.lines.now (map text_of cells.now.writes.now)) assignments.now) }
-    ensures meaning { IfOk result (λ stmts. stmts ≡ statements_from (cell_names cells.now.lines.now) 0 assignments.now) }
+    ensures meaning { IfOk result (λ block. block ≡ statements_of (statements_from (cell_names cells.now.lines.now) 0 assignments.now)) }
     ensures form { IsErrOf result FirstFail.Form → ¬ AllByRecursion
         (IsAllowed cells.now.lines.now (map text_of cells.now.writes.now)) assignments.now }
 {
@@ -101,5 +101,7 @@ pub fn statements(
     for (point, assignment) in assignments.iter().enumerate() {
         stmts.push(statement(alloc, cells, point as u32, assignment)?)?;
     }
-    Ok(stmts)
+    Ok(Block {
+        stmts: stmts.into_vec(),
+    })
 }

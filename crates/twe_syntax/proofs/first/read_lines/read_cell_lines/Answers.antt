@@ -7,7 +7,7 @@ use Rattle.twe_syntax.proofs.FirstLines.{cell_line_shrinks}
 use Rattle.twe_syntax.proofs.first.read_lines.read_cell_lines.Goals as goal
 
 pub loop-lines-init : goal.loop-lines-init
-loop-lines-init c = rw c.new-lines.ensures.empty (with_front-nil (items_at (is_the_word (codes "int")) cell_line_at c.args.tokens.now))
+loop-lines-init c = rw c.new-lines.ensures (with_front-nil (items_at (is_the_word (codes "int")) cell_line_at c.args.tokens.now))
 
 pub returns-in_err-read_cell_line : goal.returns-in_err-read_cell_line
 returns-in_err-read_cell_line c =

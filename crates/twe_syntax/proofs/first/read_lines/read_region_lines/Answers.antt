@@ -7,7 +7,7 @@ use Rattle.twe_syntax.proofs.FirstLines.{region_line_shrinks}
 use Rattle.twe_syntax.proofs.first.read_lines.read_region_lines.Goals as goal
 
 pub loop-alloc-init : goal.loop-alloc-init
-loop-alloc-init c = rw c.new-lines.ensures.empty (with_front-nil (items_at (is_the_word (codes "region")) region_line_at c.args.tokens.now))
+loop-alloc-init c = rw c.new-lines.ensures (with_front-nil (items_at (is_the_word (codes "region")) region_line_at c.args.tokens.now))
 
 pub returns-in_err-read_region_line : goal.returns-in_err-read_region_line
 returns-in_err-read_region_line c =

@@ -7,7 +7,7 @@ use Rattle.twe_syntax.proofs.FirstTask.{addend_shrinks}
 use Rattle.twe_syntax.proofs.first.read_task.read_addends.Goals as goal
 
 pub loop-addends-init : goal.loop-addends-init
-loop-addends-init c = rw c.new-addends.ensures.empty (with_front-nil (items_at (is_the_word (codes "+")) addend_at c.args.tokens.now))
+loop-addends-init c = rw c.new-addends.ensures (with_front-nil (items_at (is_the_word (codes "+")) addend_at c.args.tokens.now))
 
 pub returns-in_err-read_addend : goal.returns-in_err-read_addend
 returns-in_err-read_addend c =

@@ -6,7 +6,7 @@ use Rattle.twe_syntax.proofs.FirstTask.{assignment_shrinks}
 use Rattle.twe_syntax.proofs.first.read_task.read_assignments.Goals as goal
 
 pub loop-alloc-init : goal.loop-alloc-init
-loop-alloc-init c = rw c.new-assignments.ensures.empty (with_front-nil (items_at is_name assignment_at c.args.tokens.now))
+loop-alloc-init c = rw c.new-assignments.ensures (with_front-nil (items_at is_name assignment_at c.args.tokens.now))
 
 pub returns-in_err-read_assignment : goal.returns-in_err-read_assignment
 returns-in_err-read_assignment c =

@@ -9,4 +9,4 @@ use Rattle.twe_syntax.proofs.first.resolve.main_body.Goals as goal
 pub new-requires-clause-different : goal.new-requires-clause-different
 new-requires-clause-different c =
     let declared = c.args.declared.now in
-    subst (IsDistinct bytes_eq) (c.requires.cells ∙ ap (λ lines. cell_names lines) (sym c.as_slice.ensures.same)) (distinct_cells declared.regions declared.cells declared.different)
+    subst (IsDistinct bytes_eq) (c.requires.cells ∙ ap (λ lines. cell_names lines) (sym c.as_slice.ensures)) (distinct_cells declared.regions declared.cells declared.different)

@@ -9,5 +9,4 @@ invariant_of-self-2 c =
     let sets = btree_map_updates_text (string_bytes c.into_string-key.result) c.self.inside.numbers c.insert.new.self _ c.in_ok-insert.ensures.updates in
     let end : c.push.new.self.items ≡ c.self.inside.words.items ++ c.args.name.now ∷ [] = grind arith in
     let same : string_bytes c.into_string-key.result ≡ c.args.name.now = grind arith in
-    let count : c.in_ok-number.number ≡ length c.self.inside.words.items = grind arith in
-    numbering_push c.self.inside.numbers c.insert.new.self c.self.inside.words.items _ c.args.name.now _ _ end same count (rw c.self.view_is c.requires.fresh) c.self.invariant sets
+    numbering_push c.self.inside.numbers c.insert.new.self c.self.inside.words.items _ c.args.name.now _ _ end same (grind arith) (rw c.self.view_is c.requires.fresh) c.self.invariant sets
