@@ -7,8 +7,10 @@ use Rattle.std.proofs.lemmas.List.Elements.{All-from_get_or, All-map}
 use Rattle.wait_graph.specs.declared.tasks.Link.{Link}
 use Rattle.wait_graph.specs.declared.stuck.Edge.{Edge}
 use Rattle.wait_graph.specs.Link.{IsOrdered}
-use Rattle.wait_graph.specs.Walk.{walk, after}
-use Rattle.wait_graph.specs.StuckCycle.{IsUndone, AllAreHeldUp, IsTrueEdge, IsClosed, HasEachOnce, BeginsLowest, IsCycle, edge_from, next_of}
+use Rattle.wait_graph.specs.Walk.{walk}
+use Rattle.wait_graph.specs.inner.Again.{after}
+use Rattle.wait_graph.specs.StuckCycle.{IsUndone, AllAreHeldUp, IsTrueEdge, IsClosed, HasEachOnce, BeginsLowest, edge_from, next_of}
+use Rattle.wait_graph.specs.inner.Cycle.{IsCycle}
 use Rattle.wait_graph.proofs.WalkLemmas.{walk-push, length-walk, get_or-walk}
 use Rattle.wait_graph.proofs.RoundLemmas.{IsRound, IsRound-distinct}
 use Rattle.wait_graph.proofs.EdgeLemmas.{from-edge_from, GoesOn-undone}

@@ -6,7 +6,8 @@ use Rattle.std.proofs.lemmas.List.{take_at, length-append, get_or_at, get_or_app
 use Rattle.std.proofs.lemmas.List.Elements.{All-from_get_or}
 use Rattle.std.proofs.lemmas.List.Folds.{list_any_none, list_any_at}
 use Rattle.std.proofs.lemmas.List.Sums.{position_or_len_is}
-use Rattle.wait_graph.specs.Walk.{walk, first_round, after, ComesAgain}
+use Rattle.wait_graph.specs.Walk.{walk, first_round}
+use Rattle.wait_graph.specs.inner.Again.{after, ComesAgain}
 use Rattle.wait_graph.proofs.WalkLemmas.{after-suc, walk-add, length-walk, get_or-walk}
 
 -- a number stands again where it stands anywhere

@@ -1,5 +1,8 @@
 pub mod ChainLemmas
+pub mod LinkLemmas
 pub mod WaitingLemmas
+pub mod SettingLemmas
+pub mod AddingLemmas
 pub mod WalkLemmas
 pub mod RoundLemmas
 pub mod FirstRoundLemmas

@@ -3,7 +3,7 @@ use Rattle.std.proofs.Common.{◌≡◌, ◌≢◌, ℕ, ◌+◌, ◌<◌, List,
 use Rattle.std.specs.Option.{is_none}
 use Rattle.std.proofs.lemmas.Bool.{cases_eq, cases_lt}
 use Rattle.std.proofs.lemmas.List.Sums.{sum_by-set}
-use Rattle.wait_graph.specs.Walk.{after, ComesAgain}
+use Rattle.wait_graph.specs.inner.Again.{after, ComesAgain}
 
 -- each of the first n numbers of the walk from start has its place in it, and the other numbers have none
 pub record HasPlaces (next : ℕ → ℕ) (start n : ℕ) (places : List (Option ℕ)) : Type 0 where

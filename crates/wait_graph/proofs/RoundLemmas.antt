@@ -1,6 +1,6 @@
 -- A walk that comes to a number again goes round from there on.
 use Rattle.std.proofs.Common.{◌≡◌, ◌≢◌, ℕ, ◌+◌, ◌-◌, ◌<◌, sym, ap, ◌∙◌, arith}
-use Rattle.wait_graph.specs.Walk.{after, ComesAgain}
+use Rattle.wait_graph.specs.inner.Again.{after, ComesAgain}
 use Rattle.wait_graph.proofs.WalkLemmas.{after-add}
 
 -- the walk from t comes back to t after p steps, and not before

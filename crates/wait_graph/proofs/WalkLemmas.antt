@@ -1,7 +1,8 @@
 -- Walks along a function on numbers: where they are after some steps, and which lists they make.
 use Rattle.std.proofs.Common.{◌≡◌, ℕ, zero, suc, ◌+◌, ◌<◌, [], ◌∷◌, ◌++◌, length, get_or, take, drop, refl, ap, ◌∙◌, arith, zero-add}
 use Rattle.std.proofs.lemmas.List.{drop_at, take_at}
-use Rattle.wait_graph.specs.Walk.{walk, after}
+use Rattle.wait_graph.specs.Walk.{walk}
+use Rattle.wait_graph.specs.inner.Again.{after}
 
 -- one step more
 pub after-suc : (next : ℕ → ℕ) (n t : ℕ) → after next (suc n) t ≡ next (after next n t)

@@ -3,3 +3,4 @@ pub mod Link
 pub mod Waiting
 pub mod Walk
 pub mod StuckCycle
+pub mod inner

@@ -68,11 +68,3 @@ HasEachOnce edges = AllPairs (λ (d e : Edge). d.from ≢ e.from) edges
 abbrev pub BeginsLowest : List Edge → Type 0
 BeginsLowest [] = Unit {0}
 BeginsLowest (first ∷ others) = All (λ (e : Edge). first.from < e.from) others
-
--- true edges that go round once, from the lowest task on
-pub record IsCycle (links : List Link) (held : List (Option ℕ)) (edges : List Edge) : Type 0 where
-  pub some : 0 < length edges
-  pub true_edges : All (IsTrueEdge links held) edges
-  pub closed : IsClosed edges
-  pub once : HasEachOnce edges
-  pub begins_lowest : BeginsLowest edges

@@ -1,5 +1,5 @@
 -- Who waits for whom, and who yields to whom.
-use Rattle.std.specs.Prelude.{◌≡◌, ℕ, false, List, Option, Some, None, if◌then◌else◌}
+use Rattle.std.specs.Prelude.{◌≡◌, ℕ, ◌⊎◌, true, false, List, Option, Some, None, if◌then◌else◌}
 use Rattle.wait_graph.specs.declared.tasks.Link.{Link}
 use Rattle.wait_graph.specs.Link.{link_of}
 use Rattle.wait_graph.specs.Chain.{Chain}
@@ -12,6 +12,14 @@ pub record WaitsFor (links : List Link) (s u : ℕ) : Type 0 where
 -- a chain of waits of any length, none included, leads from s to u
 abbrev pub WaitsOn : List Link → ℕ → ℕ → Type 0
 WaitsOn links = Chain (WaitsFor links)
+
+-- u is done
+abbrev pub IsDone : List Link → ℕ → Type 0
+IsDone links u = (link_of links u).done ≡ true
+
+-- a chain of waits leads from s to u, unless u is done
+abbrev pub WaitsOnUnlessDone : List Link → ℕ → ℕ → Type 0
+WaitsOnUnlessDone links s u = WaitsOn links s u ⊎ IsDone links u
 
 -- p spawned c, and c isn't joined
 pub record SpawnedBy (links : List Link) (c p : ℕ) : Type 0 where

@@ -1,5 +1,5 @@
 -- Walks along a function on numbers, and the round that a walk ends in.
-use Rattle.std.specs.Prelude.{◌≡◌, ◌≢◌, ℕ, zero, suc, ◌<◌, ◌==◌, nat_le, List, [], ◌∷◌, ◌++◌, take, drop, if◌then◌else◌}
+use Rattle.std.specs.Prelude.{ℕ, zero, suc, ◌==◌, nat_le, List, [], ◌∷◌, ◌++◌, take, drop, if◌then◌else◌}
 use Rattle.std.specs.List.{list_any, list_all, before_first, position_or_len}
 
 -- the first n numbers of the walk from t, each of them followed by the next of it
@@ -16,17 +16,6 @@ first_round (t ∷ ts) = if list_any (λ u. u == t) ts then t ∷ before_first (
 abbrev pub lowest_place : List ℕ → ℕ
 lowest_place ts = position_or_len (λ t. list_all (nat_le t) ts) ts
 
--- a round that begins with its lowest number: what stands before that number is put behind the rest
+-- a round that begins with its lowest number: what stands before that number is put after the rest
 abbrev pub turned : List ℕ → List ℕ
 turned ts = drop (lowest_place ts) ts ++ take (lowest_place ts) ts
-
--- where the walk from t is after n steps
-abbrev pub after : (ℕ → ℕ) → ℕ → ℕ → ℕ
-after next zero t = t
-after next (suc n) t = after next n (next t)
-
--- the first n numbers of the walk from t are all different, and then it is again where it was after m steps
-pub record ComesAgain (next : ℕ → ℕ) (m n t : ℕ) : Type 0 where
-  pub before : m < n
-  pub again : after next n t ≡ after next m t
-  pub distinct : (i j : ℕ) → i < j → j < n → after next i t ≢ after next j t

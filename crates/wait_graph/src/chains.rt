@@ -50,23 +50,25 @@ fn unjoined_parent(links: &[Link], t: u32) -> Option<u32>
     if link.joined { None } else { link.parent }
 }
 
-/// Whether `u` is `t` or a spawn ancestor of `t` over unjoined children.
+/// Whether `u` is `t` or a spawn ancestor of `t` over unjoined children. The walk to the ancestors ends where their
+/// numbers come down to `u`: it takes as many turns as `t` has ancestors above `u`, and none where `u` is above `t`.
 fn descends_from(links: &[Link], t: u32, u: u32) -> bool
     requires there { t < length links.now }
     requires ordered { IsOrdered links.now }
     ensures { IsTrue result ↔ DescendsFrom links.now t u }
 {
     let mut at = t;
-    while at != u {
+    while u < at {
         let Some(parent) = unjoined_parent(links, at) else {
             return false;
         };
         at = parent;
     }
-    true
+    at == u
 }
 
-/// Whether `s` yields to `t`.
+/// Whether `s` yields to `t`: for each task of the chain of waits from `s` it walks to those ancestors of `t` that
+/// are above that task.
 pub(crate) fn yields(links: &[Link], s: u32, t: u32) -> bool
     requires waiter { s < length links.now }
     requires passing { t < length links.now }

@@ -122,8 +122,11 @@ impl Links {
     }
 
     /// Whether `s` yields to `t`: it waits, directly or through others, for `t` or for a spawn ancestor of `t` over
-    /// unjoined children, or is one of these itself. It takes no memory, and time at most the length of the chain of
-    /// waits from `s` times the number of these ancestors.
+    /// unjoined children, or is one of these itself. It takes no memory.
+    ///
+    /// It goes along the chain of waits from `s`, and from each task of it that is below `t` it looks at those
+    /// ancestors of `t` that are above that task. So where `s` waits for nobody, or `t` has no parent, it takes time
+    /// linear in the one chain, and at most the length of the one times the length of the other.
     pub fn yields(&self, s: u32, t: u32) -> bool
         requires waiter { s < length self.now }
         requires passing { t < length self.now }

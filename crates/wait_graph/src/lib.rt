@@ -8,6 +8,7 @@
 
 mod chains;
 mod graph;
+mod laws;
 mod stuck;
 mod tasks;
 #[cfg(test)]
@@ -15,5 +16,12 @@ mod tests;
 mod walk;
 
 pub use graph::Links;
+pub use laws::{
+    a_chain_goes_on_by_a_wait, a_done_task_is_not_waited_for,
+    a_done_task_that_waited_for_nobody_ends_no_other_chain, a_task_without_children_is_no_ancestor,
+    a_wait_set_where_none_was_keeps_chains, adding_a_task, an_added_task, chains_are_ordered,
+    chains_compose, chains_do_not_fork, setting_a_task_done, setting_a_task_joined, setting_a_wait,
+    waiting_for_nobody, yielding_follows_chains,
+};
 pub use stuck::{Cycle, Edge};
 pub use tasks::Link;

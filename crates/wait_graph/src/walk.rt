@@ -2,8 +2,10 @@
 ghost use Rattle.std.specs.Prelude.{◌≡◌, ℕ, ◌<◌, ◌≤◌, ◌++◌, not, length, map, vec_len, IfOk, OnOk};
 ghost use Rattle.std.specs.List.{All, position};
 ghost use Rattle.wait_graph.specs.Link.{IsOrdered};
-ghost use Rattle.wait_graph.specs.Walk.{walk, ComesAgain, lowest_place, turned};
-ghost use Rattle.wait_graph.specs.StuckCycle.{IsUndone, AllAreHeldUp, IsCycle, edge_from, next_of, lowest_undone, stuck_cycle};
+ghost use Rattle.wait_graph.specs.Walk.{walk, lowest_place, turned};
+ghost use Rattle.wait_graph.specs.inner.Again.{ComesAgain};
+ghost use Rattle.wait_graph.specs.StuckCycle.{IsUndone, AllAreHeldUp, edge_from, next_of, lowest_undone, stuck_cycle};
+ghost use Rattle.wait_graph.specs.inner.Cycle.{IsCycle};
 
 use crate::chains;
 use crate::stuck::Edge;
@@ -106,7 +108,7 @@ fn lowest_place(tasks: &[u32]) -> usize
     lowest
 }
 
-/// Puts the edges by which the walk leaves these tasks behind the others.
+/// Puts the edges by which the walk leaves these tasks after the others.
 fn push_edges(
     links: &[Link],
     held: &[Option<u32>],

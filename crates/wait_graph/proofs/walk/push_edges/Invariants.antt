@@ -1,4 +1,4 @@
--- The edges of the tasks so far stand behind the others.
+-- The edges of the tasks so far stand after the others.
 use Rattle.std.proofs.Common.{◌≡◌, ◌++◌, map, take}
 use Rattle.wait_graph.specs.StuckCycle.{edge_from}
 use Rattle.wait_graph.proofs.walk.push_edges.Given as goal

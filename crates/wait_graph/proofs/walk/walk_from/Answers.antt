@@ -1,7 +1,8 @@
 -- A task that has a place was met there, and one that has none is new, so it takes the next place.
 use Rattle.std.proofs.Common.{◌≡◌, ◌+◌, ◌<◌, ◌++◌, ◌∷◌, [], suc, length, get_or, vec_len, None, sym, ap, ◌∙◌, arith, add-one}
 use Rattle.std.proofs.lemmas.List.{get_or_read}
-use Rattle.wait_graph.specs.Walk.{walk, after}
+use Rattle.wait_graph.specs.Walk.{walk}
+use Rattle.wait_graph.specs.inner.Again.{after}
 use Rattle.wait_graph.specs.StuckCycle.{next_of}
 use Rattle.wait_graph.proofs.WalkLemmas.{after-suc, walk-push}
 use Rattle.wait_graph.proofs.PlacesLemmas.{ComesAgain-from_place, HasPlaces-more, count_by-none_set}

@@ -1,7 +1,8 @@
 -- The tasks met are the walk so far, and each task met has its place in it and no other.
 use Rattle.std.proofs.Common.{◌≡◌, ◌+◌, length, vec_len, count_by}
 use Rattle.std.specs.Option.{is_none}
-use Rattle.wait_graph.specs.Walk.{walk, after}
+use Rattle.wait_graph.specs.Walk.{walk}
+use Rattle.wait_graph.specs.inner.Again.{after}
 use Rattle.wait_graph.specs.StuckCycle.{IsUndone, next_of}
 use Rattle.wait_graph.proofs.PlacesLemmas.{HasPlaces}
 use Rattle.wait_graph.proofs.walk.walk_from.Given as goal
