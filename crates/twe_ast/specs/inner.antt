@@ -1,0 +1,10 @@
+pub mod ArgumentsSize
+pub mod ArmsSize
+pub mod ExpressionCode
+pub mod ExpressionSize
+pub mod ExpressionView
+pub mod NameCode
+pub mod StatementCode
+pub mod StatementSize
+pub mod StatementView
+pub mod StatementsSize

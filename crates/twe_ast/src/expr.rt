@@ -1,0 +1,134 @@
+//! Expressions. Contracts see one as an `Expression`: a place, and what the expression is.
+
+use crate::name::Name;
+use std::marker::Model;
+use twe_io::Place;
+
+/// An operator with two operands.
+#[derive(Clone, Copy, Debug, PartialEq, Eq)]
+pub enum BinOp {
+    /// `||`
+    Or,
+    /// `&&`
+    And,
+    /// `==`
+    Equal,
+    /// `!=`
+    NotEqual,
+    /// `<`
+    Less,
+    /// `<=`
+    LessEqual,
+    /// `>`
+    Greater,
+    /// `>=`
+    GreaterEqual,
+    /// `+`
+    Add,
+    /// `-` between two operands.
+    Sub,
+    /// `*`
+    Mul,
+    /// `/`
+    Div,
+    /// `%`
+    Rem,
+}
+
+/// An expression.
+#[cycle(expr)]
+#[derive(Debug, Drop)]
+pub struct Expr {
+    /// What the expression is.
+    pub kind: ExprKind,
+    /// The place of its first token, where parentheses that enclose it count as its own.
+    pub place: Place,
+}
+
+/// The arguments of a call, from the left.
+#[cycle(expr)]
+#[derive(Debug, Drop)]
+pub struct Args {
+    /// The expressions.
+    pub items: Vec<Expr>,
+}
+
+/// What an expression is.
+#[cycle(expr)]
+#[derive(Debug, Drop)]
+pub enum ExprKind {
+    /// An integer literal: from 0 to 2147483647, or -2147483648 where `-` and 2147483648 are written.
+    Lit(i32),
+    /// `true` or `false`.
+    Truth(bool),
+    /// The name of a local, a parameter or a cell.
+    Name(Name),
+    /// An element of an array or of a grid.
+    At {
+        /// The name of the array or grid.
+        array: Name,
+        /// The index, or the row.
+        index: Box<Expr>,
+        /// The column, for a grid.
+        second: Option<Box<Expr>>,
+    },
+    /// The call of a method.
+    Call {
+        /// The name of the method.
+        method: Name,
+        /// The arguments.
+        args: Args,
+    },
+    /// `-` and its operand, unless they are the literal -2147483648.
+    Neg(Box<Expr>),
+    /// `!` and its operand.
+    Not(Box<Expr>),
+    /// An operator and its two operands.
+    Bin {
+        /// The operator.
+        op: BinOp,
+        /// The operand before it.
+        left: Box<Expr>,
+        /// The operand after it.
+        right: Box<Expr>,
+        /// The place of the operator.
+        place: Place,
+    },
+}
+
+impl Model for Expr {
+    ghost use Rattle.twe_ast.specs.Expression.{Expression, expression};
+    ghost use Rattle.twe_ast.specs.inner.ExpressionCode.{expression_code};
+    ghost use Rattle.twe_ast.specs.inner.ExpressionSize.{depth};
+
+    ghost Value = { Expression };
+
+    ghost coded = { expression_code };
+
+    ghost use Rattle.twe_ast.specs.inner.ExpressionView.{shape_of};
+
+    ghost view = { λ e. expression e.place (shape_of e.kind) };
+
+    ghost size = { depth };
+}
+
+impl Model for Args {
+    ghost use Rattle.twe_ast.specs.Expression.{Arguments};
+    ghost use Rattle.twe_ast.specs.inner.ExpressionCode.{arguments_code};
+    ghost use Rattle.twe_ast.specs.inner.ExpressionSize.{depth_of_all};
+
+    ghost Value = { Arguments };
+
+    ghost coded = { arguments_code };
+
+    ghost use Rattle.twe_ast.specs.inner.ExpressionView.{arguments_of};
+
+    ghost view = { λ args. arguments_of args.items.items };
+
+    ghost size = { depth_of_all };
+
+    ghost use Rattle.std.proofs.Common.{arith};
+    ghost use Rattle.twe_ast.specs.inner.ArgumentsSize.{most_deep};
+
+    ghost size_decreases = { λ args h. Prim.omega (arith, most_deep args.items.items) };
+}

@@ -1,0 +1,12 @@
+//! Names as they stand in a text.
+
+use twe_io::{Place, Word};
+
+/// A name in a text: an identifier.
+#[derive(Debug, Drop)]
+pub struct Name {
+    /// Its letters, digits and `_`.
+    pub text: Word,
+    /// The place of its first byte.
+    pub place: Place,
+}
