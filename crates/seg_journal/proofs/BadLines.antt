@@ -6,7 +6,7 @@ use Rattle.seg_journal.specs.Limits.{Bounds}
 use Rattle.seg_journal.specs.declared.moves.Move.{Move}
 use Rattle.seg_journal.specs.Spelling.{Spells, move_line, head_line, head_part, head_lines, HasTask, AreLimits}
 use Rattle.seg_journal.specs.Lines.{lines_of, IsGoodLine, AreGoodLines, IsFirstBadLine}
-use Rattle.seg_journal.specs.Stops.{StopsAt}
+use Rattle.seg_journal.specs.inner.Stops.{StopsAt}
 use Rattle.seg_journal.proofs.FirstLines.{lines_of-head, lines_of-moves, AreGoodLines-moves, begins, rest_of}
 
 -- the lines of a head and of what stands behind it

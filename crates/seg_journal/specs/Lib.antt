@@ -1,4 +1,5 @@
 pub mod Limits
 pub mod Spelling
 pub mod Lines
-pub mod Stops
+pub mod Fail
+pub mod inner

@@ -1,12 +1,13 @@
 //! Journals as text.
 ghost use Rattle.std.specs.Prelude.{◌≡◌, ◌≢◌, ◌⊎◌, ◌<◌, ◌≤◌, ◌+◌, ◌^◌, List, ℕ, Some, ◌++◌, length, map, IfOk, IfSome, IsNone, OnOk, IsErrOf, MatchResult};
 ghost use Rattle.std.specs.List.{AllByRecursion, flat_map};
-ghost use Rattle.seg_journal.specs.declared.text.JournalFail.TheVariants.{Memory as NoMemory};
+ghost use Rattle.seg_journal.specs.declared.text.JournalFail.TheVariants.{OutOfMemory};
 ghost use Rattle.seg_journal.specs.declared.moves.Move.{Move};
 ghost use Rattle.seg_journal.specs.Limits.{Bounds};
 ghost use Rattle.seg_journal.specs.Spelling.{Spells, head_line, head_part, head_lines, move_line, move_of, HasTask, AreLimits};
 ghost use Rattle.seg_journal.specs.Lines.{IsFirstBadLine};
-ghost use Rattle.seg_journal.specs.Stops.{StopsAt};
+ghost use Rattle.seg_journal.specs.Fail.{IsOutOfMemory};
+ghost use Rattle.seg_journal.specs.inner.Stops.{StopsAt};
 
 use crate::line::{head_at, move_at, push_head, push_move};
 use crate::{Entry, Journal, Limits, Moves};
@@ -26,14 +27,14 @@ pub enum JournalFail {
     /// The line of this number, counted from 1, is the first that is neither a head on line 1 nor a move.
     BadLine(u64),
     /// There was not enough memory.
-    Memory,
+    OutOfMemory(Memory),
 }
 
 impl From<Memory> for JournalFail {
-    ghost from_gives = { λ _ fail. fail ≡ NoMemory };
+    ghost from_gives = { λ memory fail. fail ≡ OutOfMemory memory };
 
-    fn from(_: Memory) -> Self {
-        JournalFail::Memory
+    fn from(memory: Memory) -> Self {
+        JournalFail::OutOfMemory(memory)
     }
 }
 
@@ -65,12 +66,12 @@ pub fn read_journal(alloc: Global, text: &[u8]) -> Result<JournalText, JournalFa
 
     // What is so spelled is read, unless memory runs out.
     ensures only { (head : _) (moves : List Move) → Spells text.now head moves → MatchResult result
-        (λ found. (found.head ≡ head) × (found.moves ≡ moves)) (λ fail. fail ≡ JournalFail.Memory) }
+        (λ found. (found.head ≡ head) × (found.moves ≡ moves)) IsOutOfMemory }
 
     // It names the first bad line, and where there is one answers that, unless memory runs out.
     ensures bad_line { (n : ℕ) → IsErrOf result (JournalFail.BadLine n) → IsFirstBadLine text.now n }
     ensures first_bad { (n : ℕ) → IsFirstBadLine text.now n
-        → IsErrOf result (JournalFail.BadLine n) ⊎ IsErrOf result JournalFail.Memory }
+        → MatchResult result (λ _. ⊥) (λ fail. (fail ≡ JournalFail.BadLine n) ⊎ IsOutOfMemory fail) }
 {
     read_lines(alloc, text)
 }

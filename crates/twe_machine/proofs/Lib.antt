@@ -1,5 +1,5 @@
-pub mod Alone
 pub mod OneTask
-pub mod Ran
-pub mod Statements
+pub mod Alone
+pub mod Cells
+pub mod Filled
 pub mod WholeRun

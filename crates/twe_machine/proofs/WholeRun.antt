@@ -6,13 +6,14 @@ use Rattle.seg_journal.specs.declared.journal.Entry.{Entry}
 use Rattle.seg_journal.specs.declared.moves.Kind.TheVariants.{Admit, Run}
 use Rattle.seg_journal.specs.declared.moves.Move.{Move}
 use Rattle.seg_journal.specs.Limits.{Bounds}
-use Rattle.twe_syntax.specs.declared.program.Decl.{Decl}
-use Rattle.twe_syntax.specs.Program.{Program, IsWellFormed}
+use Rattle.twe_program.specs.declared.program.Decl.{Decl}
+use Rattle.twe_program.specs.Program.{Program}
+use Rattle.twe_program.specs.WellFormed.{IsMain, IsWellFormed}
 use Rattle.twe_machine.specs.declared.ending.Outcome.TheVariants.{AllDone}
 use Rattle.twe_machine.specs.declared.state.State.{State}
 use Rattle.twe_machine.specs.declared.state.TaskRow.{TaskRow}
 use Rattle.twe_machine.specs.Legal.{MayMove}
-use Rattle.twe_machine.specs.Moves.{moved, start_of, first_row, first_rows, admitted_row, done_row}
+use Rattle.twe_machine.specs.Moves.{moved, start_of, first_row, first_rows, first_links, initial_values, admitted_row, done_row}
 use Rattle.twe_machine.specs.Runs.{replayed, LegalFrom, state_after, IsRun, entry_of, IsOutcome, EachOnce, AlwaysIsolated, admits, finishes}
 use Rattle.twe_machine.specs.Segment as segments
 use Rattle.twe_machine.proofs.Alone.{may_admit, may_run}
@@ -47,8 +48,9 @@ whole_journal = record { mv = admit_main; end = ends.Admitted } ∷ record { mv 
 -- the state at the start, for a `main` that was found so
 abbrev pub started : Program → Bounds → Option Decl → State
 started p lim found = record {
-  cells = map (λ cell. cell.init) p.cells;
+  cells = initial_values p.cells;
   tasks = first_rows p.main lim found;
+  links = first_links found;
   prints = [];
   asked = 0;
   first_fault = None;
@@ -73,9 +75,9 @@ pub record IsWhole (p : Program) (lim : Bounds) (st : State) : Type 0 where
   pub no_fault : (replayed p lim st whole_journal).first_fault ≡ None
 
 whole_from : (p : Program) (lim : Bounds) (decl : Decl) → IsAlone p (started p lim (Some decl)) → IsAlone p ((moved p lim (started p lim (Some decl)) admit_main).0) → IsWhole p lim (started p lim (Some decl))
-whole_from p lim decl alone behind = record {
+whole_from p lim decl alone after = record {
   admits = may_admit p _ admit_main (first_row p.main lim decl) alone refl refl refl;
-  runs = may_run p _ run_main (admitted_row (first_row p.main lim decl)) behind refl refl refl;
+  runs = may_run p _ run_main (admitted_row (first_row p.main lim decl)) after refl refl refl refl;
   first = refl;
   second = refl;
   decl = decl;
@@ -83,18 +85,17 @@ whole_from p lim decl alone behind = record {
   no_fault = refl;
 }
 
-some_at : {A : Type 0} (xs : List A) (i : ℕ) → i < length xs → (x : A) × (slice_get xs i ≡ Some x)
-some_at [] i h = absurd (omega arith)
-some_at (x ∷ xs) zero h = (x, refl)
-some_at (x ∷ xs) (suc i) h = some_at xs i (omega arith)
+main_is_there : (found : Option Decl) → IsMain found → (decl : Decl) × (found ≡ Some decl)
+main_is_there None main = absurd main
+main_is_there (Some decl) main = (decl, refl)
 
 pub whole : (p : Program) (lim : Bounds) → IsWellFormed p → IsWhole p lim (start_of p lim)
 whole p lim well =
-    let main = some_at p.tasks p.main well.main_is_there in
+    let main = main_is_there (slice_get p.tasks p.main) well.main in
     let there : started p lim (Some main.0) ≡ start_of p lim = ap (started p lim) (sym main.1) in
     let alone = run_is_alone p lim [] in
-    let behind = run_is_alone p lim (record { mv = admit_main; end = ends.Admitted } ∷ []) in
-    subst (IsWhole p lim) there (whole_from p lim main.0 (subst (IsAlone p) (sym there) alone) (subst (λ (st : State). IsAlone p ((moved p lim st admit_main).0)) (sym there) behind))
+    let after = run_is_alone p lim (record { mv = admit_main; end = ends.Admitted } ∷ []) in
+    subst (IsWhole p lim) there (whole_from p lim main.0 (subst (IsAlone p) (sym there) alone) (subst (λ (st : State). IsAlone p ((moved p lim st admit_main).0)) (sym there) after))
 
 -- the only row of a list is at 0
 at_zero : (row r : TaskRow) (t : ℕ) → slice_get (row ∷ []) t ≡ Some r → (t ≡ 0) × (r ≡ row)
@@ -132,8 +133,8 @@ pub whole_is : (p : Program) (lim : Bounds) (st0 st1 : State) (j0 j1 j2 : List E
 whole_is p lim st0 st1 j0 j1 j2 w at_start none first same second =
     let first_entry : entry_of p lim st0 admit_main ≡ record { mv = admit_main; end = ends.Admitted } = ap (λ (st : State). entry_of p lim st admit_main) at_start ∙ ap (λ end. record { mv = admit_main; end = end }) w.first in
     let one : j1 ≡ record { mv = admit_main; end = ends.Admitted } ∷ [] = first ∙ (ap (λ (j : List Entry). j ++ entry_of p lim st0 admit_main ∷ []) none ∙ ap (λ (e : Entry). e ∷ []) first_entry) in
-    let behind : st1 ≡ (moved p lim (start_of p lim) admit_main).0 = same ∙ ap (state_after p lim) one in
-    let second_entry : entry_of p lim st1 run_main ≡ record { mv = run_main; end = ends.Done (pos 0) } = ap (λ (st : State). entry_of p lim st run_main) behind ∙ ap (λ end. record { mv = run_main; end = end }) w.second in
+    let afterwards : st1 ≡ (moved p lim (start_of p lim) admit_main).0 = same ∙ ap (state_after p lim) one in
+    let second_entry : entry_of p lim st1 run_main ≡ record { mv = run_main; end = ends.Done (pos 0) } = ap (λ (st : State). entry_of p lim st run_main) afterwards ∙ ap (λ end. record { mv = run_main; end = end }) w.second in
     second ∙ (ap (λ (j : List Entry). j ++ entry_of p lim st1 run_main ∷ []) one ∙ ap (λ (e : Entry). record { mv = admit_main; end = ends.Admitted } ∷ e ∷ []) second_entry)
 
 -- what a run of the whole journal comes to

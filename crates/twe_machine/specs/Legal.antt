@@ -9,8 +9,9 @@ use Rattle.twe_machine.specs.declared.legal.Why.TheVariants.{NoTask, NotMade, He
 use Rattle.twe_machine.specs.declared.state.State.{State}
 use Rattle.twe_machine.specs.declared.state.TaskRow.{TaskRow}
 use Rattle.twe_machine.specs.declared.state.TaskStatus.TheVariants.{Made, Enabled}
-use Rattle.twe_machine.specs.Waiting.{IsRow, HasStatus, YieldsTo}
-use Rattle.twe_machine.specs.Waiting as waiting
+use Rattle.wait_graph.specs.Waiting.{YieldsTo}
+use Rattle.wait_graph.specs.Waiting as graph
+use Rattle.twe_machine.specs.Rows.{IsRow, HasStatus}
 
 -- some effects of the two tasks interfere
 abbrev pub Interfere : State → ℕ → ℕ → Type 0
@@ -18,15 +19,15 @@ Interfere st s t = (a : TaskRow) × (b : TaskRow) × IsRow st s a × IsRow st t 
 
 -- s is a bar to t: it is another task, it may run, its effects interfere with those of t, and it doesn't yield to t
 abbrev pub IsBar : State → ℕ → ℕ → Type 0
-IsBar st s t = (s ≢ t) × HasStatus st s Enabled × Interfere st s t × ¬ YieldsTo st s t
+IsBar st s t = (s ≢ t) × HasStatus st s Enabled × Interfere st s t × ¬ YieldsTo st.links s t
 
 -- t may be admitted: it was made, and each other task that may run and interferes with it yields to it
 abbrev pub MayAdmit : State → ℕ → Type 0
-MayAdmit st t = HasStatus st t Made × ((s : ℕ) → s ≢ t → HasStatus st s Enabled → Interfere st s t → YieldsTo st s t)
+MayAdmit st t = HasStatus st t Made × ((s : ℕ) → s ≢ t → HasStatus st s Enabled → Interfere st s t → YieldsTo st.links s t)
 
 -- t may run: it is enabled, and waits for nobody
 abbrev pub MayRun : State → ℕ → Type 0
-MayRun st t = HasStatus st t Enabled × ((u : ℕ) → ¬ waiting.WaitsFor st t u)
+MayRun st t = HasStatus st t Enabled × ((u : ℕ) → ¬ graph.WaitsFor st.links t u)
 
 abbrev pub MayTake : State → Kind → ℕ → Type 0
 MayTake st Admit t = MayAdmit st t
@@ -43,7 +44,7 @@ Forbids st Admit t NotMade = (t < length st.tasks) × ¬ HasStatus st t Made
 -- the lowest bar
 Forbids st Admit t (HeldBy s) = HasStatus st t Made × IsBar st s t × ((r : ℕ) → r < s → ¬ IsBar st r t)
 Forbids st Run t NotEnabled = (t < length st.tasks) × ¬ HasStatus st t Enabled
-Forbids st Run t (WaitsFor u) = HasStatus st t Enabled × waiting.WaitsFor st t u
+Forbids st Run t (WaitsFor u) = HasStatus st t Enabled × graph.WaitsFor st.links t u
 Forbids st Admit t NotEnabled = ⊥
 Forbids st Admit t (WaitsFor u) = ⊥
 Forbids st Run t NotMade = ⊥
@@ -51,4 +52,4 @@ Forbids st Run t (HeldBy s) = ⊥
 
 -- of each two tasks that may run and interfere, one yields to the other
 abbrev pub Isolated : State → Type 0
-Isolated st = (s t : ℕ) → s ≢ t → HasStatus st s Enabled → HasStatus st t Enabled → Interfere st s t → YieldsTo st s t ⊎ YieldsTo st t s
+Isolated st = (s t : ℕ) → s ≢ t → HasStatus st s Enabled → HasStatus st t Enabled → Interfere st s t → YieldsTo st.links s t ⊎ YieldsTo st.links t s

@@ -1,5 +1,6 @@
 pub mod Legal
 pub mod Moves
+pub mod Rows
 pub mod Runs
 pub mod Segment
-pub mod Waiting
+pub mod inner

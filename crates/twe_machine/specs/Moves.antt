@@ -1,5 +1,5 @@
 -- What a move makes of a state, and the state that a run starts from.
-use Rattle.std.specs.Prelude.{◌++◌, ℕ, ℤ, pos, List, [], ◌∷◌, map, replicate, false, Option, None, Some, slice_get, slice_set}
+use Rattle.std.specs.Prelude.{◌++◌, ℕ, ℤ, pos, List, [], ◌∷◌, replicate, false, Option, None, Some, slice_get, slice_set}
 use Rattle.seg_journal.specs.declared.journal.End.{End}
 use Rattle.seg_journal.specs.declared.journal.End.TheVariants.{Admitted}
 use Rattle.seg_journal.specs.declared.journal.End.TheVariants as ends
@@ -7,8 +7,11 @@ use Rattle.seg_journal.specs.declared.moves.Kind.{Kind}
 use Rattle.seg_journal.specs.declared.moves.Kind.TheVariants.{Admit, Run}
 use Rattle.seg_journal.specs.declared.moves.Move.{Move}
 use Rattle.seg_journal.specs.Limits.{Bounds}
-use Rattle.twe_syntax.specs.declared.program.Decl.{Decl}
-use Rattle.twe_syntax.specs.Program.{Program}
+use Rattle.wait_graph.specs.declared.tasks.Link.{Link}
+use Rattle.wait_graph.specs.Link.{new_link, with_done}
+use Rattle.twe_program.specs.declared.program.CellDecl.{CellDecl}
+use Rattle.twe_program.specs.declared.program.Decl.{Decl}
+use Rattle.twe_program.specs.Program.{Program, size_of}
 use Rattle.twe_machine.specs.declared.frame.Call.{Call}
 use Rattle.twe_machine.specs.declared.frame.Frame.{Frame}
 use Rattle.twe_machine.specs.declared.frame.Next.TheVariants.{Go}
@@ -41,6 +44,7 @@ ended st t row after (stops.Done value) = (
     cells = after.cells;
     prints = st.prints ++ after.prints;
     tasks = slice_set st.tasks t (done_row row after.frame value);
+    links = with_done st.links t;
   },
   ends.Done value,
 )
@@ -94,11 +98,22 @@ abbrev pub first_rows : ℕ → Bounds → Option Decl → List TaskRow
 first_rows number lim None = []
 first_rows number lim (Some decl) = first_row number lim decl ∷ []
 
--- a run starts with task 0, a `main` that is made, and with each cell at its first value
+-- task 0 waits for nobody and was spawned by nobody
+abbrev pub first_links : Option Decl → List Link
+first_links None = []
+first_links (Some decl) = new_link None ∷ []
+
+-- the initial values of the cells, in the order of their numbers
+abbrev pub initial_values : List CellDecl → List ℤ
+initial_values [] = []
+initial_values (cell ∷ cells) = replicate (size_of cell.dims) cell.init ++ initial_values cells
+
+-- a run starts with task 0, a `main` that is made, and with each cell at its initial value
 abbrev pub start_of : Program → Bounds → State
 start_of p lim = record {
-  cells = map (λ cell. cell.init) p.cells;
+  cells = initial_values p.cells;
   tasks = first_rows p.main lim (slice_get p.tasks p.main);
+  links = first_links (slice_get p.tasks p.main);
   prints = [];
   asked = 0;
   first_fault = None;

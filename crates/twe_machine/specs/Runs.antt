@@ -8,16 +8,15 @@ use Rattle.seg_journal.specs.declared.moves.Kind.{Kind}
 use Rattle.seg_journal.specs.declared.moves.Kind.TheVariants.{Admit, Run}
 use Rattle.seg_journal.specs.declared.moves.Move.{Move}
 use Rattle.seg_journal.specs.Limits.{Bounds}
-use Rattle.twe_syntax.specs.Program.{Program}
+use Rattle.twe_program.specs.Program.{Program}
 use Rattle.twe_machine.specs.declared.ending.Outcome.{Outcome}
 use Rattle.twe_machine.specs.declared.ending.Outcome.TheVariants.{AllDone, Fault, Stuck, Unfinished}
 use Rattle.twe_machine.specs.declared.state.State.{State}
 use Rattle.twe_machine.specs.declared.state.TaskRow.{TaskRow}
-use Rattle.twe_machine.specs.declared.state.TaskStatus.{TaskStatus}
-use Rattle.twe_machine.specs.declared.state.TaskStatus.TheVariants.{Done, Made as MadeStatus, Enabled, Faulted}
+use Rattle.twe_machine.specs.declared.state.TaskStatus.TheVariants.{Done}
 use Rattle.twe_machine.specs.Legal.{MayMove, Isolated}
 use Rattle.twe_machine.specs.Moves.{moved, start_of}
-use Rattle.twe_machine.specs.Waiting.{IsRow}
+use Rattle.twe_machine.specs.Rows.{IsRow}
 
 -- the state after these entries' moves
 abbrev pub replayed : Program → Bounds → State → List Entry → State
@@ -60,16 +59,6 @@ IsReachable p st = (lim : Bounds) × IsReached p lim st
 -- every task that was made is done
 abbrev pub AllTasksDone : State → Type 0
 AllTasksDone st = (t : ℕ) (row : TaskRow) → IsRow st t row → row.status ≡ Done
-
-abbrev pub is_done_status : TaskStatus → Bool
-is_done_status Done = true
-is_done_status MadeStatus = false
-is_done_status Enabled = false
-is_done_status Faulted = false
-
--- the task of this row is done
-abbrev pub is_done_row : TaskRow → Bool
-is_done_row row = is_done_status row.status
 
 -- this is how a run that has come to this state stands: it has its first fault, or all of its tasks are done, or
 -- no move is legal, or some move is

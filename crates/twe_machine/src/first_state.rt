@@ -1,40 +1,45 @@
 //! The state that a run starts from.
-ghost use Rattle.std.specs.Prelude.{◌≡◌, ℤ, pos, map, replicate, IfOk, None};
-ghost use Rattle.twe_machine.specs.Moves.{start_of, start_frame, first_row, entry_call};
+ghost use Rattle.std.specs.Prelude.{◌≡◌, IfOk};
+ghost use Rattle.twe_machine.specs.Moves.{start_of, start_frame, first_row, initial_values, entry_call};
 
 use crate::frame::{Call, Frame, Next, Position};
 use crate::state::{State, TaskRow, TaskStatus};
 use seg_journal::Limits;
 use std::alloc::Global;
-use twe_io::{Ints, Memory};
-use twe_syntax::{CellDecl, Decl, List, Prog};
+use twe_io::{Ints, List, Memory};
+use twe_program::{CellDecl, Decl, Prog};
+use wait_graph::Links;
 
 /// The state that a run of the program starts from: task 0 is a `main` that was made, and the cells have their
-/// first values.
+/// initial values.
 pub fn start(alloc: Global, p: &Prog, lim: Limits) -> Result<State, Memory>
     ensures { IfOk result (λ st. st ≡ start_of p.now lim) }
 {
-    let cells = first_values(alloc, p.cells.as_slice())?;
+    let cells = initial_values(alloc, p.cells.as_slice())?;
     let mut tasks = List::new(alloc);
+    let mut links = Links::new(alloc);
     if let Some(main) = p.tasks.as_slice().get(p.main as usize) {
         tasks.push(first_task(alloc, p.main, main, lim)?)?;
+        links.add(None)?;
     }
     Ok(State {
         cells,
         tasks,
+        links,
         prints: Ints::new(alloc),
         asked: 0,
         first_fault: None,
     })
 }
 
-/// The first values of the cells.
-fn first_values(alloc: Global, cells: &[CellDecl]) -> Result<Ints, Memory>
-    ensures { IfOk result (λ values. values ≡ map (λ cell. cell.init) cells.now) }
+/// The initial values of the cells.
+fn initial_values(alloc: Global, cells: &[CellDecl]) -> Result<Ints, Memory>
+    ensures { IfOk result (λ values. values ≡ initial_values cells.now) }
 {
     let mut values = Ints::new(alloc);
     for cell in cells {
-        values.push(cell.init)?;
+        let copies = vec![in alloc; cell.init; cell.dims.size() as usize]?;
+        values.push_all(copies.as_slice())?;
     }
     Ok(values)
 }
@@ -67,7 +72,7 @@ fn first_frame(alloc: Global, number: u32, main: &Decl, lim: Limits) -> Result<F
         decl: number,
         calls,
         fuel: lim.fuel,
-        futures: List::from_vec(vec![in alloc; None; main.body.futures as usize]?),
+        futures: List::from(vec![in alloc; None; main.body.futures as usize]?),
         out: List::new(alloc),
         next: Next::Go,
         value: 0,

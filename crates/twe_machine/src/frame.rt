@@ -1,7 +1,6 @@
 //! What a task keeps between its segments.
 
-use twe_io::Ints;
-use twe_syntax::List;
+use twe_io::{Ints, List};
 
 /// How far a block of a body has been carried out. The blocks of a body are numbered in the order of the text; the
 /// body itself is block 0.
@@ -9,7 +8,7 @@ use twe_syntax::List;
 pub struct Position {
     /// The number of the block.
     pub block: u32,
-    /// How many of its statements are behind.
+    /// How many of its statements were carried out.
     pub after: u32,
 }
 

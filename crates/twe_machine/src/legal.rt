@@ -5,7 +5,7 @@ ghost use Rattle.twe_machine.specs.Runs.{IsReachable};
 
 use crate::state::{State, TaskStatus};
 use seg_journal::{Kind, Move};
-use twe_syntax::Prog;
+use twe_program::Prog;
 
 /// Why a move is not legal.
 #[derive(Clone, Copy, Debug, PartialEq, Eq)]

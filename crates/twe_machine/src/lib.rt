@@ -4,6 +4,7 @@
 mod ending;
 mod first_state;
 mod frame;
+mod laws;
 mod legal;
 mod one_move;
 mod segment;
@@ -14,6 +15,7 @@ mod whole_run;
 pub use ending::Outcome;
 pub use first_state::start;
 pub use frame::{Call, Frame, Next, Position};
+pub use laws::{effects_are_filled, links_agree};
 pub use legal::{Why, may};
 pub use one_move::step;
 pub use standing::outcome;

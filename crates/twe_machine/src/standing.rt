@@ -1,11 +1,12 @@
 //! How a run stands that has come to a state.
 ghost use Rattle.std.specs.Prelude.{◌≡◌};
 ghost use Rattle.std.specs.List.{list_all};
-ghost use Rattle.twe_machine.specs.Runs.{IsReachable, IsOutcome, is_done_row};
+ghost use Rattle.twe_machine.specs.Rows.{is_done_row};
+ghost use Rattle.twe_machine.specs.Runs.{IsReachable, IsOutcome};
 
 use crate::ending::Outcome;
 use crate::state::{State, TaskRow, TaskStatus};
-use twe_syntax::Prog;
+use twe_program::Prog;
 
 /// How a run of the program stands that has come to this state.
 pub fn outcome(p: &Prog, st: &State) -> Outcome

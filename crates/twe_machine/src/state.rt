@@ -3,8 +3,8 @@
 use crate::frame::Frame;
 use effect_sets::Summary;
 use seg_journal::FaultKind;
-use twe_io::{Ints, Place};
-use twe_syntax::List;
+use twe_io::{Ints, List, Place};
+use wait_graph::Links;
 
 /// How far a task has come.
 #[derive(Clone, Copy, Debug, PartialEq, Eq)]
@@ -60,6 +60,9 @@ pub struct State {
     pub cells: Ints,
     /// The tasks.
     pub tasks: List<TaskRow>,
+    /// What links the tasks to one another: what each waits for, its spawn parent, and whether it was joined and is
+    /// done. They agree with the rows.
+    pub links: Links,
     /// The numbers that have been printed.
     pub prints: Ints,
     /// How many times a task was asked for, task 0 left out.

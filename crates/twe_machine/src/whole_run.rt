@@ -2,6 +2,7 @@
 ghost use Rattle.std.specs.Prelude.{◌≡◌, [], ◌∷◌, ◌++◌, IfOk, OnOk};
 ghost use Rattle.twe_machine.specs.Legal.{MayMove};
 ghost use Rattle.twe_machine.specs.Runs.{IsRun, Legal, state_after, IsOutcome, EachOnce, AlwaysIsolated, entry_of};
+ghost use Rattle.twe_machine.specs.Segment.{HasOnlySums};
 ghost use Rattle.twe_machine.specs.declared.ending.Outcome.TheVariants.{AllDone};
 
 use crate::first_state::start;
@@ -10,11 +11,12 @@ use crate::state::State;
 use seg_journal::{Entry, Journal, Kind, Limits, Move};
 use std::alloc::Global;
 use twe_io::Memory;
-use twe_syntax::Prog;
+use twe_program::Prog;
 
 /// The journal of a whole run of the program under these limits, and the state that it leads to: `main` is admitted
 /// and runs to its end. The journal is legal, and in the end every task is done.
 pub fn run_main(alloc: Global, p: &Prog, lim: Limits) -> Result<(Journal, State), Memory>
+    requires { HasOnlySums p.now }
     ensures legal { IfOk result (λ run. Legal p.now lim run.0) }
     ensures state { IfOk result (λ run. run.1 ≡ state_after p.now lim run.0) }
     ensures all_done { IfOk result (λ run. IsOutcome run.1 AllDone) }
@@ -46,6 +48,7 @@ fn take(
     journal: &mut Journal,
     mv: Move,
 ) -> Result<(), Memory>
+    requires sums { HasOnlySums p.now }
     requires run { IsRun p.now lim journal.old st.old }
     requires legal { MayMove st.old mv }
     ensures entered { OnOk result (journal.new ≡ journal.old ++ entry_of p.now lim st.old mv ∷ []) }

@@ -22,6 +22,22 @@ pub enum Dims {
     },
 }
 
+impl Dims {
+    ghost use Rattle.std.specs.Prelude.{◌≡◌};
+    ghost use Rattle.twe_program.specs.Program.{size_of};
+
+    /// How many cells a declaration makes.
+    pub fn size(self) -> u64
+        ensures { result ≡ size_of self }
+    {
+        match self {
+            Dims::Scalar => 1,
+            Dims::Row(count) => u64::from(count),
+            Dims::Grid { rows, cols } => u64::from(rows) * u64::from(cols),
+        }
+    }
+}
+
 /// A cell, an array or a grid, with its region.
 #[derive(Debug, Drop)]
 pub struct CellDecl {

@@ -127,19 +127,22 @@ well_formed_meaning f right =
       numbered = cells_count_up regions 0 f.cells;
       few_cells = omega (arith, cells_are_few regions 0 f.cells, right.few_cells);
       methods = tt;
-      tasks = (record {
-        few = omega arith;
-        summary = record { effects = effects_fit regions f.writes right.writes; few = omega (arith, right.few_effects, length-map f.writes (write_of regions)) };
-        numbered = record {
-          points = points_count_up names 0 f.assignments;
-          point_count = omega (arith, count_of_points names 0 f.assignments);
-          locals = rw (no_locals names 0 f.assignments) tt;
-          var_count = rw (no_locals names 0 f.assignments) refl;
-          futures = rw (no_futures names 0 f.assignments) tt;
-          future_count = rw (no_futures names 0 f.assignments) refl;
-        };
-        body = statements_fit f.cells (map text_of f.writes) (scope_of (program_of f) (main_of f)) regions refl 0 f.assignments right.assignments;
-      }, tt);
+      tasks = (
+        record {
+          few = omega arith;
+          summary = record { effects = effects_fit regions f.writes right.writes; few = omega (arith, right.few_effects, length-map f.writes (write_of regions)) };
+          numbered = record {
+            points = points_count_up names 0 f.assignments;
+            point_count = omega (arith, count_of_points names 0 f.assignments);
+            locals = rw (no_locals names 0 f.assignments) tt;
+            var_count = rw (no_locals names 0 f.assignments) refl;
+            futures = rw (no_futures names 0 f.assignments) tt;
+            future_count = rw (no_futures names 0 f.assignments) refl;
+          };
+          body = statements_fit f.cells (map text_of f.writes) (scope_of (program_of f) (main_of f)) regions refl 0 f.assignments right.assignments;
+        },
+        tt,
+      );
       main = (refl, refl);
     }
 

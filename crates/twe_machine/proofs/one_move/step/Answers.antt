@@ -1,5 +1,19 @@
-use Rattle.twe_machine.proofs.OneTask.{reached_is_alone}
+use Rattle.std.proofs.Common.{ap, sym, ◌∙◌, arith, subst, length}
+use Rattle.std.proofs.lemmas.List.{length-map}
+use Rattle.std.proofs.lemmas.Option.{slice_get_within}
+use Rattle.twe_machine.specs.Legal.{MayTake}
+use Rattle.twe_machine.specs.Rows.{link_of_row}
+use Rattle.twe_machine.proofs.OneTask.{reached_is_alone, reached_agrees}
 use Rattle.twe_machine.proofs.one_move.step.Goals as goal
+
+-- there is a link for each row
+pub run-requires-clause-linked : goal.run-requires-clause-linked
+run-requires-clause-linked c =
+    let st = c.args.st.now in
+    let may = subst (λ kind. MayTake st kind c.args.mv.task) c.in-Run.is c.requires.legal in
+    let there = slice_get_within st.tasks c.args.mv.task may.0.0 may.0.1 in
+    let agree = reached_agrees c.args.p.now c.args.lim st c.requires.reached in
+    omega (arith, there, ap length agree, length-map st.tasks link_of_row)
 
 -- a run keeps the number of cells
 pub run-requires-clause-cells : goal.run-requires-clause-cells

@@ -1,11 +1,14 @@
-use Rattle.std.proofs.Common.{sym, subst}
-use Rattle.std.specs.List.{AllByRecursion}
-use Rattle.twe_syntax.specs.Program.{UsesBelow, cell_count}
-use Rattle.twe_machine.proofs.Statements.{in_call}
+use Rattle.std.proofs.Common.{sym, ap, ◌∙◌, subst}
+use Rattle.twe_program.specs.Program.{cell_count}
+use Rattle.twe_program.specs.WellFormed.{IsWellFormed}
+use Rattle.twe_program.specs.Statement.{Statements}
+use Rattle.twe_machine.specs.Segment.{left_of, remaining}
+use Rattle.twe_machine.specs.inner.Within.{UseBelow}
+use Rattle.twe_machine.proofs.Cells.{remaining_below}
 use Rattle.twe_machine.proofs.segment.left.Goals as goal
 
--- what is left uses no more cells than the whole body
 pub returns-clause-cells : goal.returns-clause-cells
 returns-clause-cells c =
-    let count = cell_count c.args.p.now in
-    subst (AllByRecursion (UsesBelow count)) (sym c.left_in_call.ensures) (in_call count c.statements.result.now c.as_slice.result.now c.statements.ensures.cells)
+    let p = c.args.p.now in
+    let same = c.left_in_call.ensures ∙ (λ i. left_of (c.statements.ensures i) (c.as_slice.ensures i)) in
+    subst (UseBelow p.cells (cell_count p)) (sym same) (remaining_below p c.args.frame.now (subst IsWellFormed c.p.view_is c.p.invariant))

@@ -1,0 +1,48 @@
+-- The rows of tasks, and the links that stand beside them.
+use Rattle.std.specs.Prelude.{◌≡◌, ℕ, Bool, true, false, map, Option, None, Some, slice_get, IsTrue}
+use Rattle.wait_graph.specs.declared.tasks.Link.{Link}
+use Rattle.effect_sets.specs.Filled.{all_filled}
+use Rattle.twe_machine.specs.declared.frame.Next.{Next}
+use Rattle.twe_machine.specs.declared.frame.Next.TheVariants.{Go, Get, Join, Closing, Ended}
+use Rattle.twe_machine.specs.declared.state.State.{State}
+use Rattle.twe_machine.specs.declared.state.TaskRow.{TaskRow}
+use Rattle.twe_machine.specs.declared.state.TaskStatus.{TaskStatus}
+use Rattle.twe_machine.specs.declared.state.TaskStatus.TheVariants.{Made, Enabled, Done, Faulted}
+
+-- this is the row of task t
+abbrev pub IsRow : State → ℕ → TaskRow → Type 0
+IsRow st t row = slice_get st.tasks t ≡ Some row
+
+-- task t was made, and has come this far
+abbrev pub HasStatus : State → ℕ → TaskStatus → Type 0
+HasStatus st t status = (row : TaskRow) × IsRow st t row × (row.status ≡ status)
+
+-- the task of which a task's next operation is a wait
+abbrev pub awaited : Next → Option ℕ
+awaited Go = None
+awaited (Get on into) = Some on
+awaited (Join on into) = Some on
+awaited (Closing on) = Some on
+awaited Ended = None
+
+abbrev pub is_done_status : TaskStatus → Bool
+is_done_status Done = true
+is_done_status Made = false
+is_done_status Enabled = false
+is_done_status Faulted = false
+
+-- the task of this row is done
+abbrev pub is_done_row : TaskRow → Bool
+is_done_row row = is_done_status row.status
+
+-- what a row says of its task's links
+abbrev pub link_of_row : TaskRow → Link
+link_of_row row = record { waits = awaited row.frame.next; parent = row.parent; joined = row.joined; done = is_done_row row }
+
+-- the links of a state are those that its rows say
+abbrev pub LinksAgree : State → Type 0
+LinksAgree st = st.links ≡ map link_of_row st.tasks
+
+-- no effect of a task has a variable
+abbrev pub EffectsAreFilled : State → Type 0
+EffectsAreFilled st = (t : ℕ) (row : TaskRow) → IsRow st t row → IsTrue (all_filled row.effects.effects)
