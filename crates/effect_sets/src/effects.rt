@@ -63,7 +63,7 @@ impl Effects {
         self.items.is_empty()
     }
 
-    /// The effect at a place counted from 0, or `None` behind the last one.
+    /// The effect at a place counted from 0, or `None` after the last one.
     pub fn get(&self, at: usize) -> Option<&Effect>
         ensures { option_copied result ≡ slice_get self.now at }
     {
@@ -77,7 +77,7 @@ impl Effects {
         self.items.as_slice()
     }
 
-    /// Puts an effect behind the others. After `Memory` the list is as before, and the effect is gone.
+    /// Puts an effect after the others. After `Memory` the list is as before, and the effect is gone.
     pub fn push(&mut self, effect: Effect) -> Result<(), Memory>
         ensures ok { OnOk result (self.new ≡ self.old ++ effect ∷ []) }
         ensures err { OnErr result (self.new ≡ self.old) }
@@ -104,11 +104,12 @@ pub struct Summary {
 }
 
 impl Effect {
-    /// The effect in whose path each variable is the argument of its number.
+    /// The effect in whose path each variable is the argument of its number. A path without variables stays.
     pub fn fill(&self, alloc: Global, args: &[Elem]) -> Result<Effect, Memory>
         ensures exact { IfOk result (λ effect. effect ≡ fill_effect args.now self.now) }
         ensures complete { IsTrue (has_args args.now self.now.path) → IsTrue (no_var args.now)
             → IfOk result (λ effect. IsTrue (filled effect.path)) }
+        ensures kept { IsTrue (filled self.now.path) → IfOk result (λ effect. effect ≡ self.now) }
     {
         let path = self.path.fill(alloc, args)?;
         Ok(Effect {
@@ -130,11 +131,13 @@ impl Effect {
 }
 
 impl Summary {
-    /// The summary in each of whose effects each variable is the argument of its number.
+    /// The summary in each of whose effects each variable is the argument of its number. A summary without variables
+    /// stays.
     pub fn fill(&self, alloc: Global, args: &[Elem]) -> Result<Summary, Memory>
         ensures exact { IfOk result (λ summary. summary ≡ fill_summary args.now self.now) }
         ensures complete { IsTrue (all_have_args args.now self.now.effects) → IsTrue (no_var args.now)
             → IfOk result (λ summary. IsTrue (all_filled summary.effects)) }
+        ensures kept { IsTrue (all_filled self.now.effects) → IfOk result (λ summary. summary ≡ self.now) }
     {
         let mut effects = Effects::new(alloc);
         for effect in self.effects.as_slice() {

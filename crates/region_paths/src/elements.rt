@@ -64,7 +64,7 @@ impl Elems {
         self.items.is_empty()
     }
 
-    /// The element at a place counted from 0, or `None` behind the last one.
+    /// The element at a place counted from 0, or `None` after the last one.
     pub fn get(&self, at: usize) -> Option<Elem>
         ensures { result ≡ slice_get self.now at }
     {
@@ -78,7 +78,7 @@ impl Elems {
         self.items.as_slice()
     }
 
-    /// Puts an element behind the others. After `Memory` the list is as before.
+    /// Puts an element after the others. After `Memory` the list is as before.
     pub fn push(&mut self, elem: Elem) -> Result<(), Memory>
         ensures ok { OnOk result (self.new ≡ self.old ++ elem ∷ []) }
         ensures err { OnErr result (self.new ≡ self.old) }
