@@ -1,5 +1,5 @@
 -- Cover and interference of effects, by the accesses that they cover.
-use Rattle.std.proofs.Common.{◌≡◌, ◌↔◌, Bool, true, false, IsTrue, not, ◌&&◌, ◌||◌, List, All, Any, refl, sym, ap, ◌∙◌, subst}
+use Rattle.std.proofs.Common.{◌≡◌, ◌↔◌, Bool, true, false, IsTrue, not, ◌&&◌, ◌||◌, List, All, Any, refl, sym, ap, subst}
 use Rattle.std.proofs.lemmas.Bool.{false≢true, and_parts}
 use Rattle.region_paths.specs.Apart.{apart}
 use Rattle.region_paths.specs.Inside.{inside}

@@ -1,20 +1,19 @@
 -- Filling with whole numbers, against valuations and against the arguments as they are written.
-use Rattle.std.proofs.Common.{◌≡◌, ℕ, ℤ, ◌<◌, Bool, true, false, IsTrue, List, [], ◌∷◌, ◌++◌, Some, map, length, reverse, get_or, slice_get, refl, sym, ap, ap₂, ◌∙◌, subst, zero, suc, arith, ltb-true, int_eq}
+use Rattle.std.proofs.Common.{◌≡◌, ℕ, ℤ, ◌<◌, Bool, true, false, IsTrue, List, [], ◌∷◌, Some, map, length, reverse, get_or, slice_get, refl, sym, ap, ap₂, ◌∙◌, subst, zero, suc, arith, ltb-true}
 use Rattle.std.proofs.lemmas.Bool.{false≢true, and_parts, and_from}
 use Rattle.std.proofs.lemmas.Bool.Decides.{Decides-int_eq}
 use Rattle.std.proofs.lemmas.List.{length-map}
-use Rattle.std.proofs.lemmas.Option.{get_or_from_slice_get}
 use Rattle.std.proofs.lemmas.Simd.{map-map}
 use Rattle.region_paths.specs.declared.elements.Elem.{Elem}
 use Rattle.region_paths.specs.declared.elements.Elem.TheVariants.{Name, Index, Var, AnyIndex}
 use Rattle.region_paths.specs.Written.{WrittenPath}
-use Rattle.region_paths.specs.Concrete.{ConcreteElem, region, number, ConcretePath, elem_stands, each_stands}
+use Rattle.region_paths.specs.Concrete.{ConcreteElem, region, number, ConcretePath, elem_stands}
 use Rattle.region_paths.specs.Filled.{Valuation, under, elem_under, fill_elem, fill, vars_below, has_args}
 use Rattle.region_paths.specs.Sets.{SetWithin}
 use Rattle.region_paths.specs.Arguments.{literals, Gives, ArgumentsStand}
 use Rattle.region_paths.proofs.Standing.{front_stands}
 use Rattle.region_paths.proofs.Lists.{map-reverse}
-use Rattle.region_paths.proofs.Ends.{Around, around_from, around_to, along_from, along_to}
+use Rattle.region_paths.proofs.Ends.{around_from, around_to, along_from, along_to}
 use Rattle.region_paths.proofs.Soundness.{written}
 
 -- an argument that is a number is the value of its variable
