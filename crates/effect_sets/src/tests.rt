@@ -11,7 +11,7 @@ const TWO: Elem = Elem::Index(2);
 
 /// An effect on a path without a star.
 fn effect_of(alloc: Global, write: bool, elems: &[Elem]) -> Result<Effect, Memory> {
-    let elems = Elems::from(Vec::from_slice(alloc, elems)?);
+    let elems = Elems::from_slice(alloc, elems)?;
     let path = Path::new(elems, false, Elems::new(alloc));
     Ok(Effect { write, path })
 }

@@ -8,7 +8,7 @@ use twe_io::Memory;
 /// The element of a word: names and variables by their first letter.
 fn elem_of(word: &str) -> Elem {
     match word.as_bytes() {
-        b"?" => Elem::AnyIndex,
+        [b'?'] => Elem::AnyIndex,
         [digit @ b'0'..=b'9'] => Elem::Index(i32::from(*digit) - 48),
         [letter @ b'a'..=b'z'] => Elem::Var(u32::from(*letter)),
         [first, ..] => Elem::Name(u32::from(*first)),
@@ -16,18 +16,24 @@ fn elem_of(word: &str) -> Elem {
     }
 }
 
-fn path_of(alloc: Global, text: &str) -> Result<Path, Memory> {
+fn elems_of(alloc: Global, text: &str) -> Result<Elems, Memory> {
     let mut elems = Elems::new(alloc);
-    let mut star = false;
-    let mut tail = Elems::new(alloc);
     for word in text.split(':') {
-        match word {
-            "*" => star = true,
-            _ if star => tail.push(elem_of(word))?,
-            _ => elems.push(elem_of(word))?,
+        if !word.is_empty() {
+            elems.push(elem_of(word))?;
         }
     }
-    Ok(Path::new(elems, star, tail))
+    Ok(elems)
+}
+
+fn path_of(alloc: Global, text: &str) -> Result<Path, Memory> {
+    match text.split_once('*') {
+        None => Ok(Path::new(elems_of(alloc, text)?, false, Elems::new(alloc))),
+        Some((front, back)) => {
+            let elems = elems_of(alloc, front)?;
+            Ok(Path::new(elems, true, elems_of(alloc, back)?))
+        }
+    }
 }
 
 #[test]
@@ -71,9 +77,10 @@ fn disjointness_of_the_worked_examples(rt: HostRuntime) -> Result<(), Fail> {
 
 #[test]
 fn a_path_is_filled_and_copied(rt: HostRuntime) -> Result<(), Fail> {
-    let elems = Vec::from_slice(rt.alloc(), &[Elem::Name(4), Elem::Index(-7), Elem::Var(0)])?;
-    let tail = Vec::from_slice(rt.alloc(), &[Elem::Var(1), Elem::Name(5)])?;
-    let path = Path::new(Elems::from(elems), true, Elems::from(tail));
+    let front = [Elem::Name(4), Elem::Index(-7), Elem::Var(0)];
+    let elems = Elems::from_slice(rt.alloc(), &front)?;
+    let tail = Elems::from_slice(rt.alloc(), &[Elem::Var(1), Elem::Name(5)])?;
+    let path = Path::new(elems, true, tail);
     let filled = path.fill(rt.alloc(), &[Elem::AnyIndex, Elem::Index(3)])?;
     let copied = filled.copy(rt.alloc())?;
     let want = [Elem::Name(4), Elem::Index(-7), Elem::AnyIndex];
