@@ -1,2 +1,3 @@
 pub mod Sets
 pub mod Filling
+pub mod Accesses

@@ -50,7 +50,7 @@ some_interfere-exact s t answer is s_filled t_filled = (
       is ∙ list_any-from_Any (with_some t) s (i.0, i.1, i.2, i.3, (with_some-exact i.1 t a_filled t_filled).1 i.4),
 )
 
-writes_too : (e d : Bool) → (not e || d) ≡ true → e ≡ true → d ≡ true
+pub writes_too : (e d : Bool) → (not e || d) ≡ true → e ≡ true → d ≡ true
 writes_too true d h w = h
 writes_too false d h w = absurd (false≢true w)
 

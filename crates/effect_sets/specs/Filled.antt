@@ -2,7 +2,7 @@
 use Rattle.std.specs.Prelude.{Bool, List, map}
 use Rattle.std.specs.List.{list_all}
 use Rattle.region_paths.specs.declared.elements.Elem.{Elem}
-use Rattle.region_paths.specs.Filled.{fill, filled, has_args}
+use Rattle.region_paths.specs.Filled.{Valuation, fill, filled, has_args, under}
 use Rattle.effect_sets.specs.declared.effects.Effect.{Effect}
 use Rattle.effect_sets.specs.declared.effects.Summary.{Summary}
 
@@ -21,3 +21,7 @@ all_filled es = list_all (λ e. filled e.path) es
 -- there is an argument for each variable of each effect
 abbrev pub all_have_args : List Elem → List Effect → Bool
 all_have_args args es = list_all (λ e. has_args args e.path) es
+
+-- the effect on the path that it has under the valuation
+abbrev pub effect_under : Valuation → Effect → Effect
+effect_under v e = record { write = e.write; path = under v e.path }

@@ -1,3 +1,4 @@
 pub mod Covers
 pub mod Interference
 pub mod Filled
+pub mod Access

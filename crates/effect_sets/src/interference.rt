@@ -8,6 +8,13 @@ ghost use Rattle.effect_sets.specs.Filled.{all_filled};
 use crate::effects::{Effect, Summary};
 use region_paths::disjoint;
 
+/// Whether one of the effects writes and their paths do not lie apart.
+fn may_interfere(a: &Effect, b: &Effect) -> bool
+    ensures { result ≡ statically_interferes a.now b.now }
+{
+    (a.write || b.write) && !disjoint(&a.path, &b.path)
+}
+
 /// Whether one of the effects writes and their paths do not lie apart. Of effects without variables that is so
 /// exactly where one writes and some region is in both.
 pub fn interferes(a: &Effect, b: &Effect) -> bool
@@ -15,14 +22,14 @@ pub fn interferes(a: &Effect, b: &Effect) -> bool
     ensures sets { IsTrue (filled a.now.path) → IsTrue (filled b.now.path)
         → IsTrue result ↔ Interferes a.now b.now }
 {
-    (a.write || b.write) && !disjoint(&a.path, &b.path)
+    may_interfere(a, b)
 }
 
 /// Whether the effect interferes with some effect of the summary.
 fn interferes_with_some(a: &Effect, t: &Summary) -> bool
     ensures { result ≡ list_any (λ b. statically_interferes a.now b) t.now.effects }
 {
-    t.effects.as_slice().iter().any(|b| interferes(a, b))
+    t.effects.as_slice().iter().any(|b| may_interfere(a, b))
 }
 
 /// Whether some effect of the one summary interferes with some effect of the other.

@@ -4,9 +4,14 @@
 mod cover;
 mod effects;
 mod interference;
+mod laws;
 #[cfg(test)]
 mod tests;
 
 pub use cover::covers;
 pub use effects::{Effect, Effects, Summary};
 pub use interference::{interferes, summaries_interfere};
+pub use laws::{
+    cover_is_of_accesses, filling_of_effects_is_sound, interference_is_of_accesses,
+    written_tests_are_sound,
+};

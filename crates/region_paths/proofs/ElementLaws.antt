@@ -1,5 +1,5 @@
 -- What the two tests on elements say of the concrete elements that they stand against.
-use Rattle.std.proofs.Common.{◌≡◌, ℕ, ℤ, pos, ◌+ℤ◌, true, false, refl, sym, ap, ◌∙◌, subst, arith, eqb-true, eq-eqb, ne_eqb, int_eq}
+use Rattle.std.proofs.Common.{◌≡◌, ℕ, ℤ, pos, ◌+ℤ◌, Bool, true, false, refl, sym, ap, ◌∙◌, subst, arith, eqb-true, eq-eqb, ne_eqb, int_eq}
 use Rattle.std.proofs.lemmas.Bool.{false≢true, eqb-false, not-false, not_from_true, false_from_ne_true}
 use Rattle.std.proofs.lemmas.Bool.Decides.{Decides-int_eq, not_from_Decides}
 use Rattle.std.proofs.lemmas.Int.{ints}
@@ -8,7 +8,11 @@ use Rattle.region_paths.specs.declared.elements.Elem.TheVariants.{Name, Index, V
 use Rattle.region_paths.specs.Concrete.{ConcreteElem, region, number, elem_stands}
 use Rattle.region_paths.specs.Inside.{within}
 use Rattle.region_paths.specs.Apart.{clash}
-use Rattle.region_paths.specs.Filled.{Valuation, elem_under, is_var}
+use Rattle.region_paths.specs.Filled.{Valuation, elem_under}
+
+abbrev pub is_var : Elem → Bool
+is_var (Var k) = true
+is_var _ = false
 
 int_eq-refl : (z : ℤ) → int_eq z z ≡ true
 int_eq-refl z = (Decides-int_eq z z).1 refl

@@ -1,10 +1,11 @@
 -- Filling the variables of a path, and what a path is under a valuation.
-use Rattle.std.proofs.Common.{◌≡◌, ℕ, ◌<◌, true, false, IsTrue, List, [], ◌∷◌, map, length, get_or, refl, ap₂, zero, suc, arith, ltb-true}
-use Rattle.std.proofs.lemmas.Bool.{and_parts, and_from}
+use Rattle.std.proofs.Common.{◌≡◌, ℕ, ◌<◌, true, false, IsTrue, List, [], ◌∷◌, map, length, get_or, refl, ap, ap₂, zero, suc, arith, ltb-true}
+use Rattle.std.proofs.lemmas.Bool.{false≢true, and_parts, and_from}
 use Rattle.region_paths.specs.declared.elements.Elem.{Elem}
 use Rattle.region_paths.specs.declared.elements.Elem.TheVariants.{Name, Index, Var, AnyIndex}
 use Rattle.region_paths.specs.Written.{WrittenPath}
-use Rattle.region_paths.specs.Filled.{Valuation, under, fill_elem, fill, filled, is_var, no_var, vars_below, has_args}
+use Rattle.region_paths.specs.Filled.{Valuation, under, fill_elem, fill, filled, no_var, vars_below, has_args}
+use Rattle.region_paths.proofs.ElementLaws.{is_var}
 use Rattle.region_paths.proofs.Lists.{no_var-parts, no_var-cons, map-elem_under}
 
 -- an argument that is there is no variable where none of them is
@@ -35,3 +36,18 @@ under-filled v p h =
     let parts = and_parts _ _ h in
     let made : List Elem → List Elem → WrittenPath = λ elems tail. record { elems = elems; star = p.star; tail = tail } in
     ap₂ made (map-elem_under v p.elems parts.0) (map-elem_under v p.tail parts.1)
+
+-- nothing changes where there is no variable
+pub map-fill_elem-no_var : (args es : List Elem) → no_var es ≡ true → map (fill_elem args) es ≡ es
+map-fill_elem-no_var args [] h = refl
+map-fill_elem-no_var args (Name n ∷ es) h = ap (λ (ys : List Elem). Name n ∷ ys) (map-fill_elem-no_var args es h)
+map-fill_elem-no_var args (Index i ∷ es) h = ap (λ (ys : List Elem). Index i ∷ ys) (map-fill_elem-no_var args es h)
+map-fill_elem-no_var args (Var k ∷ es) h = absurd (false≢true h)
+map-fill_elem-no_var args (AnyIndex ∷ es) h = ap (λ (ys : List Elem). AnyIndex ∷ ys) (map-fill_elem-no_var args es h)
+
+-- a filled path stays as it is
+pub fill-filled : (args : List Elem) (p : WrittenPath) → IsTrue (filled p) → fill args p ≡ p
+fill-filled args p h =
+    let parts = and_parts _ _ h in
+    let made : List Elem → List Elem → WrittenPath = λ elems tail. record { elems = elems; star = p.star; tail = tail } in
+    ap₂ made (map-fill_elem-no_var args p.elems parts.0) (map-fill_elem-no_var args p.tail parts.1)

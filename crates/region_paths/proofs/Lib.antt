@@ -5,6 +5,7 @@ pub mod Ends
 pub mod Soundness
 pub mod Pairs
 pub mod Filling
+pub mod Numbers
 pub mod Exactness
 pub mod Outside
 pub mod Meeting

@@ -8,9 +8,9 @@ use Rattle.region_paths.specs.declared.elements.Elem.TheVariants.{Name, Index, V
 use Rattle.region_paths.specs.Concrete.{ConcretePath, elem_stands}
 use Rattle.region_paths.specs.Inside.{within, starts_within}
 use Rattle.region_paths.specs.Apart.{clash_from_front}
-use Rattle.region_paths.specs.Filled.{Valuation, elem_under, is_var, no_var}
+use Rattle.region_paths.specs.Filled.{Valuation, elem_under, no_var}
 use Rattle.region_paths.proofs.Standing.{front_stands}
-use Rattle.region_paths.proofs.ElementLaws.{within-stands, clash-stands, example, example-stands, stranger, stranger-stands, escape, escape-stands, escape-escapes, common, common-stands-first, common-stands-second}
+use Rattle.region_paths.proofs.ElementLaws.{is_var, within-stands, clash-stands, example, example-stands, stranger, stranger-stands, escape, escape-stands, escape-escapes, common, common-stands-first, common-stands-second}
 
 pub map-reverse : {A B : Type 0} (f : A → B) (xs : List A) → reverse (map f xs) ≡ map f (reverse xs)
 map-reverse f [] = refl

@@ -140,3 +140,18 @@ not_inside-outside p q h apart =
 pub within-inside : (p q : WrittenPath) → IsTrue (filled p) → SetWithin p q → IsTrue (inside p q)
 within-inside p q h sets =
     true_from_ne_false _ (λ no. let found = not_inside-outside p q h no in both_ways _ found.2 (sets found.0 found.1))
+
+inhabited-parts : (pe : List Elem) (ps : Bool) (pt : List Elem) → no_var pe ≡ true → no_var pt ≡ true → (c : ConcretePath) × InSet (written pe ps pt) c
+inhabited-parts pe false pt plain plain_tail =
+    (map example pe, along_to pe (map example pe) (sym (length-map pe example)) (examples-stand pe plain))
+inhabited-parts pe true pt plain plain_tail =
+    let front : ConcretePath = map example pe in
+    let back : ConcretePath = map example (reverse pt) in
+    let around = around_made pe pt front back (examples-stand pe plain) (examples-stand (reverse pt) (no_var-reverse pt plain_tail)) in
+    (front ++ reverse back, around_to pe pt (front ++ reverse back) around)
+
+-- a filled path stands for some concrete path
+pub filled-inhabited : (p : WrittenPath) → IsTrue (filled p) → (c : ConcretePath) × InSet p c
+filled-inhabited p h =
+    let plain = and_parts _ _ h in
+    inhabited-parts p.elems p.star p.tail plain.0 plain.1

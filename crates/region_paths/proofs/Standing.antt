@@ -28,7 +28,7 @@ front_stands-append (e ∷ es) (c ∷ cs) ds h =
     let parts = and_parts _ _ h in
     and_from _ _ parts.0 (front_stands-append es cs ds parts.1)
 
--- at the length of the list, what stands behind makes no difference
+-- at the length of the list, what comes after makes no difference
 pub front_stands-each : (es : List Elem) (cs ds : ConcretePath) → length es ≡ length cs → front_stands es (cs ++ ds) ≡ each_stands es cs
 front_stands-each [] [] ds h = refl
 front_stands-each [] (c ∷ cs) ds h = absurd (omega arith)

@@ -27,7 +27,7 @@ abbrev pub clash_from_end : List Elem → List Elem → Bool
 clash_from_end xs ys = clash_from_front (reverse xs) (reverse ys)
 
 -- a list without a star is apart from the path of these elements round a star: it is too short, or clashes
--- with the elements before the star from the front, or with those behind it from the end
+-- with the elements before the star from the front, or with those after it from the end
 abbrev pub apart_from_ends : List Elem → List Elem → List Elem → Bool
 apart_from_ends xs elems tail =
     nat_lt (length xs) (length elems + length tail) || (clash_from_front xs elems || clash_from_end xs tail)

@@ -4,10 +4,6 @@ use Rattle.region_paths.specs.declared.elements.Elem.{Elem}
 use Rattle.region_paths.specs.declared.elements.Elem.TheVariants.{Name, Index, Var, AnyIndex}
 use Rattle.region_paths.specs.Written.{WrittenPath}
 
-abbrev pub is_var : Elem → Bool
-is_var (Var k) = true
-is_var _ = false
-
 -- no element is a variable
 abbrev pub no_var : List Elem → Bool
 no_var [] = true
@@ -50,7 +46,7 @@ vars_below n (_ ∷ es) = vars_below n es
 abbrev pub has_args : List Elem → WrittenPath → Bool
 has_args args p = vars_below (length args) p.elems && vars_below (length args) p.tail
 
--- the path in which each variable is its argument, before the star and behind it
+-- the path in which each variable is its argument, before the star and after it
 abbrev pub fill : List Elem → WrittenPath → WrittenPath
 fill args p = record { elems = map (fill_elem args) p.elems; star = p.star; tail = map (fill_elem args) p.tail }
 
@@ -61,6 +57,6 @@ is_solid (Index i) = true
 is_solid (Var k) = false
 is_solid AnyIndex = false
 
--- the elements before the first that is neither a name nor a literal index, none of them behind the star
+-- the elements before the first that is neither a name nor a literal index, none of them after the star
 abbrev pub solid_prefix : WrittenPath → List Elem
 solid_prefix p = take_while is_solid p.elems

@@ -3,4 +3,5 @@ pub mod Concrete
 pub mod Inside
 pub mod Apart
 pub mod Filled
+pub mod Arguments
 pub mod Sets

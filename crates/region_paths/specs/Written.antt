@@ -2,12 +2,12 @@
 use Rattle.std.specs.Prelude.{◌≡◌, List, [], Bool, IsTrue}
 use Rattle.region_paths.specs.declared.elements.Elem.{Elem}
 
--- the elements before the star, whether there is a star, and the elements behind it
+-- the elements before the star, whether there is a star, and the elements after it
 pub record WrittenPath : Type 0 where
   pub elems : List Elem
   pub star : Bool
   pub tail : List Elem
 
--- nothing stands behind a star that is not there
+-- nothing stands after a star that is not there
 abbrev pub IsWellFormed : WrittenPath → Type 0
 IsWellFormed p = ¬ IsTrue p.star → p.tail ≡ []

@@ -56,7 +56,7 @@ fn end_is_within(inner: &[Elem], outer: &[Elem]) -> bool
     inner.len() >= outer.len() && end_pairs_are_within(inner, outer)
 }
 
-/// Whether a list without a star has room for the elements before a star and those behind it, and its ends are
+/// Whether a list without a star has room for the elements before a star and those after it, and its ends are
 /// within them.
 fn ends_are_within(inner: &[Elem], front: &[Elem], back: &[Elem]) -> bool
     ensures { result ≡ inside_ends inner.now front.now back.now }

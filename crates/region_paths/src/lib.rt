@@ -13,5 +13,8 @@ mod tests;
 pub use disjointness::disjoint;
 pub use elements::{Elem, Elems};
 pub use inclusion::includes;
-pub use laws::{apart_is_sound, filled_tests_are_exact, inside_is_sound};
+pub use laws::{
+    apart_is_sound, filled_tests_are_exact, filling_is_sound, filling_with_numbers_is_a_valuation,
+    inside_is_sound,
+};
 pub use paths::Path;

@@ -1,4 +1,4 @@
-//! The written path: elements, at most one star, and the elements behind the star.
+//! The written path: elements, at most one star, and the elements after the star.
 ghost use Rattle.std.specs.Prelude.{◌≡◌, IfOk, IsTrue, length, map};
 ghost use Rattle.region_paths.specs.Written.{IsWellFormed};
 ghost use Rattle.region_paths.specs.Filled.{fill, fill_elem, filled, has_args, is_solid, no_var, solid_prefix};
@@ -8,7 +8,7 @@ use std::alloc::{AllocError, Global};
 use std::marker::Model;
 use twe_io::Memory;
 
-/// A path as programs write it. `elems` stand before the star and `tail` behind it. Without a star `tail` is
+/// A path as programs write it. `elems` stand before the star and `tail` after it. Without a star `tail` is
 /// empty, which the type keeps. Contracts see a `WrittenPath`.
 #[derive(Debug, Drop)]
 pub struct Path {
@@ -51,7 +51,7 @@ impl Path {
         self.star
     }
 
-    /// The elements behind the star: none where there is no star.
+    /// The elements after the star: none where there is no star.
     pub fn tail(&self) -> &Elems
         ensures part { result.now ≡ self.now.tail }
         ensures well_formed { IsWellFormed self.now }
@@ -59,7 +59,7 @@ impl Path {
         &self.tail
     }
 
-    /// How many elements stand before the first that is neither a name nor a literal index, none of them behind
+    /// How many elements stand before the first that is neither a name nor a literal index, none of them after
     /// the star.
     pub fn solid_prefix(&self) -> usize
         ensures { result ≡ length (solid_prefix self.now) }
@@ -68,12 +68,13 @@ impl Path {
         elems.iter().take_while(|e| elem_is_solid(**e)).count()
     }
 
-    /// The path in which each variable is the argument of its number, before the star and behind it. A variable
-    /// that has no argument stays.
+    /// The path in which each variable is the argument of its number, before the star and after it. A variable
+    /// that has no argument stays, and so does a path without variables.
     pub fn fill(&self, alloc: Global, args: &[Elem]) -> Result<Path, Memory>
         ensures exact { IfOk result (λ path. path ≡ fill args.now self.now) }
         ensures complete { IsTrue (has_args args.now self.now) → IsTrue (no_var args.now)
             → IfOk result (λ path. IsTrue (filled path)) }
+        ensures kept { IsTrue (filled self.now) → IfOk result (λ path. path ≡ self.now) }
     {
         let elems = fill_elems(alloc, self.elems.as_slice(), args)?;
         let tail = fill_elems(alloc, self.tail.as_slice(), args)?;
