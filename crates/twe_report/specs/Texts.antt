@@ -1,0 +1,86 @@
+-- The texts that are written. Each line ends with byte 10.
+use Rattle.std.specs.Prelude.{◌++◌, ◌+◌, ℕ, zero, suc, ℤ, pos, List, [], ◌∷◌, length, codes, decimal, Option, None, Some, slice_get}
+use Rattle.std.specs.Fmt.{signed_decimal}
+use Rattle.std.specs.List.{flat_map}
+use Rattle.twe_io.specs.declared.place.Place.{Place}
+use Rattle.twe_program.specs.declared.program.Dims.{Dims}
+use Rattle.twe_program.specs.declared.program.Dims.TheVariants.{Scalar, Row, Grid}
+use Rattle.twe_program.specs.declared.program.CellDecl.{CellDecl}
+use Rattle.twe_program.specs.Program.{Program}
+use Rattle.twe_syntax.specs.declared.refusal.Refusal.{Refusal}
+use Rattle.twe_syntax.specs.declared.refusal.RuleName.{RuleName}
+use Rattle.twe_syntax.specs.declared.refusal.RuleName.TheVariants.{Form}
+use Rattle.twe_machine.specs.declared.state.State.{State}
+
+abbrev pub line : List ℕ → List ℕ
+line text = text ++ 10 ∷ []
+
+-- `42`
+abbrev pub printed_line : ℤ → List ℕ
+printed_line number = line (signed_decimal number)
+
+-- the value of a cell; every cell of a program has one
+abbrev pub value_shown : Option ℤ → List ℕ
+value_shown None = []
+value_shown (Some value) = signed_decimal value
+
+-- the value of the cell of this number
+abbrev pub value_text : List ℤ → ℕ → List ℕ
+value_text cells cell = value_shown (slice_get cells cell)
+
+-- the values of so many cells from this number on, each after `, `
+abbrev pub more_values : List ℤ → ℕ → ℕ → List ℕ
+more_values cells cell zero = []
+more_values cells cell (suc count) = codes ", " ++ (value_text cells cell ++ more_values cells (cell + 1) count)
+
+-- `[1, 0, 0]`, and `[]` where there are none
+abbrev pub row_text : List ℤ → ℕ → ℕ → List ℕ
+row_text cells cell zero = codes "[]"
+row_text cells cell (suc count) = codes "[" ++ (value_text cells cell ++ (more_values cells (cell + 1) count ++ codes "]"))
+
+-- so many rows of so many cells from this number on, each after `, `
+abbrev pub more_rows : List ℤ → ℕ → ℕ → ℕ → List ℕ
+more_rows cells cell zero columns = []
+more_rows cells cell (suc rows) columns = codes ", " ++ (row_text cells cell columns ++ more_rows cells (cell + columns) rows columns)
+
+-- `[[0, 0], [1, 10]]`, and `[]` where there are no rows
+abbrev pub grid_text : List ℤ → ℕ → ℕ → ℕ → List ℕ
+grid_text cells cell zero columns = codes "[]"
+grid_text cells cell (suc rows) columns = codes "[" ++ (row_text cells cell columns ++ (more_rows cells (cell + columns) rows columns ++ codes "]"))
+
+-- the values of a declaration whose first cell has this number
+abbrev pub values_text : List ℤ → ℕ → Dims → List ℕ
+values_text cells cell Scalar = value_text cells cell
+values_text cells cell (Row count) = row_text cells cell count
+values_text cells cell (Grid rows columns) = grid_text cells cell rows columns
+
+-- `x = 42`
+abbrev pub cell_line : List ℤ → CellDecl → List ℕ
+cell_line cells cell = line (cell.name ++ (codes " = " ++ values_text cells cell.first cell.dims))
+
+-- the printed numbers, the cells in the order of their declaration, and the count of tasks made
+abbrev pub result_text : Program → State → List ℕ
+result_text p st =
+    flat_map printed_line st.prints
+    ++ (flat_map (cell_line st.cells) p.cells
+    ++ line (codes "tasks " ++ decimal (length st.tasks)))
+
+abbrev pub rule_text : RuleName → List ℕ
+rule_text Form = codes "Form"
+
+-- `3:28`
+abbrev pub place_text : Place → List ℕ
+place_text place = decimal place.line ++ (codes ":" ++ decimal place.col)
+
+-- `refused: Form at 1:1`
+abbrev pub refusal_text : Refusal → List ℕ
+refusal_text refusal = line (codes "refused: " ++ (rule_text refusal.rule ++ (codes " at " ++ place_text refusal.place)))
+
+abbrev pub usage_text : List ℕ
+usage_text = line (codes "usage: twe check | run [--workers k] [--fuel f] [--tasks t] [--journal] | replay [--fuel f] [--tasks t] | load N [--workers k]")
+
+abbrev pub read_fault_text : List ℕ
+read_fault_text = line (codes "read fault")
+
+abbrev pub too_long_text : List ℕ
+too_long_text = line (codes "input too long")

@@ -1,0 +1,9 @@
+//! The texts that the program writes: what a run gives, and why a text or the words are not accepted. Who writes them,
+//! and where, is left to the crate above.
+#![tactic(auto)]
+
+mod lines;
+mod result;
+
+pub use lines::{read_fault_text, refusal_text, too_long_text, usage_text};
+pub use result::result_text;
