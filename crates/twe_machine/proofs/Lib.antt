@@ -3,3 +3,4 @@ pub mod Alone
 pub mod Cells
 pub mod Filled
 pub mod WholeRun
+pub mod OneLowest

@@ -9,14 +9,15 @@ use Rattle.seg_journal.specs.Limits.{Bounds}
 use Rattle.twe_program.specs.declared.program.Decl.{Decl}
 use Rattle.twe_program.specs.Program.{Program}
 use Rattle.twe_program.specs.WellFormed.{IsMain, IsWellFormed}
-use Rattle.twe_machine.specs.declared.ending.Outcome.TheVariants.{AllDone}
+use Rattle.twe_machine.specs.declared.ending.Outcome.TheVariants.{AllDone, Fault, Stuck, Unfinished}
 use Rattle.twe_machine.specs.declared.state.State.{State}
 use Rattle.twe_machine.specs.declared.state.TaskRow.{TaskRow}
 use Rattle.twe_machine.specs.Legal.{MayMove}
+use Rattle.twe_machine.specs.LowestFirst.{IsLowest, IsOver, LowestFirst}
 use Rattle.twe_machine.specs.Moves.{moved, start_of, first_row, first_rows, first_links, initial_values, admitted_row, done_row}
 use Rattle.twe_machine.specs.Runs.{replayed, LegalFrom, state_after, IsRun, entry_of, IsOutcome, EachOnce, AlwaysIsolated, admits, finishes}
 use Rattle.twe_machine.specs.Segment as segments
-use Rattle.twe_machine.proofs.Alone.{may_admit, may_run}
+use Rattle.twe_machine.proofs.Alone.{may_admit, may_run, goes_on}
 use Rattle.twe_machine.proofs.OneTask.{IsAlone, run_is_alone, alone_is_isolated}
 
 -- a journal goes on by one move
@@ -66,6 +67,10 @@ last_rows p lim decl = refl
 
 -- what is known of a `main` that is there
 pub record IsWhole (p : Program) (lim : Bounds) (st : State) : Type 0 where
+  pub begins : IsOutcome st Unfinished
+  pub goes_on : IsOutcome (moved p lim st admit_main).0 Unfinished
+  pub first_lowest : IsLowest st admit_main
+  pub second_lowest : IsLowest (moved p lim st admit_main).0 run_main
   pub admits : MayMove st admit_main
   pub runs : MayMove ((moved p lim st admit_main).0) run_main
   pub first : (moved p lim st admit_main).1 ≡ ends.Admitted
@@ -78,6 +83,10 @@ whole_from : (p : Program) (lim : Bounds) (decl : Decl) → IsAlone p (started p
 whole_from p lim decl alone after = record {
   admits = may_admit p _ admit_main (first_row p.main lim decl) alone refl refl refl;
   runs = may_run p _ run_main (admitted_row (first_row p.main lim decl)) after refl refl refl refl;
+  begins = let on = goes_on p (started p lim (Some decl)) alone refl refl in (refl, on.0, on.1);
+  goes_on = let on = goes_on p ((moved p lim (started p lim (Some decl)) admit_main).0) after refl refl in (refl, on.0, on.1);
+  first_lowest = record { legal = may_admit p _ admit_main (first_row p.main lim decl) alone refl refl refl; lowest = λ other may. omega arith };
+  second_lowest = record { legal = may_run p _ run_main (admitted_row (first_row p.main lim decl)) after refl refl refl refl; lowest = λ other may. omega arith };
   first = refl;
   second = refl;
   decl = decl;
@@ -137,10 +146,22 @@ whole_is p lim st0 st1 j0 j1 j2 w at_start none first same second =
     let second_entry : entry_of p lim st1 run_main ≡ record { mv = run_main; end = ends.Done (pos 0) } = ap (λ (st : State). entry_of p lim st run_main) afterwards ∙ ap (λ end. record { mv = run_main; end = end }) w.second in
     second ∙ (ap (λ (j : List Entry). j ++ entry_of p lim st1 run_main ∷ []) one ∙ ap (λ (e : Entry). record { mv = admit_main; end = ends.Admitted } ∷ e ∷ []) second_entry)
 
+-- a run whose tasks are all done is over
+over : (st : State) → IsOutcome st AllDone → IsOver st
+over st done AllDone other = λ e. cc
+over st done (Fault task kind place) other = λ e. cc
+over st done Stuck other = λ e. cc
+over st done Unfinished other = absurd (other.1 done.1)
+
+pub whole_lowest : (p : Program) (lim : Bounds) → IsWhole p lim (start_of p lim) → LowestFirst p lim whole_journal
+whole_lowest p lim w =
+    (w.begins, w.first_lowest, w.first, (w.goes_on, w.second_lowest, w.second, over (state_after p lim whole_journal) (whole_is_done p lim w)))
+
 -- what a run of the whole journal comes to
 pub record IsEnd (p : Program) (lim : Bounds) (journal : List Entry) (st : State) : Type 0 where
   pub done : IsOutcome st AllDone
   pub once : EachOnce journal st
+  pub lowest : LowestFirst p lim journal
 
 pub whole_end : (p : Program) (lim : Bounds) (journal : List Entry) (st : State) → IsWhole p lim (start_of p lim) → journal ≡ whole_journal → st ≡ state_after p lim journal → IsEnd p lim journal st
 whole_end p lim journal st w entries same =
@@ -148,4 +169,5 @@ whole_end p lim journal st w entries same =
     subst (λ (s : State). IsEnd p lim journal s) at_end (subst (λ (j : List Entry). IsEnd p lim j (state_after p lim whole_journal)) (sym entries) (record {
       done = whole_is_done p lim w;
       once = whole_once p lim w;
+      lowest = whole_lowest p lim w;
     }))

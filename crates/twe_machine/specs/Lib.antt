@@ -1,4 +1,5 @@
 pub mod Legal
+pub mod LowestFirst
 pub mod Moves
 pub mod Rows
 pub mod Runs

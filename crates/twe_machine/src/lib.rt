@@ -15,7 +15,7 @@ mod whole_run;
 pub use ending::Outcome;
 pub use first_state::start;
 pub use frame::{Call, Frame, Next, Position};
-pub use laws::{effects_are_filled, links_agree};
+pub use laws::{effects_are_filled, links_agree, one_lowest_first};
 pub use legal::{Why, may};
 pub use one_move::step;
 pub use standing::outcome;

@@ -1,6 +1,7 @@
 //! The run of a program that makes no task besides `main`.
 ghost use Rattle.std.specs.Prelude.{◌≡◌, [], ◌∷◌, ◌++◌, IfOk, OnOk};
 ghost use Rattle.twe_machine.specs.Legal.{MayMove};
+ghost use Rattle.twe_machine.specs.LowestFirst.{LowestFirst};
 ghost use Rattle.twe_machine.specs.Runs.{IsRun, Legal, state_after, IsOutcome, EachOnce, AlwaysIsolated, entry_of};
 ghost use Rattle.twe_machine.specs.Segment.{HasOnlySums};
 ghost use Rattle.twe_machine.specs.declared.ending.Outcome.TheVariants.{AllDone};
@@ -14,7 +15,8 @@ use twe_io::Memory;
 use twe_program::Prog;
 
 /// The journal of a whole run of the program under these limits, and the state that it leads to: `main` is admitted
-/// and runs to its end. The journal is legal, and in the end every task is done.
+/// and runs to its end. The journal is the
+/// lowest-first one, and in the end every task is done.
 pub fn run_main(alloc: Global, p: &Prog, lim: Limits) -> Result<(Journal, State), Memory>
     requires { HasOnlySums p.now }
     ensures legal { IfOk result (λ run. Legal p.now lim run.0) }
@@ -22,6 +24,7 @@ pub fn run_main(alloc: Global, p: &Prog, lim: Limits) -> Result<(Journal, State)
     ensures all_done { IfOk result (λ run. IsOutcome run.1 AllDone) }
     ensures once { IfOk result (λ run. EachOnce run.0 run.1) }
     ensures isolated { IfOk result (λ run. AlwaysIsolated p.now lim run.0) }
+    ensures lowest { IfOk result (λ run. LowestFirst p.now lim run.0) }
 {
     let _main = p.main;
     let mut st = start(alloc, p, lim)?;

@@ -41,3 +41,10 @@ returns-clause-once c =
 -- no moment was not isolated
 pub returns-clause-isolated : goal.returns-clause-isolated
 returns-clause-isolated c = always_isolated c.args.p.now c.args.lim c.take-2.new.journal
+
+-- and the lowest task that may move always moved
+pub returns-clause-lowest : goal.returns-clause-lowest
+returns-clause-lowest c =
+    let w = whole c.args.p.now c.args.lim (subst IsWellFormed c.p.view_is c.p.invariant) in
+    let entries = whole_is c.args.p.now c.args.lim c.in_ok-st.st c.take.new.st c.new-journal.result c.take.new.journal c.take-2.new.journal w c.in_ok-st.ensures c.new-journal.ensures c.in_ok-take.ensures.entered c.in_ok-take.ensures.run.same c.in_ok-take-2.ensures.entered in
+    (whole_end c.args.p.now c.args.lim c.take-2.new.journal c.take-2.new.st w entries c.in_ok-take-2.ensures.run.same).lowest

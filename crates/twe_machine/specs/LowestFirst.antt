@@ -1,0 +1,32 @@
+-- The lowest-first journal: at each step it takes the move of the lowest-numbered task that has one, as long as the
+-- run is unfinished.
+use Rattle.std.specs.Prelude.{◌≡◌, ◌≢◌, ◌≤◌, List, [], ◌∷◌}
+use Rattle.seg_journal.specs.declared.journal.Entry.{Entry}
+use Rattle.seg_journal.specs.declared.moves.Move.{Move}
+use Rattle.seg_journal.specs.Limits.{Bounds}
+use Rattle.twe_program.specs.Program.{Program}
+use Rattle.twe_machine.specs.declared.ending.Outcome.{Outcome}
+use Rattle.twe_machine.specs.declared.ending.Outcome.TheVariants.{Unfinished}
+use Rattle.twe_machine.specs.declared.state.State.{State}
+use Rattle.twe_machine.specs.Legal.{MayMove}
+use Rattle.twe_machine.specs.Moves.{moved, start_of}
+use Rattle.twe_machine.specs.Runs.{IsOutcome}
+
+-- the move is legal, and no task with a lower number has a legal move
+pub record IsLowest (st : State) (mv : Move) : Type 0 where
+  pub legal : MayMove st mv
+  pub lowest : (other : Move) → MayMove st other → mv.task ≤ other.task
+
+-- the run has come to its end: it is finished or stuck, or a task has met a fault
+abbrev pub IsOver : State → Type 0
+IsOver st = (outcome : Outcome) → IsOutcome st outcome → outcome ≢ Unfinished
+
+abbrev pub LowestFirstFrom : Program → Bounds → State → List Entry → Type 0
+LowestFirstFrom p lim st [] = IsOver st
+LowestFirstFrom p lim st (entry ∷ entries) =
+    IsOutcome st Unfinished × IsLowest st entry.mv × ((moved p lim st entry.mv).1 ≡ entry.end)
+    × LowestFirstFrom p lim (moved p lim st entry.mv).0 entries
+
+-- the journal is the lowest-first one of the program under these limits
+abbrev pub LowestFirst : Program → Bounds → List Entry → Type 0
+LowestFirst p lim journal = LowestFirstFrom p lim (start_of p lim) journal
