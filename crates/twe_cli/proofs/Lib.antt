@@ -1,1 +1,5 @@
-pub mod Answered
+pub mod Written
+pub mod FirstSums
+pub mod Outcomes
+pub mod Read
+pub mod Causes

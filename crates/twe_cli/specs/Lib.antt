@@ -1,5 +1,6 @@
 pub mod Answers
 pub mod Codes
-pub mod Texts
+pub mod Ends
 pub mod Theorem
 pub mod Words
+pub mod inner

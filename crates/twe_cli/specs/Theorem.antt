@@ -2,14 +2,15 @@
 use Rattle.std.specs.Prelude.{◌≡◌, List, [], Option, None, Some}
 use Rattle.seg_journal.specs.Limits.{Bounds}
 use Rattle.twe_syntax.specs.declared.refusal.Refusal.{Refusal}
-use Rattle.twe_syntax.specs.Program.{Program}
+use Rattle.twe_program.specs.Program.{Program}
 use Rattle.twe_machine.specs.declared.ending.Outcome.TheVariants.{AllDone}
+use Rattle.twe_machine.specs.LowestFirst.{LowestFirst}
 use Rattle.twe_machine.specs.Runs.{Legal, state_after, IsOutcome, EachOnce, AlwaysIsolated}
 use Rattle.twe_cli.specs.declared.book.Book.{Book}
 
 -- The book has the program and the journal of a run. The journal is one that the sequential machine allows, entry
--- after entry, and in the end every task is done. Each task was made, enabled and ended once, and at every moment, of
--- two tasks that may run and interfere, one yields to the other.
+-- after entry, and the lowest-first one; in the end every task is done. Each task was made, enabled and ended once,
+-- and at every moment, of two tasks that may run and interfere, one yields to the other.
 pub record HasRun (p : Program) (lim : Bounds) (book : Book) : Type 0 where
   pub program : book.prog ≡ Some p
   pub not_refused : book.refusal ≡ None
@@ -18,6 +19,7 @@ pub record HasRun (p : Program) (lim : Bounds) (book : Book) : Type 0 where
   pub all_done : IsOutcome (state_after p lim book.journal) AllDone
   pub once : EachOnce book.journal (state_after p lim book.journal)
   pub isolated : AlwaysIsolated p lim book.journal
+  pub lowest : LowestFirst p lim book.journal
 
 -- a book in which nothing stands yet
 pub record IsNew (book : Book) : Type 0 where

@@ -4,7 +4,6 @@
 
 mod answer;
 mod book;
-mod report;
 mod single;
 mod status;
 #[cfg(test)]
@@ -13,7 +12,7 @@ mod top;
 mod words;
 
 use book::Book;
-use std::alloc::Global;
+use std::alloc::{AllocError, Global};
 use std::env;
 use std::io::ErrorKind;
 use std::process::ExitCode;
@@ -50,7 +49,7 @@ fn words_of(rt: &(impl Env + Alloc<A = Global>)) -> Result<Vec<Word>, Memory> {
                 words.push(Word::from(word))?;
             }
         }
-        Err(e) if e.kind() == ErrorKind::OutOfMemory => return Err(Memory),
+        Err(e) if e.kind() == ErrorKind::OutOfMemory => return Err(Memory::from(AllocError)),
         Err(_) => {}
     }
     Ok(words)

@@ -1,19 +1,21 @@
 //! The top call.
 ghost use Rattle.std.specs.Prelude.{◌≡◌, [], IfOk};
-ghost use Rattle.twe_cli.specs.Answers.{input, output, Answers};
-ghost use Rattle.twe_cli.specs.Texts as texts;
+ghost use Rattle.twe_cli.specs.Answers.{Answers};
+ghost use Rattle.twe_cli.specs.Ends.{source, sink};
+ghost use Rattle.twe_cli.specs.inner.Usage.{TellsUsage};
+ghost use Rattle.twe_report.specs.Texts as texts;
 ghost use Rattle.twe_cli.specs.Theorem.{IsNew};
 ghost use Rattle.twe_cli.specs.Words.{command_of};
 ghost use Rattle.twe_cli.specs.declared.status.Status.TheVariants.{Usage};
 
 use crate::answer::{Answer, tell};
 use crate::book::Book;
-use crate::report::usage_text;
 use crate::single::twe_single;
 use crate::status::Status;
 use crate::words::read_words;
 use std::alloc::Global;
 use twe_io::{Bytes, Memory, Sink, Source, Word};
+use twe_report::usage_text;
 
 /// Does what the words of the command line say: the whole program, but for where its bytes come from and go to.
 ///
@@ -28,15 +30,23 @@ pub fn twe<S: Source, O: Sink, E: Sink>(
     book: &mut Book,
 ) -> Status
     requires { IsNew book.old }
-    ensures { Answers (command_of words.now)
-        (input (S.left src.old) (S.faults src.old)) (input (S.left src.new) (S.faults src.new))
-        (output (O.written out.old) (E.written err.old) (O.faults out.old) (E.faults err.old))
-        (output (O.written out.new) (E.written err.new) (O.faults out.new) (E.faults err.new))
-        book.new result }
+    ensures { Answers (source S.left S.faults S.read_gives) (sink O.written O.faults O.write_gives) (sink E.written E.faults E.write_gives)
+        (command_of words.now) src.old src.new out.old out.new err.old err.new book.new result }
 {
     match read_words(words) {
         Some(cmd) => twe_single(alloc, &cmd, src, out, err, book),
-        None => tell(usage(alloc), out, err),
+        None => tell_usage(alloc, out, err),
+    }
+}
+
+/// Tells the usage line.
+fn tell_usage<O: Sink, E: Sink>(alloc: Global, out: &mut O, err: &mut E) -> Status
+    ensures { TellsUsage (sink O.written O.faults O.write_gives) (sink E.written E.faults E.write_gives)
+        out.old out.new err.old err.new result }
+{
+    match usage(alloc) {
+        Ok(answer) => tell(&answer, out, err),
+        Err(_) => Status::Memory,
     }
 }
 

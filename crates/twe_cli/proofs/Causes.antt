@@ -1,0 +1,75 @@
+-- From what the parts of a call say to the causes of its answer.
+use Rattle.std.proofs.Common.{◌≡◌, ◌↔◌, ◌+◌, ◌≤◌, ℕ, List, [], length, Option, None, Some, Result, Ok, Err, IfOk, OnOk, IfSome, IsErrOf, refl, sym, ap, subst, inl, inr}
+use Rattle.std.specs.Io.KnownBytes.{IsAtEnd}
+use Rattle.twe_io.specs.Faults.{Rose}
+use Rattle.twe_io.specs.Told.{Gives}
+use Rattle.twe_io.specs.Runs.{ReadsWhole}
+use Rattle.twe_io.specs.declared.memory.Memory as out_of
+use Rattle.twe_io.specs.declared.whole.ReadFail.{ReadFail}
+use Rattle.twe_io.specs.declared.whole.ReadFail.TheVariants as reads
+use Rattle.seg_journal.specs.Limits.{Bounds}
+use Rattle.twe_program.specs.Program.{Program}
+use Rattle.twe_syntax.specs.FirstMeaning.{IsFirstProgram}
+use Rattle.twe_machine.specs.Runs.{state_after}
+use Rattle.twe_report.specs.Texts.{result_text, usage_text, read_fault_text, too_long_text}
+use Rattle.twe_cli.specs.declared.answer.Answer.{Answer}
+use Rattle.twe_cli.specs.declared.book.Book.{Book}
+use Rattle.twe_cli.specs.declared.status.Status.{Status}
+use Rattle.twe_cli.specs.declared.status.Status.TheVariants.{Done, Usage, ReadFault, TooLong, Memory}
+use Rattle.twe_cli.specs.declared.words.Command.{Command}
+use Rattle.twe_cli.specs.declared.words.Command.TheVariants.{Run}
+use Rattle.twe_cli.specs.Answers.{Due, Cause, Tells, Answers}
+use Rattle.twe_cli.specs.Ends.{SourceTells, SinkTells, WasRead, most_bytes}
+use Rattle.twe_cli.specs.Theorem.{HasRun, IsNew}
+use Rattle.twe_cli.specs.inner.Usage.{TellsUsage}
+use Rattle.twe_cli.proofs.Read.{was_read}
+
+-- what is due for the text of a program
+pub due_ran : (lim : Bounds) (text : List ℕ) (p : Program) (book : Book) (result : Result Answer out_of.Memory) → IsFirstProgram text p
+    → IfOk result (λ a. a.status ≡ Done) → OnOk result (HasRun p lim book) → IfOk result (λ a. a.out ≡ result_text p (state_after p lim book.journal)) → IfOk result (λ a. a.err ≡ [])
+    → IfOk result (λ a. Due lim text book a.status a.out a.err)
+due_ran lim text p book (Ok a) first status run out err =
+    subst (λ (s : Status). Due lim text book s a.out a.err) (sym status)
+    (subst (λ (o : List ℕ). Due lim text book Done o a.err) (sym out)
+    (subst (λ (e : List ℕ). Due lim text book Done (result_text p (state_after p lim book.journal)) e) (sym err) (Due.ran p first run)))
+due_ran lim text p book (Err e) first status run out err = tt
+
+-- the same of a read that gave no text, where its failure is known
+pub was_not_read : {S : Type 0} (tells : SourceTells S) (before after : S) (fail known : ReadFail) → fail ≡ known
+    → (IsErrOf {T = List ℕ} (Err fail) reads.ReadFault → Rose (tells.faults before) (tells.faults after))
+    → IfSome (tells.left before) (λ _. IsErrOf {T = List ℕ} (Err fail) reads.TooLong ↔ Gives (tells.left before) (tells.left after) (most_bytes + 1))
+    → ReadsWhole tells.gives most_bytes before (Err fail) after → WasRead tells before (Err known) after
+was_not_read tells before after fail known same fault too_long run =
+    subst (λ (f : ReadFail). WasRead tells before (Err f) after) same (was_read tells before after (Err fail) tt tt tt fault too_long run)
+
+-- what was read is answered as is due for it
+pub cause_text : {S : Type 0} (tells : SourceTells S) (cmd : Command) (lim : Bounds) (before after : S) (text bytes : List ℕ) (book : Book) (a : Answer) → cmd ≡ Run lim → bytes ≡ text
+    → WasRead tells before (Ok text) after → Due lim bytes book a.status a.out a.err → Cause tells (Some cmd) before after book a.status a.out a.err
+cause_text tells cmd lim before after text bytes book a command same read due =
+    Cause.text lim text (ap Some command) read (subst (λ (t : List ℕ). Due lim t book a.status a.out a.err) same due)
+
+-- an answer that has something for err alone
+module _ {S : Type 0} (tells : SourceTells S) (cmd : Command) (before after : S) (book : Book) (new : IsNew book) where
+  complaint_is : (status : Status) (text : List ℕ) (a : Answer) (err : List ℕ) → a ≡ record { status = status; out = []; err = err } → err ≡ text
+      → Cause tells (Some cmd) before after book status [] text → Cause tells (Some cmd) before after book a.status a.out a.err
+  complaint_is status text a err same line cause =
+      subst (λ (x : Answer). Cause tells (Some cmd) before after book x.status x.out x.err) (sym same)
+      (subst (λ (e : List ℕ). Cause tells (Some cmd) before after book status [] e) (sym line) cause)
+
+  pub cause_fault : (result : Result Answer out_of.Memory) (err : List ℕ) → IfOk result (λ a. a ≡ record { status = ReadFault; out = []; err = err }) → err ≡ read_fault_text
+      → WasRead tells before (Err reads.ReadFault) after → IfOk result (λ a. Cause tells (Some cmd) before after book a.status a.out a.err)
+  cause_fault (Ok a) err same line read = complaint_is ReadFault read_fault_text a err same line (Cause.read_fault refl read new)
+  cause_fault (Err e) err same line read = tt
+
+  pub cause_long : (result : Result Answer out_of.Memory) (err : List ℕ) → IfOk result (λ a. a ≡ record { status = TooLong; out = []; err = err }) → err ≡ too_long_text
+      → WasRead tells before (Err reads.TooLong) after → IfOk result (λ a. Cause tells (Some cmd) before after book a.status a.out a.err)
+  cause_long (Ok a) err same line read = complaint_is TooLong too_long_text a err same line (Cause.too_long refl read new)
+  cause_long (Err e) err same line read = tt
+
+-- words that are no command are answered with the usage line
+pub usage_answered : {S O E : Type 0} (src : SourceTells S) (out : SinkTells O) (err : SinkTells E) (from : S) (out_from out_to : O) (err_from err_to : E) (book : Book) (status : Status)
+    → IsNew book → TellsUsage out err out_from out_to err_from err_to status → Answers src out err None from from out_from out_to err_from err_to book status
+usage_answered src out err from out_from out_to err_from err_to book status new tells = elim tells [
+  | inl tells_it ↦ Answers.answered (Cause.usage refl refl new) tells_it
+  | inr kept ↦ subst (λ (s : Status). Answers src out err None from from out_from out_to err_from err_to book s) (sym kept.0) (Answers.out_of_memory kept.1 kept.2)
+]
