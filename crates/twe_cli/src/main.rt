@@ -40,7 +40,7 @@ fn main(rt: HostRuntime) -> ExitCode {
     ExitCode::from(status.code())
 }
 
-/// The words behind the program's name. Where one of them is no text there are none, which is no command either.
+/// The words after the program's name. Where one of them is no text there are none, which is no command either.
 fn words_of(rt: &(impl Env + Alloc<A = Global>)) -> Result<Vec<Word>, Memory> {
     let mut words = Vec::new(rt.alloc());
     match env::args(rt) {

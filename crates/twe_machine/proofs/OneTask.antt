@@ -129,7 +129,7 @@ run_kept : (p : Program) (lim : Bounds) (st : State) (entries : List Entry) → 
 run_kept p lim st [] one = one
 run_kept p lim st (entry ∷ entries) one = run_kept p lim ((taken p st entry.mv.kind entry.mv.task).0) entries (kept p st entry.mv.kind entry.mv.task one)
 
--- whatever the entries, there is at most one task behind them
+-- whatever the entries, there is at most one task after them
 pub run_is_alone : (p : Program) (lim : Bounds) (entries : List Entry) → IsAlone p (state_after p lim entries)
 run_is_alone p lim entries = run_kept p lim (start_of p lim) entries (at_start p lim)
 

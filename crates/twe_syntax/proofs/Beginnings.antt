@@ -8,7 +8,7 @@ use Rattle.std.proofs.lemmas.List.Sums.{prefix_len-le-length}
 use Rattle.std.proofs.Math.Numerals.{one-add}
 use Rattle.twe_syntax.specs.Lexeme.{is_line_end, is_blank, is_letter, is_word_byte, is_long_symbol, is_word, is_number, HasClose, IsUnclosedComment, IsLexeme, one_byte, long_symbol, word, number, line_comment, block_comment}
 use Rattle.twe_syntax.specs.Tokens.{is_gap}
-use Rattle.twe_syntax.specs.Reading.{Begins}
+use Rattle.twe_syntax.specs.inner.Reading.{Begins}
 use Rattle.twe_syntax.proofs.Heads.{BeginsToken, letter_begins, digit_begins, symbol_pair, run_passes}
 use Rattle.twe_syntax.proofs.Longest.{IsBound, one_byte_bound, word_bound, number_bound, symbol_bound, line_bound, block_bound, first_from_bound}
 

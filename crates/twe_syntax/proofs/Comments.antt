@@ -16,7 +16,7 @@ HasClose-take body n fits none (before, after, split) =
     let slash : get_or body (k + 1) 0 ≡ 47 = sym (get_or-take n body (k + 1) 0 (omega arith)) ∙ ap (λ bytes. get_or bytes (k + 1) 0) split ∙ get_or-append-add before (42 ∷ 47 ∷ after) 1 0 in
     none k (omega arith) star slash
 
--- where the bytes at n and behind it are `*/`, it stands there
+-- where the bytes at n and after it are `*/`, it stands there
 pub close_from_reads : (body : List ℕ) (n : ℕ) → n + 1 < length body → get_or body n 0 ≡ 42 → get_or body (n + 1) 0 ≡ 47 → drop n body ≡ 42 ∷ 47 ∷ drop (n + 1 + 1) body
 close_from_reads body n fits star slash =
     drop_more body n 0 (omega arith) ∙ (λ i. star i ∷ drop (n + 1) body) ∙ ap (λ bytes. 42 ∷ bytes) (drop_more body (n + 1) 0 fits ∙ (λ i. slash i ∷ drop (n + 1 + 1) body))
@@ -26,9 +26,9 @@ pub first_close : (body : List ℕ) (at : ℕ) → 1 ≤ at → at < length body
     (at - 1 + 2 ≤ length body) × (drop (at - 1) body ≡ 42 ∷ 47 ∷ drop (at - 1 + 2) body) × ¬ HasClose (take (at - 1) body)
 first_close body at positive fits none star slash =
     let next : at - 1 + 1 ≡ at = omega arith in
-    let behind : at - 1 + 1 + 1 ≡ at - 1 + 2 = omega arith in (
+    let later : at - 1 + 1 + 1 ≡ at - 1 + 2 = omega arith in (
       omega arith,
-      close_from_reads body (at - 1) (omega arith) star (ap (λ i. get_or body i 0) next ∙ slash) ∙ ap (λ i. 42 ∷ 47 ∷ drop i body) behind,
+      close_from_reads body (at - 1) (omega arith) star (ap (λ i. get_or body i 0) next ∙ slash) ∙ ap (λ i. 42 ∷ 47 ∷ drop i body) later,
       HasClose-take body (at - 1) (omega arith) (λ k below. none k (omega arith)),
     )
 

@@ -6,8 +6,8 @@ use Rattle.twe_syntax.specs.declared.token.Token.{Token}
 use Rattle.twe_syntax.specs.declared.first.form.RegionLine.{RegionLine}
 use Rattle.twe_syntax.specs.declared.first.form.CellLine.{CellLine}
 use Rattle.twe_syntax.specs.Grammar.{Symbol, word, name}
-use Rattle.twe_syntax.specs.FirstForm.{more_names, region_line, first_value, cell_line}
-use Rattle.twe_syntax.specs.FirstReading.{is_the_word, is_name, is_small_literal, begins, token_at, with_front, items_at, another_name_at, more_names_at, region_line_at, first_value_at, cell_line_at}
+use Rattle.twe_syntax.specs.FirstForm.{more_names, region_line, initial_value, cell_line}
+use Rattle.twe_syntax.specs.inner.FirstReading.{is_the_word, is_name, is_small_literal, begins, token_at, with_front, items_at, another_name_at, more_names_at, region_line_at, initial_value_at, cell_line_at}
 use Rattle.twe_syntax.proofs.FormBegins.{Begins, Begins-nil, same_from_Begins, Begins-append, Begins-split, Begins-length}
 use Rattle.twe_syntax.proofs.FirstTokens.{bind_some, Begins-found, chosen, chosen_first, chosen_second, word_takes, word_gives, word_begins, name_takes, name_gives, literal_takes, literal_gives}
 use Rattle.twe_syntax.proofs.Repeats.{Shrinks, Takes, Gives, Opens, with_front-nil, items_take, items_give}
@@ -52,8 +52,8 @@ region_line_takes tokens found e =
     let made : RegionLine × List Token = (record { first = b.0.0; others = c.0.0 }, d.0.1) in
     let others = more_names_take b.0.1 c.0 (sym (with_front-nil (more_names_at b.0.1)) ∙ c.1) in
     let end = word_takes (codes ";") [] c.0.1 d.0 d.0.1 d.1 (Begins-nil d.0.1) in
-    let behind = Begins-append (more_names c.0.0) (word (codes ";") ∷ []) b.0.1 c.0.1 d.0.1 others end in
-    let named = name_takes _ a.0.1 b.0 d.0.1 b.1 behind in
+    let after = Begins-append (more_names c.0.0) (word (codes ";") ∷ []) b.0.1 c.0.1 d.0.1 others end in
+    let named = name_takes _ a.0.1 b.0 d.0.1 b.1 after in
     let whole : Begins (region_line made.0) tokens made.1 = word_takes (codes "region") _ tokens a.0 d.0.1 a.1 named in
     Begins-found region_line tokens made found d.2 whole
 
@@ -81,28 +81,28 @@ pub region_lines_give : (lines : List RegionLine) (tokens rest : List Token) →
 region_lines_give lines tokens rest h stop = items_give (is_the_word (codes "region")) region_line_at region_line region_line_gives region_line_opens region_line_shrinks lines tokens rest h stop
 
 -- [ "=" int-literal ]
-first_value_takes : Takes first_value first_value_at
-unfolding first_value_at
-first_value_takes tokens found e =
+initial_value_takes : Takes initial_value initial_value_at
+unfolding initial_value_at
+initial_value_takes tokens found e =
     let nothing : Option Token × List Token = (None, tokens) in
     elim (chosen (begins (is_the_word (codes "=")) tokens) _ (Some nothing) (Some found) e) [
-      | inr right ↦ Begins-found first_value tokens nothing found right.1 (Begins-nil tokens)
+      | inr right ↦ Begins-found initial_value tokens nothing found right.1 (Begins-nil tokens)
       | inl left ↦
           let a = bind_some (token_at (is_the_word (codes "=")) tokens) _ found left.1 in
           let b = bind_some (token_at is_small_literal a.0.1) _ found a.2 in
           let made : Option Token × List Token = (Some b.0.0, b.0.1) in
           let value = literal_takes [] a.0.1 b.0 b.0.1 b.1 (Begins-nil b.0.1) in
-          let whole : Begins (first_value made.0) tokens made.1 = word_takes (codes "=") _ tokens a.0 b.0.1 a.1 value in
-          Begins-found first_value tokens made found b.2 whole
+          let whole : Begins (initial_value made.0) tokens made.1 = word_takes (codes "=") _ tokens a.0 b.0.1 a.1 value in
+          Begins-found initial_value tokens made found b.2 whole
     ]
 
-first_value_gives : (value : Option Token) (tokens rest : List Token) → Begins (first_value value) tokens rest → begins (is_the_word (codes "=")) rest ≡ false → first_value_at tokens ≡ Some (value, rest)
-unfolding first_value_at
-first_value_gives None tokens rest h stop =
+initial_value_gives : (value : Option Token) (tokens rest : List Token) → Begins (initial_value value) tokens rest → begins (is_the_word (codes "=")) rest ≡ false → initial_value_at tokens ≡ Some (value, rest)
+unfolding initial_value_at
+initial_value_gives None tokens rest h stop =
     let same = same_from_Begins tokens rest h in
     chosen_second (begins (is_the_word (codes "=")) tokens) _ _ (ap (λ (start : List Token). begins (is_the_word (codes "=")) start) same ∙ stop)
     ∙ ap (λ (start : List Token). Some (None, start)) same
-first_value_gives (Some token) tokens rest h stop =
+initial_value_gives (Some token) tokens rest h stop =
     let a = word_gives (codes "=") _ tokens rest h in
     let b = literal_gives token [] a.0.1 rest a.2 in
     chosen_first (begins (is_the_word (codes "=")) tokens) _ _ (word_begins (codes "=") _ tokens rest (λ text. bytes_eq text (codes "=")) h)
@@ -116,12 +116,12 @@ cell_line_takes tokens found e =
     let b = bind_some (token_at is_name a.0.1) _ found a.2 in
     let c = bind_some (token_at (is_the_word (codes "in")) b.0.1) _ found b.2 in
     let d = bind_some (token_at is_name c.0.1) _ found c.2 in
-    let f = bind_some (first_value_at d.0.1) _ found d.2 in
+    let f = bind_some (initial_value_at d.0.1) _ found d.2 in
     let g = bind_some (token_at (is_the_word (codes ";")) f.0.1) _ found f.2 in
     let made : CellLine × List Token = (record { name = b.0.0; region = d.0.0; value = f.0.0 }, g.0.1) in
     let end = word_takes (codes ";") [] f.0.1 g.0 g.0.1 g.1 (Begins-nil g.0.1) in
-    let behind = Begins-append (first_value f.0.0) (word (codes ";") ∷ []) d.0.1 f.0.1 g.0.1 (first_value_takes d.0.1 f.0 f.1) end in
-    let placed = word_takes (codes "in") _ b.0.1 c.0 g.0.1 c.1 (name_takes _ c.0.1 d.0 g.0.1 d.1 behind) in
+    let after = Begins-append (initial_value f.0.0) (word (codes ";") ∷ []) d.0.1 f.0.1 g.0.1 (initial_value_takes d.0.1 f.0 f.1) end in
+    let placed = word_takes (codes "in") _ b.0.1 c.0 g.0.1 c.1 (name_takes _ c.0.1 d.0 g.0.1 d.1 after) in
     let whole : Begins (cell_line made.0) tokens made.1 = word_takes (codes "int") _ tokens a.0 g.0.1 a.1 (name_takes _ a.0.1 b.0 g.0.1 b.1 placed) in
     Begins-found cell_line tokens made found g.2 whole
 
@@ -132,10 +132,10 @@ cell_line_gives line tokens rest h =
     let b = name_gives line.name _ a.0.1 rest a.2 in
     let c = word_gives (codes "in") _ b.0 rest b.2 in
     let d = name_gives line.region _ c.0.1 rest c.2 in
-    let f = Begins-split (first_value line.value) (word (codes ";") ∷ []) d.0 rest d.2 in
+    let f = Begins-split (initial_value line.value) (word (codes ";") ∷ []) d.0 rest d.2 in
     let g = word_gives (codes ";") [] f.0 rest f.2 in
     let stop = word_begins (codes ";") [] f.0 rest (λ text. bytes_eq text (codes "=")) f.2 in
-    rw (a.1, b.1, c.1, d.1, first_value_gives line.value d.0 f.0 f.1 stop, g.1, same_from_Begins g.0.1 rest g.2) refl
+    rw (a.1, b.1, c.1, d.1, initial_value_gives line.value d.0 f.0 f.1 stop, g.1, same_from_Begins g.0.1 rest g.2) refl
 
 cell_line_opens : Opens cell_line (is_the_word (codes "int"))
 cell_line_opens line tokens rest h = word_begins (codes "int") _ tokens rest (λ text. bytes_eq text (codes "int")) h

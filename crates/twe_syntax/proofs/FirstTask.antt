@@ -7,7 +7,7 @@ use Rattle.twe_syntax.specs.declared.first.form.Addend.{Addend}
 use Rattle.twe_syntax.specs.declared.first.form.Assignment.{Assignment}
 use Rattle.twe_syntax.specs.Grammar.{Symbol, word, marked}
 use Rattle.twe_syntax.specs.FirstForm.{summary_of, addend, assignment}
-use Rattle.twe_syntax.specs.FirstReading.{is_the_word, is_name, begins, token_at, term_at, items_at, more_names_at, task_head_at, summary_at, addend_at, assignment_at}
+use Rattle.twe_syntax.specs.inner.FirstReading.{is_the_word, is_name, begins, token_at, term_at, items_at, more_names_at, task_head_at, summary_at, addend_at, assignment_at}
 use Rattle.twe_syntax.proofs.FormBegins.{Begins, Begins-nil, same_from_Begins, Begins-append, Begins-split, Begins-length}
 use Rattle.twe_syntax.proofs.FirstTokens.{bind_some, Begins-found, chosen, chosen_first, chosen_second, word_takes, word_gives, word_begins, marked_takes, marked_gives, marked_begins, name_takes, name_gives, name_begins, term_takes, term_gives}
 use Rattle.twe_syntax.proofs.Repeats.{Shrinks, Takes, Gives, Opens, with_front_some, items_take, items_give}
@@ -112,8 +112,8 @@ assignment_takes tokens found e =
     let f = bind_some (token_at (is_the_word (codes ";")) d.0.1) _ found d.2 in
     let made : Assignment × List Token = (record { target = a.0.0; first = c.0.0; others = d.0.0 }, f.0.1) in
     let end = word_takes (codes ";") [] d.0.1 f.0 f.0.1 f.1 (Begins-nil f.0.1) in
-    let behind = Begins-append (flat_map addend d.0.0) (word (codes ";") ∷ []) c.0.1 d.0.1 f.0.1 (addends_take c.0.1 d.0 d.1) end in
-    let sum = word_takes (codes "=") _ a.0.1 b.0 f.0.1 b.1 (term_takes _ b.0.1 c.0 f.0.1 c.1 behind) in
+    let after = Begins-append (flat_map addend d.0.0) (word (codes ";") ∷ []) c.0.1 d.0.1 f.0.1 (addends_take c.0.1 d.0 d.1) end in
+    let sum = word_takes (codes "=") _ a.0.1 b.0 f.0.1 b.1 (term_takes _ b.0.1 c.0 f.0.1 c.1 after) in
     let whole : Begins (assignment made.0) tokens made.1 = name_takes _ tokens a.0 f.0.1 a.1 sum in
     Begins-found assignment tokens made found f.2 whole
 

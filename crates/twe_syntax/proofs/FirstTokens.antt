@@ -11,7 +11,7 @@ use Rattle.twe_syntax.specs.Lexeme.{is_letter, is_word, is_number}
 use Rattle.twe_syntax.specs.Words.{is_literal, number_of}
 use Rattle.twe_syntax.specs.Grammar.{Symbol, word, marked, name, literal, FitsAt, IsSmallLiteral}
 use Rattle.twe_syntax.specs.FirstForm.{term}
-use Rattle.twe_syntax.specs.FirstReading.{◌>>=◌, is_the_word, is_name, is_small_literal, begins, token_at, term_at}
+use Rattle.twe_syntax.specs.inner.FirstReading.{◌>>=◌, is_the_word, is_name, is_small_literal, begins, token_at, term_at}
 use Rattle.twe_syntax.proofs.FormBegins.{Begins}
 
 -- the value of a step that did not fail
@@ -79,45 +79,45 @@ Begins-found {X} written tokens made found e whole = subst (λ (p : X × List To
 
 Begins-cons : (symbol : Symbol) (symbols : List Symbol) (tokens : List Token) (found : Token × List Token) (rest : List Token) → tokens ≡ found.0 ∷ found.1 → FitsAt symbol found.0 → Begins symbols found.1 rest → Begins (symbol ∷ symbols) tokens rest
 unfolding Begins
-Begins-cons symbol symbols tokens found rest e fits behind = subst (λ (start : List Token). Begins (symbol ∷ symbols) start rest) (sym e) (fits, behind)
+Begins-cons symbol symbols tokens found rest e fits after = subst (λ (start : List Token). Begins (symbol ∷ symbols) start rest) (sym e) (fits, after)
 
 pub word_takes : (text : List ℕ) (symbols : List Symbol) (tokens : List Token) (found : Token × List Token) (rest : List Token)
     → token_at (is_the_word text) tokens ≡ Some found → Begins symbols found.1 rest → Begins (word text ∷ symbols) tokens rest
-word_takes text symbols tokens found rest e behind =
+word_takes text symbols tokens found rest e after =
     let taken = token_taken (is_the_word text) tokens found e in
-    Begins-cons (word text) symbols tokens found rest taken.0 ((bytes_eq-Decides found.0.text text).0 taken.1) behind
+    Begins-cons (word text) symbols tokens found rest taken.0 ((bytes_eq-Decides found.0.text text).0 taken.1) after
 
 pub marked_takes : (text : List ℕ) (symbols : List Symbol) (tokens : List Token) (found : Token × List Token) (rest : List Token)
     → token_at (is_the_word text) tokens ≡ Some found → Begins symbols found.1 rest → Begins (marked text found.0 ∷ symbols) tokens rest
-marked_takes text symbols tokens found rest e behind =
+marked_takes text symbols tokens found rest e after =
     let taken = token_taken (is_the_word text) tokens found e in
-    Begins-cons (marked text found.0) symbols tokens found rest taken.0 (refl, (bytes_eq-Decides found.0.text text).0 taken.1) behind
+    Begins-cons (marked text found.0) symbols tokens found rest taken.0 (refl, (bytes_eq-Decides found.0.text text).0 taken.1) after
 
 pub name_takes : (symbols : List Symbol) (tokens : List Token) (found : Token × List Token) (rest : List Token)
     → token_at is_name tokens ≡ Some found → Begins symbols found.1 rest → Begins (name found.0 ∷ symbols) tokens rest
-name_takes symbols tokens found rest e behind =
+name_takes symbols tokens found rest e after =
     let taken = token_taken is_name tokens found e in
-    Begins-cons (name found.0) symbols tokens found rest taken.0 (refl, taken.1) behind
+    Begins-cons (name found.0) symbols tokens found rest taken.0 (refl, taken.1) after
 
 pub literal_takes : (symbols : List Symbol) (tokens : List Token) (found : Token × List Token) (rest : List Token)
     → token_at is_small_literal tokens ≡ Some found → Begins symbols found.1 rest → Begins (literal found.0 ∷ symbols) tokens rest
-literal_takes symbols tokens found rest e behind =
+literal_takes symbols tokens found rest e after =
     let taken = token_taken is_small_literal tokens found e in
-    Begins-cons (literal found.0) symbols tokens found rest taken.0 (refl, small_from found.0 taken.1) behind
+    Begins-cons (literal found.0) symbols tokens found rest taken.0 (refl, small_from found.0 taken.1) after
 
 pub term_takes : (symbols : List Symbol) (tokens : List Token) (found : Term × List Token) (rest : List Token)
     → term_at tokens ≡ Some found → Begins symbols found.1 rest → Begins (term found.0 ∷ symbols) tokens rest
 unfolding term_at Begins
-term_takes symbols [] found rest e behind = absurd cc
-term_takes symbols (token ∷ tokens) found rest e behind =
+term_takes symbols [] found rest e after = absurd cc
+term_takes symbols (token ∷ tokens) found rest e after =
     let named : Term × List Token = (NamedCell token, tokens) in
     let number : Term × List Token = (Number token, tokens) in
     let P : Term × List Token → Type 0 = λ p. Begins symbols p.1 rest → Begins (term p.0 ∷ symbols) (token ∷ tokens) rest in
     elim (chosen (is_name token) (Some named) (cond (is_small_literal token) (Some number) None) (Some found) e) [
-      | inl left ↦ subst P (some_is named found left.1) (λ h. ((refl, left.0), h)) behind
+      | inl left ↦ subst P (some_is named found left.1) (λ h. ((refl, left.0), h)) after
       | inr right ↦
           let g = guard_some (is_small_literal token) number found right.1 in
-          subst P g.1 (λ h. ((refl, small_from token g.0), h)) behind
+          subst P g.1 (λ h. ((refl, small_from token g.0), h)) after
     ]
 
 -- What fits is read.
@@ -134,27 +134,27 @@ named_is : (passes : Token → Bool) (token this : Token) (tokens : List Token) 
 named_is passes token this tokens e h = token_given passes token tokens h ∙ ap (λ (t : Token). Some (t, tokens)) e
 
 pub marked_gives : (text : List ℕ) (this : Token) (symbols : List Symbol) (tokens rest : List Token) → Begins (marked text this ∷ symbols) tokens rest
-    → (behind : List Token) × (token_at (is_the_word text) tokens ≡ Some (this, behind)) × Begins symbols behind rest
+    → (after : List Token) × (token_at (is_the_word text) tokens ≡ Some (this, after)) × Begins symbols after rest
 unfolding Begins
 marked_gives text this symbols [] rest h = absurd h
 marked_gives text this symbols (token ∷ tokens) rest h =
     (tokens, named_is (is_the_word text) token this tokens h.0.0 ((bytes_eq-Decides token.text text).1 h.0.1), h.1)
 
 pub name_gives : (this : Token) (symbols : List Symbol) (tokens rest : List Token) → Begins (name this ∷ symbols) tokens rest
-    → (behind : List Token) × (token_at is_name tokens ≡ Some (this, behind)) × Begins symbols behind rest
+    → (after : List Token) × (token_at is_name tokens ≡ Some (this, after)) × Begins symbols after rest
 unfolding Begins
 name_gives this symbols [] rest h = absurd h
 name_gives this symbols (token ∷ tokens) rest h = (tokens, named_is is_name token this tokens h.0.0 h.0.1, h.1)
 
 pub literal_gives : (this : Token) (symbols : List Symbol) (tokens rest : List Token) → Begins (literal this ∷ symbols) tokens rest
-    → (behind : List Token) × (token_at is_small_literal tokens ≡ Some (this, behind)) × Begins symbols behind rest
+    → (after : List Token) × (token_at is_small_literal tokens ≡ Some (this, after)) × Begins symbols after rest
 unfolding Begins
 literal_gives this symbols [] rest h = absurd h
 literal_gives this symbols (token ∷ tokens) rest h =
     (tokens, named_is is_small_literal token this tokens h.0.0 (small_to token h.0.1), h.1)
 
 pub term_gives : (this : Term) (symbols : List Symbol) (tokens rest : List Token) → Begins (term this ∷ symbols) tokens rest
-    → (behind : List Token) × (term_at tokens ≡ Some (this, behind)) × Begins symbols behind rest
+    → (after : List Token) × (term_at tokens ≡ Some (this, after)) × Begins symbols after rest
 unfolding term_at Begins
 term_gives (NamedCell this) symbols [] rest h = absurd h
 term_gives (Number this) symbols [] rest h = absurd h

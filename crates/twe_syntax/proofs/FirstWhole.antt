@@ -11,14 +11,14 @@ use Rattle.twe_syntax.specs.declared.first.form.FirstForm.{FirstForm}
 use Rattle.twe_syntax.specs.Words.{is_identifier}
 use Rattle.twe_syntax.specs.Grammar.{Symbol, word, marked, Fits}
 use Rattle.twe_syntax.specs.FirstForm.{region_line, cell_line, summary_of, assignment, first_form}
-use Rattle.twe_syntax.specs.FirstReading.{Fails, is_the_word, is_name, begins, token_at, items_at, region_line_at, cell_line_at, task_head_at, summary_at, assignment_at, form_at}
+use Rattle.twe_syntax.specs.inner.FirstReading.{Fails, is_the_word, is_name, begins, token_at, items_at, region_line_at, cell_line_at, task_head_at, summary_at, assignment_at, form_at}
 use Rattle.twe_syntax.proofs.FormBegins.{Begins, Begins-nil, same_from_Begins, Begins-append, Begins-split, Begins-from_Fits, Fits-from_Begins}
 use Rattle.twe_syntax.proofs.FirstTokens.{bind_some, Begins-found, some_is, word_takes, word_gives, word_begins, marked_takes, marked_gives, marked_begins}
 use Rattle.twe_syntax.proofs.Repeats.{Takes, Gives}
 use Rattle.twe_syntax.proofs.FirstLines.{region_lines_take, region_lines_give, cell_lines_take, cell_lines_give}
 use Rattle.twe_syntax.proofs.FirstTask.{task_head, task_head_takes, task_head_gives, summary_takes, summary_gives, assignments_take, assignments_give}
 
--- The parts behind each other.
+-- The parts after each other.
 
 abbrev braces_of : FirstForm → List Symbol
 braces_of f = word (codes "{") ∷ (flat_map assignment f.assignments ++ marked (codes "}") f.close ∷ [])
@@ -30,9 +30,9 @@ abbrev task_of : FirstForm → List Symbol
 task_of f = task_head f.main ++ summary_and_braces_of f
 
 -- no region line begins where the region lines end
-lines_open : (lines : List CellLine) (behind : List Symbol) (tokens rest : List Token) → Begins (flat_map cell_line lines ++ (word (codes "task") ∷ behind)) tokens rest → begins (is_the_word (codes "region")) tokens ≡ false
-lines_open [] behind tokens rest h = word_begins (codes "task") behind tokens rest (λ text. bytes_eq text (codes "region")) h
-lines_open (line ∷ lines) behind tokens rest h = word_begins (codes "int") _ tokens rest (λ text. bytes_eq text (codes "region")) h
+lines_open : (lines : List CellLine) (after : List Symbol) (tokens rest : List Token) → Begins (flat_map cell_line lines ++ (word (codes "task") ∷ after)) tokens rest → begins (is_the_word (codes "region")) tokens ≡ false
+lines_open [] after tokens rest h = word_begins (codes "task") after tokens rest (λ text. bytes_eq text (codes "region")) h
+lines_open (line ∷ lines) after tokens rest h = word_begins (codes "int") _ tokens rest (λ text. bytes_eq text (codes "region")) h
 
 form_takes : Takes first_form form_at
 unfolding form_at

@@ -31,18 +31,18 @@ Fits-from_Begins [] (token ∷ tokens) begins = absurd (cc)
 Fits-from_Begins (symbol ∷ symbols) [] begins = absurd begins
 Fits-from_Begins (symbol ∷ symbols) (token ∷ tokens) begins = (begins.0, Fits-from_Begins symbols tokens begins.1)
 
-pub Begins-append : (front behind : List Symbol) (tokens middle rest : List Token) → Begins front tokens middle → Begins behind middle rest → Begins (front ++ behind) tokens rest
+pub Begins-append : (front after : List Symbol) (tokens middle rest : List Token) → Begins front tokens middle → Begins after middle rest → Begins (front ++ after) tokens rest
 unfolding Begins
-Begins-append [] behind tokens middle rest one two = subst (λ (start : List Token). Begins behind start rest) (sym one) two
-Begins-append (symbol ∷ front) behind [] middle rest one two = absurd one
-Begins-append (symbol ∷ front) behind (token ∷ tokens) middle rest one two = (one.0, Begins-append front behind tokens middle rest one.1 two)
+Begins-append [] after tokens middle rest one two = subst (λ (start : List Token). Begins after start rest) (sym one) two
+Begins-append (symbol ∷ front) after [] middle rest one two = absurd one
+Begins-append (symbol ∷ front) after (token ∷ tokens) middle rest one two = (one.0, Begins-append front after tokens middle rest one.1 two)
 
-pub Begins-split : (front behind : List Symbol) (tokens rest : List Token) → Begins (front ++ behind) tokens rest → (middle : List Token) × Begins front tokens middle × Begins behind middle rest
+pub Begins-split : (front after : List Symbol) (tokens rest : List Token) → Begins (front ++ after) tokens rest → (middle : List Token) × Begins front tokens middle × Begins after middle rest
 unfolding Begins
-Begins-split [] behind tokens rest both = (tokens, refl, both)
-Begins-split (symbol ∷ front) behind [] rest both = absurd both
-Begins-split (symbol ∷ front) behind (token ∷ tokens) rest both =
-    let split = Begins-split front behind tokens rest both.1 in
+Begins-split [] after tokens rest both = (tokens, refl, both)
+Begins-split (symbol ∷ front) after [] rest both = absurd both
+Begins-split (symbol ∷ front) after (token ∷ tokens) rest both =
+    let split = Begins-split front after tokens rest both.1 in
     (split.0, (both.0, split.1), split.2)
 
 -- each symbol stands for one token

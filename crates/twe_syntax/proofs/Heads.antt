@@ -57,11 +57,11 @@ symbol_pair bytes symbol =
     symbol
 
 -- a part of a run is no longer than the run
-pub run_bound : (passes : ℕ → Bool) (others behind : List ℕ) → list_all passes others ≡ true → length others ≤ prefix_len passes (others ++ behind)
-run_bound passes [] behind all = omega arith
-run_bound passes (first ∷ others) behind all =
+pub run_bound : (passes : ℕ → Bool) (others after : List ℕ) → list_all passes others ≡ true → length others ≤ prefix_len passes (others ++ after)
+run_bound passes [] after all = omega arith
+run_bound passes (first ∷ others) after all =
     let parts = and_parts (passes first) (list_all passes others) all in
-    let more = run_bound passes others behind parts.1 in
+    let more = run_bound passes others after parts.1 in
     rw parts.0 (omega arith)
 
 -- the bytes of a run pass

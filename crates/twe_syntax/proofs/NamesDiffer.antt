@@ -15,20 +15,20 @@ all_at : {X : Type 0} (P : X → Type 0) (front : List X) (x : X) (later : List 
 all_at P [] x later all = all.0
 all_at P (y ∷ front) x later all = all_at P front x later all.1
 
-repeated_behind : (b : Bool) (x : List ℕ) (front : List (List ℕ)) (name : List ℕ) (later : List (List ℕ)) → bytes_eq name x ≡ b → list_any (bytes_eq name) (x ∷ front) ≡ true
+repeated_after : (b : Bool) (x : List ℕ) (front : List (List ℕ)) (name : List ℕ) (later : List (List ℕ)) → bytes_eq name x ≡ b → list_any (bytes_eq name) (x ∷ front) ≡ true
     → AllByRecursion (λ y. bytes_eq x y ≡ false) (front ++ name ∷ later) → (list_any (bytes_eq name) front ≡ true → ⊥) → ⊥
-repeated_behind true x front name later same any apart behind =
+repeated_after true x front name later same any apart more =
     let differs : bytes_eq x name ≡ false = all_at (λ y. bytes_eq x y ≡ false) front name later apart in
     let flipped = nat_list_eq_equiv.symm x name in
     cc
-repeated_behind false x front name later differs any apart behind = behind (rw differs at any)
+repeated_after false x front name later differs any apart more = more (rw differs at any)
 
--- a name that stands in the front and behind it
+-- a name that stands in the front and after it
 pub repeated : (front : List (List ℕ)) (name : List ℕ) (later : List (List ℕ)) → list_any (bytes_eq name) front ≡ true → ¬ IsDistinct bytes_eq (front ++ name ∷ later)
 unfolding IsDistinct
 repeated [] name later any distinct = cc
 repeated (x ∷ front) name later any distinct =
-    repeated_behind (bytes_eq name x) x front name later refl any distinct.0 (λ more. repeated front name later more distinct.1)
+    repeated_after (bytes_eq name x) x front name later refl any distinct.0 (λ more. repeated front name later more distinct.1)
 
 pub repeated_cell : (regions cells : List (List ℕ)) (name : List ℕ) (later : List (List ℕ)) → list_any (bytes_eq name) (all_names regions cells) ≡ true → ¬ IsDistinct bytes_eq (all_names regions (cells ++ name ∷ later))
 repeated_cell regions cells name later any distinct =
@@ -50,13 +50,13 @@ fresh_parts regions cells name absent =
     let parts = neither (list_any (bytes_eq name) regions) (list_any (bytes_eq name) cells) (sym (list_any-append (bytes_eq name) regions cells) ∙ others.1) in
     (position_none (bytes_eq name) regions parts.0, position_none (bytes_eq name) cells parts.1)
 
--- after a cell was put behind the others, or nothing was
+-- after a cell was put after the others, or nothing was
 pub distinct_after_cell : {E : Type 0} (r : Result (Unit {0}) E) (regions cells after : List (List ℕ)) (name : List ℕ) → OnOk r (after ≡ cells ++ name ∷ []) → OnErr r (after ≡ cells)
     → IsDistinct bytes_eq (all_names regions cells) → list_any (bytes_eq name) (all_names regions cells) ≡ false → IsDistinct bytes_eq (all_names regions after)
 distinct_after_cell (Ok _) regions cells after name ok err distinct new = rw ok (distinct_cell regions cells name distinct new)
 distinct_after_cell (Err _) regions cells after name ok err distinct new = rw err distinct
 
--- after a region was put behind the others, or nothing was, where there are no cells
+-- after a region was put after the others, or nothing was, where there are no cells
 pub distinct_after_region : {E : Type 0} (r : Result (Unit {0}) E) (regions cells after : List (List ℕ)) (name : List ℕ) → cells ≡ [] → OnOk r (after ≡ regions ++ name ∷ []) → OnErr r (after ≡ regions)
     → IsDistinct bytes_eq (all_names regions cells) → list_any (bytes_eq name) (all_names regions cells) ≡ false → IsDistinct bytes_eq (all_names after cells)
 distinct_after_region (Ok _) regions cells after name no_cells ok err distinct new =
@@ -69,14 +69,14 @@ pub repeated_line : (old now all line others : List (List ℕ)) → now ++ (line
 repeated_line old now all line others same repeats later distinct =
     repeats (others ++ later) (subst (λ names. IsDistinct bytes_eq (codes "main" ∷ names)) (sym (append_assoc old all later) ∙ (ap (λ names. names ++ later) (sym same) ∙ simp append_assoc)) distinct)
 
-distinct_behind : (front names : List (List ℕ)) → IsDistinct bytes_eq (front ++ names) → IsDistinct bytes_eq names
+distinct_after : (front names : List (List ℕ)) → IsDistinct bytes_eq (front ++ names) → IsDistinct bytes_eq names
 unfolding IsDistinct
-distinct_behind [] names distinct = distinct
-distinct_behind (x ∷ front) names distinct = distinct_behind front names distinct.1
+distinct_after [] names distinct = distinct
+distinct_after (x ∷ front) names distinct = distinct_after front names distinct.1
 
 -- the cells differ from each other
 pub distinct_cells : (regions cells : List (List ℕ)) → IsDistinct bytes_eq (all_names regions cells) → IsDistinct bytes_eq cells
-distinct_cells regions cells distinct = distinct_behind (codes "main" ∷ regions) cells distinct
+distinct_cells regions cells distinct = distinct_after (codes "main" ∷ regions) cells distinct
 
 -- what is said of the items of a list and of names holds of the same items and names
 pub contains_moved : {X : Type 0} (key : X → List ℕ) (names names' : List (List ℕ)) (items items' : List X) → names ≡ names' → items ≡ items' → AllByRecursion (λ x. Contains names (key x)) items → AllByRecursion (λ x. Contains names' (key x)) items'

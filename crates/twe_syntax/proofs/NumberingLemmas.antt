@@ -5,7 +5,7 @@ use Rattle.std.specs.Str.{bytes_eq}
 use Rattle.std.specs.Map.{update}
 use Rattle.std.specs.BTreeMap.{get_by_text}
 use Rattle.std.specs.Cmp.Lexicographic.{bytes_decides, nat_list_eq_equiv}
-use Rattle.twe_syntax.specs.Numbering.{IsNumbering}
+use Rattle.twe_syntax.specs.inner.Numbering.{IsNumbering}
 use Rattle.twe_syntax.proofs.Positions.{position_push_first, position_push_other}
 
 module _ {A : Type 0} (old new : BTreeMap (String A) ℕ) where

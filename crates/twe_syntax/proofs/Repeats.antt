@@ -6,7 +6,7 @@ use Rattle.twe_syntax.specs.declared.token.Token.{Token}
 use Rattle.twe_syntax.specs.declared.first.fail.FirstFail.{FirstFail}
 use Rattle.twe_syntax.specs.declared.first.fail.FirstFail.TheVariants as fails
 use Rattle.twe_syntax.specs.Grammar.{Symbol}
-use Rattle.twe_syntax.specs.FirstReading.{◌>>=◌, Fails, begins, with_front, items_within, items_at}
+use Rattle.twe_syntax.specs.inner.FirstReading.{◌>>=◌, Fails, begins, with_front, items_within, items_at}
 use Rattle.twe_syntax.proofs.FormBegins.{Begins, Begins-nil, same_from_Begins, Begins-append, Begins-split}
 use Rattle.twe_syntax.proofs.FirstTokens.{bind_some, Begins-found, chosen, chosen_first, chosen_second, some_is}
 
@@ -32,9 +32,9 @@ pub with_front-nil : {X : Type 0} (read : Option (List X × List Token)) → wit
 with_front-nil None = refl
 with_front-nil (Some found) = refl
 
-with_front-append : {X : Type 0} (front behind : List X) (read : Option (List X × List Token)) → with_front front (with_front behind read) ≡ with_front (front ++ behind) read
-with_front-append front behind None = refl
-with_front-append {X} front behind (Some found) = ap (λ (xs : List X). Some (xs, found.1)) (sym (append_assoc front behind found.0))
+with_front-append : {X : Type 0} (front after : List X) (read : Option (List X × List Token)) → with_front front (with_front after read) ≡ with_front (front ++ after) read
+with_front-append front after None = refl
+with_front-append {X} front after (Some found) = ap (λ (xs : List X). Some (xs, found.1)) (sym (append_assoc front after found.0))
 
 pub with_front_some : {X : Type 0} (front : List X) (read : Option (List X × List Token)) (found : List X × List Token) → with_front front read ≡ Some found → (xs : List X) × (read ≡ Some (xs, found.1)) × (found.0 ≡ front ++ xs)
 with_front_some front None found e = absurd cc

@@ -9,8 +9,8 @@ use Rattle.twe_syntax.specs.declared.first.form.Addend.{Addend}
 use Rattle.twe_syntax.specs.declared.first.form.Assignment.{Assignment}
 use Rattle.twe_syntax.specs.declared.first.form.FirstForm.{FirstForm}
 use Rattle.twe_syntax.specs.Grammar.{Symbol, word, marked, name, literal, IsSmallLiteral, FitsAt, Fits}
-use Rattle.twe_syntax.specs.FirstForm.{region_line, first_value, cell_line, summary_of, term, addend, assignment, first_form}
-use Rattle.twe_syntax.specs.FirstLiterals.{ValueIsSmall, CellIsSmall, TermIsSmall, AssignmentIsSmall, HasSmallLiterals}
+use Rattle.twe_syntax.specs.FirstForm.{region_line, initial_value, cell_line, summary_of, term, addend, assignment, first_form}
+use Rattle.twe_syntax.specs.inner.FirstLiterals.{ValueIsSmall, CellIsSmall, TermIsSmall, AssignmentIsSmall, HasSmallLiterals}
 
 -- where a literal stands, it is a small one
 abbrev IsSmall : Symbol → Type 0
@@ -43,12 +43,12 @@ module _ {X : Type 0} (P : X → Type 0) where
   all_parts Q f each [] all = tt
   all_parts Q f each (y ∷ ys) all = (each y (all_left (f y) (flat_map f ys) all), all_parts Q f each ys (all_right (f y) (flat_map f ys) all))
 
-small_value : (value : Option Token) → AllByRecursion IsSmall (first_value value) → ValueIsSmall value
+small_value : (value : Option Token) → AllByRecursion IsSmall (initial_value value) → ValueIsSmall value
 small_value None all = tt
 small_value (Some token) all = all.1.0
 
 small_cell : (line : CellLine) → AllByRecursion IsSmall (cell_line line) → CellIsSmall line
-small_cell line all = small_value line.value (all_left IsSmall (first_value line.value) _ all.1.1.1.1)
+small_cell line all = small_value line.value (all_left IsSmall (initial_value line.value) _ all.1.1.1.1)
 
 small_term : (t : Term) → IsSmall (term t) → TermIsSmall t
 small_term (NamedCell token) small = tt
@@ -64,10 +64,10 @@ small_assignment a all =
 pub small_literals : (f : FirstForm) (tokens : List Token) → Fits (first_form f) tokens → HasSmallLiterals f
 small_literals f tokens fits =
     let all = small_symbols (first_form f) tokens fits in
-    let behind_regions = all_right IsSmall (flat_map region_line f.regions) _ all in
-    let behind_cells = all_right IsSmall (flat_map cell_line f.cells) _ behind_regions in
-    let behind_summary = all_right IsSmall (summary_of f.writes) _ behind_cells.1.1.1.1.1 in
+    let after_regions = all_right IsSmall (flat_map region_line f.regions) _ all in
+    let after_cells = all_right IsSmall (flat_map cell_line f.cells) _ after_regions in
+    let after_summary = all_right IsSmall (summary_of f.writes) _ after_cells.1.1.1.1.1 in
     record {
-      cells = all_parts IsSmall CellIsSmall cell_line small_cell f.cells (all_left IsSmall (flat_map cell_line f.cells) _ behind_regions);
-      assignments = all_parts IsSmall AssignmentIsSmall assignment small_assignment f.assignments (all_left IsSmall (flat_map assignment f.assignments) _ behind_summary.1);
+      cells = all_parts IsSmall CellIsSmall cell_line small_cell f.cells (all_left IsSmall (flat_map cell_line f.cells) _ after_regions);
+      assignments = all_parts IsSmall AssignmentIsSmall assignment small_assignment f.assignments (all_left IsSmall (flat_map assignment f.assignments) _ after_summary.1);
     }

@@ -10,7 +10,7 @@ use Rattle.std.proofs.lemmas.Map.Views.{Contains-from_any, list_any-from_Contain
 use Rattle.twe_syntax.specs.declared.token.Token.{Token}
 use Rattle.twe_syntax.specs.declared.first.form.CellLine.{CellLine}
 use Rattle.twe_syntax.specs.FirstNames.{text_of, cell_names, IsWritable}
-use Rattle.twe_syntax.specs.Writable.{is_written, written_marks}
+use Rattle.twe_syntax.specs.inner.Writable.{is_written, written_marks}
 use Rattle.twe_syntax.proofs.Positions.{absent_from_position}
 
 element_at : {X : Type 0} (xs : List X) (n : ℕ) → n < length xs → (x : X) × (get_or xs n x ≡ x)
@@ -64,7 +64,7 @@ module _ (lines : List CellLine) (writes : List Token) (name : List ℕ) where
       let same_name : name ≡ get_or (cell_names lines) n name = (bytes_decides name (get_or (cell_names lines) n name)).0 at.1 in
       let itself : bytes_eq name name ≡ true = (bytes_decides name name).1 refl in (
         λ before. let apart = apart_from_distinct bytes_eq (cell_names lines) n k name distinct before within in cc,
-        λ behind. let apart = at.2 k behind in cc,
+        λ after. let apart = at.2 k after in cc,
       )
 
   -- a cell whose mark is not set

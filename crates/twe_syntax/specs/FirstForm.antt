@@ -21,13 +21,13 @@ abbrev pub region_line : RegionLine → List Symbol
 region_line line = word (codes "region") ∷ name line.first ∷ (more_names line.others ++ word (codes ";") ∷ [])
 
 -- [ "=" int-literal ]
-abbrev pub first_value : Option Token → List Symbol
-first_value None = []
-first_value (Some token) = word (codes "=") ∷ literal token ∷ []
+abbrev pub initial_value : Option Token → List Symbol
+initial_value None = []
+initial_value (Some token) = word (codes "=") ∷ literal token ∷ []
 
 -- "int" ident "in" ident [ "=" int-literal ] ";"
 abbrev pub cell_line : CellLine → List Symbol
-cell_line line = word (codes "int") ∷ name line.name ∷ word (codes "in") ∷ name line.region ∷ (first_value line.value ++ word (codes ";") ∷ [])
+cell_line line = word (codes "int") ∷ name line.name ∷ word (codes "in") ∷ name line.region ∷ (initial_value line.value ++ word (codes ";") ∷ [])
 
 -- "pure" | "writes" ident { "," ident }
 abbrev pub summary_of : List Token → List Symbol

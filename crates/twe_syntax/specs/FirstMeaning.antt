@@ -35,14 +35,14 @@ value_of token = pos (number_of (text_of token))
 abbrev pub path_of : List (List ℕ) → Token → WrittenPath
 path_of regions token = record { elems = Name (number_in regions token) ∷ []; star = false; tail = [] }
 
-abbrev pub first_value_of : Option Token → ℤ
-first_value_of None = pos 0
-first_value_of (Some token) = value_of token
+abbrev pub initial_value_of : Option Token → ℤ
+initial_value_of None = pos 0
+initial_value_of (Some token) = value_of token
 
 -- the cell with this number
 abbrev pub cell_of : List (List ℕ) → ℕ → CellLine → CellDecl
 cell_of regions number line =
-    record { name = text_of line.name; path = path_of regions line.region; dims = Scalar; first = number; init = first_value_of line.value; place = line.name.place }
+    record { name = text_of line.name; path = path_of regions line.region; dims = Scalar; first = number; init = initial_value_of line.value; place = line.name.place }
 
 -- the cells that the lines declare, numbered from this number on
 abbrev pub cells_from : List (List ℕ) → ℕ → List CellLine → List CellDecl
@@ -58,7 +58,7 @@ abbrev pub sum_of : List (List ℕ) → Expression → List Addend → Expressio
 sum_of cells left [] = left
 sum_of cells left (a ∷ others) = sum_of cells (Binary Add left (term_of cells a.term) a.plus.place) others
 
--- the statement behind this point
+-- the statement after this point
 abbrev pub statement_of : List (List ℕ) → ℕ → Assignment → Statement
 statement_of cells point a =
     SetCell point (number_in cells a.target) (sum_of cells (term_of cells a.first) a.others) a.target.place
@@ -72,7 +72,7 @@ statements_from cells point (a ∷ others) = statement_of cells point a ∷ stat
 abbrev pub write_of : List (List ℕ) → Token → Effect
 write_of regions token = record { write = true; path = path_of regions token }
 
--- the write of each region behind `writes`
+-- the write of each region after `writes`
 abbrev pub effects_of : List (List ℕ) → List Token → List Effect
 effects_of regions tokens = map (write_of regions) tokens
 

@@ -27,7 +27,7 @@ cell_names lines = map (λ line. text_of line.name) lines
 abbrev pub all_names : List (List ℕ) → List (List ℕ) → List (List ℕ)
 all_names regions cells = codes "main" ∷ (regions ++ cells)
 
--- a cell line with this name whose region stands behind `writes`
+-- a cell line with this name whose region stands after `writes`
 abbrev pub IsWritable : List CellLine → List (List ℕ) → List ℕ → Type 0
 IsWritable cells writes cell = (line : CellLine) × Contains cells line × (text_of line.name ≡ cell) × Contains writes (text_of line.region)
 
@@ -46,7 +46,7 @@ pub record IsAllowed (cells : List CellLine) (writes : List (List ℕ)) (a : Ass
 pub record NamesAreRight (f : FirstForm) : Type 0 where
   -- the declared names, `main` and `Console` are all different
   pub different : IsDistinct bytes_eq (all_names (region_names f.regions) (cell_names f.cells))
-  -- a name behind `in` or `writes` is a region
+  -- a name after `in` or `writes` is a region
   pub cells : AllByRecursion (λ line. Contains (region_names f.regions) (text_of line.region)) f.cells
   pub writes : AllByRecursion (λ token. Contains (region_names f.regions) (text_of token)) f.writes
   pub assignments : AllByRecursion (IsAllowed f.cells (map text_of f.writes)) f.assignments

@@ -51,7 +51,7 @@ IsLineComment bytes = (body : List ℕ) × (bytes ≡ codes "//" ++ body) × IsT
 abbrev pub IsBlockComment : List ℕ → Type 0
 IsBlockComment bytes = (body : List ℕ) × (bytes ≡ codes "/*" ++ (body ++ codes "*/")) × ¬ HasClose body
 
--- `/*`, and no `*/` behind it
+-- `/*`, and no `*/` after it
 abbrev pub IsUnclosedComment : List ℕ → Type 0
 IsUnclosedComment bytes = (body : List ℕ) × (bytes ≡ codes "/*" ++ body) × ¬ HasClose body
 
@@ -69,9 +69,9 @@ pub data IsLexeme (bytes : List ℕ) : Type 0 where
 pub record IsFirstLexeme (bytes text rest : List ℕ) : Type 0 where
   pub split : text ≡ bytes ++ rest
   pub lexeme : IsLexeme bytes
-  pub longest : (other behind : List ℕ) → IsLexeme other → text ≡ other ++ behind → length other ≤ length bytes
+  pub longest : (other later : List ℕ) → IsLexeme other → text ≡ other ++ later → length other ≤ length bytes
 
--- the text is these lexemes, one behind the other
+-- the text is these lexemes, one after another
 abbrev pub AreLexemes : List (List ℕ) → List ℕ → Type 0
 AreLexemes [] text = text ≡ []
 AreLexemes (first ∷ others) text = (rest : List ℕ) × IsFirstLexeme first text rest × AreLexemes others rest

@@ -1,12 +1,8 @@
 pub mod FirstForm
-pub mod FirstLiterals
 pub mod FirstMeaning
 pub mod FirstNames
-pub mod FirstReading
 pub mod Grammar
 pub mod Lexeme
-pub mod Numbering
-pub mod Reading
 pub mod Tokens
 pub mod Words
-pub mod Writable
+pub mod inner

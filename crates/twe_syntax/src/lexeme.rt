@@ -1,7 +1,7 @@
 //! The first lexeme of a text.
 ghost use Rattle.std.specs.Prelude.{◌≡◌, ℕ, ◌+◌, ◌<◌, ◌≤◌, ◌++◌, length, take, drop, codes, IfSome, IfNone, MatchOption, IsTrue};
 ghost use Rattle.twe_syntax.specs.Lexeme.{HasClose, is_long_symbol};
-ghost use Rattle.twe_syntax.specs.Reading.{Begins, IsUnclosed};
+ghost use Rattle.twe_syntax.specs.inner.Reading.{Begins, IsUnclosed};
 
 use crate::bytes::{digits_len, is_blank, is_letter, line_len, word_len};
 

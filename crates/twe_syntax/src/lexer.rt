@@ -5,7 +5,7 @@ ghost use Rattle.twe_syntax.specs.Tokens.{Tokenizes};
 
 use crate::bytes::are_allowed;
 use crate::lexeme::first_lexeme;
-use crate::places::{first_place, place_behind};
+use crate::places::{first_place, next_place};
 use crate::token::{Token, Tokens};
 use std::alloc::Global;
 use std::error::Error;
@@ -62,12 +62,12 @@ pub fn read_tokens(alloc: Global, text: &[u8]) -> Result<Tokens, ReadTokensFail>
         let Some(lexeme) = first_lexeme(rest) else {
             return Err(ReadTokensFail::Unreadable);
         };
-        let (bytes, behind) = rest.split_at(lexeme.len);
+        let (bytes, after) = rest.split_at(lexeme.len);
         if lexeme.is_token {
             tokens.push(Token::new(alloc, bytes, place)?)?;
         }
-        place = place_behind(place, bytes);
-        rest = behind;
+        place = next_place(place, bytes);
+        rest = after;
     }
     Ok(tokens)
 }

@@ -11,8 +11,8 @@ pub(crate) fn first_place() -> Place
     Place { line: 1, col: 1 }
 }
 
-/// The place behind some bytes that begin at a place.
-pub(crate) fn place_behind(mut place: Place, bytes: &[u8]) -> Place
+/// The place after some bytes that begin at a place.
+pub(crate) fn next_place(mut place: Place, bytes: &[u8]) -> Place
     requires lines { place.line + length bytes.now < 2 ^ 32 }
     requires columns { place.col + length bytes.now < 2 ^ 32 }
     ensures { (before : List ℕ) → place ≡ place_after before → result ≡ place_after (before ++ bytes.now) }

@@ -27,7 +27,7 @@ pub struct Addend {
 pub struct RegionLine {
     /// The first name.
     pub first: Token,
-    /// The names behind the first.
+    /// The names after the first.
     pub others: List<Token>,
 }
 
@@ -38,7 +38,7 @@ pub struct CellLine {
     pub name: Token,
     /// The name of its region.
     pub region: Token,
-    /// The literal that gives its first value.
+    /// The literal that gives its initial value.
     pub value: Option<Token>,
 }
 
@@ -62,7 +62,7 @@ pub struct FirstForm {
     pub cells: List<CellLine>,
     /// The word `main`.
     pub main: Token,
-    /// The names behind `writes`; none where the task is `pure`.
+    /// The names after `writes`; none where the task is `pure`.
     pub writes: List<Token>,
     /// The assignments.
     pub assignments: List<Assignment>,

@@ -3,8 +3,8 @@ ghost use Rattle.std.specs.Prelude.{◌≡◌, ◌≤◌, [], ◌∷◌, false, 
 ghost use Rattle.std.specs.List.{AllByRecursion};
 ghost use Rattle.region_paths.specs.declared.elements.Elem.TheVariants.{Name};
 ghost use Rattle.twe_syntax.specs.FirstNames.{text_of};
-ghost use Rattle.twe_syntax.specs.FirstLiterals.{ValueIsSmall, CellIsSmall};
-ghost use Rattle.twe_syntax.specs.FirstMeaning.{path_of, value_of, first_value_of, cell_of, cells_from, write_of, effects_of};
+ghost use Rattle.twe_syntax.specs.inner.FirstLiterals.{ValueIsSmall, CellIsSmall};
+ghost use Rattle.twe_syntax.specs.FirstMeaning.{path_of, value_of, initial_value_of, cell_of, cells_from, write_of, effects_of};
 ghost use Rattle.twe_syntax.specs.Grammar.{IsSmallLiteral};
 
 use crate::first::fail::FirstFail;
@@ -25,10 +25,10 @@ pub fn literal_value(token: &Token) -> i32
     token.literal_value().unwrap()
 }
 
-/// The first value of a cell: 0 where none is written.
-fn first_value(value: &Option<Token>) -> i32
+/// The initial value of a cell: 0 where none is written.
+fn initial_value(value: &Option<Token>) -> i32
     requires small { ValueIsSmall value.now }
-    ensures value { result ≡ first_value_of value.now }
+    ensures value { result ≡ initial_value_of value.now }
 {
     match value {
         Some(token) => literal_value(token),
@@ -75,7 +75,7 @@ fn declared_cell(
         path,
         dims: Dims::Scalar,
         first: number,
-        init: first_value(&line.value),
+        init: initial_value(&line.value),
         place: line.name.place,
     })
 }
@@ -100,7 +100,7 @@ pub fn declared_cells(
     Ok(cells)
 }
 
-/// The effects of the names behind `writes`. It is `Form` where a region is not declared.
+/// The effects of the names after `writes`. It is `Form` where a region is not declared.
 pub fn written_effects(
     alloc: Global,
     regions: &Names,

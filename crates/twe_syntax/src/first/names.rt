@@ -17,7 +17,7 @@ pub struct Names {
 
 impl Model for Names {
     ghost use Rattle.std.specs.Prelude.{List, ℕ};
-    ghost use Rattle.twe_syntax.specs.Numbering.{IsNumbering};
+    ghost use Rattle.twe_syntax.specs.inner.Numbering.{IsNumbering};
 
     ghost Value = { List (List ℕ) };
 
@@ -37,7 +37,7 @@ impl Names {
         }
     }
 
-    /// Puts a name that is not there behind the others. After `Memory` the names are as before.
+    /// Puts a name that is not there after the others. After `Memory` the names are as before.
     pub fn push(&mut self, alloc: Global, name: &Word) -> Result<(), Memory>
         requires fresh { position (bytes_eq name.now) self.old ≡ None }
         ensures ok { OnOk result (self.new ≡ self.old ++ name.now ∷ []) }

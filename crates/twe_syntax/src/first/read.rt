@@ -2,7 +2,7 @@
 ghost use Rattle.std.specs.Prelude.{◌≡◌, List, IfOk, IsErrOf};
 ghost use Rattle.twe_syntax.specs.Grammar.{Fits};
 ghost use Rattle.twe_syntax.specs.FirstForm.{first_form};
-ghost use Rattle.twe_syntax.specs.FirstReading.{Reads, form_at};
+ghost use Rattle.twe_syntax.specs.inner.FirstReading.{Reads, form_at};
 ghost use Rattle.twe_syntax.specs.declared.token.Token.{Token};
 ghost use Rattle.twe_syntax.specs.declared.first.form.FirstForm.{FirstForm};
 
@@ -15,7 +15,7 @@ use super::stream::TokenStream;
 use crate::token::Tokens;
 use std::alloc::Global;
 
-#[tactic(auto, unfolding(crate::specs::FirstReading::form_at))]
+#[tactic(auto, unfolding(crate::specs::inner::FirstReading::form_at))]
 fn read_parts(alloc: Global, tokens: &mut TokenStream) -> Result<FirstForm, FirstFail>
     ensures same { Reads result tokens.new (form_at tokens.old) }
 {

@@ -1,6 +1,6 @@
 //! Reading the lines that declare regions and cells.
 ghost use Rattle.std.specs.Prelude.{◌≡◌, codes};
-ghost use Rattle.twe_syntax.specs.FirstReading.{Reads, with_front, items_at, is_the_word, another_name_at, more_names_at, region_line_at, first_value_at, cell_line_at};
+ghost use Rattle.twe_syntax.specs.inner.FirstReading.{Reads, with_front, items_at, is_the_word, another_name_at, more_names_at, region_line_at, initial_value_at, cell_line_at};
 
 use super::fail::FirstFail;
 use super::form::{CellLine, RegionLine};
@@ -10,7 +10,7 @@ use crate::token::Token;
 use std::alloc::Global;
 use twe_io::List;
 
-#[tactic(auto, unfolding(crate::specs::FirstReading::another_name_at))]
+#[tactic(auto, unfolding(crate::specs::inner::FirstReading::another_name_at))]
 fn read_another_name(tokens: &mut TokenStream) -> Result<Token, FirstFail>
     ensures same { Reads result tokens.new (another_name_at tokens.old) }
 {
@@ -18,7 +18,7 @@ fn read_another_name(tokens: &mut TokenStream) -> Result<Token, FirstFail>
     read_name(tokens)
 }
 
-/// Reads names as long as there is a comma before each, and puts them behind those that there are.
+/// Reads names as long as there is a comma before each, and puts them after those that there are.
 pub fn read_more_names(
     mut names: List<Token>,
     tokens: &mut TokenStream,
@@ -31,7 +31,7 @@ pub fn read_more_names(
     Ok(names)
 }
 
-#[tactic(auto, unfolding(crate::specs::FirstReading::region_line_at))]
+#[tactic(auto, unfolding(crate::specs::inner::FirstReading::region_line_at))]
 fn read_region_line(alloc: Global, tokens: &mut TokenStream) -> Result<RegionLine, FirstFail>
     ensures same { Reads result tokens.new (region_line_at tokens.old) }
 {
@@ -56,9 +56,9 @@ pub fn read_region_lines(
     Ok(lines)
 }
 
-#[tactic(auto, unfolding(crate::specs::FirstReading::first_value_at))]
-fn read_first_value(tokens: &mut TokenStream) -> Result<Option<Token>, FirstFail>
-    ensures same { Reads result tokens.new (first_value_at tokens.old) }
+#[tactic(auto, unfolding(crate::specs::inner::FirstReading::initial_value_at))]
+fn read_initial_value(tokens: &mut TokenStream) -> Result<Option<Token>, FirstFail>
+    ensures same { Reads result tokens.new (initial_value_at tokens.old) }
 {
     if !tokens.begins_with(b"=") {
         return Ok(None);
@@ -68,7 +68,7 @@ fn read_first_value(tokens: &mut TokenStream) -> Result<Option<Token>, FirstFail
     Ok(Some(value))
 }
 
-#[tactic(auto, unfolding(crate::specs::FirstReading::cell_line_at))]
+#[tactic(auto, unfolding(crate::specs::inner::FirstReading::cell_line_at))]
 fn read_cell_line(tokens: &mut TokenStream) -> Result<CellLine, FirstFail>
     ensures same { Reads result tokens.new (cell_line_at tokens.old) }
 {
@@ -76,7 +76,7 @@ fn read_cell_line(tokens: &mut TokenStream) -> Result<CellLine, FirstFail>
     let name = read_name(tokens)?;
     read_word(tokens, b"in")?;
     let region = read_name(tokens)?;
-    let value = read_first_value(tokens)?;
+    let value = read_initial_value(tokens)?;
     read_word(tokens, b";")?;
     Ok(CellLine {
         name,

@@ -1,6 +1,6 @@
 //! Reading the task `main`: its summary, and the assignments in it.
 ghost use Rattle.std.specs.Prelude.{◌≡◌, codes};
-ghost use Rattle.twe_syntax.specs.FirstReading.{Reads, items_at, is_the_word, is_name, task_head_at, summary_at, addend_at, assignment_at};
+ghost use Rattle.twe_syntax.specs.inner.FirstReading.{Reads, items_at, is_the_word, is_name, task_head_at, summary_at, addend_at, assignment_at};
 
 use super::fail::FirstFail;
 use super::form::{Addend, Assignment};
@@ -12,7 +12,7 @@ use std::alloc::Global;
 use twe_io::List;
 
 /// Reads what stands before the summary of the task `main`, and gives the word `main`.
-#[tactic(auto, unfolding(crate::specs::FirstReading::task_head_at))]
+#[tactic(auto, unfolding(crate::specs::inner::FirstReading::task_head_at))]
 pub fn read_task_head(tokens: &mut TokenStream) -> Result<Token, FirstFail>
     ensures same { Reads result tokens.new (task_head_at tokens.old) }
 {
@@ -24,8 +24,8 @@ pub fn read_task_head(tokens: &mut TokenStream) -> Result<Token, FirstFail>
     Ok(main)
 }
 
-/// Reads a summary: the names behind `writes`, or none behind `pure`.
-#[tactic(auto, unfolding(crate::specs::FirstReading::summary_at))]
+/// Reads a summary: the names after `writes`, or none after `pure`.
+#[tactic(auto, unfolding(crate::specs::inner::FirstReading::summary_at))]
 pub fn read_summary(alloc: Global, tokens: &mut TokenStream) -> Result<List<Token>, FirstFail>
     ensures same { Reads result tokens.new (summary_at tokens.old) }
 {
@@ -39,7 +39,7 @@ pub fn read_summary(alloc: Global, tokens: &mut TokenStream) -> Result<List<Toke
     read_more_names(names, tokens)
 }
 
-#[tactic(auto, unfolding(crate::specs::FirstReading::addend_at))]
+#[tactic(auto, unfolding(crate::specs::inner::FirstReading::addend_at))]
 fn read_addend(tokens: &mut TokenStream) -> Result<Addend, FirstFail>
     ensures same { Reads result tokens.new (addend_at tokens.old) }
 {
@@ -58,7 +58,7 @@ fn read_addends(alloc: Global, tokens: &mut TokenStream) -> Result<List<Addend>,
     Ok(addends)
 }
 
-#[tactic(auto, unfolding(crate::specs::FirstReading::assignment_at))]
+#[tactic(auto, unfolding(crate::specs::inner::FirstReading::assignment_at))]
 fn read_assignment(alloc: Global, tokens: &mut TokenStream) -> Result<Assignment, FirstFail>
     ensures same { Reads result tokens.new (assignment_at tokens.old) }
 {

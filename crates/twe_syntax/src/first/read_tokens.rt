@@ -1,6 +1,6 @@
 //! Reading single tokens.
 ghost use Rattle.std.specs.Prelude.{◌≡◌};
-ghost use Rattle.twe_syntax.specs.FirstReading.{Reads, is_the_word, is_name, is_small_literal, token_at, term_at};
+ghost use Rattle.twe_syntax.specs.inner.FirstReading.{Reads, is_the_word, is_name, is_small_literal, token_at, term_at};
 
 use super::fail::FirstFail;
 use super::form::Term;
@@ -8,7 +8,7 @@ use super::stream::{TokenStream, is_the_word};
 use crate::token::Token;
 
 /// Reads this word.
-#[tactic(auto, unfolding(crate::specs::FirstReading::token_at))]
+#[tactic(auto, unfolding(crate::specs::inner::FirstReading::token_at))]
 pub fn read_word(tokens: &mut TokenStream, text: &[u8]) -> Result<Token, FirstFail>
     ensures same { Reads result tokens.new (token_at (is_the_word text.now) tokens.old) }
 {
@@ -21,7 +21,7 @@ pub fn read_word(tokens: &mut TokenStream, text: &[u8]) -> Result<Token, FirstFa
 }
 
 /// Reads a name.
-#[tactic(auto, unfolding(crate::specs::FirstReading::token_at))]
+#[tactic(auto, unfolding(crate::specs::inner::FirstReading::token_at))]
 pub fn read_name(tokens: &mut TokenStream) -> Result<Token, FirstFail>
     ensures same { Reads result tokens.new (token_at is_name tokens.old) }
 {
@@ -40,7 +40,7 @@ fn is_literal_of_an_int(token: &Token) -> bool
 }
 
 /// Reads an integer literal of at most 2147483647.
-#[tactic(auto, unfolding(crate::specs::FirstReading::token_at))]
+#[tactic(auto, unfolding(crate::specs::inner::FirstReading::token_at))]
 pub fn read_literal(tokens: &mut TokenStream) -> Result<Token, FirstFail>
     ensures same { Reads result tokens.new (token_at is_small_literal tokens.old) }
 {
@@ -53,7 +53,7 @@ pub fn read_literal(tokens: &mut TokenStream) -> Result<Token, FirstFail>
 }
 
 /// Reads a term of a sum.
-#[tactic(auto, unfolding(crate::specs::FirstReading::term_at))]
+#[tactic(auto, unfolding(crate::specs::inner::FirstReading::term_at))]
 pub fn read_term(tokens: &mut TokenStream) -> Result<Term, FirstFail>
     ensures same { Reads result tokens.new (term_at tokens.old) }
 {

@@ -2,7 +2,7 @@
 ghost use Rattle.std.specs.Prelude.{◌≡◌, ◌+◌, map, Contains, IfOk, IsErrOf};
 ghost use Rattle.std.specs.List.{AllByRecursion};
 ghost use Rattle.twe_syntax.specs.FirstNames.{text_of, region_names, cell_names, IsAllowed, NamesAreRight};
-ghost use Rattle.twe_syntax.specs.FirstLiterals.{HasSmallLiterals};
+ghost use Rattle.twe_syntax.specs.inner.FirstLiterals.{HasSmallLiterals};
 ghost use Rattle.twe_syntax.specs.FirstMeaning.{main_of, program_of};
 
 use crate::first::declared::{Declared, declared_names};
@@ -16,7 +16,7 @@ use std::alloc::Global;
 use twe_io::{List, Memory, Word};
 use twe_program::{Body, Decl, Prog};
 
-/// How many names may stand behind `writes`.
+/// How many names may stand after `writes`.
 const MOST_WRITES: usize = 8;
 
 /// How many cells a text may declare.
@@ -57,7 +57,7 @@ fn main_body(alloc: Global, form: &FirstForm, declared: &Declared) -> Result<Bod
     })
 }
 
-/// The task `main`. It is `Form` where a name behind `writes` is no region, or a statement is not allowed.
+/// The task `main`. It is `Form` where a name after `writes` is no region, or a statement is not allowed.
 fn main_task(alloc: Global, form: &FirstForm, declared: &Declared) -> Result<Decl, FirstFail>
     requires literals { HasSmallLiterals form.now }
     requires regions { declared.now.regions ≡ region_names form.now.regions }

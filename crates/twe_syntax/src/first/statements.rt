@@ -2,7 +2,7 @@
 ghost use Rattle.std.specs.Prelude.{◌≡◌, ◌≤◌, ◌<◌, ◌^◌, length, map, IfOk, IsErrOf};
 ghost use Rattle.std.specs.List.{AllByRecursion};
 ghost use Rattle.twe_syntax.specs.FirstNames.{text_of, cell_names, TermIsWritable, IsAllowed};
-ghost use Rattle.twe_syntax.specs.FirstLiterals.{TermIsSmall, AssignmentIsSmall};
+ghost use Rattle.twe_syntax.specs.inner.FirstLiterals.{TermIsSmall, AssignmentIsSmall};
 ghost use Rattle.twe_program.specs.Statement.{statements_of};
 ghost use Rattle.twe_syntax.specs.FirstMeaning.{term_of, sum_of, statement_of, statements_from};
 
@@ -57,7 +57,7 @@ fn sum_value(
     Ok(sum)
 }
 
-/// The statement behind a point. It is `Form` where it uses a cell that it may not, or adds more than 200 times.
+/// The statement after a point. It is `Form` where it uses a cell that it may not, or adds more than 200 times.
 fn statement(
     alloc: Global,
     cells: &Cells<'_>,

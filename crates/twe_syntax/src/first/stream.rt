@@ -1,6 +1,6 @@
 //! The tokens of a text that are still to be read.
 ghost use Rattle.std.specs.Prelude.{◌≡◌, ◌↔◌, [], IsTrue, MatchOption, None, Some};
-ghost use Rattle.twe_syntax.specs.FirstReading.{next_of, begins, is_the_word, is_name};
+ghost use Rattle.twe_syntax.specs.inner.FirstReading.{next_of, begins, is_the_word, is_name};
 
 use crate::token::{Token, Tokens};
 use std::marker::Model;

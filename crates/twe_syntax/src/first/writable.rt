@@ -1,9 +1,9 @@
-//! The cells that a task may use: their regions stand behind `writes`.
+//! The cells that a task may use: their regions stand after `writes`.
 ghost use Rattle.std.specs.Prelude.{◌≡◌, length, map, bytes_eq, IfOk, MatchOption};
 ghost use Rattle.std.specs.List.{IsDistinct, IsDistinct-prop};
 ghost use Rattle.twe_syntax.specs.FirstNames.{text_of, cell_names, IsWritable};
 ghost use Rattle.twe_syntax.specs.FirstMeaning.{number_in};
-ghost use Rattle.twe_syntax.specs.Writable.{is_written, written_marks};
+ghost use Rattle.twe_syntax.specs.inner.Writable.{is_written, written_marks};
 
 use crate::first::form::CellLine;
 use crate::first::names::Names;
@@ -16,7 +16,7 @@ use twe_io::Memory;
 pub struct Cells<'a> {
     /// The lines that declare them.
     pub lines: &'a [CellLine],
-    /// The names behind `writes`.
+    /// The names after `writes`.
     pub writes: &'a [Token],
     /// Their names.
     pub names: &'a Names,
@@ -27,7 +27,7 @@ pub struct Cells<'a> {
     ghost different: { IsDistinct bytes_eq (cell_names lines.now) } by { IsDistinct-prop bytes_eq (cell_names lines.now) },
 }
 
-/// Whether a region stands behind `writes`.
+/// Whether a region stands after `writes`.
 fn is_written(writes: &[Token], region: &Token) -> bool
     ensures { result ≡ is_written writes.now region.now }
 {
@@ -36,7 +36,7 @@ fn is_written(writes: &[Token], region: &Token) -> bool
         .any(|name| region.text.as_bytes() == name.text.as_bytes())
 }
 
-/// Whether the region of each cell stands behind `writes`.
+/// Whether the region of each cell stands after `writes`.
 fn written_marks(alloc: Global, lines: &[CellLine], writes: &[Token]) -> Result<Vec<bool>, Memory>
     ensures { IfOk result (λ marks. marks.items ≡ written_marks lines.now writes.now) }
 {
@@ -48,7 +48,7 @@ fn written_marks(alloc: Global, lines: &[CellLine], writes: &[Token]) -> Result<
 }
 
 impl<'a> Cells<'a> {
-    /// The cells of these lines and names, under these names behind `writes`.
+    /// The cells of these lines and names, under these names after `writes`.
     pub fn new(
         alloc: Global,
         lines: &'a [CellLine],

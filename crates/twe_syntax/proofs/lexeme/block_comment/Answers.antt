@@ -3,7 +3,7 @@ use Rattle.std.proofs.lemmas.List.{take_rest}
 use Rattle.twe_syntax.proofs.Beginnings.{block_begins}
 use Rattle.twe_syntax.proofs.lexeme.block_comment.Goals as goal
 
--- the comment ends behind the first `*/`
+-- the comment ends after the first `*/`
 pub returns : goal.returns
 returns c =
     let found = rw (take_rest c.args.text.now 2) at c.in_ok-at.ensures.first in

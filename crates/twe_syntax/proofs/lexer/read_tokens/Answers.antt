@@ -19,17 +19,17 @@ returns-in_default-clause-unreadable c unreadable = never_closed _ _ _ _ c.loop-
 pub new-requires : goal.new-requires
 new-requires c = record { ascii = rw c.split_at.ensures.front (IsAscii-take c.loop-rest.rest.now _ c.loop-rest.invariant.ascii) }
 
-pub place_behind-place-requires-clause-columns : goal.place_behind-place-requires-clause-columns
-place_behind-place-requires-clause-columns c = omega (arith, columns_fit _ _ _ _ c.loop-rest.invariant.read)
+pub next_place-place-requires-clause-columns : goal.next_place-place-requires-clause-columns
+next_place-place-requires-clause-columns c = omega (arith, columns_fit _ _ _ _ c.loop-rest.invariant.read)
 
 pub loop-rest-preserved : goal.loop-rest-preserved
 loop-rest-preserved c = record {
   read = elim c.if-lexeme.branch [
     | then-lexeme+in_ok-new+in_ok-push w ↦
-        token_more _ _ _ _ _ c.in-Some.lexeme _ _ _ c.loop-rest.invariant.read c.in-Some.ensures c.split_at.ensures.front c.split_at.ensures.back c.place_behind-place.ensures w.if-lexeme.true
+        token_more _ _ _ _ _ c.in-Some.lexeme _ _ _ c.loop-rest.invariant.read c.in-Some.ensures c.split_at.ensures.front c.split_at.ensures.back c.next_place-place.ensures w.if-lexeme.true
         (w.tokens-is ∙ w.in_ok-push.ensures.ok ∙ ap (λ token. c.loop-rest.tokens ++ token ∷ []) w.in_ok-new.ensures)
     | else-lexeme w ↦
-        gap_more _ _ _ _ _ c.in-Some.lexeme _ _ _ c.loop-rest.invariant.read c.in-Some.ensures c.split_at.ensures.front c.split_at.ensures.back c.place_behind-place.ensures w.if-lexeme.false w.tokens-is
+        gap_more _ _ _ _ _ c.in-Some.lexeme _ _ _ c.loop-rest.invariant.read c.in-Some.ensures c.split_at.ensures.front c.split_at.ensures.back c.next_place-place.ensures w.if-lexeme.false w.tokens-is
   ];
   ascii = rw c.split_at.ensures.back (IsAscii-drop c.loop-rest.rest.now _ c.loop-rest.invariant.ascii);
 }

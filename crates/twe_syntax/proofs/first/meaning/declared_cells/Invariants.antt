@@ -1,6 +1,6 @@
 use Rattle.std.proofs.Common.{◌≡◌, ◌++◌, drop, Contains}
 use Rattle.std.specs.List.{AllByRecursion}
-use Rattle.twe_syntax.specs.FirstLiterals.{CellIsSmall}
+use Rattle.twe_syntax.specs.inner.FirstLiterals.{CellIsSmall}
 use Rattle.twe_syntax.specs.FirstMeaning.{cells_from}
 use Rattle.twe_syntax.specs.FirstNames.{text_of}
 use Rattle.twe_syntax.specs.declared.first.form.CellLine.{CellLine}

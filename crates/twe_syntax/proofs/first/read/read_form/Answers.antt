@@ -2,7 +2,7 @@ use Rattle.std.proofs.Common.{◌≡◌, List, [], Some, subst, sym, ◌∙◌, 
 use Rattle.std.proofs.lemmas.Bool.{false≢true}
 use Rattle.std.proofs.lemmas.Result.{err_from_is_err_and}
 use Rattle.twe_syntax.specs.declared.token.Token.{Token}
-use Rattle.twe_syntax.specs.FirstReading.{Fails, form_at}
+use Rattle.twe_syntax.specs.inner.FirstReading.{Fails, form_at}
 use Rattle.twe_syntax.proofs.FirstWhole.{form_fits, no_form, no_form_of_more}
 use Rattle.twe_syntax.proofs.first.read.read_form.Goals as goal
 

@@ -1,7 +1,7 @@
 use Rattle.std.proofs.Common.{sym, ◌∙◌}
 use Rattle.std.specs.Prelude.{codes}
 use Rattle.std.proofs.lemmas.Result.{err_from_is_err_and}
-use Rattle.twe_syntax.specs.FirstReading.{is_the_word, items_at, cell_line_at}
+use Rattle.twe_syntax.specs.inner.FirstReading.{is_the_word, items_at, cell_line_at}
 use Rattle.twe_syntax.proofs.Repeats.{with_front-nil, goes_on, breaks_off, is_done}
 use Rattle.twe_syntax.proofs.FirstLines.{cell_line_shrinks}
 use Rattle.twe_syntax.proofs.first.read_lines.read_cell_lines.Goals as goal

@@ -1,6 +1,6 @@
 use Rattle.std.proofs.Common.{◌≡◌, length}
 use Rattle.std.specs.Prelude.{codes}
-use Rattle.twe_syntax.specs.FirstReading.{is_the_word, with_front, items_at, region_line_at}
+use Rattle.twe_syntax.specs.inner.FirstReading.{is_the_word, with_front, items_at, region_line_at}
 use Rattle.twe_syntax.proofs.first.read_lines.read_region_lines.Given as goal
 
 abbrev pub invariant-loop-alloc : goal.invariant-loop-alloc

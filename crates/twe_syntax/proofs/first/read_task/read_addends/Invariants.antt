@@ -1,6 +1,6 @@
 use Rattle.std.proofs.Common.{◌≡◌, length}
 use Rattle.std.specs.Prelude.{codes}
-use Rattle.twe_syntax.specs.FirstReading.{is_the_word, with_front, items_at, addend_at}
+use Rattle.twe_syntax.specs.inner.FirstReading.{is_the_word, with_front, items_at, addend_at}
 use Rattle.twe_syntax.proofs.first.read_task.read_addends.Given as goal
 
 abbrev pub invariant-loop-addends : goal.invariant-loop-addends

@@ -1,6 +1,6 @@
 use Rattle.std.proofs.Common.{sym, ◌∙◌}
 use Rattle.std.proofs.lemmas.Result.{err_from_is_err_and}
-use Rattle.twe_syntax.specs.FirstReading.{is_name, items_at, assignment_at}
+use Rattle.twe_syntax.specs.inner.FirstReading.{is_name, items_at, assignment_at}
 use Rattle.twe_syntax.proofs.Repeats.{with_front-nil, goes_on, breaks_off, is_done}
 use Rattle.twe_syntax.proofs.FirstTask.{assignment_shrinks}
 use Rattle.twe_syntax.proofs.first.read_task.read_assignments.Goals as goal

@@ -1,5 +1,5 @@
 use Rattle.std.proofs.Common.{◌≡◌, length}
-use Rattle.twe_syntax.specs.FirstReading.{is_name, with_front, items_at, assignment_at}
+use Rattle.twe_syntax.specs.inner.FirstReading.{is_name, with_front, items_at, assignment_at}
 use Rattle.twe_syntax.proofs.first.read_task.read_assignments.Given as goal
 
 abbrev pub invariant-loop-alloc : goal.invariant-loop-alloc

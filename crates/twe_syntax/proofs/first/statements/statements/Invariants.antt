@@ -1,6 +1,6 @@
 use Rattle.std.proofs.Common.{◌≡◌, ◌++◌, drop, map}
 use Rattle.std.specs.List.{AllByRecursion}
-use Rattle.twe_syntax.specs.FirstLiterals.{AssignmentIsSmall}
+use Rattle.twe_syntax.specs.inner.FirstLiterals.{AssignmentIsSmall}
 use Rattle.twe_syntax.specs.FirstMeaning.{statements_from}
 use Rattle.twe_syntax.specs.FirstNames.{text_of, cell_names, IsAllowed}
 use Rattle.twe_syntax.specs.declared.first.form.Assignment.{Assignment}

@@ -1,6 +1,6 @@
 use Rattle.std.proofs.Common.{◌≡◌, drop, map}
 use Rattle.std.specs.List.{AllByRecursion}
-use Rattle.twe_syntax.specs.FirstLiterals.{TermIsSmall}
+use Rattle.twe_syntax.specs.inner.FirstLiterals.{TermIsSmall}
 use Rattle.twe_syntax.specs.FirstMeaning.{sum_of}
 use Rattle.twe_syntax.specs.FirstNames.{text_of, cell_names, TermIsWritable}
 use Rattle.twe_syntax.specs.declared.first.form.Addend.{Addend}

@@ -1,5 +1,5 @@
 use Rattle.std.proofs.Common.{◌≡◌, ◌++◌, drop}
-use Rattle.twe_syntax.specs.Writable.{written_marks}
+use Rattle.twe_syntax.specs.inner.Writable.{written_marks}
 use Rattle.twe_syntax.proofs.first.writable.written_marks.Given as goal
 
 abbrev pub invariant-loop-line : goal.invariant-loop-line

@@ -2,7 +2,7 @@ use Rattle.std.proofs.Common.{◌≡◌, Some, None, sym, ap, ◌∙◌, subst, 
 use Rattle.std.specs.List.{position}
 use Rattle.std.specs.Str.{bytes_eq}
 use Rattle.twe_syntax.specs.FirstNames.{cell_names}
-use Rattle.twe_syntax.specs.Writable.{written_marks}
+use Rattle.twe_syntax.specs.inner.Writable.{written_marks}
 use Rattle.twe_syntax.proofs.WritableLemmas.{writable_from_mark, not_writable_from_absent, not_writable_from_mark}
 use Rattle.twe_syntax.proofs.first.writable.Cells.writable.Goals as goal
 

@@ -17,7 +17,7 @@ infixl 10 ◌>>=◌
 abbrev pub ◌>>=◌ : {A B : Type 0} → Option A → (A → Option B) → Option B
 o >>= f = option_and_then f o
 
--- What a function returned, and the tokens behind it, are what is read, unless memory ran out.
+-- What a function returned, and the tokens after it, are what is read, unless memory ran out.
 abbrev pub Fails : {Y : Type 0} → FirstFail → Option Y → Type 0
 Fails fails.Form read = read ≡ None
 Fails (fails.OutOfMemory memory) read = Unit {0}
@@ -42,7 +42,7 @@ abbrev pub begins : (Token → Bool) → List Token → Bool
 begins passes [] = false
 begins passes (token ∷ tokens) = passes token
 
--- One token, and the tokens behind it.
+-- One token, and the tokens after it.
 
 abbrev pub next_of : List Token → Option (Token × List Token)
 next_of [] = None
@@ -94,8 +94,8 @@ region_line_at tokens = do
   end ← token_at (is_the_word (codes ";")) others.1
   Some (record { first = first.0; others = others.0 }, end.1)
 
-unfoldable pub first_value_at : List Token → Option (Option Token × List Token)
-first_value_at tokens =
+unfoldable pub initial_value_at : List Token → Option (Option Token × List Token)
+initial_value_at tokens =
     if begins (is_the_word (codes "=")) tokens
     then (do
       equals ← token_at (is_the_word (codes "=")) tokens
@@ -107,9 +107,9 @@ unfoldable pub cell_line_at : List Token → Option (CellLine × List Token)
 cell_line_at tokens = do
   int ← token_at (is_the_word (codes "int")) tokens
   name ← token_at is_name int.1
-  behind ← token_at (is_the_word (codes "in")) name.1
-  region ← token_at is_name behind.1
-  value ← first_value_at region.1
+  after ← token_at (is_the_word (codes "in")) name.1
+  region ← token_at is_name after.1
+  value ← initial_value_at region.1
   end ← token_at (is_the_word (codes ";")) value.1
   Some (record { name = name.0; region = region.0; value = value.0 }, end.1)
 

@@ -1,6 +1,6 @@
 use Rattle.std.proofs.Common.{◌≡◌, ℕ, ◌+◌, ◌≤◌, List, ◌++◌, take}
 use Rattle.twe_syntax.specs.Tokens.{place_after}
-use Rattle.twe_syntax.proofs.places.place_behind.Given as goal
+use Rattle.twe_syntax.proofs.places.next_place.Given as goal
 
 abbrev pub invariant-loop-byte : goal.invariant-loop-byte
 invariant-loop-byte l = record {

@@ -1,0 +1,5 @@
+pub mod FirstLiterals
+pub mod FirstReading
+pub mod Numbering
+pub mod Reading
+pub mod Writable
