@@ -30,11 +30,7 @@ pub fn tell<O: Sink, E: Sink>(answer: &Answer, out: &mut O, err: &mut E) -> Stat
 }
 
 /// Writes the bytes for out, and then those for err.
-fn write_both<O: Sink, E: Sink>(
-    answer: &Answer,
-    out: &mut O,
-    err: &mut E,
-) -> Result<(), WriteFault>
+fn write_both<O: Sink, E: Sink>(answer: &Answer, out: &mut O, err: &mut E) -> Result<(), WriteFault>
     ensures { WroteBoth (sink O.written O.faults O.write_gives) (sink E.written E.faults E.write_gives)
         out.old out.new err.old err.new answer.now.out answer.now.err result }
 {

@@ -1,4 +1,4 @@
-//! Whole calls: words and a text go in, and a status and the bytes of both sinks come out.
+//! What no run of the program shows: ends that fail, and moves that are not legal. The rest is in `tests/cases/`.
 use crate::book::Book;
 use crate::top::twe;
 use seg_journal::{Kind, Limits, Move};
@@ -16,107 +16,6 @@ const NOTHING: &[u8] = b"task void main() pure { }\n";
 
 const RESULT: &[u8] = b"x = 42\ntasks 1\n";
 
-const REFUSED: &[u8] = b"refused: Form at 1:1\n";
-
-const USAGE: &[u8] =
-    b"usage: twe check | run [--workers k] [--fuel f] [--tasks t] [--journal] | replay [--fuel f] [--tasks t] | load N [--workers k]\n";
-
-/// One call, and what it has to answer.
-struct Case {
-    words: &'static [&'static str],
-    text: &'static [u8],
-    status: u8,
-    out: &'static [u8],
-    err: &'static [u8],
-}
-
-const CASES: &[Case] = &[
-    Case {
-        words: &["run"],
-        text: INCREMENT,
-        status: 0,
-        out: RESULT,
-        err: b"",
-    },
-    Case {
-        words: &["run"],
-        text: NOTHING,
-        status: 0,
-        out: b"tasks 1\n",
-        err: b"",
-    },
-    Case {
-        words: &["run"],
-        text: b"",
-        status: 1,
-        out: b"",
-        err: REFUSED,
-    },
-    Case {
-        words: &["walk"],
-        text: INCREMENT,
-        status: 2,
-        out: b"",
-        err: USAGE,
-    },
-    Case {
-        words: &[],
-        text: INCREMENT,
-        status: 2,
-        out: b"",
-        err: USAGE,
-    },
-    Case {
-        words: &["run", "run"],
-        text: INCREMENT,
-        status: 2,
-        out: b"",
-        err: USAGE,
-    },
-    Case {
-        words: &["run", "--"],
-        text: INCREMENT,
-        status: 2,
-        out: b"",
-        err: USAGE,
-    },
-    Case {
-        words: &["--help"],
-        text: INCREMENT,
-        status: 2,
-        out: b"",
-        err: USAGE,
-    },
-    Case {
-        words: &["run"],
-        text: b"region A; int a in A = 2147483647; int b in A; task void main() writes A { b = a + 1; a = b + b; }",
-        status: 0,
-        out: b"a = 0\nb = -2147483648\ntasks 1\n",
-        err: b"",
-    },
-    Case {
-        words: &["run"],
-        text: b"region A, B; int a in A = 1; int b in B = 2; task void main() writes B, A { a = a + b + 3; b = a; }",
-        status: 0,
-        out: b"a = 6\nb = 6\ntasks 1\n",
-        err: b"",
-    },
-    Case {
-        words: &["run"],
-        text: b"region A; int a in A; int b in A = 7; task void main() writes A { a = b + a; b = 007; a = a + a; }",
-        status: 0,
-        out: b"a = 14\nb = 7\ntasks 1\n",
-        err: b"",
-    },
-    Case {
-        words: &["run"],
-        text: b"region A; int x in A; task void main() pure { x = 1; }",
-        status: 1,
-        out: b"",
-        err: REFUSED,
-    },
-];
-
 /// Makes one call over these ends, and says its status.
 fn call<S: Source>(
     alloc: Global,
@@ -131,40 +30,6 @@ fn call<S: Source>(
     }
     let mut book = Book::new(alloc);
     Ok(twe(alloc, list.as_slice(), src, out, err, &mut book).code())
-}
-
-#[test]
-fn each_call_has_its_status_and_its_bytes(rt: HostRuntime) -> Result<(), Fail> {
-    for case in CASES {
-        let mut src = PlainSource::new(Bytes::from_slice(rt.alloc(), case.text)?);
-        let mut out = PlainSink::new(rt.alloc(), 200)?;
-        let mut err = PlainSink::new(rt.alloc(), 200)?;
-        let status = call(rt.alloc(), case.words, &mut src, &mut out, &mut err)?;
-        assert_eq!(rt; status, case.status);
-        assert_eq!(rt; out.bytes(), case.out);
-        assert_eq!(rt; err.bytes(), case.err);
-    }
-    Ok(())
-}
-
-#[test]
-fn a_text_may_have_a_mebibyte_and_no_more(rt: HostRuntime) -> Result<(), Fail> {
-    for (count, status) in [(1_048_576usize, 1u8), (1_048_577, 8)] {
-        let blanks = vec![in rt.alloc(); b' '; count]?;
-        let mut src = PlainSource::new(Bytes::from(blanks));
-        let mut out = PlainSink::new(rt.alloc(), 200)?;
-        let mut err = PlainSink::new(rt.alloc(), 200)?;
-        let answer = call(rt.alloc(), &["run"], &mut src, &mut out, &mut err)?;
-        assert_eq!(rt; answer, status);
-        let wanted = if status == 8 {
-            b"input too long\n".as_slice()
-        } else {
-            REFUSED
-        };
-        assert_eq!(rt; err.bytes(), wanted);
-        assert_eq!(rt; out.bytes().len(), 0);
-    }
-    Ok(())
 }
 
 #[test]
