@@ -1,0 +1,5 @@
+pub mod ListLemmas
+pub mod GoneLemmas
+pub mod RuleLemmas
+pub mod CallLemmas
+pub mod AloneLemmas
