@@ -3,3 +3,5 @@ pub mod GoneLemmas
 pub mod RuleLemmas
 pub mod CallLemmas
 pub mod AloneLemmas
+pub mod PlaceLemmas
+pub mod EndsLemmas

@@ -5,8 +5,10 @@
 //! the crates above.
 #![tactic(auto)]
 
+mod deck;
 mod law;
 mod other;
 mod own;
 
+pub use deck::Deck;
 pub use law::Hand;
