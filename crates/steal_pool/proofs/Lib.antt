@@ -5,3 +5,5 @@ pub mod CallLemmas
 pub mod AloneLemmas
 pub mod PlaceLemmas
 pub mod EndsLemmas
+pub mod MakingLemmas
+pub mod NewLemmas

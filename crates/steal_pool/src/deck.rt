@@ -1,8 +1,9 @@
 //! A worker's deck and its ends of the others'.
-ghost use Rattle.std.specs.Prelude.{◌≢◌, ◌≡◌, ◌<◌, length, IfSome, IfNone};
-ghost use Rattle.steal_pool.specs.Hand.{sharing};
+ghost use Rattle.std.specs.Prelude.{◌≢◌, ◌≡◌, ◌<◌, length, IfSome, IfNone, IfOk, OnOk};
 ghost use Rattle.steal_pool.specs.Ends.{Pushed, Taken, FoundEmpty};
-ghost use Rattle.steal_pool.specs.inner.Single.{ends_of, IsAt};
+ghost use Rattle.steal_pool.specs.inner.Single.{ends_of, AgreeOnBound, IsAt};
+ghost use Rattle.steal_pool.specs.inner.Making.{met, end_on};
+ghost use Rattle.steal_pool.specs.Hand.{sharing};
 
 use crate::other::Other;
 use crate::own::Own;
@@ -34,6 +35,32 @@ impl Model for Deck {
 }
 
 impl Deck {
+    // The deck of the worker of this number, with its ends of the others' in order.
+    pub(crate) fn new(number: u32, own: Own, others: Vec<Other>) -> Self
+        requires { AgreeOnBound number own others.items }
+        ensures { result ≡ ends_of number own others.items }
+    {
+        Deck {
+            number,
+            own,
+            others,
+        }
+    }
+
+    // Gives this worker an end of a new deck, which comes after all others, and gives an end of its own deck away.
+    pub(crate) fn meet(&mut self, own: &mut Own) -> Result<Other, Memory>
+        requires { own.old.hand.bound ≡ self.old.bound }
+        ensures own { (own.new.deck ≡ own.old.deck) × (own.new.spare ≡ own.old.spare) }
+        ensures shared { OnOk result (own.new.hand ≡ sharing own.old.hand) }
+        ensures met { OnOk result (self.new ≡ met own.old.deck self.old.bound self.old) }
+        ensures end { IfOk result (λ other. other ≡ end_on self.old.bound self.old) }
+    {
+        let theirs = own.share()?;
+        let mine = self.own.share()?;
+        self.others.push(theirs)?;
+        Ok(mine)
+    }
+
     /// The worker's number, which is the number of its own deck.
     pub fn number(&self) -> u32
         ensures { result ≡ self.now.number }

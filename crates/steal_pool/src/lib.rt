@@ -6,9 +6,11 @@
 #![tactic(auto)]
 
 mod deck;
+mod decks;
 mod law;
 mod other;
 mod own;
 
 pub use deck::Deck;
+pub use decks::{Decks, make_decks};
 pub use law::Hand;
