@@ -1,5 +1,5 @@
 -- Where one pass alone may take from a deck, it takes what the owner pushed, in order.
-use Rattle.std.proofs.Common.{◌≡◌, ◌≢◌, ℕ, zero, suc, ◌+◌, ◌<◌, ◌≤◌, Bool, true, false, cond, eqb, List, [], ◌∷◌, ◌++◌, Some, refl, sym, ap, ◌∙◌, subst, arith}
+use Rattle.std.proofs.Common.{◌≡◌, ℕ, zero, suc, ◌+◌, ◌≤◌, Bool, true, false, cond, eqb, List, [], ◌∷◌, ◌++◌, Some, refl, sym, ap, ◌∙◌, subst, arith}
 use Rattle.std.specs.List.{sum_by, slice_get, count_by}
 use Rattle.std.proofs.lemmas.Option.{none-some, same_Some}
 use Rattle.std.proofs.lemmas.Bool.{eq-eqb}
@@ -55,11 +55,11 @@ lone numbers p ps s one =
     let rest : count_by (λ known. known.takes) ps ≡ 0 = omega (arith, sum_by-cons (λ (known : Hand). cond known.takes 1 0) p ps) in
     let others : (n : ℕ) → sum_by (λ known. times n known.took) ps ≡ 0 = λ n. took_nothing n ps rest (λ j known e. (s.each (suc j) known e).spent) in
     let every : (n : ℕ) → times n (numbers_of gone) ≡ times n (taken_by 0 gone) = λ n.
-        let mine = ap (times n) took in
-        let all = ap (times n) s.in_order in
-        let parts = times-append n (numbers_of gone) numbers in
-        let sums = sum_by-cons (λ (known : Hand). times n known.took) p ps in
-        omega (arith, s.each_once n, others n) in
+    let mine = ap (times n) took in
+    let all = ap (times n) s.in_order in
+    let parts = times-append n (numbers_of gone) numbers in
+    let sums = sum_by-cons (λ (known : Hand). times n known.took) p ps in
+    omega (arith, s.each_once n, others n) in
     pushed ∙ ap (λ xs. xs ++ numbers) (sym (took_all 0 gone every) ∙ sym took)
 
 owner_alone : (numbers : List ℕ) (passes : List Hand) (pass : ℕ) (known : Hand) → slice_get passes pass ≡ Some known → known.takers ≡ 1 → Stands numbers passes → known.pushed ≡ known.took ++ numbers

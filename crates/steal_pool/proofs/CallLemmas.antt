@@ -1,5 +1,5 @@
 -- What the calls of the base ask for, and what follows of the numbers that they give.
-use Rattle.std.proofs.Common.{◌≡◌, ℕ, zero, suc, ◌+◌, ◌<◌, ◌≤◌, min, true, List, [], ◌∷◌, ◌++◌, length, get_or, set, Some, refl, sym, ap, ◌∙◌, subst, length-append, arith}
+use Rattle.std.proofs.Common.{◌≡◌, ℕ, zero, suc, ◌<◌, ◌≤◌, min, true, [], ◌∷◌, length, get_or, Some, refl, sym, ap, ◌∙◌, subst, length-append, arith}
 use Rattle.std.specs.List.{All, slice_get}
 use Rattle.std.proofs.Math.Seq.{get_or-append_seam}
 use Rattle.std.proofs.lemmas.Option.{none-some, same_Some}
@@ -7,7 +7,7 @@ use Rattle.std.proofs.lemmas.List.Elements.{All-nil}
 use Rattle.crossbeam_deque.specs.Tasks.{Pushes, Takes, Finds, FindsFew, Forks}
 use Rattle.steal_pool.specs.declared.law.Hand.{Hand}
 use Rattle.steal_pool.specs.Hand.{owner_of, guest_of, spent, sharing, pushing, taking}
-use Rattle.steal_pool.specs.Stands.{numbers_of, Knows, Stands, Steps, Joins, Leaves, WasEmpty}
+use Rattle.steal_pool.specs.Stands.{numbers_of, Knows, Stands, Joins, Leaves, WasEmpty}
 use Rattle.steal_pool.proofs.ListLemmas.{found}
 use Rattle.steal_pool.proofs.RuleLemmas.{leaves, joins, shares}
 

@@ -1,6 +1,6 @@
 -- A step at one end, as a step of the worker that has the end among others.
-use Rattle.std.proofs.Common.{◌≡◌, ℕ, suc, ◌+◌, ◌-◌, ◌<◌, ◌≤◌, ◌⊎◌, List, [], ◌∷◌, length, get_or, set, map, Option, Some, None, refl, sym, ap, ◌∙◌, subst, ⊎_elim, arith}
-use Rattle.std.specs.List.{insert, All}
+use Rattle.std.proofs.Common.{◌≡◌, ℕ, ◌+◌, ◌-◌, ◌<◌, ◌≤◌, List, [], ◌∷◌, length, get_or, set, map, Option, Some, None, refl, sym, ap, ◌∙◌, subst, ⊎_elim, arith}
+use Rattle.std.specs.List.{insert}
 use Rattle.std.specs.Option.{IfSome, IfNone}
 use Rattle.std.proofs.lemmas.Option.{IfSome_then}
 use Rattle.std.proofs.Math.Numerals.{add-one}
@@ -10,7 +10,7 @@ use Rattle.std.proofs.lemmas.List.Edits.{length-insert, get_or-insert_at, get_or
 use Rattle.steal_pool.specs.declared.law.Hand.{Hand}
 use Rattle.steal_pool.specs.Hand.{pushing, taking, guest_of}
 use Rattle.steal_pool.specs.Stands.{Joins, Leaves, WasEmpty}
-use Rattle.steal_pool.specs.Ends.{DeckId, Ends, hand_at, with_hand, Pushed, Taken, FoundEmpty}
+use Rattle.steal_pool.specs.Ends.{Ends, hand_at, with_hand, Pushed, Taken, FoundEmpty}
 use Rattle.steal_pool.specs.inner.Single.{OwnEnd, OtherEnd, ends_of, AgreeOnBound, IsAt}
 use Rattle.steal_pool.proofs.CallLemmas.{leaves_below}
 use Rattle.steal_pool.proofs.PlaceLemmas.{set-insert_here, set-insert_before, set-insert_after}
@@ -52,9 +52,9 @@ module _ (n : ℕ) (own own' : OwnEnd) (others : List OtherEnd) (agree : AgreeOn
   pops old deck r is at same spare step =
       subst (λ (p : Ends × ℕ). IfSome r (Taken p.0 (ends_of n own' others) p.1)) (λ i. (is i, sym at i))
       (IfSome_then r step (λ number left.
-          let bound = ap (λ (h : Hand). h.bound) left.0 in
-          let now = own_changed same bound ∙ ap (λ s. record (with_hand (ends_of n own others) n own'.hand) { spare = s }) spare in
-          taken_so (ends_of n own others) (ends_of n own' others) n number own.hand own'.hand own_hand refl now left))
+      let bound = ap (λ (h : Hand). h.bound) left.0 in
+      let now = own_changed same bound ∙ ap (λ s. record (with_hand (ends_of n own others) n own'.hand) { spare = s }) spare in
+      taken_so (ends_of n own others) (ends_of n own' others) n number own.hand own'.hand own_hand refl now left))
 
   pub pushes_own : (old : Ends) (number : ℕ) → ends_of n own others ≡ old → own'.deck ≡ own.deck → own'.spare ≡ own.spare - 1 → Joins own.hand (number ∷ []) own'.hand → Pushed old (ends_of n own' others) number
   pushes_own old number is same spare step =
@@ -115,12 +115,12 @@ module _ (n : ℕ) (own : OwnEnd) (others : List OtherEnd) (agree : AgreeOnBound
   steals old r was step =
       subst (λ (e : Ends). IfSome r (Taken e (ends_of n own (set others k other')) deck)) was
       (IfSome_then r step (λ number left.
-          let bound = ap (λ (end : OtherEnd). end.hand.bound) is ∙ agree.1 k other there in
-          taken_so (ends_of n own others) (ends_of n own (set others k other')) deck number other.hand other'.hand other_hand bound other_changed left))
+      let bound = ap (λ (end : OtherEnd). end.hand.bound) is ∙ agree.1 k other there in
+      taken_so (ends_of n own others) (ends_of n own (set others k other')) deck number other.hand other'.hand other_hand bound other_changed left))
 
   pub steals_none : (old : Ends) (r : Option ℕ) → ends_of n own others ≡ old → IfNone r ((other'.hand ≡ other.hand) × WasEmpty other.hand) → IfNone r (FoundEmpty old (ends_of n own (set others k other')) deck)
   steals_none old r was none =
       subst (λ (e : Ends). IfNone r (FoundEmpty e (ends_of n own (set others k other')) deck)) was
       (none_then r none (λ found.
-          let unchanged : other' ≡ get_or others k other = (λ i. record { deck = same i; hand = found.0 i }) ∙ is in
-          (ap (λ ends. ends_of n own ends) (ap (λ end. set others k end) unchanged ∙ set-get_or others k other), subst WasEmpty (sym other_hand) found.1)))
+      let unchanged : other' ≡ get_or others k other = (λ i. record { deck = same i; hand = found.0 i }) ∙ is in
+      (ap (λ ends. ends_of n own ends) (ap (λ end. set others k end) unchanged ∙ set-get_or others k other), subst WasEmpty (sym other_hand) found.1)))

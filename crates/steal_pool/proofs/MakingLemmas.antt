@@ -1,12 +1,12 @@
 -- What each worker's ends become when there is one deck more.
-use Rattle.std.proofs.Common.{◌≡◌, ℕ, suc, ◌+◌, ◌<◌, ◌≤◌, ◌-◌, List, [], ◌∷◌, ◌++◌, length, get_or, set, map, take, drop, add_assoc, refl, sym, ap, ◌∙◌, subst, arith}
+use Rattle.std.proofs.Common.{◌≡◌, ℕ, ◌+◌, ◌<◌, ◌≤◌, ◌-◌, List, [], ◌∷◌, ◌++◌, length, get_or, set, map, take, drop, add_assoc, sym, ap, ◌∙◌, arith}
 use Rattle.std.specs.List.{insert, All}
 use Rattle.std.proofs.lemmas.List.{length-map, map-append, length-take, get_or-append_right, get_or-drop, take_more}
 use Rattle.std.proofs.lemmas.List.Edits.{insert-append_left, get_or-insert_at, map_over_more}
 use Rattle.steal_pool.specs.declared.law.Hand.{Hand}
 use Rattle.steal_pool.specs.Hand.{sharing, guest_of}
 use Rattle.steal_pool.specs.Ends.{DeckId, Ends, hand_at}
-use Rattle.steal_pool.specs.inner.Single.{OwnEnd, OtherEnd, ends_of, AgreeOnBound}
+use Rattle.steal_pool.specs.inner.Single.{OwnEnd, OtherEnd, ends_of}
 use Rattle.steal_pool.specs.inner.Making.{met, end_on}
 use Rattle.steal_pool.proofs.PlaceLemmas.{set-insert_here}
 

@@ -1,9 +1,9 @@
 -- The decks so far are new, and so are they with one deck more.
-use Rattle.std.proofs.Common.{◌≡◌, ◌≢◌, ℕ, zero, suc, ◌+◌, ◌<◌, ◌≤◌, ◌⊎◌, List, [], ◌∷◌, ◌++◌, length, get_or, set, map, take, drop, replicate, Some, refl, sym, ap, ◌∙◌, subst, ⊎_elim, length-append, inl, inr, arith}
+use Rattle.std.proofs.Common.{◌≡◌, ℕ, zero, suc, ◌+◌, ◌<◌, ◌≤◌, List, [], ◌∷◌, ◌++◌, length, get_or, set, map, take, drop, replicate, Some, refl, sym, ap, ◌∙◌, subst, ⊎_elim, length-append, arith}
 use Rattle.std.specs.List.{All, insert, slice_get}
 use Rattle.std.proofs.Math.Seq.{set-append_seam, take-append_seam}
 use Rattle.std.proofs.lemmas.Bool.{cases_lt}
-use Rattle.std.proofs.lemmas.Option.{none-some, same_Some, get_or_from_slice_get, slice_get-get_or}
+use Rattle.std.proofs.lemmas.Option.{none-some, same_Some, get_or_from_slice_get}
 use Rattle.std.proofs.lemmas.List.{length-map, length-replicate, replicate_more, set-append_left, get_or-set_same, ext_get_or, get_or-map}
 use Rattle.std.proofs.lemmas.Simd.{map-map}
 use Rattle.std.proofs.lemmas.List.Edits.{insert_end}
@@ -71,9 +71,9 @@ module _ (n capacity bound : ℕ) (all : List Ends) (new : AreNew n capacity bou
       let count = new.count in
       let many = new.many in
       ext_get_or (0, 0) (map deck_on all) new.decks (length-map all deck_on ∙ (many ∙ sym count)) (λ i less.
-          let within : i < length all = omega (arith, length-map all deck_on) in
-          get_or-map deck_on all i (new_ends capacity bound new.decks i) (0, 0) within
-          ∙ ap deck_on (get_or_from_slice_get all i (new_ends capacity bound new.decks i) (new_ends capacity bound new.decks i) (new.each i (omega arith))))
+      let within : i < length all = omega (arith, length-map all deck_on) in
+      get_or-map deck_on all i (new_ends capacity bound new.decks i) (0, 0) within
+      ∙ ap deck_on (get_or_from_slice_get all i (new_ends capacity bound new.decks i) (new_ends capacity bound new.decks i) (new.each i (omega arith))))
 
   -- a new deck's worker gets an end of each deck
   last_new : (own : OwnEnd) (others : List OtherEnd) → own.spare ≡ capacity → own.hand ≡ owner_of bound (n + 1) → others ≡ map (end_on bound) all → ends_of n own others ≡ new_ends capacity bound (new.decks ++ own.deck ∷ []) n
@@ -132,12 +132,12 @@ module _ (n capacity bound : ℕ) (all : List Ends) (new : AreNew n capacity bou
             ap (λ l. slice_get l number) now
             ∙ ⊎_elim
             (λ (below : number < n).
-                map_there (met own.deck bound) all (new_ends capacity bound (new.decks ++ own.deck ∷ []) n ∷ []) number (new_ends capacity bound new.decks number) (new.each number below)
-                ∙ ap Some (met_new capacity bound new.decks own.deck number (omega arith)))
+            map_there (met own.deck bound) all (new_ends capacity bound (new.decks ++ own.deck ∷ []) n ∷ []) number (new_ends capacity bound new.decks number) (new.each number below)
+            ∙ ap Some (met_new capacity bound new.decks own.deck number (omega arith)))
             (λ (above : n ≤ number).
-                let is_last : n ≡ number = omega arith in
-                subst (λ (k : ℕ). slice_get (met_all ++ new_ends capacity bound (new.decks ++ own.deck ∷ []) n ∷ []) k ≡ Some (new_ends capacity bound (new.decks ++ own.deck ∷ []) k)) is_last
-                (last_there met_all (new_ends capacity bound (new.decks ++ own.deck ∷ []) n) n (omega arith)))
+            let is_last : n ≡ number = omega arith in
+            subst (λ (k : ℕ). slice_get (met_all ++ new_ends capacity bound (new.decks ++ own.deck ∷ []) n ∷ []) k ≡ Some (new_ends capacity bound (new.decks ++ own.deck ∷ []) k)) is_last
+            (last_there met_all (new_ends capacity bound (new.decks ++ own.deck ∷ []) n) n (omega arith)))
             (cases_lt number n);
       }
 

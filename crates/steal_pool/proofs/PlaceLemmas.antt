@@ -1,5 +1,5 @@
 -- A change at one place of a list into which one item was inserted.
-use Rattle.std.proofs.Common.{◌≡◌, ℕ, zero, suc, ◌+◌, ◌<◌, ◌≤◌, List, [], ◌∷◌, length, set, refl, ap, arith}
+use Rattle.std.proofs.Common.{◌≡◌, ℕ, zero, suc, ◌<◌, ◌≤◌, List, [], ◌∷◌, length, set, refl, ap, arith}
 use Rattle.std.specs.List.{insert}
 
 module _ {A : Type 0} where

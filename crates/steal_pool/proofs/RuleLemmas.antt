@@ -1,13 +1,13 @@
 -- Each step keeps the rule of a deck.
-use Rattle.std.proofs.Common.{◌≡◌, ◌≢◌, ℕ, zero, suc, ◌+◌, ◌<◌, ◌≤◌, ◌⊎◌, Bool, true, false, true≢false, cond, List, [], ◌∷◌, ◌++◌, length, set, Some, refl, sym, ap, ◌∙◌, subst, ⊎_elim, append_assoc, length-append, arith}
-use Rattle.std.specs.List.{All, sum_by, slice_get}
+use Rattle.std.proofs.Common.{◌≡◌, ◌≢◌, ℕ, zero, suc, ◌+◌, ◌<◌, ◌≤◌, true, true≢false, cond, List, [], ◌∷◌, ◌++◌, length, set, Some, refl, sym, ap, ◌∙◌, subst, ⊎_elim, append_assoc, length-append, arith}
+use Rattle.std.specs.List.{All, slice_get}
 use Rattle.std.proofs.Math.ListN.{length-set}
 use Rattle.std.proofs.lemmas.Option.{none-some, same_Some, slice_get_within}
 use Rattle.std.proofs.lemmas.List.Sums.{sum_by-append}
 use Rattle.std.proofs.lemmas.List.Elements.{All-nil, All-append, All-cons}
 use Rattle.steal_pool.specs.declared.law.Hand.{Hand}
-use Rattle.steal_pool.specs.Hand.{idle, owner_of, guest_of, spent, sharing, pushing, taking}
-use Rattle.steal_pool.specs.Stands.{times, Departure, numbers_of, taken_by, Knows, Stands}
+use Rattle.steal_pool.specs.Hand.{pushing, taking}
+use Rattle.steal_pool.specs.Stands.{times, numbers_of, Knows, Stands}
 use Rattle.steal_pool.proofs.ListLemmas.{set_cases, set_here, longer_cases, longer_first, sum_set}
 use Rattle.steal_pool.proofs.GoneLemmas.{taken_here, taken_else, numbers_of-append}
 
@@ -181,10 +181,10 @@ shares held passes old new guest mine was pushed took takes less below none noth
       each = λ j known e.
           ⊎_elim
           (λ (t : slice_get changed j ≡ Some known).
-              ⊎_elim
-              (λ (s : (j ≡ 0) × (new ≡ known)). subst (λ (x : ℕ × Hand). Knows new was.gone x.0 x.1) (λ i. (sym s.0 i, s.1 i)) mine_now)
-              (λ (s : (j ≢ 0) × (slice_get passes j ≡ Some known)). theirs j known (was.each j known s.1))
-              (set_cases passes 0 j new known t))
+          ⊎_elim
+          (λ (s : (j ≡ 0) × (new ≡ known)). subst (λ (x : ℕ × Hand). Knows new was.gone x.0 x.1) (λ i. (sym s.0 i, s.1 i)) mine_now)
+          (λ (s : (j ≢ 0) × (slice_get passes j ≡ Some known)). theirs j known (was.each j known s.1))
+          (set_cases passes 0 j new known t))
           (λ (t : (j ≡ length changed) × (guest ≡ known)). subst (λ (x : ℕ × Hand). Knows new was.gone x.0 x.1) (λ i. (sym t.0 i, t.1 i)) guest_now)
           (longer_cases changed guest known j e);
       no_others = λ j far. was.no_others j (omega (arith, length-append changed (guest ∷ [])));

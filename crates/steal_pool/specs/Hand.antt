@@ -1,5 +1,5 @@
 -- What one pass of a deck knows.
-use Rattle.std.specs.Prelude.{ℕ, suc, ◌+◌, Bool, true, false, List, [], ◌++◌}
+use Rattle.std.specs.Prelude.{ℕ, ◌+◌, Bool, true, false, List, [], ◌++◌}
 use Rattle.steal_pool.specs.declared.law.Hand.{Hand}
 
 -- a pass that pushed and took nothing

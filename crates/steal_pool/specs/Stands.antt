@@ -1,6 +1,6 @@
 -- How a deck stands between any two steps, and what one step does to it.
 -- A deck is a list of numbers, the one that comes out next first. Pass 0 is the owner's, who alone pushes.
-use Rattle.std.specs.Prelude.{◌≡◌, ◌≢◌, ℕ, ◌+◌, ◌<◌, ◌≤◌, Bool, true, false, if◌then◌else◌, List, [], ◌∷◌, ◌++◌, length, map, All, count_by, sum_by, ◌==◌, Some, slice_get, slice_set}
+use Rattle.std.specs.Prelude.{◌≡◌, ◌≢◌, ℕ, ◌+◌, ◌<◌, ◌≤◌, true, false, if◌then◌else◌, List, [], ◌∷◌, ◌++◌, length, map, All, count_by, sum_by, ◌==◌, Some, slice_get, slice_set}
 use Rattle.steal_pool.specs.declared.law.Hand.{Hand}
 use Rattle.steal_pool.specs.Hand.{pushing, taking}
 

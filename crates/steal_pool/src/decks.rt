@@ -13,13 +13,9 @@ use twe_io::{List, Memory};
 pub type Decks = List<Deck>;
 
 /// Empty decks for so many workers, whose numbers are below the bound. Each worker may push as often as `capacity` says.
-pub fn make_decks(
-    alloc: Global,
-    workers: u32,
-    capacity: u32,
-    bound: u32,
-) -> Result<Decks, Memory>
-    ensures { IfOk result (AreNew workers capacity bound) }
+pub fn make_decks(alloc: Global, workers: u32, capacity: u32, bound: u32) -> Result<Decks, Memory>
+    ensures new { IfOk result (AreNew workers capacity bound) }
+    ensures each { IfOk result (All (λ ends. (ends.bound ≡ bound) × (ends.spare ≡ capacity) × (length ends.hands ≡ workers))) }
 {
     let mut decks = Vec::new(alloc);
     for number in 0..workers {

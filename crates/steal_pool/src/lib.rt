@@ -8,9 +8,14 @@
 mod deck;
 mod decks;
 mod law;
+mod laws;
 mod other;
 mod own;
 
 pub use deck::Deck;
 pub use decks::{Decks, make_decks};
 pub use law::Hand;
+pub use laws::alone;
+
+#[cfg(test)]
+mod tests;

@@ -1,5 +1,5 @@
 -- How decks are made, one after another.
-use Rattle.std.specs.Prelude.{ℕ, List, [], ◌∷◌, ◌++◌, slice_set, slice_index_or}
+use Rattle.std.specs.Prelude.{ℕ, [], ◌∷◌, ◌++◌, slice_set, slice_index_or}
 use Rattle.steal_pool.specs.Hand.{guest_of, sharing}
 use Rattle.steal_pool.specs.Ends.{DeckId, Ends, hand_at}
 use Rattle.steal_pool.specs.inner.Single.{OtherEnd}

@@ -1,4 +1,4 @@
-use Rattle.std.proofs.Common.{arith, ap, ◌∙◌}
+use Rattle.std.proofs.Common.{arith, ◌∙◌}
 use Rattle.steal_pool.proofs.MakingLemmas.{met_more, ends_more, shared_more}
 use Rattle.steal_pool.proofs.decks.meet_all.Goals as goal
 
