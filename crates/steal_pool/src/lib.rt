@@ -15,7 +15,7 @@ mod own;
 pub use deck::Deck;
 pub use decks::{Decks, make_decks};
 pub use law::Hand;
-pub use laws::alone;
+pub use laws::lone_worker_takes_in_order;
 
 #[cfg(test)]
 mod tests;

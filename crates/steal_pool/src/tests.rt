@@ -1,4 +1,4 @@
-//! What no clause says: that numbers move between threads, and that calls that may run out of memory need not.
+//! What no clause says: that numbers move between threads, each once, and that decks are made where there is memory.
 ghost use Rattle.std.specs.Prelude.{◌≡◌, ◌<◌, All};
 
 use crate::{Deck, Decks, make_decks};
@@ -17,6 +17,7 @@ fn one_worker_takes_in_order(rt: HostRuntime) -> Result<(), Fail> {
         return Err("one deck")?;
     };
     assert_eq!(rt; (deck.number(), deck.spare(), deck.count()), (0, 3, 1));
+    assert_eq!(rt; (deck.pop(), steal_any(&rt, &mut deck)), (None, None));
     push_spare(&mut deck, 7);
     push_spare(&mut deck, 2);
     push_spare(&mut deck, 5);
@@ -24,7 +25,7 @@ fn one_worker_takes_in_order(rt: HostRuntime) -> Result<(), Fail> {
         (deck.pop(), deck.pop(), deck.spare()),
         (Some(7), Some(2), 0)
     );
-    assert_eq!(rt; (take_any(&rt, &mut deck), deck.pop()), (Some(5), None));
+    assert_eq!(rt; (steal_any(&rt, &mut deck), deck.pop()), (Some(5), None));
     Ok(())
 }
 
@@ -78,7 +79,7 @@ impl Mover {
             push_spare(&mut self.deck, number);
         }
         for _ in rt.forever() {
-            let Some(number) = take_any(rt, &mut self.deck) else {
+            let Some(number) = steal_any(rt, &mut self.deck) else {
                 break;
             };
             if self.taken.push(number).is_err() {
@@ -98,8 +99,8 @@ fn push_spare(deck: &mut Deck, number: u32)
     }
 }
 
-// Takes from its own deck, and else from the others in turn.
-fn take_any<R: Wait>(rt: &R, deck: &mut Deck) -> Option<u32>
+// Steals from each deck in turn, its own among them.
+fn steal_any<R: Wait>(rt: &R, deck: &mut Deck) -> Option<u32>
     ensures { deck.new.bound ≡ deck.old.bound }
 {
     for from in 0..4 {
@@ -110,5 +111,5 @@ fn take_any<R: Wait>(rt: &R, deck: &mut Deck) -> Option<u32>
             return Some(number);
         }
     }
-    deck.pop()
+    None
 }
