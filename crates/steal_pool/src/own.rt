@@ -34,6 +34,7 @@ impl Model for Own {
 
 impl Own {
     /// An empty deck with room for so many pushes, whose numbers are below the bound.
+    #[tactic(auto, using(crate::proofs::CallLemmas::begins))]
     pub fn open(alloc: Global, capacity: u32, bound: u32) -> Result<Self, Memory>
         ensures { IfOk result (λ own. (own.hand ≡ owner_of bound 1) × (own.spare ≡ capacity)) }
     {
