@@ -1,0 +1,4 @@
+pub mod Hand
+pub mod Stands
+pub mod Ends
+pub mod inner
