@@ -49,6 +49,10 @@ pub record Spells (text : List ℕ) (head : Option Bounds) (moves : List Move) :
   pub limits : IfSome head AreLimits
   pub tasks : AllByRecursion HasTask moves
 
+-- the text spells some journal
+abbrev pub IsJournal : List ℕ → Type 0
+IsJournal text = (head : Option Bounds) × (moves : List Move) × Spells text head moves
+
 -- the move of an entry
 abbrev pub move_of : Entry → Move
 move_of entry = entry.mv

@@ -14,7 +14,9 @@ mod text;
 pub use journal::{End, Entry, FaultKind, Journal};
 pub use limits::Limits;
 pub use moves::{Kind, Move, Moves};
-pub use text::{JournalFail, JournalText, one_spelling, print_journal, read_journal};
+pub use text::{
+    JournalFail, JournalText, journal_or_bad_line, one_spelling, print_journal, read_journal,
+};
 
 #[cfg(test)]
 mod tests;

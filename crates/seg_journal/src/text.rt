@@ -4,8 +4,8 @@ ghost use Rattle.std.specs.List.{AllByRecursion, flat_map};
 ghost use Rattle.seg_journal.specs.declared.text.JournalFail.TheVariants.{OutOfMemory};
 ghost use Rattle.seg_journal.specs.declared.moves.Move.{Move};
 ghost use Rattle.seg_journal.specs.Limits.{Bounds};
-ghost use Rattle.seg_journal.specs.Spelling.{Spells, head_line, head_part, head_lines, move_line, move_of, HasTask, AreLimits};
-ghost use Rattle.seg_journal.specs.Lines.{IsFirstBadLine};
+ghost use Rattle.seg_journal.specs.Spelling.{Spells, IsJournal, head_line, head_part, head_lines, move_line, move_of, HasTask, AreLimits};
+ghost use Rattle.seg_journal.specs.Lines.{IsFirstBadLine, HasBadLine};
 ghost use Rattle.seg_journal.specs.Fail.{IsOutOfMemory};
 ghost use Rattle.seg_journal.specs.inner.Stops.{StopsAt};
 
@@ -123,4 +123,10 @@ fn read_moves(alloc: Global, text: &[u8], first: u64) -> Result<Moves, JournalFa
 pub fn one_spelling()
     ensures { (text : List ℕ) (head other : _) (moves others : List Move) → Spells text head moves
         → Spells text other others → (head ≡ other) × (moves ≡ others) }
+{}
+
+/// Each text spells a journal or has a first bad line, and no text does both.
+pub fn journal_or_bad_line()
+    ensures either { (text : List ℕ) → IsJournal text ⊎ HasBadLine text }
+    ensures never_both { (text : List ℕ) → IsJournal text → ¬ HasBadLine text }
 {}
