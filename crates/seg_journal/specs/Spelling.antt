@@ -8,7 +8,7 @@ use Rattle.seg_journal.specs.declared.moves.Kind.TheVariants.{Admit, Run}
 use Rattle.seg_journal.specs.declared.moves.Move.{Move}
 use Rattle.seg_journal.specs.declared.journal.Entry.{Entry}
 
--- the word of a kind of move, and the blank behind it
+-- the word of a kind of move, and the blank after it
 abbrev pub kind_word : Kind → List ℕ
 kind_word Admit = codes "admit "
 kind_word Run = codes "run "

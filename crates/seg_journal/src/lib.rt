@@ -1,6 +1,6 @@
 //! The journal of a run: its moves, what each ended in, and the limits that the run was made under.
 //!
-//! A journal is what a scheduler leaves behind: whoever takes its moves again, one after another, comes to the
+//! A journal is what a scheduler leaves: whoever takes its moves again, one after another, comes to the
 //! same state. What a move does to a state is left to the machine above.
 #![tactic(auto)]
 

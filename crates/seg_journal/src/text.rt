@@ -48,7 +48,7 @@ pub fn print_journal(alloc: Global, journal: &Journal, limits: Limits) -> Result
     Ok(text)
 }
 
-/// Writes the line of each entry's move behind a text.
+/// Writes the line of each entry's move after a text.
 fn push_moves(text: &mut Bytes, entries: &[Entry]) -> Result<(), Memory>
     ensures written { OnOk result (text.new ≡ text.old ++ flat_map move_line (map move_of entries.now)) }
     ensures tasks { OnOk result (AllByRecursion HasTask (map move_of entries.now)) }
@@ -86,7 +86,7 @@ fn read_lines(alloc: Global, text: &[u8]) -> Result<JournalText, JournalFail>
     Ok(JournalText { head, moves })
 }
 
-/// The limits of a text, if it has a head, the number of the first line behind that, and what stands there.
+/// The limits of a text, if it has a head, the number of the first line after that, and what stands there.
 fn split_head(text: &[u8]) -> (Option<Limits>, u64, &[u8])
     ensures split { text.now ≡ head_part result.0 ++ result.2.now }
     ensures limits { IfSome result.0 AreLimits }
