@@ -9,7 +9,7 @@ use Rattle.seg_journal.specs.Lines.{lines_of, IsGoodLine, AreGoodLines, IsFirstB
 use Rattle.seg_journal.specs.inner.Stops.{StopsAt}
 use Rattle.seg_journal.proofs.FirstLines.{lines_of-head, lines_of-moves, AreGoodLines-moves, begins, rest_of}
 
--- the lines of a head and of what stands behind it
+-- the lines of a head and of what stands after it
 pub lines_of-head_part : (head : Option Bounds) (rest : List ℕ) → IfSome head AreLimits → lines_of (head_part head ++ rest) ≡ head_lines head ++ lines_of rest
 lines_of-head_part None rest within = refl
 lines_of-head_part (Some limits) rest within = lines_of-head limits rest within
@@ -20,7 +20,7 @@ pub AreGoodLines-journal : (head : Option Bounds) (moves : List Move) → IfSome
 AreGoodLines-journal None moves within tasks = AreGoodLines-moves 1 moves tasks
 AreGoodLines-journal (Some limits) moves within tasks = (inl (refl, (limits, within, refl)), AreGoodLines-moves (1 + 1) moves tasks)
 
--- no line is behind the first where its number is 1
+-- no line is after the first where its number is 1
 no_lines : (head : Option Bounds) (moves : List Move) (number : ℕ) → number ≡ (length (head_lines head) + 1) + length moves → number ≡ 1
     → (head ≡ None) × (moves ≡ [])
 no_lines None [] number e one = (refl, refl)

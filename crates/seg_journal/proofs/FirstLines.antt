@@ -123,6 +123,6 @@ begins (byte ∷ text) some =
           record { line = line; after = after; split = rw goes_on split }
     ]
 
--- what stands behind the first line of a text
+-- what stands after the first line of a text
 pub rest_of : (text line : List ℕ) (after : List (List ℕ)) → lines_of text ≡ line ∷ after → text ≡ line ++ flat_map (λ line. line) after
 rest_of text line after split = sym (joined-lines_of text) ∙ ap (flat_map (λ line. line)) split

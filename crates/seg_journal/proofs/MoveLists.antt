@@ -16,7 +16,7 @@ all-append P (x ∷ xs) ys (here, all) others = (here, all-append P xs ys all ot
 pub lines_more : (moves : List Move) (mv : Move) → flat_map move_line (moves ++ mv ∷ []) ≡ flat_map move_line moves ++ move_line mv
 lines_more moves mv = flat_map-append move_line moves (mv ∷ []) ∙ ap (λ (xs : List ℕ). flat_map move_line moves ++ xs) (append-nil (move_line mv))
 
--- the lines of the moves of some entries are written behind a text
+-- the lines of the moves of some entries are written after a text
 pub record IsWritten (entries : List Entry) (first now : List ℕ) (i : ℕ) : Type 0 where
   pub lines : now ≡ first ++ flat_map move_line (map move_of (take i entries))
   pub tasks : AllByRecursion HasTask (map move_of (take i entries))

@@ -12,7 +12,7 @@ use Rattle.seg_journal.specs.Spelling.{Spells, kind_word, move_line, head_line, 
 use Rattle.seg_journal.proofs.Decimal.{decimal_avoids}
 use Rattle.seg_journal.proofs.BadLines.{lines_of-spelled}
 
--- what stands before the first byte of a value, and what stands behind it
+-- what stands before the first byte of a value, and what stands after it
 pub one_split : (front other rest following : List ℕ) (byte : ℕ) → AllByRecursion (λ b. b ≢ byte) front → AllByRecursion (λ b. b ≢ byte) other
     → front ++ byte ∷ rest ≡ other ++ byte ∷ following → (front ≡ other) × (rest ≡ following)
 one_split [] [] rest following byte none nothing e = (refl, cc)
@@ -21,8 +21,8 @@ one_split (x ∷ xs) [] rest following byte (differs, none) nothing e = let same
 one_split (x ∷ xs) (y ∷ ys) rest following byte (differs, none) (differs', nothing) e =
     let tails : xs ++ byte ∷ rest ≡ ys ++ byte ∷ following = cc in
     let head : x ≡ y = cc in
-    let (same, behind) = one_split xs ys rest following byte none nothing tails in
-    (cc, behind)
+    let (same, after) = one_split xs ys rest following byte none nothing tails in
+    (cc, after)
 
 -- a kind and a number
 same_move : (kind other : Kind) (task next : ℕ) → task < 2 ^ 32 → next < 2 ^ 32

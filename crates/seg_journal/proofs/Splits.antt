@@ -1,4 +1,4 @@
--- Texts in two parts: a word and what stands behind it, and what stands before and behind the first byte of a value.
+-- Texts in two parts: a word and what stands after it, and what stands before and after the first byte of a value.
 use Rattle.std.proofs.Common.{◌≡◌, ◌≢◌, ◌==◌, ℕ, ◌+◌, List, [], ◌∷◌, ◌++◌, length, get_or, take, drop, Option, None, Some, IfSome, IsSomeAnd, MatchOption, true, false, sym, ap, ◌∙◌, refl, arith, take-append-drop, take_at, drop_at, length-append, add-one}
 use Rattle.std.proofs.Math.Seq.{drop-cons, drop-drop}
 use Rattle.std.proofs.lemmas.Bool.{eq-eqb, ne_eqb, lt-ltb}
@@ -42,27 +42,27 @@ position-none text front rest byte none e nowhere =
     let found : position (λ b. b == byte) text ≡ Some (length front) = ap (position (λ b. b == byte)) e ∙ position-front front rest byte none in
     cc
 
--- what stands before and behind the place that is found
+-- what stands before and after the place that is found
 pub position-parts : (text : List ℕ) (byte at : ℕ) → position (λ b. b == byte) text ≡ Some at
     → text ≡ take at text ++ byte ∷ drop (at + 1) text
 position-parts text byte at found =
     let (within, here, before) = position-Some (λ b. b == byte) text at 0 found in
     let same : get_or text at 0 ≡ byte = grind arith in
-    let behind : drop at text ≡ get_or text at 0 ∷ drop (at + 1) text = rw add-one (drop-cons text at 0 within) in
-    sym (take-append-drop at text) ∙ ap (λ (xs : List ℕ). take at text ++ xs) (behind ∙ ap (λ (b : ℕ). b ∷ drop (at + 1) text) same)
+    let after : drop at text ≡ get_or text at 0 ∷ drop (at + 1) text = rw add-one (drop-cons text at 0 within) in
+    sym (take-append-drop at text) ∙ ap (λ (xs : List ℕ). take at text ++ xs) (after ∙ ap (λ (b : ℕ). b ∷ drop (at + 1) text) same)
 
 -- and nothing else
 pub record AreParts (text front rest : List ℕ) (at : ℕ) : Type 0 where
   pub before : take at text ≡ front
-  pub behind : drop (at + 1) text ≡ rest
+  pub after : drop (at + 1) text ≡ rest
 
 pub position-only : (text front rest : List ℕ) (byte at : ℕ) → AllByRecursion (λ b. b ≢ byte) front → text ≡ front ++ byte ∷ rest
     → position (λ b. b == byte) text ≡ Some at → AreParts text front rest at
 position-only text front rest byte at none e found =
     let first : position (λ b. b == byte) text ≡ Some (length front) = ap (position (λ b. b == byte)) e ∙ position-front front rest byte none in
     let place : at ≡ length front = cc in
-    let behind : drop 1 (drop at text) ≡ rest = ap (λ (xs : List ℕ). drop 1 (drop at xs)) e ∙ ap (drop 1) (drop_at front (byte ∷ rest) at (sym place)) in
+    let after : drop 1 (drop at text) ≡ rest = ap (λ (xs : List ℕ). drop 1 (drop at xs)) e ∙ ap (drop 1) (drop_at front (byte ∷ rest) at (sym place)) in
     record {
       before = ap (take at) e ∙ take_at front (byte ∷ rest) at (sym place);
-      behind = sym (drop-drop 1 at text) ∙ behind;
+      after = sym (drop-drop 1 at text) ∙ after;
     }

@@ -40,3 +40,7 @@ pub record IsFirstBadLine (text : List ℕ) (number : ℕ) : Type 0 where
   pub counted : number ≡ length before + 1
   pub good : AreGoodLines 1 before
   pub bad : ¬ IsGoodLine number line
+
+-- the text has a line that is not good, and so a first one
+abbrev pub HasBadLine : List ℕ → Type 0
+HasBadLine text = (number : ℕ) × IsFirstBadLine text number

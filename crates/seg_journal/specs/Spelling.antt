@@ -8,7 +8,7 @@ use Rattle.seg_journal.specs.declared.moves.Kind.TheVariants.{Admit, Run}
 use Rattle.seg_journal.specs.declared.moves.Move.{Move}
 use Rattle.seg_journal.specs.declared.journal.Entry.{Entry}
 
--- the word of a kind of move, and the blank behind it
+-- the word of a kind of move, and the blank after it
 abbrev pub kind_word : Kind → List ℕ
 kind_word Admit = codes "admit "
 kind_word Run = codes "run "
@@ -48,6 +48,10 @@ pub record Spells (text : List ℕ) (head : Option Bounds) (moves : List Move) :
   pub lines : text ≡ head_part head ++ flat_map move_line moves
   pub limits : IfSome head AreLimits
   pub tasks : AllByRecursion HasTask moves
+
+-- the text spells some journal
+abbrev pub IsJournal : List ℕ → Type 0
+IsJournal text = (head : Option Bounds) × (moves : List Move) × Spells text head moves
 
 -- the move of an entry
 abbrev pub move_of : Entry → Move

@@ -1,6 +1,6 @@
 //! The journal of a run: its moves, what each ended in, and the limits that the run was made under.
 //!
-//! A journal is what a scheduler leaves behind: whoever takes its moves again, one after another, comes to the
+//! A journal is what a scheduler leaves: whoever takes its moves again, one after another, comes to the
 //! same state. What a move does to a state is left to the machine above.
 #![tactic(auto)]
 
@@ -14,7 +14,9 @@ mod text;
 pub use journal::{End, Entry, FaultKind, Journal};
 pub use limits::Limits;
 pub use moves::{Kind, Move, Moves};
-pub use text::{JournalFail, JournalText, one_spelling, print_journal, read_journal};
+pub use text::{
+    JournalFail, JournalText, journal_or_bad_line, one_spelling, print_journal, read_journal,
+};
 
 #[cfg(test)]
 mod tests;

@@ -10,7 +10,7 @@ use crate::{Kind, Limits, Move};
 use itoa::Buffer;
 use twe_io::{Bytes, Memory};
 
-/// The move whose line is at the front of a text, and what stands behind that line.
+/// The move whose line is at the front of a text, and what stands after that line.
 pub(crate) fn move_at(text: &[u8]) -> Option<(Move, &[u8])>
     ensures found { IfSome result (λ x. HasTask x.0 × (text.now ≡ move_line x.0 ++ x.1.now)) }
     ensures only { (mv : Move) (rest : List ℕ) → HasTask mv → text.now ≡ move_line mv ++ rest
@@ -22,42 +22,42 @@ pub(crate) fn move_at(text: &[u8]) -> Option<(Move, &[u8])>
     Some((Move { kind, task }, rest))
 }
 
-/// The kind whose word is at the front of a text, and what stands behind that word.
+/// The kind whose word is at the front of a text, and what stands after that word.
 fn kind_at(text: &[u8]) -> Option<(Kind, &[u8])>
     ensures found { IfSome result (λ x. text.now ≡ kind_word x.0 ++ x.1.now) }
     ensures only { (kind : Kind) (rest : List ℕ) → text.now ≡ kind_word kind ++ rest
         → IsSomeAnd result (λ x. (x.0 ≡ kind) × (x.1.now ≡ rest)) }
 {
-    if let Some(rest) = rest_behind(text, word_of(Kind::Admit)) {
+    if let Some(rest) = rest_after(text, word_of(Kind::Admit)) {
         return Some((Kind::Admit, rest));
     }
-    let rest = rest_behind(text, word_of(Kind::Run))?;
+    let rest = rest_after(text, word_of(Kind::Run))?;
     Some((Kind::Run, rest))
 }
 
-/// The limits whose line is at the front of a text, and what stands behind that line.
+/// The limits whose line is at the front of a text, and what stands after that line.
 pub(crate) fn head_at(text: &[u8]) -> Option<(Limits, &[u8])>
     ensures found { IfSome result (λ x. AreLimits x.0 × (text.now ≡ head_line x.0 ++ x.1.now)) }
     ensures only { (limits : Bounds) (rest : List ℕ) → AreLimits limits → text.now ≡ head_line limits ++ rest
         → IsSomeAnd result (λ x. (x.0 ≡ limits) × (x.1.now ≡ rest)) }
 {
-    let rest = rest_behind(text, b"twe-journal 2 fuel ")?;
+    let rest = rest_after(text, b"twe-journal 2 fuel ")?;
     let (fuel, rest) = number_before(rest, b' ', Limits::MAX_FUEL)?;
-    let rest = rest_behind(rest, b"tasks ")?;
+    let rest = rest_after(rest, b"tasks ")?;
     let (tasks, rest) = number_before(rest, b'\n', u64::from(Limits::MAX_TASKS))?;
     let limits = Limits::checked(fuel, tasks as u32)?;
     Some((limits, rest))
 }
 
-/// What stands behind a word that is at the front of a text.
-fn rest_behind<'a>(text: &'a [u8], word: &[u8]) -> Option<&'a [u8]>
+/// What stands after a word that is at the front of a text.
+fn rest_after<'a>(text: &'a [u8], word: &[u8]) -> Option<&'a [u8]>
     ensures found { IfSome result (λ rest. text.now ≡ word.now ++ rest.now) }
     ensures only { (rest : List ℕ) → text.now ≡ word.now ++ rest → IsSomeAnd result (λ found. found.now ≡ rest) }
 {
     text.strip_prefix(word)
 }
 
-/// The word of a kind, with the blank behind it.
+/// The word of a kind, with the blank after it.
 fn word_of(kind: Kind) -> &'static [u8]
     ensures { result.now ≡ kind_word kind }
 {
@@ -67,7 +67,7 @@ fn word_of(kind: Kind) -> &'static [u8]
     }
 }
 
-/// Writes the line of a move behind a text.
+/// Writes the line of a move after a text.
 pub(crate) fn push_move(text: &mut Bytes, mv: Move) -> Result<(), Memory>
     ensures written { OnOk result (text.new ≡ text.old ++ move_line mv) }
     ensures task { HasTask mv }
@@ -77,7 +77,7 @@ pub(crate) fn push_move(text: &mut Bytes, mv: Move) -> Result<(), Memory>
     text.push(b'\n')
 }
 
-/// Writes the line of the limits behind a text.
+/// Writes the line of the limits after a text.
 pub(crate) fn push_head(text: &mut Bytes, limits: Limits) -> Result<(), Memory>
     ensures { OnOk result (text.new ≡ text.old ++ head_line limits) }
 {
@@ -86,7 +86,7 @@ pub(crate) fn push_head(text: &mut Bytes, limits: Limits) -> Result<(), Memory>
     push_tasks(text, limits.tasks)
 }
 
-/// Writes the part of the head that has the number of tasks behind a text.
+/// Writes the part of the head that has the number of tasks after a text.
 fn push_tasks(text: &mut Bytes, tasks: u32) -> Result<(), Memory>
     ensures { OnOk result (text.new ≡ text.old ++ tasks_part tasks) }
 {
@@ -95,7 +95,7 @@ fn push_tasks(text: &mut Bytes, tasks: u32) -> Result<(), Memory>
     text.push(b'\n')
 }
 
-/// Writes a number behind a text.
+/// Writes a number after a text.
 fn push_number(text: &mut Bytes, number: u64) -> Result<(), Memory>
     ensures { OnOk result (text.new ≡ text.old ++ decimal number) }
 {

@@ -7,7 +7,7 @@ ghost use Rattle.std.specs.Str.{IsUtf8};
 use itoa::Buffer;
 use std::str;
 
-/// The number at the front of a text, no larger than `most`, and what stands behind the byte that ends it.
+/// The number at the front of a text, no larger than `most`, and what stands after the byte that ends it.
 pub(crate) fn number_before(text: &[u8], end: u8, most: u64) -> Option<(u64, &[u8])>
     requires { ¬ IsAsciiDigit end }
     ensures found { IfSome result (λ x. (x.0 ≤ most) × (text.now ≡ decimal x.0 ++ end ∷ x.1.now)) }
@@ -22,7 +22,7 @@ pub(crate) fn number_before(text: &[u8], end: u8, most: u64) -> Option<(u64, &[u
     Some((number, rest))
 }
 
-/// What stands before the first byte of this value, and what stands behind it.
+/// What stands before the first byte of this value, and what stands after it.
 fn split_at_first(text: &[u8], byte: u8) -> Option<(&[u8], &[u8])>
     ensures found { IfSome result (λ x. text.now ≡ x.0.now ++ byte ∷ x.1.now) }
     ensures only { (front rest : List ℕ) → AllByRecursion (λ b. b ≢ byte) front → text.now ≡ front ++ byte ∷ rest
@@ -32,7 +32,7 @@ fn split_at_first(text: &[u8], byte: u8) -> Option<(&[u8], &[u8])>
     Some(parts_at(text, at))
 }
 
-/// What stands before a place of a text, and what stands behind it.
+/// What stands before a place of a text, and what stands after it.
 fn parts_at(text: &[u8], at: usize) -> (&[u8], &[u8])
     requires { at < length text.now }
     ensures front { result.0.now ≡ take at text.now }
@@ -42,7 +42,6 @@ fn parts_at(text: &[u8], at: usize) -> (&[u8], &[u8])
 }
 
 /// The first place of a byte in a text.
-
 fn first_place(text: &[u8], byte: u8) -> Option<usize>
     ensures { result ≡ position (λ b. b == byte) text.now }
 {

@@ -4,8 +4,8 @@ ghost use Rattle.std.specs.List.{AllByRecursion, flat_map};
 ghost use Rattle.seg_journal.specs.declared.text.JournalFail.TheVariants.{OutOfMemory};
 ghost use Rattle.seg_journal.specs.declared.moves.Move.{Move};
 ghost use Rattle.seg_journal.specs.Limits.{Bounds};
-ghost use Rattle.seg_journal.specs.Spelling.{Spells, head_line, head_part, head_lines, move_line, move_of, HasTask, AreLimits};
-ghost use Rattle.seg_journal.specs.Lines.{IsFirstBadLine};
+ghost use Rattle.seg_journal.specs.Spelling.{Spells, IsJournal, head_line, head_part, head_lines, move_line, move_of, HasTask, AreLimits};
+ghost use Rattle.seg_journal.specs.Lines.{IsFirstBadLine, HasBadLine};
 ghost use Rattle.seg_journal.specs.Fail.{IsOutOfMemory};
 ghost use Rattle.seg_journal.specs.inner.Stops.{StopsAt};
 
@@ -48,7 +48,7 @@ pub fn print_journal(alloc: Global, journal: &Journal, limits: Limits) -> Result
     Ok(text)
 }
 
-/// Writes the line of each entry's move behind a text.
+/// Writes the line of each entry's move after a text.
 fn push_moves(text: &mut Bytes, entries: &[Entry]) -> Result<(), Memory>
     ensures written { OnOk result (text.new ≡ text.old ++ flat_map move_line (map move_of entries.now)) }
     ensures tasks { OnOk result (AllByRecursion HasTask (map move_of entries.now)) }
@@ -86,7 +86,7 @@ fn read_lines(alloc: Global, text: &[u8]) -> Result<JournalText, JournalFail>
     Ok(JournalText { head, moves })
 }
 
-/// The limits of a text, if it has a head, the number of the first line behind that, and what stands there.
+/// The limits of a text, if it has a head, the number of the first line after that, and what stands there.
 fn split_head(text: &[u8]) -> (Option<Limits>, u64, &[u8])
     ensures split { text.now ≡ head_part result.0 ++ result.2.now }
     ensures limits { IfSome result.0 AreLimits }
@@ -123,4 +123,10 @@ fn read_moves(alloc: Global, text: &[u8], first: u64) -> Result<Moves, JournalFa
 pub fn one_spelling()
     ensures { (text : List ℕ) (head other : _) (moves others : List Move) → Spells text head moves
         → Spells text other others → (head ≡ other) × (moves ≡ others) }
+{}
+
+/// Each text spells a journal or has a first bad line, and no text does both.
+pub fn journal_or_bad_line()
+    ensures either { (text : List ℕ) → IsJournal text ⊎ HasBadLine text }
+    ensures never_both { (text : List ℕ) → IsJournal text → ¬ HasBadLine text }
 {}

@@ -1,5 +1,4 @@
--- The ends over streams of the outside. They tell how many bytes were given or taken and how many calls failed, and
--- not which bytes.
+-- The ends over streams of the outside. They count how many bytes were given or taken, and how many calls failed.
 use Rattle.std.specs.Prelude.{◌≡◌, ◌+◌, ◌-◌, ◌^◌, ℕ, List, Option, None, Some, min}
 use Rattle.twe_io.specs.Faults.{one_more}
 

@@ -1,5 +1,5 @@
 //! The answers that carry nothing but their cause: out of memory, and a call of the outside that failed.
-ghost use Rattle.std.specs.Prelude.{◌≤◌, ◌-◌, ◌^◌};
+ghost use Rattle.std.specs.Prelude.{◌≤◌, ◌-◌, ◌^◌, length};
 
 use std::alloc::{AllocError, AllocFailed};
 use std::error::Error;
@@ -7,7 +7,7 @@ use std::fmt;
 
 /// There was not enough memory. The one answer for it in every crate.
 ///
-/// Outside this crate one is made only from an allocation that failed, or of a text whose places cannot be counted.
+/// Outside this crate one is made only from an allocation that failed, or of items too many to be counted in 32 bits.
 #[derive(Clone, Copy, Debug, PartialEq, Eq)]
 pub struct Memory {
     shortage: Shortage,
@@ -23,11 +23,11 @@ enum Shortage {
 }
 
 impl Memory {
-    /// A text of so many bytes is too long: its places can't be counted in 32 bits.
-    pub fn of_uncountable(bytes: usize) -> Self
-        requires { 2 ^ 32 - 1 ≤ bytes }
+    /// These items are too many, as the bytes of a text: 32 bits can't count them and the place after the last.
+    pub fn of_uncountable<T>(items: &[T]) -> Self
+        requires { 2 ^ 32 - 1 ≤ length items.now }
     {
-        let _ = bytes;
+        let _ = items;
         Self::of_numbers()
     }
 

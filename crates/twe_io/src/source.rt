@@ -1,7 +1,7 @@
 //! Sources of bytes.
 ghost use Rattle.std.specs.Prelude.{◌≡◌, ◌<◌, ◌≤◌, List, ℕ, Option, length, take, OnErr, IfOk};
 ghost use Rattle.std.specs.Result.{result_ok};
-ghost use Rattle.std.specs.Io.KnownBytes.{Consumes, IsAtEnd};
+ghost use Rattle.std.specs.Io.KnownBytes.{Consumes, IsAtEnd, Keeps};
 ghost use Rattle.twe_io.specs.Faults.{Rose};
 
 use crate::Failed;
@@ -27,7 +27,7 @@ pub trait Source {
         ensures within { IfOk result (λ n. n ≤ length buffer.old) }
         ensures given { IfOk result (λ n. Consumes (left self.old) (left self.new) (take n buffer.new)) }
         ensures ended { IfOk result (λ n. n ≡ 0 → 0 < length buffer.old → IsAtEnd (left self.new)) }
-        ensures kept { OnErr result (left self.new ≡ left self.old) }
+        ensures kept { OnErr result (Keeps (left self.old) (left self.new)) }
         ensures fault { OnErr result (Rose (faults self.old) (faults self.new)) }
         ensures counts { faults self.old ≤ faults self.new }
         ensures gives { read_gives self.old (length buffer.old) (result_ok result) self.new };

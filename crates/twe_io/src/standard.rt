@@ -1,10 +1,12 @@
-//! The streams of the outside as ends. They tell no content: what a file or a terminal gives and takes is trusted.
+//! The streams of the outside as ends. They tell the bytes that their streams tell. A file, a pipe and a terminal tell
+//! none: what these give and take is trusted.
 ghost use Rattle.std.specs.Prelude.{◌≡◌};
 
 use crate::{Failed, Sink, Source};
 use std::io::{Read, Write};
 
-/// A stream that is read. It counts the bytes given and the reads that failed, and tells no content.
+/// A stream that is read. It counts the bytes given and the reads that failed, and tells the bytes that are left
+/// where the stream tells them.
 #[derive(Drop)]
 pub struct StdSource<R: Read> {
     stream: R,
@@ -15,7 +17,9 @@ pub struct StdSource<R: Read> {
 impl<R: Read> StdSource<R> {
     /// A source over a stream, which has given nothing, with no faults. It takes no memory.
     pub fn new(stream: R) -> Self
-        ensures { ⟦<StdSource<R> as Source>⟧.faults result ≡ 0 }
+        ensures left { ⟦<StdSource<R> as Source>⟧.left result ≡ R.remaining stream }
+        ensures faults { ⟦<StdSource<R> as Source>⟧.faults result ≡ 0 }
+        ensures given { result.given ≡ 0 }
     {
         StdSource {
             stream,
@@ -26,11 +30,9 @@ impl<R: Read> StdSource<R> {
 }
 
 impl<R: Read> Source for StdSource<R> {
-    ghost use Rattle.std.specs.Prelude.{None};
-
     ghost faults = { λ source. source.faults };
 
-    ghost left = { λ _. None };
+    ghost left = { λ source. R.remaining source.stream };
 
     ghost use Rattle.std.specs.Prelude.{◌≡◌};
     ghost use Rattle.twe_io.specs.Standard.{counted, counted_after};
@@ -52,8 +54,8 @@ impl<R: Read> Source for StdSource<R> {
     }
 }
 
-/// A stream that is written to. It counts the bytes taken and the writes that failed or took nothing, and tells no
-/// content.
+/// A stream that is written to. It counts the bytes taken and the writes that failed or took nothing, and tells the
+/// bytes that were written where the stream tells them.
 #[derive(Drop)]
 pub struct StdSink<W: Write> {
     stream: W,
@@ -64,7 +66,9 @@ pub struct StdSink<W: Write> {
 impl<W: Write> StdSink<W> {
     /// A sink over a stream, which has taken nothing, with no faults. It takes no memory.
     pub fn new(stream: W) -> Self
-        ensures { ⟦<StdSink<W> as Sink>⟧.faults result ≡ 0 }
+        ensures written { ⟦<StdSink<W> as Sink>⟧.written result ≡ W.contents stream }
+        ensures faults { ⟦<StdSink<W> as Sink>⟧.faults result ≡ 0 }
+        ensures taken { result.taken ≡ 0 }
     {
         StdSink {
             stream,
@@ -75,11 +79,9 @@ impl<W: Write> StdSink<W> {
 }
 
 impl<W: Write> Sink for StdSink<W> {
-    ghost use Rattle.std.specs.Prelude.{None};
-
     ghost faults = { λ sink. sink.faults };
 
-    ghost written = { λ _. None };
+    ghost written = { λ sink. W.contents sink.stream };
 
     ghost use Rattle.std.specs.Prelude.{◌≡◌};
     ghost use Rattle.twe_io.specs.Standard.{counted, counted_after};

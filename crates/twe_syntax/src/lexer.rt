@@ -53,7 +53,7 @@ pub fn read_tokens(alloc: Global, text: &[u8]) -> Result<Tokens, ReadTokensFail>
         return Err(ReadTokensFail::Unreadable);
     }
     if text.len() >= u32::MAX as usize {
-        return Err(ReadTokensFail::from(Memory::of_uncountable(text.len())));
+        return Err(ReadTokensFail::from(Memory::of_uncountable(text)));
     }
     let mut tokens = Tokens::new(alloc);
     let mut place = first_place();

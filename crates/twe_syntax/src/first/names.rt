@@ -44,7 +44,7 @@ impl Names {
         ensures err { OnErr result (self.new ≡ self.old) }
     {
         if self.words.len() > u32::MAX as usize {
-            return Err(Memory::of_uncountable(self.words.len()));
+            return Err(Memory::of_uncountable(self.words.as_slice()));
         }
         let number = self.words.len() as u32;
         let word = name.copy(alloc)?;

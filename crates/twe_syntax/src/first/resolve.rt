@@ -1,5 +1,5 @@
 //! The program that a first form means, where its names are right.
-ghost use Rattle.std.specs.Prelude.{◌≡◌, ◌+◌, map, Contains, IfOk, IsErrOf};
+ghost use Rattle.std.specs.Prelude.{◌≡◌, ◌+◌, length, map, Contains, IfOk, IsErrOf};
 ghost use Rattle.std.specs.List.{AllByRecursion};
 ghost use Rattle.twe_syntax.specs.FirstNames.{text_of, region_names, cell_names, IsAllowed, NamesAreRight};
 ghost use Rattle.twe_syntax.specs.inner.FirstLiterals.{HasSmallLiterals};
@@ -7,7 +7,7 @@ ghost use Rattle.twe_syntax.specs.FirstMeaning.{main_of, program_of};
 
 use crate::first::declared::{Declared, declared_names};
 use crate::first::fail::FirstFail;
-use crate::first::form::FirstForm;
+use crate::first::form::{Assignment, FirstForm};
 use crate::first::meaning::{declared_cells, written_effects};
 use crate::first::statements::statements;
 use crate::first::writable::Cells;
@@ -22,14 +22,14 @@ const MOST_WRITES: usize = 8;
 /// How many cells a text may declare.
 const MOST_CELLS: usize = 65536;
 
-/// How many points a body of so many assignments has: one before each of them, and one at the end.
-fn point_count(assignments: usize) -> Result<u32, Memory>
-    ensures { IfOk result (λ points. points ≡ assignments + 1) }
+/// How many points a body of these assignments has: one before each of them, and one at the end.
+fn point_count(assignments: &List<Assignment>) -> Result<u32, Memory>
+    ensures { IfOk result (λ points. points ≡ length assignments.now + 1) }
 {
-    if assignments >= u32::MAX as usize {
-        return Err(Memory::of_uncountable(assignments));
+    if assignments.len() >= u32::MAX as usize {
+        return Err(Memory::of_uncountable(assignments.as_slice()));
     }
-    Ok(assignments as u32 + 1)
+    Ok(assignments.len() as u32 + 1)
 }
 
 /// The body of the task `main`. It is `Form` where a statement is not allowed.
@@ -41,7 +41,7 @@ fn main_body(alloc: Global, form: &FirstForm, declared: &Declared) -> Result<Bod
     ensures form { IsErrOf result FirstFail.Form
         → ¬ AllByRecursion (IsAllowed form.now.cells (map text_of form.now.writes)) form.now.assignments }
 {
-    let points = point_count(form.assignments.len())?;
+    let points = point_count(&form.assignments)?;
     let cells = Cells::new(
         alloc,
         form.cells.as_slice(),

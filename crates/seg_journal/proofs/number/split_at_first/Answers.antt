@@ -13,4 +13,4 @@ returns-clause-found c =
 pub returns-clause-only : goal.returns-clause-only
 returns-clause-only c front rest avoids e =
     let parts = position-only _ front rest _ _ avoids e (sym c.first_place.ensures ∙ c.in_ok-at.was) in
-    (c.parts_at.ensures.front ∙ parts.before, c.parts_at.ensures.rest ∙ parts.behind)
+    (c.parts_at.ensures.front ∙ parts.before, c.parts_at.ensures.rest ∙ parts.after)
