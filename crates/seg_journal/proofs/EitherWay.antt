@@ -1,14 +1,13 @@
 -- Whether a line is good is decided, and so each text spells a journal or has a first bad line.
 use Rattle.std.proofs.Common.{◌≡◌, ◌⊎◌, ◌<◌, ◌≤◌, ◌+◌, ◌^◌, ℕ, zero, suc, List, [], ◌∷◌, ◌++◌, length, map, Option, None, Some, IfSome, sym, ap, ◌∙◌, refl, subst, arith, inl, inr}
 use Rattle.std.proofs.lemmas.Bool.{cases_eq, cases_lt}
-use Rattle.std.proofs.lemmas.List.Concat.{flat_map-append}
 use Rattle.std.specs.List.{AllByRecursion, flat_map}
 use Rattle.seg_journal.specs.Limits.{Bounds}
 use Rattle.seg_journal.specs.declared.moves.Kind.{Kind}
 use Rattle.seg_journal.specs.declared.moves.Kind.TheVariants.{Admit, Run}
 use Rattle.seg_journal.specs.declared.moves.Move.{Move}
-use Rattle.seg_journal.specs.Spelling.{Spells, IsJournal, move_line, head_line, head_part, head_lines, HasTask, AreLimits}
-use Rattle.seg_journal.specs.Lines.{lines_of, IsMoveLine, IsHeadLine, IsGoodLine, AreGoodLines, IsFirstBadLine, HasBadLine}
+use Rattle.seg_journal.specs.Spelling.{IsJournal, move_line, head_line, head_part, head_lines, HasTask, AreLimits}
+use Rattle.seg_journal.specs.Lines.{lines_of, IsMoveLine, IsHeadLine, IsGoodLine, AreGoodLines, HasBadLine}
 use Rattle.seg_journal.proofs.FirstLines.{joined-lines_of}
 
 -- it holds, or it doesn't

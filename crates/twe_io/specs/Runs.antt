@@ -1,6 +1,6 @@
 -- Runs of calls. An end may tell what one call does: `gives` relates the end before the call, what the call was
 -- handed, how many bytes it answered (`None` where it failed), and the end after it.
-use Rattle.std.specs.Prelude.{◌≡◌, ◌<◌, ◌≤◌, ◌-◌, ℕ, ◌+◌, List, length, drop, Option, None, Some, Result, Ok, Err, MatchResult}
+use Rattle.std.specs.Prelude.{◌≡◌, ◌<◌, ◌-◌, ℕ, ◌+◌, List, length, drop, Option, None, Some, Result, Ok, Err, MatchResult}
 use Rattle.twe_io.specs.declared.whole.ReadFail.{ReadFail}
 use Rattle.twe_io.specs.declared.whole.ReadFail.TheVariants.{ReadFault, TooLong, OutOfMemory}
 

@@ -1,5 +1,5 @@
 -- The ends over streams of the outside. They count how many bytes were given or taken, and how many calls failed.
-use Rattle.std.specs.Prelude.{◌≡◌, ◌+◌, ◌-◌, ◌^◌, ℕ, List, Option, None, Some, min}
+use Rattle.std.specs.Prelude.{◌+◌, ◌-◌, ◌^◌, ℕ, Option, None, Some, min}
 use Rattle.twe_io.specs.Faults.{one_more}
 
 -- how many bytes were given or taken, and how many calls failed, each as far as 64 bits count
