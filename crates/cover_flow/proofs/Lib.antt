@@ -1,0 +1,5 @@
+pub mod SeenLaws
+pub mod AfterLaws
+pub mod Notes
+pub mod MarkedLaws
+pub mod Rows

@@ -1,0 +1,4 @@
+pub mod ControlPath
+pub mod Out
+pub mod Answers
+pub mod inner

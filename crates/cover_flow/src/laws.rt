@@ -1,0 +1,4 @@
+//! Scratch.
+ghost use Rattle.std.specs.Prelude.{◌≡◌, ℕ};
+/// Scratch.
+pub fn scratch() ensures { (n : ℕ) → n ≡ n } {}

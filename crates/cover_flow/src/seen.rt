@@ -1,0 +1,54 @@
+//! What control paths to a point leave of one future.
+ghost use Rattle.std.specs.Prelude.{◌≡◌};
+ghost use Rattle.cover_flow.specs.inner.After.{joined, nowhere, put_out, taken_in};
+
+/// Whether on some control path to a point a future is out, and whether on some it is not. Where no path comes, neither.
+#[derive(Clone, Copy, Debug)]
+pub struct Seen {
+    /// On some path it is out.
+    pub out: bool,
+    /// On some path it is not.
+    pub inside: bool,
+}
+
+impl Seen {
+    /// Where no path comes.
+    pub fn nowhere() -> Seen
+        ensures { result ≡ nowhere }
+    {
+        Seen {
+            out: false,
+            inside: false,
+        }
+    }
+
+    /// The paths of both.
+    pub fn joined(self, other: Seen) -> Seen
+        ensures { result ≡ joined self other }
+    {
+        Seen {
+            out: self.out || other.out,
+            inside: self.inside || other.inside,
+        }
+    }
+
+    /// After the future's spawn.
+    pub fn put_out(self) -> Seen
+        ensures { result ≡ put_out self }
+    {
+        Seen {
+            out: self.out || self.inside,
+            inside: false,
+        }
+    }
+
+    /// After the future's join.
+    pub fn taken_in(self) -> Seen
+        ensures { result ≡ taken_in self }
+    {
+        Seen {
+            out: false,
+            inside: self.out || self.inside,
+        }
+    }
+}
