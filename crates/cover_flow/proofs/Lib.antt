@@ -3,3 +3,4 @@ pub mod AfterLaws
 pub mod Notes
 pub mod MarkedLaws
 pub mod Rows
+pub mod Table

@@ -59,7 +59,7 @@ stepped-from false true false seen h =
     elim (or_cases _ _ h) [ inl out ↦ (true, out, refl) | inr inside ↦ (false, inside, refl) ]
 stepped-from false false b seen h = (b, h, refl)
 
-both : (x : Bool) → (x ≡ true) ⊎ (x ≡ false)
+pub both : (x : Bool) → (x ≡ true) ⊎ (x ≡ false)
 both true = inl refl
 both false = inr refl
 

@@ -1,7 +1,8 @@
 -- Control paths: in which orders the statements of a body may be carried out, whatever its conditions are.
-use Rattle.std.specs.Prelude.{ℕ, Bool, true, false, IsTrue, List, [], ◌∷◌, Option}
+use Rattle.std.specs.Prelude.{ℕ, ◌-◌, Bool, true, false, IsTrue, List, [], ◌∷◌, Option}
 use Rattle.twe_io.specs.declared.place.Place.{Place}
 use Rattle.twe_program.specs.Expression.{Expression}
+use Rattle.twe_program.specs.declared.program.Body.{Body}
 use Rattle.twe_program.specs.Statement.{Statement, Block, Let, Set, SetCell, SetArray, SetGrid, If, While, Return, Print, Call, Make, Wait, Statements, no_more, statement, Arms, arm, otherwise, no_else}
 
 -- what a control path has carried out: statements that have no others inside them, the latest first
@@ -79,7 +80,11 @@ mutual
     in_later : {end to : ℕ} {condition : Expression} {body : Statements} {others : Arms} {path after : Path} → ComesOne end others to path after → ComesOne end (arm condition body others) to path after
     in_else : {end to : ℕ} {body : Statements} {path after : Path} → ComesAll end body to path after → ComesOne end (otherwise body) to path after
 
--- a control path from the start of a body, whose end is the point `end`, to a point
-pub data ControlPath (end : ℕ) (body : Statements) : ℕ → Path → Type 0 where
-  within : {to : ℕ} {path : Path} → ComesAll end body to [] path → ControlPath end body to path
-  to_the_end : {path : Path} → ThroughAll body [] path → ControlPath end body end path
+-- the point at the end of a body, which has the last number
+abbrev pub end_of : Body → ℕ
+end_of body = body.points - 1
+
+-- a control path from the start of a body to a point
+pub data ControlPath (body : Body) : ℕ → Path → Type 0 where
+  within : {to : ℕ} {path : Path} → ComesAll (end_of body) body.block to [] path → ControlPath body to path
+  to_the_end : {path : Path} → ThroughAll body.block [] path → ControlPath body (end_of body) path

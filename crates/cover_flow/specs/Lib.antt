@@ -1,4 +1,4 @@
 pub mod ControlPath
 pub mod Out
-pub mod Answers
+pub mod Flow
 pub mod inner

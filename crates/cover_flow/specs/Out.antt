@@ -1,6 +1,7 @@
 -- Which futures are out: a spawn puts its future out, and a join takes it in again.
-use Rattle.std.specs.Prelude.{ℕ, ◌==◌, Bool, true, false, not, ◌&&◌, ◌||◌, IsTrue, List, [], ◌∷◌}
-use Rattle.twe_program.specs.Statement.{Statement, Statements, Make, Wait}
+use Rattle.std.specs.Prelude.{ℕ, ◌==◌, Bool, false, not, ◌&&◌, ◌||◌, IsTrue, [], ◌∷◌}
+use Rattle.twe_program.specs.declared.program.Body.{Body}
+use Rattle.twe_program.specs.Statement.{Statement, Make, Wait}
 use Rattle.cover_flow.specs.ControlPath.{Path, ControlPath}
 
 -- the statement spawns a task into the future
@@ -19,9 +20,9 @@ out_after f [] = false
 out_after f (s ∷ earlier) = puts_out f s || (not (takes_in f s) && out_after f earlier)
 
 -- on some control path to the point the future is out
-abbrev pub MayBeOut : ℕ → Statements → ℕ → ℕ → Type 0
-MayBeOut end body point f = (path : Path) × ControlPath end body point path × IsTrue (out_after f path)
+abbrev pub MayBeOut : Body → ℕ → ℕ → Type 0
+MayBeOut body point f = (path : Path) × ControlPath body point path × IsTrue (out_after f path)
 
 -- on every control path to the point the future is out
-abbrev pub SurelyOut : ℕ → Statements → ℕ → ℕ → Type 0
-SurelyOut end body point f = (path : Path) → ControlPath end body point path → IsTrue (out_after f path)
+abbrev pub SurelyOut : Body → ℕ → ℕ → Type 0
+SurelyOut body point f = (path : Path) → ControlPath body point path → IsTrue (out_after f path)

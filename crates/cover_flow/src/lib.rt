@@ -1,8 +1,12 @@
-//! Which futures may be out, and which surely are, at each point of a body.
+//! Which futures may be out, and which surely are, at each point of a body: exactly as the control paths to the point
+//! say, which `specs/` defines. What the answers are used for, the rules on effects, is left to others.
 #![tactic(auto)]
 
-mod laws;
+mod after;
+mod answers;
+mod mark;
 mod seen;
+#[cfg(test)]
+mod tests;
 
-pub use laws::scratch;
-pub use seen::Seen;
+pub use answers::{Points, flow};

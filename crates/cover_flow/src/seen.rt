@@ -1,6 +1,6 @@
 //! What control paths to a point leave of one future.
 ghost use Rattle.std.specs.Prelude.{◌≡◌};
-ghost use Rattle.cover_flow.specs.inner.After.{joined, nowhere, put_out, taken_in};
+ghost use Rattle.cover_flow.specs.inner.After.{at_start, joined, nowhere, put_out, taken_in};
 
 /// Whether on some control path to a point a future is out, and whether on some it is not. Where no path comes, neither.
 #[derive(Clone, Copy, Debug)]
@@ -12,6 +12,16 @@ pub struct Seen {
 }
 
 impl Seen {
+    /// At the start of a body, where nothing was spawned yet.
+    pub fn at_start() -> Seen
+        ensures { result ≡ at_start }
+    {
+        Seen {
+            out: false,
+            inside: true,
+        }
+    }
+
     /// Where no path comes.
     pub fn nowhere() -> Seen
         ensures { result ≡ nowhere }

@@ -1,5 +1,5 @@
 -- What is seen of one future after a statement, by what is seen before it.
-use Rattle.std.specs.Prelude.{ℕ, Bool, true, false, ◌||◌, if◌then◌else◌}
+use Rattle.std.specs.Prelude.{ℕ, true, false, ◌||◌, if◌then◌else◌}
 use Rattle.twe_program.specs.Statement.{Statement, Block, If, While, Return, Statements, no_more, statement, Arms, arm, otherwise, no_else}
 use Rattle.cover_flow.specs.declared.seen.Seen.{Seen}
 use Rattle.cover_flow.specs.Out.{puts_out, takes_in}

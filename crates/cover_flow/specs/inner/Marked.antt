@@ -1,8 +1,9 @@
 -- What is seen of one future at each point, kept as a list by the numbers of the points.
 use Rattle.std.specs.Prelude.{ℕ, List, slice_index_or, slice_set, replicate}
+use Rattle.twe_program.specs.declared.program.Body.{Body}
 use Rattle.twe_program.specs.Statement.{Statement, Block, If, While, Return, Statements, no_more, statement, Arms, arm, otherwise, no_else}
 use Rattle.cover_flow.specs.declared.seen.Seen.{Seen}
-use Rattle.cover_flow.specs.ControlPath.{point_of}
+use Rattle.cover_flow.specs.ControlPath.{point_of, end_of}
 use Rattle.cover_flow.specs.inner.After.{nowhere, at_start, joined, after, after_all}
 
 -- what is seen is added at the point
@@ -28,7 +29,10 @@ abbrev mutual
   marked_one f end (otherwise body) seen row = marked_all f end body seen row
   marked_one f end no_else seen row = row
 
--- what is seen of the future at all points of a body
-abbrev pub row_of : ℕ → ℕ → Statements → ℕ → List Seen
-row_of points end body f =
-    noted (marked_all f end body at_start (replicate points nowhere)) end (after_all f body at_start)
+-- the row with what is seen of the future at each point of a body
+abbrev pub filled_in : List Seen → Body → ℕ → List Seen
+filled_in row body f = noted (marked_all f (end_of body) body.block at_start row) (end_of body) (after_all f body.block at_start)
+
+-- what is seen of the future at each point of a body
+abbrev pub row_of : Body → ℕ → List Seen
+row_of body f = filled_in (replicate body.points nowhere) body f

@@ -1,6 +1,6 @@
 -- The answers for a body: for each future and each point, whether the future may be out and whether it surely is.
-use Rattle.std.specs.Prelude.{◌≡◌, ℕ, ◌<◌, ◌↔◌, Bool, false, not, IsTrue, List, [], length, slice_index_or}
-use Rattle.twe_program.specs.Statement.{Statements}
+use Rattle.std.specs.Prelude.{ℕ, ◌<◌, ◌↔◌, Bool, false, not, IsTrue, List, [], slice_get, unwrap_or}
+use Rattle.twe_program.specs.declared.program.Body.{Body}
 use Rattle.cover_flow.specs.declared.seen.Seen.{Seen}
 use Rattle.cover_flow.specs.Out.{MayBeOut, SurelyOut}
 
@@ -10,7 +10,7 @@ Table = List (List Seen)
 
 -- what is seen of the future at the point, where the table has them
 abbrev pub seen_at : Table → ℕ → ℕ → Seen
-seen_at table point f = slice_index_or (slice_index_or table f []) point (record { out = false; inside = false })
+seen_at table point f = unwrap_or (slice_get (unwrap_or (slice_get table f) []) point) (record { out = false; inside = false })
 
 -- the future is out on some path to the point
 abbrev pub may_at : Table → ℕ → ℕ → Bool
@@ -20,7 +20,7 @@ may_at table point f = (seen_at table point f).out
 abbrev pub surely_at : Table → ℕ → ℕ → Bool
 surely_at table point f = not (seen_at table point f).inside
 
--- the table answers for the first points and futures exactly as the control paths of the body say
-pub record IsFlowOf (table : Table) (end : ℕ) (body : Statements) (points futures : ℕ) : Type 0 where
-  pub may : (point f : ℕ) → point < points → f < futures → IsTrue (may_at table point f) ↔ MayBeOut end body point f
-  pub surely : (point f : ℕ) → point < points → f < futures → IsTrue (surely_at table point f) ↔ SurelyOut end body point f
+-- the table answers for each point and each future of the body exactly as its control paths say
+pub record IsFlowOf (table : Table) (body : Body) : Type 0 where
+  pub may : (point f : ℕ) → point < body.points → f < body.futures → IsTrue (may_at table point f) ↔ MayBeOut body point f
+  pub surely : (point f : ℕ) → point < body.points → f < body.futures → IsTrue (surely_at table point f) ↔ SurelyOut body point f
