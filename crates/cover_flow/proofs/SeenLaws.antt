@@ -7,7 +7,7 @@ use Rattle.cover_flow.specs.inner.After.{nowhere, joined, put_out, taken_in}
 -- it is seen out, or it is seen not out
 abbrev pub has : Bool → Seen → Bool
 has true seen = seen.out
-has false seen = seen.inside
+has false seen = seen.not_out
 
 pub nowhere-has : (b : Bool) → has b nowhere ≡ true → ⊥
 nowhere-has true h = false≢true h
@@ -40,7 +40,7 @@ stepped puts takes seen = if puts then put_out seen else (if takes then taken_in
 abbrev pub step : Bool → Bool → Bool → Bool
 step puts takes b = puts || (not takes && b)
 
-either_way : (b : Bool) (seen : Seen) → has b seen ≡ true → (seen.out || seen.inside) ≡ true
+either_way : (b : Bool) (seen : Seen) → has b seen ≡ true → (seen.out || seen.not_out) ≡ true
 either_way true seen h = or_left _ _ h
 either_way false seen h = or_right _ _ h
 
@@ -52,11 +52,11 @@ stepped-has false false b seen h = h
 -- it was seen before, as it has to be for this
 pub stepped-from : (puts takes b : Bool) (seen : Seen) → has b (stepped puts takes seen) ≡ true → (was : Bool) × (has was seen ≡ true) × (step puts takes was ≡ b)
 stepped-from true takes true seen h =
-    elim (or_cases _ _ h) [ inl out ↦ (true, out, refl) | inr inside ↦ (false, inside, refl) ]
+    elim (or_cases _ _ h) [ inl out ↦ (true, out, refl) | inr not_out ↦ (false, not_out, refl) ]
 stepped-from true takes false seen h = absurd (false≢true h)
 stepped-from false true true seen h = absurd (false≢true h)
 stepped-from false true false seen h =
-    elim (or_cases _ _ h) [ inl out ↦ (true, out, refl) | inr inside ↦ (false, inside, refl) ]
+    elim (or_cases _ _ h) [ inl out ↦ (true, out, refl) | inr not_out ↦ (false, not_out, refl) ]
 stepped-from false false b seen h = (b, h, refl)
 
 pub both : (x : Bool) → (x ≡ true) ⊎ (x ≡ false)
@@ -65,33 +65,33 @@ both false = inr refl
 
 is_nowhere : (seen : Seen) → ((b : Bool) → has b seen ≡ true → ⊥) → seen ≡ nowhere
 is_nowhere seen empty =
-    let made : Bool → Bool → Seen = λ o i. record { out = o; inside = i } in
+    let made : Bool → Bool → Seen = λ o i. record { out = o; not_out = i } in
     let out : seen.out ≡ false = elim (both seen.out) [ inl t ↦ absurd (empty true t) | inr f ↦ f ] in
-    let inside : seen.inside ≡ false = elim (both seen.inside) [ inl t ↦ absurd (empty false t) | inr f ↦ f ] in
-    ap (λ o. made o seen.inside) out ∙ ap (made false) inside
+    let not_out : seen.not_out ≡ false = elim (both seen.not_out) [ inl t ↦ absurd (empty false t) | inr f ↦ f ] in
+    ap (λ o. made o seen.not_out) out ∙ ap (made false) not_out
 
 module _ (g : Seen → Seen) (strict : (b : Bool) → has b (g nowhere) ≡ true → ⊥) where
   -- one turn makes all of it seen, or nothing new
-  turned : (o i : Bool) → let seen : Seen = record { out = o; inside = i } in ((b : Bool) → has b (joined seen (g seen)) ≡ true) ⊎ (joined seen (g seen) ≡ seen)
+  turned : (o i : Bool) → let seen : Seen = record { out = o; not_out = i } in ((b : Bool) → has b (joined seen (g seen)) ≡ true) ⊎ (joined seen (g seen) ≡ seen)
   turned true true = inr refl
   turned true false =
-      let seen : Seen = record { out = true; inside = false } in
-      elim (both (g seen).inside) [
+      let seen : Seen = record { out = true; not_out = false } in
+      elim (both (g seen).not_out) [
         | inl all ↦ inl (λ b. elim b as (λ x. has x (joined seen (g seen)) ≡ true) [ true ↦ refl | false ↦ all ])
-        | inr same ↦ inr (let made : Bool → Seen = λ x. record { out = true; inside = x } in ap made same)
+        | inr same ↦ inr (let made : Bool → Seen = λ x. record { out = true; not_out = x } in ap made same)
       ]
   turned false true =
-      let seen : Seen = record { out = false; inside = true } in
+      let seen : Seen = record { out = false; not_out = true } in
       elim (both (g seen).out) [
         | inl all ↦ inl (λ b. elim b as (λ x. has x (joined seen (g seen)) ≡ true) [ true ↦ all | false ↦ refl ])
-        | inr same ↦ inr (let made : Bool → Seen = λ x. record { out = x; inside = true } in ap made same)
+        | inr same ↦ inr (let made : Bool → Seen = λ x. record { out = x; not_out = true } in ap made same)
       ]
   turned false false = inr (is_nowhere (g nowhere) strict)
 
   -- so a second turn shows nothing that the first did not
   pub turn_again : (seen : Seen) (b : Bool) → has b (g (joined seen (g seen))) ≡ true → has b (joined seen (g seen)) ≡ true
   turn_again seen b h =
-      elim (turned seen.out seen.inside) [
+      elim (turned seen.out seen.not_out) [
         | inl all ↦ all b
         | inr same ↦ joined_right b seen (g seen) (ap (λ x. has b (g x)) (sym same) ∙ h)
       ]

@@ -32,7 +32,7 @@ module _ (table : Table) (body : Body) (rows : HasRows table body body.futures) 
   surely_exact point f in_points in_futures = (
     λ h path comes. elim (both (out_after f path)) [
       | inl out ↦ out
-      | inr inside ↦ absurd (false≢true (sym (ap not (shows false point f in_futures ∙ path-row body f point false in_points (path, comes, inside))) ∙ h))
+      | inr not_out ↦ absurd (false≢true (sym (ap not (shows false point f in_futures ∙ path-row body f point false in_points (path, comes, not_out))) ∙ h))
     ],
     λ surely. elim (both (has_at false (row_of body f) point)) [
       | inl seen ↦ let some = row-path body f point false in_points seen in absurd (false≢true (sym some.2 ∙ surely some.0 some.1))

@@ -1,13 +1,35 @@
 -- Control paths: in which orders the statements of a body may be carried out, whatever its conditions are.
-use Rattle.std.specs.Prelude.{ℕ, ◌-◌, Bool, true, false, IsTrue, List, [], ◌∷◌, Option}
-use Rattle.twe_io.specs.declared.place.Place.{Place}
-use Rattle.twe_program.specs.Expression.{Expression}
+use Rattle.std.specs.Prelude.{◌≡◌, ◌⊎◌, ℕ, zero, suc, ◌-◌, List, [], ◌∷◌}
 use Rattle.twe_program.specs.declared.program.Body.{Body}
 use Rattle.twe_program.specs.Statement.{Statement, Block, Let, Set, SetCell, SetArray, SetGrid, If, While, Return, Print, Call, Make, Wait, Statements, no_more, statement, Arms, arm, otherwise, no_else}
 
 -- what a control path has carried out: statements that have no others inside them, the latest first
 abbrev pub Path : Type 0
 Path = List Statement
+
+-- so many steps, one after the other
+abbrev pub Repeated : (Path → Path → Type 0) → ℕ → Path → Path → Type 0
+Repeated Step zero path later = later ≡ path
+Repeated Step (suc n) path later = (between : Path) × Step path between × Repeated Step n between later
+
+-- `path`, just before a statement, goes on through all of it as `later`: through one of the branches of an `if`,
+-- through any number of turns of a `while`, whatever the conditions are, and through no return
+abbrev mutual
+  pub Through : Statement → Path → Path → Type 0
+  Through (Block point body) path later = ThroughAll body path later
+  Through (If point arms) path later = ThroughOne arms path later
+  Through (While point condition body place) path later = (turns : ℕ) × Repeated (ThroughAll body) turns path later
+  Through (Return point value) path later = ⊥
+  Through s path later = later ≡ s ∷ path
+
+  pub ThroughAll : Statements → Path → Path → Type 0
+  ThroughAll no_more path later = later ≡ path
+  ThroughAll (statement first others) path later = (between : Path) × Through first path between × ThroughAll others between later
+
+  pub ThroughOne : Arms → Path → Path → Type 0
+  ThroughOne (arm condition body others) path later = ThroughAll body path later ⊎ ThroughOne others path later
+  ThroughOne (otherwise body) path later = ThroughAll body path later
+  ThroughOne no_else path later = later ≡ path
 
 -- the point just before a statement
 abbrev pub point_of : Statement → ℕ
@@ -25,66 +47,37 @@ point_of (Call point method args place) = point
 point_of (Make point future task args spawned future_place place) = point
 point_of (Wait point future join into place) = point
 
--- a statement that has no others inside it, and after which the next one is carried out
-abbrev pub is_simple : Statement → Bool
-is_simple (Block point body) = false
-is_simple (If point arms) = false
-is_simple (While point condition body place) = false
-is_simple (Return point value) = false
-is_simple _ = true
+-- `path` is at the point already
+abbrev pub IsAt : ℕ → ℕ → Path → Path → Type 0
+IsAt point to path later = (point ≡ to) × (later ≡ path)
 
--- a path that comes to the statement with the first list goes through all of it, and leaves it with the second list
-mutual
-  pub data Through : Statement → Path → Path → Type 0 where
-    simple : {s : Statement} {path : Path} → IsTrue (is_simple s) → Through s path (s ∷ path)
-    block : {point : ℕ} {body : Statements} {path after : Path} → ThroughAll body path after → Through (Block point body) path after
-    branch : {point : ℕ} {arms : Arms} {path after : Path} → ThroughOne arms path after → Through (If point arms) path after
-    -- any number of turns, whatever the condition
-    no_turn : {point : ℕ} {condition : Expression} {body : Statements} {place : Place} {path : Path} → Through (While point condition body place) path path
-    turn : {point : ℕ} {condition : Expression} {body : Statements} {place : Place} {path turned after : Path}
-        → ThroughAll body path turned → Through (While point condition body place) turned after → Through (While point condition body place) path after
+-- `path`, just before a statement, comes as `later` to the point `to`: just before it or within it, before a test of a
+-- `while` after any number of turns, or by a return at the body's end
+abbrev mutual
+  pub Comes : ℕ → Statement → ℕ → Path → Path → Type 0
+  Comes end (Block point body) to path later = IsAt point to path later ⊎ ComesAll end body to path later
+  Comes end (If point arms) to path later = IsAt point to path later ⊎ ComesOne end arms to path later
+  Comes end (While point condition body place) to path later =
+      (turned : Path) × Through (While point condition body place) path turned × (IsAt point to turned later ⊎ ComesAll end body to turned later)
+  Comes end (Return point value) to path later = IsAt point to path later ⊎ IsAt end to path later
+  Comes end s to path later = IsAt (point_of s) to path later
 
-  pub data ThroughAll : Statements → Path → Path → Type 0 where
-    none_left : {path : Path} → ThroughAll no_more path path
-    one_more : {first : Statement} {others : Statements} {path between after : Path}
-        → Through first path between → ThroughAll others between after → ThroughAll (statement first others) path after
+  pub ComesAll : ℕ → Statements → ℕ → Path → Path → Type 0
+  ComesAll end no_more to path later = ⊥
+  ComesAll end (statement first others) to path later =
+      Comes end first to path later ⊎ ((between : Path) × Through first path between × ComesAll end others to between later)
 
-  -- one of the branches, whatever the conditions, and none where there is no `else`
-  pub data ThroughOne : Arms → Path → Path → Type 0 where
-    this_arm : {condition : Expression} {body : Statements} {others : Arms} {path after : Path} → ThroughAll body path after → ThroughOne (arm condition body others) path after
-    later_arm : {condition : Expression} {body : Statements} {others : Arms} {path after : Path} → ThroughOne others path after → ThroughOne (arm condition body others) path after
-    last_else : {body : Statements} {path after : Path} → ThroughAll body path after → ThroughOne (otherwise body) path after
-    no_branch : {path : Path} → ThroughOne no_else path path
-
--- a path that comes to the statement with the first list comes to the point within it, with the second list; by a
--- return within it, it comes to the point `end`, and goes on nowhere
-mutual
-  pub data Comes : ℕ → Statement → ℕ → Path → Path → Type 0 where
-    before : {end : ℕ} {s : Statement} {path : Path} → Comes end s (point_of s) path path
-    -- before each test of a loop, after any number of turns
-    test : {end point : ℕ} {condition : Expression} {body : Statements} {place : Place} {path after : Path}
-        → Through (While point condition body place) path after → Comes end (While point condition body place) point path after
-    in_block : {end point to : ℕ} {body : Statements} {path after : Path} → ComesAll end body to path after → Comes end (Block point body) to path after
-    in_branch : {end point to : ℕ} {arms : Arms} {path after : Path} → ComesOne end arms to path after → Comes end (If point arms) to path after
-    in_turn : {end point to : ℕ} {condition : Expression} {body : Statements} {place : Place} {path turned after : Path}
-        → Through (While point condition body place) path turned → ComesAll end body to turned after → Comes end (While point condition body place) to path after
-    return : {end point : ℕ} {value : Option Expression} {path : Path} → Comes end (Return point value) end path path
-
-  pub data ComesAll : ℕ → Statements → ℕ → Path → Path → Type 0 where
-    in_first : {end to : ℕ} {first : Statement} {others : Statements} {path after : Path} → Comes end first to path after → ComesAll end (statement first others) to path after
-    in_others : {end to : ℕ} {first : Statement} {others : Statements} {path between after : Path}
-        → Through first path between → ComesAll end others to between after → ComesAll end (statement first others) to path after
-
-  pub data ComesOne : ℕ → Arms → ℕ → Path → Path → Type 0 where
-    in_this : {end to : ℕ} {condition : Expression} {body : Statements} {others : Arms} {path after : Path} → ComesAll end body to path after → ComesOne end (arm condition body others) to path after
-    in_later : {end to : ℕ} {condition : Expression} {body : Statements} {others : Arms} {path after : Path} → ComesOne end others to path after → ComesOne end (arm condition body others) to path after
-    in_else : {end to : ℕ} {body : Statements} {path after : Path} → ComesAll end body to path after → ComesOne end (otherwise body) to path after
+  pub ComesOne : ℕ → Arms → ℕ → Path → Path → Type 0
+  ComesOne end (arm condition body others) to path later = ComesAll end body to path later ⊎ ComesOne end others to path later
+  ComesOne end (otherwise body) to path later = ComesAll end body to path later
+  ComesOne end no_else to path later = ⊥
 
 -- the point at the end of a body, which has the last number
 abbrev pub end_of : Body → ℕ
 end_of body = body.points - 1
 
--- a control path from the start of a body to a point
-pub data ControlPath (body : Body) : ℕ → Path → Type 0 where
-  within : {to : ℕ} {path : Path} → ComesAll (end_of body) body.block to [] path → ControlPath body to path
-  to_the_end : {path : Path} → ThroughAll body.block [] path → ControlPath body (end_of body) path
+-- `path` is a control path from the start of the body to the point: it comes to it within the statements, or to the
+-- end by a return, or it goes through all of them to the end
+abbrev pub ControlPath : Body → ℕ → Path → Type 0
+ControlPath body to path =
+    ComesAll (end_of body) body.block to [] path ⊎ ((end_of body ≡ to) × ThroughAll body.block [] path)

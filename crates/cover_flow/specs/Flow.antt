@@ -10,7 +10,7 @@ Table = List (List Seen)
 
 -- what is seen of the future at the point, where the table has them
 abbrev pub seen_at : Table → ℕ → ℕ → Seen
-seen_at table point f = unwrap_or (slice_get (unwrap_or (slice_get table f) []) point) (record { out = false; inside = false })
+seen_at table point f = unwrap_or (slice_get (unwrap_or (slice_get table f) []) point) (record { out = false; not_out = false })
 
 -- the future is out on some path to the point
 abbrev pub may_at : Table → ℕ → ℕ → Bool
@@ -18,7 +18,7 @@ may_at table point f = (seen_at table point f).out
 
 -- the future is out on every path to the point: on none it is not
 abbrev pub surely_at : Table → ℕ → ℕ → Bool
-surely_at table point f = not (seen_at table point f).inside
+surely_at table point f = not (seen_at table point f).not_out
 
 -- the table answers for each point and each future of the body exactly as its control paths say
 pub record IsFlowOf (table : Table) (body : Body) : Type 0 where

@@ -26,7 +26,8 @@ impl Model for Points {
 }
 
 impl Points {
-    /// Whether on some control path to the point the last spawn or join of the future is a spawn.
+    /// Whether on some control path to the point the last spawn or join of the future is a spawn. It is not where the
+    /// body has no such point or future.
     pub fn may(&self, point: u32, future: u32) -> bool
         ensures { result ≡ may_at self.now point future }
     {
@@ -34,11 +35,11 @@ impl Points {
     }
 
     /// Whether on every control path to the point the last spawn or join of the future is a spawn. That is so where no
-    /// path comes.
+    /// path comes, and where the body has no such point or future.
     pub fn surely(&self, point: u32, future: u32) -> bool
         ensures { result ≡ surely_at self.now point future }
     {
-        !self.seen(point, future).inside
+        !self.seen(point, future).not_out
     }
 
     /// What is seen of the future at the point.

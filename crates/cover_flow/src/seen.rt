@@ -1,14 +1,15 @@
-//! What control paths to a point leave of one future.
+//! What the control paths to a point leave of one future.
 ghost use Rattle.std.specs.Prelude.{◌≡◌};
 ghost use Rattle.cover_flow.specs.inner.After.{at_start, joined, nowhere, put_out, taken_in};
 
-/// Whether on some control path to a point a future is out, and whether on some it is not. Where no path comes, neither.
+/// Whether on some control path to a point a future is out, and whether on some it is not. Where no path comes, neither
+/// is so.
 #[derive(Clone, Copy, Debug)]
 pub struct Seen {
     /// On some path it is out.
     pub out: bool,
     /// On some path it is not.
-    pub inside: bool,
+    pub not_out: bool,
 }
 
 impl Seen {
@@ -18,7 +19,7 @@ impl Seen {
     {
         Seen {
             out: false,
-            inside: true,
+            not_out: true,
         }
     }
 
@@ -28,37 +29,37 @@ impl Seen {
     {
         Seen {
             out: false,
-            inside: false,
+            not_out: false,
         }
     }
 
-    /// The paths of both.
+    /// On the paths of both.
     pub fn joined(self, other: Seen) -> Seen
         ensures { result ≡ joined self other }
     {
         Seen {
             out: self.out || other.out,
-            inside: self.inside || other.inside,
+            not_out: self.not_out || other.not_out,
         }
     }
 
-    /// After the future's spawn.
+    /// After a spawn into the future.
     pub fn put_out(self) -> Seen
         ensures { result ≡ put_out self }
     {
         Seen {
-            out: self.out || self.inside,
-            inside: false,
+            out: self.out || self.not_out,
+            not_out: false,
         }
     }
 
-    /// After the future's join.
+    /// After a join of the future.
     pub fn taken_in(self) -> Seen
         ensures { result ≡ taken_in self }
     {
         Seen {
             out: false,
-            inside: self.out || self.inside,
+            not_out: self.out || self.not_out,
         }
     }
 }

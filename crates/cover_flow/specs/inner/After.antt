@@ -5,20 +5,20 @@ use Rattle.cover_flow.specs.declared.seen.Seen.{Seen}
 use Rattle.cover_flow.specs.Out.{puts_out, takes_in}
 
 abbrev pub nowhere : Seen
-nowhere = record { out = false; inside = false }
+nowhere = record { out = false; not_out = false }
 
 -- at the start of a body no future is out
 abbrev pub at_start : Seen
-at_start = record { out = false; inside = true }
+at_start = record { out = false; not_out = true }
 
 abbrev pub joined : Seen → Seen → Seen
-joined a b = record { out = a.out || b.out; inside = a.inside || b.inside }
+joined a b = record { out = a.out || b.out; not_out = a.not_out || b.not_out }
 
 abbrev pub put_out : Seen → Seen
-put_out a = record { out = a.out || a.inside; inside = false }
+put_out a = record { out = a.out || a.not_out; not_out = false }
 
 abbrev pub taken_in : Seen → Seen
-taken_in a = record { out = false; inside = a.out || a.inside }
+taken_in a = record { out = false; not_out = a.out || a.not_out }
 
 -- after a statement that has no others inside it
 abbrev pub after_simple : ℕ → Statement → Seen → Seen
