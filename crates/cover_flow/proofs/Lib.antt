@@ -4,3 +4,5 @@ pub mod Notes
 pub mod MarkedLaws
 pub mod Rows
 pub mod Table
+pub mod Stepping
+pub mod SteppingBack
