@@ -1,0 +1,179 @@
+//! Collects what a body does, from its statements and the expressions in them.
+ghost use Rattle.std.specs.Prelude.{◌≡◌, ◌∷◌, [], ◌++◌, IfOk, OnOk, slice_get};
+ghost use Rattle.region_paths.specs.Filled.{fill};
+ghost use Rattle.effect_check.specs.Standing.{console, element_of, elements_from, elements_of, path_at};
+ghost use Rattle.effect_check.specs.Acts.{acts_in, acts_in_all, acts_in_one, acts_of, acts_of_all, acts_of_value, call, filled_summary, is_deterministic, make, touch, wait};
+
+use crate::act::{Act, ActKind, Acts, add_touch};
+use effect_sets::{Effects, Summary};
+use region_paths::{Elem, Elems, Path};
+use std::alloc::Global;
+use twe_io::{List, Memory, Place};
+use twe_program::{Args, Arms, Block, CellDecl, Decl, Expr, ExprKind, Prog, Stmt, StmtKind};
+
+/// How an index or an argument stands in the rules: a literal, a parameter and a `final int` local as itself, and
+/// everything else as any index.
+fn element(expr: &Expr) -> Elem
+    ensures { result ≡ element_of expr.now }
+{
+    match &expr.kind {
+        ExprKind::Lit(value) => Elem::Index(*value),
+        ExprKind::Var { var, fixed: true } => Elem::Var(*var),
+        _ => Elem::AnyIndex,
+    }
+}
+
+/// How the arguments stand in the rules.
+fn elements(alloc: Global, args: &Args) -> Result<Elems, Memory>
+    ensures { IfOk result (λ elems. elems ≡ elements_of args.now) }
+{
+    let mut elems = Elems::new(alloc);
+    for arg in args.items.as_slice() {
+        elems.push(element(arg))?;
+    }
+    Ok(elems)
+}
+
+/// The path of a declaration of cells.
+fn declared_elements(alloc: Global, p: &Prog, cell: u32) -> Result<Elems, Memory>
+    ensures { IfOk result (λ elems. elems ≡ elements_from (slice_get p.now.cells cell)) }
+{
+    match p.cells.get(cell as usize) {
+        None => Ok(Elems::new(alloc)),
+        Some(cell) => cell.path.elems().copy(alloc),
+    }
+}
+
+/// The path of a cell, or of the element of an array or a grid at these indexes.
+fn cell_path(alloc: Global, p: &Prog, cell: u32, indexes: &[Elem]) -> Result<Path, Memory>
+    ensures { IfOk result (λ path. path ≡ path_at p.now cell indexes.now) }
+{
+    let mut elems = declared_elements(alloc, p, cell)?;
+    elems.push_all(indexes)?;
+    Ok(Path::new(elems, false, Elems::new(alloc)))
+}
+
+/// The path of the region that a print writes.
+fn console_path(alloc: Global) -> Result<Path, Memory>
+    ensures { IfOk result (λ path. path ≡ console) }
+{
+    let elems = Elems::from_slice(alloc, &[Elem::Name(0)])?;
+    Ok(Path::new(elems, false, Elems::new(alloc)))
+}
+
+/// The summary of a declaration, filled with the arguments.
+fn filled(alloc: Global, decls: &[Decl], number: u32, args: &Args) -> Result<Summary, Memory>
+    ensures { IfOk result (λ summary. summary ≡ filled_summary (slice_get decls.now number) (elements_of args.now)) }
+{
+    match decls.get(number as usize) {
+        None => Ok(Summary {
+            effects: Effects::new(alloc),
+        }),
+        Some(decl) => {
+            let args = elements(alloc, args)?;
+            decl.summary.fill(alloc, args.as_slice())
+        }
+    }
+}
+
+/// Whether there is such a declaration, and it is deterministic.
+fn deterministic(decls: &[Decl], number: u32) -> bool
+    ensures { result ≡ is_deterministic (slice_get decls.now number) }
+{
+    match decls.get(number as usize) {
+        None => false,
+        Some(decl) => decl.deterministic,
+    }
+}
+
+/// Adds a read or a write of a cell, or of the element of an array or a grid at these indexes.
+fn add_access(
+    acts: &mut Acts,
+    alloc: Global,
+    p: &Prog,
+    point: u32,
+    write: bool,
+    cell: u32,
+    indexes: &[Elem],
+    place: Place,
+) -> Result<(), Memory>
+    ensures { OnOk result (acts.new ≡ acts.old ++ touch point write (path_at p.now cell indexes.now) place ∷ []) }
+{
+    let path = cell_path(alloc, p, cell, indexes)?;
+    add_touch(acts, point, write, path, place)
+}
+
+/// Adds the call of a method.
+fn add_call(
+    acts: &mut Acts,
+    alloc: Global,
+    p: &Prog,
+    point: u32,
+    method: u32,
+    args: &Args,
+    place: Place,
+) -> Result<(), Memory>
+    ensures { OnOk result (acts.new ≡ acts.old ++ call p.now point method args.now place ∷ []) }
+{
+    let effects = filled(alloc, p.methods.as_slice(), method, args)?;
+    let kind = ActKind::Call { effects, place };
+    acts.push(Act { point, kind })
+}
+
+/// Adds what is done at the point to evaluate the expression.
+#[cycle(expr)]
+fn add_expr(expr: &Expr, acts: &mut Acts, alloc: Global, p: &Prog, point: u32) -> Result<(), Memory>
+    ensures { OnOk result (acts.new ≡ acts.old ++ acts_of p.now point expr.now) }
+{
+    match &expr.kind {
+        ExprKind::Lit(_) | ExprKind::Truth(_) | ExprKind::Var { .. } => Ok(()),
+        ExprKind::Cell { cell, place } => {
+            add_access(acts, alloc, p, point, false, *cell, &[], *place)
+        }
+        ExprKind::At {
+            array,
+            index,
+            second: None,
+            place,
+        } => {
+            let indexes = [element(index)];
+            add_access(acts, alloc, p, point, false, *array, &indexes, *place)?;
+            add_expr(index, acts, alloc, p, point)
+        }
+        ExprKind::At {
+            array,
+            index,
+            second: Some(second),
+            place,
+        } => {
+            let indexes = [element(index), element(second)];
+            add_access(acts, alloc, p, point, false, *array, &indexes, *place)?;
+            add_expr(index, acts, alloc, p, point)?;
+            add_expr(second, acts, alloc, p, point)
+        }
+        ExprKind::Call {
+            method,
+            args,
+            place,
+        } => {
+            add_call(acts, alloc, p, point, *method, args, *place)?;
+            add_args(args, acts, alloc, p, point)
+        }
+        ExprKind::Neg(operand) | ExprKind::Not(operand) => add_expr(operand, acts, alloc, p, point),
+        ExprKind::Bin { left, right, .. } => {
+            add_expr(left, acts, alloc, p, point)?;
+            add_expr(right, acts, alloc, p, point)
+        }
+    }
+}
+
+/// The same for each of the arguments.
+#[cycle(expr)]
+fn add_args(args: &Args, acts: &mut Acts, alloc: Global, p: &Prog, point: u32) -> Result<(), Memory>
+    ensures { OnOk result (acts.new ≡ acts.old ++ acts_of_all p.now point args.now) }
+{
+    for arg in args.items.as_slice() {
+        add_expr(arg, acts, alloc, p, point)?;
+    }
+    Ok(())
+}
