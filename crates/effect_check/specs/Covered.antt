@@ -1,5 +1,5 @@
 -- When an effect is covered at a point of a body.
-use Rattle.std.specs.Prelude.{ℕ, Bool, true, List, IsTrue, Contains}
+use Rattle.std.specs.Prelude.{ℕ, Bool, true, IsTrue, Contains}
 use Rattle.twe_io.specs.declared.place.Place.{Place}
 use Rattle.effect_sets.specs.declared.effects.Effect.{Effect}
 use Rattle.effect_sets.specs.declared.effects.Summary.{Summary}

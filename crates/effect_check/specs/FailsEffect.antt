@@ -47,10 +47,10 @@ pub data TaskFails (p : Program) (task : Decl) : ERule → Place → Type 0 wher
 -- the rule for the body of a method
 pub data MethodFails (p : Program) (method : Decl) : ERule → Place → Type 0 where
   -- an access or a print is not inside its summary
-  access : (point : ℕ) (effect : Effect) (place : Place)
+  access_outside : (point : ℕ) (effect : Effect) (place : Place)
       → Does p method point (Touch effect place) → ¬ IsTrue (covers method.summary effect) → MethodFails p method E8 place
   -- nor is an effect of a called method
-  called : (point : ℕ) (effects : Summary) (effect : Effect) (place : Place)
+  called_outside : (point : ℕ) (effects : Summary) (effect : Effect) (place : Place)
       → Does p method point (Call effects place) → Contains effects.effects effect → ¬ IsTrue (covers method.summary effect)
       → MethodFails p method E8 place
 

@@ -1,6 +1,5 @@
 //! What a body does: the acts that the rules on effects speak of.
-ghost use Rattle.std.specs.Prelude.{◌≡◌, ◌∷◌, [], ◌++◌, OnOk, OnErr};
-ghost use Rattle.effect_check.specs.declared.act.ActKind.TheVariants.{Touch};
+ghost use Rattle.std.specs.Prelude.{◌≡◌, ◌∷◌, [], ◌++◌, OnOk};
 ghost use Rattle.effect_check.specs.Acts.{touch};
 
 use effect_sets::{Effect, Summary};
@@ -63,7 +62,13 @@ pub enum ActKind {
 pub type Acts = List<Act>;
 
 /// Adds a read or a write of the path.
-pub fn add_touch(acts: &mut Acts, point: u32, write: bool, path: Path, place: Place) -> Result<(), Memory>
+pub fn add_touch(
+    acts: &mut Acts,
+    point: u32,
+    write: bool,
+    path: Path,
+    place: Place,
+) -> Result<(), Memory>
     ensures { OnOk result (acts.new ≡ acts.old ++ touch point write path place ∷ []) }
 {
     let effect = Effect { write, path };

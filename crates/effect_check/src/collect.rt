@@ -1,19 +1,18 @@
-//! Collects what a body does, from its statements and the expressions in them.
+//! Collects what is done to evaluate an expression.
 ghost use Rattle.std.specs.Prelude.{◌≡◌, ◌∷◌, [], ◌++◌, IfOk, OnOk, slice_get};
-ghost use Rattle.region_paths.specs.Filled.{fill};
-ghost use Rattle.effect_check.specs.Standing.{console, element_of, elements_from, elements_of, path_at};
-ghost use Rattle.effect_check.specs.Acts.{acts_in, acts_in_all, acts_in_one, acts_of, acts_of_all, acts_of_value, call, filled_summary, is_deterministic, make, touch, wait};
+ghost use Rattle.effect_check.specs.Standing.{element_of, elements_from, elements_of, path_at};
+ghost use Rattle.effect_check.specs.Acts.{acts_of, acts_of_all, call, filled_summary, is_deterministic, touch};
 
 use crate::act::{Act, ActKind, Acts, add_touch};
 use effect_sets::{Effects, Summary};
 use region_paths::{Elem, Elems, Path};
 use std::alloc::Global;
-use twe_io::{List, Memory, Place};
-use twe_program::{Args, Arms, Block, CellDecl, Decl, Expr, ExprKind, Prog, Stmt, StmtKind};
+use twe_io::{Memory, Place};
+use twe_program::{Args, Decl, Expr, ExprKind, Prog};
 
 /// How an index or an argument stands in the rules: a literal, a parameter and a `final int` local as itself, and
 /// everything else as any index.
-fn element(expr: &Expr) -> Elem
+pub fn element(expr: &Expr) -> Elem
     ensures { result ≡ element_of expr.now }
 {
     match &expr.kind {
@@ -53,16 +52,8 @@ fn cell_path(alloc: Global, p: &Prog, cell: u32, indexes: &[Elem]) -> Result<Pat
     Ok(Path::new(elems, false, Elems::new(alloc)))
 }
 
-/// The path of the region that a print writes.
-fn console_path(alloc: Global) -> Result<Path, Memory>
-    ensures { IfOk result (λ path. path ≡ console) }
-{
-    let elems = Elems::from_slice(alloc, &[Elem::Name(0)])?;
-    Ok(Path::new(elems, false, Elems::new(alloc)))
-}
-
 /// The summary of a declaration, filled with the arguments.
-fn filled(alloc: Global, decls: &[Decl], number: u32, args: &Args) -> Result<Summary, Memory>
+pub fn filled(alloc: Global, decls: &[Decl], number: u32, args: &Args) -> Result<Summary, Memory>
     ensures { IfOk result (λ summary. summary ≡ filled_summary (slice_get decls.now number) (elements_of args.now)) }
 {
     match decls.get(number as usize) {
@@ -77,7 +68,7 @@ fn filled(alloc: Global, decls: &[Decl], number: u32, args: &Args) -> Result<Sum
 }
 
 /// Whether there is such a declaration, and it is deterministic.
-fn deterministic(decls: &[Decl], number: u32) -> bool
+pub fn deterministic(decls: &[Decl], number: u32) -> bool
     ensures { result ≡ is_deterministic (slice_get decls.now number) }
 {
     match decls.get(number as usize) {
@@ -87,7 +78,7 @@ fn deterministic(decls: &[Decl], number: u32) -> bool
 }
 
 /// Adds a read or a write of a cell, or of the element of an array or a grid at these indexes.
-fn add_access(
+pub fn add_access(
     acts: &mut Acts,
     alloc: Global,
     p: &Prog,
@@ -104,7 +95,7 @@ fn add_access(
 }
 
 /// Adds the call of a method.
-fn add_call(
+pub fn add_call(
     acts: &mut Acts,
     alloc: Global,
     p: &Prog,
@@ -122,7 +113,13 @@ fn add_call(
 
 /// Adds what is done at the point to evaluate the expression.
 #[cycle(expr)]
-fn add_expr(expr: &Expr, acts: &mut Acts, alloc: Global, p: &Prog, point: u32) -> Result<(), Memory>
+pub fn add_expr(
+    expr: &Expr,
+    acts: &mut Acts,
+    alloc: Global,
+    p: &Prog,
+    point: u32,
+) -> Result<(), Memory>
     ensures { OnOk result (acts.new ≡ acts.old ++ acts_of p.now point expr.now) }
 {
     match &expr.kind {
@@ -169,7 +166,13 @@ fn add_expr(expr: &Expr, acts: &mut Acts, alloc: Global, p: &Prog, point: u32) -
 
 /// The same for each of the arguments.
 #[cycle(expr)]
-fn add_args(args: &Args, acts: &mut Acts, alloc: Global, p: &Prog, point: u32) -> Result<(), Memory>
+pub fn add_args(
+    args: &Args,
+    acts: &mut Acts,
+    alloc: Global,
+    p: &Prog,
+    point: u32,
+) -> Result<(), Memory>
     ensures { OnOk result (acts.new ≡ acts.old ++ acts_of_all p.now point args.now) }
 {
     for arg in args.items.as_slice() {

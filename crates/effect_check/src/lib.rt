@@ -5,8 +5,14 @@
 #![tactic(auto)]
 
 mod act;
+mod body;
 mod collect;
+mod cover;
+mod first;
 mod futures;
+mod judge;
 mod rule;
+mod whole;
 
 pub use rule::{CheckFail, ERule};
+pub use whole::check;

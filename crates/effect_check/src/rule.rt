@@ -34,6 +34,27 @@ pub struct Failure {
     pub place: Place,
 }
 
+impl ERule {
+    ghost use Rattle.std.specs.Prelude.{◌≡◌};
+    ghost use Rattle.effect_check.specs.FailsEffect.{number_of};
+
+    /// The number in the rule's name.
+    pub fn number(self) -> u8
+        ensures { result ≡ number_of self }
+    {
+        match self {
+            ERule::E1 => 1,
+            ERule::E2 => 2,
+            ERule::E3 => 3,
+            ERule::E4 => 4,
+            ERule::E5 => 5,
+            ERule::E6 => 6,
+            ERule::E7 => 7,
+            ERule::E8 => 8,
+        }
+    }
+}
+
 /// Why a program was not accepted.
 #[derive(Clone, Copy, Debug, PartialEq, Eq)]
 pub enum CheckFail {

@@ -1,5 +1,5 @@
 -- The failures of a body, listed from what it does and from the answers on its futures.
-use Rattle.std.specs.Prelude.{ℕ, Bool, true, false, not, ◌&&◌, List, [], ◌∷◌, ◌++◌}
+use Rattle.std.specs.Prelude.{◌≡◌, ◌==◌, nat_lt, ℕ, Bool, true, false, not, ◌&&◌, ◌||◌, if◌then◌else◌, List, [], ◌∷◌, ◌++◌, Option, None, Some}
 use Rattle.std.specs.List.{list_any, list_all}
 use Rattle.twe_io.specs.declared.place.Place.{Place}
 use Rattle.effect_sets.specs.declared.effects.Effect.{Effect}
@@ -7,7 +7,8 @@ use Rattle.effect_sets.specs.declared.effects.Summary.{Summary}
 use Rattle.effect_sets.specs.Covers.{covers}
 use Rattle.effect_sets.specs.Interference.{statically_interferes}
 use Rattle.twe_program.specs.declared.program.Decl.{Decl}
-use Rattle.cover_flow.specs.Flow.{Table, may_at, surely_at}
+use Rattle.twe_program.specs.Program.{Program}
+use Rattle.cover_flow.specs.Flow.{Table, IsFlowOf, may_at, surely_at}
 use Rattle.effect_check.specs.declared.act.Act.{Act}
 use Rattle.effect_check.specs.declared.act.ActKind.{ActKind}
 use Rattle.effect_check.specs.declared.act.ActKind.TheVariants.{Touch, Call, Make, Wait}
@@ -16,6 +17,8 @@ use Rattle.effect_check.specs.declared.rule.ERule.TheVariants.{E1, E2, E3, E4, E
 use Rattle.effect_check.specs.declared.rule.Failure.{Failure}
 use Rattle.effect_check.specs.declared.futures.Spawn.{Spawn}
 use Rattle.effect_check.specs.declared.futures.Futures.{Futures}
+use Rattle.effect_check.specs.Acts.{acts_in_all}
+use Rattle.effect_check.specs.FailsEffect.{number_of}
 
 abbrev pub failure_if : Bool → ERule → Place → List Failure
 failure_if true rule place = record { rule = rule; place = place } ∷ []
@@ -68,3 +71,31 @@ method_failures_at method _ = []
 abbrev pub method_failures : Decl → List Act → List Failure
 method_failures method [] = []
 method_failures method (act ∷ acts) = method_failures_at method act.kind ++ method_failures method acts
+
+-- the first failure comes before the second: its place is earlier, or the same and its number is lower
+abbrev pub is_before : Failure → Failure → Bool
+is_before a b =
+    nat_lt a.place.line b.place.line
+    || ((a.place.line == b.place.line)
+    && (nat_lt a.place.col b.place.col || ((a.place.col == b.place.col) && nat_lt (number_of a.rule) (number_of b.rule))))
+
+-- the one that comes first, of the first so far and another
+abbrev pub earlier : Option Failure → Failure → Option Failure
+earlier None other = Some other
+earlier (Some first) other = if is_before other first then Some other else Some first
+
+-- the first of all, of the first so far and these
+abbrev pub first_from : Option Failure → List Failure → Option Failure
+first_from first [] = first
+first_from first (other ∷ others) = first_from (earlier first other) others
+
+-- what the failures of a task make of the first so far
+pub record JudgesTask (p : Program) (task : Decl) (first later : Option Failure) : Type 0 where
+  pub futures : Futures
+  pub flow : IsFlowOf futures.points task.body
+  pub spawns : futures.spawns ≡ spawns_among (acts_in_all p task.body.block)
+  pub judged : later ≡ first_from first (task_failures task futures (acts_in_all p task.body.block))
+
+-- what those of a method make of it
+abbrev pub JudgesMethod : Program → Decl → Option Failure → Option Failure → Type 0
+JudgesMethod p method first later = later ≡ first_from first (method_failures method (acts_in_all p method.body.block))
