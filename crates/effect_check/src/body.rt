@@ -4,7 +4,7 @@ ghost use Rattle.effect_check.specs.Standing.{console};
 ghost use Rattle.effect_check.specs.Acts.{acts_in, acts_in_all, acts_in_one, acts_of_value, make, touch};
 
 use crate::act::{Act, ActKind, Acts, add_touch};
-use crate::collect::{add_access, add_args, add_call, add_expr, deterministic, element, filled};
+use crate::collect::{add_args, add_call, add_expr, cell_path, deterministic, element, filled};
 use region_paths::{Elem, Elems, Path};
 use std::alloc::Global;
 use twe_io::{Memory, Place};
@@ -81,7 +81,8 @@ fn add_stmt(stmt: &Stmt, acts: &mut Acts, alloc: Global, p: &Prog) -> Result<(),
             add_expr(value, acts, alloc, p, point)
         }
         StmtKind::SetCell { cell, value, place } => {
-            add_access(acts, alloc, p, point, true, *cell, &[], *place)?;
+            let path = cell_path(alloc, p, *cell, &[])?;
+            add_touch(acts, point, true, path, *place)?;
             add_expr(value, acts, alloc, p, point)
         }
         StmtKind::SetAt {
@@ -91,8 +92,8 @@ fn add_stmt(stmt: &Stmt, acts: &mut Acts, alloc: Global, p: &Prog) -> Result<(),
             value,
             place,
         } => {
-            let indexes = [element(index)];
-            add_access(acts, alloc, p, point, true, *array, &indexes, *place)?;
+            let path = cell_path(alloc, p, *array, &[element(index)])?;
+            add_touch(acts, point, true, path, *place)?;
             add_expr(index, acts, alloc, p, point)?;
             add_expr(value, acts, alloc, p, point)
         }
@@ -103,8 +104,8 @@ fn add_stmt(stmt: &Stmt, acts: &mut Acts, alloc: Global, p: &Prog) -> Result<(),
             value,
             place,
         } => {
-            let indexes = [element(index), element(second)];
-            add_access(acts, alloc, p, point, true, *array, &indexes, *place)?;
+            let path = cell_path(alloc, p, *array, &[element(index), element(second)])?;
+            add_touch(acts, point, true, path, *place)?;
             add_expr(index, acts, alloc, p, point)?;
             add_expr(second, acts, alloc, p, point)?;
             add_expr(value, acts, alloc, p, point)

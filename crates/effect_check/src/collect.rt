@@ -44,7 +44,7 @@ fn declared_elements(alloc: Global, p: &Prog, cell: u32) -> Result<Elems, Memory
 }
 
 /// The path of a cell, or of the element of an array or a grid at these indexes.
-fn cell_path(alloc: Global, p: &Prog, cell: u32, indexes: &[Elem]) -> Result<Path, Memory>
+pub fn cell_path(alloc: Global, p: &Prog, cell: u32, indexes: &[Elem]) -> Result<Path, Memory>
     ensures { IfOk result (λ path. path ≡ path_at p.now cell indexes.now) }
 {
     let mut elems = declared_elements(alloc, p, cell)?;
@@ -75,23 +75,6 @@ pub fn deterministic(decls: &[Decl], number: u32) -> bool
         None => false,
         Some(decl) => decl.deterministic,
     }
-}
-
-/// Adds a read or a write of a cell, or of the element of an array or a grid at these indexes.
-pub fn add_access(
-    acts: &mut Acts,
-    alloc: Global,
-    p: &Prog,
-    point: u32,
-    write: bool,
-    cell: u32,
-    indexes: &[Elem],
-    place: Place,
-) -> Result<(), Memory>
-    ensures { OnOk result (acts.new ≡ acts.old ++ touch point write (path_at p.now cell indexes.now) place ∷ []) }
-{
-    let path = cell_path(alloc, p, cell, indexes)?;
-    add_touch(acts, point, write, path, place)
 }
 
 /// Adds the call of a method.
@@ -125,7 +108,8 @@ pub fn add_expr(
     match &expr.kind {
         ExprKind::Lit(_) | ExprKind::Truth(_) | ExprKind::Var { .. } => Ok(()),
         ExprKind::Cell { cell, place } => {
-            add_access(acts, alloc, p, point, false, *cell, &[], *place)
+            let path = cell_path(alloc, p, *cell, &[])?;
+            add_touch(acts, point, false, path, *place)
         }
         ExprKind::At {
             array,
@@ -133,8 +117,8 @@ pub fn add_expr(
             second: None,
             place,
         } => {
-            let indexes = [element(index)];
-            add_access(acts, alloc, p, point, false, *array, &indexes, *place)?;
+            let path = cell_path(alloc, p, *array, &[element(index)])?;
+            add_touch(acts, point, false, path, *place)?;
             add_expr(index, acts, alloc, p, point)
         }
         ExprKind::At {
@@ -143,8 +127,8 @@ pub fn add_expr(
             second: Some(second),
             place,
         } => {
-            let indexes = [element(index), element(second)];
-            add_access(acts, alloc, p, point, false, *array, &indexes, *place)?;
+            let path = cell_path(alloc, p, *array, &[element(index), element(second)])?;
+            add_touch(acts, point, false, path, *place)?;
             add_expr(index, acts, alloc, p, point)?;
             add_expr(second, acts, alloc, p, point)
         }

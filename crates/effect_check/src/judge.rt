@@ -112,8 +112,8 @@ fn judge_in_method(first: Option<Failure>, method: &Decl, kind: &ActKind) -> Opt
             first_with(first, !inside, ERule::E8, *place)
         }
         ActKind::Call { effects, place } => {
-            let inside = are_inside(&method.summary, effects);
-            first_with(first, !inside, ERule::E8, *place)
+            let all_inside = are_inside(&method.summary, effects);
+            first_with(first, !all_inside, ERule::E8, *place)
         }
         _ => first,
     }
