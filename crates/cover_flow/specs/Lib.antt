@@ -1,0 +1,5 @@
+pub mod ControlPath
+pub mod Steps
+pub mod Out
+pub mod Flow
+pub mod inner

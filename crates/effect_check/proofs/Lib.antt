@@ -1,0 +1,5 @@
+pub mod Firsts
+pub mod Members
+pub mod Range
+pub mod Judged
+pub mod Bodies

@@ -1,0 +1,90 @@
+-- The rules on effects: where a program fails them, and which failure is the first.
+use Rattle.std.specs.Prelude.{◌≡◌, ◌⊎◌, ◌<◌, ◌≤◌, ℕ, Bool, true, false, IsTrue, Contains}
+use Rattle.twe_io.specs.declared.place.Place.{Place}
+use Rattle.effect_sets.specs.declared.effects.Effect.{Effect}
+use Rattle.effect_sets.specs.declared.effects.Summary.{Summary}
+use Rattle.effect_sets.specs.Covers.{covers}
+use Rattle.twe_program.specs.declared.program.Decl.{Decl}
+use Rattle.twe_program.specs.Program.{Program}
+use Rattle.cover_flow.specs.Out.{MayBeOut, SurelyOut}
+use Rattle.effect_check.specs.declared.act.ActKind.TheVariants.{Touch, Call, Make, Wait}
+use Rattle.effect_check.specs.declared.rule.ERule.{ERule}
+use Rattle.effect_check.specs.declared.rule.ERule.TheVariants.{E1, E2, E3, E4, E5, E6, E7, E8}
+use Rattle.effect_check.specs.declared.rule.CheckFail.{CheckFail}
+use Rattle.effect_check.specs.declared.rule.CheckFail.TheVariants.{Rule, OutOfMemory}
+use Rattle.effect_check.specs.Covered.{Does, CoveredAt}
+
+-- the rules for the body of a task, at the places where they fail
+pub data TaskFails (p : Program) (task : Decl) : ERule → Place → Type 0 where
+  -- an access or a print is not covered
+  access : (point : ℕ) (effect : Effect) (place : Place)
+      → Does p task point (Touch effect place) → ¬ CoveredAt p task point effect → TaskFails p task E1 place
+  -- an effect of a called method is not covered
+  called : (point : ℕ) (effects : Summary) (effect : Effect) (place : Place)
+      → Does p task point (Call effects place) → Contains effects.effects effect → ¬ CoveredAt p task point effect → TaskFails p task E2 place
+  -- an effect of a spawned task is not covered just before the spawn
+  spawned : (point future : ℕ) (deterministic : Bool) (effects : Summary) (effect : Effect) (future_place place : Place)
+      → Does p task point (Make future true deterministic effects future_place place)
+      → Contains effects.effects effect → ¬ CoveredAt p task point effect → TaskFails p task E3 place
+  -- the future of a join is not surely out
+  joined : (point future : ℕ) (place : Place)
+      → Does p task point (Wait future true place) → ¬ SurelyOut task.body point future → TaskFails p task E4 place
+  -- the future of a spawn may be out
+  spawned_again : (point future : ℕ) (deterministic : Bool) (effects : Summary) (future_place place : Place)
+      → Does p task point (Make future true deterministic effects future_place place)
+      → MayBeOut task.body point future → TaskFails p task E5 future_place
+  -- a deterministic task has an `executeLater`, or a `getValue`
+  made_later : (point future : ℕ) (deterministic : Bool) (effects : Summary) (future_place place : Place)
+      → Does p task point (Make future false deterministic effects future_place place)
+      → IsTrue task.deterministic → TaskFails p task E6 place
+  waited : (point future : ℕ) (place : Place)
+      → Does p task point (Wait future false place) → IsTrue task.deterministic → TaskFails p task E6 place
+  -- a deterministic task spawns one that is not
+  not_deterministic : (point future : ℕ) (effects : Summary) (future_place place : Place)
+      → Does p task point (Make future true false effects future_place place)
+      → IsTrue task.deterministic → TaskFails p task E7 place
+
+-- the rule for the body of a method
+pub data MethodFails (p : Program) (method : Decl) : ERule → Place → Type 0 where
+  -- an access or a print is not inside its summary
+  access_outside : (point : ℕ) (effect : Effect) (place : Place)
+      → Does p method point (Touch effect place) → ¬ IsTrue (covers method.summary effect) → MethodFails p method E8 place
+  -- nor is an effect of a called method
+  called_outside : (point : ℕ) (effects : Summary) (effect : Effect) (place : Place)
+      → Does p method point (Call effects place) → Contains effects.effects effect → ¬ IsTrue (covers method.summary effect)
+      → MethodFails p method E8 place
+
+-- the program fails the rule at the place
+abbrev pub FailsEffect : Program → ERule → Place → Type 0
+FailsEffect p rule place =
+    ((task : Decl) × Contains p.tasks task × TaskFails p task rule place)
+    ⊎ ((method : Decl) × Contains p.methods method × MethodFails p method rule place)
+
+abbrev pub number_of : ERule → ℕ
+number_of E1 = 1
+number_of E2 = 2
+number_of E3 = 3
+number_of E4 = 4
+number_of E5 = 5
+number_of E6 = 6
+number_of E7 = 7
+number_of E8 = 8
+
+-- the first place is earlier in the text
+abbrev pub IsEarlier : Place → Place → Type 0
+IsEarlier a b = (a.line < b.line) ⊎ ((a.line ≡ b.line) × (a.col < b.col))
+
+-- the first failure does not come after the second: its place is earlier, or the same and its number not higher
+abbrev pub NotAfter : ERule → Place → ERule → Place → Type 0
+NotAfter rule place other elsewhere =
+    IsEarlier place elsewhere ⊎ ((place ≡ elsewhere) × (number_of rule ≤ number_of other))
+
+-- the failure comes before all others
+pub record IsFirstFailure (p : Program) (rule : ERule) (place : Place) : Type 0 where
+  pub fails : FailsEffect p rule place
+  pub first : (other : ERule) (elsewhere : Place) → FailsEffect p other elsewhere → NotAfter rule place other elsewhere
+
+-- the cause of an answer other than Ok: the first failure; that memory ran out has none
+abbrev pub HasCause : Program → CheckFail → Type 0
+HasCause p (Rule rule place) = IsFirstFailure p rule place
+HasCause p (OutOfMemory memory) = Unit {0}

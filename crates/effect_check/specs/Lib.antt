@@ -1,0 +1,5 @@
+pub mod Standing
+pub mod Acts
+pub mod Covered
+pub mod FailsEffect
+pub mod inner

@@ -1,0 +1,101 @@
+-- The failures of a body, listed from what it does and from the answers on its futures.
+use Rattle.std.specs.Prelude.{◌≡◌, ◌==◌, nat_lt, ℕ, Bool, true, false, not, ◌&&◌, ◌||◌, if◌then◌else◌, List, [], ◌∷◌, ◌++◌, Option, None, Some}
+use Rattle.std.specs.List.{list_any, list_all}
+use Rattle.twe_io.specs.declared.place.Place.{Place}
+use Rattle.effect_sets.specs.declared.effects.Effect.{Effect}
+use Rattle.effect_sets.specs.declared.effects.Summary.{Summary}
+use Rattle.effect_sets.specs.Covers.{covers}
+use Rattle.effect_sets.specs.Interference.{statically_interferes}
+use Rattle.twe_program.specs.declared.program.Decl.{Decl}
+use Rattle.twe_program.specs.Program.{Program}
+use Rattle.cover_flow.specs.Flow.{Table, IsFlowOf, may_at, surely_at}
+use Rattle.effect_check.specs.declared.act.Act.{Act}
+use Rattle.effect_check.specs.declared.act.ActKind.{ActKind}
+use Rattle.effect_check.specs.declared.act.ActKind.TheVariants.{Touch, Call, Make, Wait}
+use Rattle.effect_check.specs.declared.rule.ERule.{ERule}
+use Rattle.effect_check.specs.declared.rule.ERule.TheVariants.{E1, E2, E3, E4, E5, E6, E7, E8}
+use Rattle.effect_check.specs.declared.rule.Failure.{Failure}
+use Rattle.effect_check.specs.declared.futures.Spawn.{Spawn}
+use Rattle.effect_check.specs.declared.futures.Futures.{Futures}
+use Rattle.effect_check.specs.Acts.{acts_in_all}
+use Rattle.effect_check.specs.FailsEffect.{number_of}
+
+abbrev pub failure_if : Bool → ERule → Place → List Failure
+failure_if true rule place = record { rule = rule; place = place } ∷ []
+failure_if false rule place = []
+
+-- the spawn that an act is, if it is one
+abbrev pub spawn_of : ActKind → List Spawn
+spawn_of (Make future true deterministic effects future_place place) = record { future = future; effects = effects } ∷ []
+spawn_of _ = []
+
+abbrev pub spawns_among : List Act → List Spawn
+spawns_among [] = []
+spawns_among (act ∷ acts) = spawn_of act.kind ++ spawns_among acts
+
+-- the spawned task may be out, and interferes
+abbrev pub bars : Table → ℕ → Effect → Spawn → Bool
+bars table point effect spawn = may_at table point spawn.future && list_any (λ other. statically_interferes effect other) spawn.effects.effects
+
+abbrev pub covered : Summary → Futures → ℕ → Effect → Bool
+covered summary futures point effect = covers summary effect && list_all (λ spawn. not (bars futures.points point effect spawn)) futures.spawns
+
+abbrev pub all_covered : Summary → Futures → ℕ → Summary → Bool
+all_covered summary futures point effects = list_all (λ effect. covered summary futures point effect) effects.effects
+
+abbrev pub all_inside : Summary → Summary → Bool
+all_inside summary effects = list_all (λ effect. covers summary effect) effects.effects
+
+-- the failures of a task at something that it does
+abbrev pub task_failures_at : Decl → Futures → ℕ → ActKind → List Failure
+task_failures_at task futures point (Touch effect place) = failure_if (not (covered task.summary futures point effect)) E1 place
+task_failures_at task futures point (Call effects place) = failure_if (not (all_covered task.summary futures point effects)) E2 place
+task_failures_at task futures point (Make future true deterministic effects future_place place) =
+    failure_if (may_at futures.points point future) E5 future_place
+    ++ failure_if (not (all_covered task.summary futures point effects)) E3 place
+    ++ failure_if (task.deterministic && not deterministic) E7 place
+task_failures_at task futures point (Make future false deterministic effects future_place place) = failure_if task.deterministic E6 place
+task_failures_at task futures point (Wait future true place) = failure_if (not (surely_at futures.points point future)) E4 place
+task_failures_at task futures point (Wait future false place) = failure_if task.deterministic E6 place
+
+abbrev pub task_failures : Decl → Futures → List Act → List Failure
+task_failures task futures [] = []
+task_failures task futures (act ∷ acts) = task_failures_at task futures act.point act.kind ++ task_failures task futures acts
+
+-- the failures of a method at something that it does
+abbrev pub method_failures_at : Decl → ActKind → List Failure
+method_failures_at method (Touch effect place) = failure_if (not (covers method.summary effect)) E8 place
+method_failures_at method (Call effects place) = failure_if (not (all_inside method.summary effects)) E8 place
+method_failures_at method _ = []
+
+abbrev pub method_failures : Decl → List Act → List Failure
+method_failures method [] = []
+method_failures method (act ∷ acts) = method_failures_at method act.kind ++ method_failures method acts
+
+-- the first failure comes before the second: its place is earlier, or the same and its number is lower
+abbrev pub is_before : Failure → Failure → Bool
+is_before a b =
+    nat_lt a.place.line b.place.line
+    || ((a.place.line == b.place.line)
+    && (nat_lt a.place.col b.place.col || ((a.place.col == b.place.col) && nat_lt (number_of a.rule) (number_of b.rule))))
+
+-- the one that comes first, of the first so far and another
+abbrev pub earlier : Option Failure → Failure → Option Failure
+earlier None other = Some other
+earlier (Some first) other = if is_before other first then Some other else Some first
+
+-- the first of all, of the first so far and these
+abbrev pub first_from : Option Failure → List Failure → Option Failure
+first_from first [] = first
+first_from first (other ∷ others) = first_from (earlier first other) others
+
+-- what the failures of a task make of the first so far
+pub record JudgesTask (p : Program) (task : Decl) (first later : Option Failure) : Type 0 where
+  pub futures : Futures
+  pub flow : IsFlowOf futures.points task.body
+  pub spawns : futures.spawns ≡ spawns_among (acts_in_all p task.body.block)
+  pub judged : later ≡ first_from first (task_failures task futures (acts_in_all p task.body.block))
+
+-- what those of a method make of it
+abbrev pub JudgesMethod : Program → Decl → Option Failure → Option Failure → Type 0
+JudgesMethod p method first later = later ≡ first_from first (method_failures method (acts_in_all p method.body.block))

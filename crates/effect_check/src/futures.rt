@@ -1,0 +1,59 @@
+//! The futures of a body: where each may be out, and which effects the spawned tasks have.
+ghost use Rattle.std.specs.Prelude.{◌≡◌, ◌++◌, IfOk, OnOk};
+ghost use Rattle.effect_check.specs.inner.Failures.{spawn_of, spawns_among};
+
+use crate::act::{Act, ActKind};
+use cover_flow::Points;
+use effect_sets::Summary;
+use std::alloc::Global;
+use twe_io::{List, Memory};
+
+/// A spawn: its future, and the effects of the spawned task.
+#[derive(Debug, Drop)]
+pub struct Spawn {
+    /// The number of the future.
+    pub future: u32,
+    /// The effects, filled with the arguments.
+    pub effects: Summary,
+}
+
+/// What the rules ask of the futures of a body.
+#[derive(Debug, Drop)]
+pub struct Futures {
+    /// Where each may be out, and where each surely is.
+    pub points: Points,
+    /// The spawns of the body.
+    pub spawns: List<Spawn>,
+}
+
+/// Adds the spawn that this is, if it is one.
+fn add_spawn(alloc: Global, spawns: &mut List<Spawn>, kind: &ActKind) -> Result<(), Memory>
+    ensures { OnOk result (spawns.new ≡ spawns.old ++ spawn_of kind.now) }
+{
+    match kind {
+        ActKind::Make {
+            future,
+            spawned: true,
+            effects,
+            ..
+        } => {
+            let effects = effects.copy(alloc)?;
+            spawns.push(Spawn {
+                future: *future,
+                effects,
+            })
+        }
+        _ => Ok(()),
+    }
+}
+
+/// The spawns among the acts.
+pub fn spawns_among(alloc: Global, acts: &[Act]) -> Result<List<Spawn>, Memory>
+    ensures { IfOk result (λ spawns. spawns ≡ spawns_among acts.now) }
+{
+    let mut spawns = List::new(alloc);
+    for act in acts {
+        add_spawn(alloc, &mut spawns, &act.kind)?;
+    }
+    Ok(spawns)
+}
