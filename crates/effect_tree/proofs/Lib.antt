@@ -1,0 +1,4 @@
+pub mod StepLemmas
+pub mod PrefixLemmas
+pub mod SolidLemmas
+pub mod PlaceLemmas

@@ -1,0 +1,82 @@
+//! The tables of a tree that grows: the step that leads to each node, the nodes below each node, and the node that
+//! each step leads to.
+ghost use Rattle.std.specs.Prelude.{◌≡◌, ℕ, ◌<◌, ◌-◌, ◌^◌, [], ◌∷◌, ◌++◌, length, vec_len, IfSome, IfNone, IfOk, OnOk, Some, None};
+ghost use Rattle.std.specs.BTreeMap.{get};
+ghost use Rattle.effect_tree.specs.Nodes.{path_of};
+ghost use Rattle.effect_tree.specs.inner.Steps.{elem_of};
+ghost use Rattle.effect_tree.specs.inner.Order.{step_cmp};
+ghost use Rattle.effect_tree.specs.inner.Tree.{IsTree, paths};
+ghost use Rattle.effect_tree.specs.inner.Growth.{Grows};
+
+use crate::step::{Part, Step};
+use std::alloc::Global;
+use std::collections::BTreeMap;
+use twe_io::Memory;
+
+/// The nodes of a tree, numbered from 0, which is the root.
+#[derive(Debug, Drop)]
+pub(crate) struct Tree {
+    /// For each node the step that leads to it, and none for the root.
+    pub steps: Vec<Option<Step>>,
+    /// For each node those right below it, in increasing order.
+    pub below: Vec<Vec<u32>>,
+    /// The node that each step leads to.
+    pub children: BTreeMap<Step, u32>,
+}
+
+impl Tree {
+    /// The root alone.
+    pub fn new(alloc: Global) -> Result<Self, Memory>
+        ensures tree { IfOk result IsTree }
+        ensures root { IfOk result (λ tree. tree.steps.items ≡ None ∷ []) }
+    {
+        Ok(Tree {
+            steps: vec![in alloc; None]?,
+            below: vec![in alloc; Vec::new(alloc)]?,
+            children: BTreeMap::new(alloc),
+        })
+    }
+
+    /// The node that a step leads to, if there is one.
+    pub fn child(&self, from: u32, part: Part) -> Option<u32>
+        ensures { result ≡ get step_cmp self.now.children (record { from = from; part = part }) }
+    {
+        self.children.get(&Step { from, part }).copied()
+    }
+
+    /// Adds the node that a step leads to, and answers its number.
+    fn add(&mut self, alloc: Global, step: Step) -> Result<u32, Memory>
+        requires tree { IsTree self.old }
+        requires there { step.from < vec_len self.old.steps }
+        requires new { get step_cmp self.old.children step ≡ None }
+        requires room { vec_len self.old.steps < 2 ^ 32 - 1 }
+        ensures tree { OnOk result (IsTree self.new) }
+        ensures steps { OnOk result (self.new.steps.items ≡ self.old.steps.items ++ Some step ∷ []) }
+        ensures number { IfOk result (λ n. n ≡ vec_len self.old.steps) }
+    {
+        let number = self.steps.len() as u32;
+        self.children.insert(step, number)?;
+        self.below[step.from as usize].push(number)?;
+        self.below.push(Vec::new(alloc))?;
+        self.steps.push(Some(step))?;
+        Ok(number)
+    }
+
+    /// The node that a step leads to, which is added where there is none.
+    pub fn child_or_new(&mut self, alloc: Global, from: u32, part: Part) -> Result<u32, Memory>
+        requires tree { IsTree self.old }
+        requires there { from < vec_len self.old.steps }
+        ensures tree { OnOk result (IsTree self.new) }
+        ensures there { IfOk result (λ n. n < vec_len self.new.steps) }
+        ensures path { IfOk result (λ n. path_of (paths self.new) n ≡ path_of (paths self.old) from ++ elem_of part ∷ []) }
+        ensures grows { OnOk result (Grows (paths self.old) (paths self.new) (λ path. path ≡ path_of (paths self.old) from ++ elem_of part ∷ [])) }
+    {
+        if let Some(node) = self.child(from, part) {
+            return Ok(node);
+        }
+        if self.steps.len() >= u32::MAX as usize {
+            return Err(Memory::of_uncountable(self.steps.len()));
+        }
+        self.add(alloc, Step { from, part })
+    }
+}
