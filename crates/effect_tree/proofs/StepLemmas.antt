@@ -27,3 +27,9 @@ exact_step a b h =
 
 pub step_itself : (a : Step) → step_cmp a a ≡ Equal
 step_itself a = ap (λ o. ordering_then o (part_cmp a.part a.part)) (tied_itself nat_cmp_total a.from) ∙ part_itself a.part
+
+-- a step is its node and its part
+pub step_is : (s t : Step) → s.from ≡ t.from → s.part ≡ t.part → s ≡ t
+step_is s t from part =
+    let make : ℕ → Part → Step = λ f p. record { from = f; part = p } in
+    ap (λ f. make f s.part) from ∙ ap (make t.from) part

@@ -1,12 +1,11 @@
 //! How the tree grows by the paths of the cells.
-ghost use Rattle.std.specs.Prelude.{◌≡◌, ℕ, ◌<◌, ◌≤◌, ◌^◌, [], ◌∷◌, ◌++◌, pos, length, take_while, vec_len, IfOk, OnOk};
-ghost use Rattle.region_paths.specs.declared.elements.Elem.TheVariants.{Index};
-ghost use Rattle.region_paths.specs.Filled.{is_solid, solid_prefix};
+ghost use Rattle.std.specs.Prelude.{◌≡◌, ◌<◌, ◌≤◌, ◌^◌, length, take_while, IfOk, OnOk};
+ghost use Rattle.region_paths.specs.Filled.{is_solid};
 ghost use Rattle.effect_tree.specs.Prefix.{IsPrefix};
 ghost use Rattle.effect_tree.specs.Nodes.{path_of};
-ghost use Rattle.effect_tree.specs.DeclaredPaths.{Declares, IsDeclared, FitsIndexes, AllFitIndexes};
+ghost use Rattle.effect_tree.specs.DeclaredPaths.{IsDeclared, IsNodePath, FitsIndexes, AllFitIndexes};
 ghost use Rattle.effect_tree.specs.inner.Tree.{IsTree, paths};
-ghost use Rattle.effect_tree.specs.inner.Growth.{Grows, IsRowElement, IsGridElement};
+ghost use Rattle.effect_tree.specs.inner.Growth.{Grows, HasNodes, IsRowElement, IsGridElement};
 
 use crate::cells::{CellDecl, Dims};
 use crate::step::Part;
@@ -20,7 +19,7 @@ impl Tree {
     fn grow_path(&mut self, alloc: Global, elems: &[Elem]) -> Result<u32, Memory>
         requires { IsTree self.old }
         ensures tree { OnOk result (IsTree self.new) }
-        ensures there { IfOk result (λ n. n < vec_len self.new.steps) }
+        ensures there { IfOk result (λ n. n < length self.new.steps.items) }
         ensures path { IfOk result (λ n. path_of (paths self.new) n ≡ take_while is_solid elems.now) }
         ensures grows { OnOk result (Grows (paths self.old) (paths self.new) (λ path. IsPrefix path (take_while is_solid elems.now))) }
     {
@@ -37,13 +36,13 @@ impl Tree {
     /// Adds so many elements below a node.
     fn grow_row(&mut self, alloc: Global, at: u32, count: u32) -> Result<(), Memory>
         requires tree { IsTree self.old }
-        requires there { at < vec_len self.old.steps }
+        requires there { at < length self.old.steps.items }
         requires fits { count ≤ 2 ^ 31 }
         ensures tree { OnOk result (IsTree self.new) }
         ensures grows { OnOk result (Grows (paths self.old) (paths self.new) (IsRowElement (path_of (paths self.old) at) count)) }
     {
         for i in 0..count {
-            self.child_or_new(alloc, at, Part::Index(i as i32))?;
+            self.child_or_new(alloc, at, Part::index(i))?;
         }
         Ok(())
     }
@@ -51,7 +50,7 @@ impl Tree {
     /// Adds so many rows below a node, each with so many elements. Rows without elements are not added.
     fn grow_grid(&mut self, alloc: Global, at: u32, rows: u32, cols: u32) -> Result<(), Memory>
         requires tree { IsTree self.old }
-        requires there { at < vec_len self.old.steps }
+        requires there { at < length self.old.steps.items }
         requires rows_fit { rows ≤ 2 ^ 31 }
         requires cols_fit { cols ≤ 2 ^ 31 }
         ensures tree { OnOk result (IsTree self.new) }
@@ -61,7 +60,7 @@ impl Tree {
             return Ok(());
         }
         for i in 0..rows {
-            let row = self.child_or_new(alloc, at, Part::Index(i as i32))?;
+            let row = self.child_or_new(alloc, at, Part::index(i))?;
             self.grow_row(alloc, row, cols)?;
         }
         Ok(())
@@ -86,6 +85,7 @@ impl Tree {
     pub fn of_cells(alloc: Global, cells: &[CellDecl]) -> Result<Self, Memory>
         requires { AllFitIndexes cells.now }
         ensures tree { IfOk result IsTree }
+        ensures exact { IfOk result (λ tree. HasNodes (paths tree) (IsNodePath cells.now)) }
     {
         let mut tree = Tree::new(alloc)?;
         tree.child_or_new(alloc, 0, Part::Name(0))?;

@@ -1,5 +1,5 @@
 //! The steps that lead from a node to the nodes below it.
-ghost use Rattle.std.specs.Prelude.{◌≡◌};
+ghost use Rattle.std.specs.Prelude.{◌≡◌, ◌<◌, ◌^◌, pos};
 ghost use Rattle.effect_tree.specs.inner.Steps.{part_of};
 
 use region_paths::Elem;
@@ -24,6 +24,14 @@ impl Part {
             Elem::Var(_) => None,
             Elem::AnyIndex => None,
         }
+    }
+
+    /// The literal index of this number.
+    pub(crate) fn index(number: u32) -> Self
+        requires { number < 2 ^ 31 }
+        ensures { result ≡ Part.Index (pos number) }
+    {
+        Part::Index(number as i32)
     }
 }
 

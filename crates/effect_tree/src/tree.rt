@@ -1,11 +1,11 @@
 //! The tables of a tree that grows: the step that leads to each node, the nodes below each node, and the node that
 //! each step leads to.
-ghost use Rattle.std.specs.Prelude.{◌≡◌, ℕ, ◌<◌, ◌-◌, ◌^◌, [], ◌∷◌, ◌++◌, length, vec_len, IfSome, IfNone, IfOk, OnOk, Some, None};
+ghost use Rattle.std.specs.Prelude.{◌≡◌, ℕ, ◌<◌, ◌-◌, ◌^◌, [], ◌∷◌, ◌++◌, length, IfSome, IfNone, IfOk, OnOk, Some, None};
 ghost use Rattle.std.specs.BTreeMap.{get};
 ghost use Rattle.effect_tree.specs.Nodes.{path_of};
 ghost use Rattle.effect_tree.specs.inner.Steps.{elem_of};
 ghost use Rattle.effect_tree.specs.inner.Order.{step_cmp};
-ghost use Rattle.effect_tree.specs.inner.Tree.{IsTree, paths};
+ghost use Rattle.effect_tree.specs.inner.Tree.{IsTree, paths, items_of, with_pushed};
 ghost use Rattle.effect_tree.specs.inner.Growth.{Grows};
 
 use crate::step::{Part, Step};
@@ -24,11 +24,20 @@ pub(crate) struct Tree {
     pub children: BTreeMap<Step, u32>,
 }
 
+/// Puts a number after the others of the list of this number.
+fn push_at(lists: &mut Vec<Vec<u32>>, at: u32, number: u32) -> Result<(), Memory>
+    requires { at < length lists.old.items }
+    ensures { OnOk result (items_of lists.new ≡ with_pushed (items_of lists.old) at number) }
+{
+    lists[at as usize].push(number)?;
+    Ok(())
+}
+
 impl Tree {
     /// The root alone.
     pub fn new(alloc: Global) -> Result<Self, Memory>
         ensures tree { IfOk result IsTree }
-        ensures root { IfOk result (λ tree. tree.steps.items ≡ None ∷ []) }
+        ensures root { IfOk result (λ tree. paths tree ≡ [] ∷ []) }
     {
         Ok(Tree {
             steps: vec![in alloc; None]?,
@@ -47,16 +56,17 @@ impl Tree {
     /// Adds the node that a step leads to, and answers its number.
     fn add(&mut self, alloc: Global, step: Step) -> Result<u32, Memory>
         requires tree { IsTree self.old }
-        requires there { step.from < vec_len self.old.steps }
+        requires there { step.from < length self.old.steps.items }
         requires new { get step_cmp self.old.children step ≡ None }
-        requires room { vec_len self.old.steps < 2 ^ 32 - 1 }
+        requires room { length self.old.steps.items < 2 ^ 32 - 1 }
         ensures tree { OnOk result (IsTree self.new) }
-        ensures steps { OnOk result (self.new.steps.items ≡ self.old.steps.items ++ Some step ∷ []) }
-        ensures number { IfOk result (λ n. n ≡ vec_len self.old.steps) }
+        ensures there { IfOk result (λ n. n < length self.new.steps.items) }
+        ensures path { IfOk result (λ n. path_of (paths self.new) n ≡ path_of (paths self.old) step.from ++ elem_of step.part ∷ []) }
+        ensures grows { OnOk result (Grows (paths self.old) (paths self.new) (λ path. path ≡ path_of (paths self.old) step.from ++ elem_of step.part ∷ [])) }
     {
         let number = self.steps.len() as u32;
         self.children.insert(step, number)?;
-        self.below[step.from as usize].push(number)?;
+        push_at(&mut self.below, step.from, number)?;
         self.below.push(Vec::new(alloc))?;
         self.steps.push(Some(step))?;
         Ok(number)
@@ -65,9 +75,9 @@ impl Tree {
     /// The node that a step leads to, which is added where there is none.
     pub fn child_or_new(&mut self, alloc: Global, from: u32, part: Part) -> Result<u32, Memory>
         requires tree { IsTree self.old }
-        requires there { from < vec_len self.old.steps }
+        requires there { from < length self.old.steps.items }
         ensures tree { OnOk result (IsTree self.new) }
-        ensures there { IfOk result (λ n. n < vec_len self.new.steps) }
+        ensures there { IfOk result (λ n. n < length self.new.steps.items) }
         ensures path { IfOk result (λ n. path_of (paths self.new) n ≡ path_of (paths self.old) from ++ elem_of part ∷ []) }
         ensures grows { OnOk result (Grows (paths self.old) (paths self.new) (λ path. path ≡ path_of (paths self.old) from ++ elem_of part ∷ [])) }
     {

@@ -18,3 +18,7 @@ IsRowElement above n path = (i : ℕ) × (i < n) × (path ≡ above ++ Index (po
 abbrev pub IsGridElement : List Elem → ℕ → ℕ → List Elem → Type 0
 IsGridElement above rows cols path =
     (0 < cols) × ((i : ℕ) × (i < rows) × ((path ≡ above ++ Index (pos i) ∷ []) ⊎ IsRowElement (above ++ Index (pos i) ∷ []) cols path))
+
+-- the paths of the nodes are these and no others
+abbrev pub HasNodes : List (List Elem) → (List Elem → Type 0) → Type 0
+HasNodes nodes IsPath = (path : List Elem) → IsNode nodes path ↔ IsPath path

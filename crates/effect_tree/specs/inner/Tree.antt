@@ -1,6 +1,8 @@
 -- What the tables of a tree say, and when they agree with one another.
-use Rattle.std.specs.Prelude.{◌≡◌, ℕ, suc, ◌<◌, ◌^◌, ◌==◌, ◌↔◌, Bool, false, if◌then◌else◌, List, [], ◌∷◌, ◌++◌, length, Option, Some, None, IsSome, slice_index_or}
+use Rattle.std.specs.Prelude.{◌≡◌, ℕ, suc, ◌<◌, ◌^◌, ◌==◌, ◌↔◌, Bool, false, if◌then◌else◌, List, [], ◌∷◌, ◌++◌, length, map, Option, Some, None, IsSome, slice_index_or, slice_set}
 use Rattle.std.specs.BTreeMap.{get}
+use Rattle.std.specs.declared.vec.Vec.{Vec}
+use Rattle.std.specs.declared.alloc.Global.{Global}
 use Rattle.region_paths.specs.declared.elements.Elem.{Elem}
 use Rattle.effect_tree.specs.declared.step.Step.{Step}
 use Rattle.effect_tree.specs.declared.tree.Tree.{Tree}
@@ -37,6 +39,18 @@ children_from n k [] = []
 children_from n k (step ∷ steps) =
     if leads_from n step then k ∷ children_from n (suc k) steps else children_from n (suc k) steps
 
+-- the items of each of these lists
+abbrev pub items_of : Vec (Vec ℕ Global) Global → List (List ℕ)
+items_of lists = map (λ (v : Vec ℕ Global). v.items) lists.items
+
+-- the lists once a number was put after the others of list n
+abbrev pub with_pushed : List (List ℕ) → ℕ → ℕ → List (List ℕ)
+with_pushed lists n number = slice_set lists n (slice_index_or lists n [] ++ number ∷ [])
+
+-- for each node those right below it, as the table has them
+abbrev pub lists : Tree → List (List ℕ)
+lists tree = items_of tree.below
+
 -- the tables agree: a step leads down from an earlier node, and to the node that the map has for it
 pub record IsTree (tree : Tree) : Type 0 where
   pub some : 0 < length tree.steps.items
@@ -44,5 +58,6 @@ pub record IsTree (tree : Tree) : Type 0 where
   pub others : (n : ℕ) → 0 < n → n < length tree.steps.items → IsSome (step_of tree.steps.items n)
   pub down : (n : ℕ) (step : Step) → step_of tree.steps.items n ≡ Some step → step.from < n
   pub found : (n : ℕ) (step : Step) → (get step_cmp tree.children step ≡ Some n) ↔ (step_of tree.steps.items n ≡ Some step)
-  pub lists : length tree.below.items ≡ length tree.steps.items
+  pub counted : length (lists tree) ≡ length tree.steps.items
+  pub children : (n : ℕ) → n < length tree.steps.items → slice_index_or (lists tree) n [] ≡ children_from n 0 tree.steps.items
   pub numbered : length tree.steps.items < 2 ^ 32
