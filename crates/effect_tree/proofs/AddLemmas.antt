@@ -182,20 +182,20 @@ IsTree-added old new s is from_there absent room added =
       some = omega arith;
       root = ap (λ (ss : List (Option Step)). step_of ss 0) added.steps ∙ step_of-old old.steps.items (Some s) 0 is.some ∙ is.root;
       others = λ n above there.
-      let steps = ap (λ (ss : List (Option Step)). step_of ss n) added.steps in
-      ⊎_elim
-      (λ (below : n < length old.steps.items).
-      subst (λ (o : Option Step). IsSome o) (sym (steps ∙ step_of-old old.steps.items (Some s) n below)) (is.others n above below))
-      (λ (past : length old.steps.items ≤ n).
-      let last : n ≡ length old.steps.items = omega arith in
-      subst (λ (o : Option Step). IsSome o) (sym (steps ∙ ap (step_of (old.steps.items ++ Some s ∷ [])) last ∙ step_of-new old.steps.items (Some s))) refl)
-      (cases_lt n (length old.steps.items));
+          let steps = ap (λ (ss : List (Option Step)). step_of ss n) added.steps in
+          ⊎_elim
+          (λ (below : n < length old.steps.items).
+          subst (λ (o : Option Step). IsSome o) (sym (steps ∙ step_of-old old.steps.items (Some s) n below)) (is.others n above below))
+          (λ (past : length old.steps.items ≤ n).
+          let last : n ≡ length old.steps.items = omega arith in
+          subst (λ (o : Option Step). IsSome o) (sym (steps ∙ ap (step_of (old.steps.items ++ Some s ∷ [])) last ∙ step_of-new old.steps.items (Some s))) refl)
+          (cases_lt n (length old.steps.items));
       down = λ n t h.
-      let steps = ap (λ (ss : List (Option Step)). step_of ss n) added.steps in
-      ⊎_elim
-      (λ was. is.down n t was)
-      (λ last. let lower = ap (λ (u : Step). u.from) last.1 in let at = last.0 in omega arith)
-      (step_of-cases old.steps.items s t n (sym steps ∙ h));
+          let steps = ap (λ (ss : List (Option Step)). step_of ss n) added.steps in
+          ⊎_elim
+          (λ was. is.down n t was)
+          (λ last. let lower = ap (λ (u : Step). u.from) last.1 in let at = last.0 in omega arith)
+          (step_of-cases old.steps.items s t n (sym steps ∙ h));
       found = λ n t. (found_to old new s is added absent n t, found_from old new s is added absent n t);
       counted = ap length added.below ∙ length-append (with_pushed (lists old) s.from (length old.steps.items)) ([] ∷ []) ∙ ap (λ (m : ℕ). m + 1) (length-pushed old s is) ∙ sym more;
       children = children_of_new old new s is from_there added;

@@ -26,17 +26,17 @@ of_scalar at path = (λ h. (at, refl, h), λ d. subst (λ (p : List Elem). IsPre
 of_row : (at : List Elem) (n : ℕ) (path : List Elem) → (IsPrefix path at ⊎ IsRowElement at n path) ↔ IsPrefixOfDeclared at (Row n) path
 of_row at n path = (
   λ h.
-  ⊎_elim
-  (λ p. (at, inl refl, p))
-  (λ r. let element = at ++ Index (pos r.0) ∷ [] in (element, inr (r.0, r.1, refl), whole path element r.2))
-  h,
+      ⊎_elim
+      (λ p. (at, inl refl, p))
+      (λ r. let element = at ++ Index (pos r.0) ∷ [] in (element, inr (r.0, r.1, refl), whole path element r.2))
+      h,
   λ d.
-  ⊎_elim
-  (λ e. inl (subst (λ (p : List Elem). IsPrefix path p) e d.2))
-  (λ r.
-  ⊎_elim (λ p. inl p) (λ e. inr (r.0, r.1, e))
-  ((IsPrefix-snoc path at (Index (pos r.0))).0 (subst (λ (p : List Elem). IsPrefix path p) r.2 d.2)))
-  d.1,
+      ⊎_elim
+      (λ e. inl (subst (λ (p : List Elem). IsPrefix path p) e d.2))
+      (λ r.
+      ⊎_elim (λ p. inl p) (λ e. inr (r.0, r.1, e))
+      ((IsPrefix-snoc path at (Index (pos r.0))).0 (subst (λ (p : List Elem). IsPrefix path p) r.2 d.2)))
+      d.1,
 )
 
 two_more : (at : List Elem) (i j : ℕ) → (at ++ Index (pos i) ∷ []) ++ Index (pos j) ∷ [] ≡ at ++ Index (pos i) ∷ Index (pos j) ∷ []
@@ -45,38 +45,38 @@ two_more at i j = append_snoc at (Index (pos i)) (Index (pos j) ∷ [])
 of_grid : (at : List Elem) (rows cols : ℕ) (path : List Elem) → (IsPrefix path at ⊎ IsGridElement at rows cols path) ↔ IsPrefixOfDeclared at (Grid rows cols) path
 of_grid at rows cols path = (
   λ h.
-  ⊎_elim
-  (λ p. (at, inl refl, p))
-  (λ g.
-  let i = g.1.0 in
-  let row = at ++ Index (pos i) ∷ [] in
-  ⊎_elim
-  (λ (e : path ≡ row). (
-    at ++ Index (pos i) ∷ Index (pos 0) ∷ [],
-    inr (i, 0, g.1.1, g.0, refl),
-    subst (λ (p : List Elem). IsPrefix path p) (two_more at i 0) ((IsPrefix-snoc path row (Index (pos 0))).1 (inl (whole path row e))),
-  ))
-  (λ (r : IsRowElement row cols path). (
-    at ++ Index (pos i) ∷ Index (pos r.0) ∷ [],
-    inr (i, r.0, g.1.1, r.1, refl),
-    subst (λ (p : List Elem). IsPrefix path p) (two_more at i r.0) (whole path (row ++ Index (pos r.0) ∷ []) r.2),
-  ))
-  g.1.2)
-  h,
+      ⊎_elim
+      (λ p. (at, inl refl, p))
+      (λ g.
+      let i = g.1.0 in
+      let row = at ++ Index (pos i) ∷ [] in
+      ⊎_elim
+      (λ (e : path ≡ row). (
+        at ++ Index (pos i) ∷ Index (pos 0) ∷ [],
+        inr (i, 0, g.1.1, g.0, refl),
+        subst (λ (p : List Elem). IsPrefix path p) (two_more at i 0) ((IsPrefix-snoc path row (Index (pos 0))).1 (inl (whole path row e))),
+      ))
+      (λ (r : IsRowElement row cols path). (
+        at ++ Index (pos i) ∷ Index (pos r.0) ∷ [],
+        inr (i, r.0, g.1.1, r.1, refl),
+        subst (λ (p : List Elem). IsPrefix path p) (two_more at i r.0) (whole path (row ++ Index (pos r.0) ∷ []) r.2),
+      ))
+      g.1.2)
+      h,
   λ d.
-  ⊎_elim
-  (λ e. inl (subst (λ (p : List Elem). IsPrefix path p) e d.2))
-  (λ g.
-  let i = g.0 in
-  let j = g.1 in
-  let row = at ++ Index (pos i) ∷ [] in
-  let column = g.3 in
-  let some : 0 < cols = omega arith in
-  ⊎_elim
-  (λ p. ⊎_elim (λ q. inl q) (λ e. inr (some, (i, g.2, inl e))) ((IsPrefix-snoc path at (Index (pos i))).0 p))
-  (λ e. inr (some, (i, g.2, inr (j, column, e))))
-  ((IsPrefix-snoc path row (Index (pos j))).0 (subst (λ (p : List Elem). IsPrefix path p) (g.4 ∙ sym (two_more at i j)) d.2)))
-  d.1,
+      ⊎_elim
+      (λ e. inl (subst (λ (p : List Elem). IsPrefix path p) e d.2))
+      (λ g.
+      let i = g.0 in
+      let j = g.1 in
+      let row = at ++ Index (pos i) ∷ [] in
+      let column = g.3 in
+      let some : 0 < cols = omega arith in
+      ⊎_elim
+      (λ p. ⊎_elim (λ q. inl q) (λ e. inr (some, (i, g.2, inl e))) ((IsPrefix-snoc path at (Index (pos i))).0 p))
+      (λ e. inr (some, (i, g.2, inr (j, column, e))))
+      ((IsPrefix-snoc path row (Index (pos j))).0 (subst (λ (p : List Elem). IsPrefix path p) (g.4 ∙ sym (two_more at i j)) d.2)))
+      d.1,
 )
 
 -- what a cell at this path adds

@@ -44,16 +44,20 @@ front_stops path elems k there front stop =
     let rest = ap (take_while is_solid) (drop_at elems k there) ∙ take_while-other (get_or elems k (Name 0)) (drop (k + 1) elems) (no_part _ stop) in
     sym (append-nil path) ∙ sym (ap (λ (xs : List Elem). path ++ xs) rest) ∙ front
 
--- and goes on by a solid one
-pub front_goes : (path elems : List Elem) (k : ℕ) (p : Part) → k < length elems → path ++ take_while is_solid (drop k elems) ≡ take_while is_solid elems → part_of (get_or elems k (Name 0)) ≡ Some p → (path ++ elem_of p ∷ []) ++ take_while is_solid (drop (k + 1) elems) ≡ take_while is_solid elems
-front_goes path elems k p there front part =
+-- the walk comes to a solid element
+pub front_next : (path elems : List Elem) (k : ℕ) (p : Part) → k < length elems → path ++ take_while is_solid (drop k elems) ≡ take_while is_solid elems → part_of (get_or elems k (Name 0)) ≡ Some p → path ++ elem_of p ∷ take_while is_solid (drop (k + 1) elems) ≡ take_while is_solid elems
+front_next path elems k p there front part =
     let e = get_or elems k (Name 0) in
     let rest = take_while is_solid (drop (k + 1) elems) in
     let next = ap (take_while is_solid) (drop_at elems k there) ∙ take_while-solid e (drop (k + 1) elems) (part_solid e p part) in
-    append_assoc path (elem_of p ∷ []) rest
-    ∙ ap (λ (f : Elem). path ++ f ∷ rest) (part_elem e p part)
+    ap (λ (f : Elem). path ++ f ∷ rest) (part_elem e p part)
     ∙ ap (λ (xs : List Elem). path ++ xs) (sym next)
     ∙ front
+
+-- and goes on by it
+pub front_goes : (path elems : List Elem) (k : ℕ) (p : Part) → k < length elems → path ++ take_while is_solid (drop k elems) ≡ take_while is_solid elems → part_of (get_or elems k (Name 0)) ≡ Some p → (path ++ elem_of p ∷ []) ++ take_while is_solid (drop (k + 1) elems) ≡ take_while is_solid elems
+front_goes path elems k p there front part =
+    append_assoc path (elem_of p ∷ []) (take_while is_solid (drop (k + 1) elems)) ∙ front_next path elems k p there front part
 
 -- the prefixes of a path and of one element more
 pub Grows-longer : (old mid new : List (List Elem)) (at next : List Elem) (e : Elem) → Grows old mid (λ path. IsPrefix path at) → Grows mid new (λ path. path ≡ at ++ e ∷ []) → next ≡ at ++ e ∷ [] → Grows old new (λ path. IsPrefix path next)

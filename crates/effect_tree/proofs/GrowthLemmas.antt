@@ -27,10 +27,10 @@ Grows-append old mid new First Second a b = record {
   exact = λ path. (
     λ h. ⊎_elim (λ k. ⊎_elim (λ l. inl l) (λ l. inr (inl l)) ((a.exact path).0 k)) (λ k. inr (inr k)) ((b.exact path).0 h),
     λ h.
-    ⊎_elim
-    (λ k. (b.exact path).1 (inl ((a.exact path).1 (inl k))))
-    (λ k. ⊎_elim (λ l. (b.exact path).1 (inl ((a.exact path).1 (inr l)))) (λ l. (b.exact path).1 (inr l)) k)
-    h,
+        ⊎_elim
+        (λ k. (b.exact path).1 (inl ((a.exact path).1 (inl k))))
+        (λ k. ⊎_elim (λ l. (b.exact path).1 (inl ((a.exact path).1 (inr l)))) (λ l. (b.exact path).1 (inr l)) k)
+        h,
   );
 }
 
@@ -54,18 +54,18 @@ Grows-push old added =
       kept = λ n h. get_or_append_left old (added ∷ []) [] n h;
       exact = λ path. (
         λ node.
-        let there = node.1 in
-        ⊎_elim
-        (λ (below : node.0 < length old). inl (node.0, below, sym (get_or_append_left old (added ∷ []) [] node.0 below) ∙ node.2))
-        (λ (past : length old ≤ node.0).
-        let last : node.0 ≡ length old = omega arith in
-        inr (sym node.2 ∙ ap (path_of (old ++ added ∷ [])) last ∙ get_or-append_seam old added [] []))
-        (cases_lt node.0 (length old)),
+            let there = node.1 in
+            ⊎_elim
+            (λ (below : node.0 < length old). inl (node.0, below, sym (get_or_append_left old (added ∷ []) [] node.0 below) ∙ node.2))
+            (λ (past : length old ≤ node.0).
+            let last : node.0 ≡ length old = omega arith in
+            inr (sym node.2 ∙ ap (path_of (old ++ added ∷ [])) last ∙ get_or-append_seam old added [] []))
+            (cases_lt node.0 (length old)),
         λ h.
-        ⊎_elim
-        (λ node. let there = node.1 in (node.0, omega arith, get_or_append_left old (added ∷ []) [] node.0 there ∙ node.2))
-        (λ e. (length old, omega arith, get_or-append_seam old added [] [] ∙ sym e))
-        h,
+            ⊎_elim
+            (λ node. let there = node.1 in (node.0, omega arith, get_or_append_left old (added ∷ []) [] node.0 there ∙ node.2))
+            (λ e. (length old, omega arith, get_or-append_seam old added [] [] ∙ sym e))
+            h,
       );
     }
 

@@ -11,3 +11,5 @@ pub mod FrontLemmas
 pub mod RowLemmas
 pub mod DeclaredLemmas
 pub mod CellsLemmas
+pub mod DeepestLemmas
+pub mod ChildrenLemmas

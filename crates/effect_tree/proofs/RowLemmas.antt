@@ -14,11 +14,11 @@ row_more : (above : List Elem) (k : ℕ) (path : List Elem) → (IsRowElement ab
 row_more above k path = (
   λ h. ⊎_elim (λ r. let below = r.1 in (r.0, omega arith, r.2)) (λ e. (k, omega arith, e)) h,
   λ r.
-  let below = r.1 in
-  ⊎_elim
-  (λ (earlier : r.0 < k). inl (r.0, earlier, r.2))
-  (λ (past : k ≤ r.0). let last : r.0 ≡ k = omega arith in inr (r.2 ∙ ap (λ (i : ℕ). above ++ Index (pos i) ∷ []) last))
-  (cases_lt r.0 k),
+      let below = r.1 in
+      ⊎_elim
+      (λ (earlier : r.0 < k). inl (r.0, earlier, r.2))
+      (λ (past : k ≤ r.0). let last : r.0 ≡ k = omega arith in inr (r.2 ∙ ap (λ (i : ℕ). above ++ Index (pos i) ∷ []) last))
+      (cases_lt r.0 k),
 )
 
 pub Grows-row : (old mid new : List (List Elem)) (above : List Elem) (k : ℕ) → Grows old mid (IsRowElement above k) → Grows mid new (λ path. path ≡ above ++ Index (pos k) ∷ []) → Grows old new (IsRowElement above (k + 1))
@@ -41,18 +41,18 @@ IsInRow row cols path = (path ≡ row) ⊎ IsRowElement row cols path
 grid_more : (above : List Elem) (k cols : ℕ) → 0 < cols → (path : List Elem) → (IsGridElement above k cols path ⊎ IsInRow (above ++ Index (pos k) ∷ []) cols path) ↔ IsGridElement above (k + 1) cols path
 grid_more above k cols some path = (
   λ h.
-  ⊎_elim
-  (λ g. let below = g.1.1 in (some, (g.1.0, omega arith, g.1.2)))
-  (λ r. (some, (k, omega arith, r)))
-  h,
+      ⊎_elim
+      (λ g. let below = g.1.1 in (some, (g.1.0, omega arith, g.1.2)))
+      (λ r. (some, (k, omega arith, r)))
+      h,
   λ g.
-  let below = g.1.1 in
-  ⊎_elim
-  (λ (earlier : g.1.0 < k). inl (some, (g.1.0, earlier, g.1.2)))
-  (λ (past : k ≤ g.1.0).
-  let last : g.1.0 ≡ k = omega arith in
-  inr (subst (λ (i : ℕ). IsInRow (above ++ Index (pos i) ∷ []) cols path) last g.1.2))
-  (cases_lt g.1.0 k),
+      let below = g.1.1 in
+      ⊎_elim
+      (λ (earlier : g.1.0 < k). inl (some, (g.1.0, earlier, g.1.2)))
+      (λ (past : k ≤ g.1.0).
+      let last : g.1.0 ≡ k = omega arith in
+      inr (subst (λ (i : ℕ). IsInRow (above ++ Index (pos i) ∷ []) cols path) last g.1.2))
+      (cases_lt g.1.0 k),
 )
 
 pub Grows-grid : (old mid row new : List (List Elem)) (above : List Elem) (k cols : ℕ) → 0 < cols → Grows old mid (IsGridElement above k cols) → Grows mid row (λ path. path ≡ above ++ Index (pos k) ∷ []) → Grows row new (IsRowElement (above ++ Index (pos k) ∷ []) cols) → Grows old new (IsGridElement above (k + 1) cols)

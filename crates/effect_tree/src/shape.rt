@@ -3,7 +3,6 @@ ghost use Rattle.std.specs.Prelude.{◌≡◌, ℕ, ◌<◌, ◌↔◌, length, 
 ghost use Rattle.std.specs.List.Sorted.{IsStrictlyIncreasing};
 
 use crate::cells::CellDecl;
-use crate::step::Part;
 use crate::tree::Tree;
 use region_paths::Path;
 use std::alloc::Global;
@@ -60,10 +59,7 @@ impl Shape {
         ensures parent { IfSome result (λ m. IsParent self.now m n) }
         ensures root { IsNone result ↔ (n ≡ 0) }
     {
-        match self.tree.steps[n as usize] {
-            Some(step) => Some(step.from),
-            None => None,
-        }
+        self.tree.parent(n)
     }
 
     /// The nodes right below `n`, in increasing order. It takes no memory.
@@ -72,7 +68,7 @@ impl Shape {
         ensures each { (m : ℕ) → (Contains result.now m ↔ IsParent self.now n m) }
         ensures in_order { IsStrictlyIncreasing result.now }
     {
-        self.tree.below[n as usize].as_slice()
+        self.tree.below(n)
     }
 
     /// The place of a path: the deepest node that is a prefix of the path's solid prefix. It takes no memory, and time
@@ -81,16 +77,6 @@ impl Shape {
         ensures there { result < length self.now }
         ensures place { IsPlace self.now path.now (path_of self.now result) }
     {
-        let mut at = 0;
-        for elem in path.elems().as_slice() {
-            let Some(part) = Part::of(*elem) else {
-                return at;
-            };
-            let Some(child) = self.tree.child(at, part) else {
-                return at;
-            };
-            at = child;
-        }
-        at
+        self.tree.deepest(path.elems().as_slice())
     }
 }

@@ -1,14 +1,18 @@
 //! The tables of a tree that grows: the step that leads to each node, the nodes below each node, and the node that
 //! each step leads to.
-ghost use Rattle.std.specs.Prelude.{◌≡◌, ℕ, ◌<◌, ◌-◌, ◌^◌, [], ◌∷◌, ◌++◌, length, IfSome, IfNone, IfOk, OnOk, Some, None};
+ghost use Rattle.std.specs.Prelude.{◌≡◌, ℕ, ◌<◌, ◌-◌, ◌^◌, ◌↔◌, [], ◌∷◌, ◌++◌, length, take_while, Contains, IfSome, IsNone, IfOk, OnOk, Some, None};
+ghost use Rattle.std.specs.List.Sorted.{IsStrictlyIncreasing};
+ghost use Rattle.region_paths.specs.Filled.{is_solid};
 ghost use Rattle.std.specs.BTreeMap.{get};
-ghost use Rattle.effect_tree.specs.Nodes.{path_of};
+ghost use Rattle.effect_tree.specs.Nodes.{path_of, IsParent};
+ghost use Rattle.effect_tree.specs.Place.{IsDeepest};
 ghost use Rattle.effect_tree.specs.inner.Steps.{elem_of};
 ghost use Rattle.effect_tree.specs.inner.Order.{step_cmp};
 ghost use Rattle.effect_tree.specs.inner.Tree.{IsTree, paths, items_of, with_pushed};
 ghost use Rattle.effect_tree.specs.inner.Growth.{Grows};
 
 use crate::step::{Part, Step};
+use region_paths::Elem;
 use std::alloc::Global;
 use std::collections::BTreeMap;
 use twe_io::Memory;
@@ -88,5 +92,45 @@ impl Tree {
             return Err(Memory::of_uncountable(self.steps.len()));
         }
         self.add(alloc, Step { from, part })
+    }
+
+    /// The node right above `n`, which the root alone hasn't.
+    pub fn parent(&self, n: u32) -> Option<u32>
+        requires tree { IsTree self.now }
+        requires there { n < length self.now.steps.items }
+        ensures above { IfSome result (λ m. IsParent (paths self.now) m n) }
+        ensures root { IsNone result ↔ (n ≡ 0) }
+    {
+        let step = self.steps[n as usize]?;
+        Some(step.from)
+    }
+
+    /// The nodes right below `n`, in increasing order.
+    pub fn below(&self, n: u32) -> &[u32]
+        requires tree { IsTree self.now }
+        requires there { n < length self.now.steps.items }
+        ensures each { (m : ℕ) → (Contains result.now m ↔ IsParent (paths self.now) n m) }
+        ensures in_order { IsStrictlyIncreasing result.now }
+    {
+        self.below[n as usize].as_slice()
+    }
+
+    /// The deepest node that is a prefix of the solid elements at the front.
+    pub fn deepest(&self, elems: &[Elem]) -> u32
+        requires { IsTree self.now }
+        ensures there { result < length self.now.steps.items }
+        ensures deepest { IsDeepest (paths self.now) (take_while is_solid elems.now) (path_of (paths self.now) result) }
+    {
+        let mut at = 0;
+        for elem in elems {
+            let Some(part) = Part::of(*elem) else {
+                return at;
+            };
+            let Some(child) = self.child(at, part) else {
+                return at;
+            };
+            at = child;
+        }
+        at
     }
 }

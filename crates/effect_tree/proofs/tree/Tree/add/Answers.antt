@@ -18,10 +18,10 @@ returns-clause-tree c =
       steps = c.in_ok-push-2.ensures.items;
       map = λ t. c.in_ok-insert.ensures.updates.0 t ∙ ap (λ n. cond (is_at (step_cmp step) t) (Some n) (get step_cmp tree.children t)) number;
       below =
-      ap (map (λ v. v.items)) c.in_ok-push.ensures.items
-      ∙ map-append (λ v. v.items) c.push_at.new.lists.items (c.new.result ∷ [])
-      ∙ ap (λ (ls : List (List ℕ)). ls ++ c.new.result.items ∷ []) (c.in_ok-push_at.ensures ∙ ap (with_pushed (lists tree) step.from) number)
-      ∙ ap (λ (l : List ℕ). with_pushed (lists tree) step.from (length tree.steps.items) ++ l ∷ []) c.new.ensures.items;
+          ap (map (λ v. v.items)) c.in_ok-push.ensures.items
+          ∙ map-append (λ v. v.items) c.push_at.new.lists.items (c.new.result ∷ [])
+          ∙ ap (λ (ls : List (List ℕ)). ls ++ c.new.result.items ∷ []) (c.in_ok-push_at.ensures ∙ ap (with_pushed (lists tree) step.from) number)
+          ∙ ap (λ (l : List ℕ). with_pushed (lists tree) step.from (length tree.steps.items) ++ l ∷ []) c.new.ensures.items;
     })
 
 pub returns-clause-path : goal.returns-clause-path

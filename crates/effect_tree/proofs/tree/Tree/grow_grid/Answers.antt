@@ -31,8 +31,8 @@ loop-i-preserved c =
     record {
       tree = c.in_ok-grow_row.ensures.tree;
       grows =
-      Grows-grid old mid row _ (path_of old c.args.at) c.loop-i.i c.args.cols some c.loop-i.invariant.grows
-      (subst (λ (q : Part). Grows mid row (λ path. path ≡ path_of old c.args.at ++ elem_of q ∷ [])) c.index.ensures
-      (subst (λ (p : List Elem). Grows mid row (λ path. path ≡ p ++ elem_of c.index.result ∷ [])) above c.in_ok-row.ensures.grows))
-      (subst (λ (p : List Elem). Grows row (paths c.grow_row.new.self) (IsRowElement p c.args.cols)) at c.in_ok-grow_row.ensures.grows);
+          Grows-grid old mid row _ (path_of old c.args.at) c.loop-i.i c.args.cols some c.loop-i.invariant.grows
+          (subst (λ (q : Part). Grows mid row (λ path. path ≡ path_of old c.args.at ++ elem_of q ∷ [])) c.index.ensures
+          (subst (λ (p : List Elem). Grows mid row (λ path. path ≡ p ++ elem_of c.index.result ∷ [])) above c.in_ok-row.ensures.grows))
+          (subst (λ (p : List Elem). Grows row (paths c.grow_row.new.self) (IsRowElement p c.args.cols)) at c.in_ok-grow_row.ensures.grows);
     }

@@ -39,7 +39,7 @@ loop-elem-preserved c =
       tree = c.in_ok-at.ensures.tree;
       there = c.in_ok-at.ensures.there;
       front =
-      ap (λ (path : List Elem). path ++ take_while is_solid (drop (loop.elem-index + 1) elems)) c.in_ok-at.ensures.path
-      ∙ front_goes (path_of before loop.at) elems loop.elem-index c.in-Some.part c.loop-elem-test.true loop.invariant.front (sym c.in-Some.ensures);
+          ap (λ (path : List Elem). path ++ take_while is_solid (drop (loop.elem-index + 1) elems)) c.in_ok-at.ensures.path
+          ∙ front_goes (path_of before loop.at) elems loop.elem-index c.in-Some.part c.loop-elem-test.true loop.invariant.front (sym c.in-Some.ensures);
       grows = Grows-longer (paths c.args.self.now) before _ (path_of before loop.at) _ _ loop.invariant.grows c.in_ok-at.ensures.grows c.in_ok-at.ensures.path;
     }

@@ -28,8 +28,8 @@ loop-i-preserved c =
     record {
       tree = c.in_ok-child_or_new.ensures.tree;
       grows =
-      Grows-row old mid _ (path_of old c.args.at) c.loop-i.i c.loop-i.invariant.grows
-      (subst (λ (q : Part). Grows mid (paths c.child_or_new.new.self) (λ path. path ≡ path_of old c.args.at ++ elem_of q ∷ [])) c.index.ensures
-      (subst (λ (p : List Elem). Grows mid (paths c.child_or_new.new.self) (λ path. path ≡ p ++ elem_of c.index.result ∷ [])) above
-      c.in_ok-child_or_new.ensures.grows));
+          Grows-row old mid _ (path_of old c.args.at) c.loop-i.i c.loop-i.invariant.grows
+          (subst (λ (q : Part). Grows mid (paths c.child_or_new.new.self) (λ path. path ≡ path_of old c.args.at ++ elem_of q ∷ [])) c.index.ensures
+          (subst (λ (p : List Elem). Grows mid (paths c.child_or_new.new.self) (λ path. path ≡ p ++ elem_of c.index.result ∷ [])) above
+          c.in_ok-child_or_new.ensures.grows));
     }
