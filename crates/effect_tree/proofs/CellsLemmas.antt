@@ -1,16 +1,17 @@
 -- The nodes that the cells so far give.
-use Rattle.std.proofs.Common.{◌≡◌, ◌≢◌, ℕ, ◌+◌, ◌<◌, ◌≤◌, ◌↔◌, List, [], ◌∷◌, ◌++◌, length, get_or, take, refl, sym, ap, subst, ◌∙◌, ◌⊎◌, inl, inr, ⊎_elim, arith}
+use Rattle.std.proofs.Common.{◌≡◌, ℕ, ◌+◌, ◌<◌, ◌≤◌, ◌↔◌, List, [], ◌∷◌, ◌++◌, length, get_or, take, sym, ap, subst, ◌∙◌, ◌⊎◌, inl, inr, ⊎_elim, arith}
 use Rattle.std.specs.List.{Any}
 use Rattle.std.proofs.lemmas.Bool.{cases_lt}
 use Rattle.std.proofs.lemmas.List.{length-take-le, get_or-take, get_or_default}
 use Rattle.std.proofs.Math.Seq.{take-length}
 use Rattle.region_paths.specs.declared.elements.Elem.{Elem}
 use Rattle.region_paths.specs.declared.elements.Elem.TheVariants.{Name}
-use Rattle.effect_tree.specs.declared.cells.CellDecl.{CellDecl}
+use Rattle.region_paths.specs.Filled.{solid_prefix}
+use Rattle.twe_program.specs.declared.program.CellDecl.{CellDecl}
 use Rattle.effect_tree.specs.Prefix.{IsPrefix}
-use Rattle.effect_tree.specs.Nodes.{path_of, IsNode}
-use Rattle.effect_tree.specs.DeclaredPaths.{IsDeclared, IsNodePath, console}
-use Rattle.effect_tree.specs.inner.Growth.{Grows, HasNodes}
+use Rattle.effect_tree.specs.Nodes.{path_of}
+use Rattle.effect_tree.specs.DeclaredPaths.{IsPrefixOfDeclared}
+use Rattle.effect_tree.specs.inner.Growth.{Grows, HasNodes, IsFrontPath}
 use Rattle.effect_tree.proofs.PrefixLemmas.{IsPrefix-snoc}
 use Rattle.effect_tree.proofs.TreeLemmas.{prefix_of_nil}
 
@@ -49,9 +50,9 @@ Any-none : {X : Type 0} (P : X → Type 0) → ¬ Any P []
 Any-none P a = let none = a.2 in omega arith
 
 -- the nodes that one more cell gives
-pub HasNodes-cell : (mid new : List (List Elem)) (cells : List CellDecl) (k : ℕ) (cell : CellDecl) → k < length cells → cell ≡ get_or cells k cell → HasNodes mid (IsNodePath (take k cells)) → Grows mid new (IsDeclared cell) → HasNodes new (IsNodePath (take (k + 1) cells))
+pub HasNodes-cell : (mid new : List (List Elem)) (cells : List CellDecl) (k : ℕ) (cell : CellDecl) → k < length cells → cell ≡ get_or cells k cell → HasNodes mid (IsFrontPath (take k cells)) → Grows mid new (IsPrefixOfDeclared (solid_prefix cell.path) cell.dims) → HasNodes new (IsFrontPath (take (k + 1) cells))
 HasNodes-cell mid new cells k cell there is has grows path =
-    let more = Any-take (λ (c : CellDecl). IsDeclared c path) cells k cell there is in (
+    let more = Any-take (λ (c : CellDecl). IsPrefixOfDeclared (solid_prefix c.path) c.dims path) cells k cell there is in (
       λ node.
           ⊎_elim
           (λ old. ⊎_elim (λ p. inl p) (λ a. inr (more.0 (inl a))) ((has path).0 old))
@@ -66,7 +67,7 @@ HasNodes-cell mid new cells k cell there is has grows path =
     )
 
 -- the root, and Console below it
-pub HasNodes-console : (old new : List (List Elem)) → old ≡ [] ∷ [] → Grows old new (λ path. path ≡ path_of old 0 ++ Name 0 ∷ []) → HasNodes new (IsNodePath [])
+pub HasNodes-console : (old new : List (List Elem)) → old ≡ [] ∷ [] → Grows old new (λ path. path ≡ path_of old 0 ++ Name 0 ∷ []) → HasNodes new (IsFrontPath [])
 HasNodes-console old new is grows path =
     let root = ap (λ (nodes : List (List Elem)). path_of nodes 0) is in
     let one = ap length is in
@@ -93,6 +94,6 @@ HasNodes-console old new is grows path =
     )
 
 -- all cells
-pub HasNodes-all : (nodes : List (List Elem)) (cells : List CellDecl) (k : ℕ) → k ≡ length cells → HasNodes nodes (IsNodePath (take k cells)) → HasNodes nodes (IsNodePath cells)
+pub HasNodes-all : (nodes : List (List Elem)) (cells : List CellDecl) (k : ℕ) → k ≡ length cells → HasNodes nodes (IsFrontPath (take k cells)) → HasNodes nodes (IsFrontPath cells)
 HasNodes-all nodes cells k e has =
-    subst (λ (cs : List CellDecl). HasNodes nodes (IsNodePath cs)) (ap (λ (j : ℕ). take j cells) e ∙ take-length cells) has
+    subst (λ (cs : List CellDecl). HasNodes nodes (IsFrontPath cs)) (ap (λ (j : ℕ). take j cells) e ∙ take-length cells) has

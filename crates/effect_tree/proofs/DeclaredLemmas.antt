@@ -1,21 +1,15 @@
 -- What a cell adds to the tree, and what the cells so far add.
-use Rattle.std.proofs.Common.{◌≡◌, ◌≢◌, ℕ, pos, ◌+◌, ◌<◌, ◌≤◌, ◌↔◌, List, [], ◌∷◌, ◌++◌, length, get_or, take, refl, sym, ap, subst, ◌∙◌, ◌⊎◌, inl, inr, ⊎_elim, arith}
-use Rattle.std.specs.List.{Any}
+use Rattle.std.proofs.Common.{◌≡◌, ℕ, pos, ◌<◌, ◌↔◌, List, [], ◌∷◌, ◌++◌, refl, sym, subst, ◌∙◌, ◌⊎◌, inl, inr, ⊎_elim, arith}
 use Rattle.std.proofs.Math.Seq.{append_snoc}
 use Rattle.region_paths.specs.declared.elements.Elem.{Elem}
 use Rattle.region_paths.specs.declared.elements.Elem.TheVariants.{Index}
-use Rattle.effect_tree.specs.declared.cells.CellDecl.{CellDecl}
-use Rattle.effect_tree.specs.declared.cells.Dims.{Dims}
-use Rattle.effect_tree.specs.declared.cells.Dims.TheVariants.{Scalar, Row, Grid}
+use Rattle.twe_program.specs.declared.program.Dims.{Dims}
+use Rattle.twe_program.specs.declared.program.Dims.TheVariants.{Scalar, Row, Grid}
 use Rattle.effect_tree.specs.Prefix.{IsPrefix}
-use Rattle.effect_tree.specs.DeclaredPaths.{Declares, IsDeclared, IsNodePath, console}
+use Rattle.effect_tree.specs.DeclaredPaths.{IsPrefixOfDeclared}
 use Rattle.effect_tree.specs.inner.Growth.{Grows, IsRowElement, IsGridElement}
 use Rattle.effect_tree.proofs.PrefixLemmas.{IsPrefix-refl, IsPrefix-snoc}
 use Rattle.effect_tree.proofs.GrowthLemmas.{Grows-append, Grows-same}
-
--- a prefix of a path that a cell at this path declares
-abbrev pub IsPrefixOfDeclared : List Elem → Dims → List Elem → Type 0
-IsPrefixOfDeclared at dims path = (declared : List Elem) × Declares at dims declared × IsPrefix path declared
 
 whole : (path at : List Elem) → path ≡ at → IsPrefix path at
 whole path at e = subst (λ (p : List Elem). IsPrefix path p) e (IsPrefix-refl path)

@@ -1,16 +1,15 @@
 -- Where a walk down the tree ends, no node lies deeper on the way.
-use Rattle.std.proofs.Common.{◌≡◌, ℕ, ◌+◌, ◌<◌, ◌≤◌, List, [], ◌∷◌, ◌++◌, length, get_or, drop, Option, Some, None, refl, sym, ap, subst, ◌∙◌, ◌⊎◌, inl, inr, ⊎_elim, arith}
+use Rattle.std.proofs.Common.{◌≡◌, ℕ, ◌<◌, ◌≤◌, List, [], ◌∷◌, ◌++◌, length, drop, None, refl, sym, ap, subst, ◌∙◌, ◌⊎◌, inl, inr, ⊎_elim, arith}
 use Rattle.std.specs.Prelude.{take_while}
 use Rattle.std.specs.BTreeMap.{get}
 use Rattle.std.proofs.lemmas.List.{append-nil}
 use Rattle.std.proofs.Math.ListN.{drop_of_length-le}
 use Rattle.region_paths.specs.declared.elements.Elem.{Elem}
-use Rattle.region_paths.specs.declared.elements.Elem.TheVariants.{Name}
 use Rattle.region_paths.specs.Filled.{is_solid}
 use Rattle.effect_tree.specs.declared.step.Step.{Step}
 use Rattle.effect_tree.specs.declared.tree.Tree.{Tree}
 use Rattle.effect_tree.specs.Prefix.{IsPrefix}
-use Rattle.effect_tree.specs.Nodes.{path_of, IsNode}
+use Rattle.effect_tree.specs.Nodes.{path_of}
 use Rattle.effect_tree.specs.Place.{IsDeepest}
 use Rattle.effect_tree.specs.inner.Steps.{elem_of}
 use Rattle.effect_tree.specs.inner.Order.{step_cmp}

@@ -1,5 +1,5 @@
 -- Walks along the solid elements at the front of a path.
-use Rattle.std.proofs.Common.{◌≡◌, ℕ, ◌+◌, ◌<◌, true, false, cond, List, [], ◌∷◌, ◌++◌, length, get_or, drop, drop-cons, add-one, Option, Some, None, refl, sym, ap, subst, ◌∙◌, ◌⊎◌, append_assoc}
+use Rattle.std.proofs.Common.{◌≡◌, ℕ, ◌+◌, ◌<◌, true, false, List, [], ◌∷◌, ◌++◌, length, get_or, drop, drop-cons, add-one, Some, None, refl, sym, ap, subst, ◌∙◌, ◌⊎◌, append_assoc}
 use Rattle.std.specs.Prelude.{take_while}
 use Rattle.std.proofs.lemmas.List.{append-nil}
 use Rattle.region_paths.specs.declared.elements.Elem.{Elem}

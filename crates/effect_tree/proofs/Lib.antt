@@ -11,5 +11,6 @@ pub mod FrontLemmas
 pub mod RowLemmas
 pub mod DeclaredLemmas
 pub mod CellsLemmas
+pub mod ProgramLemmas
 pub mod DeepestLemmas
 pub mod ChildrenLemmas

@@ -1,5 +1,5 @@
 -- Paths that others begin with.
-use Rattle.std.proofs.Common.{◌≡◌, ℕ, ◌↔◌, List, [], ◌∷◌, ◌++◌, refl, sym, ap, subst, ◌∙◌, ◌⊎◌, inl, inr, ⊎_elim}
+use Rattle.std.proofs.Common.{◌≡◌, ◌↔◌, List, [], ◌∷◌, ◌++◌, refl, ap, ◌∙◌, ◌⊎◌, inl, inr, ⊎_elim}
 use Rattle.region_paths.specs.declared.elements.Elem.{Elem}
 use Rattle.effect_tree.specs.Prefix.{IsPrefix}
 

@@ -1,5 +1,5 @@
 -- The solid prefixes of paths whose sets meet, and of a path inside another.
-use Rattle.std.proofs.Common.{◌≡◌, ℕ, true, false, Bool, cond, ◌&&◌, List, [], ◌∷◌, length, take, refl, sym, ap, subst, ◌∙◌, ◌⊎◌, inl, inr, ⊎_elim, eqb-true}
+use Rattle.std.proofs.Common.{◌≡◌, ℕ, true, false, Bool, cond, List, [], ◌∷◌, length, take, sym, ap, subst, ◌∙◌, ◌⊎◌, inl, inr, ⊎_elim, eqb-true}
 use Rattle.std.specs.Prelude.{take_while}
 use Rattle.std.specs.List.{list_all}
 use Rattle.std.proofs.lemmas.Bool.{false≢true, and_parts, cases_Bool}
@@ -8,9 +8,9 @@ use Rattle.std.proofs.lemmas.List.Sums.{take_while-cons}
 use Rattle.region_paths.specs.declared.elements.Elem.{Elem}
 use Rattle.region_paths.specs.declared.elements.Elem.TheVariants.{Name, Index, Var, AnyIndex}
 use Rattle.region_paths.specs.Written.{WrittenPath}
-use Rattle.region_paths.specs.Concrete.{ConcreteElem, ConcretePath, region, number, elem_stands, each_stands, both_ends_stand, stands, InSet}
+use Rattle.region_paths.specs.Concrete.{ConcreteElem, ConcretePath, region, number, elem_stands, each_stands, stands, InSet}
 use Rattle.region_paths.specs.Filled.{is_solid, solid_prefix}
-use Rattle.region_paths.specs.Inside.{within, starts_within, each_within, inside_ends, inside}
+use Rattle.region_paths.specs.Inside.{within, starts_within, inside}
 use Rattle.effect_tree.specs.Prefix.{IsPrefix}
 use Rattle.effect_tree.specs.Place.{IsSolid}
 

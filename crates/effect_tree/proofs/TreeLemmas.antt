@@ -1,5 +1,5 @@
 -- What the paths of the nodes of a tree are, and which node has a path.
-use Rattle.std.proofs.Common.{◌≡◌, ◌≢◌, ℕ, zero, suc, ◌+◌, ◌<◌, ◌≤◌, List, [], ◌∷◌, ◌++◌, length, Option, Some, None, IsSome, refl, sym, ap, subst, ◌∙◌, ◌⊎◌, inl, inr, ⊎_elim, arith, zero-add}
+use Rattle.std.proofs.Common.{◌≡◌, ℕ, zero, suc, ◌+◌, ◌<◌, List, [], ◌∷◌, ◌++◌, length, Option, Some, None, IsSome, refl, sym, ap, subst, ◌∙◌, ◌⊎◌, inl, inr, ⊎_elim, arith, zero-add}
 use Rattle.std.proofs.lemmas.Bool.{cases_lt, cases_eq}
 use Rattle.std.proofs.lemmas.List.{get_or_past}
 use Rattle.std.specs.BTreeMap.{get}
@@ -10,7 +10,7 @@ use Rattle.effect_tree.specs.declared.step.Part.TheVariants as part
 use Rattle.effect_tree.specs.declared.tree.Tree.{Tree}
 use Rattle.effect_tree.specs.Prefix.{IsPrefix}
 use Rattle.effect_tree.specs.Nodes.{path_of, IsNode, IsParent, IsTreeOfPaths}
-use Rattle.effect_tree.specs.inner.Steps.{elem_of, part_of}
+use Rattle.effect_tree.specs.inner.Steps.{elem_of}
 use Rattle.effect_tree.specs.inner.Order.{step_cmp}
 use Rattle.effect_tree.specs.inner.Tree.{step_of, path_by, paths_after, paths, IsTree}
 use Rattle.effect_tree.proofs.StepLemmas.{step_is}
@@ -146,6 +146,15 @@ child_path tree t s n e =
     let there = step_there tree.steps.items n s step in
     (omega arith, path_of-node tree t n s step)
 
+-- a step that leads to the path of another leads from the same node by the same part
+same_end : (tree : Tree) → IsTree tree → (n : ℕ) (s t : Step) → step_of tree.steps.items n ≡ Some t → s.from < length (paths tree) → path_of (paths tree) n ≡ path_of (paths tree) s.from ++ elem_of s.part ∷ [] → t ≡ s
+same_end tree tree_is n s t at there same =
+    let all = length-paths tree in
+    let inside = step_there tree.steps.items n t at in
+    let lower = tree_is.down n t at in
+    let both = snoc-same _ _ _ _ (sym (path_of-node tree tree_is n t at) ∙ same) in
+    step_is t s (path_of-once tree tree_is t.from s.from (omega arith) there both.0) (elem_of-same t.part s.part both.1)
+
 -- where no step leads to a path, it is no node's
 pub no_child : (tree : Tree) → IsTree tree → (s : Step) → s.from < length (paths tree) → get step_cmp tree.children s ≡ None → ¬ IsNode (paths tree) (path_of (paths tree) s.from ++ elem_of s.part ∷ [])
 no_child tree t s there absent node =
@@ -156,14 +165,8 @@ no_child tree t s there absent node =
     let root = ap (path_of (paths tree)) n_root ∙ path_of-root tree t in
     nil-snoc _ _ (sym root ∙ node.2))
     (λ at_n.
-    let step = path_of-node tree t node.0 at_n.0 at_n.1 in
-    let both = snoc-same _ _ _ _ (sym step ∙ node.2) in
-    let lower = t.down node.0 at_n.0 at_n.1 in
-    let from = path_of-once tree t at_n.0.from s.from (omega arith) there both.0 in
-    let part = elem_of-same _ _ both.1 in
-    let whole = step_is at_n.0 s from part in
     let to_n = (t.found node.0 at_n.0).1 at_n.1 in
-    let same = subst (λ (u : Step). get step_cmp tree.children u ≡ Some node.0) whole to_n in
+    let same = ap (get step_cmp tree.children) (same_end tree t node.0 s at_n.0 at_n.1 there node.2) in
     cc)
     (step_cases tree t node.0 (omega arith))
 

@@ -1,18 +1,19 @@
 //! How the tree grows by the paths of the cells.
-ghost use Rattle.std.specs.Prelude.{◌≡◌, ◌<◌, ◌≤◌, ◌^◌, length, take_while, IfOk, OnOk};
-ghost use Rattle.region_paths.specs.Filled.{is_solid};
+ghost use Rattle.std.specs.Prelude.{◌≡◌, ◌<◌, ◌≤◌, ◌*◌, ◌^◌, length, take_while, IfOk, OnOk};
+ghost use Rattle.std.specs.List.{All};
+ghost use Rattle.region_paths.specs.Filled.{is_solid, solid_prefix};
 ghost use Rattle.effect_tree.specs.Prefix.{IsPrefix};
 ghost use Rattle.effect_tree.specs.Nodes.{path_of};
-ghost use Rattle.effect_tree.specs.DeclaredPaths.{IsDeclared, IsNodePath, FitsIndexes, AllFitIndexes};
+ghost use Rattle.effect_tree.specs.DeclaredPaths.{IsPrefixOfDeclared};
 ghost use Rattle.effect_tree.specs.inner.Tree.{IsTree, paths};
-ghost use Rattle.effect_tree.specs.inner.Growth.{Grows, HasNodes, IsRowElement, IsGridElement};
+ghost use Rattle.effect_tree.specs.inner.Growth.{Grows, HasNodes, IsRowElement, IsGridElement, IsFrontPath, IsSmall};
 
-use crate::cells::{CellDecl, Dims};
 use crate::step::Part;
 use crate::tree::Tree;
 use region_paths::Elem;
 use std::alloc::Global;
 use twe_io::Memory;
+use twe_program::{CellDecl, Dims};
 
 impl Tree {
     /// Adds the solid elements at the front of a path, one below the other, and answers the node of the last.
@@ -51,8 +52,7 @@ impl Tree {
     fn grow_grid(&mut self, alloc: Global, at: u32, rows: u32, cols: u32) -> Result<(), Memory>
         requires tree { IsTree self.old }
         requires there { at < length self.old.steps.items }
-        requires rows_fit { rows ≤ 2 ^ 31 }
-        requires cols_fit { cols ≤ 2 ^ 31 }
+        requires fits { rows * cols ≤ 2 ^ 31 }
         ensures tree { OnOk result (IsTree self.new) }
         ensures grows { OnOk result (Grows (paths self.old) (paths self.new) (IsGridElement (path_of (paths self.old) at) rows cols)) }
     {
@@ -66,12 +66,12 @@ impl Tree {
         Ok(())
     }
 
-    /// Adds all paths of a cell.
+    /// Adds all paths of a cell, below the solid elements at the front of its path.
     fn grow_cell(&mut self, alloc: Global, cell: &CellDecl) -> Result<(), Memory>
         requires tree { IsTree self.old }
-        requires fits { FitsIndexes cell.now.dims }
+        requires fits { IsSmall cell.now }
         ensures tree { OnOk result (IsTree self.new) }
-        ensures grows { OnOk result (Grows (paths self.old) (paths self.new) (IsDeclared cell.now)) }
+        ensures grows { OnOk result (Grows (paths self.old) (paths self.new) (IsPrefixOfDeclared (solid_prefix cell.now.path) cell.now.dims)) }
     {
         let at = self.grow_path(alloc, cell.path.elems().as_slice())?;
         match cell.dims {
@@ -83,9 +83,9 @@ impl Tree {
 
     /// The tree of Console and of all paths of the cells.
     pub fn of_cells(alloc: Global, cells: &[CellDecl]) -> Result<Self, Memory>
-        requires { AllFitIndexes cells.now }
+        requires { All IsSmall cells.now }
         ensures tree { IfOk result IsTree }
-        ensures exact { IfOk result (λ tree. HasNodes (paths tree) (IsNodePath cells.now)) }
+        ensures exact { IfOk result (λ tree. HasNodes (paths tree) (IsFrontPath cells.now)) }
     {
         let mut tree = Tree::new(alloc)?;
         tree.child_or_new(alloc, 0, Part::Name(0))?;

@@ -5,7 +5,6 @@
 //! to a path's place meets all that is placed above it. What tasks put at the nodes is left to the crates above.
 #![tactic(auto)]
 
-mod cells;
 mod growth;
 mod laws;
 mod shape;
@@ -14,7 +13,6 @@ mod step;
 mod tests;
 mod tree;
 
-pub use cells::{CellDecl, Dims};
 pub use laws::{
     a_place_is_one, an_inner_path_is_placed_below, meeting_paths_are_placed_above_one_another,
     what_meets_a_solid_path_is_placed_above,

@@ -1,13 +1,14 @@
 //! The shape of the effect tree of a program.
 ghost use Rattle.std.specs.Prelude.{◌≡◌, ℕ, ◌<◌, ◌↔◌, length, Contains, IfSome, IsNone, IfOk};
+ghost use Rattle.std.specs.List.{All};
 ghost use Rattle.std.specs.List.Sorted.{IsStrictlyIncreasing};
 
-use crate::cells::CellDecl;
 use crate::tree::Tree;
 use region_paths::Path;
 use std::alloc::Global;
 use std::marker::Model;
 use twe_io::Memory;
+use twe_program::{CellDecl, Prog};
 
 /// The nodes of a program's effect tree, numbered from 0, which is the root: `Console`, and every prefix of the path of
 /// each cell, the elements of arrays and grids included. Contracts see it as the list of the nodes' paths.
@@ -32,13 +33,21 @@ impl Shape {
     ghost use Rattle.std.specs.Prelude.{List};
     ghost use Rattle.region_paths.specs.declared.elements.Elem.{Elem};
     ghost use Rattle.effect_tree.specs.Nodes.{path_of, IsNode, IsParent, IsTreeOfPaths};
-    ghost use Rattle.effect_tree.specs.DeclaredPaths.{IsNodePath, AllFitIndexes};
+    ghost use Rattle.effect_tree.specs.DeclaredPaths.{IsNodePath};
     ghost use Rattle.effect_tree.specs.Place.{IsPlace};
+    ghost use Rattle.effect_tree.specs.inner.Growth.{HasNodes, IsFrontPath, IsSmall};
 
-    /// The shape of these cells' tree. It takes time near linear in the number of nodes.
-    pub fn of_cells(alloc: Global, cells: &[CellDecl]) -> Result<Self, Memory>
-        requires { AllFitIndexes cells.now }
-        ensures exact { IfOk result (λ shape. (path : List Elem) → (IsNode shape path ↔ IsNodePath cells.now path)) }
+    /// The shape of the program's tree. It takes time near linear in the number of nodes.
+    pub fn build(alloc: Global, p: &Prog) -> Result<Self, Memory>
+        ensures { IfOk result (λ shape. (path : List Elem) → (IsNode shape path ↔ IsNodePath p.now path)) }
+    {
+        Self::of_cells(alloc, p.cells.as_slice())
+    }
+
+    /// The shape of these cells' tree.
+    pub(crate) fn of_cells(alloc: Global, cells: &[CellDecl]) -> Result<Self, Memory>
+        requires { All IsSmall cells.now }
+        ensures { IfOk result (λ shape. HasNodes shape (IsFrontPath cells.now)) }
     {
         Ok(Shape {
             tree: Tree::of_cells(alloc, cells)?,

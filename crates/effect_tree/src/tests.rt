@@ -1,53 +1,90 @@
 //! The shapes of small programs, and where paths are placed in them.
+ghost use Rattle.std.specs.Prelude.{◌≡◌, ◌↔◌, ◌<◌, length, IsTrue};
+ghost use Rattle.std.specs.List.{All};
+ghost use Rattle.effect_tree.specs.inner.Growth.{IsSmall};
 
-use crate::{CellDecl, Dims, Shape};
+use crate::Shape;
 use region_paths::{Elem, Elems, Path};
 use std::alloc::Global;
 use std::process::Abort;
 use std::test::Fail;
-use twe_io::Memory;
+use twe_io::{Memory, Place, Word};
+use twe_program::{CellDecl, Dims};
 
 const DATA: Elem = Elem::Name(1);
 
 const LOCKS: Elem = Elem::Name(2);
 
-fn path(alloc: Global, elems: &[Elem]) -> Result<Path, Memory> {
-    let elems = Elems::from(Vec::from_slice(alloc, elems)?);
-    Ok(Path::new(elems, false, Elems::new(alloc)))
+/// The path of these elements, which is followed by a star or not.
+fn path(alloc: Global, elems: &[Elem], star: bool) -> Result<Path, Memory> {
+    let elems = Elems::from_slice(alloc, elems)?;
+    Ok(Path::new(elems, star, Elems::new(alloc)))
 }
 
 fn cell(alloc: Global, elems: &[Elem], dims: Dims) -> Result<CellDecl, Memory> {
     Ok(CellDecl {
-        path: path(alloc, elems)?,
+        name: Word::from_text(alloc, "x")?,
+        path: path(alloc, elems, false)?,
         dims,
+        first: 0,
+        init: 0,
+        place: Place { line: 1, col: 1 },
     })
+}
+
+/// Whether the indexes of each cell's elements have 32 bits.
+fn are_small(cells: &[CellDecl]) -> bool
+    ensures { IsTrue result ↔ All IsSmall cells.now }
+{
+    cells.iter().all(|cell| cell.dims.size() <= 1 << 31)
+}
+
+fn shape_of<R: Abort + AllocGlobal>(rt: &R, cells: &[CellDecl]) -> Result<Shape, Fail> {
+    assert!(rt; are_small(cells));
+    Ok(Shape::of_cells(rt.alloc(), cells)?)
+}
+
+/// The cells of `int d[4] in Data;` and `int y in Data:[3]:L;`.
+fn row_and_cell(alloc: Global) -> Result<Vec<CellDecl>, Memory> {
+    let mut cells = Vec::new(alloc);
+    cells.push(cell(alloc, &[DATA], Dims::Row(4))?)?;
+    cells.push(cell(alloc, &[DATA, Elem::Index(3), LOCKS], Dims::Scalar)?)?;
+    Ok(cells)
 }
 
 #[test]
 fn a_row_and_a_cell_below_one_of_its_elements(rt: HostRuntime) -> Result<(), Fail> {
     let alloc = rt.alloc();
-    let mut cells = Vec::new(alloc);
-    cells.push(cell(alloc, &[DATA], Dims::Row(4))?)?;
-    cells.push(cell(alloc, &[DATA, Elem::Index(3), LOCKS], Dims::Scalar)?)?;
-    let shape = Shape::of_cells(alloc, &cells)?;
-    println!(&rt; "{shape:?}")?;
+    let shape = shape_of(&rt, &row_and_cell(alloc)?)?;
+    // The root, Console, Data, its four elements, and L below the last of them.
     assert_eq!(rt; shape.nodes(), 8);
+    let data = shape.place(&path(alloc, &[DATA], false)?);
+    let under = shape.place(&path(alloc, &[DATA, Elem::Index(3), LOCKS], false)?);
+    assert_eq!(rt; shape.place(&path(alloc, &[DATA], true)?), data);
+    assert_eq!(rt;
+        shape.place(&path(alloc, &[DATA, Elem::Index(9)], false)?),
+        data
+    );
+    assert_eq!(rt;
+        shape.place(&path(alloc, &[DATA, Elem::AnyIndex, LOCKS], false)?),
+        data
+    );
+    assert!(rt; under != data && shape.below(under).is_empty());
+    assert_eq!(rt; shape.below(data).len(), 4);
+    assert_eq!(rt; shape.parent(data), Some(0));
     Ok(())
 }
 
 #[test]
-
+fn what_has_no_elements_has_a_node_all_the_same(rt: HostRuntime) -> Result<(), Fail> {
     let alloc = rt.alloc();
     let mut cells = Vec::new(alloc);
-    for k in 0..65_000u32 {
-        cells.push(cell(
-            alloc,
-            &[DATA, Elem::Index(65_000 - k as i32), LOCKS],
-            Dims::Scalar,
-        )?)?;
-    }
-    let shape = Shape::of_cells(alloc, &cells)?;
-    let n = shape.nodes();
-    println!(&rt; "{n}")?;
+    cells.push(cell(alloc, &[DATA], Dims::Row(0))?)?;
+    cells.push(cell(alloc, &[LOCKS], Dims::Grid { rows: 3, cols: 0 })?)?;
+    cells.push(cell(alloc, &[DATA], Dims::Scalar)?)?;
+    // The root, Console, Data and Locks: no rows, and no path twice.
+    assert_eq!(rt; shape_of(&rt, &cells)?.nodes(), 4);
+    cells.push(cell(alloc, &[LOCKS], Dims::Grid { rows: 3, cols: 2 })?)?;
+    assert_eq!(rt; shape_of(&rt, &cells)?.nodes(), 4 + 3 + 6);
     Ok(())
 }

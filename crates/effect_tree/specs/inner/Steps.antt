@@ -1,7 +1,7 @@
 -- The elements that a node's path is made of.
 use Rattle.std.specs.Prelude.{Option, Some, None}
 use Rattle.region_paths.specs.declared.elements.Elem.{Elem}
-use Rattle.region_paths.specs.declared.elements.Elem.TheVariants.{Name, Index, Var, AnyIndex}
+use Rattle.region_paths.specs.declared.elements.Elem.TheVariants.{Name, Index}
 use Rattle.effect_tree.specs.declared.step.Part.{Part}
 use Rattle.effect_tree.specs.declared.step.Part.TheVariants as part
 

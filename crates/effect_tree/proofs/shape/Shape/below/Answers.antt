@@ -1,5 +1,5 @@
 -- As in the tree.
-use Rattle.std.proofs.Common.{◌<◌, ◌↔◌, List, length, ap, sym, subst, arith}
+use Rattle.std.proofs.Common.{◌↔◌, List, length, ap, subst, arith}
 use Rattle.std.specs.Prelude.{Contains}
 use Rattle.region_paths.specs.declared.elements.Elem.{Elem}
 use Rattle.effect_tree.specs.Nodes.{IsParent}

@@ -4,7 +4,7 @@ use Rattle.std.specs.Prelude.{Contains}
 use Rattle.std.specs.List.Sorted.{IsStrictlyIncreasing}
 use Rattle.std.proofs.lemmas.List.{get_or-map, length-map}
 use Rattle.effect_tree.specs.Nodes.{IsParent}
-use Rattle.effect_tree.specs.inner.Tree.{children_from, lists, paths}
+use Rattle.effect_tree.specs.inner.Tree.{children_from, paths}
 use Rattle.effect_tree.proofs.ChildrenLemmas.{Contains-IsParent, children-increase}
 use Rattle.effect_tree.proofs.tree.Tree.below.Goals as goal
 

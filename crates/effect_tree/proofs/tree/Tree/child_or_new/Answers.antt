@@ -1,5 +1,5 @@
 -- Where a step leads to a node, nothing is added.
-use Rattle.std.proofs.Common.{◌<◌, sym, ◌∙◌, arith}
+use Rattle.std.proofs.Common.{sym, ◌∙◌, arith}
 use Rattle.effect_tree.specs.declared.step.Step.{Step}
 use Rattle.effect_tree.specs.inner.Tree.{paths}
 use Rattle.effect_tree.proofs.TreeLemmas.{child_path, length-paths}

@@ -1,5 +1,4 @@
 -- The rows so far were added, with their elements.
-use Rattle.std.proofs.Common.{◌<◌, ◌≤◌, length}
 use Rattle.effect_tree.specs.Nodes.{path_of}
 use Rattle.effect_tree.specs.inner.Tree.{IsTree, paths}
 use Rattle.effect_tree.specs.inner.Growth.{Grows, IsGridElement}

@@ -1,5 +1,5 @@
 -- The walk goes on by each solid element, and ends at the first other one.
-use Rattle.std.proofs.Common.{◌≡◌, ◌+◌, ◌++◌, List, drop, refl, sym, ap, subst, ◌∙◌}
+use Rattle.std.proofs.Common.{◌+◌, ◌++◌, List, drop, sym, ap, subst, ◌∙◌}
 use Rattle.std.specs.Prelude.{take_while}
 use Rattle.region_paths.specs.declared.elements.Elem.{Elem}
 use Rattle.region_paths.specs.Filled.{is_solid}

@@ -1,7 +1,6 @@
 -- One element more. The node above keeps its number and its path.
-use Rattle.std.proofs.Common.{◌≡◌, ◌++◌, ◌∷◌, [], pos, List, ap, subst, arith}
+use Rattle.std.proofs.Common.{◌≡◌, ◌++◌, ◌∷◌, [], List, subst, arith}
 use Rattle.region_paths.specs.declared.elements.Elem.{Elem}
-use Rattle.region_paths.specs.declared.elements.Elem.TheVariants.{Index}
 use Rattle.effect_tree.specs.declared.step.Part.{Part}
 use Rattle.effect_tree.specs.Nodes.{path_of}
 use Rattle.effect_tree.specs.inner.Steps.{elem_of}

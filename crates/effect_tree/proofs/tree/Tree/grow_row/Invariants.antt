@@ -1,5 +1,4 @@
 -- The elements so far were added.
-use Rattle.std.proofs.Common.{◌<◌, ◌≤◌, length}
 use Rattle.effect_tree.specs.Nodes.{path_of}
 use Rattle.effect_tree.specs.inner.Tree.{IsTree, paths}
 use Rattle.effect_tree.specs.inner.Growth.{Grows, IsRowElement}
