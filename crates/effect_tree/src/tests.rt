@@ -15,6 +15,8 @@ const DATA: Elem = Elem::Name(1);
 
 const LOCKS: Elem = Elem::Name(2);
 
+const BELOW: [Elem; 3] = [DATA, Elem::Index(3), LOCKS];
+
 /// The path of these elements, which is followed by a star or not.
 fn path(alloc: Global, elems: &[Elem], star: bool) -> Result<Path, Memory> {
     let elems = Elems::from_slice(alloc, elems)?;
@@ -44,35 +46,39 @@ fn shape_of<R: Abort + AllocGlobal>(rt: &R, cells: &[CellDecl]) -> Result<Shape,
     Ok(Shape::of_cells(rt.alloc(), cells)?)
 }
 
-/// The cells of `int d[4] in Data;` and `int y in Data:[3]:L;`.
-fn row_and_cell(alloc: Global) -> Result<Vec<CellDecl>, Memory> {
-    let mut cells = Vec::new(alloc);
-    cells.push(cell(alloc, &[DATA], Dims::Row(4))?)?;
-    cells.push(cell(alloc, &[DATA, Elem::Index(3), LOCKS], Dims::Scalar)?)?;
-    Ok(cells)
+/// Checks that the paths of these elements, followed by a star or not, are placed at this node.
+fn assert_places<R: Abort + AllocGlobal>(
+    rt: &R,
+    shape: &Shape,
+    paths: &[(&[Elem], bool)],
+    node: u32,
+) -> Result<(), Fail> {
+    for (elems, star) in paths {
+        assert_eq!(rt; shape.place(&path(rt.alloc(), elems, *star)?), node);
+    }
+    Ok(())
 }
 
 #[test]
 fn a_row_and_a_cell_below_one_of_its_elements(rt: HostRuntime) -> Result<(), Fail> {
     let alloc = rt.alloc();
-    let shape = shape_of(&rt, &row_and_cell(alloc)?)?;
+    let mut cells = Vec::new(alloc);
+    cells.push(cell(alloc, &[DATA], Dims::Row(4))?)?;
+    cells.push(cell(alloc, &BELOW, Dims::Scalar)?)?;
+    let shape = shape_of(&rt, &cells)?;
     // The root, Console, Data, its four elements, and L below the last of them.
     assert_eq!(rt; shape.nodes(), 8);
-    let data = shape.place(&path(alloc, &[DATA], false)?);
-    let under = shape.place(&path(alloc, &[DATA, Elem::Index(3), LOCKS], false)?);
-    assert_eq!(rt; shape.place(&path(alloc, &[DATA], true)?), data);
-    assert_eq!(rt;
-        shape.place(&path(alloc, &[DATA, Elem::Index(9)], false)?),
-        data
-    );
-    assert_eq!(rt;
-        shape.place(&path(alloc, &[DATA, Elem::AnyIndex, LOCKS], false)?),
-        data
-    );
-    assert!(rt; under != data && shape.below(under).is_empty());
-    assert_eq!(rt; shape.below(data).len(), 4);
-    assert_eq!(rt; shape.parent(data), Some(0));
-    Ok(())
+    assert_places(
+        &rt,
+        &shape,
+        &[
+            (&[DATA], true),
+            (&[DATA, Elem::Index(9)], false),
+            (&[DATA, Elem::AnyIndex, LOCKS], false),
+        ],
+        2,
+    )?;
+    assert_places(&rt, &shape, &[(&BELOW, false), (&BELOW, true)], 7)
 }
 
 #[test]
@@ -82,9 +88,7 @@ fn what_has_no_elements_has_a_node_all_the_same(rt: HostRuntime) -> Result<(), F
     cells.push(cell(alloc, &[DATA], Dims::Row(0))?)?;
     cells.push(cell(alloc, &[LOCKS], Dims::Grid { rows: 3, cols: 0 })?)?;
     cells.push(cell(alloc, &[DATA], Dims::Scalar)?)?;
-    // The root, Console, Data and Locks: no rows, and no path twice.
+    // The root, Console, Data and L: no rows, and no path twice.
     assert_eq!(rt; shape_of(&rt, &cells)?.nodes(), 4);
-    cells.push(cell(alloc, &[LOCKS], Dims::Grid { rows: 3, cols: 2 })?)?;
-    assert_eq!(rt; shape_of(&rt, &cells)?.nodes(), 4 + 3 + 6);
     Ok(())
 }
