@@ -39,7 +39,8 @@ impl Shape {
 
     /// The shape of the program's tree. It takes time near linear in the number of nodes.
     pub fn build(alloc: Global, p: &Prog) -> Result<Self, Memory>
-        ensures { IfOk result (λ shape. (path : List Elem) → (IsNode shape path ↔ IsNodePath p.now path)) }
+        ensures exact { IfOk result (λ shape. (path : List Elem) → (IsNode shape path ↔ IsNodePath p.now path)) }
+        ensures tree { IfOk result IsTreeOfPaths }
     {
         Self::of_cells(alloc, p.cells.as_slice())
     }
@@ -47,7 +48,8 @@ impl Shape {
     /// The shape of these cells' tree.
     pub(crate) fn of_cells(alloc: Global, cells: &[CellDecl]) -> Result<Self, Memory>
         requires { All IsSmall cells.now }
-        ensures { IfOk result (λ shape. HasNodes shape (IsFrontPath cells.now)) }
+        ensures exact { IfOk result (λ shape. HasNodes shape (IsFrontPath cells.now)) }
+        ensures tree { IfOk result IsTreeOfPaths }
     {
         Ok(Shape {
             tree: Tree::of_cells(alloc, cells)?,

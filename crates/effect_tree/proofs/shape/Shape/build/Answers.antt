@@ -14,9 +14,9 @@ of_cells-requires c =
     let cells = c.as_slice.ensures ∙ ap (λ (p : Program). p.cells) c.p.view_is in
     subst (λ (cs : List CellDecl). All IsSmall cs) (sym cells) (cells_small c.args.p.now (subst IsWellFormed c.p.view_is c.p.invariant))
 
-pub returns : goal.returns
-returns c =
+pub returns-clause-exact : goal.returns-clause-exact
+returns-clause-exact c =
     let cells = c.as_slice.ensures ∙ ap (λ (p : Program). p.cells) c.p.view_is in
     IfOk-weaker c.of_cells.result _ _
     (λ shape has. HasNodes-whole shape c.args.p.now c.as_slice.result.now (subst IsWellFormed c.p.view_is c.p.invariant) cells has)
-    c.of_cells.ensures
+    c.of_cells.ensures.exact
