@@ -1,0 +1,16 @@
+pub mod StepLemmas
+pub mod PrefixLemmas
+pub mod SnocLemmas
+pub mod SolidLemmas
+pub mod PlaceLemmas
+pub mod PathsLemmas
+pub mod TreeLemmas
+pub mod AddLemmas
+pub mod GrowthLemmas
+pub mod FrontLemmas
+pub mod RowLemmas
+pub mod DeclaredLemmas
+pub mod CellsLemmas
+pub mod ProgramLemmas
+pub mod DeepestLemmas
+pub mod ChildrenLemmas

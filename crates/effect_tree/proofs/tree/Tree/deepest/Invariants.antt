@@ -1,0 +1,13 @@
+-- The node that was reached has the path of the solid elements so far.
+use Rattle.std.proofs.Common.{◌≡◌, ◌<◌, ◌++◌, length, drop}
+use Rattle.std.specs.Prelude.{take_while}
+use Rattle.region_paths.specs.Filled.{is_solid}
+use Rattle.effect_tree.specs.Nodes.{path_of}
+use Rattle.effect_tree.specs.inner.Tree.{paths}
+use Rattle.effect_tree.proofs.tree.Tree.deepest.Given as goal
+
+abbrev pub invariant-loop-elem : goal.invariant-loop-elem
+invariant-loop-elem l = record {
+  there : l.at < length l.self.steps.items;
+  front : path_of (paths l.self) l.at ++ take_while is_solid (drop l.elem-index l.elems) ≡ take_while is_solid l.elems;
+}

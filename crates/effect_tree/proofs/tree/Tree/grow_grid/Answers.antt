@@ -1,0 +1,37 @@
+-- One row more, with its elements. The node above keeps its number and its path, and so does the row.
+use Rattle.std.proofs.Common.{◌≡◌, ◌<◌, ◌++◌, ◌∷◌, [], List, ap, subst, ◌∙◌, arith}
+use Rattle.region_paths.specs.declared.elements.Elem.{Elem}
+use Rattle.effect_tree.specs.declared.step.Part.{Part}
+use Rattle.effect_tree.specs.Nodes.{path_of}
+use Rattle.effect_tree.specs.inner.Steps.{elem_of}
+use Rattle.effect_tree.specs.inner.Tree.{paths}
+use Rattle.effect_tree.specs.inner.Growth.{Grows, IsRowElement}
+use Rattle.effect_tree.proofs.TreeLemmas.{length-paths}
+use Rattle.effect_tree.proofs.RowLemmas.{Grows-grid}
+use Rattle.effect_tree.proofs.tree.Tree.grow_grid.Goals as goal
+
+pub child_or_new-requires-clause-there : goal.child_or_new-requires-clause-there
+child_or_new-requires-clause-there c =
+    let old = length-paths c.args.self.now in
+    let now = length-paths c.loop-i.self in
+    let longer = c.loop-i.invariant.grows.longer in
+    omega arith
+
+pub loop-i-preserved : goal.loop-i-preserved
+loop-i-preserved c =
+    let old = paths c.args.self.now in
+    let mid = paths c.loop-i.self in
+    let row = paths c.child_or_new.new.self in
+    let all = length-paths c.args.self.now in
+    let there = c.requires.there in
+    let above = c.loop-i.invariant.grows.kept c.args.at (omega arith) in
+    let at = c.in_ok-row.ensures.path ∙ ap (λ (p : List Elem). p ++ elem_of c.index.result ∷ []) above ∙ ap (λ (q : Part). path_of old c.args.at ++ elem_of q ∷ []) c.index.ensures in
+    let some : 0 < c.args.cols = omega arith in
+    record {
+      tree = c.in_ok-grow_row.ensures.tree;
+      grows =
+          Grows-grid old mid row _ (path_of old c.args.at) c.loop-i.i c.args.cols some c.loop-i.invariant.grows
+          (subst (λ (q : Part). Grows mid row (λ path. path ≡ path_of old c.args.at ++ elem_of q ∷ [])) c.index.ensures
+          (subst (λ (p : List Elem). Grows mid row (λ path. path ≡ p ++ elem_of c.index.result ∷ [])) above c.in_ok-row.ensures.grows))
+          (subst (λ (p : List Elem). Grows row (paths c.grow_row.new.self) (IsRowElement p c.args.cols)) at c.in_ok-grow_row.ensures.grows);
+    }

@@ -1,0 +1,11 @@
+-- The elements so far were added.
+use Rattle.effect_tree.specs.Nodes.{path_of}
+use Rattle.effect_tree.specs.inner.Tree.{IsTree, paths}
+use Rattle.effect_tree.specs.inner.Growth.{Grows, IsRowElement}
+use Rattle.effect_tree.proofs.tree.Tree.grow_row.Given as goal
+
+abbrev pub invariant-loop-i : goal.invariant-loop-i
+invariant-loop-i l = record {
+  tree : IsTree l.self;
+  grows : Grows (paths l.fn.self) (paths l.self) (IsRowElement (path_of (paths l.fn.self) l.at) l.i);
+}
