@@ -89,7 +89,7 @@ impl Tree {
             return Ok(node);
         }
         if self.steps.len() >= u32::MAX as usize {
-            return Err(Memory::of_uncountable(self.steps.len()));
+            return Err(Memory::of_uncountable(self.steps.as_slice()));
         }
         self.add(alloc, Step { from, part })
     }
