@@ -12,6 +12,8 @@ mod first;
 mod futures;
 mod judge;
 mod rule;
+#[cfg(test)]
+mod tests;
 mod whole;
 
 pub use rule::{CheckFail, ERule};
