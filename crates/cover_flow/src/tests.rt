@@ -1,9 +1,10 @@
-//! What may be out and what surely is, at the points of a body with a branch, a loop and a return.
+//! What may be out and what surely is: at the points of a body with a branch, a loop and a return, and of the deepest
+//! body that a text may have, which is dropped afterwards.
 use crate::flow;
 use std::alloc::{AllocError, Global};
 use std::test::Fail;
-use twe_io::Place;
-use twe_program::{Args, Arm, Arms, Block, Body, Expr, ExprKind, Stmt, StmtKind};
+use twe_io::{Memory, Place};
+use twe_program::{Args, Arm, Arms, BinOp, Block, Body, Expr, ExprKind, Stmt, StmtKind};
 
 const HERE: Place = Place { line: 1, col: 1 };
 
@@ -99,6 +100,48 @@ fn a_branch_a_loop_and_a_return(rt: HostRuntime) -> Result<(), Fail> {
     for (point, may, surely) in rows {
         assert_eq!(rt; points.may(point, 0), may, "may be out at {point}");
         assert_eq!(rt; points.surely(point, 0), surely, "surely out at {point}");
+    }
+    Ok(())
+}
+
+/// A condition with 200 brackets and 200 operators, each within the one before.
+fn deepest_condition(alloc: Global) -> Result<Expr, Memory> {
+    let mut deep = condition();
+    for _ in 0..200 {
+        let bracket = Expr {
+            kind: ExprKind::Not(Box::new(alloc, deep)?),
+        };
+        deep = Expr::binary(alloc, BinOp::And, bracket, condition(), HERE)?;
+    }
+    Ok(deep)
+}
+
+/// A spawn within 200 loops, each within the one before.
+fn deepest_body(alloc: Global) -> Result<Body, Memory> {
+    let mut stmts = vec![in alloc; spawn(alloc, 0)]?;
+    for _ in 0..200 {
+        let kind = StmtKind::While {
+            condition: deepest_condition(alloc)?,
+            body: Block { stmts },
+            place: HERE,
+        };
+        stmts = vec![in alloc; Stmt { point: 1, kind }]?;
+    }
+    Ok(Body {
+        block: Block { stmts },
+        vars: 0,
+        futures: 1,
+        points: 3,
+        close: HERE,
+    })
+}
+
+#[test]
+fn the_deepest_body(rt: HostRuntime) -> Result<(), Fail> {
+    let points = flow(rt.alloc(), &deepest_body(rt.alloc())?)?;
+    for point in 0..3 {
+        assert_eq!(rt; points.may(point, 0), true, "may be out at {point}");
+        assert_eq!(rt; points.surely(point, 0), false, "surely out at {point}");
     }
     Ok(())
 }
