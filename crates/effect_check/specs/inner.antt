@@ -1,2 +1,3 @@
 pub mod Failures
 pub mod First
+pub mod Parts

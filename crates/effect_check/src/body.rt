@@ -1,7 +1,8 @@
 //! Collects what the statements of a body do.
 ghost use Rattle.std.specs.Prelude.{◌≡◌, ◌∷◌, [], ◌++◌, true, IfOk, OnOk};
 ghost use Rattle.effect_check.specs.Standing.{console};
-ghost use Rattle.effect_check.specs.Acts.{acts_in, acts_in_all, acts_in_one, acts_of_value, make, touch};
+ghost use Rattle.effect_check.specs.Acts.{acts_in, acts_in_all, acts_in_one, acts_of_value, make, touch, wait};
+ghost use Rattle.effect_check.specs.inner.Parts.{simple_acts, store_acts};
 
 use crate::act::{Act, ActKind, Acts, add_touch};
 use crate::collect::{add_args, add_call, add_expr, cell_path, deterministic, element, filled};
@@ -69,17 +70,30 @@ fn add_make(
     acts.push(Act { point, kind })
 }
 
-/// Adds what the statement does, in all of its parts.
-#[cycle(body)]
-fn add_stmt(stmt: &Stmt, acts: &mut Acts, alloc: Global, p: &Prog) -> Result<(), Memory>
-    ensures { OnOk result (acts.new ≡ acts.old ++ acts_in p.now stmt.now) }
+/// Adds the waiting for a task.
+fn add_wait(
+    acts: &mut Acts,
+    point: u32,
+    future: u32,
+    join: bool,
+    place: Place,
+) -> Result<(), Memory>
+    ensures { OnOk result (acts.new ≡ acts.old ++ wait point future join place ∷ []) }
+{
+    let kind = ActKind::Wait {
+        future,
+        join,
+        place,
+    };
+    acts.push(Act { point, kind })
+}
+
+/// Adds what a statement does that stores into a cell.
+fn add_store(stmt: &Stmt, acts: &mut Acts, alloc: Global, p: &Prog) -> Result<(), Memory>
+    ensures { OnOk result (acts.new ≡ acts.old ++ store_acts p.now stmt.now) }
 {
     let point = stmt.point;
     match &stmt.kind {
-        StmtKind::Block(body) => add_block(body, acts, alloc, p),
-        StmtKind::Let { value, .. } | StmtKind::Set { value, .. } => {
-            add_expr(value, acts, alloc, p, point)
-        }
         StmtKind::SetCell { cell, value, place } => {
             let path = cell_path(alloc, p, *cell, &[])?;
             add_touch(acts, point, true, path, *place)?;
@@ -110,14 +124,18 @@ fn add_stmt(stmt: &Stmt, acts: &mut Acts, alloc: Global, p: &Prog) -> Result<(),
             add_expr(second, acts, alloc, p, point)?;
             add_expr(value, acts, alloc, p, point)
         }
-        StmtKind::If(arms) => add_arms(arms, acts, alloc, p, point),
-        StmtKind::While {
-            condition,
-            body,
-            ..
-        } => {
-            add_expr(condition, acts, alloc, p, point)?;
-            add_block(body, acts, alloc, p)
+        _ => Ok(()),
+    }
+}
+
+/// Adds what a statement does that has no others inside it.
+fn add_simple(stmt: &Stmt, acts: &mut Acts, alloc: Global, p: &Prog) -> Result<(), Memory>
+    ensures { OnOk result (acts.new ≡ acts.old ++ simple_acts p.now stmt.now) }
+{
+    let point = stmt.point;
+    match &stmt.kind {
+        StmtKind::Let { value, .. } | StmtKind::Set { value, .. } => {
+            add_expr(value, acts, alloc, p, point)
         }
         StmtKind::Return(value) => add_value(value, acts, alloc, p, point),
         StmtKind::Print { value, place } => {
@@ -155,14 +173,28 @@ fn add_stmt(stmt: &Stmt, acts: &mut Acts, alloc: Global, p: &Prog) -> Result<(),
             join,
             place,
             ..
+        } => add_wait(acts, point, *future, *join, *place),
+        _ => add_store(stmt, acts, alloc, p),
+    }
+}
+
+/// Adds what the statement does, in all of its parts.
+#[cycle(body)]
+fn add_stmt(stmt: &Stmt, acts: &mut Acts, alloc: Global, p: &Prog) -> Result<(), Memory>
+    ensures { OnOk result (acts.new ≡ acts.old ++ acts_in p.now stmt.now) }
+{
+    match &stmt.kind {
+        StmtKind::Block(body) => add_block(body, acts, alloc, p),
+        StmtKind::If(arms) => add_arms(arms, acts, alloc, p, stmt.point),
+        StmtKind::While {
+            condition,
+            body,
+            ..
         } => {
-            let kind = ActKind::Wait {
-                future: *future,
-                join: *join,
-                place: *place,
-            };
-            acts.push(Act { point, kind })
+            add_expr(condition, acts, alloc, p, stmt.point)?;
+            add_block(body, acts, alloc, p)
         }
+        _ => add_simple(stmt, acts, alloc, p),
     }
 }
 

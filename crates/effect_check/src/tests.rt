@@ -35,7 +35,15 @@ fn print() -> Stmt
 /// `task void main()` with the effects and the statement `print(1);`.
 fn main_task(alloc: Global, effects: Effects) -> Result<Decl, Memory>
     requires { SummaryFits 1 0 (record { effects = effects }) }
-    ensures fits { IfOk result (λ main. (main.params ≡ 0) × (main.int ≡ false) × DeclFits (record { regions = codes "Console" ∷ []; cells = []; methods = []; tasks = main ∷ []; main = 0 }) main) }
+    ensures params { IfOk result (λ main. main.params ≡ 0) }
+    ensures value { IfOk result (λ main. main.int ≡ false) }
+    ensures fits { IfOk result (λ main. DeclFits (record {
+      regions = codes "Console" ∷ [];
+      cells = [];
+      methods = [];
+      tasks = main ∷ [];
+      main = 0;
+    }) main) }
 {
     let stmts = vec![in alloc; print()]?;
     let body = Body {
