@@ -1,0 +1,10 @@
+pub mod Acts
+pub mod ExprActs
+pub mod ItemActs
+pub mod Machine
+pub mod Operators
+pub mod Rows
+pub mod Stacks
+pub mod StmtActs
+pub mod Terminals
+pub mod Works

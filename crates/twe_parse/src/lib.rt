@@ -1,0 +1,13 @@
+//! The parser: from the text of a program to its tree, or to the first failure of a rule of the text.
+#![tactic(auto)]
+
+mod expression_rows;
+mod head_rows;
+mod item_rows;
+mod machine;
+mod operator;
+mod row;
+mod stack;
+mod statement_rows;
+mod symbol;
+mod work;
