@@ -1,0 +1,3 @@
+pub mod CompleteExpressions
+pub mod FirstTokens
+pub mod Steps

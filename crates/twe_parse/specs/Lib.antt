@@ -1,5 +1,6 @@
 pub mod Levels
 pub mod Values
+pub mod Viable
 pub mod Writes
 pub mod WritesExpression
 pub mod WritesPath

@@ -4,6 +4,7 @@
 mod expression_rows;
 mod head_rows;
 mod item_rows;
+mod laws;
 mod machine;
 mod operator;
 mod row;
@@ -11,3 +12,5 @@ mod stack;
 mod statement_rows;
 mod symbol;
 mod work;
+
+pub use laws::one_tree;

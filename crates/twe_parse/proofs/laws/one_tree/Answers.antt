@@ -1,0 +1,5 @@
+use Rattle.twe_parse.proofs.CompleteExpressions.{full}
+use Rattle.twe_parse.proofs.laws.one_tree.Goals as goal
+
+pub returns : goal.returns
+returns c = ?
