@@ -1,5 +1,5 @@
 -- What the first tokens of an expression can be.
-use Rattle.std.proofs.Common.{◌≡◌, ℕ, Bool, true, false, List, [], ◌∷◌, ◌++◌, Option, None, Some, refl, sym}
+use Rattle.std.proofs.Common.{◌≡◌, ℕ, Bool, true, false, List, [], ◌∷◌, ◌++◌, Option, None, Some, not, refl, sym, ap}
 use Rattle.std.proofs.lemmas.Bool.{false≢true}
 use Rattle.twe_io.specs.declared.place.Place.{Place}
 use Rattle.twe_ast.specs.declared.expr.BinOp.{BinOp}
@@ -21,6 +21,7 @@ use Rattle.twe_parse.specs.Levels.{operator, level_of}
 use Rattle.twe_parse.specs.Written.{word, named, number}
 use Rattle.twe_parse.specs.WritesExpression.{WritesExpression, written, WritesShape, binary, negative, smallest, negation, literal, yes, no, variable, call, array, grid, parentheses}
 use Rattle.twe_parse.specs.inner.Rows.{followed, unary_row, args_row, return_value_row, after_minus_row, int_value_row}
+use Rattle.twe_parse.specs.inner.Stacks.{below}
 use Rattle.twe_parse.specs.inner.Terminals.{terminal_of}
 
 -- what an expression can begin with
@@ -74,3 +75,46 @@ pub value_begins : (terminal : Terminal) (is_final : Bool) → is_name terminal 
     int_value_row true is_final terminal ≡ followed (unary_row terminal) (symbols.Rule (parts.Climb 0) ∷ symbols.Token fixed.Semicolon ∷ symbols.Do (Stmt (stmts.Let is_final locals.Int)) ∷ [])
 value_begins next.Name is_final other = absurd (false≢true (sym other))
 value_begins _ is_final other = refl
+
+-- a `.`
+abbrev pub is_dot : Terminal → Bool
+is_dot (next.Fixed fixed.Dot) = true
+is_dot _ = false
+
+abbrev pub dotless : List Token → Bool
+dotless [] = true
+dotless (token ∷ tokens) = not (is_dot (terminal_of token.kind))
+
+operator_no_dot : (op : BinOp) → is_dot (next.Fixed (operator op)) ≡ false
+operator_no_dot operators.Or = refl
+operator_no_dot operators.And = refl
+operator_no_dot operators.Equal = refl
+operator_no_dot operators.NotEqual = refl
+operator_no_dot operators.Less = refl
+operator_no_dot operators.LessEqual = refl
+operator_no_dot operators.Greater = refl
+operator_no_dot operators.GreaterEqual = refl
+operator_no_dot operators.Add = refl
+operator_no_dot operators.Sub = refl
+operator_no_dot operators.Mul = refl
+operator_no_dot operators.Div = refl
+operator_no_dot operators.Rem = refl
+
+mutual
+  -- no `.` follows the name that an expression begins with
+  pub second_token : {level : ℕ} {e : Expression} {tokens rest : List Token} → WritesExpression level e tokens rest → dotless rest ≡ true → begins_so is_name tokens ≡ true → dotless (below tokens) ≡ true
+  second_token (written shape) ends name = second_of_shape shape ends name
+
+  second_of_shape : {level : ℕ} {shape : Shape} {tokens rest : List Token} → WritesShape level shape tokens rest → dotless rest ≡ true → begins_so is_name tokens ≡ true → dotless (below tokens) ≡ true
+  second_of_shape (binary {op = op} le left right) ends name = second_token left (ap not (operator_no_dot op)) name
+  second_of_shape (negative other operand) ends name = absurd (false≢true name)
+  second_of_shape smallest ends name = absurd (false≢true name)
+  second_of_shape (negation operand) ends name = absurd (false≢true name)
+  second_of_shape literal ends name = absurd (false≢true name)
+  second_of_shape yes ends name = absurd (false≢true name)
+  second_of_shape no ends name = absurd (false≢true name)
+  second_of_shape variable ends name = ends
+  second_of_shape (call args) ends name = refl
+  second_of_shape (array index) ends name = refl
+  second_of_shape (grid row column) ends name = refl
+  second_of_shape (parentheses inside) ends name = absurd (false≢true name)
