@@ -1,4 +1,6 @@
 pub mod CompleteExpressions
+pub mod CompleteItems
+pub mod CompletePaths
 pub mod CompleteStatements
 pub mod FirstTokens
 pub mod Joining
