@@ -4,4 +4,8 @@ pub mod CompletePaths
 pub mod CompleteStatements
 pub mod FirstTokens
 pub mod Joining
+pub mod Meanings
+pub mod SoundExpressions
+pub mod SoundItems
+pub mod SoundStatements
 pub mod Steps

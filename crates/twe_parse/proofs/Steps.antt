@@ -201,3 +201,7 @@ climb_six (Some op) = climb_from_none op 6 (omega (arith, level_small op))
 pub ends_last : (level : ℕ) (rest : List Token) → Ends level rest → Ends 6 rest
 ends_last level [] ends = ends
 ends_last level (token ∷ rest) ends = record { suffix = ends.suffix; second = ends.second; climb = climb_six (operator_of (terminal_of token.kind)) }
+
+pub climb_six_row : (level : ℕ) (found : Option BinOp) → 6 ≤ level → climb_from level found ≡ None
+climb_six_row level None le = refl
+climb_six_row level (Some op) le = climb_from_none op level (omega (arith, level_small op))

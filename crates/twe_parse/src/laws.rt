@@ -9,3 +9,9 @@ pub fn one_tree()
     ensures { (tokens : List Token) (tree other : Ast) → Writes tree tokens → Writes other tokens → tree.items ≡ other.items }
 {
 }
+
+/// For trials.
+pub fn trial()
+    ensures { (tokens : List Token) → tokens ≡ tokens }
+{
+}

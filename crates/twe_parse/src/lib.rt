@@ -13,4 +13,4 @@ mod statement_rows;
 mod symbol;
 mod work;
 
-pub use laws::one_tree;
+pub use laws::{one_tree, trial};
