@@ -5,6 +5,7 @@ pub mod CompleteStatements
 pub mod FirstTokens
 pub mod Joining
 pub mod Meanings
+pub mod Sound
 pub mod SoundExpressions
 pub mod SoundItems
 pub mod SoundStatements

@@ -31,7 +31,7 @@ use Rattle.twe_parse.proofs.Meanings.{Below, HasExpression, HasValue, Means, Rea
 use Rattle.twe_parse.proofs.Steps.{operator_again, operator_row, level_small, binds_less, climb_six_row, le_from_true}
 
 -- an expression may stand where one that binds less tightly may
-lower : {level : ℕ} {e : Expression} {tokens rest : List Token} → WritesExpression level e tokens rest → (low : ℕ) → low ≤ level → WritesExpression low e tokens rest
+pub lower : {level : ℕ} {e : Expression} {tokens rest : List Token} → WritesExpression level e tokens rest → (low : ℕ) → low ≤ level → WritesExpression low e tokens rest
 lower (written (binary le left right)) low lower_le = written (binary (omega arith) left right)
 lower (written (negative other operand)) low lower_le = written (negative other operand)
 lower (written smallest) low lower_le = written smallest

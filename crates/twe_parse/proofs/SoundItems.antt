@@ -30,11 +30,11 @@ first_of : (tokens more rest : List Token) → ((item : Declaration) × WritesIt
 first_of tokens more rest (item, writes) (ends, (all, others)) = (ends, (_, more_items writes others))
 
 task_of : (deterministic : Bool) (place : Place) (tokens rest : List Token) → Means (parts.TaskReturns deterministic) tokens rest → (item : Declaration) × WritesItem item (word fixed.Task place ∷ tokens) rest
-task_of deterministic place tokens rest (decl, writes) = (_, task writes)
+task_of deterministic place tokens rest (d, writes) = (_, task writes)
 
 deterministic_of : (deterministic : Bool) (place word_place : Place) (tokens rest : List Token) → Means (parts.TaskReturns deterministic) tokens rest
     → (item : Declaration) × WritesItem item (word fixed.Deterministic place ∷ word fixed.Task word_place ∷ tokens) rest
-deterministic_of deterministic place word_place tokens rest (decl, writes) = (_, deterministic_task writes)
+deterministic_of deterministic place word_place tokens rest (d, writes) = (_, deterministic_task writes)
 
 -- the parameters, the effects and the block, from after the `(`
 rest_of_decl : (in_task : Bool) (type : ReturnType) (place : Place) (found : Name) (opening : Place) (tokens more rest : List Token) → Means parts.Params tokens more → HasEffects in_task more rest
