@@ -2,6 +2,8 @@ pub mod CompleteExpressions
 pub mod CompleteItems
 pub mod CompletePaths
 pub mod CompleteStatements
+pub mod Completion
+pub mod Fine
 pub mod FirstTokens
 pub mod Joining
 pub mod Meanings
