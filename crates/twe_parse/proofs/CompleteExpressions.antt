@@ -59,7 +59,7 @@ negated : (shape : Shape) (first : Token) (others rest : List Token) (place : Pl
     → after_minus_row (terminal_of first.kind) ≡ followed (unary_row (terminal_of first.kind)) (Rule (parts.Climb 6) ∷ Do (Expr acts.Negate) ∷ [])
     → ((later : List Symbol) (kept_work : Work) → result_from (first ∷ others) (Rule parts.Unary ∷ Rule (parts.Climb 6) ∷ later) kept_work ≡ result_from rest later (with_expr (expression first.place shape) kept_work))
     → result_from (word fixed.Minus place ∷ first ∷ others) (Rule parts.Unary ∷ Rule (parts.Climb low) ∷ todo) work
-      ≡ result_from rest (Rule (parts.Climb low) ∷ todo) (with_expr (expression place (Negative (expression first.place shape))) work)
+    ≡ result_from rest (Rule (parts.Climb low) ∷ todo) (with_expr (expression place (Negative (expression first.place shape))) work)
 negated shape first others rest place low todo work begins taken =
     as_unary parts.AfterMinus (Rule (parts.Climb 6) ∷ Do (Expr acts.Negate) ∷ []) first others (Rule (parts.Climb low) ∷ todo) (kept (word fixed.Minus place) true work) begins refl
     ∙ taken (Do (Expr acts.Negate) ∷ Rule (parts.Climb low) ∷ todo) (kept (word fixed.Minus place) true work)
@@ -69,7 +69,7 @@ negated shape first others rest place low todo work begins taken =
 minus : {shape : Shape} {first : Token} {others rest : List Token} → WritesShape 6 shape (first ∷ others) rest → is_smallest first.kind ≡ false → (place : Place) (low : ℕ) (todo : List Symbol) (work : Work)
     → ((later : List Symbol) (kept_work : Work) → result_from (first ∷ others) (Rule parts.Unary ∷ Rule (parts.Climb 6) ∷ later) kept_work ≡ result_from rest later (with_expr (expression first.place shape) kept_work))
     → result_from (word fixed.Minus place ∷ first ∷ others) (Rule parts.Unary ∷ Rule (parts.Climb low) ∷ todo) work
-      ≡ result_from rest (Rule (parts.Climb low) ∷ todo) (with_expr (expression place (Negative (expression first.place shape))) work)
+    ≡ result_from rest (Rule (parts.Climb low) ∷ todo) (with_expr (expression place (Negative (expression first.place shape))) work)
 minus (binary {op = op} le left right) other place low todo work taken = let small = level_small op in absurd (omega arith)
 minus {rest = rest} (literal {value = value} {place = inside}) other place low todo work taken =
     do_now (Expr acts.MinusLiteral) rest (Rule (parts.Climb low) ∷ todo) _
@@ -88,8 +88,8 @@ minus {shape = s} {first = f} {others = o} {rest = r} (parentheses inside) other
 mutual
   -- after an operand or a left operand the machine stands where more may come
   grow : {level : ℕ} {shape : Shape} {first : Token} {others rest : List Token} → WritesShape level shape (first ∷ others) rest → (low : ℕ) → low ≤ level → Ends (level + 1) rest
-    → (todo : List Symbol) (work : Work)
-    → result_from (first ∷ others) (Rule parts.Unary ∷ Rule (parts.Climb low) ∷ todo) work ≡ result_from rest (Rule (parts.Climb low) ∷ todo) (with_expr (expression first.place shape) work)
+      → (todo : List Symbol) (work : Work)
+      → result_from (first ∷ others) (Rule parts.Unary ∷ Rule (parts.Climb low) ∷ todo) work ≡ result_from rest (Rule (parts.Climb low) ∷ todo) (with_expr (expression first.place shape) work)
   grow {level = level} {rest = rest} (binary {op = op} {place = place} {others = others} le (written {shape = shape} {first = first} left) right) low low_le ends todo work =
       grow left low (omega arith) (ends_at_operator op (level_of op + 1) place others (omega arith)) todo work
       ∙ by_this_row (parts.Climb low) (operator_row op low) (word (operator op) place) others todo (with_expr (expression first.place shape) work) (climb_taken op low (omega arith))
@@ -124,13 +124,13 @@ mutual
 
   -- the whole expression
   pub full : {level : ℕ} {e : Expression} {tokens rest : List Token} → WritesExpression level e tokens rest → Ends level rest → (todo : List Symbol) (work : Work)
-    → result_from tokens (Rule parts.Unary ∷ Rule (parts.Climb level) ∷ todo) work ≡ result_from rest todo (with_expr e work)
+      → result_from tokens (Rule parts.Unary ∷ Rule (parts.Climb level) ∷ todo) work ≡ result_from rest todo (with_expr e work)
   full {level = level} {rest = rest} (written {shape = shape} {first = first} written_shape) ends todo work =
       grow written_shape level (omega arith) (ends_higher level (level + 1) rest (omega arith) ends) todo work
       ∙ climb_ends level rest todo (with_expr (expression first.place shape) work) ends
 
   pub all_args : {args : Arguments} {tokens rest : List Token} → WritesArguments args tokens rest → (done : List Expression) (outer : List (List Expression)) (todo : List Symbol) (work : Work)
-    → result_from tokens (Rule parts.Args ∷ todo) (with_args done outer work) ≡ result_from rest todo (with_args (done ++ list_of args) outer work)
+      → result_from tokens (Rule parts.Args ∷ todo) (with_args done outer work) ≡ result_from rest todo (with_args (done ++ list_of args) outer work)
   all_args {rest = rest} no_arguments done outer todo work = ap (λ args. result_from rest todo (with_args args outer work)) (sym (append-nil done))
   all_args (arguments {tokens = []} one written_more) done outer todo work = absurd (false≢true (expression_begins one))
   all_args {rest = rest} (arguments {first = first} {others = others} {tokens = token ∷ tokens} {more = more} one written_more) done outer todo work =
@@ -141,7 +141,7 @@ mutual
       ∙ ap (λ args. result_from rest todo (with_args args outer work)) (append_assoc done (first ∷ []) (list_of others))
 
   more_args : {args : Arguments} {tokens rest : List Token} → MoreArguments args tokens rest → (done : List Expression) (outer : List (List Expression)) (todo : List Symbol) (work : Work)
-    → result_from tokens (Rule parts.MoreArgs ∷ todo) (with_args done outer work) ≡ result_from rest todo (with_args (done ++ list_of args) outer work)
+      → result_from tokens (Rule parts.MoreArgs ∷ todo) (with_args done outer work) ≡ result_from rest todo (with_args (done ++ list_of args) outer work)
   more_args {rest = rest} no_more_arguments done outer todo work = ap (λ args. result_from rest todo (with_args args outer work)) (sym (append-nil done))
   more_args {rest = rest} (more_arguments {first = first} {others = others} {more = more} one written_more) done outer todo work =
       full one (more_args_end written_more) (Do (Expr acts.KeepArg) ∷ Rule parts.MoreArgs ∷ todo) (with_args done outer work)

@@ -69,7 +69,7 @@ params_taken (params {first = first} {tokens = tokens} more) todo work =
 rest_taken : (in_task : Bool) {names : List Name} {effects : List Clause} {body : Statements} {tokens more others rest : List Token} {brace : Place}
     → WritesParams names tokens more → WritesEffects effects more (word fixed.OpenBrace brace ∷ others) → WritesStatements in_task body others rest → (name : Name) (done : List Declaration) (todo : List Symbol)
     → result_from (below tokens) (Rule parts.Params ∷ Rule (parts.Effects in_task) ∷ todo) (kept (named name) false (only_items done))
-      ≡ result_from rest todo (record (only_items done) { names = name ∷ []; listed = names; clauses = effects; blocks = body ∷ [] })
+    ≡ result_from rest todo (record (only_items done) { names = name ∷ []; listed = names; clauses = effects; blocks = body ∷ [] })
 rest_taken in_task {names = names} {effects = effects} {others = others} written_params effects_written body name done todo =
     params_taken written_params (Rule (parts.Effects in_task) ∷ todo) (kept (named name) false (only_items done))
     ∙ effects_taken in_task effects_written todo (with_listed names (kept (named name) false (only_items done)))
@@ -78,7 +78,7 @@ rest_taken in_task {names = names} {effects = effects} {others = others} written
 
 initial_taken : {start : Option Initial} {tokens rest : List Token} {end : Place} → WritesInitial start tokens (word fixed.Semicolon end ∷ rest) → (name : Name) (path : CellPath) (done : List Declaration) (todo : List Symbol)
     → result_from tokens (Rule (parts.CellRest cells.Scalar) ∷ todo) (record (only_items done) { names = name ∷ []; cell_elems = path.elems; places = path.place ∷ [] })
-      ≡ result_from rest todo (only_items (done ++ items.Cell (record { name = name; shape = shapes.Scalar start; path = path }) ∷ []))
+    ≡ result_from rest todo (only_items (done ++ items.Cell (record { name = name; shape = shapes.Scalar start; path = path }) ∷ []))
 initial_taken {rest = rest} not_written name path done todo = do_now (Item (acts.Cell cells.Scalar)) rest todo _
 initial_taken {rest = rest} initial name path done todo = do_now (Item (acts.CellInitial false)) rest todo _
 initial_taken {rest = rest} negative_initial name path done todo = do_now (Item (acts.CellInitial true)) rest todo _
@@ -87,7 +87,7 @@ initial_taken {rest = rest} negative_initial name path done todo = do_now (Item 
 method_taken : (type : ReturnType) {names : List Name} {effects : List Clause} {body : Statements} {tokens more others rest : List Token} {brace : Place}
     → WritesParams names tokens more → WritesEffects effects more (word fixed.OpenBrace brace ∷ others) → WritesStatements false body others rest → (name : Name) (done : List Declaration) (todo : List Symbol)
     → result_from (below tokens) (Rule parts.Params ∷ Rule (parts.Effects false) ∷ Do (Item (acts.Method type)) ∷ Rule parts.Items ∷ todo) (kept (named name) false (only_items done))
-      ≡ result_from rest (Rule parts.Items ∷ todo) (only_items (done ++ items.Method (record { returns = type; name = name; params = names; effects = effects; body = body }) ∷ []))
+    ≡ result_from rest (Rule parts.Items ∷ todo) (only_items (done ++ items.Method (record { returns = type; name = name; params = names; effects = effects; body = body }) ∷ []))
 method_taken type {rest = rest} written_params effects body name done todo =
     rest_taken false written_params effects body name done (Do (Item (acts.Method type)) ∷ Rule parts.Items ∷ todo)
     ∙ do_now (Item (acts.Method type)) rest (Rule parts.Items ∷ todo) _
@@ -96,7 +96,7 @@ method_taken type {rest = rest} written_params effects body name done todo =
 task_taken : (deterministic : Bool) (type : ReturnType) {names : List Name} {effects : List Clause} {body : Statements} {tokens more others rest : List Token} {brace : Place}
     → WritesParams names tokens more → WritesEffects effects more (word fixed.OpenBrace brace ∷ others) → WritesStatements true body others rest → (name : Name) (done : List Declaration) (todo : List Symbol)
     → result_from (below tokens) (Rule parts.Params ∷ Rule (parts.Effects true) ∷ Do (Item (acts.Task deterministic type)) ∷ Rule parts.Items ∷ todo) (kept (named name) false (only_items done))
-      ≡ result_from rest (Rule parts.Items ∷ todo) (only_items (done ++ items.Task deterministic (record { returns = type; name = name; params = names; effects = effects; body = body }) ∷ []))
+    ≡ result_from rest (Rule parts.Items ∷ todo) (only_items (done ++ items.Task deterministic (record { returns = type; name = name; params = names; effects = effects; body = body }) ∷ []))
 task_taken deterministic type {rest = rest} written_params effects body name done todo =
     rest_taken true written_params effects body name done (Do (Item (acts.Task deterministic type)) ∷ Rule parts.Items ∷ todo)
     ∙ do_now (Item (acts.Task deterministic type)) rest (Rule parts.Items ∷ todo) _

@@ -123,13 +123,13 @@ more_clauses_taken in_task write {others = others} (more_clauses {others = cs} (
     ∙ do_now (Item (acts.KeepClause write)) tokens (Rule (parts.Path in_task true) ∷ todo) _
     ∙ clause_taken in_task (clause {place = record { line = 0; col = 0 }} one more) todo (acted (Item (acts.KeepClause write)) (acted (Item acts.KeepPath) work)) (λ later. result_from others (block_after in_task todo) (with_clauses true cs (record later { elems = [] }))) (more_clauses_taken in_task true following todo)
     ∙ ap (λ all. result_from others (block_after in_task todo) (record (acted (Item acts.KeepPath) work) { clauses = all; paths = [] }))
-        (append_assoc work.clauses ((record { write = write; paths = (acted (Item acts.KeepPath) work).paths }) ∷ []) ((record { write = true; paths = first ∷ paths }) ∷ cs))
+    (append_assoc work.clauses ((record { write = write; paths = (acted (Item acts.KeepPath) work).paths }) ∷ []) ((record { write = true; paths = first ∷ paths }) ∷ cs))
 more_clauses_taken in_task write {others = others} (more_clauses {others = cs} (clause {write = false} {first = first} {others = paths} {tokens = tokens} one more) following) todo work =
     do_now (Item acts.KeepPath) tokens (Do (Item (acts.KeepClause write)) ∷ Rule (parts.Path in_task false) ∷ todo) work
     ∙ do_now (Item (acts.KeepClause write)) tokens (Rule (parts.Path in_task false) ∷ todo) _
     ∙ clause_taken in_task (clause {place = record { line = 0; col = 0 }} one more) todo (acted (Item (acts.KeepClause write)) (acted (Item acts.KeepPath) work)) (λ later. result_from others (block_after in_task todo) (with_clauses false cs (record later { elems = [] }))) (more_clauses_taken in_task false following todo)
     ∙ ap (λ all. result_from others (block_after in_task todo) (record (acted (Item acts.KeepPath) work) { clauses = all; paths = [] }))
-        (append_assoc work.clauses ((record { write = write; paths = (acted (Item acts.KeepPath) work).paths }) ∷ []) ((record { write = false; paths = first ∷ paths }) ∷ cs))
+    (append_assoc work.clauses ((record { write = write; paths = (acted (Item acts.KeepPath) work).paths }) ∷ []) ((record { write = false; paths = first ∷ paths }) ∷ cs))
 
 -- no effects are in work
 abbrev pub no_effects : Work → Work

@@ -136,8 +136,8 @@ arm_after in_task todo =
 mutual
   -- one statement more stands in the open block
   statement_taken : {in_task : Bool} {s : Statement} {tokens rest : List Token} → WritesStatement in_task s tokens rest → NoElse in_task rest
-    → (done : List Statement) (outer : List (List Statement)) (todo : List Symbol) (work : Work)
-    → result_from tokens (Rule (parts.Statements in_task) ∷ todo) (with_lists done outer work) ≡ result_from rest (Rule (parts.Statements in_task) ∷ todo) (with_lists (done ++ s ∷ []) outer work)
+      → (done : List Statement) (outer : List (List Statement)) (todo : List Symbol) (work : Work)
+      → result_from tokens (Rule (parts.Statements in_task) ∷ todo) (with_lists done outer work) ≡ result_from rest (Rule (parts.Statements in_task) ∷ todo) (with_lists (done ++ s ∷ []) outer work)
   statement_taken {in_task = in_task} {rest = rest} (block {others = others} body) goes done outer todo work =
       do_now (Stmt acts.NewBlock) others (Rule (parts.Statements in_task) ∷ Do (Stmt acts.BlockStatement) ∷ Rule (parts.Statements in_task) ∷ todo) (with_lists done outer work)
       ∙ statements_taken body [] (done ∷ outer) (Do (Stmt acts.BlockStatement) ∷ Rule (parts.Statements in_task) ∷ todo) work
@@ -173,8 +173,8 @@ mutual
       ∙ arms_taken arms goes [] work.arms done outer (Rule (parts.Statements in_task) ∷ todo) work
   statement_taken {in_task = in_task} {rest = rest} (while {condition = condition} {place = place} {close = close} {brace = brace} {more = more} test body) goes done outer todo work =
       full test (at_paren close (word fixed.OpenBrace brace ∷ more))
-        (symbols.Token fixed.CloseParen ∷ symbols.Token fixed.OpenBrace ∷ Do (Stmt acts.NewBlock) ∷ Rule (parts.Statements in_task) ∷ Do (Stmt acts.While) ∷ Rule (parts.Statements in_task) ∷ todo)
-        (kept (word fixed.While place) true (with_lists done outer work))
+      (symbols.Token fixed.CloseParen ∷ symbols.Token fixed.OpenBrace ∷ Do (Stmt acts.NewBlock) ∷ Rule (parts.Statements in_task) ∷ Do (Stmt acts.While) ∷ Rule (parts.Statements in_task) ∷ todo)
+      (kept (word fixed.While place) true (with_lists done outer work))
       ∙ do_now (Stmt acts.NewBlock) more (Rule (parts.Statements in_task) ∷ Do (Stmt acts.While) ∷ Rule (parts.Statements in_task) ∷ todo) _
       ∙ statements_taken body [] (done ∷ outer) (Do (Stmt acts.While) ∷ Rule (parts.Statements in_task) ∷ todo) (with_expr condition (kept (word fixed.While place) true work))
       ∙ do_now (Stmt acts.While) rest (Rule (parts.Statements in_task) ∷ todo) _
@@ -182,7 +182,7 @@ mutual
   statement_taken (return_value {others = []} value) goes done outer todo work = absurd (false≢true (expression_begins value))
   statement_taken {in_task = in_task} {rest = rest} (return_value {place = place} {end = end} {others = token ∷ others} value) goes done outer todo work =
       as_unary parts.ReturnValue (Rule (parts.Climb 0) ∷ symbols.Token fixed.Semicolon ∷ Do (Stmt acts.Return) ∷ []) token others (Rule (parts.Statements in_task) ∷ todo) (kept (word fixed.Return place) true (with_lists done outer work))
-        (return_begins (terminal_of token.kind) (expression_begins value)) refl
+      (return_begins (terminal_of token.kind) (expression_begins value)) refl
       ∙ full value (at_semicolon end rest) (symbols.Token fixed.Semicolon ∷ Do (Stmt acts.Return) ∷ Rule (parts.Statements in_task) ∷ todo) (kept (word fixed.Return place) true (with_lists done outer work))
       ∙ do_now (Stmt acts.Return) rest (Rule (parts.Statements in_task) ∷ todo) _
   statement_taken {in_task = in_task} {rest = rest} (print {place = place} {close = close} {end = end} value) goes done outer todo work =
@@ -212,8 +212,8 @@ mutual
 
   -- the whole block
   pub statements_taken : {in_task : Bool} {body : Statements} {tokens rest : List Token} → WritesStatements in_task body tokens rest
-    → (done : List Statement) (outer : List (List Statement)) (todo : List Symbol) (work : Work)
-    → result_from tokens (Rule (parts.Statements in_task) ∷ todo) (with_lists done outer work) ≡ result_from rest todo (record work { lists = outer; blocks = joined done body ∷ work.blocks })
+      → (done : List Statement) (outer : List (List Statement)) (todo : List Symbol) (work : Work)
+      → result_from tokens (Rule (parts.Statements in_task) ∷ todo) (with_lists done outer work) ≡ result_from rest todo (record work { lists = outer; blocks = joined done body ∷ work.blocks })
   statements_taken {rest = rest} (closed {close = close}) done outer todo work =
       do_now (Stmt acts.CloseBlock) rest todo _
       ∙ ap (λ body. result_from rest todo (record work { lists = outer; blocks = body ∷ work.blocks })) (joined_end done close)
@@ -224,12 +224,12 @@ mutual
 
   -- an `if` and all that belongs to it, from after the word `if`
   arms_taken : {in_task : Bool} {arms : Arms} {tokens rest : List Token} → WritesArms in_task arms tokens rest → NoElse in_task rest
-    → (prior : List Arm) (others : List (List Arm)) (done : List Statement) (outer : List (List Statement)) (todo : List Symbol) (work : Work)
-    → result_from (below tokens) (arm_after in_task todo) (with_arms prior others (with_lists done outer work)) ≡ result_from rest todo (record work { lists = (done ++ seen.If (joined_arms prior arms) ∷ []) ∷ outer; arms = others })
+      → (prior : List Arm) (others : List (List Arm)) (done : List Statement) (outer : List (List Statement)) (todo : List Symbol) (work : Work)
+      → result_from (below tokens) (arm_after in_task todo) (with_arms prior others (with_lists done outer work)) ≡ result_from rest todo (record work { lists = (done ++ seen.If (joined_arms prior arms) ∷ []) ∷ outer; arms = others })
   arms_taken {in_task = in_task} {rest = rest} (if_arm {condition = condition} {body = body} {next = next} {close = close} {brace = brace} {more = more} {third = third} test written_body following) goes prior others done outer todo work =
       full test (at_paren close (word fixed.OpenBrace brace ∷ more))
-        (symbols.Token fixed.CloseParen ∷ symbols.Token fixed.OpenBrace ∷ Do (Stmt acts.NewBlock) ∷ Rule (parts.Statements in_task) ∷ Do (Stmt acts.KeepArm) ∷ Rule (parts.AfterArm in_task) ∷ todo)
-        (with_arms prior others (with_lists done outer work))
+      (symbols.Token fixed.CloseParen ∷ symbols.Token fixed.OpenBrace ∷ Do (Stmt acts.NewBlock) ∷ Rule (parts.Statements in_task) ∷ Do (Stmt acts.KeepArm) ∷ Rule (parts.AfterArm in_task) ∷ todo)
+      (with_arms prior others (with_lists done outer work))
       ∙ do_now (Stmt acts.NewBlock) more (Rule (parts.Statements in_task) ∷ Do (Stmt acts.KeepArm) ∷ Rule (parts.AfterArm in_task) ∷ todo) _
       ∙ statements_taken written_body [] (done ∷ outer) (Do (Stmt acts.KeepArm) ∷ Rule (parts.AfterArm in_task) ∷ todo) (with_expr condition (with_arms prior others work))
       ∙ do_now (Stmt acts.KeepArm) third (Rule (parts.AfterArm in_task) ∷ todo) _
@@ -237,8 +237,8 @@ mutual
       ∙ ap (λ arms. result_from rest todo (record work { lists = (done ++ seen.If arms ∷ []) ∷ outer; arms = others })) (joined_arm prior condition body next)
 
   more_arms_taken : {in_task : Bool} {arms : Arms} {tokens rest : List Token} → MoreArms in_task arms tokens rest → NoElse in_task rest
-    → (prior : List Arm) (others : List (List Arm)) (done : List Statement) (outer : List (List Statement)) (todo : List Symbol) (work : Work)
-    → result_from tokens (Rule (parts.AfterArm in_task) ∷ todo) (with_arms prior others (with_lists done outer work)) ≡ result_from rest todo (record work { lists = (done ++ seen.If (joined_arms prior arms) ∷ []) ∷ outer; arms = others })
+      → (prior : List Arm) (others : List (List Arm)) (done : List Statement) (outer : List (List Statement)) (todo : List Symbol) (work : Work)
+      → result_from tokens (Rule (parts.AfterArm in_task) ∷ todo) (with_arms prior others (with_lists done outer work)) ≡ result_from rest todo (record work { lists = (done ++ seen.If (joined_arms prior arms) ∷ []) ∷ outer; arms = others })
   more_arms_taken {rest = []} no_more_arms goes prior others done outer todo work = absurd goes
   more_arms_taken {in_task = in_task} {rest = token ∷ rest} no_more_arms goes prior others done outer todo work =
       left_out (parts.AfterArm in_task) (Stmt acts.CloseIf) token rest todo (with_arms prior others (with_lists done outer work)) goes refl

@@ -3,6 +3,7 @@ pub mod CompleteItems
 pub mod CompletePaths
 pub mod CompleteStatements
 pub mod Completion
+pub mod Cuts
 pub mod Fine
 pub mod FirstTokens
 pub mod Joining
@@ -11,4 +12,5 @@ pub mod Sound
 pub mod SoundExpressions
 pub mod SoundItems
 pub mod SoundStatements
+pub mod State
 pub mod Steps

@@ -157,30 +157,30 @@ the_same f g same =
 
 module _ (tokens : List Token) (taken : (todo : List Symbol) (work end : Work) → result_from tokens todo work ≡ Some end → Reads todo tokens []) where
   name_read : (kind : TokenKind) (place : Place) (todo : List Symbol) (work end : Work)
-    → result_from ((record { kind = kind; place = place }) ∷ tokens) (symbols.Name ∷ todo) work ≡ Some end → Reads (symbols.Name ∷ todo) ((record { kind = kind; place = place }) ∷ tokens) []
+      → result_from ((record { kind = kind; place = place }) ∷ tokens) (symbols.Name ∷ todo) work ≡ Some end → Reads (symbols.Name ∷ todo) ((record { kind = kind; place = place }) ∷ tokens) []
   name_read (kinds.Name text) place todo work end is = a_name {name = record { text = text; place = place }} (taken todo _ end is)
   name_read _ place todo work end is = absurd (no_result is)
 
   literal_read : (kind : TokenKind) (place : Place) (todo : List Symbol) (work end : Work)
-    → result_from ((record { kind = kind; place = place }) ∷ tokens) (symbols.Literal ∷ todo) work ≡ Some end → Reads (symbols.Literal ∷ todo) ((record { kind = kind; place = place }) ∷ tokens) []
+      → result_from ((record { kind = kind; place = place }) ∷ tokens) (symbols.Literal ∷ todo) work ≡ Some end → Reads (symbols.Literal ∷ todo) ((record { kind = kind; place = place }) ∷ tokens) []
   literal_read (kinds.Literal value) place todo work end is = a_literal (taken todo _ end is)
   literal_read _ place todo work end is = absurd (no_result is)
 
   fixed_read : (f g : Fixed) (place : Place) (todo : List Symbol) (work end : Work) (test : Bool) → same_fixed f g ≡ test
-    → option_and_then (goes_on tokens) (expected test (word g place) todo work) ≡ Some end → Reads (symbols.Token f ∷ todo) (word g place ∷ tokens) []
+      → option_and_then (goes_on tokens) (expected test (word g place) todo work) ≡ Some end → Reads (symbols.Token f ∷ todo) (word g place ∷ tokens) []
   fixed_read f g place todo work end false is found = absurd (no_result found)
   fixed_read f g place todo work end true is found =
       subst (λ (h : Fixed). Reads (symbols.Token f ∷ todo) (word h place ∷ tokens) []) (the_same f g is) (a_token (taken todo (kept (word g place) false work) end found))
 
   token_read : (f : Fixed) (kind : TokenKind) (place : Place) (todo : List Symbol) (work end : Work)
-    → result_from ((record { kind = kind; place = place }) ∷ tokens) (symbols.Token f ∷ todo) work ≡ Some end → Reads (symbols.Token f ∷ todo) ((record { kind = kind; place = place }) ∷ tokens) []
+      → result_from ((record { kind = kind; place = place }) ∷ tokens) (symbols.Token f ∷ todo) work ≡ Some end → Reads (symbols.Token f ∷ todo) ((record { kind = kind; place = place }) ∷ tokens) []
   token_read f (kinds.Fixed g) place todo work end is = fixed_read f g place todo work end (same_fixed f g) refl is
   token_read f _ place todo work end is = absurd (no_result is)
 
   part_read : (part : Part) (token : Token) (todo : List Symbol) (work end : Work) (found : Option Row) (skip : Option Act) (left : Work → Option Machine)
-    → row_of part (terminal_of token.kind) ≡ found → otherwise part ≡ skip
-    → ((act : Act) → option_and_then (goes_on tokens) (left (acted act work)) ≡ Some end → Reads todo (token ∷ tokens) [])
-    → option_and_then (goes_on tokens) (by_row found skip token todo work left) ≡ Some end → Reads (symbols.Rule part ∷ todo) (token ∷ tokens) []
+      → row_of part (terminal_of token.kind) ≡ found → otherwise part ≡ skip
+      → ((act : Act) → option_and_then (goes_on tokens) (left (acted act work)) ≡ Some end → Reads todo (token ∷ tokens) [])
+      → option_and_then (goes_on tokens) (by_row found skip token todo work left) ≡ Some end → Reads (symbols.Rule part ∷ todo) (token ∷ tokens) []
   part_read part token todo work end (Some row) skip left is skips others result =
       let halves = reads_split row.todo todo tokens [] (taken (row.todo ++ todo) (kept token row.mark work) end result) in
       a_part {part = part} (row_means part token.kind token.place tokens halves.0 (subst (λ (r : Option Row). ReadsRow r tokens halves.0) (sym is) halves.1)) halves.2

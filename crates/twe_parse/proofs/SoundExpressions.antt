@@ -59,13 +59,15 @@ joined_by op place left right before others rest (written {shape = shape} {first
 
 -- an operator and its right operand, after a left one
 pub climb_step : (op : BinOp) (level : ℕ) (place : Place) (tokens rest : List Token) → level ≤ level_of op → Reads (operator_row op level).todo tokens rest → Means (parts.Climb level) (word (operator op) place ∷ tokens) rest
-climb_step op level place tokens rest le (a_part {more = more} operand (a_part {more = third} inner (an_act (a_part outer done)))) =
-    (outer.0, λ before higher left low high writes_left below_left.
+climb_step op level place tokens rest le (a_part {more = more} operand (a_part {more = third} inner (an_act (a_part outer done)))) = (
+  outer.0,
+  λ before higher left low high writes_left below_left.
       let small = level_small op in
       let right = whole (level_of op + 1) tokens more third operand inner (omega arith) in
       let binds : level_of op < higher + 1 = binds_less op (higher + 1) (sym (ap (climb_from (higher + 1)) (operator_again op)) ∙ below_left) in
       let made = joined_by op place left right.0 before tokens third (lower writes_left (level_of op) (omega arith)) right.1 in
-      outer.1 before (level_of op) made.0 le (omega arith) made.1 inner.0)
+      outer.1 before (level_of op) made.0 le (omega arith) made.1 inner.0,
+)
 
 climb_by_test : (op : BinOp) (level : ℕ) (place : Place) (tokens rest : List Token) (test : Bool) → nat_le level (level_of op) ≡ test
     → ReadsRow (if test then Some (operator_row op level) else None) tokens rest → Means (parts.Climb level) (word (operator op) place ∷ tokens) rest
@@ -121,7 +123,7 @@ negated : (kind : TokenKind) (place inside : Place) (tokens rest : List Token) �
 negated kind place inside tokens rest other reads = finish (followed_means (unary_row (terminal_of kind)) (Rule (parts.Climb 6) ∷ Do (Expr exprs.Negate) ∷ []) tokens rest reads)
   where
     finish : (middle : List Token) × ReadsRow (unary_row (terminal_of kind)) tokens middle × Reads (Rule (parts.Climb 6) ∷ Do (Expr exprs.Negate) ∷ []) middle rest
-      → HasExpression 6 (word fixed.Minus place ∷ (record { kind = kind; place = inside }) ∷ tokens) rest
+        → HasExpression 6 (word fixed.Minus place ∷ (record { kind = kind; place = inside }) ∷ tokens) rest
     finish (middle, operand, a_part {more = third} climbs (an_act done)) =
         let e = whole 6 ((record { kind = kind; place = inside }) ∷ tokens) middle rest (unary_means kind inside tokens middle operand) climbs (omega arith) in (_, written (negative other e.1))
 
@@ -148,7 +150,7 @@ pub operand_then : (kind : TokenKind) (place : Place) (tokens rest : List Token)
 operand_then kind place tokens rest more reads = finish (followed_means (unary_row (terminal_of kind)) (Rule (parts.Climb 0) ∷ more) tokens rest reads)
   where
     finish : (middle : List Token) × ReadsRow (unary_row (terminal_of kind)) tokens middle × Reads (Rule (parts.Climb 0) ∷ more) middle rest
-      → (middle : List Token) × HasExpression 0 ((record { kind = kind; place = place }) ∷ tokens) middle × Reads more middle rest
+        → (middle : List Token) × HasExpression 0 ((record { kind = kind; place = place }) ∷ tokens) middle × Reads more middle rest
     finish (middle, operand, a_part {more = third} climbs reads) = (third, whole 0 ((record { kind = kind; place = place }) ∷ tokens) middle third (unary_means kind place tokens middle operand) climbs (omega arith), reads)
 
 one_argument : (tokens rest : List Token) → ((middle : List Token) × HasExpression 0 tokens middle × Reads (Do (Expr exprs.KeepArg) ∷ Rule parts.MoreArgs ∷ []) middle rest) → Means parts.Args tokens rest

@@ -69,7 +69,7 @@ array_of type found opening size inside close here tokens rest (path, more, writ
 
 grid_of : (type : Place) (found : Name) (opening : Place) (rows : ℕ) (inside close second : Place) (columns : ℕ) (within last here : Place) (tokens rest : List Token) → Means (parts.CellPath cells.Grid) tokens rest
     → (item : Declaration) × WritesItem item (word fixed.Int type ∷ named found ∷ word fixed.OpenBracket opening ∷ number rows inside ∷ word fixed.CloseBracket close
-        ∷ word fixed.OpenBracket second ∷ number columns within ∷ word fixed.CloseBracket last ∷ word fixed.In here ∷ tokens) rest
+    ∷ word fixed.OpenBracket second ∷ number columns within ∷ word fixed.CloseBracket last ∷ word fixed.In here ∷ tokens) rest
 grid_of type found opening rows inside close second columns within last here tokens rest (path, more, writes, (ending, is)) = (_, grid (subst (λ (left : List Token). WritesCellPath path tokens left) is writes))
 
 pub after_length_means : (kind : TokenKind) (place : Place) (tokens rest : List Token) → ReadsRow (after_length_row (terminal_of kind)) tokens rest → Means parts.AfterLength ((record { kind = kind; place = place }) ∷ tokens) rest

@@ -3,8 +3,10 @@ pub mod ExprActs
 pub mod ItemActs
 pub mod Machine
 pub mod Operators
+pub mod Parsing
 pub mod Rows
 pub mod Stacks
 pub mod StmtActs
+pub mod Taking
 pub mod Terminals
 pub mod Works

@@ -3,9 +3,9 @@ ghost use Rattle.std.specs.Prelude.{◌≡◌, IfOk};
 ghost use Rattle.twe_parse.specs.inner.Rows.{after_minus_row, args_row, climb_row, more_args_row, second_index_row, suffix_row, unary_row, followed};
 ghost use Rattle.twe_parse.specs.inner.Operators.{operator_of};
 
-use crate::row::{Row, marked, plain};
 use crate::operator::{level_of, operator_of};
-use crate::symbol::Act::{Expr};
+use crate::row::{Row, marked, plain};
+use crate::symbol::Act::Expr;
 use crate::symbol::Symbol::{Do, Rule, Token};
 use crate::symbol::{ExprAct, Part, Symbol, Terminal};
 use std::alloc::Global;
@@ -21,9 +21,24 @@ pub(crate) fn unary(alloc: Global, next: Terminal) -> Result<Option<Row>, Memory
         Terminal::Fixed(Fixed::True) => marked(alloc, &[Do(Expr(ExprAct::Truth(true)))]),
         Terminal::Fixed(Fixed::False) => marked(alloc, &[Do(Expr(ExprAct::Truth(false)))]),
         Terminal::Name => plain(alloc, &[Rule(Part::Suffix)]),
-        Terminal::Fixed(Fixed::OpenParen) => marked(alloc, &[Rule(Part::Unary), Rule(Part::Climb(0)), Token(Fixed::CloseParen), Do(Expr(ExprAct::Enclose))]),
+        Terminal::Fixed(Fixed::OpenParen) => marked(
+            alloc,
+            &[
+                Rule(Part::Unary),
+                Rule(Part::Climb(0)),
+                Token(Fixed::CloseParen),
+                Do(Expr(ExprAct::Enclose)),
+            ],
+        ),
         Terminal::Fixed(Fixed::Minus) => marked(alloc, &[Rule(Part::AfterMinus)]),
-        Terminal::Fixed(Fixed::Not) => marked(alloc, &[Rule(Part::Unary), Rule(Part::Climb(6)), Do(Expr(ExprAct::Not))]),
+        Terminal::Fixed(Fixed::Not) => marked(
+            alloc,
+            &[
+                Rule(Part::Unary),
+                Rule(Part::Climb(6)),
+                Do(Expr(ExprAct::Not)),
+            ],
+        ),
         _ => Ok(None),
     }
 }
@@ -34,7 +49,11 @@ pub(crate) fn after_minus(alloc: Global, next: Terminal) -> Result<Option<Row>, 
 {
     match next {
         Terminal::Literal => marked(alloc, &[Do(Expr(ExprAct::MinusLiteral))]),
-        _ => unary_then(alloc, next, &[Rule(Part::Climb(6)), Do(Expr(ExprAct::Negate))]),
+        _ => unary_then(
+            alloc,
+            next,
+            &[Rule(Part::Climb(6)), Do(Expr(ExprAct::Negate))],
+        ),
     }
 }
 
@@ -43,8 +62,23 @@ pub(crate) fn suffix(alloc: Global, next: Terminal) -> Result<Option<Row>, Memor
     ensures { IfOk result (λ row. row ≡ suffix_row next) }
 {
     match next {
-        Terminal::Fixed(Fixed::OpenParen) => plain(alloc, &[Do(Expr(ExprAct::NewArgs)), Rule(Part::Args), Do(Expr(ExprAct::CallValue))]),
-        Terminal::Fixed(Fixed::OpenBracket) => plain(alloc, &[Rule(Part::Unary), Rule(Part::Climb(0)), Token(Fixed::CloseBracket), Rule(Part::SecondIndex)]),
+        Terminal::Fixed(Fixed::OpenParen) => plain(
+            alloc,
+            &[
+                Do(Expr(ExprAct::NewArgs)),
+                Rule(Part::Args),
+                Do(Expr(ExprAct::CallValue)),
+            ],
+        ),
+        Terminal::Fixed(Fixed::OpenBracket) => plain(
+            alloc,
+            &[
+                Rule(Part::Unary),
+                Rule(Part::Climb(0)),
+                Token(Fixed::CloseBracket),
+                Rule(Part::SecondIndex),
+            ],
+        ),
         _ => Ok(None),
     }
 }
@@ -54,7 +88,15 @@ pub(crate) fn second_index(alloc: Global, next: Terminal) -> Result<Option<Row>,
     ensures { IfOk result (λ row. row ≡ second_index_row next) }
 {
     match next {
-        Terminal::Fixed(Fixed::OpenBracket) => plain(alloc, &[Rule(Part::Unary), Rule(Part::Climb(0)), Token(Fixed::CloseBracket), Do(Expr(ExprAct::GridElement))]),
+        Terminal::Fixed(Fixed::OpenBracket) => plain(
+            alloc,
+            &[
+                Rule(Part::Unary),
+                Rule(Part::Climb(0)),
+                Token(Fixed::CloseBracket),
+                Do(Expr(ExprAct::GridElement)),
+            ],
+        ),
         _ => Ok(None),
     }
 }
@@ -65,7 +107,15 @@ pub(crate) fn args(alloc: Global, next: Terminal) -> Result<Option<Row>, Memory>
 {
     match next {
         Terminal::Fixed(Fixed::CloseParen) => plain(alloc, &[]),
-        _ => unary_then(alloc, next, &[Rule(Part::Climb(0)), Do(Expr(ExprAct::KeepArg)), Rule(Part::MoreArgs)]),
+        _ => unary_then(
+            alloc,
+            next,
+            &[
+                Rule(Part::Climb(0)),
+                Do(Expr(ExprAct::KeepArg)),
+                Rule(Part::MoreArgs),
+            ],
+        ),
     }
 }
 
@@ -75,7 +125,15 @@ pub(crate) fn more_args(alloc: Global, next: Terminal) -> Result<Option<Row>, Me
 {
     match next {
         Terminal::Fixed(Fixed::CloseParen) => plain(alloc, &[]),
-        Terminal::Fixed(Fixed::Comma) => plain(alloc, &[Rule(Part::Unary), Rule(Part::Climb(0)), Do(Expr(ExprAct::KeepArg)), Rule(Part::MoreArgs)]),
+        Terminal::Fixed(Fixed::Comma) => plain(
+            alloc,
+            &[
+                Rule(Part::Unary),
+                Rule(Part::Climb(0)),
+                Do(Expr(ExprAct::KeepArg)),
+                Rule(Part::MoreArgs),
+            ],
+        ),
         _ => Ok(None),
     }
 }
@@ -87,14 +145,23 @@ pub(crate) fn climb(alloc: Global, level: u8, next: Terminal) -> Result<Option<R
     match operator_of(next) {
         Some(op) if level <= level_of(op) => marked(
             alloc,
-            &[Rule(Part::Unary), Rule(Part::Climb(level_of(op) + 1)), Do(Expr(ExprAct::Binary(op))), Rule(Part::Climb(level))],
+            &[
+                Rule(Part::Unary),
+                Rule(Part::Climb(level_of(op) + 1)),
+                Do(Expr(ExprAct::Binary(op))),
+                Rule(Part::Climb(level)),
+            ],
         ),
         _ => Ok(None),
     }
 }
 
 /// What may come where an operand may begin, with more to do after it.
-pub(crate) fn unary_then(alloc: Global, next: Terminal, more: &[Symbol]) -> Result<Option<Row>, Memory>
+pub(crate) fn unary_then(
+    alloc: Global,
+    next: Terminal,
+    more: &[Symbol],
+) -> Result<Option<Row>, Memory>
     ensures { IfOk result (λ row. row ≡ followed (unary_row next) more.now) }
 {
     let Some(mut row) = unary(alloc, next)? else {

@@ -16,7 +16,10 @@ pub(crate) fn params(alloc: Global, next: Terminal) -> Result<Option<Row>, Memor
 {
     match next {
         Terminal::Fixed(Fixed::CloseParen) => plain(alloc, &[]),
-        Terminal::Fixed(Fixed::Int) => plain(alloc, &[Name, Do(Item(ItemAct::KeepName)), Rule(Part::MoreParams)]),
+        Terminal::Fixed(Fixed::Int) => plain(
+            alloc,
+            &[Name, Do(Item(ItemAct::KeepName)), Rule(Part::MoreParams)],
+        ),
         _ => Ok(None),
     }
 }
@@ -27,7 +30,15 @@ pub(crate) fn more_params(alloc: Global, next: Terminal) -> Result<Option<Row>, 
 {
     match next {
         Terminal::Fixed(Fixed::CloseParen) => plain(alloc, &[]),
-        Terminal::Fixed(Fixed::Comma) => plain(alloc, &[Token(Fixed::Int), Name, Do(Item(ItemAct::KeepName)), Rule(Part::MoreParams)]),
+        Terminal::Fixed(Fixed::Comma) => plain(
+            alloc,
+            &[
+                Token(Fixed::Int),
+                Name,
+                Do(Item(ItemAct::KeepName)),
+                Rule(Part::MoreParams),
+            ],
+        ),
         _ => Ok(None),
     }
 }
@@ -37,7 +48,14 @@ pub(crate) fn effects(alloc: Global, in_task: bool, next: Terminal) -> Result<Op
     ensures { IfOk result (λ row. row ≡ effects_row in_task next) }
 {
     match next {
-        Terminal::Fixed(Fixed::Pure) => plain(alloc, &[Token(Fixed::OpenBrace), Do(Stmt(StmtAct::NewBlock)), Rule(Part::Statements(in_task))]),
+        Terminal::Fixed(Fixed::Pure) => plain(
+            alloc,
+            &[
+                Token(Fixed::OpenBrace),
+                Do(Stmt(StmtAct::NewBlock)),
+                Rule(Part::Statements(in_task)),
+            ],
+        ),
         Terminal::Fixed(Fixed::Reads) => plain(alloc, &[Rule(Part::Path(in_task, false))]),
         Terminal::Fixed(Fixed::Writes) => plain(alloc, &[Rule(Part::Path(in_task, true))]),
         _ => Ok(None),
@@ -45,26 +63,73 @@ pub(crate) fn effects(alloc: Global, in_task: bool, next: Terminal) -> Result<Op
 }
 
 /// Where a path of a clause begins.
-pub(crate) fn path(alloc: Global, in_task: bool, write: bool, next: Terminal) -> Result<Option<Row>, Memory>
+pub(crate) fn path(
+    alloc: Global,
+    in_task: bool,
+    write: bool,
+    next: Terminal,
+) -> Result<Option<Row>, Memory>
     ensures { IfOk result (λ row. row ≡ path_row in_task write next) }
 {
     match next {
         Terminal::Fixed(Fixed::Root) => marked(alloc, &[Rule(Part::PathRest(in_task, write))]),
-        Terminal::Name => marked(alloc, &[Do(Item(ItemAct::ElemName)), Rule(Part::PathRest(in_task, write))]),
+        Terminal::Name => marked(
+            alloc,
+            &[
+                Do(Item(ItemAct::ElemName)),
+                Rule(Part::PathRest(in_task, write)),
+            ],
+        ),
         _ => Ok(None),
     }
 }
 
 /// After an element of a path of a clause.
-pub(crate) fn path_rest(alloc: Global, in_task: bool, write: bool, next: Terminal) -> Result<Option<Row>, Memory>
+pub(crate) fn path_rest(
+    alloc: Global,
+    in_task: bool,
+    write: bool,
+    next: Terminal,
+) -> Result<Option<Row>, Memory>
     ensures { IfOk result (λ row. row ≡ path_rest_row in_task write next) }
 {
     match next {
-        Terminal::Fixed(Fixed::Colon) => plain(alloc, &[Rule(Part::Elem), Rule(Part::PathRest(in_task, write))]),
-        Terminal::Fixed(Fixed::Comma) => plain(alloc, &[Do(Item(ItemAct::KeepPath)), Rule(Part::Path(in_task, write))]),
-        Terminal::Fixed(Fixed::Reads) => plain(alloc, &[Do(Item(ItemAct::KeepPath)), Do(Item(ItemAct::KeepClause(write))), Rule(Part::Path(in_task, false))]),
-        Terminal::Fixed(Fixed::Writes) => plain(alloc, &[Do(Item(ItemAct::KeepPath)), Do(Item(ItemAct::KeepClause(write))), Rule(Part::Path(in_task, true))]),
-        Terminal::Fixed(Fixed::OpenBrace) => plain(alloc, &[Do(Item(ItemAct::KeepPath)), Do(Item(ItemAct::KeepClause(write))), Do(Stmt(StmtAct::NewBlock)), Rule(Part::Statements(in_task))]),
+        Terminal::Fixed(Fixed::Colon) => plain(
+            alloc,
+            &[Rule(Part::Elem), Rule(Part::PathRest(in_task, write))],
+        ),
+        Terminal::Fixed(Fixed::Comma) => plain(
+            alloc,
+            &[
+                Do(Item(ItemAct::KeepPath)),
+                Rule(Part::Path(in_task, write)),
+            ],
+        ),
+        Terminal::Fixed(Fixed::Reads) => plain(
+            alloc,
+            &[
+                Do(Item(ItemAct::KeepPath)),
+                Do(Item(ItemAct::KeepClause(write))),
+                Rule(Part::Path(in_task, false)),
+            ],
+        ),
+        Terminal::Fixed(Fixed::Writes) => plain(
+            alloc,
+            &[
+                Do(Item(ItemAct::KeepPath)),
+                Do(Item(ItemAct::KeepClause(write))),
+                Rule(Part::Path(in_task, true)),
+            ],
+        ),
+        Terminal::Fixed(Fixed::OpenBrace) => plain(
+            alloc,
+            &[
+                Do(Item(ItemAct::KeepPath)),
+                Do(Item(ItemAct::KeepClause(write))),
+                Do(Stmt(StmtAct::NewBlock)),
+                Rule(Part::Statements(in_task)),
+            ],
+        ),
         _ => Ok(None),
     }
 }
@@ -86,9 +151,18 @@ pub(crate) fn index(alloc: Global, next: Terminal) -> Result<Option<Row>, Memory
     ensures { IfOk result (λ row. row ≡ index_row next) }
 {
     match next {
-        Terminal::Literal => plain(alloc, &[Token(Fixed::CloseBracket), Do(Item(ItemAct::ElemIndex))]),
-        Terminal::Name => plain(alloc, &[Token(Fixed::CloseBracket), Do(Item(ItemAct::ElemVariable))]),
-        Terminal::Fixed(Fixed::Question) => plain(alloc, &[Token(Fixed::CloseBracket), Do(Item(ItemAct::ElemAny))]),
+        Terminal::Literal => plain(
+            alloc,
+            &[Token(Fixed::CloseBracket), Do(Item(ItemAct::ElemIndex))],
+        ),
+        Terminal::Name => plain(
+            alloc,
+            &[Token(Fixed::CloseBracket), Do(Item(ItemAct::ElemVariable))],
+        ),
+        Terminal::Fixed(Fixed::Question) => plain(
+            alloc,
+            &[Token(Fixed::CloseBracket), Do(Item(ItemAct::ElemAny))],
+        ),
         _ => Ok(None),
     }
 }

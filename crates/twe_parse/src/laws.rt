@@ -7,11 +7,4 @@ ghost use Rattle.twe_parse.specs.Writes.{Writes};
 /// The tokens of a program are those of one tree only.
 pub fn one_tree()
     ensures { (tokens : List Token) (tree other : Ast) → Writes tree tokens → Writes other tokens → tree.items ≡ other.items }
-{
-}
-
-/// For trials.
-pub fn trial()
-    ensures { (tokens : List Token) → tokens ≡ tokens }
-{
-}
+{}

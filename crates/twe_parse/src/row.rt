@@ -2,10 +2,16 @@
 ghost use Rattle.std.specs.Prelude.{◌≡◌, true, false, Some, IfOk};
 ghost use Rattle.twe_parse.specs.inner.Rows.{row_of, otherwise};
 
-use crate::expression_rows::{unary, after_minus, suffix, second_index, args, more_args, climb};
-use crate::head_rows::{params, more_params, effects, path, path_rest, elem, index};
-use crate::item_rows::{items, more_regions, after_int, after_length, cell_path, cell_rest, cell_elem, initial, task_returns};
-use crate::statement_rows::{statements, local_type, int_value, after_value_name, after_name, after_index, awaited, awaited_value, make, after_arm, else_body, return_value};
+use crate::expression_rows::{after_minus, args, climb, more_args, second_index, suffix, unary};
+use crate::head_rows::{effects, elem, index, more_params, params, path, path_rest};
+use crate::item_rows::{
+    after_int, after_length, cell_elem, cell_path, cell_rest, initial, items, more_regions,
+    task_returns,
+};
+use crate::statement_rows::{
+    after_arm, after_index, after_name, after_value_name, awaited, awaited_value, else_body,
+    int_value, local_type, make, return_value, statements,
+};
 use crate::symbol::{Act, ExprAct, Part, StmtAct, Symbol, Terminal};
 use std::alloc::Global;
 use twe_io::{List, Memory};

@@ -126,7 +126,15 @@ impl Work {
         let first = left.place;
         let left = Box::new(alloc, left)?;
         let right = Box::new(alloc, right)?;
-        self.push_expr(first, ExprKind::Bin { op, left, right, place })
+        self.push_expr(
+            first,
+            ExprKind::Bin {
+                op,
+                left,
+                right,
+                place,
+            },
+        )
     }
 
     fn keep_arg(&mut self, alloc: Global) -> Result<(), Memory>
@@ -154,7 +162,14 @@ impl Work {
     {
         let array = self.names.pop_or(nameless(alloc));
         let index = Box::new(alloc, self.exprs.pop_or(nothing()))?;
-        self.push_expr(array.place, ExprKind::At { array, index, second: None })
+        self.push_expr(
+            array.place,
+            ExprKind::At {
+                array,
+                index,
+                second: None,
+            },
+        )
     }
 
     fn grid_element(&mut self, alloc: Global) -> Result<(), Memory>
@@ -163,6 +178,13 @@ impl Work {
         let array = self.names.pop_or(nameless(alloc));
         let column = Box::new(alloc, self.exprs.pop_or(nothing()))?;
         let row = Box::new(alloc, self.exprs.pop_or(nothing()))?;
-        self.push_expr(array.place, ExprKind::At { array, index: row, second: Some(column) })
+        self.push_expr(
+            array.place,
+            ExprKind::At {
+                array,
+                index: row,
+                second: Some(column),
+            },
+        )
     }
 }

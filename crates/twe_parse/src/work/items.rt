@@ -32,7 +32,11 @@ fn negative_of(number: u32) -> i32
 fn initial_of(minus: bool, number: u32) -> Initial
     ensures { result ≡ initial_of minus number }
 {
-    let value = if minus { negative_of(number) } else { value_of(number) };
+    let value = if minus {
+        negative_of(number)
+    } else {
+        value_of(number)
+    };
     Initial { minus, value }
 }
 
@@ -202,10 +206,18 @@ impl Work {
         self.items.push(Item::Method(decl))
     }
 
-    fn task(&mut self, alloc: Global, deterministic: bool, returns: ReturnType) -> Result<(), Memory>
+    fn task(
+        &mut self,
+        alloc: Global,
+        deterministic: bool,
+        returns: ReturnType,
+    ) -> Result<(), Memory>
         ensures { OnOk result (self.new ≡ act_item (acts.Task deterministic returns) self.old) }
     {
         let decl = self.take_decl(alloc, returns);
-        self.items.push(Item::Task { deterministic, decl })
+        self.items.push(Item::Task {
+            deterministic,
+            decl,
+        })
     }
 }

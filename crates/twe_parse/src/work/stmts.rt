@@ -63,12 +63,25 @@ impl Work {
         self.push_stmt(alloc, StmtKind::Block(body))
     }
 
-    fn let_local(&mut self, alloc: Global, is_final: bool, local_type: LocalType) -> Result<(), Memory>
+    fn let_local(
+        &mut self,
+        alloc: Global,
+        is_final: bool,
+        local_type: LocalType,
+    ) -> Result<(), Memory>
         ensures { OnOk result (self.new ≡ act_stmt (acts.Let is_final local_type) self.old) }
     {
         let name = self.names.pop_or(nameless(alloc));
         let value = self.exprs.pop_or(nothing());
-        self.push_stmt(alloc, StmtKind::Let { is_final, local_type, name, value })
+        self.push_stmt(
+            alloc,
+            StmtKind::Let {
+                is_final,
+                local_type,
+                name,
+                value,
+            },
+        )
     }
 
     fn set(&mut self, alloc: Global) -> Result<(), Memory>
@@ -85,7 +98,15 @@ impl Work {
         let array = self.names.pop_or(nameless(alloc));
         let value = self.exprs.pop_or(nothing());
         let index = self.exprs.pop_or(nothing());
-        self.push_stmt(alloc, StmtKind::SetAt { array, index, second: None, value })
+        self.push_stmt(
+            alloc,
+            StmtKind::SetAt {
+                array,
+                index,
+                second: None,
+                value,
+            },
+        )
     }
 
     fn set_grid(&mut self, alloc: Global) -> Result<(), Memory>
@@ -95,7 +116,15 @@ impl Work {
         let value = self.exprs.pop_or(nothing());
         let column = self.exprs.pop_or(nothing());
         let row = self.exprs.pop_or(nothing());
-        self.push_stmt(alloc, StmtKind::SetAt { array, index: row, second: Some(column), value })
+        self.push_stmt(
+            alloc,
+            StmtKind::SetAt {
+                array,
+                index: row,
+                second: Some(column),
+                value,
+            },
+        )
     }
 
     fn keep_arm(&mut self, alloc: Global) -> Result<(), Memory>
@@ -120,7 +149,13 @@ impl Work {
     {
         let body = self.blocks.pop_or(no_block(alloc));
         let arms = self.arms.pop_or(List::new(alloc)).into_vec();
-        self.push_stmt(alloc, StmtKind::If(Arms { arms, last: Some(body) }))
+        self.push_stmt(
+            alloc,
+            StmtKind::If(Arms {
+                arms,
+                last: Some(body),
+            }),
+        )
     }
 
     fn while_turns(&mut self, alloc: Global) -> Result<(), Memory>
@@ -129,7 +164,14 @@ impl Work {
         let place = self.places.pop_or(nowhere());
         let condition = self.exprs.pop_or(nothing());
         let body = self.blocks.pop_or(no_block(alloc));
-        self.push_stmt(alloc, StmtKind::While { place, condition, body })
+        self.push_stmt(
+            alloc,
+            StmtKind::While {
+                place,
+                condition,
+                body,
+            },
+        )
     }
 
     fn return_value(&mut self, alloc: Global) -> Result<(), Memory>
@@ -137,7 +179,13 @@ impl Work {
     {
         let place = self.places.pop_or(nowhere());
         let value = self.exprs.pop_or(nothing());
-        self.push_stmt(alloc, StmtKind::Return { place, value: Some(value) })
+        self.push_stmt(
+            alloc,
+            StmtKind::Return {
+                place,
+                value: Some(value),
+            },
+        )
     }
 
     fn return_nothing(&mut self, alloc: Global) -> Result<(), Memory>
@@ -160,7 +208,13 @@ impl Work {
     {
         let method = self.names.pop_or(nameless(alloc));
         let items = self.args.pop_or(List::new(alloc)).into_vec();
-        self.push_stmt(alloc, StmtKind::Call { method, args: Args { items } })
+        self.push_stmt(
+            alloc,
+            StmtKind::Call {
+                method,
+                args: Args { items },
+            },
+        )
     }
 
     fn make(&mut self, alloc: Global, spawned: bool) -> Result<(), Memory>
@@ -169,7 +223,15 @@ impl Work {
         let task = self.names.pop_or(nameless(alloc));
         let future = self.names.pop_or(nameless(alloc));
         let items = self.args.pop_or(List::new(alloc)).into_vec();
-        self.push_stmt(alloc, StmtKind::Make { future, task, spawned, args: Args { items } })
+        self.push_stmt(
+            alloc,
+            StmtKind::Make {
+                future,
+                task,
+                spawned,
+                args: Args { items },
+            },
+        )
     }
 
     fn wait(&mut self, alloc: Global, join: bool) -> Result<(), Memory>
@@ -185,6 +247,13 @@ impl Work {
         let future = self.names.pop_or(nameless(alloc));
         let name = self.names.pop_or(nameless(alloc));
         let wait = WaitCall { future, join };
-        self.push_stmt(alloc, StmtKind::LetWait { is_final, name, wait })
+        self.push_stmt(
+            alloc,
+            StmtKind::LetWait {
+                is_final,
+                name,
+                wait,
+            },
+        )
     }
 }

@@ -1,0 +1,109 @@
+-- What the parser knows of the part of a text that it has read.
+use Rattle.std.proofs.Common.{◌≡◌, ℕ, ◌+◌, ◌<◌, ◌≤◌, ◌⊎◌, inl, inr, Bool, true, false, List, [], ◌∷◌, ◌++◌, Option, None, Some, length, refl, sym, ap, ◌∙◌, subst, arith}
+use Rattle.std.specs.Prelude.{option_and_then, fold}
+use Rattle.std.specs.List.{AllByRecursion, list_all}
+use Rattle.std.proofs.lemmas.Bool.{false≢true, and_from, and_parts}
+use Rattle.std.proofs.lemmas.List.{append_assoc, append-nil}
+use Rattle.std.proofs.lemmas.List.Folds.{list_all-append}
+use Rattle.std.proofs.lemmas.List.Sums.{fold-append}
+use Rattle.twe_io.specs.declared.place.Place.{Place}
+use Rattle.twe_ast.specs.declared.item.Ast.{Ast}
+use Rattle.twe_ast.specs.declared.item.Item.{Item}
+use Rattle.twe_tokens.specs.declared.token.Token.{Token}
+use Rattle.twe_tokens.specs.declared.token.TokenKind.{TokenKind}
+use Rattle.twe_tokens.specs.Kinds.{kind_of}
+use Rattle.twe_tokens.specs.Lexeme.{is_allowed, IsFirstLexeme, IsUnclosedComment}
+use Rattle.twe_tokens.specs.Places.{place_after, is_gap}
+use Rattle.twe_tokens.specs.Tokens.{AreFirstLexemes, tokens_from}
+use Rattle.twe_parse.specs.declared.fail.SRule.{SRule}
+use Rattle.twe_parse.specs.declared.fail.SRule.TheVariants.{S1, S2, S3, S4, S5, S6}
+use Rattle.twe_parse.specs.declared.limits.Sofar.{Sofar}
+use Rattle.twe_parse.specs.declared.parser.Parser.{Parser}
+use Rattle.twe_parse.specs.declared.symbol.Part.TheVariants as parts
+use Rattle.twe_parse.specs.declared.symbol.Symbol.{Symbol}
+use Rattle.twe_parse.specs.declared.symbol.Symbol.TheVariants as symbols
+use Rattle.twe_parse.specs.declared.work.Work.{Work}
+use Rattle.twe_parse.specs.Limits.{sofar_after, sofar_of, is_too_large, is_too_deep}
+use Rattle.twe_parse.specs.Viable.{IsProgram, IsViable}
+use Rattle.twe_parse.specs.Writes.{Writes, WritesItems}
+use Rattle.twe_parse.specs.inner.Machine.{Machine, start, after, finished, result_from}
+use Rattle.twe_parse.specs.inner.Taking.{Takes}
+use Rattle.twe_parse.proofs.CompleteItems.{items_taken, only_items}
+use Rattle.twe_parse.proofs.Completion.{completion, completes}
+use Rattle.twe_parse.proofs.Cuts.{concat, cut_append, tokens_from_append, all_snoc}
+use Rattle.twe_parse.proofs.Fine.{fine, after_fine}
+use Rattle.twe_parse.proofs.Meanings.{Means, Reads, done, a_part}
+use Rattle.twe_parse.proofs.Sound.{all_read}
+use Rattle.twe_parse.proofs.Steps.{goes_on}
+
+-- a machine that has taken these tokens: from here the result is as from the start, and the rest can be completed
+pub record HasTaken (tokens : List Token) (todo : List Symbol) (work : Work) : Type 0 where
+  pub takes : (more : List Token) → result_from (tokens ++ more) start.0 start.1 ≡ result_from more todo work
+  pub can_end : fine todo ≡ true
+
+-- what completes the program is written by a tree
+program_of : (tokens : List Token) (end : Work) → result_from tokens start.0 start.1 ≡ Some end → (tree : List Item) × WritesItems tree tokens
+program_of tokens end is = from_reads tokens (all_read tokens start.0 start.1 end is)
+  where
+    from_reads : (tokens : List Token) → Reads (symbols.Rule parts.Items ∷ []) tokens [] → (tree : List Item) × WritesItems tree tokens
+    from_reads tokens (a_part means rest) = means.1
+
+a_tree : List Item → Ast
+a_tree all = record { items = all; end = record { line = 0; col = 0 } }
+
+-- the tokens that were taken begin a program
+pub viable : (tokens : List Token) (todo : List Symbol) (work : Work) → HasTaken tokens todo work → IsViable tokens
+unfolding a_tree
+viable tokens todo work taken =
+    let ends = completes todo taken.can_end work in
+    let program = program_of (tokens ++ completion todo) ends.0 (taken.takes (completion todo) ∙ ends.1) in
+    (a_tree program.0, completion todo, program.1)
+
+no_result : {A : Type 0} {x : A} → ◌≡◌ {A = Option A} None (Some x) → ⊥
+no_result h = cc
+
+-- a token that is not taken begins nothing
+pub stray_token : (tokens : List Token) (todo : List Symbol) (work : Work) (token : Token) → HasTaken tokens todo work → after token todo work ≡ None → ¬ IsViable (tokens ++ token ∷ [])
+stray_token tokens todo work token taken is (tree, more, writes) =
+    let regrouped : result_from ((tokens ++ token ∷ []) ++ more) start.0 start.1 ≡ result_from (token ∷ more) todo work = ap (λ all. result_from all start.0 start.1) (append_assoc tokens (token ∷ []) more) ∙ taken.takes (token ∷ more) in
+    no_result (sym (regrouped ∙ ap (option_and_then (goes_on more)) is) ∙ items_taken writes [])
+
+-- one token more
+pub token_more : (tokens : List Token) (todo : List Symbol) (work : Work) (token : Token) (machine : Machine) → HasTaken tokens todo work → after token todo work ≡ Some machine → HasTaken (tokens ++ token ∷ []) machine.0 machine.1
+token_more tokens todo work token machine taken is = record {
+  takes = λ more. ap (λ all. result_from all start.0 start.1) (append_assoc tokens (token ∷ []) more) ∙ taken.takes (token ∷ more) ∙ ap (option_and_then (goes_on more)) is;
+  can_end = after_fine token todo work machine is taken.can_end;
+}
+
+ended : (tokens : List Token) (todo : List Symbol) (work : Work) → HasTaken tokens todo work → result_from tokens start.0 start.1 ≡ finished todo work
+ended tokens todo work taken = ap (λ all. result_from all start.0 start.1) (sym (append-nil tokens)) ∙ taken.takes []
+
+-- no program ends here
+pub not_whole : (tokens : List Token) (todo : List Symbol) (work : Work) → HasTaken tokens todo work → finished todo work ≡ None → ¬ IsProgram tokens
+not_whole tokens todo work taken is (tree, writes) = no_result (sym (ended tokens todo work taken ∙ is) ∙ items_taken writes [])
+
+items_in : Option Work → List Item
+items_in None = []
+items_in (Some work) = work.items
+
+-- a program ends here
+pub whole_program : (tokens : List Token) (todo : List Symbol) (work end : Work) → HasTaken tokens todo work → finished todo work ≡ Some end → WritesItems end.items tokens
+unfolding items_in
+whole_program tokens todo work end taken is =
+    let program = program_of tokens end (ended tokens todo work taken ∙ is) in
+    let same : ◌≡◌ {A = Option Work} (Some (only_items program.0)) (Some end) = sym (items_taken program.1 []) ∙ (ended tokens todo work taken ∙ is) in
+    subst (λ (all : List Item). WritesItems all tokens) (ap items_in same) program.1
+
+-- the part of the text that was read
+pub record HasRead (text : List ℕ) (place : Place) (rest : List ℕ) (parser : Parser) : Type 0 where
+  pub lexemes : List (List ℕ)
+  pub cut : AreFirstLexemes lexemes text rest
+  pub place_is : place ≡ place_after (concat lexemes)
+  pub allowed : list_all is_allowed (concat lexemes) ≡ true
+  pub closed : AllByRecursion (λ lexeme. ¬ IsUnclosedComment lexeme) lexemes
+  pub taken : HasTaken (tokens_from [] lexemes) parser.machine.todo parser.machine.work
+  pub limits : parser.sofar ≡ sofar_of (tokens_from [] lexemes)
+  pub brackets : parser.sofar.open_brackets ≤ 200
+  pub operators : parser.sofar.operators ≤ 200
+  pub passes : (before : List Token) (token : Token) (others : List Token) → tokens_from [] lexemes ≡ before ++ token ∷ others
+    → (is_too_large (sofar_of before) token.kind ≡ false) × (is_too_deep (sofar_of before) token.kind ≡ false)
