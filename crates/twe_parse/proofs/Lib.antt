@@ -7,6 +7,7 @@ pub mod Cuts
 pub mod Fine
 pub mod FirstTokens
 pub mod Joining
+pub mod Located
 pub mod Meanings
 pub mod Sound
 pub mod SoundExpressions

@@ -15,17 +15,17 @@ use Rattle.twe_parse.specs.Viable.{IsProgram, IsViable}
 -- The text fails this rule at this place.
 pub data Fails (text : List ℕ) : SRule → Place → Type 0 where
   -- a byte that may not stand in a text
-  byte : {before after : List ℕ} {code : ℕ} → text ≡ before ++ code ∷ after → is_allowed code ≡ false → Fails text S1 (place_after before)
+  byte : (before after : List ℕ) (code : ℕ) → text ≡ before ++ code ∷ after → is_allowed code ≡ false → Fails text S1 (place_after before)
   -- a token that has no place: no program's tokens begin with those up to it
-  stray : {before : List Token} {token : Token} {rest : List ℕ} → BeginsWith text (before ++ token ∷ []) rest → IsViable before → ¬ IsViable (before ++ token ∷ []) → Fails text S2 token.place
+  stray : (before : List Token) (token : Token) (rest : List ℕ) → BeginsWith text (before ++ token ∷ []) rest → IsViable before → ¬ IsViable (before ++ token ∷ []) → Fails text S2 token.place
   -- the end of the text, where its tokens are those that a program begins with, and no program's
-  unfinished : {tokens : List Token} → BeginsWith text tokens [] → IsViable tokens → ¬ IsProgram tokens → Fails text S3 (place_after text)
+  unfinished : (tokens : List Token) → BeginsWith text tokens [] → IsViable tokens → ¬ IsProgram tokens → Fails text S3 (place_after text)
   -- a literal that is too large
-  too_large : {before : List Token} {token : Token} {rest : List ℕ} → BeginsWith text (before ++ token ∷ []) rest → is_too_large (sofar_of before) token.kind ≡ true → Fails text S4 token.place
+  too_large : (before : List Token) (token : Token) (rest : List ℕ) → BeginsWith text (before ++ token ∷ []) rest → is_too_large (sofar_of before) token.kind ≡ true → Fails text S4 token.place
   -- a bracket that opens too deep, or an operator too many
-  too_deep : {before : List Token} {token : Token} {rest : List ℕ} → BeginsWith text (before ++ token ∷ []) rest → is_too_deep (sofar_of before) token.kind ≡ true → Fails text S5 token.place
+  too_deep : (before : List Token) (token : Token) (rest : List ℕ) → BeginsWith text (before ++ token ∷ []) rest → is_too_deep (sofar_of before) token.kind ≡ true → Fails text S5 token.place
   -- a comment that has no end
-  unclosed : {before rest : List ℕ} {tokens : List Token} → text ≡ before ++ rest → BeginsWith text tokens rest → IsUnclosedComment rest → Fails text S6 (place_after before)
+  unclosed : (before rest : List ℕ) (tokens : List Token) → text ≡ before ++ rest → BeginsWith text tokens rest → IsUnclosedComment rest → Fails text S6 (place_after before)
 
 abbrev pub rank : SRule → ℕ
 rank S1 = 1
