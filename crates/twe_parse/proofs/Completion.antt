@@ -30,7 +30,7 @@ use Rattle.twe_parse.specs.inner.Operators.{operator_of}
 use Rattle.twe_parse.specs.inner.Rows.{row_of, otherwise, suffix_row, second_index_row, climb_row, climb_from, after_arm_row}
 use Rattle.twe_parse.specs.inner.Terminals.{terminal_of, same_fixed}
 use Rattle.twe_parse.specs.inner.Works.{nowhere, nameless, kept}
-use Rattle.twe_parse.proofs.Fine.{harmless, calm, is_last, need, fine}
+use Rattle.twe_parse.specs.inner.Fine.{harmless, calm, is_last, need, fine}
 use Rattle.twe_parse.proofs.Steps.{do_now, left_out, goes_on}
 
 -- a short completion of a part

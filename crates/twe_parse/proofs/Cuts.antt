@@ -12,11 +12,7 @@ use Rattle.twe_tokens.specs.Kinds.{kind_of}
 use Rattle.twe_tokens.specs.Lexeme.{is_line_end, is_allowed, IsLexeme, IsFirstLexeme, IsUnclosedComment, one_byte, long_symbol, word, number, line_comment, block_comment, unclosed_comment}
 use Rattle.twe_tokens.specs.Places.{place_after, is_gap, Precedes}
 use Rattle.twe_tokens.specs.Tokens.{AreFirstLexemes, tokens_from}
-
--- all bytes of some lexemes
-abbrev pub concat : List (List ℕ) → List ℕ
-concat [] = []
-concat (first ∷ others) = first ++ concat others
+use Rattle.twe_parse.specs.inner.Reading.{concat}
 
 pub no_lexeme : ¬ IsLexeme []
 no_lexeme lexeme = elim lexeme [
@@ -58,7 +54,7 @@ compare_cuts (first ∷ one) (second ∷ other) text rest its (later, found, cut
     join same.0 (compare_cuts one other later rest its cut (subst (λ (t : List ℕ). AreFirstLexemes other t its) (sym same.1) its_cut))
   where
     join : first ≡ second → ((more : List (List ℕ)) × (other ≡ one ++ more) × AreFirstLexemes more rest its) ⊎ ((more : List (List ℕ)) × (one ≡ other ++ more) × AreFirstLexemes more its rest)
-      → ((more : List (List ℕ)) × (second ∷ other ≡ first ∷ (one ++ more)) × AreFirstLexemes more rest its) ⊎ ((more : List (List ℕ)) × (first ∷ one ≡ second ∷ (other ++ more)) × AreFirstLexemes more its rest)
+        → ((more : List (List ℕ)) × (second ∷ other ≡ first ∷ (one ++ more)) × AreFirstLexemes more rest its) ⊎ ((more : List (List ℕ)) × (first ∷ one ≡ second ∷ (other ++ more)) × AreFirstLexemes more its rest)
     join same (inl (more, is, found)) = inl (more, (λ i. sym same i ∷ is i), found)
     join same (inr (more, is, found)) = inr (more, (λ i. same i ∷ is i), found)
 
@@ -79,7 +75,7 @@ tokens_from_append before (first ∷ others) other =
 pub data LastToken (before : List ℕ) (lexemes : List (List ℕ)) : Type 0 where
   none : tokens_from before lexemes ≡ [] → LastToken before lexemes
   last : (skipped : List (List ℕ)) (bytes : List ℕ) (gaps : List (List ℕ)) → lexemes ≡ skipped ++ bytes ∷ gaps → is_gap bytes ≡ false
-    → tokens_from before lexemes ≡ tokens_from before skipped ++ (record { kind = kind_of bytes; place = place_after (before ++ concat skipped) }) ∷ [] → LastToken before lexemes
+      → tokens_from before lexemes ≡ tokens_from before skipped ++ (record { kind = kind_of bytes; place = place_after (before ++ concat skipped) }) ∷ [] → LastToken before lexemes
 
 add_first : (before first : List ℕ) (others : List (List ℕ)) (gap : Bool) → is_gap first ≡ gap → LastToken (before ++ first) others → LastToken before (first ∷ others)
 add_first before first others true gap (none empty) = none (cond-true (is_gap first) _ _ gap ∙ empty)

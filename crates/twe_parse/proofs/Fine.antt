@@ -20,70 +20,13 @@ use Rattle.twe_parse.specs.declared.work.Work.{Work}
 use Rattle.twe_parse.specs.declared.symbol.CellKind.{CellKind}
 use Rattle.twe_parse.specs.declared.symbol.CellKind.TheVariants as cells
 use Rattle.twe_parse.specs.inner.Acts.{acted}
+use Rattle.twe_parse.specs.inner.Fine.{harmless, calm, is_last, need, fine}
 use Rattle.twe_parse.specs.inner.Machine.{Machine, expected, by_row, after}
 use Rattle.twe_parse.specs.inner.Operators.{operator_of}
 use Rattle.twe_parse.specs.Levels.{level_of}
 use Rattle.twe_parse.specs.inner.Rows.{row_of, otherwise, climb_from, items_row, more_regions_row, after_int_row, after_length_row, cell_path_row, cell_rest_row, cell_elem_row, initial_row, task_returns_row, params_row, more_params_row, effects_row, path_row, path_rest_row, elem_row, index_row, statements_row, local_type_row, int_value_row, after_value_name_row, after_name_row, after_index_row, awaited_row, awaited_value_row, make_row, after_arm_row, else_body_row, return_value_row, args_row, more_args_row, unary_row, after_minus_row, suffix_row, second_index_row, climb_row}
 use Rattle.twe_parse.specs.inner.Terminals.{terminal_of, meets}
 use Rattle.twe_parse.proofs.Steps.{operator_row}
-
--- a keyword or a symbol that goes on with nothing before it
-abbrev pub harmless : Fixed → Bool
-harmless fixed.Or = false
-harmless fixed.And = false
-harmless fixed.Equal = false
-harmless fixed.NotEqual = false
-harmless fixed.Less = false
-harmless fixed.LessEqual = false
-harmless fixed.Greater = false
-harmless fixed.GreaterEqual = false
-harmless fixed.Plus = false
-harmless fixed.Minus = false
-harmless fixed.Star = false
-harmless fixed.Slash = false
-harmless fixed.Percent = false
-harmless fixed.OpenParen = false
-harmless fixed.OpenBracket = false
-harmless fixed.Else = false
-harmless _ = true
-
--- the shortest completion begins with a harmless token
-abbrev pub calm : List Symbol → Bool
-calm [] = false
-calm (symbols.Name ∷ todo) = true
-calm (symbols.Literal ∷ todo) = true
-calm (symbols.Token f ∷ todo) = harmless f
-calm (symbols.Do act ∷ todo) = calm todo
-calm (symbols.Rule parts.Items ∷ todo) = false
-calm (symbols.Rule parts.Suffix ∷ todo) = calm todo
-calm (symbols.Rule parts.SecondIndex ∷ todo) = calm todo
-calm (symbols.Rule (parts.AfterArm x) ∷ todo) = calm todo
-calm (symbols.Rule (parts.Climb x) ∷ todo) = calm todo
-calm (symbols.Rule _ ∷ todo) = true
-
-abbrev pub is_last : List Symbol → Bool
-is_last [] = true
-is_last (symbol ∷ todo) = false
-
--- what a part needs of what follows it
-abbrev pub need : Part → List Symbol → Bool
-need parts.Items todo = is_last todo
-need parts.Unary todo = calm todo
-need parts.AfterMinus todo = calm todo
-need parts.Suffix todo = calm todo
-need parts.SecondIndex todo = calm todo
-need (parts.Climb x) todo = calm todo
-need (parts.AfterArm x) todo = calm todo
-need (parts.ElseBody x) todo = calm todo
-need _ todo = true
-
-abbrev pub fine : List Symbol → Bool
-fine [] = true
-fine (symbols.Name ∷ todo) = fine todo
-fine (symbols.Literal ∷ todo) = fine todo
-fine (symbols.Token f ∷ todo) = fine todo
-fine (symbols.Rule part ∷ todo) = need part todo && fine todo
-fine (symbols.Do act ∷ todo) = fine todo
 
 abbrev FineRow : Option Row → List Symbol → Type 0
 FineRow None todo = Unit {0}

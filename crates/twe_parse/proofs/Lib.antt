@@ -9,6 +9,8 @@ pub mod FirstTokens
 pub mod Joining
 pub mod Located
 pub mod Meanings
+pub mod Order
+pub mod Refusals
 pub mod Sound
 pub mod SoundExpressions
 pub mod SoundItems

@@ -27,19 +27,16 @@ use Rattle.twe_parse.specs.Limits.{sofar_after, sofar_of, is_too_large, is_too_d
 use Rattle.twe_parse.specs.Viable.{IsProgram, IsViable}
 use Rattle.twe_parse.specs.Writes.{Writes, WritesItems}
 use Rattle.twe_parse.specs.inner.Machine.{Machine, start, after, finished, result_from}
+use Rattle.twe_parse.specs.inner.Reading.{concat, HasTaken, HasRead}
 use Rattle.twe_parse.specs.inner.Taking.{Takes}
 use Rattle.twe_parse.proofs.CompleteItems.{items_taken, only_items}
 use Rattle.twe_parse.proofs.Completion.{completion, completes}
-use Rattle.twe_parse.proofs.Cuts.{concat, cut_append, tokens_from_append, all_snoc}
-use Rattle.twe_parse.proofs.Fine.{fine, after_fine}
+use Rattle.twe_parse.proofs.Cuts.{cut_append, tokens_from_append, all_snoc}
+use Rattle.twe_parse.specs.inner.Fine.{fine}
+use Rattle.twe_parse.proofs.Fine.{after_fine}
 use Rattle.twe_parse.proofs.Meanings.{Means, Reads, done, a_part}
 use Rattle.twe_parse.proofs.Sound.{all_read}
 use Rattle.twe_parse.proofs.Steps.{goes_on}
-
--- a machine that has taken these tokens: from here the result is as from the start, and the rest can be completed
-pub record HasTaken (tokens : List Token) (todo : List Symbol) (work : Work) : Type 0 where
-  pub takes : (more : List Token) → result_from (tokens ++ more) start.0 start.1 ≡ result_from more todo work
-  pub can_end : fine todo ≡ true
 
 -- what completes the program is written by a tree
 program_of : (tokens : List Token) (end : Work) → result_from tokens start.0 start.1 ≡ Some end → (tree : List Item) × WritesItems tree tokens
@@ -93,17 +90,3 @@ whole_program tokens todo work end taken is =
     let program = program_of tokens end (ended tokens todo work taken ∙ is) in
     let same : ◌≡◌ {A = Option Work} (Some (only_items program.0)) (Some end) = sym (items_taken program.1 []) ∙ (ended tokens todo work taken ∙ is) in
     subst (λ (all : List Item). WritesItems all tokens) (ap items_in same) program.1
-
--- the part of the text that was read
-pub record HasRead (text : List ℕ) (place : Place) (rest : List ℕ) (parser : Parser) : Type 0 where
-  pub lexemes : List (List ℕ)
-  pub cut : AreFirstLexemes lexemes text rest
-  pub place_is : place ≡ place_after (concat lexemes)
-  pub allowed : list_all is_allowed (concat lexemes) ≡ true
-  pub closed : AllByRecursion (λ lexeme. ¬ IsUnclosedComment lexeme) lexemes
-  pub taken : HasTaken (tokens_from [] lexemes) parser.machine.todo parser.machine.work
-  pub limits : parser.sofar ≡ sofar_of (tokens_from [] lexemes)
-  pub brackets : parser.sofar.open_brackets ≤ 200
-  pub operators : parser.sofar.operators ≤ 200
-  pub passes : (before : List Token) (token : Token) (others : List Token) → tokens_from [] lexemes ≡ before ++ token ∷ others
-    → (is_too_large (sofar_of before) token.kind ≡ false) × (is_too_deep (sofar_of before) token.kind ≡ false)

@@ -1,9 +1,11 @@
 pub mod Acts
 pub mod ExprActs
+pub mod Fine
 pub mod ItemActs
 pub mod Machine
 pub mod Operators
 pub mod Parsing
+pub mod Reading
 pub mod Rows
 pub mod Stacks
 pub mod StmtActs

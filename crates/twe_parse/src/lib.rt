@@ -14,6 +14,7 @@ mod limits;
 mod machine;
 mod operator;
 mod parser;
+mod reading;
 mod row;
 mod stack;
 mod statement_rows;

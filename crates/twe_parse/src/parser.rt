@@ -7,7 +7,7 @@ use crate::fail::{ParseFail, SRule};
 use crate::limits::Sofar;
 use crate::machine::Machine;
 use std::alloc::Global;
-use twe_io::Place;
+use twe_io::{Memory, Place};
 use twe_tokens::{Lexeme, LexemeFail, Token, TokenKind, first_lexeme, place_past};
 
 /// The lexeme at the front of the rest of a text, which begins at a place.
@@ -48,7 +48,7 @@ impl Parser {
     ghost use Rattle.twe_parse.specs.Limits.{at_start};
 
     /// Before the first token.
-    pub(crate) fn new(alloc: Global) -> Result<Self, ParseFail>
+    pub(crate) fn new(alloc: Global) -> Result<Self, Memory>
         ensures machine { IfOk result (λ parser. (parser.machine.todo, parser.machine.work) ≡ start) }
         ensures sofar { IfOk result (λ parser. parser.sofar ≡ at_start) }
     {

@@ -8,12 +8,11 @@ ghost use Rattle.twe_parse.specs.declared.fail.SRule.{SRule};
 ghost use Rattle.twe_parse.specs.Fails.{Fails, Refuses};
 ghost use Rattle.twe_parse.specs.Writes.{Writes};
 
-use crate::fail::{ParseFail, SRule};
-use crate::parser::{Parser, lexeme_at};
+use crate::fail::ParseFail;
+use crate::parser::Parser;
 use std::alloc::Global;
 use twe_ast::Ast;
 use twe_io::Memory;
-use twe_tokens::{first_place, place_past};
 
 /// The tree of a text, or the first failure of a rule of the text in the order of its bytes. It takes time and memory
 /// linear in the text. `OutOfMemory` also stands for a text of 2^32 - 1 bytes or more, whose places can't be counted.
@@ -27,23 +26,6 @@ pub fn parse(alloc: Global, text: &[u8]) -> Result<Ast, ParseFail>
         return Err(ParseFail::OutOfMemory(Memory::of_uncountable(text.len())));
     }
     let mut parser = Parser::new(alloc)?;
-    let mut place = first_place();
-    let mut rest = text;
-    while !rest.is_empty() {
-        let lexeme = lexeme_at(alloc, rest, place)?;
-        let (bytes, later) = rest.split_at(lexeme.len);
-        if let Some(kind) = lexeme.token {
-            parser.take(alloc, kind, place)?;
-        }
-        place = place_past(place, bytes);
-        rest = later;
-    }
-    let Parser { machine, sofar: _ } = parser;
-    match machine.finish(alloc)? {
-        Some(items) => Ok(Ast { items, end: place }),
-        None => Err(ParseFail::Syntax {
-            rule: SRule::S3,
-            place,
-        }),
-    }
+    let end = parser.read(alloc, text)?;
+    parser.finish(alloc, end)
 }
