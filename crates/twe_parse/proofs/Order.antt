@@ -27,7 +27,7 @@ later : (before front : List ℕ) → 0 < length front → Precedes (place_after
 later before [] some = absurd (omega arith)
 later before (code ∷ front) some = precedes before code front
 
-lexeme_some : (bytes text rest : List ℕ) → IsFirstLexeme bytes text rest → 0 < length bytes
+pub lexeme_some : (bytes text rest : List ℕ) → IsFirstLexeme bytes text rest → 0 < length bytes
 lexeme_some [] text rest first = absurd (no_lexeme first.lexeme)
 lexeme_some (code ∷ bytes) text rest first = omega arith
 

@@ -35,7 +35,7 @@ use Rattle.twe_parse.specs.inner.Reading.{concat, HasTaken, HasRead, EndsEarly, 
 use Rattle.twe_parse.specs.inner.Taking.{Takes, RefusesBy, RefusesToken}
 use Rattle.twe_parse.proofs.Cuts.{no_lexeme, cut_split, cut_append, tokens_from_append, all_snoc, snoc_parts}
 use Rattle.twe_parse.proofs.Located.{FailsToken, token_of, Located, at_byte, at_token, at_end, at_comment, located, concat_append, empty_front}
-use Rattle.twe_parse.proofs.Order.{comment_first, token_first, byte_first}
+use Rattle.twe_parse.proofs.Order.{comment_first, token_first, byte_first, lexeme_some}
 use Rattle.twe_parse.proofs.State.{viable, stray_token, token_more, not_whole, whole_program}
 
 no_token : (before : List Token) (token : Token) (others : List Token) → ◌≡◌ {A = List Token} [] (before ++ token ∷ others) → ⊥
@@ -136,13 +136,13 @@ gap_tokens lexemes bytes gap =
 token_tokens : (lexemes : List (List ℕ)) (bytes : List ℕ) → is_gap bytes ≡ false → tokens_from [] (lexemes ++ bytes ∷ []) ≡ tokens_from [] lexemes ++ token_of (concat lexemes) bytes ∷ []
 token_tokens lexemes bytes token = tokens_from_append [] lexemes (bytes ∷ []) ∙ ap (λ more. tokens_from [] lexemes ++ more) (cond-false (is_gap bytes) _ _ token)
 
-module _ (text : List ℕ) (place next : Place) (rest : List ℕ) (parser : Parser) (read : HasRead text place rest parser) (lexeme : Lexeme) (opens_it : Opens lexeme rest)
-    (moves : (before : List ℕ) → place ≡ place_after before → next ≡ place_after (before ++ take lexeme.len rest)) where
-  bytes : List ℕ
-  bytes = take lexeme.len rest
+module _ (text : List ℕ) (place : Place) (rest : List ℕ) (parser : Parser) (read : HasRead text place rest parser) (lexeme : Lexeme) (opens_it : Opens lexeme rest) where
+  -- the place after the lexeme
+  abbrev Moves : Place → Type 0
+  Moves next = (before : List ℕ) → place ≡ place_after before → next ≡ place_after (before ++ take lexeme.len rest)
 
-  next_is : next ≡ place_after (concat (read.lexemes ++ take lexeme.len rest ∷ []))
-  next_is = moves (concat read.lexemes) read.place_is ∙ ap place_after (sym (concat_snoc read.lexemes (take lexeme.len rest)))
+  next_is : (next : Place) → Moves next → next ≡ place_after (concat (read.lexemes ++ take lexeme.len rest ∷ []))
+  next_is next moves = moves (concat read.lexemes) read.place_is ∙ ap place_after (sym (concat_snoc read.lexemes (take lexeme.len rest)))
 
   cut_more : AreFirstLexemes (read.lexemes ++ take lexeme.len rest ∷ []) text (drop lexeme.len rest)
   cut_more = cut_append read.lexemes (take lexeme.len rest ∷ []) text rest (drop lexeme.len rest) read.cut (drop lexeme.len rest, opens_it.first, refl)
@@ -153,13 +153,13 @@ module _ (text : List ℕ) (place next : Place) (rest : List ℕ) (parser : Pars
       ∙ and_from (list_all is_allowed (concat read.lexemes)) (list_all is_allowed (take lexeme.len rest)) read.allowed opens_it.allowed
 
   -- a blank or a comment more
-  pub gap_read : lexeme.token ≡ None → HasRead text next (drop lexeme.len rest) parser
-  gap_read none =
+  pub gap_read : (next : Place) → Moves next → lexeme.token ≡ None → HasRead text next (drop lexeme.len rest) parser
+  gap_read next moves none =
       let gap = no_kind (take lexeme.len rest) (is_gap (take lexeme.len rest)) refl (sym none ∙ opens_it.token) in
       let same = gap_tokens read.lexemes (take lexeme.len rest) gap in record {
         lexemes = read.lexemes ++ take lexeme.len rest ∷ [];
         cut = cut_more;
-        place_is = next_is;
+        place_is = next_is next moves;
         allowed = allowed_more;
         closed = all_snoc (λ l. ¬ IsUnclosedComment l) read.lexemes (take lexeme.len rest) read.closed opens_it.closed;
         taken = subst (λ (tokens : List Token). HasTaken tokens parser.machine.todo parser.machine.work) (sym same) read.taken;
@@ -177,8 +177,8 @@ module _ (text : List ℕ) (place next : Place) (rest : List ℕ) (parser : Pars
   same_token kind is = λ i. record { kind = (the_token kind is).1 i; place = read.place_is i }
 
   -- a token more
-  pub token_read : (kind : TokenKind) (parser' : Parser) → lexeme.token ≡ Some kind → Takes (record { kind = kind; place = place }) parser parser' → HasRead text next (drop lexeme.len rest) parser'
-  token_read kind parser' is takes =
+  pub token_read : (next : Place) → Moves next → (kind : TokenKind) (parser' : Parser) → lexeme.token ≡ Some kind → Takes (record { kind = kind; place = place }) parser parser' → HasRead text next (drop lexeme.len rest) parser'
+  token_read next moves kind parser' is takes =
       let token = (the_token kind is).0 in
       let here = token_of (concat read.lexemes) (take lexeme.len rest) in
       let same : tokens_from [] (read.lexemes ++ take lexeme.len rest ∷ []) ≡ tokens_from [] read.lexemes ++ (record { kind = kind; place = place }) ∷ [] =
@@ -188,7 +188,7 @@ module _ (text : List ℕ) (place next : Place) (rest : List ℕ) (parser : Pars
       let bounds = small_after parser.sofar kind takes.shallow read.brackets read.operators in record {
         lexemes = read.lexemes ++ take lexeme.len rest ∷ [];
         cut = cut_more;
-        place_is = next_is;
+        place_is = next_is next moves;
         allowed = allowed_more;
         closed = all_snoc (λ l. ¬ IsUnclosedComment l) read.lexemes (take lexeme.len rest) read.closed opens_it.closed;
         taken = subst (λ (tokens : List Token). HasTaken tokens parser'.machine.todo parser'.machine.work) (sym same)
@@ -328,3 +328,20 @@ module _ (text : List ℕ) (end : Place) (parser : Parser) (read : HasRead text 
   end_fails_nothing tree whole rule place fails_so =
       let only = only_at_end rule place (located text end [] parser read rule place fails_so) in
       only.2 (record { items = whole.work.items; end = end }, whole_program (tokens_from [] read.lexemes) parser.machine.todo parser.machine.work whole.work read.taken whole.whole)
+
+-- the first lexeme has some bytes
+pub shrinks : (rest : List ℕ) (lexeme : Lexeme) → Opens lexeme rest → length (drop lexeme.len rest) < length rest
+shrinks rest lexeme opens_it =
+    let some = lexeme_some (take lexeme.len rest) rest (drop lexeme.len rest) opens_it.first in
+    let both = ap length opens_it.first.split ∙ length-append (take lexeme.len rest) (drop lexeme.len rest) in
+    omega arith
+
+pub bytes_fit : (n limit : ℕ) (rest bytes : List ℕ) (lexeme : Lexeme) → Opens lexeme rest → bytes ≡ take lexeme.len rest → n + length rest ≤ limit → n + length bytes ≤ limit
+bytes_fit n limit rest bytes lexeme opens_it bytes_are fits =
+    let both = ap length opens_it.first.split ∙ length-append (take lexeme.len rest) (drop lexeme.len rest) in
+    let same = ap length bytes_are in
+    omega arith
+
+pub none_left : (token : Option TokenKind) → ((kind : TokenKind) → token ≡ Some kind → ⊥) → token ≡ None
+none_left None not = refl
+none_left (Some kind) not = absurd (not kind refl)
