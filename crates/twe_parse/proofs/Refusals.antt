@@ -1,5 +1,5 @@
 -- The parser's steps through a text, and its answers.
-use Rattle.std.proofs.Common.{◌≡◌, ℕ, ◌+◌, ◌-◌, ◌<◌, ◌≤◌, ◌⊎◌, inl, inr, Bool, true, false, not, ◌&&◌, ◌||◌, nat_le, nat_lt, List, [], ◌∷◌, ◌++◌, Option, None, Some, zero, suc, length, get_or, take, drop, drop-cons, refl, sym, ap, ◌∙◌, subst, cond, arith}
+use Rattle.std.proofs.Common.{◌≡◌, ℕ, ◌+◌, ◌-◌, ◌<◌, ◌≤◌, ◌⊎◌, inl, inr, Bool, true, false, not, ◌&&◌, ◌||◌, nat_le, nat_lt, List, [], ◌∷◌, ◌++◌, Option, None, Some, Result, Ok, Err, zero, suc, length, get_or, take, drop, drop-cons, refl, sym, ap, ◌∙◌, subst, cond, arith}
 use Rattle.std.specs.Prelude.{option_and_then, fold, if◌then◌else◌, count_by, IfOk, IfErr}
 use Rattle.std.specs.List.{AllByRecursion, list_all, suffix_len}
 use Rattle.std.proofs.lemmas.Bool.{false≢true, and_from, and_parts, cond-true, cond-false}
@@ -345,3 +345,11 @@ bytes_fit n limit rest bytes lexeme opens_it bytes_are fits =
 pub none_left : (token : Option TokenKind) → ((kind : TokenKind) → token ≡ Some kind → ⊥) → token ≡ None
 none_left None not = refl
 none_left (Some kind) not = absurd (not kind refl)
+
+pub if_ok_map : {T E : Type 0} {P Q : T → Type 0} (r : Result T E) → ((x : T) → P x → Q x) → IfOk r P → IfOk r Q
+if_ok_map (Ok x) so holds = so x holds
+if_ok_map (Err fail) so holds = tt
+
+pub if_err_map : {T E : Type 0} {P Q : E → Type 0} (r : Result T E) → ((x : E) → P x → Q x) → IfErr r P → IfErr r Q
+if_err_map (Ok x) so holds = tt
+if_err_map (Err fail) so holds = so fail holds
