@@ -1,10 +1,8 @@
 -- The machine takes every expression that is written.
-use Rattle.std.proofs.Common.{◌≡◌, ℕ, ◌+◌, ◌≤◌, ◌==◌, Bool, true, false, List, [], ◌∷◌, ◌++◌, Option, None, Some, refl, sym, ap, ◌∙◌, append_assoc, append-nil, arith}
+use Rattle.std.proofs.Common.{◌≡◌, ℕ, ◌+◌, ◌≤◌, true, false, List, [], ◌∷◌, ◌++◌, refl, sym, ap, ◌∙◌, append_assoc, append-nil, arith}
 use Rattle.std.specs.Prelude.{if◌then◌else◌, negsuc}
 use Rattle.std.proofs.lemmas.Bool.{false≢true}
 use Rattle.twe_io.specs.declared.place.Place.{Place}
-use Rattle.twe_ast.specs.declared.expr.BinOp.{BinOp}
-use Rattle.twe_ast.specs.declared.name.Name.{Name}
 use Rattle.twe_ast.specs.Expression.{Expression, expression, Shape, Literal, Negative, CallValue, Arguments, no_more, argument}
 use Rattle.twe_ast.specs.inner.ExpressionView.{arguments_of}
 use Rattle.twe_tokens.specs.declared.fixed.Fixed.TheVariants as fixed
@@ -18,14 +16,14 @@ use Rattle.twe_parse.specs.declared.symbol.Symbol.TheVariants.{Rule, Do}
 use Rattle.twe_parse.specs.declared.work.Work.{Work}
 use Rattle.twe_parse.specs.Levels.{operator, level_of}
 use Rattle.twe_parse.specs.Values.{value_of}
-use Rattle.twe_parse.specs.Written.{word, named, number}
+use Rattle.twe_parse.specs.Written.{word, named}
 use Rattle.twe_parse.specs.WritesExpression.{is_smallest, WritesExpression, written, WritesShape, binary, negative, smallest, negation, literal, yes, no, variable, call, array, grid, parentheses, WritesArguments, no_arguments, arguments, MoreArguments, no_more_arguments, more_arguments}
 use Rattle.twe_parse.specs.inner.Acts.{acted}
 use Rattle.twe_parse.specs.inner.Machine.{result_from}
 use Rattle.twe_parse.specs.inner.Rows.{followed, unary_row, after_minus_row}
 use Rattle.twe_parse.specs.inner.Terminals.{terminal_of}
 use Rattle.twe_parse.specs.inner.Works.{with_expr, kept}
-use Rattle.twe_parse.proofs.Steps.{do_now, by_this_row, left_out, as_unary, level_small, climb_taken, operator_row, Ends, EndsBefore, ends_higher, ends_at_operator, ends_at, ends_last}
+use Rattle.twe_parse.proofs.Steps.{do_now, by_this_row, left_out, as_unary, level_small, climb_taken, operator_row, Ends, ends_higher, ends_at_operator, ends_at, ends_last}
 use Rattle.twe_parse.proofs.FirstTokens.{expression_begins, args_begin}
 
 -- the arguments as a list

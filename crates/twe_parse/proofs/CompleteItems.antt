@@ -1,9 +1,8 @@
 -- The machine takes every program that is written.
-use Rattle.std.proofs.Common.{◌≡◌, ℕ, Bool, true, false, List, [], ◌∷◌, ◌++◌, Option, None, Some, refl, sym, ap, ◌∙◌, append_assoc, append-nil}
+use Rattle.std.proofs.Common.{◌≡◌, Bool, true, false, List, [], ◌∷◌, ◌++◌, Option, Some, refl, sym, ap, ◌∙◌, append_assoc, append-nil}
 use Rattle.twe_io.specs.declared.place.Place.{Place}
 use Rattle.twe_ast.specs.declared.item.CellShape.TheVariants as shapes
 use Rattle.twe_ast.specs.declared.item.Clause.{Clause}
-use Rattle.twe_ast.specs.declared.item.Decl.{Decl}
 use Rattle.twe_ast.specs.declared.item.Initial.{Initial}
 use Rattle.twe_ast.specs.declared.item.Item.{Item as Declaration}
 use Rattle.twe_ast.specs.declared.item.Item.TheVariants as items
@@ -20,17 +19,15 @@ use Rattle.twe_parse.specs.declared.symbol.ItemAct.TheVariants as acts
 use Rattle.twe_parse.specs.declared.symbol.Part.TheVariants as parts
 use Rattle.twe_parse.specs.declared.symbol.StmtAct.TheVariants as stmts
 use Rattle.twe_parse.specs.declared.symbol.Symbol.{Symbol}
-use Rattle.twe_parse.specs.declared.symbol.Symbol.TheVariants as symbols
 use Rattle.twe_parse.specs.declared.symbol.Symbol.TheVariants.{Rule, Do}
 use Rattle.twe_parse.specs.declared.work.Work.{Work}
 use Rattle.twe_parse.specs.Written.{word, named, number}
-use Rattle.twe_parse.specs.Writes.{MoreNames, no_more_names, more_names, WritesInitial, not_written, initial, negative_initial, MoreParams, no_more_params, more_params, WritesParams, no_params, params, WritesEffects, WritesDecl, decl, return_word, WritesItem, regions, cell, array, grid, method, task, deterministic_task, WritesItems, no_more_items, more_items}
-use Rattle.twe_parse.specs.WritesPath.{WritesCellPath}
+use Rattle.twe_parse.specs.Writes.{MoreNames, no_more_names, more_names, WritesInitial, not_written, initial, negative_initial, MoreParams, no_more_params, more_params, WritesParams, no_params, params, WritesEffects, decl, WritesItem, regions, cell, array, grid, method, task, deterministic_task, WritesItems, no_more_items, more_items}
 use Rattle.twe_parse.specs.WritesStatement.{WritesStatements}
 use Rattle.twe_parse.specs.inner.Machine.{result_from}
 use Rattle.twe_parse.specs.inner.Stacks.{below}
 use Rattle.twe_parse.specs.inner.Works.{kept, idle}
-use Rattle.twe_parse.proofs.CompletePaths.{cell_path_taken, effects_taken, no_effects}
+use Rattle.twe_parse.proofs.CompletePaths.{cell_path_taken, effects_taken}
 use Rattle.twe_parse.proofs.CompleteStatements.{statements_taken}
 use Rattle.twe_parse.proofs.Steps.{do_now}
 

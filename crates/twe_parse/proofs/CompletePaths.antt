@@ -1,5 +1,5 @@
 -- The machine takes every path, and all effects, that are written.
-use Rattle.std.proofs.Common.{◌≡◌, ℕ, Bool, true, false, List, [], ◌∷◌, ◌++◌, Option, None, Some, refl, sym, ap, ◌∙◌, append_assoc, append-nil}
+use Rattle.std.proofs.Common.{◌≡◌, Bool, true, false, List, [], ◌∷◌, ◌++◌, Option, refl, sym, ap, ◌∙◌, append_assoc, append-nil}
 use Rattle.twe_io.specs.declared.place.Place.{Place}
 use Rattle.twe_ast.specs.declared.item.Clause.{Clause}
 use Rattle.twe_ast.specs.declared.path.CellElem.{CellElem}
@@ -18,7 +18,7 @@ use Rattle.twe_parse.specs.declared.symbol.StmtAct.TheVariants as stmts
 use Rattle.twe_parse.specs.declared.symbol.Symbol.{Symbol}
 use Rattle.twe_parse.specs.declared.symbol.Symbol.TheVariants.{Rule, Do}
 use Rattle.twe_parse.specs.declared.work.Work.{Work}
-use Rattle.twe_parse.specs.Written.{word, named, number}
+use Rattle.twe_parse.specs.Written.{word, named}
 use Rattle.twe_parse.specs.Writes.{MorePaths, no_more_paths, more_paths, WritesClause, clause, MoreClauses, no_more_clauses, more_clauses, WritesEffects, pure, clauses}
 use Rattle.twe_parse.specs.WritesPath.{WritesCellElem, cell_name, cell_index, MoreCellElems, no_more_cell_elems, more_cell_elems, WritesCellPath, cell_root, cell_region, WritesElem, name, index, parameter, any_index, star, MoreElems, no_more_elems, more_elems, WritesPath, root, region}
 use Rattle.twe_parse.specs.inner.Acts.{acted}

@@ -1,11 +1,9 @@
 -- The machine takes every statement that is written.
-use Rattle.std.proofs.Common.{◌≡◌, ℕ, ◌+◌, ◌≤◌, Bool, true, false, not, List, [], ◌∷◌, ◌++◌, Option, None, Some, refl, sym, ap, ◌∙◌}
+use Rattle.std.proofs.Common.{◌≡◌, ℕ, Bool, true, false, List, [], ◌∷◌, ◌++◌, None, refl, sym, ap, ◌∙◌}
 use Rattle.std.proofs.lemmas.Bool.{false≢true, not-true}
 use Rattle.twe_io.specs.declared.place.Place.{Place}
-use Rattle.twe_ast.specs.declared.name.Name.{Name}
 use Rattle.twe_ast.specs.declared.stmt.Arm.{Arm}
 use Rattle.twe_ast.specs.declared.stmt.LocalType.TheVariants.{Int, Boolean}
-use Rattle.twe_ast.specs.declared.stmt.WaitCall.{WaitCall}
 use Rattle.twe_ast.specs.Expression.{Expression}
 use Rattle.twe_ast.specs.Statement as seen
 use Rattle.twe_ast.specs.Statement.{Statement, Statements, Arms, arm, otherwise, no_else}
@@ -23,14 +21,14 @@ use Rattle.twe_parse.specs.declared.symbol.Symbol.TheVariants.{Rule, Do}
 use Rattle.twe_parse.specs.declared.work.Work.{Work}
 use Rattle.twe_parse.specs.Written.{word, named}
 use Rattle.twe_parse.specs.WritesExpression.{WritesExpression}
-use Rattle.twe_parse.specs.WritesStatement.{WritesWait, wait, WritesStatement, block, let_local, let_final, set, set_array, set_grid, if_arms, while, return_nothing, return_value, print, call, make, wait_for, let_wait, final_wait, WritesStatements, closed, one_more, WritesArms, if_arm, MoreArms, no_more_arms, else_block, else_if}
+use Rattle.twe_parse.specs.WritesStatement.{wait, WritesStatement, block, let_local, let_final, set, set_array, set_grid, if_arms, while, return_nothing, return_value, print, call, make, wait_for, let_wait, final_wait, WritesStatements, closed, one_more, WritesArms, if_arm, MoreArms, no_more_arms, else_block, else_if}
 use Rattle.twe_parse.specs.inner.Machine.{result_from}
 use Rattle.twe_parse.specs.inner.Rows.{after_arm_row}
 use Rattle.twe_parse.specs.inner.Stacks.{below}
 use Rattle.twe_parse.specs.inner.Terminals.{terminal_of}
 use Rattle.twe_parse.specs.inner.Works.{kept, with_expr}
-use Rattle.twe_parse.proofs.CompleteExpressions.{full, all_args, list_of, arguments_again}
-use Rattle.twe_parse.proofs.FirstTokens.{begins_operand, begins_so, expression_begins, return_begins, is_name, value_begins, is_dot, dotless, second_token}
+use Rattle.twe_parse.proofs.CompleteExpressions.{full, all_args, arguments_again}
+use Rattle.twe_parse.proofs.FirstTokens.{expression_begins, return_begins, is_name, is_dot, dotless, second_token}
 use Rattle.twe_parse.proofs.Joining.{joined, joined_end, joined_more, joined_arms, joined_none, joined_last, joined_arm}
 use Rattle.twe_parse.proofs.Steps.{do_now, left_out, as_unary, Ends, ends_at}
 

@@ -1,5 +1,5 @@
 -- What is still to be read can be completed.
-use Rattle.std.proofs.Common.{◌≡◌, ℕ, Bool, true, false, ◌&&◌, List, [], ◌∷◌, ◌++◌, Option, None, Some, refl, sym, ap, ◌∙◌, subst}
+use Rattle.std.proofs.Common.{◌≡◌, Bool, true, false, List, [], ◌∷◌, ◌++◌, Option, None, Some, refl, ap, ◌∙◌, subst}
 use Rattle.std.specs.Prelude.{option_and_then}
 use Rattle.std.proofs.lemmas.Bool.{and_parts, false≢true}
 use Rattle.std.proofs.lemmas.Slice.Eq.{bytes_eq-Decides}
@@ -8,14 +8,11 @@ use Rattle.twe_ast.specs.declared.stmt.LocalType.TheVariants as locals
 use Rattle.twe_tokens.specs.declared.fixed.Fixed.{Fixed}
 use Rattle.twe_tokens.specs.declared.fixed.Fixed.TheVariants as fixed
 use Rattle.twe_tokens.specs.declared.token.Token.{Token}
-use Rattle.twe_parse.specs.declared.row.Row.{Row}
 use Rattle.twe_parse.specs.declared.symbol.Act.{Act}
 use Rattle.twe_parse.specs.declared.symbol.Part.{Part}
 use Rattle.twe_parse.specs.declared.symbol.Part.TheVariants as parts
 use Rattle.twe_parse.specs.declared.symbol.Symbol.{Symbol}
 use Rattle.twe_parse.specs.declared.symbol.Symbol.TheVariants as symbols
-use Rattle.twe_parse.specs.declared.symbol.Terminal.{Terminal}
-use Rattle.twe_parse.specs.declared.symbol.Terminal.TheVariants as next
 use Rattle.twe_parse.specs.declared.work.Work.{Work}
 use Rattle.twe_parse.specs.declared.symbol.Act.TheVariants.{Nothing, Expr, Stmt, Item}
 use Rattle.twe_parse.specs.declared.symbol.CellKind.TheVariants as cells
@@ -25,9 +22,9 @@ use Rattle.twe_parse.specs.declared.symbol.StmtAct.TheVariants as stmts
 use Rattle.twe_tokens.specs.Spelling.{spelling}
 use Rattle.twe_parse.specs.Written.{word, named, number}
 use Rattle.twe_parse.specs.inner.Acts.{acted}
-use Rattle.twe_parse.specs.inner.Machine.{Machine, expected, result_from}
+use Rattle.twe_parse.specs.inner.Machine.{expected, result_from}
 use Rattle.twe_parse.specs.inner.Operators.{operator_of}
-use Rattle.twe_parse.specs.inner.Rows.{row_of, otherwise, suffix_row, second_index_row, climb_row, climb_from, after_arm_row}
+use Rattle.twe_parse.specs.inner.Rows.{row_of, otherwise, suffix_row, second_index_row, climb_from, after_arm_row}
 use Rattle.twe_parse.specs.inner.Terminals.{terminal_of, same_fixed}
 use Rattle.twe_parse.specs.inner.Works.{nowhere, nameless, kept}
 use Rattle.twe_parse.specs.inner.Fine.{harmless, calm, is_last, need, fine}

@@ -1,15 +1,14 @@
 -- How a text is cut into lexemes: in one way only.
-use Rattle.std.proofs.Common.{◌≡◌, ℕ, ◌+◌, ◌<◌, ◌≤◌, ◌⊎◌, inl, inr, Bool, true, false, not, List, [], ◌∷◌, ◌++◌, length, take, drop, zero, suc, refl, sym, ap, ◌∙◌, subst, cond, zero-add, arith}
+use Rattle.std.proofs.Common.{◌≡◌, ℕ, ◌+◌, ◌⊎◌, inl, inr, Bool, true, false, not, List, [], ◌∷◌, ◌++◌, length, take, drop, refl, sym, ap, ◌∙◌, subst, cond, zero-add, arith}
 use Rattle.std.specs.Prelude.{if◌then◌else◌, count_by}
-use Rattle.std.specs.List.{AllByRecursion, list_all, suffix_len, prefix_len}
-use Rattle.std.proofs.lemmas.Bool.{cond-true, cond-false, cond_both, and_parts, false≢true}
-use Rattle.std.proofs.lemmas.Bool.Decides.{nat_tests}
-use Rattle.std.proofs.lemmas.List.{append_assoc, append-nil, take_at, drop_at, length-append, length_push, take_all, reverse-append}
+use Rattle.std.specs.List.{AllByRecursion, suffix_len, prefix_len}
+use Rattle.std.proofs.lemmas.Bool.{cond-true, cond-false}
+use Rattle.std.proofs.lemmas.List.{append_assoc, append-nil, take_at, drop_at, reverse-append}
 use Rattle.std.proofs.lemmas.List.Sums.{sum_by-append}
 use Rattle.twe_io.specs.declared.place.Place.{Place}
 use Rattle.twe_tokens.specs.declared.token.Token.{Token}
 use Rattle.twe_tokens.specs.Kinds.{kind_of}
-use Rattle.twe_tokens.specs.Lexeme.{is_line_end, is_allowed, IsLexeme, IsFirstLexeme, IsUnclosedComment, one_byte, long_symbol, word, number, line_comment, block_comment, unclosed_comment}
+use Rattle.twe_tokens.specs.Lexeme.{is_line_end, IsLexeme, IsFirstLexeme, one_byte, long_symbol, word, number, line_comment, block_comment, unclosed_comment}
 use Rattle.twe_tokens.specs.Places.{place_after, is_gap, Precedes}
 use Rattle.twe_tokens.specs.Tokens.{AreFirstLexemes, tokens_from}
 use Rattle.twe_parse.specs.inner.Reading.{concat}

@@ -1,11 +1,9 @@
 -- What is still to be read and done can always be completed: no part that may be left out stands before a token that
 -- would go on with it.
-use Rattle.std.proofs.Common.{◌≡◌, ℕ, ◌+◌, Bool, true, false, ◌&&◌, List, [], ◌∷◌, ◌++◌, Option, None, Some, nat_le, refl, sym, ap, ◌∙◌}
+use Rattle.std.proofs.Common.{◌≡◌, ℕ, Bool, true, false, ◌&&◌, List, [], ◌∷◌, ◌++◌, Option, None, Some, nat_le, sym, ap, ◌∙◌}
 use Rattle.std.specs.Prelude.{if◌then◌else◌}
 use Rattle.std.proofs.lemmas.Bool.{and_parts, and_from}
 use Rattle.twe_ast.specs.declared.expr.BinOp.{BinOp}
-use Rattle.twe_ast.specs.declared.expr.BinOp.TheVariants as operators
-use Rattle.twe_tokens.specs.declared.fixed.Fixed.{Fixed}
 use Rattle.twe_tokens.specs.declared.fixed.Fixed.TheVariants as fixed
 use Rattle.twe_tokens.specs.declared.token.Token.{Token}
 use Rattle.twe_parse.specs.declared.row.Row.{Row}
@@ -20,11 +18,11 @@ use Rattle.twe_parse.specs.declared.work.Work.{Work}
 use Rattle.twe_parse.specs.declared.symbol.CellKind.{CellKind}
 use Rattle.twe_parse.specs.declared.symbol.CellKind.TheVariants as cells
 use Rattle.twe_parse.specs.inner.Acts.{acted}
-use Rattle.twe_parse.specs.inner.Fine.{harmless, calm, is_last, need, fine}
+use Rattle.twe_parse.specs.inner.Fine.{calm, is_last, need, fine}
 use Rattle.twe_parse.specs.inner.Machine.{Machine, expected, by_row, after}
 use Rattle.twe_parse.specs.inner.Operators.{operator_of}
 use Rattle.twe_parse.specs.Levels.{level_of}
-use Rattle.twe_parse.specs.inner.Rows.{row_of, otherwise, climb_from, items_row, more_regions_row, after_int_row, after_length_row, cell_path_row, cell_rest_row, cell_elem_row, initial_row, task_returns_row, params_row, more_params_row, effects_row, path_row, path_rest_row, elem_row, index_row, statements_row, local_type_row, int_value_row, after_value_name_row, after_name_row, after_index_row, awaited_row, awaited_value_row, make_row, after_arm_row, else_body_row, return_value_row, args_row, more_args_row, unary_row, after_minus_row, suffix_row, second_index_row, climb_row}
+use Rattle.twe_parse.specs.inner.Rows.{row_of, otherwise, climb_from, items_row, more_regions_row, after_int_row, after_length_row, cell_path_row, cell_rest_row, cell_elem_row, initial_row, task_returns_row, params_row, more_params_row, effects_row, path_row, path_rest_row, elem_row, index_row, statements_row, local_type_row, int_value_row, after_value_name_row, after_name_row, after_index_row, awaited_row, awaited_value_row, make_row, after_arm_row, else_body_row, return_value_row, args_row, more_args_row, unary_row, after_minus_row, suffix_row, second_index_row}
 use Rattle.twe_parse.specs.inner.Terminals.{terminal_of, meets}
 use Rattle.twe_parse.proofs.Steps.{operator_row}
 

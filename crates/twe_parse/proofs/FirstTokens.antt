@@ -1,26 +1,22 @@
 -- What the first tokens of an expression can be.
-use Rattle.std.proofs.Common.{◌≡◌, ℕ, Bool, true, false, List, [], ◌∷◌, ◌++◌, Option, None, Some, not, refl, sym, ap}
+use Rattle.std.proofs.Common.{◌≡◌, ℕ, Bool, true, false, List, [], ◌∷◌, not, refl, sym, ap}
 use Rattle.std.proofs.lemmas.Bool.{false≢true}
-use Rattle.twe_io.specs.declared.place.Place.{Place}
 use Rattle.twe_ast.specs.declared.expr.BinOp.{BinOp}
 use Rattle.twe_ast.specs.declared.expr.BinOp.TheVariants as operators
 use Rattle.twe_ast.specs.Expression.{Expression, Shape}
 use Rattle.twe_tokens.specs.declared.fixed.Fixed.TheVariants as fixed
 use Rattle.twe_tokens.specs.declared.token.Token.{Token}
-use Rattle.twe_parse.specs.declared.row.Row.{Row}
 use Rattle.twe_parse.specs.declared.symbol.Act.TheVariants.{Expr, Stmt}
 use Rattle.twe_parse.specs.declared.symbol.ExprAct.TheVariants as exprs
 use Rattle.twe_parse.specs.declared.symbol.Part.TheVariants as parts
 use Rattle.twe_parse.specs.declared.symbol.StmtAct.TheVariants as stmts
-use Rattle.twe_parse.specs.declared.symbol.Symbol.{Symbol}
 use Rattle.twe_parse.specs.declared.symbol.Symbol.TheVariants as symbols
 use Rattle.twe_parse.specs.declared.symbol.Terminal.{Terminal}
 use Rattle.twe_parse.specs.declared.symbol.Terminal.TheVariants as next
 use Rattle.twe_ast.specs.declared.stmt.LocalType.TheVariants as locals
-use Rattle.twe_parse.specs.Levels.{operator, level_of}
-use Rattle.twe_parse.specs.Written.{word, named, number}
+use Rattle.twe_parse.specs.Levels.{operator}
 use Rattle.twe_parse.specs.WritesExpression.{WritesExpression, written, WritesShape, binary, negative, smallest, negation, literal, yes, no, variable, call, array, grid, parentheses}
-use Rattle.twe_parse.specs.inner.Rows.{followed, unary_row, args_row, return_value_row, after_minus_row, int_value_row}
+use Rattle.twe_parse.specs.inner.Rows.{followed, unary_row, args_row, return_value_row, int_value_row}
 use Rattle.twe_parse.specs.inner.Stacks.{below}
 use Rattle.twe_parse.specs.inner.Terminals.{terminal_of}
 

@@ -1,5 +1,5 @@
 -- Lists put in front of the statements of a block and of the arms of an `if`.
-use Rattle.std.proofs.Common.{◌≡◌, List, [], ◌∷◌, ◌++◌, Option, None, Some, refl, ap}
+use Rattle.std.proofs.Common.{◌≡◌, List, [], ◌∷◌, ◌++◌, None, Some, refl, ap}
 use Rattle.twe_io.specs.declared.place.Place.{Place}
 use Rattle.twe_ast.specs.declared.stmt.Arm.{Arm}
 use Rattle.twe_ast.specs.Expression.{Expression}

@@ -1,24 +1,23 @@
 -- Where a failure of a text can stand, once a part of the text has been read in which nothing fails.
-use Rattle.std.proofs.Common.{◌≡◌, ℕ, ◌+◌, ◌<◌, ◌≤◌, ◌⊎◌, inl, inr, Bool, true, false, List, [], ◌∷◌, ◌++◌, zero, suc, length, get_or, take, drop, refl, sym, ap, ◌∙◌, subst, arith}
+use Rattle.std.proofs.Common.{◌≡◌, ℕ, ◌+◌, ◌⊎◌, inl, inr, true, false, List, [], ◌∷◌, ◌++◌, length, take, refl, sym, ap, ◌∙◌, subst, arith}
 use Rattle.std.specs.List.{AllByRecursion, list_all}
 use Rattle.std.proofs.lemmas.Bool.{false≢true, and_parts}
-use Rattle.std.proofs.lemmas.List.{append_assoc, append-nil, length-append, take-append-drop, length-take-le, take_at}
+use Rattle.std.proofs.lemmas.List.{append_assoc, append-nil, length-append, take_at}
 use Rattle.twe_io.specs.declared.place.Place.{Place}
 use Rattle.twe_tokens.specs.declared.token.Token.{Token}
-use Rattle.twe_tokens.specs.Front.{Opens, StopsAt}
 use Rattle.twe_tokens.specs.Kinds.{kind_of}
-use Rattle.twe_tokens.specs.Lexeme.{is_allowed, is_word_byte, is_word, is_number, is_long_symbol, IsLexeme, one_byte, long_symbol, word, number, line_comment, block_comment, unclosed_comment, IsFirstLexeme, IsUnclosedComment}
-use Rattle.twe_tokens.specs.Places.{place_after, is_gap, Precedes}
+use Rattle.twe_tokens.specs.Lexeme.{is_allowed, IsLexeme, unclosed_comment, IsFirstLexeme, IsUnclosedComment}
+use Rattle.twe_tokens.specs.Places.{place_after, is_gap}
 use Rattle.twe_tokens.specs.Tokens.{AreFirstLexemes, tokens_from, BeginsWith}
 use Rattle.twe_parse.specs.declared.fail.SRule.{SRule}
 use Rattle.twe_parse.specs.declared.fail.SRule.TheVariants.{S1, S2, S3, S4, S5, S6}
 use Rattle.twe_parse.specs.declared.parser.Parser.{Parser}
-use Rattle.twe_parse.specs.Fails.{Fails, byte, stray, unfinished, too_large, too_deep, unclosed, rank, ComesFirst}
+use Rattle.twe_parse.specs.Fails.{Fails, byte, stray, unfinished, too_large, too_deep, unclosed}
 use Rattle.twe_parse.specs.Limits.{sofar_of, is_too_large, is_too_deep}
 use Rattle.twe_parse.specs.Viable.{IsProgram, IsViable}
 use Rattle.twe_parse.specs.Writes.{WritesItems}
-use Rattle.twe_parse.specs.inner.Reading.{concat, HasTaken, HasRead}
-use Rattle.twe_parse.proofs.Cuts.{no_lexeme, one_first, cut_split, cut_append, compare_cuts, tokens_from_append, LastToken, none, last, last_token, snoc_parts, all_at, precedes}
+use Rattle.twe_parse.specs.inner.Reading.{concat, HasRead}
+use Rattle.twe_parse.proofs.Cuts.{no_lexeme, one_first, cut_split, cut_append, compare_cuts, tokens_from_append, LastToken, none, last, last_token, snoc_parts, all_at}
 use Rattle.twe_parse.proofs.State.{viable}
 
 -- a token fails one of the three rules that tokens can fail

@@ -1,5 +1,5 @@
 -- Which failure of a text comes first, once a part of the text has been read in which nothing fails.
-use Rattle.std.proofs.Common.{◌≡◌, ℕ, ◌+◌, ◌<◌, ◌≤◌, ◌⊎◌, inl, inr, ⊎_elim, Bool, true, false, List, [], ◌∷◌, ◌++◌, zero, suc, length, get_or, take, drop, refl, sym, ap, ◌∙◌, subst, arith}
+use Rattle.std.proofs.Common.{◌≡◌, ℕ, ◌<◌, ◌≤◌, inl, inr, ⊎_elim, Bool, true, false, List, [], ◌∷◌, ◌++◌, zero, suc, length, get_or, take, drop, refl, sym, ap, ◌∙◌, subst, arith}
 use Rattle.std.specs.List.{AllByRecursion, list_all, list_any}
 use Rattle.std.specs.Char.{is_ascii_digit}
 use Rattle.std.proofs.Math.ListN.{get_or-append}
@@ -12,9 +12,9 @@ use Rattle.std.proofs.lemmas.Slice.Eq.{bytes_eq-Decides}
 use Rattle.twe_io.specs.declared.place.Place.{Place}
 use Rattle.twe_tokens.specs.declared.token.Token.{Token}
 use Rattle.twe_tokens.specs.Front.{StopsAt}
-use Rattle.twe_tokens.specs.Lexeme.{is_allowed, is_letter, is_word_byte, is_word, is_number, long_symbols, is_long_symbol, IsLexeme, one_byte, long_symbol, word, number, line_comment, block_comment, unclosed_comment, IsFirstLexeme, IsUnclosedComment}
+use Rattle.twe_tokens.specs.Lexeme.{is_allowed, is_letter, is_word_byte, is_word, is_number, long_symbols, IsLexeme, one_byte, long_symbol, word, number, line_comment, block_comment, unclosed_comment, IsFirstLexeme, IsUnclosedComment}
 use Rattle.twe_tokens.specs.Places.{place_after, is_gap, Precedes}
-use Rattle.twe_tokens.specs.Tokens.{AreFirstLexemes, tokens_from}
+use Rattle.twe_tokens.specs.Tokens.{tokens_from}
 use Rattle.twe_parse.specs.declared.fail.SRule.{SRule}
 use Rattle.twe_parse.specs.declared.fail.SRule.TheVariants.{S1, S2, S3, S4, S5, S6}
 use Rattle.twe_parse.specs.Fails.{rank, ComesFirst}

@@ -1,8 +1,8 @@
 -- The parser's steps through a text, and its answers.
-use Rattle.std.proofs.Common.{◌≡◌, ℕ, ◌+◌, ◌-◌, ◌<◌, ◌≤◌, ◌⊎◌, inl, inr, Bool, true, false, not, ◌&&◌, ◌||◌, nat_le, nat_lt, List, [], ◌∷◌, ◌++◌, Option, None, Some, Result, Ok, Err, zero, suc, length, get_or, take, drop, drop-cons, refl, sym, ap, ◌∙◌, subst, cond, arith}
-use Rattle.std.specs.Prelude.{option_and_then, fold, if◌then◌else◌, count_by, IfOk, IfErr}
-use Rattle.std.specs.List.{AllByRecursion, list_all, suffix_len}
-use Rattle.std.proofs.lemmas.Bool.{false≢true, and_from, and_parts, cond-true, cond-false}
+use Rattle.std.proofs.Common.{◌≡◌, ℕ, ◌+◌, ◌-◌, ◌<◌, ◌≤◌, ◌⊎◌, inl, inr, Bool, true, false, not, ◌&&◌, ◌||◌, nat_le, nat_lt, List, [], ◌∷◌, ◌++◌, Option, None, Some, Result, Ok, Err, suc, length, get_or, take, drop, drop-cons, refl, sym, ap, ◌∙◌, subst, arith}
+use Rattle.std.specs.Prelude.{if◌then◌else◌, count_by, IfOk, IfErr}
+use Rattle.std.specs.List.{list_all, suffix_len}
+use Rattle.std.proofs.lemmas.Bool.{false≢true, and_from, cond-true, cond-false}
 use Rattle.std.proofs.lemmas.Bool.Decides.{nat_tests}
 use Rattle.std.proofs.lemmas.List.{append_assoc, append-nil, length-append, take-append-drop}
 use Rattle.std.proofs.lemmas.List.Folds.{list_all-append}
@@ -13,9 +13,9 @@ use Rattle.twe_ast.specs.declared.item.Item.{Item}
 use Rattle.twe_tokens.specs.declared.lexeme.Lexeme.{Lexeme}
 use Rattle.twe_tokens.specs.declared.token.Token.{Token}
 use Rattle.twe_tokens.specs.declared.token.TokenKind.{TokenKind}
-use Rattle.twe_tokens.specs.Front.{Opens, StopsAt}
+use Rattle.twe_tokens.specs.Front.{Opens}
 use Rattle.twe_tokens.specs.Kinds.{kind_of, token_kind}
-use Rattle.twe_tokens.specs.Lexeme.{is_allowed, is_line_end, IsLexeme, IsFirstLexeme, IsUnclosedComment}
+use Rattle.twe_tokens.specs.Lexeme.{is_allowed, is_line_end, IsLexeme, IsUnclosedComment}
 use Rattle.twe_tokens.specs.Places.{place_after, is_gap}
 use Rattle.twe_tokens.specs.Tokens.{AreFirstLexemes, tokens_from, BeginsWith}
 use Rattle.twe_parse.specs.declared.fail.ParseFail.{ParseFail}
@@ -29,11 +29,11 @@ use Rattle.twe_parse.specs.Limits.{opens, closes, is_operator, ends_statement, s
 use Rattle.twe_parse.specs.Viable.{IsProgram, IsViable}
 use Rattle.twe_parse.specs.Writes.{Writes, WritesItems}
 use Rattle.twe_parse.specs.inner.Fine.{fine}
-use Rattle.twe_parse.specs.inner.Machine.{Machine, start, after, finished, result_from}
+use Rattle.twe_parse.specs.inner.Machine.{Machine, start, after, result_from}
 use Rattle.twe_parse.specs.inner.Parsing.{RefusesFront, RefusesLexeme}
 use Rattle.twe_parse.specs.inner.Reading.{concat, HasTaken, HasRead, EndsEarly, EndsWhole}
 use Rattle.twe_parse.specs.inner.Taking.{Takes, RefusesBy, RefusesToken}
-use Rattle.twe_parse.proofs.Cuts.{no_lexeme, cut_split, cut_append, tokens_from_append, all_snoc, snoc_parts}
+use Rattle.twe_parse.proofs.Cuts.{no_lexeme, cut_split, cut_append, tokens_from_append, all_snoc}
 use Rattle.twe_parse.proofs.Located.{FailsToken, token_of, Located, at_byte, at_token, at_end, at_comment, located, concat_append, empty_front}
 use Rattle.twe_parse.proofs.Order.{comment_first, token_first, byte_first, lexeme_some}
 use Rattle.twe_parse.proofs.State.{viable, stray_token, token_more, not_whole, whole_program}
@@ -124,9 +124,10 @@ room_counted false false inside n shallow is = absurd (false≢true is)
 
 -- the counts stay small where nothing is too deep
 small_after : (sofar : Sofar) (kind : TokenKind) → is_too_deep sofar kind ≡ false → sofar.open_brackets ≤ 200 → sofar.operators ≤ 200 → ((sofar_after sofar kind).open_brackets ≤ 200) × ((sofar_after sofar kind).operators ≤ 200)
-small_after sofar kind shallow brackets operators =
-    (opened_small (opens kind) (closes kind) (is_too_deep sofar kind) sofar.open_brackets shallow brackets (λ is deep. room_left (opens kind) sofar.open_brackets _ shallow is),
-     counted_small (ends_statement kind) (is_operator kind && nat_lt 0 sofar.open_brackets) sofar.operators operators (λ is. room_counted (opens kind && nat_le 200 sofar.open_brackets) (is_operator kind) (nat_lt 0 sofar.open_brackets) sofar.operators shallow is))
+small_after sofar kind shallow brackets operators = (
+  opened_small (opens kind) (closes kind) (is_too_deep sofar kind) sofar.open_brackets shallow brackets (λ is deep. room_left (opens kind) sofar.open_brackets _ shallow is),
+  counted_small (ends_statement kind) (is_operator kind && nat_lt 0 sofar.open_brackets) sofar.operators operators (λ is. room_counted (opens kind && nat_le 200 sofar.open_brackets) (is_operator kind) (nat_lt 0 sofar.open_brackets) sofar.operators shallow is),
+)
 
 -- the tokens after one lexeme more
 gap_tokens : (lexemes : List (List ℕ)) (bytes : List ℕ) → is_gap bytes ≡ true → tokens_from [] (lexemes ++ bytes ∷ []) ≡ tokens_from [] lexemes
@@ -182,9 +183,9 @@ module _ (text : List ℕ) (place : Place) (rest : List ℕ) (parser : Parser) (
       let token = (the_token kind is).0 in
       let here = token_of (concat read.lexemes) (take lexeme.len rest) in
       let same : tokens_from [] (read.lexemes ++ take lexeme.len rest ∷ []) ≡ tokens_from [] read.lexemes ++ (record { kind = kind; place = place }) ∷ [] =
-            token_tokens read.lexemes (take lexeme.len rest) token ∙ ap (λ (t : Token). tokens_from [] read.lexemes ++ t ∷ []) (sym (same_token kind is)) in
+      token_tokens read.lexemes (take lexeme.len rest) token ∙ ap (λ (t : Token). tokens_from [] read.lexemes ++ t ∷ []) (sym (same_token kind is)) in
       let small : (is_too_large (sofar_of (tokens_from [] read.lexemes)) kind ≡ false) × (is_too_deep (sofar_of (tokens_from [] read.lexemes)) kind ≡ false) =
-            (ap (λ (s : Sofar). is_too_large s kind) (sym read.limits) ∙ takes.small, ap (λ (s : Sofar). is_too_deep s kind) (sym read.limits) ∙ takes.shallow) in
+      (ap (λ (s : Sofar). is_too_large s kind) (sym read.limits) ∙ takes.small, ap (λ (s : Sofar). is_too_deep s kind) (sym read.limits) ∙ takes.shallow) in
       let bounds = small_after parser.sofar kind takes.shallow read.brackets read.operators in record {
         lexemes = read.lexemes ++ take lexeme.len rest ∷ [];
         cut = cut_more;
@@ -192,7 +193,7 @@ module _ (text : List ℕ) (place : Place) (rest : List ℕ) (parser : Parser) (
         allowed = allowed_more;
         closed = all_snoc (λ l. ¬ IsUnclosedComment l) read.lexemes (take lexeme.len rest) read.closed opens_it.closed;
         taken = subst (λ (tokens : List Token). HasTaken tokens parser'.machine.todo parser'.machine.work) (sym same)
-          (token_more (tokens_from [] read.lexemes) parser.machine.todo parser.machine.work (record { kind = kind; place = place }) (parser'.machine.todo, parser'.machine.work) read.taken takes.machine);
+            (token_more (tokens_from [] read.lexemes) parser.machine.todo parser.machine.work (record { kind = kind; place = place }) (parser'.machine.todo, parser'.machine.work) read.taken takes.machine);
         limits = takes.sofar ∙ ap (λ (s : Sofar). sofar_after s kind) read.limits ∙ sym (ap sofar_of same ∙ sofar_snoc (tokens_from [] read.lexemes) (record { kind = kind; place = place }));
         brackets = subst (λ (s : Sofar). s.open_brackets ≤ 200) (sym takes.sofar) bounds.0;
         operators = subst (λ (s : Sofar). s.operators ≤ 200) (sym takes.sofar) bounds.1;
@@ -200,14 +201,15 @@ module _ (text : List ℕ) (place : Place) (rest : List ℕ) (parser : Parser) (
       }
     where
       passes_more : (before : List Token) (t : Token) (others : List Token) → tokens_from [] read.lexemes ++ (record { kind = kind; place = place }) ∷ [] ≡ before ++ t ∷ others
-        → ((is_too_large (sofar_of (tokens_from [] read.lexemes)) kind ≡ false) × (is_too_deep (sofar_of (tokens_from [] read.lexemes)) kind ≡ false))
-        → (is_too_large (sofar_of before) t.kind ≡ false) × (is_too_deep (sofar_of before) t.kind ≡ false)
+          → ((is_too_large (sofar_of (tokens_from [] read.lexemes)) kind ≡ false) × (is_too_deep (sofar_of (tokens_from [] read.lexemes)) kind ≡ false))
+          → (is_too_large (sofar_of before) t.kind ≡ false) × (is_too_deep (sofar_of before) t.kind ≡ false)
       passes_more before t others split small = by_last (last_or_not before t others (tokens_from [] read.lexemes) (record { kind = kind; place = place }) split)
         where
           by_last : ((before ≡ tokens_from [] read.lexemes) × (t ≡ record { kind = kind; place = place })) ⊎ ((more : List Token) × (tokens_from [] read.lexemes ≡ before ++ t ∷ more)) → (is_too_large (sofar_of before) t.kind ≡ false) × (is_too_deep (sofar_of before) t.kind ≡ false)
-          by_last (inl (all, here)) =
-              (subst (λ (b : List Token). is_too_large (sofar_of b) t.kind ≡ false) (sym all) (subst (λ (x : Token). is_too_large (sofar_of (tokens_from [] read.lexemes)) x.kind ≡ false) (sym here) small.0),
-               subst (λ (b : List Token). is_too_deep (sofar_of b) t.kind ≡ false) (sym all) (subst (λ (x : Token). is_too_deep (sofar_of (tokens_from [] read.lexemes)) x.kind ≡ false) (sym here) small.1))
+          by_last (inl (all, here)) = (
+            subst (λ (b : List Token). is_too_large (sofar_of b) t.kind ≡ false) (sym all) (subst (λ (x : Token). is_too_large (sofar_of (tokens_from [] read.lexemes)) x.kind ≡ false) (sym here) small.0),
+            subst (λ (b : List Token). is_too_deep (sofar_of b) t.kind ≡ false) (sym all) (subst (λ (x : Token). is_too_deep (sofar_of (tokens_from [] read.lexemes)) x.kind ≡ false) (sym here) small.1),
+          )
           by_last (inr (more, is)) = read.passes before t more is
 
   begins_here : (kind : TokenKind) → lexeme.token ≡ Some kind → BeginsWith text (tokens_from [] read.lexemes ++ (record { kind = kind; place = place }) ∷ []) (drop lexeme.len rest)
@@ -219,13 +221,13 @@ module _ (text : List ℕ) (place : Place) (rest : List ℕ) (parser : Parser) (
 
   -- a rule fails at the token, and none of a lower number
   refusal_at : (kind : TokenKind) (rule : SRule) → lexeme.token ≡ Some kind → Fails text rule place
-    → ((other : SRule) → FailsToken other (tokens_from [] read.lexemes) (record { kind = kind; place = place }) → rank rule ≤ rank other) → IsRefusal text rule place
+      → ((other : SRule) → FailsToken other (tokens_from [] read.lexemes) (record { kind = kind; place = place }) → rank rule ≤ rank other) → IsRefusal text rule place
   refusal_at kind rule is fails lowest = record {
     fails = fails;
     first = λ other its found.
-      subst (λ (at : Place). ComesFirst rule at other its) (sym read.place_is)
+        subst (λ (at : Place). ComesFirst rule at other its) (sym read.place_is)
         (token_first text rest read.lexemes (cut_split read.lexemes text rest read.cut) (take lexeme.len rest) (drop lexeme.len rest) opens_it.first (the_token kind is).0 opens_it.allowed opens_it.closed rule
-          (λ its_rule its_fails. lowest its_rule (subst (λ (t : Token). FailsToken its_rule (tokens_from [] read.lexemes) t) (sym (same_token kind is)) its_fails)) other its (located text place rest parser read other its found));
+        (λ its_rule its_fails. lowest its_rule (subst (λ (t : Token). FailsToken its_rule (tokens_from [] read.lexemes) t) (sym (same_token kind is)) its_fails)) other its (located text place rest parser read other its found));
   }
 
   viable_so : (kind : TokenKind) (machine : Machine) → after (record { kind = kind; place = place }) parser.machine.todo parser.machine.work ≡ Some machine → IsViable (tokens_from [] read.lexemes ++ (record { kind = kind; place = place }) ∷ [])
@@ -235,7 +237,7 @@ module _ (text : List ℕ) (place : Place) (rest : List ℕ) (parser : Parser) (
   token_by : (kind : TokenKind) (rule : SRule) → lexeme.token ≡ Some kind → RefusesBy rule (record { kind = kind; place = place }) parser → IsRefusal text rule place
   token_by kind S2 is none = refusal_at kind S2 is
       (stray (tokens_from [] read.lexemes) (record { kind = kind; place = place }) (drop lexeme.len rest) (begins_here kind is)
-        (viable (tokens_from [] read.lexemes) parser.machine.todo parser.machine.work read.taken) (stray_token (tokens_from [] read.lexemes) parser.machine.todo parser.machine.work (record { kind = kind; place = place }) read.taken none))
+      (viable (tokens_from [] read.lexemes) parser.machine.todo parser.machine.work read.taken) (stray_token (tokens_from [] read.lexemes) parser.machine.todo parser.machine.work (record { kind = kind; place = place }) read.taken none))
       lowest
     where
       lowest : (other : SRule) → FailsToken other (tokens_from [] read.lexemes) (record { kind = kind; place = place }) → 2 ≤ rank other
@@ -276,7 +278,7 @@ module _ (text : List ℕ) (place : Place) (rest : List ℕ) (parser : Parser) (
       let code = get_or rest n 0 in
       let within : n < length rest = let both = ap length stops.first.split ∙ length-append stops.bytes stops.rest in let w = stops.within in omega arith in
       let cut : text ≡ (concat read.lexemes ++ take n rest) ++ (code ∷ drop (suc n) rest) =
-            whole_split ∙ ap (λ r. concat read.lexemes ++ r) (sym (take-append-drop n rest) ∙ ap (λ r. take n rest ++ r) (drop-cons rest n 0 within)) ∙ sym (append_assoc (concat read.lexemes) (take n rest) (code ∷ drop (suc n) rest)) in
+      whole_split ∙ ap (λ r. concat read.lexemes ++ r) (sym (take-append-drop n rest) ∙ ap (λ r. take n rest ++ r) (drop-cons rest n 0 within)) ∙ sym (append_assoc (concat read.lexemes) (take n rest) (code ∷ drop (suc n) rest)) in
       subst (λ (p : Place). IsRefusal text S1 p) (sym (at_is (concat read.lexemes) read.place_is)) (record {
         fails = byte (concat read.lexemes ++ take n rest) (drop (suc n) rest) code cut stops.here;
         first = λ other its found. byte_first text rest read.lexemes whole_split n stops other its (located text place rest parser read other its found);
@@ -313,16 +315,18 @@ module _ (text : List ℕ) (end : Place) (parser : Parser) (read : HasRead text 
   pub end_refused : (fail : ParseFail) → EndsEarly fail end parser → Refuses fail text
   end_refused (fails.Syntax S3 place) (is, none) = subst (λ (p : Place). IsRefusal text S3 p) (sym (is ∙ end_is)) (record {
     fails = unfinished (tokens_from [] read.lexemes) (record { lexemes = read.lexemes; cut = read.cut; same = refl }) (viable (tokens_from [] read.lexemes) parser.machine.todo parser.machine.work read.taken)
-      (not_whole (tokens_from [] read.lexemes) parser.machine.todo parser.machine.work read.taken none);
+        (not_whole (tokens_from [] read.lexemes) parser.machine.todo parser.machine.work read.taken none);
     first = λ other its found. let only = only_at_end other its (located text end [] parser read other its found) in inr (sym only.1, subst (λ (r : SRule). 3 ≤ rank r) (sym only.0) (omega arith));
   })
   end_refused (fails.Syntax _ place) early = absurd early
   end_refused (fails.OutOfMemory memory) early = tt
 
   pub end_accepted : (tree : Ast) → EndsWhole tree end parser → ((tokens : List Token) × BeginsWith text tokens [] × Writes tree tokens)
-  end_accepted tree whole =
-      (tokens_from [] read.lexemes, record { lexemes = read.lexemes; cut = read.cut; same = refl },
-       subst (λ (all : List Item). WritesItems all (tokens_from [] read.lexemes)) (sym whole.items) (whole_program (tokens_from [] read.lexemes) parser.machine.todo parser.machine.work whole.work read.taken whole.whole))
+  end_accepted tree whole = (
+    tokens_from [] read.lexemes,
+    record { lexemes = read.lexemes; cut = read.cut; same = refl },
+    subst (λ (all : List Item). WritesItems all (tokens_from [] read.lexemes)) (sym whole.items) (whole_program (tokens_from [] read.lexemes) parser.machine.todo parser.machine.work whole.work read.taken whole.whole),
+  )
 
   pub end_fails_nothing : (tree : Ast) → EndsWhole tree end parser → (rule : SRule) (place : Place) → ¬ Fails text rule place
   end_fails_nothing tree whole rule place fails_so =

@@ -1,11 +1,8 @@
 -- What the machine takes is written by a tree.
-use Rattle.std.proofs.Common.{◌≡◌, ℕ, ◌+◌, ◌≤◌, Bool, true, false, List, [], ◌∷◌, ◌++◌, Option, None, Some, refl, sym, ap, ◌∙◌, subst}
+use Rattle.std.proofs.Common.{◌≡◌, Bool, true, false, List, [], ◌∷◌, ◌++◌, Option, None, Some, refl, sym, ap, ◌∙◌, subst}
 use Rattle.std.specs.Prelude.{option_and_then}
-use Rattle.std.specs.Str.{bytes_eq}
-use Rattle.std.proofs.lemmas.Bool.{false≢true}
 use Rattle.std.proofs.lemmas.Slice.Eq.{bytes_eq-Decides}
 use Rattle.twe_io.specs.declared.place.Place.{Place}
-use Rattle.twe_ast.specs.declared.item.Item.{Item}
 use Rattle.twe_ast.specs.Statement.{no_else}
 use Rattle.twe_tokens.specs.declared.fixed.Fixed.{Fixed}
 use Rattle.twe_tokens.specs.declared.fixed.Fixed.TheVariants as fixed
@@ -20,8 +17,8 @@ use Rattle.twe_parse.specs.declared.symbol.Part.TheVariants as parts
 use Rattle.twe_parse.specs.declared.symbol.Symbol.{Symbol}
 use Rattle.twe_parse.specs.declared.symbol.Symbol.TheVariants as symbols
 use Rattle.twe_parse.specs.declared.work.Work.{Work}
-use Rattle.twe_parse.specs.Written.{word, named, number}
-use Rattle.twe_parse.specs.Writes.{WritesItems, no_more_items}
+use Rattle.twe_parse.specs.Written.{word}
+use Rattle.twe_parse.specs.Writes.{no_more_items}
 use Rattle.twe_parse.specs.WritesExpression.{written, variable, array}
 use Rattle.twe_parse.specs.WritesStatement.{no_more_arms}
 use Rattle.twe_parse.specs.inner.Acts.{acted}

@@ -1,33 +1,28 @@
 -- What the rows of expressions read is written by an expression.
-use Rattle.std.proofs.Common.{◌≡◌, ℕ, ◌+◌, ◌<◌, ◌≤◌, ◌==◌, ◌⊎◌, inl, inr, Bool, true, false, List, [], ◌∷◌, ◌++◌, Option, None, Some, nat_le, refl, sym, ap, ◌∙◌, subst, arith}
+use Rattle.std.proofs.Common.{◌≡◌, ℕ, ◌+◌, ◌<◌, ◌≤◌, ◌==◌, Bool, true, false, List, [], ◌∷◌, Option, None, Some, nat_le, refl, sym, ap, ◌∙◌, subst, arith}
 use Rattle.std.specs.Prelude.{if◌then◌else◌}
 use Rattle.std.proofs.lemmas.Bool.{eqb-true}
 use Rattle.twe_io.specs.declared.place.Place.{Place}
 use Rattle.twe_ast.specs.declared.expr.BinOp.{BinOp}
 use Rattle.twe_ast.specs.declared.expr.BinOp.TheVariants as operators
-use Rattle.twe_ast.specs.declared.name.Name.{Name}
-use Rattle.twe_ast.specs.declared.stmt.LocalType.TheVariants as locals
-use Rattle.twe_ast.specs.Expression.{Expression, expression, Shape, Literal, Truth, Variable, ArrayElement, GridElement, CallValue, Negative, Negation, Binary, no_more, argument}
+use Rattle.twe_ast.specs.Expression.{Expression, expression, Binary, no_more, argument}
 use Rattle.twe_tokens.specs.declared.fixed.Fixed.TheVariants as fixed
 use Rattle.twe_tokens.specs.declared.token.Token.{Token}
 use Rattle.twe_tokens.specs.declared.token.TokenKind.{TokenKind}
 use Rattle.twe_tokens.specs.declared.token.TokenKind.TheVariants as kinds
 use Rattle.twe_parse.specs.declared.row.Row.{Row}
-use Rattle.twe_parse.specs.declared.symbol.Act.TheVariants.{Nothing, Expr, Stmt}
+use Rattle.twe_parse.specs.declared.symbol.Act.TheVariants.{Expr}
 use Rattle.twe_parse.specs.declared.symbol.ExprAct.TheVariants as exprs
 use Rattle.twe_parse.specs.declared.symbol.Part.TheVariants as parts
-use Rattle.twe_parse.specs.declared.symbol.StmtAct.TheVariants as stmts
 use Rattle.twe_parse.specs.declared.symbol.Symbol.{Symbol}
-use Rattle.twe_parse.specs.declared.symbol.Symbol.TheVariants as symbols
 use Rattle.twe_parse.specs.declared.symbol.Symbol.TheVariants.{Rule, Do}
-use Rattle.twe_parse.specs.declared.symbol.Terminal.TheVariants as next
 use Rattle.twe_parse.specs.Levels.{operator, level_of}
-use Rattle.twe_parse.specs.Written.{word, named, number}
-use Rattle.twe_parse.specs.WritesExpression.{is_smallest, WritesExpression, written, WritesShape, binary, negative, smallest, negation, literal, yes, no, variable, call, array, grid, parentheses, WritesArguments, no_arguments, arguments, MoreArguments, no_more_arguments, more_arguments}
+use Rattle.twe_parse.specs.Written.{word, number}
+use Rattle.twe_parse.specs.WritesExpression.{is_smallest, WritesExpression, written, binary, negative, smallest, negation, literal, yes, no, variable, call, array, grid, parentheses, no_arguments, arguments, no_more_arguments, more_arguments}
 use Rattle.twe_parse.specs.inner.Operators.{operator_of}
 use Rattle.twe_parse.specs.inner.Rows.{followed, unary_row, after_minus_row, suffix_row, second_index_row, args_row, more_args_row, climb_row, climb_from}
 use Rattle.twe_parse.specs.inner.Terminals.{terminal_of}
-use Rattle.twe_parse.proofs.Meanings.{Below, HasExpression, HasValue, Means, Reads, done, a_name, a_literal, a_token, a_part, an_act, ReadsRow, reads_split}
+use Rattle.twe_parse.proofs.Meanings.{Below, HasExpression, Means, Reads, done, a_token, a_part, an_act, ReadsRow, reads_split}
 use Rattle.twe_parse.proofs.Steps.{operator_again, operator_row, level_small, binds_less, climb_six_row, le_from_true}
 
 -- an expression may stand where one that binds less tightly may

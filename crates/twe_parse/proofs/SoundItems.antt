@@ -1,15 +1,11 @@
 -- What the rows of declarations read is written by a declaration.
-use Rattle.std.proofs.Common.{◌≡◌, ℕ, ◌+◌, ◌≤◌, Bool, true, false, List, [], ◌∷◌, ◌++◌, Option, None, Some, refl, sym, subst, arith}
+use Rattle.std.proofs.Common.{ℕ, Bool, true, false, List, [], ◌∷◌, None, refl, subst}
 use Rattle.twe_io.specs.declared.place.Place.{Place}
-use Rattle.twe_ast.specs.declared.item.CellShape.TheVariants as shapes
 use Rattle.twe_ast.specs.declared.item.Decl.{Decl}
-use Rattle.twe_ast.specs.declared.item.Initial.{Initial}
 use Rattle.twe_ast.specs.declared.item.Item.{Item as Declaration}
-use Rattle.twe_ast.specs.declared.item.Item.TheVariants as items
 use Rattle.twe_ast.specs.declared.item.ReturnType.{ReturnType}
 use Rattle.twe_ast.specs.declared.item.ReturnType.TheVariants as returns
 use Rattle.twe_ast.specs.declared.name.Name.{Name}
-use Rattle.twe_ast.specs.declared.path.CellPath.{CellPath}
 use Rattle.twe_tokens.specs.declared.fixed.Fixed.TheVariants as fixed
 use Rattle.twe_tokens.specs.declared.token.Token.{Token}
 use Rattle.twe_tokens.specs.declared.token.TokenKind.{TokenKind}
@@ -17,13 +13,12 @@ use Rattle.twe_tokens.specs.declared.token.TokenKind.TheVariants as kinds
 use Rattle.twe_parse.specs.declared.symbol.CellKind.{CellKind}
 use Rattle.twe_parse.specs.declared.symbol.CellKind.TheVariants as cells
 use Rattle.twe_parse.specs.declared.symbol.Part.TheVariants as parts
-use Rattle.twe_parse.specs.declared.symbol.Symbol.{Symbol}
 use Rattle.twe_parse.specs.Written.{word, named, number}
-use Rattle.twe_parse.specs.Writes.{MoreNames, no_more_names, more_names, WritesInitial, not_written, initial, negative_initial, no_more_params, more_params, WritesParams, no_params, params, no_more_paths, more_paths, clause, no_more_clauses, more_clauses, pure, clauses, WritesDecl, decl, return_word, clause_word, WritesItem, regions, cell, array, grid, method, task, deterministic_task, WritesItems, no_more_items, more_items}
-use Rattle.twe_parse.specs.WritesPath.{WritesCellPath, WritesPath, cell_name, cell_index, no_more_cell_elems, more_cell_elems, cell_root, cell_region, name, index, parameter, any_index, star, no_more_elems, more_elems, root, region}
+use Rattle.twe_parse.specs.Writes.{no_more_names, more_names, not_written, initial, negative_initial, no_more_params, more_params, no_params, params, no_more_paths, more_paths, clause, no_more_clauses, more_clauses, pure, clauses, WritesDecl, decl, return_word, clause_word, WritesItem, regions, cell, array, grid, method, task, deterministic_task, more_items}
+use Rattle.twe_parse.specs.WritesPath.{WritesCellPath, cell_name, cell_index, no_more_cell_elems, more_cell_elems, cell_root, cell_region, name, index, parameter, any_index, star, no_more_elems, more_elems, root, region}
 use Rattle.twe_parse.specs.inner.Rows.{items_row, more_regions_row, after_int_row, after_length_row, cell_path_row, cell_rest_row, cell_elem_row, initial_row, task_returns_row, params_row, more_params_row, effects_row, path_row, path_rest_row, elem_row, index_row}
 use Rattle.twe_parse.specs.inner.Terminals.{terminal_of}
-use Rattle.twe_parse.proofs.Meanings.{EndsCell, FollowsPath, HasEffects, Means, Reads, done, a_name, a_literal, a_token, a_part, an_act, ReadsRow}
+use Rattle.twe_parse.proofs.Meanings.{EndsCell, FollowsPath, HasEffects, Means, done, a_name, a_literal, a_token, a_part, an_act, ReadsRow}
 
 -- a declaration, and the declarations after it
 first_of : (tokens more rest : List Token) → ((item : Declaration) × WritesItem item tokens more) → Means parts.Items more rest → Means parts.Items tokens rest

@@ -1,12 +1,10 @@
 -- What the rows of statements read is written by a statement.
-use Rattle.std.proofs.Common.{◌≡◌, ℕ, ◌+◌, ◌≤◌, ◌⊎◌, inl, inr, Bool, true, false, List, [], ◌∷◌, ◌++◌, Option, None, Some, refl, sym, subst, arith}
+use Rattle.std.proofs.Common.{◌≡◌, ◌+◌, ◌⊎◌, inl, inr, Bool, true, false, List, [], ◌∷◌, refl, sym, subst, arith}
 use Rattle.twe_io.specs.declared.place.Place.{Place}
 use Rattle.twe_ast.specs.declared.expr.BinOp.{BinOp}
 use Rattle.twe_ast.specs.declared.expr.BinOp.TheVariants as operators
 use Rattle.twe_ast.specs.declared.name.Name.{Name}
 use Rattle.twe_ast.specs.declared.stmt.LocalType.TheVariants.{Int, Boolean}
-use Rattle.twe_ast.specs.Expression.{Expression}
-use Rattle.twe_ast.specs.Statement.{Statement, Let, LetWait, Statements, Arms, arm}
 use Rattle.twe_tokens.specs.declared.fixed.Fixed.TheVariants as fixed
 use Rattle.twe_tokens.specs.declared.token.Token.{Token}
 use Rattle.twe_tokens.specs.declared.token.TokenKind.{TokenKind}
@@ -15,16 +13,15 @@ use Rattle.twe_parse.specs.declared.symbol.Act.TheVariants.{Expr, Stmt}
 use Rattle.twe_parse.specs.declared.symbol.ExprAct.TheVariants as exprs
 use Rattle.twe_parse.specs.declared.symbol.Part.TheVariants as parts
 use Rattle.twe_parse.specs.declared.symbol.StmtAct.TheVariants as stmts
-use Rattle.twe_parse.specs.declared.symbol.Symbol.{Symbol}
 use Rattle.twe_parse.specs.declared.symbol.Symbol.TheVariants as symbols
 use Rattle.twe_parse.specs.declared.symbol.Symbol.TheVariants.{Rule, Do}
 use Rattle.twe_parse.specs.Levels.{operator, level_of}
 use Rattle.twe_parse.specs.Written.{word, named}
-use Rattle.twe_parse.specs.WritesExpression.{WritesExpression, written, variable, call as call_shape}
-use Rattle.twe_parse.specs.WritesStatement.{WritesWait, wait, WritesStatement, block, let_local, let_final, set, set_array, set_grid, if_arms, while, return_nothing, return_value, print, call, make, wait_for, let_wait, final_wait, WritesStatements, closed, one_more, WritesArms, if_arm, MoreArms, no_more_arms, else_block, else_if}
-use Rattle.twe_parse.specs.inner.Rows.{statements_row, local_type_row, int_value_row, after_value_name_row, operator_after_name_row, after_name_row, after_index_row, awaited_row, awaited_value_row, make_row, after_arm_row, else_body_row, return_value_row}
+use Rattle.twe_parse.specs.WritesExpression.{written, variable, call as call_shape}
+use Rattle.twe_parse.specs.WritesStatement.{wait, block, let_local, let_final, set, set_array, set_grid, if_arms, while, return_nothing, return_value, print, call, make, wait_for, let_wait, final_wait, closed, one_more, if_arm, else_block, else_if}
+use Rattle.twe_parse.specs.inner.Rows.{statements_row, local_type_row, int_value_row, after_value_name_row, after_name_row, after_index_row, awaited_row, awaited_value_row, make_row, after_arm_row, else_body_row, return_value_row}
 use Rattle.twe_parse.specs.inner.Terminals.{terminal_of}
-use Rattle.twe_parse.proofs.Meanings.{Below, HasExpression, HasValue, HasWait, HasStatement, Means, Reads, done, a_name, a_literal, a_token, a_part, an_act, ReadsRow}
+use Rattle.twe_parse.proofs.Meanings.{HasExpression, HasValue, HasWait, HasStatement, Means, Reads, done, a_name, a_token, a_part, an_act, ReadsRow}
 use Rattle.twe_parse.proofs.SoundExpressions.{whole, operand_then, climb_step}
 
 -- a statement, and the statements after it

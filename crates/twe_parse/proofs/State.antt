@@ -1,40 +1,22 @@
 -- What the parser knows of the part of a text that it has read.
-use Rattle.std.proofs.Common.{◌≡◌, ℕ, ◌+◌, ◌<◌, ◌≤◌, ◌⊎◌, inl, inr, Bool, true, false, List, [], ◌∷◌, ◌++◌, Option, None, Some, length, refl, sym, ap, ◌∙◌, subst, arith}
-use Rattle.std.specs.Prelude.{option_and_then, fold}
-use Rattle.std.specs.List.{AllByRecursion, list_all}
-use Rattle.std.proofs.lemmas.Bool.{false≢true, and_from, and_parts}
+use Rattle.std.proofs.Common.{◌≡◌, List, [], ◌∷◌, ◌++◌, Option, None, Some, sym, ap, ◌∙◌, subst}
+use Rattle.std.specs.Prelude.{option_and_then}
 use Rattle.std.proofs.lemmas.List.{append_assoc, append-nil}
-use Rattle.std.proofs.lemmas.List.Folds.{list_all-append}
-use Rattle.std.proofs.lemmas.List.Sums.{fold-append}
-use Rattle.twe_io.specs.declared.place.Place.{Place}
 use Rattle.twe_ast.specs.declared.item.Ast.{Ast}
 use Rattle.twe_ast.specs.declared.item.Item.{Item}
 use Rattle.twe_tokens.specs.declared.token.Token.{Token}
-use Rattle.twe_tokens.specs.declared.token.TokenKind.{TokenKind}
-use Rattle.twe_tokens.specs.Kinds.{kind_of}
-use Rattle.twe_tokens.specs.Lexeme.{is_allowed, IsFirstLexeme, IsUnclosedComment}
-use Rattle.twe_tokens.specs.Places.{place_after, is_gap}
-use Rattle.twe_tokens.specs.Tokens.{AreFirstLexemes, tokens_from}
-use Rattle.twe_parse.specs.declared.fail.SRule.{SRule}
-use Rattle.twe_parse.specs.declared.fail.SRule.TheVariants.{S1, S2, S3, S4, S5, S6}
-use Rattle.twe_parse.specs.declared.limits.Sofar.{Sofar}
-use Rattle.twe_parse.specs.declared.parser.Parser.{Parser}
 use Rattle.twe_parse.specs.declared.symbol.Part.TheVariants as parts
 use Rattle.twe_parse.specs.declared.symbol.Symbol.{Symbol}
 use Rattle.twe_parse.specs.declared.symbol.Symbol.TheVariants as symbols
 use Rattle.twe_parse.specs.declared.work.Work.{Work}
-use Rattle.twe_parse.specs.Limits.{sofar_after, sofar_of, is_too_large, is_too_deep}
 use Rattle.twe_parse.specs.Viable.{IsProgram, IsViable}
-use Rattle.twe_parse.specs.Writes.{Writes, WritesItems}
+use Rattle.twe_parse.specs.Writes.{WritesItems}
 use Rattle.twe_parse.specs.inner.Machine.{Machine, start, after, finished, result_from}
-use Rattle.twe_parse.specs.inner.Reading.{concat, HasTaken, HasRead}
-use Rattle.twe_parse.specs.inner.Taking.{Takes}
+use Rattle.twe_parse.specs.inner.Reading.{HasTaken}
 use Rattle.twe_parse.proofs.CompleteItems.{items_taken, only_items}
 use Rattle.twe_parse.proofs.Completion.{completion, completes}
-use Rattle.twe_parse.proofs.Cuts.{cut_append, tokens_from_append, all_snoc}
-use Rattle.twe_parse.specs.inner.Fine.{fine}
 use Rattle.twe_parse.proofs.Fine.{after_fine}
-use Rattle.twe_parse.proofs.Meanings.{Means, Reads, done, a_part}
+use Rattle.twe_parse.proofs.Meanings.{Reads, a_part}
 use Rattle.twe_parse.proofs.Sound.{all_read}
 use Rattle.twe_parse.proofs.Steps.{goes_on}
 

@@ -1,15 +1,14 @@
 -- Steps of the machine.
-use Rattle.std.proofs.Common.{◌≡◌, ℕ, ◌+◌, ◌<◌, ◌≤◌, Bool, true, false, List, [], ◌∷◌, ◌++◌, Option, None, Some, nat_le, refl, sym, ap, ◌∙◌, append_assoc, arith}
+use Rattle.std.proofs.Common.{◌≡◌, ℕ, ◌+◌, ◌<◌, ◌≤◌, Bool, true, false, List, [], ◌∷◌, ◌++◌, Option, None, Some, nat_le, refl, ap, ◌∙◌, append_assoc, arith}
 use Rattle.std.specs.Prelude.{option_and_then, if◌then◌else◌}
 use Rattle.std.proofs.lemmas.Bool.Decides.{nat_tests}
 use Rattle.twe_io.specs.declared.place.Place.{Place}
 use Rattle.twe_ast.specs.declared.expr.BinOp.{BinOp}
 use Rattle.twe_ast.specs.declared.expr.BinOp.TheVariants as operators
-use Rattle.twe_tokens.specs.declared.fixed.Fixed.TheVariants as fixed
 use Rattle.twe_tokens.specs.declared.token.Token.{Token}
 use Rattle.twe_parse.specs.declared.row.Row.{Row}
 use Rattle.twe_parse.specs.declared.symbol.Act.{Act}
-use Rattle.twe_parse.specs.declared.symbol.Act.TheVariants.{Nothing, Expr, Stmt, Item}
+use Rattle.twe_parse.specs.declared.symbol.Act.TheVariants.{Expr}
 use Rattle.twe_parse.specs.declared.symbol.ExprAct.TheVariants as exprs
 use Rattle.twe_parse.specs.declared.symbol.Part.{Part}
 use Rattle.twe_parse.specs.declared.symbol.Part.TheVariants as parts
@@ -23,7 +22,7 @@ use Rattle.twe_parse.specs.Written.{word}
 use Rattle.twe_parse.specs.inner.Acts.{acted}
 use Rattle.twe_parse.specs.inner.Machine.{Machine, by_row, after, result_from}
 use Rattle.twe_parse.specs.inner.Operators.{operator_of}
-use Rattle.twe_parse.specs.inner.Rows.{row_of, otherwise, followed, unary_row, suffix_row, second_index_row, climb_from, climb_row, after_arm_row}
+use Rattle.twe_parse.specs.inner.Rows.{row_of, otherwise, followed, unary_row, suffix_row, second_index_row, climb_from, climb_row}
 use Rattle.twe_parse.specs.inner.Terminals.{terminal_of}
 use Rattle.twe_parse.specs.inner.Works.{kept}
 

@@ -1,7 +1,6 @@
 -- The limits on the tokens of a text: how large a literal may be, how many brackets may be open, and how many operators
 -- a statement may have.
-use Rattle.std.specs.Prelude.{ℕ, ◌+◌, ◌-◌, Bool, true, false, ◌&&◌, ◌||◌, not, List, fold, ◌==◌, nat_le, nat_lt, if◌then◌else◌}
-use Rattle.twe_tokens.specs.declared.fixed.Fixed.{Fixed}
+use Rattle.std.specs.Prelude.{◌+◌, ◌-◌, Bool, true, false, ◌&&◌, ◌||◌, not, List, fold, ◌==◌, nat_le, nat_lt, if◌then◌else◌}
 use Rattle.twe_tokens.specs.declared.fixed.Fixed.TheVariants as fixed
 use Rattle.twe_tokens.specs.declared.token.Token.{Token}
 use Rattle.twe_tokens.specs.declared.token.TokenKind.{TokenKind}

@@ -1,5 +1,5 @@
 -- The values of literals in the tree.
-use Rattle.std.specs.Prelude.{ℕ, zero, suc, ℤ, pos, negsuc, Bool, true, false, min, nat_le, if◌then◌else◌}
+use Rattle.std.specs.Prelude.{ℕ, zero, suc, ℤ, pos, negsuc, min, nat_le, if◌then◌else◌}
 
 -- The value of a literal that stands alone. One that is too large stands for -2147483648, and in no program.
 abbrev pub value_of : ℕ → ℤ

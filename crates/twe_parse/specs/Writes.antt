@@ -2,7 +2,6 @@
 use Rattle.std.specs.Prelude.{ℕ, Bool, true, false, Option, None, Some, List, [], ◌∷◌}
 use Rattle.twe_io.specs.declared.place.Place.{Place}
 use Rattle.twe_ast.specs.declared.item.Ast.{Ast}
-use Rattle.twe_ast.specs.declared.item.CellShape.{CellShape}
 use Rattle.twe_ast.specs.declared.item.CellShape.TheVariants as shapes
 use Rattle.twe_ast.specs.declared.item.Clause.{Clause}
 use Rattle.twe_ast.specs.declared.item.Decl.{Decl}

@@ -4,7 +4,7 @@
 -- where the expression may stand: at level n every operator outside parentheses binds at least so tightly as those of
 -- level n. So the left operand of an operator of level n stands at level n and the right one at the next, which makes
 -- operators of one level associate to the left.
-use Rattle.std.specs.Prelude.{◌≡◌, ℕ, ◌+◌, ◌≤◌, negsuc, Bool, true, false, List, [], ◌∷◌, ◌==◌}
+use Rattle.std.specs.Prelude.{◌≡◌, ℕ, ◌+◌, ◌≤◌, negsuc, Bool, true, false, List, ◌∷◌, ◌==◌}
 use Rattle.twe_io.specs.declared.place.Place.{Place}
 use Rattle.twe_ast.specs.declared.expr.BinOp.{BinOp}
 use Rattle.twe_ast.specs.declared.name.Name.{Name}

@@ -1,5 +1,5 @@
 -- How statements and blocks are written. `in_task` says whether they stand in a task; task operations stand there only.
-use Rattle.std.specs.Prelude.{Bool, true, false, Option, None, Some, List, [], ◌∷◌}
+use Rattle.std.specs.Prelude.{Bool, true, false, None, Some, List, ◌∷◌}
 use Rattle.twe_io.specs.declared.place.Place.{Place}
 use Rattle.twe_ast.specs.declared.name.Name.{Name}
 use Rattle.twe_ast.specs.declared.stmt.LocalType.{LocalType}

@@ -1,18 +1,17 @@
 -- What the lexer finds at the front of a text.
-use Rattle.std.proofs.Common.{◌≡◌, ℕ, ◌+◌, ◌<◌, ◌≤◌, Bool, true, false, not, List, [], ◌∷◌, length, get_or, take, drop, zero, suc, Option, None, Some, IsAscii, sym, refl, ap, ◌∙◌, subst, arith, cond}
+use Rattle.std.proofs.Common.{◌≡◌, ℕ, ◌+◌, ◌<◌, ◌≤◌, Bool, true, false, List, [], ◌∷◌, length, get_or, take, drop, zero, suc, None, Some, IsAscii, sym, refl, ap, ◌∙◌, arith}
 use Rattle.std.specs.List.{list_all, prefix_len}
 use Rattle.std.proofs.Math.Numerals.{one-add}
 use Rattle.std.proofs.lemmas.Bool.{and_parts, cond_both, cond-true, cond-false, not-false, not-true}
 use Rattle.std.proofs.lemmas.Bool.Decides.{nat_tests}
 use Rattle.std.proofs.lemmas.List.{length-take-le, take_all, get_or-take}
-use Rattle.std.proofs.lemmas.List.Sums.{prefix_len-le-length}
 use Rattle.twe_tokens.specs.declared.extent.Extent.{Extent}
 use Rattle.twe_tokens.specs.declared.token.TokenKind.{TokenKind}
-use Rattle.twe_tokens.specs.Front.{Opens, StopsAt}
+use Rattle.twe_tokens.specs.Front.{StopsAt}
 use Rattle.twe_tokens.specs.Kinds.{kind_of, token_kind}
 use Rattle.twe_tokens.specs.Lexeme.{is_allowed}
 use Rattle.twe_tokens.specs.Places.{is_gap}
-use Rattle.twe_tokens.specs.inner.Extents.{Begins, IsUnclosed}
+use Rattle.twe_tokens.specs.inner.Extents.{Begins}
 use Rattle.twe_tokens.proofs.Heads.{run_passes}
 
 -- a run ends at a byte that doesn't pass

@@ -1,5 +1,5 @@
 -- What is found at the front of a text.
-use Rattle.std.specs.Prelude.{◌≡◌, ℕ, ◌<◌, ◌≤◌, false, List, [], length, take, drop, slice_index, IsTrue}
+use Rattle.std.specs.Prelude.{◌≡◌, ℕ, ◌<◌, ◌≤◌, false, List, length, take, drop, slice_index, IsTrue}
 use Rattle.std.specs.List.{list_all}
 use Rattle.twe_tokens.specs.declared.lexeme.Lexeme.{Lexeme}
 use Rattle.twe_tokens.specs.declared.lexeme.LexemeFail.{LexemeFail}

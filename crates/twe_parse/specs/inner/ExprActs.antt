@@ -1,7 +1,6 @@
 -- The making of expressions.
-use Rattle.std.specs.Prelude.{ℕ, negsuc, [], ◌∷◌, ◌++◌, ◌==◌, Bool, if◌then◌else◌}
+use Rattle.std.specs.Prelude.{ℕ, negsuc, [], ◌∷◌, ◌++◌, ◌==◌, if◌then◌else◌}
 use Rattle.twe_io.specs.declared.place.Place.{Place}
-use Rattle.twe_ast.specs.declared.expr.BinOp.{BinOp}
 use Rattle.twe_ast.specs.Expression.{Expression, expression, Shape, Literal, Truth, Variable, ArrayElement, GridElement, CallValue, Negative, Negation, Binary}
 use Rattle.twe_ast.specs.inner.ExpressionView.{arguments_of}
 use Rattle.twe_parse.specs.declared.symbol.ExprAct.{ExprAct}

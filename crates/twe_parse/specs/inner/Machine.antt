@@ -3,7 +3,6 @@ use Rattle.std.specs.Prelude.{Bool, true, false, List, [], ◌∷◌, ◌++◌, 
 use Rattle.twe_tokens.specs.declared.token.Token.{Token}
 use Rattle.twe_parse.specs.declared.row.Row.{Row}
 use Rattle.twe_parse.specs.declared.symbol.Act.{Act}
-use Rattle.twe_parse.specs.declared.symbol.Part.{Part}
 use Rattle.twe_parse.specs.declared.symbol.Part.TheVariants as parts
 use Rattle.twe_parse.specs.declared.symbol.Symbol.{Symbol}
 use Rattle.twe_parse.specs.declared.symbol.Symbol.TheVariants as symbols

@@ -7,7 +7,7 @@ use Rattle.twe_tokens.specs.Places.{place_after}
 use Rattle.twe_parse.specs.declared.fail.ParseFail.{ParseFail}
 use Rattle.twe_parse.specs.declared.fail.ParseFail.TheVariants as fails
 use Rattle.twe_parse.specs.declared.fail.SRule.{SRule}
-use Rattle.twe_parse.specs.declared.fail.SRule.TheVariants.{S1, S2, S3, S4, S5, S6}
+use Rattle.twe_parse.specs.declared.fail.SRule.TheVariants.{S1, S6}
 
 abbrev pub RefusesFront : SRule → Place → List ℕ → Place → Type 0
 RefusesFront S1 at rest place = (n : ℕ) × StopsAt n rest × ((before : List ℕ) → place ≡ place_after before → at ≡ place_after (before ++ take n rest))

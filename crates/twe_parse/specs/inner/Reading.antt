@@ -1,5 +1,5 @@
 -- What the parser knows of the part of a text that it has read.
-use Rattle.std.specs.Prelude.{◌≡◌, ℕ, ◌≤◌, Bool, true, false, List, [], ◌∷◌, ◌++◌, Option, Some, None}
+use Rattle.std.specs.Prelude.{◌≡◌, ℕ, ◌≤◌, true, false, List, [], ◌∷◌, ◌++◌, Some, None}
 use Rattle.std.specs.List.{AllByRecursion, list_all}
 use Rattle.twe_io.specs.declared.place.Place.{Place}
 use Rattle.twe_ast.specs.declared.item.Ast.{Ast}
@@ -10,7 +10,7 @@ use Rattle.twe_tokens.specs.Tokens.{AreFirstLexemes, tokens_from}
 use Rattle.twe_parse.specs.declared.fail.ParseFail.{ParseFail}
 use Rattle.twe_parse.specs.declared.fail.ParseFail.TheVariants as fails
 use Rattle.twe_parse.specs.declared.fail.SRule.{SRule}
-use Rattle.twe_parse.specs.declared.fail.SRule.TheVariants.{S1, S2, S3, S4, S5, S6}
+use Rattle.twe_parse.specs.declared.fail.SRule.TheVariants.{S3}
 use Rattle.twe_parse.specs.declared.parser.Parser.{Parser}
 use Rattle.twe_parse.specs.declared.symbol.Symbol.{Symbol}
 use Rattle.twe_parse.specs.declared.work.Work.{Work}

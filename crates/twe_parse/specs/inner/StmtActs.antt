@@ -1,6 +1,5 @@
 -- The making of statements.
-use Rattle.std.specs.Prelude.{[], ◌∷◌, ◌++◌, Bool, Option, None, Some}
-use Rattle.twe_ast.specs.declared.stmt.LocalType.{LocalType}
+use Rattle.std.specs.Prelude.{[], ◌∷◌, ◌++◌, None, Some}
 use Rattle.twe_ast.specs.Statement.{Block, Let, Set, SetArray, SetGrid, If, While, Return, Print, Call, Make, Wait, LetWait}
 use Rattle.twe_ast.specs.inner.ExpressionView.{arguments_of}
 use Rattle.twe_ast.specs.inner.StatementView.{statements_of, arms_of}

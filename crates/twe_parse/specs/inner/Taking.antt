@@ -1,11 +1,10 @@
 -- What the parser does with a token.
-use Rattle.std.specs.Prelude.{◌≡◌, Bool, true, false, Option, None, Some}
-use Rattle.twe_io.specs.declared.place.Place.{Place}
+use Rattle.std.specs.Prelude.{◌≡◌, true, false, None, Some}
 use Rattle.twe_tokens.specs.declared.token.Token.{Token}
 use Rattle.twe_parse.specs.declared.fail.ParseFail.{ParseFail}
 use Rattle.twe_parse.specs.declared.fail.ParseFail.TheVariants as fails
 use Rattle.twe_parse.specs.declared.fail.SRule.{SRule}
-use Rattle.twe_parse.specs.declared.fail.SRule.TheVariants.{S1, S2, S3, S4, S5, S6}
+use Rattle.twe_parse.specs.declared.fail.SRule.TheVariants.{S2, S4, S5}
 use Rattle.twe_parse.specs.declared.parser.Parser.{Parser}
 use Rattle.twe_parse.specs.Limits.{sofar_after, is_too_large, is_too_deep}
 use Rattle.twe_parse.specs.inner.Machine.{Machine, after}

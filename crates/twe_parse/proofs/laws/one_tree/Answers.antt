@@ -2,7 +2,6 @@ use Rattle.std.proofs.Common.{◌≡◌, List, [], Option, None, Some, sym, ap, 
 use Rattle.twe_ast.specs.declared.item.Item.{Item}
 use Rattle.twe_parse.specs.declared.work.Work.{Work}
 use Rattle.twe_parse.proofs.CompleteItems.{items_taken, only_items}
-use Rattle.twe_parse.proofs.Refusals.{end_accepted}
 use Rattle.twe_parse.proofs.laws.one_tree.Goals as goal
 
 items_in : Option Work → List Item

@@ -1,4 +1,4 @@
-use Rattle.std.proofs.Common.{◌≡◌, ◌∙◌}
+use Rattle.std.proofs.Common.{◌∙◌}
 use Rattle.twe_parse.specs.inner.Reading.{EndsWhole}
 use Rattle.twe_parse.proofs.Refusals.{if_ok_map, if_err_map, end_is, end_accepted, end_fails_nothing, end_refused}
 use Rattle.twe_parse.proofs.text.parse.Goals as goal

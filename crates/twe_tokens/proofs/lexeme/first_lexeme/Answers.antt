@@ -1,6 +1,6 @@
-use Rattle.std.proofs.Common.{◌≡◌, Option, sym, ap, ◌∙◌}
+use Rattle.std.proofs.Common.{sym, ap, ◌∙◌}
 use Rattle.std.specs.List.{list_all}
-use Rattle.twe_tokens.specs.Kinds.{kind_of, token_kind}
+use Rattle.twe_tokens.specs.Kinds.{kind_of}
 use Rattle.twe_tokens.specs.Lexeme.{is_allowed}
 use Rattle.twe_tokens.proofs.Fronts.{stops, all_allowed, IsAscii-allowed, token_found, gap_found}
 use Rattle.twe_tokens.proofs.lexeme.first_lexeme.Goals as goal

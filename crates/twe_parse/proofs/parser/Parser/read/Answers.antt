@@ -1,4 +1,4 @@
-use Rattle.std.proofs.Common.{◌≡◌, ℕ, ◌+◌, ◌<◌, ◌≤◌, List, [], ◌∷◌, ◌++◌, length, take, drop, Some, sym, ap, ◌∙◌, subst, arith}
+use Rattle.std.proofs.Common.{◌≡◌, ℕ, ◌+◌, ◌<◌, List, ◌++◌, length, take, drop, Some, sym, ap, ◌∙◌, subst, arith}
 use Rattle.std.proofs.lemmas.Bool.{eqb-true}
 use Rattle.std.proofs.lemmas.List.{nil_from_length}
 use Rattle.std.proofs.lemmas.Result.{err_from_is_err_and}
@@ -54,16 +54,16 @@ loop-rest-preserved c =
     let lexeme = c.in_ok-lexeme.lexeme in
     let rest = c.loop-rest.rest.now in
     let moves : (before : List ℕ) → c.loop-rest.place ≡ place_after before → c.place_past-place.result ≡ place_after (before ++ take c.in_ok-lexeme.lexeme.len c.loop-rest.rest.now) =
-          λ before is. c.place_past-place.ensures before is ∙ ap (λ bytes. place_after (before ++ bytes)) c.split_at.ensures.front in
+    λ before is. c.place_past-place.ensures before is ∙ ap (λ bytes. place_after (before ++ bytes)) c.split_at.ensures.front in
     subst (λ (left : List ℕ). HasRead c.args.text.now c.place_past-place.result left c.match-lexeme.self) (sym c.split_at.ensures.back)
-      (elim c.match-lexeme.branch [
-        | in-Some+in_ok-take w ↦
-            subst (λ (parser : Parser). HasRead c.args.text.now c.place_past-place.result (drop lexeme.len rest) parser) (sym w.self-is)
-              (token_read c.args.text.now c.loop-rest.place rest c.loop-rest.self c.loop-rest.invariant lexeme c.in_ok-lexeme.ensures.found c.place_past-place.result moves _ _ (w.in-Some.is ∙ ap (λ kind. Some kind) (sym w.in-Some.kind-is)) w.in_ok-take.ensures.taken)
-        | in_default w ↦
-            subst (λ (parser : Parser). HasRead c.args.text.now c.place_past-place.result (drop lexeme.len rest) parser) (sym w.self-is)
-              (gap_read c.args.text.now c.loop-rest.place rest c.loop-rest.self c.loop-rest.invariant lexeme c.in_ok-lexeme.ensures.found c.place_past-place.result moves (none_left lexeme.token w.in_default.not-Some))
-      ])
+    (elim c.match-lexeme.branch [
+      | in-Some+in_ok-take w ↦
+          subst (λ (parser : Parser). HasRead c.args.text.now c.place_past-place.result (drop lexeme.len rest) parser) (sym w.self-is)
+          (token_read c.args.text.now c.loop-rest.place rest c.loop-rest.self c.loop-rest.invariant lexeme c.in_ok-lexeme.ensures.found c.place_past-place.result moves _ _ (w.in-Some.is ∙ ap (λ kind. Some kind) (sym w.in-Some.kind-is)) w.in_ok-take.ensures.taken)
+      | in_default w ↦
+          subst (λ (parser : Parser). HasRead c.args.text.now c.place_past-place.result (drop lexeme.len rest) parser) (sym w.self-is)
+          (gap_read c.args.text.now c.loop-rest.place rest c.loop-rest.self c.loop-rest.invariant lexeme c.in_ok-lexeme.ensures.found c.place_past-place.result moves (none_left lexeme.token w.in_default.not-Some))
+    ])
 
 pub returns-clause-read : goal.returns-clause-read
 returns-clause-read c =
