@@ -23,7 +23,7 @@ pub fn parse(alloc: Global, text: &[u8]) -> Result<Ast, ParseFail>
     ensures refused { IfErr result (λ fail. Refuses fail text.now) }
 {
     if text.len() >= u32::MAX as usize {
-        return Err(ParseFail::OutOfMemory(Memory::of_uncountable(text.len())));
+        return Err(ParseFail::OutOfMemory(Memory::of_uncountable(text)));
     }
     let mut parser = Parser::new(alloc)?;
     let end = parser.read(alloc, text)?;
