@@ -26,3 +26,6 @@ pub use fail::{ParseFail, SRule};
 pub use laws::one_tree;
 pub use limits::Sofar;
 pub use text::parse;
+
+#[cfg(test)]
+mod tests;
