@@ -23,7 +23,7 @@ mod text;
 mod work;
 
 pub use fail::{ParseFail, SRule};
-pub use laws::one_tree;
+pub use laws::{no_program, one_tree};
 pub use limits::Sofar;
 pub use text::parse;
 
