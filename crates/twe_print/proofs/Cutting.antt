@@ -54,7 +54,7 @@ blank_stands : (gap : ℕ) (rest : List ℕ) → is_blank gap ≡ true → is_le
     → IsFirstLexeme (gap ∷ []) (gap ∷ rest) rest
 blank_stands gap rest blank letter digit slash alone pair =
     let begins = byte_begins (gap ∷ rest) false (omega arith) (sym (ap not blank)) letter digit (no_symbol gap rest alone pair)
-        (λ later same. let is : gap ≡ 47 = cc in false≢true (sym slash ∙ eq-eqb gap 47 is)) (λ later same. let is : gap ≡ 47 = cc in false≢true (sym slash ∙ eq-eqb gap 47 is)) in
+    (λ later same. let is : gap ≡ 47 = cc in false≢true (sym slash ∙ eq-eqb gap 47 is)) (λ later same. let is : gap ≡ 47 = cc in false≢true (sym slash ∙ eq-eqb gap 47 is)) in
     let front : take 1 (gap ∷ rest) ≡ gap ∷ [] = take_at (gap ∷ []) rest 1 refl in
     let back : drop 1 (gap ∷ rest) ≡ rest = drop_at (gap ∷ []) rest 1 refl in
     subst (λ (its : List ℕ). IsFirstLexeme (gap ∷ []) (gap ∷ rest) its) back (subst (λ (its : List ℕ). IsFirstLexeme its (gap ∷ rest) (drop 1 (gap ∷ rest))) front begins.first)

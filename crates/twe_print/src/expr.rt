@@ -6,7 +6,7 @@ ghost use Rattle.twe_print.specs.Text.{text_of};
 ghost use Rattle.twe_print.specs.ExpressionWords.{arguments_words, expression_words, truth_word};
 
 use crate::operator::{level_of, operator_word};
-use crate::word::{push_fixed, push_literal, push_name, push_when};
+use crate::word::{push_fixed, push_literal, push_name, push_two, push_when};
 use twe_ast::{Args, Expr, ExprKind};
 use twe_io::{Bytes, Memory};
 use twe_tokens::Fixed;
@@ -45,8 +45,7 @@ pub(crate) fn push_expr(expr: &Expr, text: &mut Bytes, level: u8) -> Result<(), 
             push_name(text, array)?;
             push_fixed(text, Fixed::OpenBracket)?;
             push_expr(index, text, 0)?;
-            push_fixed(text, Fixed::CloseBracket)?;
-            push_fixed(text, Fixed::OpenBracket)?;
+            push_two(text, Fixed::CloseBracket, Fixed::OpenBracket)?;
             push_expr(second, text, 0)?;
             push_fixed(text, Fixed::CloseBracket)
         }

@@ -1,7 +1,9 @@
 //! Declarations.
 #![tactic(auto, using(crate::proofs::Texts::append_text, std::proofs::lemmas::Grind::common_steps))]
 
-ghost use Rattle.std.specs.Prelude.{◌≡◌, ◌++◌, false, OnOk};
+ghost use Rattle.std.specs.Prelude.{◌≡◌, [], ◌∷◌, ◌++◌, false, OnOk};
+ghost use Rattle.twe_tokens.specs.declared.fixed.Fixed.TheVariants as fixed;
+ghost use Rattle.twe_tokens.specs.declared.token.TokenKind.TheVariants as kinds;
 ghost use Rattle.twe_print.specs.Text.{text_of};
 ghost use Rattle.twe_print.specs.ItemWords.{cell_words, clause_words, clauses_words, decl_words, effects_words, initial_words, item_words, items_words, names_words, params_words, paths_words, size_words, start_words};
 ghost use Rattle.twe_parse.specs.Writes.{clause_word, return_word};
@@ -94,8 +96,18 @@ fn push_cell(text: &mut Bytes, cell: &CellDecl) -> Result<(), Memory>
     push_fixed(text, Fixed::Semicolon)
 }
 
-/// Writes parameters, with `,` between them.
+/// Writes parameters in parentheses.
 fn push_params(text: &mut Bytes, params: &[Name]) -> Result<(), Memory>
+    ensures { OnOk result (text.new ≡ text.old
+        ++ text_of (kinds.Fixed fixed.OpenParen ∷ (params_words false params.now ++ kinds.Fixed fixed.CloseParen ∷ []))) }
+{
+    push_fixed(text, Fixed::OpenParen)?;
+    push_more_params(text, params)?;
+    push_fixed(text, Fixed::CloseParen)
+}
+
+/// Writes parameters, with `,` between them.
+fn push_more_params(text: &mut Bytes, params: &[Name]) -> Result<(), Memory>
     ensures { OnOk result (text.new ≡ text.old ++ text_of (params_words false params.now)) }
 {
     let mut later = false;
@@ -156,9 +168,7 @@ fn push_decl(text: &mut Bytes, decl: &Decl) -> Result<(), Memory>
 {
     push_fixed(text, return_word(decl.returns))?;
     push_name(text, &decl.name)?;
-    push_fixed(text, Fixed::OpenParen)?;
     push_params(text, decl.params.as_slice())?;
-    push_fixed(text, Fixed::CloseParen)?;
     push_effects(text, decl.effects.as_slice())?;
     push_fixed(text, Fixed::OpenBrace)?;
     push_block(&decl.body, text)

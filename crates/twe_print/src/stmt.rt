@@ -1,15 +1,17 @@
 //! Statements and blocks.
 #![tactic(auto, using(crate::proofs::Texts::append_text, std::proofs::lemmas::Grind::common_steps))]
 
-ghost use Rattle.std.specs.Prelude.{◌≡◌, ◌++◌, false, OnOk};
+ghost use Rattle.std.specs.Prelude.{◌≡◌, [], ◌∷◌, ◌++◌, false, OnOk};
 ghost use Rattle.twe_ast.specs.Statement.{Let, LetWait, Make, Set, SetArray, SetGrid};
+ghost use Rattle.twe_tokens.specs.declared.fixed.Fixed.TheVariants as fixed;
+ghost use Rattle.twe_tokens.specs.declared.token.TokenKind.TheVariants as kinds;
 ghost use Rattle.twe_print.specs.Text.{text_of};
 ghost use Rattle.twe_print.specs.StatementWords.{arms_words, block_words, returned_words, statement_words, value_words, wait_words};
 ghost use Rattle.twe_print.specs.inner.SimpleWords.{simple_words};
 ghost use Rattle.twe_parse.specs.WritesStatement.{make_word, type_word, wait_word};
 
 use crate::expr::{push_args, push_expr};
-use crate::word::{push_fixed, push_name, push_when};
+use crate::word::{push_fixed, push_name, push_two, push_when};
 use twe_ast::{Args, Arms, Block, Expr, LocalType, Name, Stmt, StmtKind, WaitCall};
 use twe_io::{Bytes, Memory};
 use twe_tokens::Fixed;
@@ -60,16 +62,22 @@ fn push_returned(value: &Option<Expr>, text: &mut Bytes) -> Result<(), Memory>
     }
 }
 
+/// Writes the beginning of a task operation, as `f . join (`.
+fn push_operation(text: &mut Bytes, name: &Name, operation: Fixed) -> Result<(), Memory>
+    ensures { OnOk result (text.new ≡ text.old
+        ++ text_of (kinds.Name name.now.text ∷ kinds.Fixed fixed.Dot ∷ kinds.Fixed operation ∷ kinds.Fixed fixed.OpenParen ∷ [])) }
+{
+    push_name(text, name)?;
+    push_two(text, Fixed::Dot, operation)?;
+    push_fixed(text, Fixed::OpenParen)
+}
+
 /// Writes the waiting for a task and the `;` after it.
 fn push_wait(wait: &WaitCall, text: &mut Bytes) -> Result<(), Memory>
     ensures { OnOk result (text.new ≡ text.old ++ text_of (wait_words wait.now)) }
 {
-    push_name(text, &wait.future)?;
-    push_fixed(text, Fixed::Dot)?;
-    push_fixed(text, wait_word(wait.join))?;
-    push_fixed(text, Fixed::OpenParen)?;
-    push_fixed(text, Fixed::CloseParen)?;
-    push_fixed(text, Fixed::Semicolon)
+    push_operation(text, &wait.future, wait_word(wait.join))?;
+    push_two(text, Fixed::CloseParen, Fixed::Semicolon)
 }
 
 /// Writes the declaration of a local.
@@ -105,8 +113,7 @@ fn push_set_array(text: &mut Bytes, array: &Name, index: &Expr, value: &Expr) ->
     push_name(text, array)?;
     push_fixed(text, Fixed::OpenBracket)?;
     push_expr(index, text, 0)?;
-    push_fixed(text, Fixed::CloseBracket)?;
-    push_fixed(text, Fixed::Assign)?;
+    push_two(text, Fixed::CloseBracket, Fixed::Assign)?;
     push_value(value, text)
 }
 
@@ -123,11 +130,9 @@ fn push_set_grid(
     push_name(text, array)?;
     push_fixed(text, Fixed::OpenBracket)?;
     push_expr(row, text, 0)?;
-    push_fixed(text, Fixed::CloseBracket)?;
-    push_fixed(text, Fixed::OpenBracket)?;
+    push_two(text, Fixed::CloseBracket, Fixed::OpenBracket)?;
     push_expr(column, text, 0)?;
-    push_fixed(text, Fixed::CloseBracket)?;
-    push_fixed(text, Fixed::Assign)?;
+    push_two(text, Fixed::CloseBracket, Fixed::Assign)?;
     push_value(value, text)
 }
 
@@ -144,10 +149,7 @@ fn push_make(
     push_fixed(text, Fixed::Future)?;
     push_name(text, future)?;
     push_fixed(text, Fixed::Assign)?;
-    push_name(text, task)?;
-    push_fixed(text, Fixed::Dot)?;
-    push_fixed(text, make_word(spawned))?;
-    push_fixed(text, Fixed::OpenParen)?;
+    push_operation(text, task, make_word(spawned))?;
     push_args(args, text)?;
     push_fixed(text, Fixed::Semicolon)
 }
@@ -197,11 +199,9 @@ fn push_simple(stmt: &Stmt, text: &mut Bytes) -> Result<(), Memory>
             push_returned(value, text)
         }
         StmtKind::Print { value, .. } => {
-            push_fixed(text, Fixed::Print)?;
-            push_fixed(text, Fixed::OpenParen)?;
+            push_two(text, Fixed::Print, Fixed::OpenParen)?;
             push_expr(value, text, 0)?;
-            push_fixed(text, Fixed::CloseParen)?;
-            push_fixed(text, Fixed::Semicolon)
+            push_two(text, Fixed::CloseParen, Fixed::Semicolon)
         }
         StmtKind::Call { method, args } => {
             push_name(text, method)?;
@@ -241,11 +241,9 @@ fn push_stmt(stmt: &Stmt, text: &mut Bytes) -> Result<(), Memory>
             body,
             ..
         } => {
-            push_fixed(text, Fixed::While)?;
-            push_fixed(text, Fixed::OpenParen)?;
+            push_two(text, Fixed::While, Fixed::OpenParen)?;
             push_expr(condition, text, 0)?;
-            push_fixed(text, Fixed::CloseParen)?;
-            push_fixed(text, Fixed::OpenBrace)?;
+            push_two(text, Fixed::CloseParen, Fixed::OpenBrace)?;
             push_block(body, text)
         }
         _ => push_simple(stmt, text),
@@ -271,11 +269,9 @@ fn push_arms(arms: &Arms, text: &mut Bytes) -> Result<(), Memory>
     let mut later = false;
     for arm in arms.arms.as_slice() {
         push_when(text, later, Fixed::Else)?;
-        push_fixed(text, Fixed::If)?;
-        push_fixed(text, Fixed::OpenParen)?;
+        push_two(text, Fixed::If, Fixed::OpenParen)?;
         push_expr(&arm.condition, text, 0)?;
-        push_fixed(text, Fixed::CloseParen)?;
-        push_fixed(text, Fixed::OpenBrace)?;
+        push_two(text, Fixed::CloseParen, Fixed::OpenBrace)?;
         push_block(&arm.body, text)?;
         later = true;
     }

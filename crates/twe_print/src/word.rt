@@ -38,6 +38,14 @@ pub(crate) fn push_when(text: &mut Bytes, stands: bool, fixed: Fixed) -> Result<
     }
 }
 
+/// Writes two keywords or symbols.
+pub(crate) fn push_two(text: &mut Bytes, first: Fixed, second: Fixed) -> Result<(), Memory>
+    ensures { OnOk result (text.new ≡ text.old ++ text_of (kinds.Fixed first ∷ kinds.Fixed second ∷ [])) }
+{
+    push_fixed(text, first)?;
+    push_fixed(text, second)
+}
+
 /// Writes a name.
 pub(crate) fn push_name(text: &mut Bytes, name: &Name) -> Result<(), Memory>
     ensures { OnOk result (text.new ≡ text.old ++ text_of (kinds.Name name.now.text ∷ [])) }

@@ -2,7 +2,7 @@ use Rattle.std.proofs.Common.{◌≡◌, ◌++◌, drop}
 use Rattle.std.specs.Prelude.{false}
 use Rattle.twe_print.specs.Text.{text_of}
 use Rattle.twe_print.specs.ItemWords.{params_words}
-use Rattle.twe_print.proofs.item.push_params.Given as goal
+use Rattle.twe_print.proofs.item.push_more_params.Given as goal
 
 -- what is written, and what is left, are all
 abbrev pub invariant-loop-param : goal.invariant-loop-param
