@@ -10,6 +10,7 @@ mod laws;
 mod operator;
 mod path;
 mod print;
+mod simple;
 mod stmt;
 mod word;
 
