@@ -16,11 +16,10 @@ use Rattle.twe_tokens.specs.Places.{is_gap, place_after}
 use Rattle.twe_tokens.specs.Spelling.{spelled}
 use Rattle.twe_tokens.specs.Tokens.{AreFirstLexemes, tokens_from, BeginsWith}
 use Rattle.twe_parse.specs.declared.fail.SRule.{SRule}
-use Rattle.twe_parse.specs.declared.fail.SRule.TheVariants.{S1, S2, S3, S4, S5, S6}
+use Rattle.twe_parse.specs.declared.fail.SRule.TheVariants.{S4, S5}
 use Rattle.twe_parse.specs.declared.limits.Sofar.{Sofar}
 use Rattle.twe_parse.specs.Fails.{Fails, byte, stray, unfinished, too_large, too_deep, unclosed}
 use Rattle.twe_parse.specs.Limits.{at_start, sofar_after, sofar_of, is_too_large, is_too_deep}
-use Rattle.twe_parse.specs.Viable.{IsProgram, IsViable}
 use Rattle.twe_parse.specs.Writes.{Writes}
 use Rattle.twe_parse.specs.inner.Reading.{concat}
 use Rattle.twe_parse.proofs.Cuts.{no_lexeme, cut_append, compare_cuts, tokens_from_append, all_at}

@@ -1,11 +1,10 @@
 -- The words of an expression are tokens that write it again.
-use Rattle.std.proofs.Common.{◌≡◌, ℕ, ◌+◌, ◌<◌, ◌≤◌, ◌==◌, suc, Bool, true, false, List, [], ◌∷◌, ◌++◌, cond, nat_le, nat_lt, refl, sym, ap, ◌∙◌, subst, append_assoc, append-nil, arith}
+use Rattle.std.proofs.Common.{◌≡◌, ℕ, ◌+◌, ◌≤◌, Bool, true, false, List, [], ◌∷◌, ◌++◌, nat_le, refl, sym, ap, subst, append_assoc, append-nil, arith}
 use Rattle.std.specs.Prelude.{if◌then◌else◌, ℤ, pos, negsuc}
-use Rattle.std.proofs.lemmas.Bool.{false≢true, ltb-false, ltb-true, leb-true, lt-ltb, ne_eqb}
+use Rattle.std.proofs.lemmas.Bool.{false≢true, ltb-false, leb-true, lt-ltb, ne_eqb}
 use Rattle.twe_io.specs.declared.place.Place.{Place}
 use Rattle.twe_ast.specs.declared.expr.BinOp.{BinOp}
-use Rattle.twe_ast.specs.declared.expr.BinOp.TheVariants as operators
-use Rattle.twe_ast.specs.Expression.{Expression, expression, Shape, Literal, Truth, Variable, ArrayElement, GridElement, CallValue, Negative, Negation, Binary, Arguments, no_more, argument}
+use Rattle.twe_ast.specs.Expression.{Expression, expression, Shape, Literal, Negative, Binary, Arguments}
 use Rattle.twe_tokens.specs.declared.fixed.Fixed.TheVariants as fixed
 use Rattle.twe_tokens.specs.declared.token.Token.{Token}
 use Rattle.twe_tokens.specs.declared.token.TokenKind.{TokenKind}
@@ -19,7 +18,7 @@ use Rattle.twe_parse.proofs.Steps.{level_small}
 use Rattle.twe_print.specs.Text.{when}
 use Rattle.twe_print.specs.ExpressionWords.{literal_words, needs_parentheses, expression_words, shape_words, arguments_words}
 use Rattle.twe_print.proofs.Supply.{here, next, tokens_at, after, after_append}
-use Rattle.twe_print.proofs.PlacedExpression.{at_left, at_operator, placed_expression, placed_shape, placed_arguments}
+use Rattle.twe_print.proofs.PlacedExpression.{placed_expression, placed_shape, placed_arguments}
 
 -- an expression begins where its first token stands
 pub begins_here : (level : ℕ) (shape : Shape) (s : List Place) (words : List TokenKind) (rest : List Token) → WritesShape level shape (tokens_at s words) rest → WritesExpression level (expression (here s) shape) (tokens_at s words) rest

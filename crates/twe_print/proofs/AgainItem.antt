@@ -1,5 +1,5 @@
 -- The words of declarations are tokens that write them again.
-use Rattle.std.proofs.Common.{◌≡◌, ℕ, suc, zero, Bool, true, false, List, [], ◌∷◌, ◌++◌, Option, None, Some, min, nat_le, refl, sym, ap, ◌∙◌, subst, append_assoc, arith}
+use Rattle.std.proofs.Common.{◌≡◌, ℕ, suc, zero, Bool, true, false, List, [], ◌∷◌, ◌++◌, Option, Some, nat_le, refl, sym, ap, subst, append_assoc, arith}
 use Rattle.std.specs.Prelude.{if◌then◌else◌, ℤ, pos, negsuc, unsigned_abs}
 use Rattle.twe_io.specs.declared.place.Place.{Place}
 use Rattle.twe_ast.specs.declared.item.Clause.{Clause}
@@ -21,12 +21,12 @@ use Rattle.twe_parse.specs.Written.{word, named, number}
 use Rattle.twe_parse.specs.WritesPath.{WritesCellElem, cell_name, cell_index, MoreCellElems, no_more_cell_elems, more_cell_elems, WritesCellPath, cell_root, cell_region, WritesElem, name, index, parameter, any_index, star, MoreElems, no_more_elems, more_elems, WritesPath, root, region}
 use Rattle.twe_parse.specs.Writes.{MoreNames, no_more_names, more_names, WritesInitial, not_written, initial, negative_initial, MoreParams, no_more_params, more_params, WritesParams, no_params, params, MorePaths, no_more_paths, more_paths, WritesClause, clause, MoreClauses, no_more_clauses, more_clauses, WritesEffects, pure, clauses, WritesDecl, decl, WritesItem, regions, cell, array, grid, method, task, deterministic_task, WritesItems, no_more_items, more_items}
 use Rattle.twe_print.specs.Text.{when}
-use Rattle.twe_print.specs.PathWords.{elem_words, elems_words, needs_root, path_words, cell_elem_words, cell_elems_words, cell_needs_root, cell_path_words}
+use Rattle.twe_print.specs.PathWords.{elem_words, elems_words, needs_root, cell_elem_words, cell_elems_words, cell_needs_root}
 use Rattle.twe_print.specs.ItemWords.{names_words, initial_words, params_words, paths_words, clause_words, clauses_words, effects_words, decl_words, item_words, items_words}
 use Rattle.twe_print.proofs.Supply.{here, next, tokens_at, after, after_append, placed_name}
 use Rattle.twe_print.proofs.PlacedStatement.{second, third}
 use Rattle.twe_print.proofs.AgainStatement.{block_again}
-use Rattle.twe_print.proofs.PlacedItem.{placed_elem, placed_elems, placed_path, placed_cell_elem, placed_cell_elems, placed_cell_path, placed_names, placed_params, placed_paths, placed_clause, placed_clauses, at_effects, placed_decl, placed_item, placed_items}
+use Rattle.twe_print.proofs.PlacedItem.{placed_elem, placed_elems, placed_path, placed_cell_elem, placed_cell_elems, placed_cell_path, placed_names, placed_params, placed_paths, placed_clause, placed_clauses, placed_decl, placed_item, placed_items}
 
 -- Two parts that are written one after the other.
 joined : (W : List Token → List Token → Type 0) (one two more : List TokenKind) (s : List Place) → W (tokens_at s (one ++ (two ++ more))) (tokens_at (after two (after one s)) more)

@@ -1,18 +1,16 @@
 -- The printed text is cut into its words.
-use Rattle.std.proofs.Common.{◌≡◌, ℕ, ◌<◌, ◌⊎◌, inl, inr, Bool, true, false, ◌&&◌, not, List, [], ◌∷◌, ◌++◌, take, drop, eqb, refl, sym, ap, ◌∙◌, subst, append_assoc, arith}
-use Rattle.std.specs.Prelude.{if◌then◌else◌}
+use Rattle.std.proofs.Common.{◌≡◌, ℕ, true, false, not, List, [], ◌∷◌, ◌++◌, take, drop, eqb, refl, sym, ap, ◌∙◌, subst, arith}
 use Rattle.std.specs.List.{list_all, AllByRecursion}
 use Rattle.std.specs.Char.{is_ascii_digit}
 use Rattle.std.proofs.lemmas.Bool.{false≢true, and_from, and_parts, cond-true, cond-false, eq-eqb}
 use Rattle.std.proofs.lemmas.List.{take_at, drop_at}
 use Rattle.twe_tokens.specs.declared.fixed.Fixed.TheVariants as fixed
-use Rattle.twe_tokens.specs.declared.token.Token.{Token}
 use Rattle.twe_tokens.specs.declared.token.TokenKind.{TokenKind}
 use Rattle.twe_tokens.specs.declared.token.TokenKind.TheVariants as kinds
 use Rattle.twe_tokens.specs.Kinds.{kind_of}
 use Rattle.twe_tokens.specs.Lexeme.{is_blank, is_allowed, is_letter, is_long_symbol, IsFirstLexeme, IsUnclosedComment}
-use Rattle.twe_tokens.specs.Places.{is_gap, place_after}
-use Rattle.twe_tokens.specs.Tokens.{AreFirstLexemes, tokens_from, BeginsWith}
+use Rattle.twe_tokens.specs.Places.{is_gap}
+use Rattle.twe_tokens.specs.Tokens.{AreFirstLexemes, tokens_from}
 use Rattle.twe_tokens.proofs.Beginnings.{byte_begins}
 use Rattle.twe_parse.specs.declared.limits.Sofar.{Sofar}
 use Rattle.twe_parse.specs.Limits.{sofar_after}

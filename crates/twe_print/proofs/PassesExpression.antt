@@ -1,11 +1,11 @@
 -- The words of an expression keep the limits where its tokens do.
-use Rattle.std.proofs.Common.{◌≡◌, ℕ, ◌+◌, ◌<◌, ◌≤◌, ◌⊎◌, inl, inr, suc, ◌==◌, ◌&&◌, not, Bool, true, false, List, [], ◌∷◌, ◌++◌, cond, nat_le, nat_lt, refl, sym, ap, ◌∙◌, subst, append_assoc, append-nil, arith}
-use Rattle.std.specs.Prelude.{if◌then◌else◌, ℤ, pos, negsuc}
+use Rattle.std.proofs.Common.{◌≡◌, ℕ, ◌+◌, ◌≤◌, ◌⊎◌, inl, inr, suc, ◌==◌, ◌&&◌, not, Bool, true, false, List, [], ◌∷◌, ◌++◌, nat_le, nat_lt, refl, sym, ap, ◌∙◌, subst, append_assoc, append-nil, arith}
+use Rattle.std.specs.Prelude.{if◌then◌else◌, pos, negsuc}
 use Rattle.std.proofs.lemmas.Bool.{false≢true, true≢false, le-ltb, leb-false, lt-ltb}
 use Rattle.twe_io.specs.declared.place.Place.{Place}
 use Rattle.twe_ast.specs.declared.expr.BinOp.{BinOp}
 use Rattle.twe_ast.specs.declared.expr.BinOp.TheVariants as operators
-use Rattle.twe_ast.specs.Expression.{Expression, expression, Shape, Literal, Truth, Variable, ArrayElement, GridElement, CallValue, Negative, Negation, Binary, Arguments, no_more, argument}
+use Rattle.twe_ast.specs.Expression.{Expression, Shape, Binary, Arguments}
 use Rattle.twe_tokens.specs.declared.fixed.Fixed.TheVariants as fixed
 use Rattle.twe_tokens.specs.declared.token.Token.{Token}
 use Rattle.twe_tokens.specs.declared.token.TokenKind.{TokenKind}
@@ -17,7 +17,7 @@ use Rattle.twe_parse.specs.Written.{word, number}
 use Rattle.twe_parse.specs.WritesExpression.{is_smallest, WritesExpression, written, WritesShape, binary, negative, smallest, negation, literal, yes, no, variable, call, array, grid, parentheses, WritesArguments, no_arguments, arguments, MoreArguments, no_more_arguments, more_arguments}
 use Rattle.twe_print.specs.Text.{when}
 use Rattle.twe_print.specs.ExpressionWords.{literal_words, needs_parentheses, expression_words, shape_words, arguments_words}
-use Rattle.twe_print.proofs.Passing.{Passed, AllPass, Beside, regrouped, step, skip_open, skip_close}
+use Rattle.twe_print.proofs.Passing.{Passed, regrouped, step, skip_open, skip_close}
 
 -- after a unary minus the literal 2147483648 does not come
 abbrev pub Calm : Bool → List Token → Type 0

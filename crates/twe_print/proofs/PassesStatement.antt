@@ -1,5 +1,5 @@
 -- The words of statements keep the limits where their tokens do.
-use Rattle.std.proofs.Common.{ℕ, ◌≤◌, suc, Bool, true, false, List, [], ◌∷◌, ◌++◌, append_assoc, arith}
+use Rattle.std.proofs.Common.{ℕ, suc, Bool, true, false, List, ◌∷◌, ◌++◌, append_assoc, arith}
 use Rattle.twe_ast.specs.declared.stmt.LocalType.TheVariants as locals
 use Rattle.twe_ast.specs.declared.stmt.LocalType.{LocalType}
 use Rattle.twe_ast.specs.declared.stmt.WaitCall.{WaitCall}

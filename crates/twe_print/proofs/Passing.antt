@@ -1,10 +1,9 @@
 -- The limits on tokens: where those of a text keep them, the words that it is printed as keep them.
-use Rattle.std.proofs.Common.{◌≡◌, ℕ, ◌+◌, ◌-◌, ◌≤◌, ◌<◌, suc, pred, Bool, true, false, ◌&&◌, ◌||◌, not, List, [], ◌∷◌, cond, nat_le, nat_lt, ◌==◌, refl, sym, ap, ◌∙◌, subst, ◌++◌, append_assoc, arith}
+use Rattle.std.proofs.Common.{◌≡◌, ℕ, ◌+◌, ◌-◌, ◌≤◌, suc, pred, Bool, true, false, ◌&&◌, ◌||◌, not, List, [], ◌∷◌, cond, nat_le, nat_lt, ◌==◌, refl, sym, ap, ◌∙◌, subst, ◌++◌, append_assoc, arith}
 use Rattle.std.specs.Prelude.{if◌then◌else◌}
-use Rattle.std.proofs.lemmas.Bool.{false≢true, true≢false, ltb-true, leb-true, lt-ltb, le-leb, le-ltb, lt-leb}
+use Rattle.std.proofs.lemmas.Bool.{false≢true, true≢false, ltb-true, leb-true, lt-ltb, le-leb}
 use Rattle.std.proofs.Math.Numerals.{sub-one}
 use Rattle.twe_io.specs.declared.place.Place.{Place}
-use Rattle.twe_tokens.specs.declared.fixed.Fixed.{Fixed}
 use Rattle.twe_tokens.specs.declared.fixed.Fixed.TheVariants as fixed
 use Rattle.twe_tokens.specs.declared.token.Token.{Token}
 use Rattle.twe_tokens.specs.declared.token.TokenKind.{TokenKind}
