@@ -31,6 +31,8 @@ fn trees_are_printed(rt: HostRuntime) -> Result<(), Fail> {
     for (text, wanted) in TEXTS {
         let printed = reprinted(rt.alloc(), text)?;
         assert_eq!(rt; printed.as_slice(), *wanted);
+        let again = reprinted(rt.alloc(), printed.as_slice())?;
+        assert_eq!(rt; again.as_slice(), *wanted);
     }
     Ok(())
 }
