@@ -1,0 +1,6 @@
+//! The names of a text become numbers: each tree is its program, or its first failure of a rule of names.
+#![tactic(auto)]
+
+mod fail;
+
+pub use fail::NameFail;
