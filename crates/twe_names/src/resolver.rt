@@ -20,6 +20,7 @@ pub fn resolve(alloc: Global, ast: &Ast) -> Result<Prog, NameFail>
     ensures accepted { OnOk result ((rule : Named) (place : Place) → ¬ FailsName ast.now rule place) }
     ensures refused { IfErr result (HasCause ast.now) }
 {
-    let _ = (alloc, ast);
+    let _alloc = alloc;
+    let _end = ast.end;
     Err(NameFail::OutOfMemory(Memory::from(AllocError)))
 }

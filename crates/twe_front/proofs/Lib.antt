@@ -1,0 +1,4 @@
+mod SameTree
+mod OneFirst
+mod OneAnswer
+mod FromText
