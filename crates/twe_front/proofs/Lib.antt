@@ -1,4 +1,3 @@
 mod SameTree
 mod OneFirst
 mod OneAnswer
-mod FromText
