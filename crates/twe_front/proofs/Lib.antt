@@ -1,6 +1,9 @@
-pub mod Tails
-pub mod Sizes
-pub mod NoTasks
-pub mod Literals
-pub mod Indexes
-pub mod FromText
+mod SameTree
+mod OneFirst
+mod OneAnswer
+mod Tails
+mod Sizes
+mod NoTasks
+mod Literals
+mod Indexes
+mod FromText

@@ -2,5 +2,7 @@
 #![tactic(auto)]
 
 mod fail;
+mod resolver;
 
 pub use fail::NameFail;
+pub use resolver::resolve;
