@@ -1,7 +1,7 @@
 -- The run theorem: what a run of a program is that ends with every task done.
 use Rattle.std.specs.Prelude.{◌≡◌, List, [], Option, None, Some}
 use Rattle.seg_journal.specs.Limits.{Bounds}
-use Rattle.twe_syntax.specs.declared.refusal.Refusal.{Refusal}
+use Rattle.twe_front.specs.declared.refusal.Refusal.{Refusal}
 use Rattle.twe_program.specs.Program.{Program}
 use Rattle.twe_machine.specs.declared.ending.Outcome.TheVariants.{AllDone}
 use Rattle.twe_machine.specs.LowestFirst.{LowestFirst}
@@ -34,3 +34,10 @@ pub record HasRefusal (refusal : Refusal) (book : Book) : Type 0 where
   pub journal : book.journal ≡ []
   pub outcome : book.outcome ≡ None
   pub refused : book.refusal ≡ Some refusal
+
+-- a book with the program of a text, and nothing else
+pub record HasProgram (p : Program) (book : Book) : Type 0 where
+  pub program : book.prog ≡ Some p
+  pub journal : book.journal ≡ []
+  pub outcome : book.outcome ≡ None
+  pub not_refused : book.refusal ≡ None

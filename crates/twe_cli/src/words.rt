@@ -8,6 +8,8 @@ use twe_io::Word;
 /// What the program is to do.
 #[derive(Clone, Copy, Debug, PartialEq, Eq)]
 pub enum Command {
+    /// Check the program, and say whether it is accepted.
+    Check,
     /// Run the program under these limits.
     Run {
         /// The limits.
@@ -15,24 +17,12 @@ pub enum Command {
     },
 }
 
-impl Command {
-    ghost use Rattle.twe_cli.specs.declared.words.Command.TheVariants.{Run};
-
-    /// The limits of the run.
-    pub fn limits(self) -> Limits
-        ensures { self ≡ Run result }
-    {
-        match self {
-            Command::Run { lim } => lim,
-        }
-    }
-}
-
 /// The command that the words mean, or none where they mean no command.
 pub fn read_words(words: &[Word]) -> Option<Command>
     ensures { result ≡ command_of words.now }
 {
     match words {
+        [word] if word.as_bytes() == b"check".as_slice() => Some(Command::Check),
         [word] if word.as_bytes() == b"run".as_slice() => Some(Command::Run {
             lim: Limits::default(),
         }),

@@ -10,6 +10,7 @@ mod one_move;
 mod segment;
 mod standing;
 mod state;
+mod sums;
 mod whole_run;
 
 pub use ending::Outcome;
@@ -20,4 +21,5 @@ pub use legal::{Why, may};
 pub use one_move::step;
 pub use standing::outcome;
 pub use state::{FirstFault, State, TaskRow, TaskStatus};
+pub use sums::has_only_sums;
 pub use whole_run::run_main;

@@ -5,5 +5,5 @@
 mod lines;
 mod result;
 
-pub use lines::{read_fault_text, refusal_text, too_long_text, usage_text};
+pub use lines::{accepted_text, read_fault_text, refusal_text, too_long_text, usage_text};
 pub use result::result_text;

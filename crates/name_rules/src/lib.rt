@@ -1,0 +1,15 @@
+//! The rules of names: what a name stands for at a place of a text, and where a tree fails one of the rules.
+//!
+//! A tree that fails none of them has a meaning, which the crate above gives. How a text becomes a tree is left to the
+//! crates of the text.
+#![tactic(auto)]
+
+mod names;
+mod rule;
+mod scope;
+mod seen;
+
+pub use names::{GlobalName, Globals};
+pub use rule::{Failure, NRule};
+pub use scope::{Here, LocalName, Locals};
+pub use seen::{Asked, Global, Local, Seen};

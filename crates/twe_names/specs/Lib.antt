@@ -1,0 +1,5 @@
+pub mod BodyMeaning
+pub mod PathMeaning
+pub mod Meaning
+pub mod FromText
+pub mod Resolves

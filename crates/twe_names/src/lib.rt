@@ -1,0 +1,8 @@
+//! The names of a text become numbers: each tree is its program, or its first failure of a rule of names.
+#![tactic(auto)]
+
+mod fail;
+mod resolver;
+
+pub use fail::NameFail;
+pub use resolver::resolve;
