@@ -1,1 +1,3 @@
 pub mod Firsts
+pub mod Parameters
+pub mod Counts
