@@ -1,2 +1,3 @@
 pub mod FirstPlaces
-pub mod Growth
+pub mod Walks
+pub mod Rooms
