@@ -46,7 +46,7 @@ passes-then a b c first second count sum p q = record {
 }
 
 -- a block is passed, and what it declares is seen no more
-passes-block : (here inside : Here) (count : ℕ) → Passes here inside count → Passes here (leaving here inside) count
+pub passes-block : (here inside : Here) (count : ℕ) → Passes here inside count → Passes here (leaving here inside) count
 passes-block here inside count p = record {
   points = p.points;
   vars_more = p.vars_more;
