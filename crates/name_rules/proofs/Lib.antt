@@ -1,3 +1,4 @@
 pub mod FirstPlaces
 pub mod Walks
 pub mod Rooms
+pub mod FirstFailures

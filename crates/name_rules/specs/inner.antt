@@ -2,3 +2,5 @@ pub mod Firsts
 pub mod Parameters
 pub mod Counts
 pub mod Room
+pub mod Least
+pub mod Failures

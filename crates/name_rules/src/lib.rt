@@ -5,6 +5,7 @@
 #![tactic(auto)]
 
 mod declared;
+mod first;
 mod firsts;
 mod here;
 mod look;
@@ -12,6 +13,8 @@ mod names;
 mod rule;
 mod scope;
 mod seen;
+mod types;
+mod uses;
 
 pub use look::look_up;
 pub use names::{GlobalName, Globals};
