@@ -1,10 +1,32 @@
--- The first failure of one list after another.
-use Rattle.std.proofs.Common.{◌≡◌, List, [], ◌∷◌, ◌++◌, Option, refl}
+-- The first failure of one list after another, and of one thing that is asked for after another.
+use Rattle.std.proofs.Common.{◌≡◌, List, [], ◌∷◌, ◌++◌, Option, None, Some, Bool, true, false, ◌&&◌, refl}
+use Rattle.twe_ast.specs.Expression.{Expression, expression}
+use Rattle.twe_ast.specs.declared.stmt.LocalType.{LocalType}
+use Rattle.name_rules.specs.declared.names.GlobalName.{GlobalName}
+use Rattle.name_rules.specs.declared.scope.LocalName.{LocalName}
 use Rattle.name_rules.specs.declared.rule.Failure.{Failure}
+use Rattle.name_rules.specs.Types.{type_of}
+use Rattle.name_rules.specs.Asks.{Ask, need, place_of}
 use Rattle.name_rules.specs.inner.Least.{first_from, earlier}
+use Rattle.name_rules.specs.inner.Failures.{first_of_asks, failures_here, failures_of_need}
 
 pub first_from-append : (first : Option Failure) (xs ys : List Failure) → first_from first (xs ++ ys) ≡ first_from (first_from first xs) ys
 first_from-append first [] ys = refl
 first_from-append first (x ∷ xs) ys = first_from-append (earlier first x) xs ys
 
-pub ruleset firsts = (first_from-append)
+module _ (globals : List GlobalName) (locals : List LocalName) where
+  pub first_of_asks-append : (first : Option Failure) (xs ys : List Ask)
+      → first_of_asks globals locals first (xs ++ ys) ≡ first_of_asks globals locals (first_of_asks globals locals first xs) ys
+  first_of_asks-append first [] ys = refl
+  first_of_asks-append first (x ∷ xs) ys = first_of_asks-append (first_from first (failures_here globals locals x)) xs ys
+
+  pub first_of_need : (first : Option Failure) (type : Option LocalType) (value : Expression)
+      → first_of_asks globals locals first (need type value) ≡ first_from first (failures_of_need type (type_of globals locals value) (place_of value))
+  first_of_need first None value = refl
+  first_of_need first (Some type) value = refl
+
+pub ruleset firsts = (first_from-append, first_of_asks-append, first_of_need)
+
+pub both_first : (a b c : Bool) → (a && (b && c)) ≡ ((a && b) && c)
+both_first true b c = refl
+both_first false b c = refl

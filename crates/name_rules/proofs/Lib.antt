@@ -2,3 +2,4 @@ pub mod FirstPlaces
 pub mod Walks
 pub mod Rooms
 pub mod FirstFailures
+pub mod Arguments

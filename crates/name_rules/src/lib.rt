@@ -8,6 +8,7 @@ mod declared;
 mod first;
 mod firsts;
 mod here;
+mod judge_expr;
 mod look;
 mod names;
 mod rule;

@@ -1,5 +1,6 @@
 //! The types of expressions.
-ghost use Rattle.std.specs.Prelude.{◌≡◌, Some};
+ghost use Rattle.std.specs.Prelude.{◌≡◌, ◌&&◌, Some};
+ghost use Rattle.twe_ast.specs.declared.stmt.LocalType.TheVariants.{Int as IntType};
 ghost use Rattle.name_rules.specs.Types as types;
 
 use crate::seen::{Global, Local, Seen};
@@ -14,6 +15,13 @@ pub fn is_type(found: Option<LocalType>, wanted: LocalType) -> bool
         (Some(LocalType::Boolean), LocalType::Boolean) => true,
         _ => false,
     }
+}
+
+/// Whether those so far are numbers, and there is a type, which is that of a number.
+pub fn are_numbers(so_far: bool, found: Option<LocalType>) -> bool
+    ensures { result ≡ (so_far && types.same_type found (Some IntType)) }
+{
+    so_far && is_type(found, LocalType::Int)
 }
 
 /// What an operator needs on its left; any type, if none.
