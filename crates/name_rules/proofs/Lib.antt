@@ -3,3 +3,4 @@ pub mod Walks
 pub mod Rooms
 pub mod FirstFailures
 pub mod Arguments
+pub mod FirstSites

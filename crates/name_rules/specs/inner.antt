@@ -4,3 +4,4 @@ pub mod Counts
 pub mod Room
 pub mod Least
 pub mod Failures
+pub mod Simple

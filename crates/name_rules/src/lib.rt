@@ -9,6 +9,7 @@ mod first;
 mod firsts;
 mod here;
 mod judge_expr;
+mod judge_simple;
 mod look;
 mod names;
 mod rule;
