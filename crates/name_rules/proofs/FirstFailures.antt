@@ -1,6 +1,6 @@
 -- The first failure of one list after another, and of one thing that is asked for after another.
 use Rattle.std.proofs.Common.{◌≡◌, List, [], ◌∷◌, ◌++◌, Option, None, Some, Bool, true, false, ◌&&◌, refl}
-use Rattle.twe_ast.specs.Expression.{Expression, expression}
+use Rattle.twe_ast.specs.Expression.{Expression}
 use Rattle.twe_ast.specs.declared.stmt.LocalType.{LocalType}
 use Rattle.name_rules.specs.declared.names.GlobalName.{GlobalName}
 use Rattle.name_rules.specs.declared.scope.LocalName.{LocalName}

@@ -4,3 +4,4 @@ pub mod Rooms
 pub mod FirstFailures
 pub mod Arguments
 pub mod FirstSites
+pub mod Bodies

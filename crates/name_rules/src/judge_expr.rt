@@ -12,7 +12,8 @@ use crate::rule::{Failure, NRule};
 use crate::scope::Locals;
 use crate::seen::Asked;
 use crate::types::{
-    are_numbers, binary_type, call_type, element_type, is_type, left_need, name_type, right_need, unary_type,
+    are_numbers, binary_type, call_type, element_type, is_type, left_need, name_type, right_need,
+    unary_type,
 };
 use crate::uses::judge_use;
 use twe_ast::{Args, Expr, ExprKind, LocalType};
@@ -29,7 +30,12 @@ fn met(
     ensures noted { first.new ≡ first_from first.old (failures_of_need need found place) }
 {
     if let Some(need) = need {
-        note(first, found.is_some() && !is_type(found, need), NRule::N3, place);
+        note(
+            first,
+            found.is_some() && !is_type(found, need),
+            NRule::N3,
+            place,
+        );
     }
     found
 }
@@ -109,7 +115,10 @@ pub fn judge_expr(
             met(need, found, expr.place, first)
         }
         ExprKind::Bin {
-            op, left, right, ..
+            op,
+            left,
+            right,
+            ..
         } => {
             let left = judge_expr(left, left_need(*op), globals, locals, first);
             let right = judge_expr(right, right_need(*op, left), globals, locals, first);

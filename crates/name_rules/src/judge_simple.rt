@@ -51,7 +51,10 @@ fn judge_task(
     let locals = &here.locals;
     match &stmt.kind {
         StmtKind::Make {
-            future, task, args, ..
+            future,
+            task,
+            args,
+            ..
         } => {
             let asked = Asked::Task { args: count(args) };
             judge_declared(future, globals, locals, first);
@@ -146,7 +149,8 @@ pub fn judge_simple(
             note(first, !is_void(returns), NRule::N3, *place);
         }
         StmtKind::Return {
-            value: Some(value), ..
+            value: Some(value),
+            ..
         } => {
             note(first, is_void(returns), NRule::N3, value.place);
             judge_expr(value, Some(LocalType::Int), globals, locals, first);

@@ -8,6 +8,7 @@ mod declared;
 mod first;
 mod firsts;
 mod here;
+mod judge_body;
 mod judge_expr;
 mod judge_simple;
 mod look;

@@ -66,7 +66,11 @@ fn agrees(need: Option<LocalType>, found: Option<LocalType>) -> bool
 }
 
 /// The type of an operator with operands of these types.
-pub fn binary_type(op: BinOp, left: Option<LocalType>, right: Option<LocalType>) -> Option<LocalType>
+pub fn binary_type(
+    op: BinOp,
+    left: Option<LocalType>,
+    right: Option<LocalType>,
+) -> Option<LocalType>
     ensures { result ≡ types.type_if (types.operands_agree op left right) (Some (types.gives op)) }
 {
     if agrees(left_need(op), left) && agrees(right_need(op, left), right) {
@@ -115,11 +119,15 @@ pub fn call_type(seen: Option<Seen>, given: usize, numbers: bool) -> Option<Loca
     ensures { result ≡ types.type_if numbers (types.type_of_call seen given) }
 {
     match seen {
-        Some(Seen::Global(Global::Method {
-            params,
-            returns: ReturnType::Int,
-            ..
-        })) if params == given && numbers => Some(LocalType::Int),
+        Some(
+            Seen::Global(
+                Global::Method {
+                    params,
+                    returns: ReturnType::Int,
+                    ..
+                },
+            ),
+        ) if params == given && numbers => Some(LocalType::Int),
         _ => None,
     }
 }

@@ -53,10 +53,12 @@ fn lacks_value(asked: Asked, seen: Seen) -> bool
     match (asked, seen) {
         (
             Asked::Method { valued: true, .. },
-            Seen::Global(Global::Method {
-                returns: ReturnType::Void,
-                ..
-            }),
+            Seen::Global(
+                Global::Method {
+                    returns: ReturnType::Void,
+                    ..
+                },
+            ),
         ) => true,
         (Asked::Future { valued: true, .. }, Seen::Local(Local::Future { void: true, .. })) => true,
         _ => false,
@@ -115,12 +117,7 @@ pub fn judge_use(
 }
 
 /// Notes the failure of a name that is declared where it is seen.
-pub fn judge_declared(
-    name: &Name,
-    globals: &Globals,
-    locals: &Locals,
-    first: &mut Option<Failure>,
-)
+pub fn judge_declared(name: &Name, globals: &Globals, locals: &Locals, first: &mut Option<Failure>)
     ensures { first.new ≡ first_from first.old (failures_here globals.now locals.now (declares name.now)) }
 {
     let seen = look_up(globals, locals, &name.text);

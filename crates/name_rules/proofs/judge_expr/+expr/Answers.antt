@@ -1,4 +1,4 @@
-use Rattle.std.proofs.Common.{◌≡◌, ◌+◌, ◌<◌, ◌&&◌, List, length, get_or, drop, Some, arith, sym, ap, ◌∙◌, subst}
+use Rattle.std.proofs.Common.{◌≡◌, ◌+◌, ◌&&◌, List, drop, Some, arith, sym, subst}
 use Rattle.std.proofs.lemmas.Grind.{common_steps}
 use Rattle.twe_ast.specs.Expression.{Expression, Arguments, argument}
 use Rattle.twe_ast.specs.declared.stmt.LocalType.TheVariants.{Int}
@@ -16,8 +16,8 @@ judge_args-loop-arg-preserved t c =
     let rest : Arguments = arguments_of (drop (i + 1) items) in
     let next : arguments_of (drop i items) ≡ argument arg rest = next_argument items i arg c.loop-arg-test.true (sym c.arg-item.is) in
     let so_far : (c.loop-arg.numbers && (same_type (type_of c.args.globals.now c.args.locals.now arg) (Some Int) && are_ints c.args.globals.now c.args.locals.now rest))
-        ≡ are_ints c.args.globals.now c.args.locals.now c.args.args.now
-        = subst (λ xs. (c.loop-arg.numbers && are_ints c.args.globals.now c.args.locals.now xs) ≡ are_ints c.args.globals.now c.args.locals.now c.args.args.now) next c.loop-arg.invariant.numbers in
+    ≡ are_ints c.args.globals.now c.args.locals.now c.args.args.now
+    = subst (λ xs. (c.loop-arg.numbers && are_ints c.args.globals.now c.args.locals.now xs) ≡ are_ints c.args.globals.now c.args.locals.now c.args.args.now) next c.loop-arg.invariant.numbers in
     let groups = both_first c.loop-arg.numbers (same_type (type_of c.args.globals.now c.args.locals.now arg) (Some Int)) (are_ints c.args.globals.now c.args.locals.now rest) in
     record {
       numbers = cc;
