@@ -1,5 +1,5 @@
 -- The first failure of one list after another, and of one thing that is asked for after another.
-use Rattle.std.proofs.Common.{◌≡◌, List, [], ◌∷◌, ◌++◌, Option, None, Some, Bool, true, false, ◌&&◌, refl}
+use Rattle.std.proofs.Common.{◌≡◌, List, [], ◌∷◌, ◌++◌, Option, None, Some, Bool, true, false, ◌&&◌, refl, ◌∙◌}
 use Rattle.twe_ast.specs.Expression.{Expression}
 use Rattle.twe_ast.specs.declared.stmt.LocalType.{LocalType}
 use Rattle.name_rules.specs.declared.names.GlobalName.{GlobalName}
@@ -30,3 +30,9 @@ pub ruleset firsts = (first_from-append, first_of_asks-append, first_of_need)
 pub both_first : (a b c : Bool) → (a && (b && c)) ≡ ((a && b) && c)
 both_first true b c = refl
 both_first false b c = refl
+
+pub first_of_four : (first : Option Failure) (a b c d : List Failure)
+    → first_from first (a ++ (b ++ (c ++ d))) ≡ first_from (first_from (first_from (first_from first a) b) c) d
+first_of_four first a b c d =
+    first_from-append first a (b ++ (c ++ d))
+    ∙ (first_from-append (first_from first a) b (c ++ d) ∙ first_from-append (first_from (first_from first a) b) c d)

@@ -5,3 +5,4 @@ pub mod FirstFailures
 pub mod Arguments
 pub mod FirstSites
 pub mod Bodies
+pub mod PathsOver

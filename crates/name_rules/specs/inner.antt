@@ -5,3 +5,4 @@ pub mod Room
 pub mod Least
 pub mod Failures
 pub mod Simple
+pub mod OtherFailures

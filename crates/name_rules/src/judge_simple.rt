@@ -28,7 +28,7 @@ fn target_type(seen: Option<Seen>) -> LocalType
 }
 
 /// Whether nothing is returned.
-fn is_void(returns: ReturnType) -> bool
+pub fn is_void(returns: ReturnType) -> bool
     ensures { result ≡ is_void returns }
 {
     match returns {

@@ -5,12 +5,14 @@
 #![tactic(auto)]
 
 mod declared;
+mod ends;
 mod first;
 mod firsts;
 mod here;
 mod judge_body;
 mod judge_expr;
 mod judge_simple;
+mod limits;
 mod look;
 mod names;
 mod rule;
