@@ -1,5 +1,7 @@
 -- The first failure of one list after another, and of one thing that is asked for after another.
-use Rattle.std.proofs.Common.{◌≡◌, List, [], ◌∷◌, ◌++◌, Option, None, Some, Bool, true, false, ◌&&◌, refl, ◌∙◌}
+use Rattle.std.proofs.Common.{◌≡◌, ℕ, ◌+◌, ◌<◌, List, [], ◌∷◌, ◌++◌, length, get_or, drop, Option, None, Some, Bool, true, false, ◌&&◌, refl, sym, ap, ◌∙◌}
+use Rattle.std.specs.List.{flat_map}
+use Rattle.std.proofs.lemmas.List.{drop_more}
 use Rattle.twe_ast.specs.Expression.{Expression}
 use Rattle.twe_ast.specs.declared.stmt.LocalType.{LocalType}
 use Rattle.name_rules.specs.declared.names.GlobalName.{GlobalName}
@@ -36,3 +38,13 @@ pub first_of_four : (first : Option Failure) (a b c d : List Failure)
 first_of_four first a b c d =
     first_from-append first a (b ++ (c ++ d))
     ∙ (first_from-append (first_from first a) b (c ++ d) ∙ first_from-append (first_from (first_from first a) b) c d)
+
+-- what each thing of a list asks for, one thing on
+pub each_noted : {X : Type 0} (f : X → List Ask) (globals : List GlobalName) (locals : List LocalName) (items : List X) (i : ℕ) (item : X) → i < length items → get_or items i item ≡ item
+    → (first now all : Option Failure) → now ≡ first_of_asks globals locals first (f item)
+    → first_of_asks globals locals first (flat_map f (drop i items)) ≡ all → first_of_asks globals locals now (flat_map f (drop (i + 1) items)) ≡ all
+each_noted f globals locals items i item below is first now all noted so_far =
+    let next = drop_more items i item below ∙ ap (λ x. x ∷ drop (i + 1) items) is in
+    ap (λ o. first_of_asks globals locals o (flat_map f (drop (i + 1) items))) noted
+    ∙ (sym (first_of_asks-append globals locals first (f item) (flat_map f (drop (i + 1) items)))
+    ∙ (ap (λ xs. first_of_asks globals locals first (flat_map f xs)) (sym next) ∙ so_far))

@@ -8,7 +8,16 @@ use Rattle.name_rules.specs.declared.scope.LocalName.{LocalName}
 use Rattle.name_rules.specs.declared.rule.Failure.{Failure}
 use Rattle.name_rules.specs.Types.{type_of, left_need, right_need}
 use Rattle.name_rules.specs.Asks.{Ask, uses, needs, declares, returns_value, returns_nothing, need, asks_of, asks_inside, asks_of_all}
-use Rattle.name_rules.specs.Stands.{Site, sites_at}
+use Rattle.std.specs.List.{flat_map}
+use Rattle.twe_ast.specs.declared.item.Clause.{Clause}
+use Rattle.twe_ast.specs.declared.path.CellElem.{CellElem}
+use Rattle.twe_ast.specs.declared.path.CellElemKind.{CellElemKind}
+use Rattle.twe_ast.specs.declared.path.CellElemKind.TheVariants as cell_kinds
+use Rattle.twe_ast.specs.declared.path.PathElem.{PathElem}
+use Rattle.twe_ast.specs.declared.path.PathElemKind.{PathElemKind}
+use Rattle.twe_ast.specs.declared.path.PathElemKind.TheVariants as elem_kinds
+use Rattle.name_rules.specs.Stands.{Site, sites_at, asks_of_kind, asks_of_cell_kind, asks_of_path, asks_of_clause}
+use Rattle.name_rules.specs.inner.Elements.{asks_of_elem, asks_of_cell_elem}
 use Rattle.name_rules.specs.inner.Least.{first_from}
 use Rattle.name_rules.specs.inner.Failures.{first_of_asks, first_of_sites, failures_at, failures_here}
 
@@ -81,3 +90,36 @@ first_at-append globals locals returns first (x ∷ xs) ys =
     first_at-append globals locals returns (first_from first (failures_at globals (record { locals = locals; returns = returns; ask = x }))) xs ys
 
 pub ruleset sites = (first_of_expression, first_of_arguments, first_of_sites-append, first_at-append)
+
+-- paths ask for no value that is returned
+elem_inside : (elem : PathElem) → AreInside (asks_of_elem elem)
+elem_inside elem = kind_inside elem.kind where
+  kind_inside : (kind : PathElemKind) → AreInside (asks_of_kind kind elem.place)
+  kind_inside (elem_kinds.Name text) = (tt, tt)
+  kind_inside (elem_kinds.Index index) = tt
+  kind_inside (elem_kinds.Variable name) = (tt, tt)
+  kind_inside elem_kinds.AnyIndex = tt
+  kind_inside elem_kinds.Star = tt
+
+cell_elem_inside : (elem : CellElem) → AreInside (asks_of_cell_elem elem)
+cell_elem_inside elem = kind_inside elem.kind where
+  kind_inside : (kind : CellElemKind) → AreInside (asks_of_cell_kind kind elem.place)
+  kind_inside (cell_kinds.Name text) = (tt, tt)
+  kind_inside (cell_kinds.Index index) = tt
+
+each_inside : {X : Type 0} (f : X → List Ask) → ((x : X) → AreInside (f x)) → (xs : List X) → AreInside (flat_map f xs)
+each_inside f h [] = tt
+each_inside f h (x ∷ xs) = join (f x) (flat_map f xs) (h x) (each_inside f h xs)
+
+module _ (globals : List GlobalName) (locals : List LocalName) (returns : ReturnType) (first : Option Failure) where
+  pub first_of_effects : (clauses : List Clause)
+      → first_of_sites globals first (sites_at locals returns (flat_map asks_of_clause clauses)) ≡ first_of_asks globals locals first (flat_map asks_of_clause clauses)
+  first_of_effects clauses =
+      same_inside globals locals returns first (flat_map asks_of_clause clauses)
+      (each_inside asks_of_clause (λ clause. each_inside asks_of_path (λ path. each_inside asks_of_elem elem_inside path.elems) clause.paths) clauses)
+
+  pub first_of_cell_path : (elems : List CellElem)
+      → first_of_sites globals first (sites_at locals returns (flat_map asks_of_cell_elem elems)) ≡ first_of_asks globals locals first (flat_map asks_of_cell_elem elems)
+  first_of_cell_path elems = same_inside globals locals returns first (flat_map asks_of_cell_elem elems) (each_inside asks_of_cell_elem cell_elem_inside elems)
+
+pub ruleset decl_sites = (first_of_effects, first_of_cell_path, first_of_sites-append)

@@ -6,3 +6,4 @@ pub mod Least
 pub mod Failures
 pub mod Simple
 pub mod OtherFailures
+pub mod Elements

@@ -102,6 +102,21 @@ fn note_failures(first: &mut Option<Failure>, asked: Asked, seen: Option<Seen>, 
     }
 }
 
+/// Notes the failures of a name that is used at a place.
+pub fn judge_text(
+    text: &Word,
+    place: Place,
+    asked: Asked,
+    globals: &Globals,
+    locals: &Locals,
+    first: &mut Option<Failure>,
+)
+    ensures { first.new ≡ first_from first.old (failures_here globals.now locals.now (uses (record { text = text.now; place = place }) asked)) }
+{
+    let seen = seen_as(globals, locals, asked, text);
+    note_failures(first, asked, seen, place);
+}
+
 /// Notes the failures of a name that is used.
 pub fn judge_use(
     name: &Name,
@@ -112,8 +127,7 @@ pub fn judge_use(
 )
     ensures { first.new ≡ first_from first.old (failures_here globals.now locals.now (uses name.now asked)) }
 {
-    let seen = seen_as(globals, locals, asked, &name.text);
-    note_failures(first, asked, seen, name.place);
+    judge_text(&name.text, name.place, asked, globals, locals, first);
 }
 
 /// Notes the failure of a name that is declared where it is seen.
