@@ -22,9 +22,11 @@ mod scope;
 mod seen;
 mod types;
 mod uses;
+mod whole;
 
 pub use look::look_up;
 pub use names::{GlobalName, Globals};
 pub use rule::{Failure, NRule};
 pub use scope::{Here, LocalName, Locals};
+pub use whole::first_failure;
 pub use seen::{Asked, Global, Local, Seen};
