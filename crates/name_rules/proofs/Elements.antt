@@ -1,5 +1,5 @@
 -- The elements of a list that stand after so many others, second stars, and the paths of clauses.
-use Rattle.std.proofs.Common.{◌≡◌, ◌⊎◌, ℕ, zero, suc, ◌+◌, Bool, true, false, cond, List, [], ◌∷◌, ◌++◌, length, Option, None, Some, inl, inr, refl, sym, ap, ◌∙◌, subst, arith}
+use Rattle.std.proofs.Common.{◌≡◌, ℕ, zero, suc, ◌+◌, Bool, true, false, cond, List, [], ◌∷◌, ◌++◌, length, Option, None, Some, inl, inr, refl, sym, ap, ◌∙◌, subst, arith}
 use Rattle.std.proofs.lemmas.Bool.{false≢true}
 use Rattle.std.proofs.lemmas.List.Sums.{sum_by-cons}
 use Rattle.std.specs.List.{slice_get, flat_map, count_by}
@@ -97,8 +97,15 @@ next-star (elem ∷ elems) place h = by (is_star elem) refl (next-star elems pla
       record { elem = elem; before = []; after = elems; list = refl; star = e; none = refl; at = sym at }
   by false e later =
       let found = later (rw e at h) in
-      record { elem = found.elem; before = elem ∷ found.before; after = found.after; list = ap (λ zs. elem ∷ zs) found.list; star = found.star;
-        none = count_cons elem found.before false e ∙ (ap (λ n. 0 + n) found.none ∙ omega arith); at = found.at }
+      record {
+        elem = found.elem;
+        before = elem ∷ found.before;
+        after = found.after;
+        list = ap (λ zs. elem ∷ zs) found.list;
+        star = found.star;
+        none = count_cons elem found.before false e ∙ (ap (λ n. 0 + n) found.none ∙ omega arith);
+        at = found.at;
+      }
 
 second-star : (elems : List PathElem) (place : Place) → second_star false elems ≡ Some place → SecondAt elems place
 second-star [] place h = cc
@@ -106,13 +113,31 @@ second-star (elem ∷ elems) place h = by (is_star elem) refl (second-star elems
   by : (b : Bool) → is_star elem ≡ b → (second_star false elems ≡ Some place → SecondAt elems place) → SecondAt (elem ∷ elems) place
   by true e later =
       let found = next-star elems place (rw e at h) in
-      record { elem = found.elem; second = record { before = elem ∷ found.before; after = found.after; list = ap (λ zs. elem ∷ zs) found.list; star = found.star;
-        one = count_cons elem found.before true e ∙ (ap (λ n. 1 + n) found.none ∙ omega arith) }; at = found.at }
+      record {
+        elem = found.elem;
+        second = record {
+          before = elem ∷ found.before;
+          after = found.after;
+          list = ap (λ zs. elem ∷ zs) found.list;
+          star = found.star;
+          one = count_cons elem found.before true e ∙ (ap (λ n. 1 + n) found.none ∙ omega arith);
+        };
+        at = found.at;
+      }
   by false e later =
       let found = later (rw e at h) in
       let s = found.second in
-      record { elem = found.elem; second = record { before = elem ∷ s.before; after = s.after; list = ap (λ zs. elem ∷ zs) s.list; star = s.star;
-        one = count_cons elem s.before false e ∙ (ap (λ n. 0 + n) s.one ∙ omega arith) }; at = found.at }
+      record {
+        elem = found.elem;
+        second = record {
+          before = elem ∷ s.before;
+          after = s.after;
+          list = ap (λ zs. elem ∷ zs) s.list;
+          star = s.star;
+          one = count_cons elem s.before false e ∙ (ap (λ n. 0 + n) s.one ∙ omega arith);
+        };
+        at = found.at;
+      }
 
 star-next : (before after : List PathElem) (elem : PathElem) → is_star elem ≡ true → count_by is_star before ≡ 0 → second_star true (before ++ elem ∷ after) ≡ Some elem.place
 star-next [] after elem star none = rw star refl

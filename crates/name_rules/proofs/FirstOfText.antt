@@ -1,10 +1,8 @@
 -- The first failure of a text, from the first of all but that of how many cells and nodes there are.
-use Rattle.std.proofs.Common.{◌≡◌, ◌⊎◌, List, [], ◌∷◌, Option, None, Some, inl, inr, refl, sym, ap, ◌∙◌, subst}
+use Rattle.std.proofs.Common.{◌≡◌, ◌⊎◌, Option, None, Some, inl, inr, sym, ap, ◌∙◌, subst}
 use Rattle.std.specs.Option.{MatchOption}
 use Rattle.twe_io.specs.declared.place.Place.{Place}
 use Rattle.twe_ast.specs.declared.item.Ast.{Ast}
-use Rattle.twe_ast.specs.declared.item.CellDecl.{CellDecl}
-use Rattle.node_count.specs.GoesOver.{cells_of, GoesOver}
 use Rattle.node_count.specs.FirstOver.{IsFirstOver}
 use Rattle.name_rules.specs.declared.rule.NRule.{NRule}
 use Rattle.name_rules.specs.declared.rule.NRule.TheVariants.{N7}

@@ -1,5 +1,5 @@
 -- Each failure in the list is one of the rules.
-use Rattle.std.proofs.Common.{◌≡◌, ◌==◌, ℕ, Bool, true, false, not, List, [], ◌∷◌, ◌++◌, Option, None, Some, is_some, length, inl, inr, refl, sym, ap, ◌∙◌, subst, append_assoc, arith}
+use Rattle.std.proofs.Common.{◌≡◌, ◌==◌, ℕ, true, false, not, List, [], ◌∷◌, ◌++◌, Option, None, Some, is_some, length, inl, inr, refl, sym, ap, ◌∙◌, subst, append_assoc, arith}
 use Rattle.std.proofs.lemmas.Bool.{false≢true}
 use Rattle.std.proofs.lemmas.Bool.Decides.{nat_tests}
 use Rattle.std.specs.List.{Contains, flat_map, list_any}
@@ -8,7 +8,6 @@ use Rattle.std.specs.Str.{bytes_eq}
 use Rattle.std.specs.Cmp.Lexicographic.{bytes_decides}
 use Rattle.twe_io.specs.declared.place.Place.{Place}
 use Rattle.twe_ast.specs.declared.item.Ast.{Ast}
-use Rattle.twe_ast.specs.declared.item.CellDecl.{CellDecl}
 use Rattle.twe_ast.specs.declared.item.Decl.{Decl}
 use Rattle.twe_ast.specs.declared.item.Item.{Item}
 use Rattle.twe_ast.specs.declared.item.Item.TheVariants as items
@@ -41,10 +40,10 @@ use Rattle.name_rules.specs.Ends.{one_ends, close_of}
 use Rattle.name_rules.specs.Limits.{decls_of, decls_of_item, paths_of}
 use Rattle.name_rules.specs.FailsName as rules
 use Rattle.name_rules.specs.FailsName.{FailsName, Asks, HasMain, seen_as, fits}
-use Rattle.name_rules.specs.inner.Failures.{lacks_value, has_other_count, assigns_constant, failures_of_use, differs, failures_of_need, failures_by, failures_at, is_void}
+use Rattle.name_rules.specs.inner.Failures.{lacks_value, has_other_count, assigns_constant, failures_of_use, differs, failures_by, failures_at, is_void}
 use Rattle.name_rules.specs.inner.Least.{failure_if}
-use Rattle.name_rules.specs.inner.OtherFailures.{failures_of_place, fifth_name, ninth_path, long_elem, long_cell_elem, second_star, path_failures, clauses_failures, lacks_return, decl_failures, item_failures}
-use Rattle.name_rules.specs.inner.Whole.{is_again, again_failures, is_main, is_main_item}
+use Rattle.name_rules.specs.inner.OtherFailures.{failures_of_place, fifth_name, ninth_path, long_elem, second_star, path_failures, clauses_failures, lacks_return, decl_failures, item_failures}
+use Rattle.name_rules.specs.inner.Whole.{is_again, again_failures, is_main_item}
 use Rattle.name_rules.proofs.Elements.{failure, if-in, over-in, star-in, clauses-in}
 use Rattle.name_rules.proofs.Members.{IsIn, in-cases, contains-in, in-contains, flat_map-in, in-flat_map, list_any-in, in-list_any, not-true, both-true, or-true, true-both}
 use Rattle.name_rules.proofs.Gathered.{site_failures, failures_in_item, failures_in}
@@ -160,9 +159,9 @@ module _ (ast : Ast) where
           | inr z ↦ elim (in-cases f inside end z) [
             | inl x ↦ let d = clauses-in decl.effects f x in path-fails decl d.0 there (in-contains (paths_of decl) d.0 d.1) f d.2
             | inr x ↦
-              let d = if-in (lacks_return decl) N5 (close_of decl.body) f x in
-              let b = both-true (not (is_void decl.returns)) (not (one_ends decl.body)) d.0 in
-              at ast f N5 (close_of decl.body) d.1 (rules.no_return decl there (int_is decl.returns b.0) (not-true (one_ends decl.body) b.1))
+                let d = if-in (lacks_return decl) N5 (close_of decl.body) f x in
+                let b = both-true (not (is_void decl.returns)) (not (one_ends decl.body)) d.0 in
+                at ast f N5 (close_of decl.body) d.1 (rules.no_return decl there (int_is decl.returns b.0) (not-true (one_ends decl.body) b.1))
           ]
         ]
       ]
@@ -184,21 +183,25 @@ module _ (ast : Ast) where
       let item : Item = d.0 in
       elim (in-cases f (site_failures (globals_of ast) (sites_of_item (globals_of ast) item)) (item_failures item) d.2) [
         | inl x ↦
-          let e = flat_map-in (failures_at (globals_of ast)) (sites_of_item (globals_of ast) item) f x in
-          site-fails e.0 (in-flat_map (sites_of_item (globals_of ast)) ast.items item e.0 d.1 e.1) f e.2
+            let e = flat_map-in (failures_at (globals_of ast)) (sites_of_item (globals_of ast) item) f x in
+            site-fails e.0 (in-flat_map (sites_of_item (globals_of ast)) ast.items item e.0 d.1 e.1) f e.2
         | inr x ↦ other-fails item d.1 f x
       ]
 
   again-said : (before after : List GlobalName) (this : GlobalName) → globals_of ast ≡ before ++ this ∷ after → is_again before this ≡ true → FailsName ast N2 this.place
   again-said before after this list h =
-      rules.declared_again this (record { before = before; after = after; list = list;
+      rules.declared_again this (record {
+        before = before;
+        after = after;
+        list = list;
         again = elim (or-true (bytes_eq this.text (codes "Console")) (list_any (λ (e : GlobalName). bytes_eq this.text e.text) before) h) [
           | inl x ↦ inl ((bytes_decides this.text (codes "Console")).0 x)
           | inr x ↦
-            let d = list_any-in (λ (e : GlobalName). bytes_eq this.text e.text) before x in
-            let earlier : GlobalName = d.0 in
-            inr (earlier, in-contains before earlier d.1, sym ((bytes_decides this.text earlier.text).0 d.2))
-        ] })
+              let d = list_any-in (λ (e : GlobalName). bytes_eq this.text e.text) before x in
+              let earlier : GlobalName = d.0 in
+              inr (earlier, in-contains before earlier d.1, sym ((bytes_decides this.text earlier.text).0 d.2))
+        ];
+      })
 
   again-fails : (before others : List GlobalName) → globals_of ast ≡ before ++ others → (f : Failure) → IsIn f (again_failures before others) → FailsName ast f.rule f.place
   again-fails before [] list f h = absurd h

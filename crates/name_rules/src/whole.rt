@@ -72,7 +72,12 @@ fn first_but_nodes(alloc: Global, ast: &Ast) -> Result<Option<Failure>, Memory>
     let mut first = None;
     judge_items(ast.items.as_slice(), alloc, &globals, &mut first)?;
     globals.judge_again(&mut first);
-    note(&mut first, !has_main(ast.items.as_slice()), NRule::N8, ast.end);
+    note(
+        &mut first,
+        !has_main(ast.items.as_slice()),
+        NRule::N8,
+        ast.end,
+    );
     Ok(first)
 }
 

@@ -1,5 +1,5 @@
 -- The failures of a whole text but for that of how many cells and nodes there are, and the first of them.
-use Rattle.std.specs.Prelude.{ℕ, ◌==◌, Bool, true, false, not, ◌&&◌, ◌||◌, bytes_eq, codes, List, [], ◌∷◌, ◌++◌, length, Option, None}
+use Rattle.std.specs.Prelude.{◌==◌, Bool, false, not, ◌&&◌, ◌||◌, bytes_eq, codes, List, [], ◌∷◌, ◌++◌, length, Option, None}
 use Rattle.std.specs.List.{list_any}
 use Rattle.twe_ast.specs.declared.item.Ast.{Ast}
 use Rattle.twe_ast.specs.declared.item.Decl.{Decl}
@@ -39,4 +39,4 @@ first_in_items globals first (item ∷ others) =
 abbrev pub first_but_nodes : Ast → Option Failure
 first_but_nodes ast =
     first_from (first_from (first_in_items (globals_of ast) None ast.items) (again_failures [] (globals_of ast)))
-      (failure_if (not (list_any is_main_item ast.items)) N8 ast.end)
+    (failure_if (not (list_any is_main_item ast.items)) N8 ast.end)

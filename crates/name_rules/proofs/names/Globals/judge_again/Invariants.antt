@@ -1,4 +1,4 @@
-use Rattle.std.proofs.Common.{◌≡◌, ◌≤◌, length, take, drop, []}
+use Rattle.std.proofs.Common.{◌≡◌, take, drop, []}
 use Rattle.name_rules.specs.inner.Least.{first_from}
 use Rattle.name_rules.specs.inner.Whole.{again_failures}
 use Rattle.name_rules.proofs.names.Globals.judge_again.Given as goal
