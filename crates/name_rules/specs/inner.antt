@@ -1,1 +1,4 @@
 pub mod Firsts
+pub mod Parameters
+pub mod Counts
+pub mod Room

@@ -4,11 +4,16 @@
 //! crates of the text.
 #![tactic(auto)]
 
+mod declared;
+mod firsts;
+mod here;
+mod look;
 mod names;
 mod rule;
 mod scope;
 mod seen;
 
+pub use look::look_up;
 pub use names::{GlobalName, Globals};
 pub use rule::{Failure, NRule};
 pub use scope::{Here, LocalName, Locals};

@@ -1,9 +1,14 @@
 //! The names of the whole program, in the order in which they are declared.
+ghost use Rattle.std.specs.Prelude.{◌≡◌, [], ◌∷◌, ◌++◌, OnOk};
+ghost use Rattle.name_rules.specs.Names.{global_of};
 
+use crate::firsts::{add_first, first_place};
 use crate::seen::Global;
+use std::alloc;
 use std::collections::BTreeMap;
 use std::marker::Model;
-use twe_io::{Place, Word};
+use twe_ast::Name;
+use twe_io::{Memory, Place, Word};
 
 /// A name of the whole program, and what it stands for.
 #[derive(Debug, Drop)]
@@ -33,4 +38,54 @@ impl Model for Globals {
     ghost view = { λ globals. globals.entries.items };
 
     ghost invariant = { λ globals. AreFirsts (λ (entry : Entry). entry.text) globals.entries.items globals.firsts };
+}
+
+impl Globals {
+    /// No names. It takes no memory.
+    pub(crate) fn new(alloc: alloc::Global) -> Self
+        ensures { result ≡ [] }
+    {
+        Globals {
+            entries: Vec::new(alloc),
+            firsts: BTreeMap::new(alloc),
+        }
+    }
+
+    /// Puts a name after the others.
+    pub(crate) fn push(
+        &mut self,
+        alloc: alloc::Global,
+        name: &Name,
+        global: Global,
+    ) -> Result<(), Memory>
+        ensures { OnOk result (self.new ≡ self.old ++ record { text = name.now.text; place = name.now.place; global = global } ∷ []) }
+    {
+        let number = self.entries.len();
+        if number > u32::MAX as usize {
+            return Err(Memory::of_uncountable(self.entries.as_slice()));
+        }
+        let entry = GlobalName {
+            text: name.text.copy(alloc)?,
+            place: name.place,
+            global,
+        };
+        self.entries.reserve(1)?;
+        add_first(&mut self.firsts, alloc, &name.text, number as u32)?;
+        self.entries.push(entry).unwrap();
+        Ok(())
+    }
+
+    /// What a name stands for in the whole program: the region `Console`, or what the first declaration of that name
+    /// gives it. It takes no memory.
+    pub fn global(&self, text: &Word) -> Option<Global>
+        ensures { result ≡ global_of self.now text.now }
+    {
+        if text.as_str() == "Console" {
+            return Some(Global::Region(0));
+        }
+        match first_place(&self.firsts, text) {
+            None => None,
+            Some(place) => Some(self.entries[place].global),
+        }
+    }
 }

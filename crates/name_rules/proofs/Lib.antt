@@ -1,0 +1,3 @@
+pub mod FirstPlaces
+pub mod Walks
+pub mod Rooms
