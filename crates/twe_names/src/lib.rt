@@ -2,11 +2,13 @@
 #![tactic(auto)]
 
 mod fail;
+mod declaring;
 mod expressions;
 mod nodes;
 mod numbers;
 mod operator;
 mod paths;
 mod simple;
+mod statements;
 
 pub use fail::NameFail;
