@@ -2,5 +2,7 @@
 #![tactic(auto)]
 
 mod fail;
+mod laws;
 
 pub use fail::NameFail;
+pub use laws::meaning_is_well_formed;

@@ -1,0 +1,5 @@
+use Rattle.twe_names.proofs.Numbered.{numbers_of}
+use Rattle.twe_names.proofs.laws.meaning_is_well_formed.Goals as goal
+
+pub returns : goal.returns
+returns c = λ ast from_text none. ?
