@@ -1,3 +1,5 @@
 pub mod Lists
 pub mod Numbered
 pub mod Clean
+pub mod There
+pub mod Expressions
