@@ -79,7 +79,7 @@ module _ (p : Program) (vars : ℕ) (futures : List Declared) (int : Bool) where
     there : (text : List ℕ) → SeenThere p vars futures (seen globals locals text)
     there text = seen-there p vars futures globals locals globals_there locals_there text
 
-    arguments-counted : (args : ast.Arguments) → count_of (arguments_of globals locals args) ≡ names.count_of args
+    pub arguments-counted : (args : ast.Arguments) → count_of (arguments_of globals locals args) ≡ names.count_of args
     arguments-counted ast.no_more = refl
     arguments-counted (ast.argument first others) = ap (λ n. n + 1) (arguments-counted others)
 

@@ -3,3 +3,5 @@ pub mod Numbered
 pub mod Clean
 pub mod There
 pub mod Expressions
+pub mod Rooms
+pub mod Statements

@@ -1,6 +1,7 @@
 use Rattle.twe_names.proofs.Numbered.{numbers_of}
 use Rattle.twe_names.proofs.Clean.{sites-clean}
 use Rattle.twe_names.proofs.Expressions.{expression-fits}
+use Rattle.twe_names.proofs.Statements.{statements-fit}
 use Rattle.twe_names.proofs.laws.meaning_is_well_formed.Goals as goal
 
 pub returns : goal.returns
