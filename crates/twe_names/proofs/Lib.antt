@@ -5,3 +5,5 @@ pub mod There
 pub mod Expressions
 pub mod Rooms
 pub mod Statements
+pub mod Globals
+pub mod Cells

@@ -1,6 +1,7 @@
 -- What statements declare has its place among what the whole body declares.
 use Rattle.std.proofs.Common.{◌≡◌, ◌≤◌, ℕ, suc, ◌+◌, List, [], ◌∷◌, ◌++◌, Option, Some, length, slice_get, refl, sym, ap, ◌∙◌, subst, arith, append_assoc, length-append}
 use Rattle.twe_program.specs.Numbering.{Declared}
+use Rattle.twe_names.proofs.Lists.{slice_get-middle}
 
 -- Of these variables and futures, so many variables are counted where the statements end, and so many futures where they
 -- begin; these are the futures that they declare.
@@ -37,14 +38,7 @@ room-back vars futures from mid to fs gs room e = record {
       simp length-append (omega arith);
 }
 
-slice_get-after : {X : Type 0} (xs : List X) (x : X) (ys : List X) → slice_get (xs ++ x ∷ ys) (length xs) ≡ Some x
-slice_get-after [] x ys = refl
-slice_get-after (z ∷ xs) x ys = slice_get-after xs x ys
-
 -- the one future that a statement declares is found by its number
 pub room-future : (vars : ℕ) (futures : List Declared) (from to : ℕ) (one : Declared)
     → Room vars futures from to (one ∷ []) → slice_get futures from ≡ Some one
-room-future vars futures from to one room =
-    ap (λ (xs : List Declared). slice_get xs from) room.list
-    ∙ ap (λ (n : ℕ). slice_get (room.before ++ one ∷ room.after) n) (sym room.many)
-    ∙ slice_get-after room.before one room.after
+room-future vars futures from to one room = slice_get-middle futures room.before one room.after from room.list room.many
