@@ -7,3 +7,4 @@ pub mod Rooms
 pub mod Statements
 pub mod Globals
 pub mod Cells
+pub mod Paths
