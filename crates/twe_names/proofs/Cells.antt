@@ -1,5 +1,5 @@
 -- The cells of a program are numbered on, and not too many.
-use Rattle.std.proofs.Common.{◌≡◌, ◌⊎◌, ◌<◌, ◌≤◌, ℕ, ◌+◌, List, [], ◌∷◌, ◌++◌, length, Contains, AllPairs, inl, inr, refl, sym, ap, ap₂, ◌∙◌, subst, arith, append_assoc, append-nil}
+use Rattle.std.proofs.Common.{◌≡◌, ◌⊎◌, ◌<◌, ◌≤◌, ℕ, ◌+◌, List, [], ◌∷◌, ◌++◌, length, Contains, AllPairs, inl, inr, refl, sym, ap₂, ◌∙◌, subst, arith, append_assoc, append-nil}
 use Rattle.std.proofs.lemmas.Bool.{cases_lt}
 use Rattle.twe_ast.specs.declared.item.CellDecl as written
 use Rattle.twe_ast.specs.declared.item.CellShape.{CellShape}
@@ -10,7 +10,7 @@ use Rattle.twe_program.specs.Numbering.{CellsCountUp}
 use Rattle.node_count.specs.Nodes.{size_of, cells_made, console, IsNode, of_console, of_cell, HasNodes}
 use Rattle.node_count.specs.GoesOver.{GoesOver}
 use Rattle.name_rules.specs.declared.names.GlobalName.{GlobalName}
-use Rattle.twe_names.specs.Meaning.{dims_of, cell_of, cells_from}
+use Rattle.twe_names.specs.Meaning.{dims_of, cells_from}
 
 pub cells-count : (globals : List GlobalName) (first : ℕ) (cells : List written.CellDecl) → CellsCountUp first (cells_from globals first cells)
 cells-count globals first [] = tt
@@ -61,8 +61,8 @@ module _ (cells : List written.CellDecl) (none : (cell : written.CellDecl) → �
   few-from before (cell ∷ rest) e few nodes = elim (cases_lt 65536 (cells_made (before ++ cell ∷ []))) [
     | inl over ↦ absurd (none cell (record { before = before; after = rest; list = e; few_cells = few; few_nodes = nodes; over = inl over }))
     | inr within ↦
-      few-from (before ++ cell ∷ []) rest (e ∙ sym (append_assoc before (cell ∷ []) rest)) within
-      (λ h. none cell (record { before = before; after = rest; list = e; few_cells = few; few_nodes = nodes; over = inr h }))
+        few-from (before ++ cell ∷ []) rest (e ∙ sym (append_assoc before (cell ∷ []) rest)) within
+        (λ h. none cell (record { before = before; after = rest; list = e; few_cells = few; few_nodes = nodes; over = inr h }))
   ]
 
   -- where no declaration goes over a limit

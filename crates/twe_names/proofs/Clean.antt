@@ -1,5 +1,5 @@
 -- What holds of each site where no rule of names fails.
-use Rattle.std.proofs.Common.{◌≡◌, ◌⊎◌, ◌==◌, ℕ, Bool, true, false, not, List, [], ◌∷◌, ◌++◌, map, Option, None, Some, Contains, inl, inr, refl, sym, ap, ◌∙◌, subst}
+use Rattle.std.proofs.Common.{◌≡◌, ◌==◌, ℕ, Bool, true, false, not, List, [], ◌∷◌, Option, None, Some, inl, inr, refl}
 use Rattle.std.specs.List.{AllByRecursion}
 use Rattle.std.proofs.lemmas.Bool.{eqb-true, cases_eq, false≢true, true_from_ne_false, not-true}
 use Rattle.twe_io.specs.declared.place.Place.{Place}
@@ -10,9 +10,7 @@ use Rattle.twe_ast.specs.declared.name.Name.{Name}
 use Rattle.name_rules.specs.declared.rule.NRule.{NRule}
 use Rattle.name_rules.specs.declared.seen.Asked.{Asked}
 use Rattle.name_rules.specs.declared.seen.Asked.TheVariants as asked
-use Rattle.name_rules.specs.declared.seen.Global.{Global}
 use Rattle.name_rules.specs.declared.seen.Global.TheVariants as global_kinds
-use Rattle.name_rules.specs.declared.seen.Local.{Local}
 use Rattle.name_rules.specs.declared.seen.Local.TheVariants as local_kinds
 use Rattle.name_rules.specs.declared.seen.Seen.{Seen}
 use Rattle.name_rules.specs.declared.seen.Seen.TheVariants as seens

@@ -1,5 +1,5 @@
 -- What an expression means fits, where what it asks for is there.
-use Rattle.std.proofs.Common.{◌≡◌, ◌<◌, ℕ, ◌+◌, Bool, true, false, List, [], ◌∷◌, ◌++◌, Option, None, Some, slice_get, refl, sym, ap, ◌∙◌, subst}
+use Rattle.std.proofs.Common.{◌≡◌, ℕ, ◌+◌, Bool, true, List, Option, None, Some, slice_get, refl, sym, ap, ◌∙◌, subst}
 use Rattle.twe_io.specs.declared.place.Place.{Place}
 use Rattle.twe_ast.specs.declared.item.ReturnType.{ReturnType}
 use Rattle.twe_ast.specs.declared.item.ReturnType.TheVariants as return_types
@@ -8,10 +8,8 @@ use Rattle.twe_ast.specs.declared.stmt.LocalType.TheVariants as types
 use Rattle.twe_ast.specs.Expression as ast
 use Rattle.twe_program.specs.declared.program.Decl.{Decl}
 use Rattle.twe_program.specs.Program.{Program}
-use Rattle.twe_program.specs.Expression.{Expression}
 use Rattle.twe_program.specs.Numbering.{Declared}
 use Rattle.twe_program.specs.Fitting.{Scope, TakesIndexes, TakesArguments, ReturnsValue, ExpressionFits, ArgumentsFit, count_of}
-use Rattle.name_rules.specs.declared.seen.Asked.{Asked}
 use Rattle.name_rules.specs.declared.seen.Asked.TheVariants as asked
 use Rattle.name_rules.specs.declared.seen.Global.TheVariants as global_kinds
 use Rattle.name_rules.specs.declared.seen.Local.TheVariants as local_kinds
@@ -22,7 +20,7 @@ use Rattle.name_rules.specs.declared.scope.LocalName.{LocalName}
 use Rattle.name_rules.specs.Names.{seen}
 use Rattle.name_rules.specs.Types as names
 use Rattle.name_rules.specs.Types.{left_need, right_need, type_of}
-use Rattle.name_rules.specs.Asks.{Ask, need, asks_of, asks_inside, asks_of_all}
+use Rattle.name_rules.specs.Asks.{need, asks_of, asks_inside, asks_of_all}
 use Rattle.twe_names.specs.BodyMeaning.{cells_number, method_number, value_of, expression_of, shape_of, arguments_of}
 use Rattle.twe_names.specs.Meaning.{returns_value}
 use Rattle.twe_names.proofs.Lists.{all-front, all-back}
@@ -105,8 +103,7 @@ module _ (p : Program) (vars : ℕ) (futures : List Declared) (int : Bool) where
           (indexes-fit 1 (seen globals locals array.text) h.0 (there array.text), expression-fits index (Some types.Int) h.1)
       shape-fits (ast.GridElement array row column) h =
           let rows = asks_of globals locals (Some types.Int) row in
-          let columns = asks_of globals locals (Some types.Int) column in
-          (
+          let columns = asks_of globals locals (Some types.Int) column in (
             indexes-fit 2 (seen globals locals array.text) h.0 (there array.text),
             expression-fits row (Some types.Int) (all-front (AskClean globals locals returns) rows columns h.1),
             expression-fits column (Some types.Int) (all-back (AskClean globals locals returns) rows columns h.1),
@@ -118,8 +115,7 @@ module _ (p : Program) (vars : ℕ) (futures : List Declared) (int : Bool) where
       shape-fits (ast.Negation operand) h = expression-fits operand (Some types.Boolean) h
       shape-fits (ast.Binary op left right place) h =
           let lefts = asks_of globals locals (left_need op) left in
-          let rights = asks_of globals locals (right_need op (type_of globals locals left)) right in
-          (
+          let rights = asks_of globals locals (right_need op (type_of globals locals left)) right in (
             expression-fits left (left_need op) (all-front (AskClean globals locals returns) lefts rights h),
             expression-fits right (right_need op (type_of globals locals left)) (all-back (AskClean globals locals returns) lefts rights h),
           )
@@ -129,8 +125,7 @@ module _ (p : Program) (vars : ℕ) (futures : List Declared) (int : Bool) where
       arguments-fit ast.no_more h = tt
       arguments-fit (ast.argument first others) h =
           let one = asks_of globals locals (Some types.Int) first in
-          let more = asks_of_all globals locals others in
-          (
+          let more = asks_of_all globals locals others in (
             expression-fits first (Some types.Int) (all-front (AskClean globals locals returns) one more h),
             arguments-fit others (all-back (AskClean globals locals returns) one more h),
           )

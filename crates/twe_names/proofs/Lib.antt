@@ -8,3 +8,6 @@ pub mod Statements
 pub mod Globals
 pub mod Cells
 pub mod Paths
+pub mod Decls
+pub mod Main
+pub mod WellFormed

@@ -1,5 +1,5 @@
 -- What holds of each element of a list, and numbers that count up.
-use Rattle.std.proofs.Common.{◌≡◌, ◌<◌, ℕ, ◌+◌, zero, suc, List, [], ◌∷◌, ◌++◌, Option, Some, length, slice_get, Contains, refl, sym, ap, ◌∙◌, subst, arith, append_assoc, length-append}
+use Rattle.std.proofs.Common.{◌≡◌, ◌<◌, ℕ, ◌+◌, zero, suc, List, [], ◌∷◌, ◌++◌, Some, length, slice_get, Contains, refl, sym, ap, ◌∙◌, subst, arith, append_assoc, length-append}
 use Rattle.std.specs.List.{AllByRecursion}
 use Rattle.twe_program.specs.Numbering.{CountUp}
 
@@ -16,7 +16,7 @@ all-back P [] ys h = h
 all-back P (x ∷ xs) ys h = all-back P xs ys h.1
 
 -- an element of a list that another begins with
-contains-later : {X : Type 0} (x : X) (xs : List X) (y : X) → Contains xs y → Contains (x ∷ xs) y
+pub contains-later : {X : Type 0} (x : X) (xs : List X) (y : X) → Contains xs y → Contains (x ∷ xs) y
 contains-later x xs y c =
     let below : c.0 < length xs = c.1 in
     (suc c.0, omega arith, c.2)

@@ -1,6 +1,5 @@
 -- What statements mean is numbered on from where they stand.
-use Rattle.std.proofs.Common.{◌≡◌, ℕ, suc, ◌+◌, Bool, true, List, [], ◌∷◌, ◌++◌, Option, None, Some, map, length, refl, sym, ap, ◌∙◌, subst, arith, length-append}
-use Rattle.twe_ast.specs.Expression as written
+use Rattle.std.proofs.Common.{◌≡◌, ℕ, suc, ◌+◌, Bool, List, [], ◌∷◌, ◌++◌, Option, None, Some, map, length, refl, sym, ap, ◌∙◌, subst, arith, length-append}
 use Rattle.twe_ast.specs.declared.stmt.LocalType.{LocalType}
 use Rattle.twe_ast.specs.declared.stmt.LocalType.TheVariants as types
 use Rattle.twe_ast.specs.Statement.{Statement, Block, Let, Set, SetArray, SetGrid, If, While, Return, Print, Call, Make, Wait, LetWait, Statements, end_of_block, statement, Arms, arm, otherwise, no_else}
@@ -59,24 +58,33 @@ numbered-join a b c ps qs ls ms fs gs h k = record {
 -- where nothing is declared
 numbered-none : (here : Here) → Numbered here here [] [] []
 numbered-none here = record {
-  points_up = tt; points_end = omega arith;
-  locals_up = tt; locals_end = omega arith;
-  futures_up = tt; futures_end = omega arith;
+  points_up = tt;
+  points_end = omega arith;
+  locals_up = tt;
+  locals_end = omega arith;
+  futures_up = tt;
+  futures_end = omega arith;
 }
 
 -- one statement that declares nothing
 numbered-one : (here : Here) → Numbered here (counted here) (here.points ∷ []) [] []
 numbered-one here = record {
-  points_up = (refl, tt); points_end = refl;
-  locals_up = tt; locals_end = omega arith;
-  futures_up = tt; futures_end = omega arith;
+  points_up = (refl, tt);
+  points_end = refl;
+  locals_up = tt;
+  locals_end = omega arith;
+  futures_up = tt;
+  futures_end = omega arith;
 }
 
 numbered-leaving : (outside a b : Here) (ps ls : List ℕ) (fs : List Declared) → Numbered a b ps ls fs → Numbered a (leaving outside b) ps ls fs
 numbered-leaving outside a b ps ls fs h = record {
-  points_up = h.points_up; points_end = h.points_end;
-  locals_up = h.locals_up; locals_end = h.locals_end;
-  futures_up = h.futures_up; futures_end = h.futures_end;
+  points_up = h.points_up;
+  points_end = h.points_end;
+  locals_up = h.locals_up;
+  locals_end = h.locals_end;
+  futures_up = h.futures_up;
+  futures_end = h.futures_end;
 }
 
 -- the statement, and then what is inside it
@@ -91,9 +99,12 @@ numbered-block here to ps ls fs h =
 numbered-variable : (here : Here) (text : List ℕ) (type : LocalType) (constant : Bool)
     → Numbered here (with_variable (counted here) text type constant) (here.points ∷ []) (here.vars ∷ []) []
 numbered-variable here text type constant = record {
-  points_up = (refl, tt); points_end = refl;
-  locals_up = (refl, tt); locals_end = refl;
-  futures_up = tt; futures_end = omega arith;
+  points_up = (refl, tt);
+  points_end = refl;
+  locals_up = (refl, tt);
+  locals_end = refl;
+  futures_up = tt;
+  futures_end = omega arith;
 }
 
 numbered-set : (here : Here) (o : Option Seen) (value : Expression) (place : Place)
@@ -125,9 +136,12 @@ module _ (globals : List GlobalName) where
     numbered here (Print place value) = numbered-one here
     numbered here (Call method args) = numbered-one here
     numbered here (Make future task spawned args) = record {
-      points_up = (refl, tt); points_end = refl;
-      locals_up = tt; locals_end = omega arith;
-      futures_up = (refl, tt); futures_end = refl;
+      points_up = (refl, tt);
+      points_end = refl;
+      locals_up = tt;
+      locals_end = omega arith;
+      futures_up = (refl, tt);
+      futures_end = refl;
     }
     numbered here (Wait wait) = numbered-one here
     numbered here (LetWait is_final name wait) = numbered-variable here name.text types.Int is_final

@@ -1,41 +1,35 @@
 -- What the paths of a text mean fits, where what they ask for is there.
-use Rattle.std.proofs.Common.{◌≡◌, ◌<◌, ◌≤◌, ℕ, zero, suc, ◌+◌, Bool, true, false, ◌||◌, if◌then◌else◌, bytes_eq, List, [], ◌∷◌, ◌++◌, Option, None, Some, map, length, take, drop, refl, sym, ap, ◌∙◌, subst, arith, length-append}
+use Rattle.std.proofs.Common.{◌≡◌, ◌<◌, ◌≤◌, ℕ, zero, suc, ◌+◌, Bool, ◌||◌, if◌then◌else◌, bytes_eq, List, [], ◌∷◌, ◌++◌, Option, None, Some, map, length, take, drop, refl, sym, ap, ◌∙◌, subst, arith, length-append}
 use Rattle.std.specs.List.{AllByRecursion, flat_map, list_any}
 use Rattle.std.proofs.lemmas.List.Concat.{flat_map-append}
 use Rattle.region_paths.specs.declared.elements.Elem.{Elem}
 use Rattle.effect_sets.specs.declared.effects.Effect.{Effect}
 use Rattle.twe_io.specs.declared.place.Place.{Place}
 use Rattle.twe_ast.specs.declared.item.Clause.{Clause}
-use Rattle.twe_ast.specs.declared.item.Decl.{Decl}
 use Rattle.twe_ast.specs.declared.item.ReturnType.{ReturnType}
-use Rattle.twe_ast.specs.declared.name.Name.{Name}
 use Rattle.twe_ast.specs.declared.path.Path.{Path}
 use Rattle.twe_ast.specs.declared.path.PathElem.{PathElem}
 use Rattle.twe_ast.specs.declared.path.PathElemKind.{PathElemKind}
 use Rattle.twe_ast.specs.declared.path.PathElemKind.TheVariants as elem_kinds
-use Rattle.twe_ast.specs.declared.path.CellPath.{CellPath}
 use Rattle.twe_ast.specs.declared.path.CellElem.{CellElem}
 use Rattle.twe_ast.specs.declared.path.CellElemKind.{CellElemKind}
 use Rattle.twe_ast.specs.declared.path.CellElemKind.TheVariants as cell_kinds
 use Rattle.twe_program.specs.Program.{Program}
-use Rattle.twe_program.specs.WellFormed.{ElementFits, CellElementFits, PathFits, SummaryFits}
+use Rattle.twe_program.specs.WellFormed.{ElementFits, CellElementFits, PathFits}
 use Rattle.name_rules.specs.declared.seen.Asked.TheVariants as asked
 use Rattle.name_rules.specs.declared.seen.Global.{Global}
 use Rattle.name_rules.specs.declared.seen.Global.TheVariants as global_kinds
 use Rattle.name_rules.specs.declared.seen.Local.{Local}
 use Rattle.name_rules.specs.declared.seen.Local.TheVariants as local_kinds
-use Rattle.name_rules.specs.declared.seen.Seen.{Seen}
 use Rattle.name_rules.specs.declared.names.GlobalName.{GlobalName}
 use Rattle.name_rules.specs.declared.scope.LocalName.{LocalName}
 use Rattle.name_rules.specs.Names.{first_local, global_of, either, seen_as_local, seen_as_global}
-use Rattle.name_rules.specs.Here.{params_from, params_of}
-use Rattle.name_rules.specs.Asks.{Ask}
-use Rattle.name_rules.specs.Stands.{asks_of_kind, asks_of_path, asks_of_clause, asks_of_cell_kind, asks_of_cell_path}
+use Rattle.name_rules.specs.Stands.{asks_of_kind, asks_of_path, asks_of_clause, asks_of_cell_kind}
 use Rattle.name_rules.specs.Limits.{is_star, is_star_kind}
-use Rattle.twe_names.specs.PathMeaning.{region_number, param_number, elem_of_kind, elems_of, before_star, after_star, path_of, effects_of_clause, elem_of_cell_kind, cell_path_of}
+use Rattle.twe_names.specs.PathMeaning.{region_number, param_number, elem_of_kind, elems_of, before_star, after_star, path_of, effects_of_clause, elem_of_cell_kind}
 use Rattle.twe_names.proofs.Lists.{all-append, all-front, all-back}
 use Rattle.twe_names.proofs.Clean.{UseClean, AskClean, AsksClean}
-use Rattle.twe_names.proofs.There.{SeenThere, LocalThere, AllLocalsThere, GlobalsThere, chosen, global-there}
+use Rattle.twe_names.proofs.There.{SeenThere, AllLocalsThere, GlobalsThere, chosen, global-there}
 
 region-there : (p : Program) (o : Option Global) → UseClean asked.Region (seen_as_global o) → SeenThere p 0 [] (seen_as_global o) → region_number o < length p.regions
 region-there p None h k = absurd h
@@ -149,7 +143,7 @@ module _ (p : Program) (globals : List GlobalName) (globals_there : GlobalsThere
         let more = flat_map asks_of_path paths in
         (path-fits path short.0 (all-front P one more h), paths-fit write paths short.1 (all-back P one more h))
 
-    clauses-fit : (clauses : List Clause) → AllByRecursion (λ (path : Path). length path.elems ≤ 32) (flat_map (λ (clause : Clause). clause.paths) clauses)
+    pub clauses-fit : (clauses : List Clause) → AllByRecursion (λ (path : Path). length path.elems ≤ 32) (flat_map (λ (clause : Clause). clause.paths) clauses)
         → AsksClean globals params returns (flat_map asks_of_clause clauses)
         → AllByRecursion EffectFits (flat_map (effects_of_clause globals params) clauses)
     clauses-fit [] short h = tt

@@ -1,5 +1,5 @@
 -- What statements declare has its place among what the whole body declares.
-use Rattle.std.proofs.Common.{◌≡◌, ◌≤◌, ℕ, suc, ◌+◌, List, [], ◌∷◌, ◌++◌, Option, Some, length, slice_get, refl, sym, ap, ◌∙◌, subst, arith, append_assoc, length-append}
+use Rattle.std.proofs.Common.{◌≡◌, ◌≤◌, ℕ, ◌+◌, List, [], ◌∷◌, ◌++◌, Some, length, slice_get, sym, ap, ◌∙◌, arith, append_assoc, length-append}
 use Rattle.twe_program.specs.Numbering.{Declared}
 use Rattle.twe_names.proofs.Lists.{slice_get-middle}
 

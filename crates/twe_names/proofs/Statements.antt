@@ -1,5 +1,5 @@
 -- What a statement means fits, where what it asks for is there.
-use Rattle.std.proofs.Common.{◌≡◌, ◌<◌, ◌≤◌, ℕ, ◌+◌, Bool, true, false, List, [], ◌∷◌, ◌++◌, Option, None, Some, length, slice_get, refl, sym, ap, ◌∙◌, subst, arith}
+use Rattle.std.proofs.Common.{◌≡◌, ◌<◌, ◌≤◌, ℕ, Bool, true, false, List, [], ◌∷◌, ◌++◌, Option, None, Some, slice_get, refl, sym, ap, ◌∙◌, subst, arith}
 use Rattle.std.proofs.lemmas.Bool.{true≢false}
 use Rattle.twe_io.specs.declared.place.Place.{Place}
 use Rattle.twe_ast.specs.declared.item.ReturnType.{ReturnType}
@@ -10,7 +10,7 @@ use Rattle.twe_ast.specs.Expression as ast
 use Rattle.twe_ast.specs.Statement.{Statement, Block, Let, Set, SetArray, SetGrid, If, While, Return, Print, Call, Make, Wait, LetWait, Statements, end_of_block, statement, Arms, arm, otherwise, no_else}
 use Rattle.twe_program.specs.Program.{Program}
 use Rattle.twe_program.specs.Expression.{Expression}
-use Rattle.twe_program.specs.Numbering.{Declared, points_of, points_of_all, points_of_arms, locals_of, locals_of_all, locals_of_arms, futures_of, futures_of_all, futures_of_arms}
+use Rattle.twe_program.specs.Numbering.{Declared, futures_of, futures_of_all, futures_of_arms}
 use Rattle.twe_program.specs.Fitting.{Scope, TakesIndexes, TakesArguments, ReturnsValue, ExpressionFits, ReturnFits, IntoFits, WaitFits, StatementFits, StatementsFit, ArmsFit}
 use Rattle.name_rules.specs.declared.seen.Asked.TheVariants as asked
 use Rattle.name_rules.specs.declared.seen.Global.TheVariants as global_kinds
@@ -25,13 +25,13 @@ use Rattle.name_rules.specs.Here.{counted, is_void, after, after_all, after_arms
 use Rattle.name_rules.specs.Types as names
 use Rattle.name_rules.specs.Asks.{asks_of, place_of}
 use Rattle.name_rules.specs.Asks as asks
-use Rattle.name_rules.specs.Stands.{Site, sites_at, sites_in, sites_in_all, sites_in_arms, target_type, asks_of_return}
-use Rattle.twe_names.specs.BodyMeaning.{cells_number, method_number, task_number, future_number, expression_of, value_if, set_of, statement_of, statements_of, arms_of}
+use Rattle.name_rules.specs.Stands.{sites_at, sites_in, sites_in_all, sites_in_arms, target_type, asks_of_return}
+use Rattle.twe_names.specs.BodyMeaning.{task_number, future_number, expression_of, value_if, set_of, statement_of, statements_of, arms_of}
 use Rattle.twe_names.specs.Meaning.{returns_value}
 use Rattle.twe_names.proofs.Lists.{all-append, all-front, all-back}
-use Rattle.twe_names.proofs.Numbered.{Numbered, numbered, numbered_all, numbered_arms}
+use Rattle.twe_names.proofs.Numbered.{numbered, numbered_all, numbered_arms}
 use Rattle.twe_names.proofs.Clean.{UseClean, AskClean, AsksClean, SiteClean, AllClean, asks-clean}
-use Rattle.twe_names.proofs.There.{DeclThere, FutureThere, LocalThere, SeenThere, GlobalsThere, AllLocalsThere, seen-there}
+use Rattle.twe_names.proofs.There.{FutureThere, LocalThere, SeenThere, GlobalsThere, AllLocalsThere, seen-there}
 use Rattle.twe_names.proofs.Expressions.{scope_with, arguments-there, value-there, indexes-fit, call-taken, expression-fits, arguments-fit, arguments-counted}
 use Rattle.twe_names.proofs.Rooms.{Room, room-front, room-back, room-future}
 
@@ -134,8 +134,7 @@ module _ (p : Program) (vars : ℕ) (futures : List Declared) (int : Bool) where
       statement-fits here (Set name value) seen_there room clean =
           let o = seen globals here.locals name.text in
           let type = target_type o in
-          let h = asked-at here (asks.uses name asked.Target ∷ asks_of globals here.locals (Some type) value) clean in
-          (
+          let h = asked-at here (asks.uses name asked.Target ∷ asks_of globals here.locals (Some type) value) clean in (
             set-fits here.points o (expression_of globals here.locals value) name.place h.0 (there here seen_there name.text)
                 (value-fits here seen_there value (Some type) h.1),
             seen_there,
@@ -144,8 +143,7 @@ module _ (p : Program) (vars : ℕ) (futures : List Declared) (int : Bool) where
           let a = asks_of globals here.locals (Some types.Int) index in
           let b = asks_of globals here.locals (Some types.Int) value in
           let h = asked-at here (asks.uses array (asked.Array 1) ∷ (a ++ b)) clean in
-          let P = AskClean globals here.locals returns in
-          (
+          let P = AskClean globals here.locals returns in (
             (
               indexes-fit p vars futures int 1 (seen globals here.locals array.text) h.0 (there here seen_there array.text),
               value-fits here seen_there index (Some types.Int) (all-front P a b h.1),
@@ -159,8 +157,7 @@ module _ (p : Program) (vars : ℕ) (futures : List Declared) (int : Bool) where
           let c = asks_of globals here.locals (Some types.Int) value in
           let h = asked-at here (asks.uses array (asked.Array 2) ∷ (a ++ (b ++ c))) clean in
           let P = AskClean globals here.locals returns in
-          let later = all-back P a (b ++ c) h.1 in
-          (
+          let later = all-back P a (b ++ c) h.1 in (
             (
               indexes-fit p vars futures int 2 (seen globals here.locals array.text) h.0 (there here seen_there array.text),
               value-fits here seen_there row (Some types.Int) (all-front P a (b ++ c) h.1),
@@ -173,8 +170,7 @@ module _ (p : Program) (vars : ℕ) (futures : List Declared) (int : Bool) where
       statement-fits here (While place condition body) seen_there room clean =
           let a = asks_of globals here.locals (Some types.Boolean) condition in
           let own = sites_at here.locals returns a in
-          let inner = sites_in_all globals returns (counted here) body in
-          (
+          let inner = sites_in_all globals returns (counted here) body in (
             (
               value-fits here seen_there condition (Some types.Boolean) (asked-at here a (all-front (SiteClean globals) own inner clean)),
               statements-fit (counted here) body seen_there room (all-back (SiteClean globals) own inner clean),
@@ -195,8 +191,7 @@ module _ (p : Program) (vars : ℕ) (futures : List Declared) (int : Bool) where
           let o = seen globals here.locals task.text in
           let fits = make-fits (names.count_of args) o h.1.0 (there here seen_there task.text) in
           let one : Declared = record { future = here.futures; task = task_number o; spawned = spawned } in
-          let found = room-future vars futures here.futures (after globals here (Make future task spawned args)).vars one room in
-          (
+          let found = room-future vars futures here.futures (after globals here (Make future task spawned args)).vars one room in (
             (
               subst (TakesArguments (slice_get p.tasks (task_number o))) (sym (arguments-counted p vars futures int globals globals_there here.locals seen_there returns args)) fits.0,
               arguments-fit p vars futures int globals globals_there here.locals seen_there returns args h.1.1,
@@ -208,8 +203,7 @@ module _ (p : Program) (vars : ℕ) (futures : List Declared) (int : Bool) where
           (wait-fits wait.join (seen globals here.locals wait.future.text) h.0 (there here seen_there wait.future.text), seen_there)
       statement-fits here (LetWait is_final name wait) seen_there room clean =
           let h = asked-at here (asks.declares name ∷ asks.uses wait.future (asked.Future wait.join true) ∷ []) clean in
-          let below : here.vars < vars = omega (arith, room.vars_fit) in
-          (
+          let below : here.vars < vars = omega (arith, room.vars_fit) in (
             wait-into-fits wait.join here.vars below (seen globals here.locals wait.future.text) h.1.0 (there here seen_there wait.future.text),
             with-local here _ seen_there below,
           )
@@ -226,8 +220,7 @@ module _ (p : Program) (vars : ℕ) (futures : List Declared) (int : Bool) where
           let grows : next.vars ≤ to.vars = omega (arith, (numbered_all globals next others).locals_end) in
           let own = sites_in globals returns here first in
           let more = sites_in_all globals returns next others in
-          let one = statement-fits here first seen_there (room-front vars futures here.futures next.vars to.vars fs gs room grows) (all-front (SiteClean globals) own more clean) in
-          (
+          let one = statement-fits here first seen_there (room-front vars futures here.futures next.vars to.vars fs gs room grows) (all-front (SiteClean globals) own more clean) in (
             one.0,
             statements-fit next others one.1 (room-back vars futures here.futures next.futures to.vars fs gs room (numbered globals here first).futures_end)
                 (all-back (SiteClean globals) own more clean),
@@ -248,8 +241,7 @@ module _ (p : Program) (vars : ℕ) (futures : List Declared) (int : Bool) where
           let own = sites_at here.locals returns a in
           let inner = sites_in_all globals returns here body in
           let more = sites_in_arms globals returns next others in
-          let later = all-back (SiteClean globals) own (inner ++ more) clean in
-          (
+          let later = all-back (SiteClean globals) own (inner ++ more) clean in (
             value-fits here seen_there condition (Some types.Boolean) (asked-at here a (all-front (SiteClean globals) own (inner ++ more) clean)),
             statements-fit here body seen_there (room-front vars futures here.futures next.vars to.vars fs gs room grows) (all-front (SiteClean globals) inner more later),
             arms-fit next others seen_there (room-back vars futures here.futures next.futures to.vars fs gs room (numbered_all globals here body).futures_end)
