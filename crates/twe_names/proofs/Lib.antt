@@ -8,6 +8,7 @@ pub mod Statements
 pub mod Globals
 pub mod Cells
 pub mod Paths
+pub mod Starred
 pub mod Decls
 pub mod Main
 pub mod WellFormed
