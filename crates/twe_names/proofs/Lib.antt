@@ -1,3 +1,16 @@
 pub mod Stars
 pub mod Arguments
 pub mod Bodies
+pub mod Lists
+pub mod Numbered
+pub mod Clean
+pub mod There
+pub mod ExpressionsFit
+pub mod Rooms
+pub mod StatementsFit
+pub mod Globals
+pub mod CellsFit
+pub mod PathsFit
+pub mod DeclsFit
+pub mod Main
+pub mod WellFormed

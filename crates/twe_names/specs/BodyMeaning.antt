@@ -106,10 +106,10 @@ abbrev mutual
       set_of here.points (seen globals here.locals name.text) (expression_of globals here.locals value) name.place
   statement_of globals here (ast_stmt.SetArray array index value) =
       stmt.SetArray here.points (cells_number (seen globals here.locals array.text))
-        (expression_of globals here.locals index) (expression_of globals here.locals value) array.place
+      (expression_of globals here.locals index) (expression_of globals here.locals value) array.place
   statement_of globals here (ast_stmt.SetGrid array row column value) =
       stmt.SetGrid here.points (cells_number (seen globals here.locals array.text))
-        (expression_of globals here.locals row) (expression_of globals here.locals column) (expression_of globals here.locals value) array.place
+      (expression_of globals here.locals row) (expression_of globals here.locals column) (expression_of globals here.locals value) array.place
   statement_of globals here (ast_stmt.If arms) = stmt.If here.points (arms_of globals (counted here) arms)
   statement_of globals here (ast_stmt.While place condition body) =
       stmt.While here.points (expression_of globals here.locals condition) (statements_of globals (counted here) body) place

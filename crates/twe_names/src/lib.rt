@@ -1,9 +1,10 @@
 //! The names of a text become numbers: each tree is its program, or its first failure of a rule of names.
 #![tactic(auto)]
 
-mod fail;
 mod declaring;
 mod expressions;
+mod fail;
+mod laws;
 mod nodes;
 mod numbers;
 mod operator;
@@ -12,3 +13,4 @@ mod simple;
 mod statements;
 
 pub use fail::NameFail;
+pub use laws::meaning_is_well_formed;
