@@ -14,3 +14,5 @@ pub mod PathsFit
 pub mod DeclsFit
 pub mod Main
 pub mod WellFormed
+pub mod Closing
+pub mod Small

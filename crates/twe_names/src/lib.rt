@@ -1,7 +1,9 @@
 //! The names of a text become numbers: each tree is its program, or its first failure of a rule of names.
 #![tactic(auto)]
 
+mod cells;
 mod declaring;
+mod decls;
 mod expressions;
 mod fail;
 mod laws;
@@ -9,6 +11,7 @@ mod nodes;
 mod numbers;
 mod operator;
 mod paths;
+mod program;
 mod simple;
 mod statements;
 

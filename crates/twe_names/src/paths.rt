@@ -1,11 +1,11 @@
 //! What the paths of effects and of cells mean.
-ghost use Rattle.std.specs.Prelude.{◌≡◌, ◌≤◌, ◌++◌, length, All, IfOk, OnOk};
+ghost use Rattle.std.specs.Prelude.{◌≡◌, ◌++◌, length, All, IfOk, OnOk};
 ghost use Rattle.std.specs.List.{list_any};
 ghost use Rattle.twe_ast.specs.declared.path.PathElem.{PathElem as Written};
-ghost use Rattle.twe_ast.specs.declared.path.CellElem.{CellElem as WrittenInCell};
 ghost use Rattle.name_rules.specs.Limits.{is_star};
 ghost use Rattle.name_rules.specs.Names.{first_local, global_of};
 ghost use Rattle.twe_names.specs.FromText.{IsSmall, IsSmallInCell};
+ghost use Rattle.twe_names.specs.inner.Numbers.{IsSmallCellPath, IsSmallPath};
 ghost use Rattle.twe_names.specs.PathMeaning.{before_star, cell_path_of, elem_of_cell_kind, elem_of_kind, elems_of, param_number, path_of, region_number};
 
 use name_rules::{Global, Globals, Local, Locals};
@@ -101,7 +101,7 @@ pub fn effect_path(
     params: &Locals,
     path: &Path,
 ) -> Result<region_paths::Path, Memory>
-    requires { All (λ (elem : Written). IsSmall elem.kind) path.now.elems }
+    requires { IsSmallPath path.now }
     ensures { IfOk result (λ meant. meant ≡ path_of globals.now params.now path.now) }
 {
     let written = path.elems.as_slice();
@@ -128,7 +128,7 @@ pub fn cell_path(
     globals: &Globals,
     path: &CellPath,
 ) -> Result<region_paths::Path, Memory>
-    requires { All (λ (elem : WrittenInCell). IsSmallInCell elem.kind) path.now.elems }
+    requires { IsSmallCellPath path.now }
     ensures { IfOk result (λ meant. meant ≡ cell_path_of globals.now path.now) }
 {
     let mut elems = Elems::new(alloc);
