@@ -19,5 +19,5 @@ pub all_arguments : (globals : List GlobalName) (locals : List LocalName) (writt
     → arguments_of items ≡ meaning.arguments_of globals locals args
 all_arguments globals locals written args count items args-is items-is all =
     let e : items ≡ map (meaning.expression_of globals locals) written =
-        items-is ∙ ap (map (meaning.expression_of globals locals)) (take_all count written all) in
+    items-is ∙ ap (map (meaning.expression_of globals locals)) (take_all count written all) in
     ap arguments_of e ∙ (arguments_map globals locals written ∙ ap (meaning.arguments_of globals locals) args-is)

@@ -1,5 +1,5 @@
 -- Blocks and arms that are made one part after another.
-use Rattle.std.proofs.Common.{◌≡◌, ◌<◌, ◌≤◌, ℕ, ◌+◌, List, [], ◌∷◌, ◌++◌, Option, length, get_or, drop, refl, ap, sym, subst, ◌∙◌, add-one, suc, None, Some, arith}
+use Rattle.std.proofs.Common.{◌≡◌, ◌<◌, ◌≤◌, ℕ, ◌+◌, List, [], ◌∷◌, ◌++◌, Option, length, get_or, drop, refl, ap, sym, subst, ◌∙◌, add-one, suc, None, Some}
 use Rattle.std.proofs.Math.Seq.{drop-cons}
 use Rattle.std.proofs.lemmas.List.{drop_all}
 use Rattle.twe_io.specs.declared.place.Place.{Place}
@@ -55,7 +55,6 @@ left-now items i first close there is = ap (λ xs. written.statements_of xs clos
 
 module _ (globals : List GlobalName) (start : Here) (whole : ast.Statements) (here : Here) (made : List Statement) (items : List ast.Statement) (i : ℕ) (close : Place)
     (so_far : Made globals start whole here made (written.statements_of (drop i items) close)) where
-
   module _ (first : ast.Statement) (there : i < length items) (is : first ≡ get_or items i first) where
     abbrev rest : ast.Statements
     rest = written.statements_of (drop (i + 1) items) close
@@ -124,7 +123,6 @@ made_arms-none globals start whole left made left-is none room = record {
 
 module _ (globals : List GlobalName) (start : Here) (whole : ast.Arms) (here : Here) (made : List Arm) (items : List written_arm.Arm) (i : ℕ) (last : Option ast.Statements)
     (so_far : MadeArms globals start whole here made (written.arms_of (drop i items) last)) where
-
   module _ (first : written_arm.Arm) (there : i < length items) (is : first ≡ get_or items i first) where
     abbrev left : ast.Arms
     left = written.arms_of (drop (i + 1) items) last

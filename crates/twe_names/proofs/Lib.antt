@@ -16,3 +16,4 @@ pub mod Main
 pub mod WellFormed
 pub mod Closing
 pub mod Small
+pub mod Parts

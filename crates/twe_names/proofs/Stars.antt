@@ -1,5 +1,5 @@
 -- The elements before the first of some kind, and those from there on.
-use Rattle.std.proofs.Common.{◌≡◌, ℕ, Bool, true, false, not, List, [], ◌∷◌, ◌||◌, length, take, drop, take_while, IsTrue, refl, ap, sym, ◌∙◌, arith, cond, ◌+◌, ◌-◌, length-drop, one-add}
+use Rattle.std.proofs.Common.{◌≡◌, ℕ, Bool, true, false, not, List, [], ◌∷◌, ◌||◌, length, take, drop, take_while, IsTrue, refl, ap, ◌∙◌, arith, cond, ◌+◌, ◌-◌, length-drop, one-add}
 use Rattle.std.specs.List.{list_any, prefix_len}
 use Rattle.std.proofs.lemmas.List.Folds.{length-prefix_len}
 use Rattle.std.proofs.lemmas.List.{take_all}
@@ -35,5 +35,5 @@ no_tail globals params written before star tail tail-is before-is star-is h =
     let none : list_any is_star written ≡ false = grind (arith, h, star-is) in
     let rest : drop before written ≡ [] = ap (λ n. drop n written) before-is ∙ none-after is_star written none in
     let all : take (length written - before) (drop before written) ≡ [] =
-        take_all (length written - before) (drop before written) (omega (arith, length-drop before written)) ∙ rest in
+    take_all (length written - before) (drop before written) (omega (arith, length-drop before written)) ∙ rest in
     tail-is ∙ ap (elems_of globals params) all

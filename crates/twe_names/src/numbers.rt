@@ -62,11 +62,15 @@ pub fn named_value(seen: Option<Seen>, place: Place) -> Expr
     ensures { result ≡ value_of seen place }
 {
     match seen {
-        Some(Seen::Local(Local::Variable {
-            number,
-            local_type,
-            constant,
-        })) => Expr {
+        Some(
+            Seen::Local(
+                Local::Variable {
+                    number,
+                    local_type,
+                    constant,
+                },
+            ),
+        ) => Expr {
             kind: ExprKind::Var {
                 var: number,
                 fixed: is_fixed(local_type, constant),

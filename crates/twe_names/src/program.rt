@@ -1,8 +1,9 @@
 //! The program that a tree means.
-ghost use Rattle.std.specs.Prelude.{◌≡◌, ◌++◌, ◌∷◌, All, IfOk, OnOk, codes};
+ghost use Rattle.std.specs.Prelude.{◌≡◌, ◌++◌, [], ◌∷◌, All, IfOk, OnOk, codes};
 ghost use Rattle.std.specs.List.{flat_map};
 ghost use Rattle.twe_program.specs.WellFormed.{IsWellFormed};
-ghost use Rattle.name_rules.specs.Names.{globals_of};
+ghost use Rattle.name_rules.specs.Names.{globals_of, seen};
+ghost use Rattle.twe_names.specs.BodyMeaning.{task_number};
 ghost use Rattle.twe_names.specs.FromText.{IsFromText};
 ghost use Rattle.twe_names.specs.Meaning.{methods_of_item, program_of, regions_of_item, tasks_of_item};
 ghost use Rattle.twe_names.specs.inner.Numbers.{IsSmallItem};
@@ -99,6 +100,14 @@ fn tasks(alloc: Global, globals: &Globals, items: &[Item]) -> Result<List<Decl>,
     Ok(tasks)
 }
 
+/// The number of the task `main`.
+fn main_task(alloc: Global, globals: &Globals) -> Result<u32, Memory>
+    ensures { IfOk result (λ main. main ≡ task_number (seen globals.now [] (codes "main"))) }
+{
+    let name = Word::from_text(alloc, "main")?;
+    Ok(task_number(look_up(globals, &Locals::new(alloc), &name)))
+}
+
 /// The program that a tree means which fails no rule of names.
 #[tactic(auto, using(crate::proofs::Small::small_items))]
 pub fn program(alloc: Global, ast: &Ast, globals: &Globals) -> Result<Prog, Memory>
@@ -108,12 +117,11 @@ pub fn program(alloc: Global, ast: &Ast, globals: &Globals) -> Result<Prog, Memo
     ensures { IfOk result (λ p. p ≡ program_of ast.now) }
 {
     let items = ast.items.as_slice();
-    let main = Word::from_text(alloc, "main")?;
     Ok(Prog {
         regions: regions(alloc, items)?,
         cells: cells(alloc, globals, items)?,
         methods: methods(alloc, globals, items)?,
         tasks: tasks(alloc, globals, items)?,
-        main: task_number(look_up(globals, &Locals::new(alloc), &main)),
+        main: main_task(alloc, globals)?,
     })
 }

@@ -1,7 +1,7 @@
 -- One statement, and one arm, more is made in each turn.
-use Rattle.std.proofs.Common.{ap, ◌∙◌, rules}
+use Rattle.std.proofs.Common.{ap, ◌∙◌}
 use Rattle.twe_ast.specs.inner.StatementView as written
-use Rattle.twe_names.proofs.Bodies.{made-none, made-room, made-next, made-meant, made-walked, made_arms-none, made_arms-room, made_arms-next, made_arms-meant, made_arms-walked, made_arms_last-room, made_arms_last-meant, made_arms_last-walked}
+use Rattle.twe_names.proofs.Bodies.{made-none, made-next, made-meant, made-walked, made_arms-none, made_arms-next, made_arms-meant, made_arms-walked, made_arms_last-meant, made_arms_last-walked}
 use Rattle.twe_names.proofs.statements.+body.Goals as goal
 
 pub statements-loop-stmt-init : goal.statements-loop-stmt-init
