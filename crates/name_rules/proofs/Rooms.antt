@@ -1,6 +1,6 @@
 -- The room for a part of a body and for what follows it.
-use Rattle.std.proofs.Common.{◌≡◌, ℕ, ◌+◌, ◌<◌, ◌^◌, length, take, List, arith}
-use Rattle.twe_ast.specs.Statement.{Statement, Statements, Arms}
+use Rattle.std.proofs.Common.{◌≡◌, ℕ, ◌+◌, length, take, List, arith}
+use Rattle.twe_ast.specs.Statement.{Statement, Statements}
 use Rattle.name_rules.specs.declared.names.GlobalName.{GlobalName}
 use Rattle.name_rules.specs.declared.scope.Here.{Here}
 use Rattle.name_rules.specs.Here.{after, after_all, after_block, counted}

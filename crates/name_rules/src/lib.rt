@@ -5,13 +5,23 @@
 #![tactic(auto)]
 
 mod declared;
+mod ends;
+mod first;
 mod firsts;
 mod here;
+mod judge_body;
+mod judge_decl;
+mod judge_expr;
+mod judge_simple;
+mod judge_path;
+mod limits;
 mod look;
 mod names;
 mod rule;
 mod scope;
 mod seen;
+mod types;
+mod uses;
 
 pub use look::look_up;
 pub use names::{GlobalName, Globals};
