@@ -12,8 +12,10 @@ mod numbers;
 mod operator;
 mod paths;
 mod program;
+mod resolver;
 mod simple;
 mod statements;
 
 pub use fail::NameFail;
 pub use laws::meaning_is_well_formed;
+pub use resolver::resolve;
