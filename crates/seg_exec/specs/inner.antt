@@ -1,0 +1,7 @@
+pub mod Reached
+pub mod Runs
+pub mod Sizes
+pub mod Stacks
+pub mod Tasks
+pub mod Unfolded
+pub mod Views

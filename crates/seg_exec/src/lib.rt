@@ -1,0 +1,26 @@
+//! Segments: what a task carries out up to its next task operation or its end. The meaning of a segment is in `specs/`,
+//! by cases on the text of a body; the evaluator meets it over any cells, with a stack of its own, so that no program
+//! needs a deep one. What a stop makes of the state of a run is left to others.
+#![tactic(auto)]
+
+mod arithmetic;
+mod call;
+mod cells;
+mod elements;
+mod evaluate;
+mod execute;
+mod frame;
+mod machine;
+mod operation;
+mod resume;
+mod run;
+mod stack;
+mod step;
+mod stop;
+mod values;
+mod work;
+
+pub use cells::Cells;
+pub use frame::{Call, Frame, Next, Position};
+pub use operation::Operation;
+pub use stop::Stop;
