@@ -1,5 +1,5 @@
 -- Each step takes a unit of fuel or leaves less work.
-use Rattle.std.proofs.Common.{◌≡◌, ℕ, zero, suc, ◌+◌, ◌-◌, ◌<◌, ◌≤◌, ℤ, Bool, true, false, cond, List, [], ◌∷◌, Option, None, Some, refl, sym, ap, ◌∙◌, subst, arith}
+use Rattle.std.proofs.Common.{◌≡◌, ℕ, ◌+◌, ◌-◌, ◌<◌, ◌≤◌, ℤ, Bool, true, false, cond, List, [], ◌∷◌, Option, None, Some, refl, sym, ap, ◌∙◌, subst, arith}
 use Rattle.std.proofs.lemmas.Bool.{eqb-false, eqb-true, eq-eqb}
 use Rattle.std.specs.Prelude.{nat_eq, nat_le, slice_get}
 use Rattle.twe_io.specs.declared.place.Place.{Place}
@@ -13,17 +13,15 @@ use Rattle.seg_exec.specs.declared.frame.Position.{Position}
 use Rattle.seg_exec.specs.declared.operation.Operation.{Operation}
 use Rattle.seg_exec.specs.declared.work.Asked.{Asked}
 use Rattle.seg_exec.specs.declared.work.Asked.TheVariants as asks
-use Rattle.seg_exec.specs.declared.work.Ending.{Ending}
 use Rattle.seg_exec.specs.declared.work.Goal.{Goal}
 use Rattle.seg_exec.specs.declared.work.Goal.TheVariants as goals
 use Rattle.seg_exec.specs.declared.work.Left.{Left}
 use Rattle.seg_exec.specs.declared.work.Left.TheVariants as lefts
 use Rattle.seg_exec.specs.Access.{Access}
-use Rattle.seg_exec.specs.Arithmetic.{is_true, operated, decided}
-use Rattle.seg_exec.specs.Cells.{element_number, grid_element_number}
+use Rattle.seg_exec.specs.Arithmetic.{is_true, decided}
 use Rattle.seg_exec.specs.inner.Reached.{Standing, Served, Advances}
 use Rattle.seg_exec.specs.inner.Sizes.{size_of_expression, size_of_arguments, size_of_statement, size_of_all, size_of_arms, size_of_task, size_of_work}
-use Rattle.seg_exec.specs.inner.Tasks.{Task, Evaluate, Execute, Rest, Choose, Chosen, Turn, Gather, Take, Negate, Invert, Right, Apply, ReadElement, ReadGridElement, GiveVar, GiveCell, GiveElement, GiveGridElement, PrintValue, Discard, Unwind, Suspend, Leave, Config, Step, on, asked_unit, unit_or, chosen_by, turned_by, entered_by, gathered, gathering, right_by, applied, read_at, written_at, unwound, unwound_past, suspended, suspended_past, left_by, worked, evaluated, executed, rested, choosing, step_by, step_of, top, without_value}
+use Rattle.seg_exec.specs.inner.Tasks.{Task, Evaluate, Execute, Rest, Choose, Chosen, Turn, Gather, Take, Negate, Invert, Right, Apply, ReadElement, ReadGridElement, GiveVar, GiveCell, GiveElement, GiveGridElement, PrintValue, Discard, Unwind, Suspend, Leave, Config, Step, asked_unit, unit_or, chosen_by, turned_by, entered_by, gathered, gathering, right_by, applied, read_at, written_at, unwound, unwound_past, suspended, suspended_past, left_by, worked, evaluated, executed, rested, choosing, step_by, step_of, top, without_value}
 
 -- a step that is not the end has no more fuel, and, with as much fuel, less work
 abbrev FallsIn : ℕ → ℕ → Asked → Config → Type 0

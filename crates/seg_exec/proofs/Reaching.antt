@@ -1,12 +1,11 @@
 -- Steps of the evaluator over cells of any kind, one after another.
-use Rattle.std.proofs.Common.{◌≡◌, ℕ, zero, suc, ◌+◌, ◌<◌, ◌≤◌, ℤ, List, [], ◌∷◌, ◌++◌, Option, None, Some, refl, sym, ap, ◌∙◌, subst, arith, append_assoc}
+use Rattle.std.proofs.Common.{◌≡◌, ℕ, suc, ℤ, List, [], ◌∷◌, ◌++◌, None, Some, refl, sym, ap, ◌∙◌, subst, append_assoc}
 use Rattle.std.proofs.lemmas.List.{append-nil}
-use Rattle.std.specs.Prelude.{slice_get, slice_set}
 use Rattle.twe_program.specs.Program.{Program}
 use Rattle.seg_exec.specs.declared.work.Asked.{Asked}
 use Rattle.seg_exec.specs.declared.work.Asked.TheVariants.{Nothing, Read, Write, Print, End}
 use Rattle.seg_exec.specs.declared.work.Ending.{Ending}
-use Rattle.seg_exec.specs.Access.{Access, Reads, Writes, Prints, Agrees, Follows, after, printed, value_in}
+use Rattle.seg_exec.specs.Access.{Access, Reads, Writes, Prints, after, printed}
 use Rattle.seg_exec.specs.inner.Tasks.{Config, Step, step_of, with_value}
 use Rattle.seg_exec.specs.inner.Runs.{Moment, Over, Comes, run, stepped, store_of}
 use Rattle.seg_exec.specs.inner.Reached.{Standing, Served, Advances, Reaches, Finishes, over}
@@ -43,9 +42,9 @@ module _ {C : Type 0} (p : Program) (rule : C → Access → C → Type 0) where
         follows = (mid.cells, r.follows, h.3);
         prints = h.4 ∙ r.prints;
         comes = λ cells agrees.
-        subst (λ (c : Config). Comes p (over old.config cells []) (over c cells all)) (sym h.2)
-        (step_on _ mid.config cells r.accesses (Read cell, config) (over (with_value h.0 config) cells all) is (r.comes cells agrees.0)
-        (λ k. ap (λ (v : ℤ). run p k (record { config = with_value v config; cells = after cells r.accesses; accesses = Reads cell v ∷ r.accesses })) agrees.1));
+            subst (λ (c : Config). Comes p (over old.config cells []) (over c cells all)) (sym h.2)
+            (step_on _ mid.config cells r.accesses (Read cell, config) (over (with_value h.0 config) cells all) is (r.comes cells agrees.0)
+            (λ k. ap (λ (v : ℤ). run p k (record { config = with_value v config; cells = after cells r.accesses; accesses = Reads cell v ∷ r.accesses })) agrees.1));
       }
   on_served old mid new (Write cell value) config r is h =
       let all = Writes cell value ∷ r.accesses in
@@ -54,8 +53,8 @@ module _ {C : Type 0} (p : Program) (rule : C → Access → C → Type 0) where
         follows = (mid.cells, r.follows, h.2);
         prints = h.3 ∙ r.prints;
         comes = λ cells agrees.
-        subst (λ (c : Config). Comes p (over old.config cells []) (over c cells all)) (sym h.1)
-        (step_on _ mid.config cells r.accesses (Write cell value, config) (over config cells all) is (r.comes cells agrees) (λ k. refl));
+            subst (λ (c : Config). Comes p (over old.config cells []) (over c cells all)) (sym h.1)
+            (step_on _ mid.config cells r.accesses (Write cell value, config) (over config cells all) is (r.comes cells agrees) (λ k. refl));
       }
   on_served old mid new (Print value) config r is h =
       subst (λ (s : Standing C). Reaches p rule old s) (sym h.1) (record {
@@ -78,8 +77,8 @@ module _ {C : Type 0} (p : Program) (rule : C → Access → C → Type 0) where
         follows = r.follows;
         prints = r.prints;
         ends = λ cells agrees.
-        let x = (r.comes cells agrees).by 1 in
-        (x.0, x.1 ∙ ap (λ (s : Step). stepped (run p 0) s (over mid.config cells r.accesses)) is ∙ ap (λ (e : Ending). Over e (store_of (over config cells r.accesses))) same);
+            let x = (r.comes cells agrees).by 1 in
+            (x.0, x.1 ∙ ap (λ (s : Step). stepped (run p 0) s (over mid.config cells r.accesses)) is ∙ ap (λ (e : Ending). Over e (store_of (over config cells r.accesses))) same);
       })
   end_served old mid new ending Nothing config r is h = let none = h.0 in absurd (cc)
   end_served old mid new ending (Read cell) config r is h = let none = h.1 in absurd (cc)

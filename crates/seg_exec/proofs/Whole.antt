@@ -1,19 +1,18 @@
 -- A run that begins with what remains of a body ends as its meaning says, and in no other way.
-use Rattle.std.proofs.Common.{◌≡◌, ℕ, zero, suc, ◌<◌, ◌≤◌, ℤ, pos, List, [], ◌∷◌, Option, None, Some, refl, sym, ap, ◌∙◌, arith}
+use Rattle.std.proofs.Common.{◌≡◌, ℕ, zero, suc, ◌<◌, ◌≤◌, ℤ, pos, List, [], ◌∷◌, Option, None, Some, sym, ◌∙◌, arith}
 use Rattle.twe_program.specs.Program.{Program}
-use Rattle.twe_program.specs.Statement.{Statement, Block, Let, Set, SetCell, SetArray, SetGrid, If, While, Return, Print, Call, Make, Wait, Statements}
+use Rattle.twe_program.specs.Statement.{Statement, While, Statements}
 use Rattle.seg_exec.specs.declared.frame.Position.{Position}
 use Rattle.seg_exec.specs.declared.work.Asked.{Asked}
 use Rattle.seg_exec.specs.declared.work.Asked.TheVariants as asks
-use Rattle.seg_exec.specs.declared.work.Ending.{Ending}
 use Rattle.seg_exec.specs.declared.work.Ending.TheVariants.{Returned, Faulted, Suspended}
-use Rattle.seg_exec.specs.Store.{Store, Flow, goes, returns, fails, stops, then_go}
-use Rattle.seg_exec.specs.Meaning.{Below, done_all, stopped_at, done_within}
-use Rattle.seg_exec.specs.Segment.{after_first, last_of_first, block_of, block_at, turned_again, resumed}
-use Rattle.seg_exec.specs.inner.Tasks.{Task, Execute, Rest, Unwind, Suspend, step_of}
-use Rattle.seg_exec.specs.inner.Runs.{Comes, Moment, Outcome, Over, Unfinished, moment, served, run}
+use Rattle.seg_exec.specs.Store.{Store, Flow, goes, returns, fails, stops}
+use Rattle.seg_exec.specs.Meaning.{Below, done_all}
+use Rattle.seg_exec.specs.Remaining.{after_first, last_of_first, block_of, block_at, turned_again, resumed}
+use Rattle.seg_exec.specs.inner.Tasks.{Task, Rest, step_of}
+use Rattle.seg_exec.specs.inner.Runs.{Moment, Outcome, Over, Unfinished, moment, served, run}
 use Rattle.seg_exec.specs.inner.Unfolded.{again_of, unfolded}
-use Rattle.seg_exec.proofs.Simulation.{stays, onward, FlowTo, Meets, flow_later, rest_then, again_then, all_meet, within_meets}
+use Rattle.seg_exec.proofs.Simulation.{stays, FlowTo, Meets, rest_then, again_then, all_meet}
 
 module _ (p : Program) where
   module _ (n : ℕ) (below : Below) (meets : Meets p n below) where
@@ -26,7 +25,7 @@ module _ (p : Program) where
     again_meets (position ∷ inner) None from bound lt work values f h = h
     again_meets (position ∷ inner) (Some _) from bound lt work values f h = h
 
-    resumed_meets : (positions : List Position) (stmts : Statements) (bound : ℕ) → bound < n → (s : Store) → s.fuel ≤ bound → (work : List Task) (values : List ℤ)
+    pub resumed_meets : (positions : List Position) (stmts : Statements) (bound : ℕ) → bound < n → (s : Store) → s.fuel ≤ bound → (work : List Task) (values : List ℤ)
         → FlowTo p bound (moment (unfolded stmts positions work) values s) work values (resumed below p stmts positions s)
     resumed_meets [] stmts bound lt s h work values = (h, stays p _)
     resumed_meets (position ∷ inner) stmts bound lt s h work values =
@@ -44,14 +43,14 @@ module _ (p : Program) where
   outcome_of (fails kind place s) = Over (Faulted kind place) s
   outcome_of (stops operation positions s) = Over (Suspended operation positions) s
 
-  ends_so : (bound : ℕ) (from : Moment) (f : Flow) → FlowTo p bound from [] [] f → (k : ℕ) × (run p k from ≡ outcome_of f)
+  pub ends_so : (bound : ℕ) (from : Moment) (f : Flow) → FlowTo p bound from [] [] f → (k : ℕ) × (run p k from ≡ outcome_of f)
   ends_so bound from (goes s) h = h.1.by 1
   ends_so bound from (returns value s) h = h.1.by 1
   ends_so bound from (fails kind place s) h = h.by
   ends_so bound from (stops operation positions s) h = h.1.by 1
 
   -- a run has one end
-  abbrev IsOver : Outcome → Type 0
+  abbrev pub IsOver : Outcome → Type 0
   IsOver (Over ending s) = Unit {0}
   IsOver Unfinished = ⊥
 
@@ -67,7 +66,7 @@ module _ (p : Program) where
   not_over (Over ending s) h e = cc
   not_over Unfinished h e = h
 
-  once : (k j : ℕ) (m : Moment) (o o' : Outcome) → IsOver o → IsOver o' → run p k m ≡ o → run p j m ≡ o' → o ≡ o'
+  pub once : (k j : ℕ) (m : Moment) (o o' : Outcome) → IsOver o → IsOver o' → run p k m ≡ o → run p j m ≡ o' → o ≡ o'
   once zero j m o o' h h' e e' = absurd (not_over o h e)
   once (suc k) zero m o o' h h' e e' = absurd (not_over o' h' e')
   once (suc k) (suc j) m o o' h h' e e' = once_served k j (once k j) (step_of p m.config).0 (record m { config = (step_of p m.config).1 }) o o' h h' e e'

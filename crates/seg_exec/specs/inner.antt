@@ -1,3 +1,4 @@
+pub mod Finished
 pub mod Reached
 pub mod Runs
 pub mod Sizes

@@ -4,7 +4,7 @@ ghost use Rattle.seg_exec.specs.inner.Stacks.{top, below};
 
 use std::alloc::Global;
 use std::marker::Model;
-use twe_io::Memory;
+use twe_io::{List, Memory};
 
 /// Items, of which the last that was put is the first to be taken.
 #[derive(Debug, Drop)]
@@ -51,5 +51,14 @@ impl<T: Drop> Stack<T> {
         ensures rest { self.new ≡ below self.old }
     {
         self.items.pop().unwrap_or(other)
+    }
+
+    /// The items as a list, the top one first. It takes no memory.
+    pub(crate) fn into_list(self) -> List<T>
+        ensures { result ≡ self }
+    {
+        let Stack { mut items } = self;
+        items.reverse();
+        List::from(items)
     }
 }

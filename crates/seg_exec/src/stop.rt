@@ -1,5 +1,7 @@
 //! How a segment stops.
 
+use crate::frame::Frame;
+use effect_sets::Summary;
 use seg_journal::FaultKind;
 use twe_io::{Ints, Place};
 
@@ -8,15 +10,17 @@ use twe_io::{Ints, Place};
 pub enum Stop {
     /// At the making of a task.
     Make {
-        /// The number of the future that stands for it.
-        future: u32,
-        /// The number of the task's declaration.
-        task: u32,
+        /// The frame of the task before its first segment, whose number and fuel are still to be put in.
+        child: Frame,
         /// The arguments.
         args: Ints,
+        /// Its effects: the summary of its declaration, filled with the arguments.
+        effects: Summary,
         /// Whether it is made by `spawn`, and not by `executeLater`.
         spawned: bool,
-        /// The place of the task's name.
+        /// The number of the future that stands for it.
+        future: u32,
+        /// The place of its name.
         place: Place,
     },
     /// At the waiting for the value of a task.

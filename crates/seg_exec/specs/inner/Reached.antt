@@ -5,8 +5,8 @@ use Rattle.seg_exec.specs.declared.work.Asked.{Asked}
 use Rattle.seg_exec.specs.declared.work.Asked.TheVariants.{Nothing, Read, Write, Print, End}
 use Rattle.seg_exec.specs.declared.work.Ending.{Ending}
 use Rattle.seg_exec.specs.declared.machine.Machine.{Machine}
-use Rattle.seg_exec.specs.Access.{Access, Reads, Writes, Prints, Agrees, Follows, after, printed}
-use Rattle.seg_exec.specs.inner.Tasks.{Config, Step, step_of, with_value}
+use Rattle.seg_exec.specs.Access.{Access, Reads, Writes, Agrees, Follows, after, printed}
+use Rattle.seg_exec.specs.inner.Tasks.{Config, step_of, with_value}
 use Rattle.seg_exec.specs.inner.Runs.{Moment, Over, Comes, run, store_of}
 use Rattle.seg_exec.specs.inner.Views.{config_of}
 

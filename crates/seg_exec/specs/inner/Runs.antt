@@ -1,5 +1,5 @@
 -- Runs of the evaluator over a list of cells.
-use Rattle.std.specs.Prelude.{◌≡◌, ℕ, zero, suc, ℤ, List, [], ◌∷◌, slice_get, slice_set}
+use Rattle.std.specs.Prelude.{◌≡◌, ℕ, zero, suc, ℤ, List, ◌∷◌, slice_get, slice_set}
 use Rattle.twe_program.specs.Program.{Program}
 use Rattle.seg_exec.specs.declared.work.Asked.{Asked}
 use Rattle.seg_exec.specs.declared.work.Asked.TheVariants.{Nothing, Read, Write, Print, End}

@@ -1,5 +1,5 @@
 -- The evaluator's stack of work, and one step of it.
-use Rattle.std.specs.Prelude.{ℕ, zero, suc, ◌+◌, ◌-◌, ℤ, pos, Bool, true, false, List, [], ◌∷◌, ◌++◌, Option, None, Some, nat_eq, nat_le, slice_get, slice_set}
+use Rattle.std.specs.Prelude.{ℕ, ◌+◌, ◌-◌, ℤ, pos, Bool, true, false, List, [], ◌∷◌, ◌++◌, Option, None, Some, nat_eq, nat_le, slice_get, slice_set}
 use Rattle.twe_io.specs.declared.place.Place.{Place}
 use Rattle.seg_journal.specs.declared.journal.FaultKind.{FaultKind}
 use Rattle.seg_journal.specs.declared.journal.FaultKind.TheVariants.{DivZero, Index, Fuel, Depth}
@@ -16,7 +16,6 @@ use Rattle.seg_exec.specs.declared.work.Goal.{Goal}
 use Rattle.seg_exec.specs.declared.work.Goal.TheVariants as goals
 use Rattle.seg_exec.specs.declared.work.Asked.{Asked}
 use Rattle.seg_exec.specs.declared.work.Asked.TheVariants as asks
-use Rattle.seg_exec.specs.declared.work.Ending.{Ending}
 use Rattle.seg_exec.specs.declared.work.Ending.TheVariants as endings
 use Rattle.seg_exec.specs.declared.work.Left.{Left}
 use Rattle.seg_exec.specs.declared.work.Left.TheVariants as lefts

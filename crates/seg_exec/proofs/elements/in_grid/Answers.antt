@@ -1,4 +1,4 @@
-use Rattle.std.proofs.Common.{◌<◌, ◌*◌, ◌+◌, ◌≡◌, ap, sym, arith}
+use Rattle.std.proofs.Common.{◌*◌, ◌≡◌, ap}
 use Rattle.twe_program.specs.Program.{size_of}
 use Rattle.seg_exec.proofs.CellNumbers.{grid_within}
 use Rattle.seg_exec.proofs.elements.in_grid.Goals as goal

@@ -1,8 +1,6 @@
-use Rattle.std.proofs.Common.{◌≤◌, Option, None, Some, subst, arith}
+use Rattle.std.proofs.Common.{Option, subst, arith}
 use Rattle.seg_exec.specs.declared.work.Ending.{Ending}
 use Rattle.seg_exec.specs.inner.Reached.{Advances, standing}
-use Rattle.seg_exec.specs.inner.Sizes.{size_of_work}
-use Rattle.seg_exec.specs.inner.Views.{config_of}
 use Rattle.seg_exec.proofs.Falling.{advance_falls, measure_falls}
 use Rattle.seg_exec.proofs.Reaching.{finishes, reaches_none, reaches_on}
 use Rattle.seg_exec.proofs.run.run.Goals as goal

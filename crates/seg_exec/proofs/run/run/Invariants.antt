@@ -1,4 +1,4 @@
-use Rattle.std.proofs.Common.{ℕ, ◌+◌, ◌≤◌, cond}
+use Rattle.std.proofs.Common.{◌+◌, ◌≤◌, cond}
 use Rattle.std.specs.Prelude.{nat_eq}
 use Rattle.seg_exec.specs.inner.Reached.{Reaches, standing}
 use Rattle.seg_exec.specs.inner.Sizes.{size_of_work}
