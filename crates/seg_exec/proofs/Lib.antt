@@ -1,5 +1,7 @@
+pub mod Bounds
 pub mod CellNumbers
 pub mod Falling
+pub mod PlainLists
 pub mod Reaching
 pub mod Remains
 pub mod Segments
