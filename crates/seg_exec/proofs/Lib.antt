@@ -7,3 +7,4 @@ pub mod Remains
 pub mod Segments
 pub mod Simulation
 pub mod Whole
+pub mod Witnesses

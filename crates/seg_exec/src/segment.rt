@@ -1,6 +1,7 @@
 //! One segment of a task.
 ghost use Rattle.std.specs.Prelude.{◌≡◌, IfOk, option_map, slice_get};
-ghost use Rattle.seg_exec.specs.Segment.{CarriesOut, closing_stop, operation_next, operation_stop, task_of};
+ghost use Rattle.seg_exec.specs.Access.{ways_of};
+ghost use Rattle.seg_exec.specs.Segment.{CarriesOut, MayCarryOut, closing_stop, operation_next, operation_stop, task_of};
 ghost use Rattle.seg_exec.specs.inner.Finished.{ended_with, finished};
 ghost use Rattle.seg_exec.specs.inner.Unfolded.{config_at};
 ghost use Rattle.seg_exec.specs.inner.Views.{config_of};
@@ -159,6 +160,7 @@ pub fn run_segment<C: Cells>(
     frame: &mut Frame,
     cells: &mut C,
 ) -> Result<Stop, Memory>
+    requires { MayCarryOut p.now (ways_of C.known C.may_read C.may_write C.rule) frame.old cells.old }
     ensures { IfOk result (λ stop. CarriesOut p.now C.rule frame.old cells.old stop frame.new cells.new) }
 {
     match machine_at(alloc, p, frame)? {
