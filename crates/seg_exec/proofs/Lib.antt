@@ -1,3 +1,4 @@
+pub mod Accesses
 pub mod Bounds
 pub mod CellNumbers
 pub mod Falling

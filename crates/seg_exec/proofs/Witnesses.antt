@@ -61,7 +61,7 @@ set_length [] k v = refl
 set_length (x ∷ xs) zero v = refl
 set_length (x ∷ xs) (suc k) v = ap suc (set_length xs k v)
 
-after_length : (cells : List ℤ) (accesses : List Access) → length (after cells accesses) ≡ length cells
+pub after_length : (cells : List ℤ) (accesses : List Access) → length (after cells accesses) ≡ length cells
 after_length cells [] = refl
 after_length cells (Reads cell value ∷ earlier) = after_length cells earlier
 after_length cells (Writes cell value ∷ earlier) = set_length (after cells earlier) cell value ∙ after_length cells earlier

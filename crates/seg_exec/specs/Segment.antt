@@ -101,6 +101,12 @@ flow_of p frame (call ∷ callers) cells =
 abbrev pub segment : Program → Frame → List ℤ → Stopped
 segment p frame cells = stopped_by p frame (flow_of p frame frame.calls cells)
 
+-- these are what the segment leaves over this list of cells
+abbrev pub IsSegment : Program → Frame → List ℤ → Stop → Frame → List ℤ → Type 0
+IsSegment p old_frame old_cells stop new_frame new_cells =
+    let after = segment p old_frame old_cells in
+    (after.frame ≡ new_frame) × (after.cells ≡ new_cells) × (after.stop ≡ stop)
+
 -- each access of the segment, over any list of cells, may be made
 abbrev pub MayCarryOut : {C : Type 0} → Program → Ways C → Frame → C → Type 0
 MayCarryOut p ways frame holder = (cells : List ℤ) → MayAll ways holder (segment p frame cells).accesses
