@@ -1,0 +1,76 @@
+//! What a task keeps between its segments.
+
+use twe_io::{Ints, List};
+
+/// How far a block of a body has been carried out.
+#[derive(Clone, Copy, Debug, PartialEq, Eq)]
+pub struct Position {
+    /// The number of the block among those of the statement that it stands in, in the order of the text. The body
+    /// itself, and the block of a statement that has but one, is 0.
+    pub block: usize,
+    /// How many of its statements were begun.
+    pub after: usize,
+}
+
+/// A body that is being carried out.
+#[derive(Debug, Drop)]
+pub struct Call {
+    /// The method, or none for the task's own body.
+    pub method: Option<u32>,
+    /// The values of the variables.
+    pub vars: Ints,
+    /// The open blocks, the outermost first. Each but the last has the next one within the last statement that was
+    /// begun.
+    pub stack: List<Position>,
+}
+
+/// What a task does next.
+#[derive(Clone, Copy, Debug, PartialEq, Eq)]
+pub enum Next {
+    /// It goes on.
+    Go,
+    /// It waits for the value of a task that it made.
+    Get {
+        /// The task that it waits for.
+        on: u32,
+        /// The variable that takes the value.
+        into: Option<u32>,
+    },
+    /// It waits to join a child that it spawned.
+    Join {
+        /// The child.
+        on: u32,
+        /// The variable that takes the value.
+        into: Option<u32>,
+    },
+    /// It is at its end and waits to join a child that it spawned.
+    Closing {
+        /// The child.
+        on: u32,
+    },
+    /// It has ended.
+    Ended,
+}
+
+/// What a task keeps between its segments.
+#[derive(Debug, Drop)]
+pub struct Frame {
+    /// The number of the task.
+    pub task: u32,
+    /// The number of its declaration.
+    pub decl: u32,
+    /// The task's own body with what remains of it, or none where the task is at its end.
+    pub calls: List<Call>,
+    /// How many units of fuel are left.
+    pub fuel: u64,
+    /// The task that each future stands for.
+    pub futures: List<Option<u32>>,
+    /// The unjoined children, in the order in which they were spawned.
+    pub out: List<u32>,
+    /// What comes next.
+    pub next: Next,
+    /// The value that the task returns.
+    pub value: i32,
+    /// What the segment under way has printed.
+    pub prints: Ints,
+}
