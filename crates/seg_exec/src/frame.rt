@@ -2,24 +2,25 @@
 
 use twe_io::{Ints, List};
 
-/// How far a block of a body has been carried out. The blocks of a body are numbered in the order of the text; the
-/// body itself is block 0.
+/// How far a block of a body has been carried out.
 #[derive(Clone, Copy, Debug, PartialEq, Eq)]
 pub struct Position {
-    /// The number of the block.
-    pub block: u32,
-    /// How many of its statements were carried out.
-    pub after: u32,
+    /// The number of the block among those of the statement that it stands in, in the order of the text. The body
+    /// itself, and the block of a statement that has but one, is 0.
+    pub block: usize,
+    /// How many of its statements were begun.
+    pub after: usize,
 }
 
-/// A body that is being carried out: a method's, or the task's own.
+/// A body that is being carried out.
 #[derive(Debug, Drop)]
 pub struct Call {
     /// The method, or none for the task's own body.
     pub method: Option<u32>,
     /// The values of the variables.
     pub vars: Ints,
-    /// The open blocks, the innermost first.
+    /// The open blocks, the outermost first. Each but the last has the next one within the last statement that was
+    /// begun.
     pub stack: List<Position>,
 }
 
@@ -58,7 +59,7 @@ pub struct Frame {
     pub task: u32,
     /// The number of its declaration.
     pub decl: u32,
-    /// The bodies that are being carried out, the innermost first.
+    /// The task's own body with what remains of it, or none where the task is at its end.
     pub calls: List<Call>,
     /// How many units of fuel are left.
     pub fuel: u64,

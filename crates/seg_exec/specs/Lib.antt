@@ -1,0 +1,9 @@
+pub mod Access
+pub mod Arithmetic
+pub mod Cells
+pub mod Entry
+pub mod Meaning
+pub mod Plain
+pub mod Remaining
+pub mod Segment
+pub mod Store

@@ -1,0 +1,162 @@
+-- What expressions and statements do. Operands and arguments are evaluated from the left.
+use Rattle.std.specs.Prelude.{ℕ, zero, suc, ◌+◌, ◌-◌, ℤ, pos, Bool, true, false, List, [], ◌∷◌, ◌++◌, take, length, replicate, Option, None, Some, nat_le, if◌then◌else◌, slice_get}
+use Rattle.twe_io.specs.declared.place.Place.{Place}
+use Rattle.seg_journal.specs.declared.journal.FaultKind.TheVariants.{DivZero, Index, Depth}
+use Rattle.twe_program.specs.declared.expr.BinOp.{BinOp}
+use Rattle.twe_program.specs.declared.program.Decl.{Decl}
+use Rattle.twe_program.specs.Program.{Program}
+use Rattle.twe_program.specs.Expression.{Expression, Literal, Truth, Variable, CellValue, ArrayElement, GridElement, CallValue, Negative, Negation, Binary, Arguments, argument}
+use Rattle.twe_program.specs.Expression as args
+use Rattle.twe_program.specs.Statement.{Statement, Block, Let, Set, SetCell, SetArray, SetGrid, If, While, Return, Print, Call, Make, Wait, Statements, no_more, statement, Arms, arm, otherwise, no_else}
+use Rattle.seg_exec.specs.declared.frame.Position.{Position}
+use Rattle.seg_exec.specs.declared.operation.Operation.TheVariants as operations
+use Rattle.seg_exec.specs.Arithmetic.{number_of, is_true, operated, decided, negative, negation}
+use Rattle.seg_exec.specs.Cells.{cell_number, element_number, grid_element_number}
+use Rattle.seg_exec.specs.Store.{Store, Given, gives, faults, Flow, goes, returns, fails, stops, then_give, then_do, then_go, unit_taken, var_in, with_var, cell_read, cell_written, number_printed}
+
+-- What a statement does. Each turn of a loop and each call takes a unit of fuel; what comes after it is a parameter of
+-- the definitions below, so that they go by the text alone. `done_within` puts it in.
+abbrev pub Below : Type 0
+Below = Statement → Store → Flow
+
+-- an element is read, written; a fault where there is no such element
+abbrev pub element_read : Option ℕ → Place → Store → Given ℤ
+element_read None place s = faults Index place s
+element_read (Some cell) place s = cell_read cell s
+
+abbrev pub element_written : Option ℕ → ℤ → Place → Store → Flow
+element_written None value place s = fails Index place s
+element_written (Some cell) value place s = goes (cell_written cell value s)
+
+-- the value of an operator on its operands; a fault where it divides by zero
+abbrev pub value_or_fault : Option ℤ → Place → Store → Given ℤ
+value_or_fault None place s = faults DivZero place s
+value_or_fault (Some value) place s = gives value s
+
+-- the right operand, and the operator on both, unless the left operand decides
+abbrev pub right_given : Option ℤ → BinOp → ℤ → Place → Given ℤ → Store → Given ℤ
+right_given (Some value) op left place right s = gives value s
+right_given None op left place right s = then_give right (λ value s1. value_or_fault (operated op left value) place s1)
+
+-- the body of a declaration, and its variables at the start: the arguments, and then 0 for each local
+abbrev pub body_of : Option Decl → Statements
+body_of None = no_more
+body_of (Some decl) = decl.body.block
+
+abbrev pub var_count_of : Option Decl → ℕ
+var_count_of None = 0
+var_count_of (Some decl) = decl.body.vars
+
+abbrev pub vars_at_start : Option Decl → List ℤ → List ℤ
+vars_at_start decl args = args ++ replicate (var_count_of decl - length args) (pos 0)
+
+-- the caller's variables are those of the store again
+abbrev pub left_with : List ℤ → Store → Store
+left_with vars s = record s { vars = vars; calls = s.calls - 1 }
+
+-- what a call gives: the value that is returned, and 0 at the end of the body. A method has no task operations, which
+-- would end it.
+abbrev pub given_back : List ℤ → Flow → Given ℤ
+given_back vars (goes s) = gives (pos 0) (left_with vars s)
+given_back vars (returns value s) = gives value (left_with vars s)
+given_back vars (fails kind place s) = faults kind place s
+given_back vars (stops operation positions s) = gives (pos 0) (left_with vars s)
+
+-- a method is carried out, unless 1,000 calls are active
+abbrev pub entered : Bool → Below → Option Decl → List ℤ → Place → Store → Given ℤ
+entered true below decl args place s = faults Depth place s
+entered false below decl args place s =
+    given_back s.vars (below (Block 0 (body_of decl)) (record s { vars = vars_at_start decl args; calls = s.calls + 1 }))
+
+-- the call of a method takes a unit of fuel
+abbrev pub called : Below → Program → ℕ → List ℤ → Place → Store → Given ℤ
+called below p method args place s =
+    then_give (unit_taken place s) (λ unit s1. entered (nat_le 1000 s1.calls) below (slice_get p.methods method) args place s1)
+
+abbrev mutual
+  pub value_of : Below → Program → Expression → Store → Given ℤ
+  value_of below p (Literal value) s = gives value s
+  value_of below p (Truth value) s = gives (number_of value) s
+  value_of below p (Variable var fixed) s = gives (var_in var s) s
+  value_of below p (CellValue cell place) s = cell_read (cell_number p cell) s
+  value_of below p (ArrayElement array index place) s =
+      then_give (value_of below p index s) (λ i s1. element_read (element_number p array i) place s1)
+  value_of below p (GridElement array row column place) s =
+      then_give (value_of below p row s) (λ i s1. then_give (value_of below p column s1) (λ j s2. element_read (grid_element_number p array i j) place s2))
+  value_of below p (CallValue method args place) s =
+      then_give (values_of below p args s) (λ values s1. called below p method values place s1)
+  value_of below p (Negative operand) s = then_give (value_of below p operand s) (λ value s1. gives (negative value) s1)
+  value_of below p (Negation operand) s = then_give (value_of below p operand s) (λ value s1. gives (negation value) s1)
+  value_of below p (Binary op left right place) s =
+      then_give (value_of below p left s) (λ value s1. right_given (decided op (is_true value)) op value place (value_of below p right s1) s1)
+
+  pub values_of : Below → Program → Arguments → Store → Given (List ℤ)
+  values_of below p args.no_more s = gives [] s
+  values_of below p (argument first others) s =
+      then_give (value_of below p first s) (λ value s1. then_give (values_of below p others s1) (λ values s2. gives (value ∷ values) s2))
+
+-- a turn of a loop takes a unit of fuel, carries out the body, and comes to the test again
+abbrev pub turned : Bool → Place → (Store → Flow) → (Store → Flow) → Store → Flow
+turned false place body again s = goes s
+turned true place body again s = then_do (unit_taken place s) (λ unit s1. then_go (body s1) again)
+
+-- one of two
+abbrev pub chosen : Bool → Flow → Flow → Flow
+chosen true first second = first
+chosen false first second = second
+
+abbrev pub value_returned : Given ℤ → Flow
+value_returned given = then_do given (λ value s. returns value s)
+
+-- a task operation inside the statement at a place of a block: the position is after that statement
+abbrev pub stopped_at : ℕ → ℕ → Flow → Flow
+stopped_at block after (stops operation positions s) = stops operation (record { block = block; after = after } ∷ positions) s
+stopped_at block after (goes s) = goes s
+stopped_at block after (returns value s) = returns value s
+stopped_at block after (fails kind place s) = fails kind place s
+
+abbrev mutual
+  pub done_by : Below → Program → Statement → Store → Flow
+  done_by below p (Block point body) s = done_all below p 0 0 body s
+  done_by below p (Let point var value) s = then_do (value_of below p value s) (λ v s1. goes (with_var var v s1))
+  done_by below p (Set point var value) s = then_do (value_of below p value s) (λ v s1. goes (with_var var v s1))
+  done_by below p (SetCell point cell value place) s =
+      then_do (value_of below p value s) (λ v s1. goes (cell_written (cell_number p cell) v s1))
+  done_by below p (SetArray point array index value place) s =
+      then_do (value_of below p index s) (λ i s1. then_do (value_of below p value s1) (λ v s2. element_written (element_number p array i) v place s2))
+  done_by below p (SetGrid point array row column value place) s =
+      then_do (value_of below p row s) (λ i s1. then_do (value_of below p column s1) (λ j s2.
+      then_do (value_of below p value s2) (λ v s3. element_written (grid_element_number p array i j) v place s3)))
+  done_by below p (If point arms) s = done_arms below p 0 arms s
+  done_by below p (While point condition body place) s =
+      then_do (value_of below p condition s) (λ v s1. turned (is_true v) place (done_all below p 0 0 body) (below (While point condition body place)) s1)
+  done_by below p (Return point None) s = returns (pos 0) s
+  done_by below p (Return point (Some value)) s = value_returned (value_of below p value s)
+  done_by below p (Print point value place) s =
+      then_do (value_of below p value s) (λ v s1. then_do (unit_taken place s1) (λ unit s2. goes (number_printed v s2)))
+  done_by below p (Call point method args place) s =
+      then_do (values_of below p args s) (λ values s1. then_do (called below p method values place s1) (λ value s2. goes s2))
+  done_by below p (Make point future task args spawned future_place place) s =
+      then_do (values_of below p args s) (λ values s1. then_do (unit_taken place s1) (λ unit s2. stops (operations.Make future task values spawned place) [] s2))
+  done_by below p (Wait point future join into place) s =
+      then_do (unit_taken place s) (λ unit s1. stops (operations.Wait future join into) [] s1)
+
+  -- the statements of a block, from the one at a place of it on; the block is known by its number among those of the
+  -- statement that it stands in
+  pub done_all : Below → Program → ℕ → ℕ → Statements → Store → Flow
+  done_all below p block at no_more s = goes s
+  done_all below p block at (statement first others) s =
+      then_go (stopped_at block (at + 1) (done_by below p first s)) (λ s1. done_all below p block (at + 1) others s1)
+
+  -- the first arm whose condition is true
+  pub done_arms : Below → Program → ℕ → Arms → Store → Flow
+  done_arms below p block (arm condition body others) s =
+      then_do (value_of below p condition s) (λ v s1. chosen (is_true v) (done_all below p block 0 body s1) (done_arms below p (block + 1) others s1))
+  done_arms below p block (otherwise body) s = done_all below p block 0 body s
+  done_arms below p block no_else s = goes s
+
+-- what a statement does, with at most so many turns and calls inside one another and one after the other: a bound above
+-- the fuel is never met
+abbrev pub done_within : Program → ℕ → Below
+done_within p zero = λ stmt s. goes s
+done_within p (suc n) = done_by (done_within p n) p

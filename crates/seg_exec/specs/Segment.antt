@@ -1,0 +1,111 @@
+-- The meaning of a segment: of what a task has still to carry out, up to its next task operation or its end.
+use Rattle.std.specs.Prelude.{◌≡◌, ℕ, ◌+◌, ℤ, pos, Bool, true, false, List, [], ◌∷◌, ◌++◌, Option, None, Some, slice_get}
+use Rattle.twe_program.specs.Program.{Program}
+use Rattle.seg_exec.specs.declared.frame.Call.{Call}
+use Rattle.seg_exec.specs.declared.frame.Frame.{Frame}
+use Rattle.seg_exec.specs.declared.frame.Position.{Position}
+use Rattle.seg_exec.specs.declared.frame.Next.{Next}
+use Rattle.seg_exec.specs.declared.frame.Next.TheVariants.{Go, Get, Join, Closing, Ended}
+use Rattle.seg_exec.specs.declared.operation.Operation.{Operation}
+use Rattle.seg_exec.specs.declared.operation.Operation.TheVariants as operations
+use Rattle.seg_exec.specs.declared.stop.Stop.{Stop}
+use Rattle.seg_exec.specs.declared.stop.Stop.TheVariants as ends
+use Rattle.seg_exec.specs.Access.{Access, Agrees, Follows, after, printed}
+use Rattle.seg_exec.specs.Entry.{effects_at, entry_frame}
+use Rattle.seg_exec.specs.Meaning.{body_of, done_within}
+use Rattle.seg_exec.specs.Remaining.{resumed}
+use Rattle.seg_exec.specs.Store.{Store, Flow, goes, returns, fails, stops}
+
+-- what a segment leaves: the frame, the cells, its accesses with the latest first, and how it stopped
+pub record Stopped : Type 0 where
+  pub frame : Frame
+  pub cells : List ℤ
+  pub accesses : List Access
+  pub stop : Stop
+
+-- the frame as the store leaves it, with what was printed
+abbrev pub with_store : Frame → List Call → Store → Frame
+with_store frame calls s = record frame { calls = calls; fuel = s.fuel; prints = frame.prints ++ printed s.accesses }
+
+-- the task's body with what remains of it
+abbrev pub open_body : List Position → Store → List Call
+open_body positions s = record { method = None; vars = s.vars; stack = positions } ∷ []
+
+-- the end of the body: the unjoined children are joined one by one, and then the task is done
+abbrev pub closing : List ℕ → Next
+closing [] = Ended
+closing (child ∷ others) = Closing child
+
+abbrev pub closing_stop : List ℕ → ℤ → Stop
+closing_stop [] value = ends.Done value
+closing_stop (child ∷ others) value = ends.Joins child
+
+abbrev pub at_end : Frame → ℤ → Store → Stopped
+at_end frame value s = record {
+  frame = record (with_store frame [] s) { next = closing frame.out; value = value };
+  cells = s.cells;
+  accesses = s.accesses;
+  stop = closing_stop frame.out value;
+}
+
+-- the task that a future stands for; each future that is waited for stands for one
+abbrev pub task_of : Option (Option ℕ) → ℕ
+task_of (Some (Some task)) = task
+task_of (Some None) = 0
+task_of None = 0
+
+abbrev pub waiting : Bool → ℕ → Option ℕ → Next
+waiting true on into = Join on into
+waiting false on into = Get on into
+
+abbrev pub waiting_stop : Bool → ℕ → Stop
+waiting_stop true on = ends.Joins on
+waiting_stop false on = ends.Waits on
+
+-- a task operation
+abbrev pub operation_stop : Program → Frame → Operation → Stop
+operation_stop p frame (operations.Make future task args spawned place) = ends.Make (entry_frame p task args) args (effects_at p task args) spawned future place
+operation_stop p frame (operations.Wait future join into) = waiting_stop join (task_of (slice_get frame.futures future))
+
+abbrev pub operation_next : Frame → Operation → Next
+operation_next frame (operations.Make future task args spawned place) = Go
+operation_next frame (operations.Wait future join into) = waiting join (task_of (slice_get frame.futures future)) into
+
+-- how a segment stops, by how what remains in the frame ends
+abbrev pub stopped_by : Program → Frame → Flow → Stopped
+stopped_by p frame (goes s) = at_end frame (pos 0) s
+stopped_by p frame (returns value s) = at_end frame value s
+stopped_by p frame (fails kind place s) = record {
+  frame = record (with_store frame [] s) { next = Ended };
+  cells = s.cells;
+  accesses = s.accesses;
+  stop = ends.Fault kind place;
+}
+stopped_by p frame (stops operation positions s) = record {
+  frame = record (with_store frame (open_body positions s) s) { next = operation_next frame operation };
+  cells = s.cells;
+  accesses = s.accesses;
+  stop = operation_stop p frame operation;
+}
+
+-- the store at the start of a segment
+abbrev pub store_at : Frame → List ℤ → List ℤ → Store
+store_at frame vars cells = record { cells = cells; vars = vars; fuel = frame.fuel; calls = 0; accesses = [] }
+
+-- what remains of a frame: of the task's own body, or, where it is at its end, the joining of its children
+abbrev pub flow_of : Program → Frame → List Call → List ℤ → Flow
+flow_of p frame [] cells = returns frame.value (store_at frame [] cells)
+flow_of p frame (call ∷ callers) cells =
+    resumed (done_within p (frame.fuel + 1)) p (body_of (slice_get p.tasks frame.decl)) call.stack (store_at frame call.vars cells)
+
+abbrev pub segment : Program → Frame → List ℤ → Stopped
+segment p frame cells = stopped_by p frame (flow_of p frame frame.calls cells)
+
+-- Whoever carries out a segment over cells of any kind makes accesses, each by the rule of the cells, which are exactly
+-- those of the segment over each list of cells that agrees with what was read; the frame and the stop are those of that
+-- segment.
+pub record CarriesOut {C : Type 0} (p : Program) (rule : C → Access → C → Type 0) (old_frame : Frame) (old_cells : C) (stop : Stop) (new_frame : Frame) (new_cells : C) : Type 0 where
+  pub accesses : List Access
+  pub follows : Follows rule old_cells accesses new_cells
+  pub means : (cells : List ℤ) → Agrees cells accesses
+      → segment p old_frame cells ≡ record { frame = new_frame; cells = after cells accesses; accesses = accesses; stop = stop }
