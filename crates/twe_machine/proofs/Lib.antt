@@ -5,3 +5,4 @@ pub mod OneLowest
 pub mod OneTask
 pub mod Quiet
 pub mod Segments
+pub mod WholeRun

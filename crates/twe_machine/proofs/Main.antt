@@ -1,27 +1,23 @@
 -- The segment of `main` in a sequential program comes to the end of its task.
-use Rattle.std.proofs.Common.{◌≡◌, ◌+◌, ◌<◌, ℕ, ℤ, List, [], ◌∷◌, length, Option, None, Some, refl, sym, ap, ◌∙◌, subst, arith}
+use Rattle.std.proofs.Common.{◌≡◌, ◌+◌, ℕ, ℤ, List, [], ◌∷◌, length, Option, Some, refl, sym, ◌∙◌, subst, arith}
 use Rattle.std.specs.Prelude.{slice_get}
 use Rattle.seg_journal.specs.Limits.{Bounds}
 use Rattle.twe_program.specs.declared.program.Decl.{Decl}
-use Rattle.twe_program.specs.Numbering.{Declared, futures_of_all}
+use Rattle.twe_program.specs.Numbering.{futures_of_all}
 use Rattle.twe_program.specs.Program.{Program}
-use Rattle.twe_program.specs.Statement.{Statements}
 use Rattle.twe_program.specs.WellFormed.{IsWellFormed, DeclFits, scope_of}
 use Rattle.seg_exec.specs.declared.frame.Frame.{Frame}
 use Rattle.seg_exec.specs.declared.frame.Next.TheVariants.{Go}
 use Rattle.seg_exec.specs.Meaning.{body_of, done_all, done_within}
 use Rattle.seg_exec.specs.Segment.{segment, store_at, flow_of}
-use Rattle.seg_exec.specs.Store.{Flow}
 use Rattle.twe_machine.specs.declared.state.State.{State}
-use Rattle.twe_machine.specs.declared.state.TaskRow.{TaskRow}
-use Rattle.twe_machine.specs.declared.state.TaskStatus.TheVariants.{Enabled}
 use Rattle.twe_machine.specs.Legal.{MayRun}
 use Rattle.twe_machine.specs.Moves.{IsEnd, start_frame, entry_call}
 use Rattle.twe_machine.specs.Runs.{IsReached}
 use Rattle.twe_machine.specs.Sequential.{IsPlain, IsSequential}
 use Rattle.twe_machine.specs.inner.Ready.{IsReady}
 use Rattle.twe_machine.proofs.Filled.{All-slice_get}
-use Rattle.twe_machine.proofs.OneTask.{IsOpen, IsStart, RowFits, IsAlone, row_fits, reached_is_alone}
+use Rattle.twe_machine.proofs.OneTask.{IsOpen, IsStart, row_fits, reached_is_alone}
 use Rattle.twe_machine.proofs.Quiet.{IsQuiet, body_quiet}
 use Rattle.twe_machine.proofs.Segments.{quiet_ends}
 

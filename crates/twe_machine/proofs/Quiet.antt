@@ -1,9 +1,8 @@
 -- A body that declares no future has no task operation, so nothing of it stops at one.
-use Rattle.std.proofs.Common.{◌≡◌, ◌+◌, ◌++◌, ℕ, zero, suc, ℤ, Bool, true, false, List, [], ◌∷◌, length, Option, None, Some, refl, sym, ap, ◌∙◌, subst}
+use Rattle.std.proofs.Common.{◌≡◌, ◌+◌, ◌++◌, ℕ, zero, suc, ℤ, Bool, true, false, List, [], ◌∷◌, Option, None, Some, refl, ap}
 use Rattle.std.specs.Prelude.{slice_get}
 use Rattle.twe_io.specs.declared.place.Place.{Place}
 use Rattle.twe_program.specs.Program.{Program}
-use Rattle.twe_program.specs.Expression.{Expression}
 use Rattle.twe_program.specs.Statement.{Statement, Block, Let, Set, SetCell, SetArray, SetGrid, If, While, Return, Print, Call, Make, Wait, Statements, no_more, statement, Arms, arm, otherwise, no_else}
 use Rattle.twe_program.specs.Numbering.{Declared, futures_of, futures_of_all, futures_of_arms}
 use Rattle.twe_program.specs.Fitting.{Scope, WaitFits, StatementFits, StatementsFit, ArmsFit}

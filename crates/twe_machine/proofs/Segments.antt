@@ -1,12 +1,11 @@
 -- Segments over the plain list of a state's cells.
-use Rattle.std.proofs.Common.{◌≡◌, ◌++◌, ℕ, ℤ, zero, suc, Bool, true, false, List, [], ◌∷◌, Option, None, Some, refl, sym, ap, ◌∙◌, subst}
+use Rattle.std.proofs.Common.{◌≡◌, ◌++◌, ℕ, ℤ, zero, suc, Bool, true, false, List, [], ◌∷◌, Option, Some, refl, sym, ap, ◌∙◌, subst}
 use Rattle.seg_journal.specs.declared.journal.End.TheVariants as ends
 use Rattle.wait_graph.specs.Link.{with_done}
 use Rattle.std.specs.Prelude.{pos, slice_get, slice_set}
 use Rattle.twe_program.specs.Program.{Program}
 use Rattle.seg_exec.specs.declared.frame.Frame.{Frame}
 use Rattle.seg_exec.specs.declared.frame.Next.TheVariants.{Ended}
-use Rattle.seg_exec.specs.declared.operation.Operation.{Operation}
 use Rattle.seg_exec.specs.declared.operation.Operation.TheVariants as operations
 use Rattle.seg_exec.specs.declared.stop.Stop.{Stop}
 use Rattle.seg_exec.specs.declared.stop.Stop.TheVariants as stops
@@ -61,17 +60,23 @@ get_again (z ∷ xs) (suc t) x y e = get_again xs t x y e
 settled_again : (st : State) (t : ℕ) (row : TaskRow) (left frame : Frame) (stop : Stop)
     → IsEnd stop → settled_row (record st { tasks = slice_set st.tasks t (record row { frame = left }) }) t (record row { frame = left }) frame stop ≡ settled_row st t row frame stop
 settled_again st t row left frame (stops.Done value) e =
-    λ i. (record st {
-      prints = st.prints ++ frame.prints;
-      tasks = set_again st.tasks t (record row { frame = left }) (done_row row frame value) i;
-      links = with_done st.links t;
-    }, ends.Done value)
+    λ i. (
+      record st {
+        prints = st.prints ++ frame.prints;
+        tasks = set_again st.tasks t (record row { frame = left }) (done_row row frame value) i;
+        links = with_done st.links t;
+      },
+      ends.Done value,
+    )
 settled_again st t row left frame (stops.Fault kind place) e =
-    λ i. (record st {
-      prints = st.prints ++ frame.prints;
-      tasks = set_again st.tasks t (record row { frame = left }) (faulted_row row frame) i;
-      first_fault = first_fault_of st.first_fault t kind place;
-    }, ends.Fault kind place)
+    λ i. (
+      record st {
+        prints = st.prints ++ frame.prints;
+        tasks = set_again st.tasks t (record row { frame = left }) (faulted_row row frame) i;
+        first_fault = first_fault_of st.first_fault t kind place;
+      },
+      ends.Fault kind place,
+    )
 settled_again st t row left frame _ e = absurd e
 
 -- a segment that was carried out with its frame out of its row, and was settled, is a move
@@ -82,7 +87,7 @@ pub run_settled : (p : Program) (st : State) (t : ℕ) (row new : TaskRow) (fram
 run_settled p st t row new frame after stop cells found same taken e h =
     let this = carried_out p frame st.cells stop after cells h in
     let stopped : segment p row.frame st.cells ≡ record { frame = after; cells = cells; accesses = this.accesses; stop = stop } =
-        ap (λ (f : Frame). segment p f st.cells) (sym taken) ∙ this.same in
+    ap (λ (f : Frame). segment p f st.cells) (sym taken) ∙ this.same in
     let before : State = record st { cells = cells } in
     ap (λ (x : Option TaskRow). settled (record before { tasks = slice_set st.tasks t new }) t x after stop) (get_again st.tasks t row new found)
     ∙ (ap (λ (x : TaskRow). settled_row (record before { tasks = slice_set st.tasks t x }) t x after stop) same

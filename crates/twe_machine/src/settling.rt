@@ -11,7 +11,13 @@ use twe_io::{Ints, Memory, Place};
 /// The state after a segment of this task that left this frame and stopped so, and what the move ended in: the frame
 /// goes home, and the numbers that it has printed go to those of the run. The cells of the state have to be those after
 /// the segment. After `Memory` nothing is known of the state, which can only be dropped.
-pub fn settle(alloc: Global, st: &mut State, t: u32, frame: Frame, stop: Stop) -> Result<End, Memory>
+pub fn settle(
+    alloc: Global,
+    st: &mut State,
+    t: u32,
+    frame: Frame,
+    stop: Stop,
+) -> Result<End, Memory>
     requires there { t < length st.old.tasks }
     requires linked { t < length st.old.links }
     requires ends { IsEnd stop }

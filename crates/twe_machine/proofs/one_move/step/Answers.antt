@@ -1,4 +1,4 @@
-use Rattle.std.proofs.Common.{ap, sym, ◌∙◌, arith, subst, length}
+use Rattle.std.proofs.Common.{ap, arith, subst, length}
 use Rattle.std.proofs.lemmas.List.{length-map}
 use Rattle.std.proofs.lemmas.Option.{slice_get_within}
 use Rattle.twe_program.specs.WellFormed.{IsWellFormed}
