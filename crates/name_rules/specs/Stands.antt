@@ -64,11 +64,11 @@ abbrev mutual
       sites_at here.locals returns (uses name asked.Target ∷ asks_of globals here.locals (Some (target_type (seen globals here.locals name.text))) value)
   sites_in globals returns here (SetArray array index value) =
       sites_at here.locals returns
-        (uses array (asked.Array 1) ∷ (asks_of globals here.locals (Some Int) index ++ asks_of globals here.locals (Some Int) value))
+      (uses array (asked.Array 1) ∷ (asks_of globals here.locals (Some Int) index ++ asks_of globals here.locals (Some Int) value))
   sites_in globals returns here (SetGrid array row column value) =
       sites_at here.locals returns
-        (uses array (asked.Array 2) ∷ (asks_of globals here.locals (Some Int) row
-          ++ (asks_of globals here.locals (Some Int) column ++ asks_of globals here.locals (Some Int) value)))
+      (uses array (asked.Array 2) ∷ (asks_of globals here.locals (Some Int) row
+      ++ (asks_of globals here.locals (Some Int) column ++ asks_of globals here.locals (Some Int) value)))
   sites_in globals returns here (If arms) = sites_in_arms globals returns (counted here) arms
   sites_in globals returns here (While place condition body) =
       sites_at here.locals returns (asks_of globals here.locals (Some Boolean) condition) ++ sites_in_all globals returns (counted here) body

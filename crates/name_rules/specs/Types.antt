@@ -91,7 +91,7 @@ abbrev mutual
       type_if (same_type (type_of globals locals index) (Some Int)) (type_of_element (seen globals locals array.text) 1)
   type_of_shape globals locals (GridElement array row column) =
       type_if (same_type (type_of globals locals row) (Some Int) && same_type (type_of globals locals column) (Some Int))
-        (type_of_element (seen globals locals array.text) 2)
+      (type_of_element (seen globals locals array.text) 2)
   type_of_shape globals locals (CallValue method args) =
       type_if (are_ints globals locals args) (type_of_call (seen globals locals method.text) (count_of args))
   type_of_shape globals locals (Negative operand) = type_if (same_type (type_of globals locals operand) (Some Int)) (Some Int)

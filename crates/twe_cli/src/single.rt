@@ -79,12 +79,7 @@ fn complaint(alloc: Global, status: Status, err: Bytes) -> Result<Answer, Memory
 }
 
 /// What the program has to say to a text.
-fn answer_text(
-    alloc: Global,
-    cmd: &Command,
-    text: &[u8],
-    book: &mut Book,
-) -> Result<Answer, Memory>
+fn answer_text(alloc: Global, cmd: &Command, text: &[u8], book: &mut Book) -> Result<Answer, Memory>
     requires new { IsNew book.old }
     requires short { length text.now ≤ most_bytes }
     ensures { IfOk result (λ answer. Due cmd.now text.now book.new answer.status answer.out answer.err) }
@@ -97,12 +92,7 @@ fn answer_text(
 }
 
 /// What the program has to say to a text that is accepted and has this program.
-fn answer_program(
-    alloc: Global,
-    cmd: &Command,
-    p: Prog,
-    book: &mut Book,
-) -> Result<Answer, Memory>
+fn answer_program(alloc: Global, cmd: &Command, p: Prog, book: &mut Book) -> Result<Answer, Memory>
     requires { IsNew book.old }
     ensures { IfOk result (λ answer. IsDueFor cmd.now p book.new answer) }
 {

@@ -1,0 +1,3 @@
+mod SameTree
+mod OneFirst
+mod OneAnswer
