@@ -33,12 +33,12 @@ use Rattle.twe_cli.proofs.Read.{was_read}
 -- what is due where a program was run
 due_as : (cmd : Command) (lim : Bounds) (p : Program) (book : Book) (outcome : Outcome) → cmd ≡ Run lim → IsSequential p → IsFinal outcome → HasRun p lim outcome book
     → counted book.journal ≡ book.journal → IsDueFor cmd p book (answer_of p (state_after p lim book.journal) outcome)
-due_as cmd lim p book AllDone command sequential final run counts text accepted = Due.ran lim p command accepted sequential run
-due_as cmd lim p book (outcomes.Fault task kind place) command sequential final run counts text accepted =
+due_as cmd lim p book AllDone command sequential final run counts = λ text accepted. Due.ran lim p command accepted sequential run
+due_as cmd lim p book (outcomes.Fault task kind place) command sequential final run counts = λ text accepted.
     subst (λ (journal : List Entry). Due cmd text book Fault (prints_text (state_after p lim journal).prints) (fault_text task kind place)) counts
     (Due.faulted lim p task kind place command accepted sequential run)
-due_as cmd lim p book Stuck command sequential final run counts text accepted = absurd final
-due_as cmd lim p book Unfinished command sequential final run counts text accepted = absurd final
+due_as cmd lim p book Stuck command sequential final run counts = absurd final
+due_as cmd lim p book Unfinished command sequential final run counts = absurd final
 
 pub due_ran : (cmd : Command) (lim : Bounds) (p : Program) (book : Book) (result : Result Answer out_of.Memory) → cmd ≡ Run lim → IsSequential p
     → IfOk result (IsAnswerOfRun p lim book) → IfOk result (λ a. IsDueFor cmd p book a)
@@ -49,14 +49,14 @@ due_ran cmd lim p book (Err e) command sequential ran = tt
 -- what is due where a program was accepted
 pub due_accepted : (cmd : Command) (p : Program) (book : Book) (result : Result Answer out_of.Memory) → cmd ≡ Check
     → OnOk result (HasProgram p book) → IfOk result (λ a. a ≡ record { status = Done; out = accepted_text; err = [] }) → IfOk result (λ a. IsDueFor cmd p book a)
-due_accepted cmd p book (Ok a) command has same text accepted =
+due_accepted cmd p book (Ok a) command has same = λ text accepted.
     subst (λ (x : Answer). Due cmd text book x.status x.out x.err) (sym same) (Due.accepted p command accepted has)
 due_accepted cmd p book (Err e) command has same = tt
 
 -- what is due where a program can't be run
 pub due_not_run : (cmd : Command) (lim : Bounds) (p : Program) (book : Book) (result : Result Answer out_of.Memory) → cmd ≡ Run lim → ¬ IsSequential p
     → OnOk result (HasRefusal not_of_the_form book) → IfOk result (λ a. a ≡ record { status = Refused; out = []; err = refusal_text not_of_the_form }) → IfOk result (λ a. IsDueFor cmd p book a)
-due_not_run cmd lim p book (Ok a) command other has same text accepted =
+due_not_run cmd lim p book (Ok a) command other has same = λ text accepted.
     subst (λ (x : Answer). Due cmd text book x.status x.out x.err) (sym same) (Due.not_run lim p command accepted other has)
 due_not_run cmd lim p book (Err e) command other has same = tt
 
