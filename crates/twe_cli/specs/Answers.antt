@@ -1,19 +1,23 @@
 -- What the program answers, and why.
 use Rattle.std.specs.Prelude.{◌≡◌, ℕ, List, [], Option, None, Some, IsSome, Result, Ok, Err}
 use Rattle.twe_io.specs.declared.whole.ReadFail.TheVariants as reads
+use Rattle.twe_io.specs.declared.place.Place.{Place}
+use Rattle.seg_journal.specs.declared.journal.FaultKind.{FaultKind}
 use Rattle.seg_journal.specs.Limits.{Bounds}
 use Rattle.twe_program.specs.Program.{Program}
 use Rattle.twe_front.specs.declared.refusal.Refusal.{Refusal}
 use Rattle.twe_front.specs.declared.refusal.RuleName.TheVariants.{Form}
 use Rattle.twe_front.specs.Accepted.{Accepted, IsRefusal}
-use Rattle.twe_machine.specs.Runs.{state_after}
-use Rattle.twe_machine.specs.Segment.{HasOnlySums}
-use Rattle.twe_report.specs.Texts.{result_text, accepted_text, refusal_text, usage_text, read_fault_text, too_long_text}
+use Rattle.twe_machine.specs.declared.ending.Outcome.TheVariants.{AllDone}
+use Rattle.twe_machine.specs.declared.ending.Outcome.TheVariants as outcomes
+use Rattle.twe_machine.specs.Runs.{state_after, counted}
+use Rattle.twe_machine.specs.Sequential.{IsSequential}
+use Rattle.twe_report.specs.Texts.{result_text, prints_text, fault_text, accepted_text, refusal_text, usage_text, read_fault_text, too_long_text}
 use Rattle.twe_cli.specs.declared.book.Book.{Book}
 use Rattle.twe_cli.specs.declared.status.Status.{Status}
-use Rattle.twe_cli.specs.declared.status.Status.TheVariants.{Done, Refused, Usage, ReadFault, WriteFault, Memory, TooLong}
-use Rattle.twe_cli.specs.declared.words.Command.{Command}
-use Rattle.twe_cli.specs.declared.words.Command.TheVariants.{Check, Run}
+use Rattle.twe_cli.specs.declared.status.Status.TheVariants.{Done, Refused, Usage, Fault, ReadFault, WriteFault, Memory, TooLong}
+use Rattle.twe_words.specs.declared.command.Command.{Command}
+use Rattle.twe_words.specs.declared.command.Command.TheVariants.{Check, Run}
 use Rattle.twe_cli.specs.Ends.{SourceTells, SinkTells, WasRead, Took, BrokeOff}
 use Rattle.twe_cli.specs.Theorem.{HasProgram, HasRun, IsNew, HasRefusal}
 
@@ -28,10 +32,14 @@ pub data Due (command : Command) (text : List ℕ) (book : Book) : Status → Li
   -- the text is accepted, and the book has its program
   accepted : (p : Program) → command ≡ Check → Accepted text p → HasProgram p book → Due command text book Done accepted_text []
   -- the run theorem: the text is accepted, and the book has a run of its program in which all was done
-  ran : (lim : Bounds) (p : Program) → command ≡ Run lim → Accepted text p → HasOnlySums p → HasRun p lim book
+  ran : (lim : Bounds) (p : Program) → command ≡ Run lim → Accepted text p → IsSequential p → HasRun p lim AllDone book
       → Due command text book Done (result_text p (state_after p lim book.journal)) []
+  -- or a run that ended in a fault: what was printed up to it stands
+  faulted : (lim : Bounds) (p : Program) (task : ℕ) (kind : FaultKind) (place : Place) → command ≡ Run lim → Accepted text p → IsSequential p
+      → HasRun p lim (outcomes.Fault task kind place) book
+      → Due command text book Fault (prints_text (state_after p lim (counted book.journal)).prints) (fault_text task kind place)
   -- the text is accepted, and its program can't be run today
-  not_run : (lim : Bounds) (p : Program) → command ≡ Run lim → Accepted text p → ¬ HasOnlySums p → HasRefusal not_of_the_form book
+  not_run : (lim : Bounds) (p : Program) → command ≡ Run lim → Accepted text p → ¬ IsSequential p → HasRefusal not_of_the_form book
       → Due command text book Refused [] (refusal_text not_of_the_form)
 
 -- Why the program answers with a status, before it writes anything, and which bytes it has for the two sinks.

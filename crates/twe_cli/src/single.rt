@@ -2,24 +2,25 @@
 ghost use Rattle.std.specs.Prelude.{◌≡◌, ◌≤◌, [], length, Some, IfOk, OnOk};
 ghost use Rattle.twe_cli.specs.Answers.{Due, Cause, Answers};
 ghost use Rattle.twe_cli.specs.Ends.{most_bytes, source, sink};
-ghost use Rattle.twe_cli.specs.inner.Given.{IsDueFor};
+ghost use Rattle.twe_cli.specs.inner.Given.{IsDueFor, IsAnswerOfRun, answer_of};
 ghost use Rattle.twe_report.specs.Texts as texts;
-ghost use Rattle.twe_cli.specs.Theorem.{HasProgram, HasRun, HasRefusal, IsNew};
+ghost use Rattle.twe_cli.specs.Theorem.{HasProgram, HasRefusal, IsNew};
 ghost use Rattle.twe_cli.specs.declared.status.Status.TheVariants.{Done, Refused};
-ghost use Rattle.twe_machine.specs.Runs.{state_after};
-ghost use Rattle.twe_machine.specs.Segment.{HasOnlySums};
+ghost use Rattle.twe_machine.specs.Sequential.{IsSequential};
 
 use crate::answer::{Answer, tell};
 use crate::book::Book;
 use crate::status::Status;
-use crate::words::Command;
 use seg_journal::Limits;
 use std::alloc::Global;
 use twe_front::{FrontFail, Refusal, RuleName, read_program};
 use twe_io::{Bytes, Memory, Place, ReadFail, Sink, Source, read_all};
-use twe_machine::{has_only_sums, outcome, run_main};
+use twe_machine::{Outcome, State, is_sequential, outcome, run_main};
 use twe_program::Prog;
-use twe_report::{accepted_text, read_fault_text, refusal_text, result_text, too_long_text};
+use twe_report::{
+    accepted_text, fault_text, prints_text, read_fault_text, refusal_text, result_text, too_long_text,
+};
+use twe_words::Command;
 
 /// How many bytes a text may have.
 const MOST_BYTES: usize = 1_048_576;
@@ -98,7 +99,7 @@ fn answer_program(alloc: Global, cmd: &Command, p: Prog, book: &mut Book) -> Res
 {
     match *cmd {
         Command::Check => accept(alloc, p, book),
-        Command::Run { lim } if has_only_sums(&p) => run_program(alloc, lim, p, book),
+        Command::Run { lim } if is_sequential(&p) => run_program(alloc, lim, p, book),
         Command::Run { .. } => refuse(alloc, NOT_OF_THE_FORM, book),
     }
 }
@@ -118,25 +119,38 @@ fn accept(alloc: Global, p: Prog, book: &mut Book) -> Result<Answer, Memory>
     })
 }
 
-/// Runs a program, and says its result.
+/// Runs a program, and says how the run ended.
 fn run_program(alloc: Global, lim: Limits, p: Prog, book: &mut Book) -> Result<Answer, Memory>
     requires new { IsNew book.old }
-    requires sums { HasOnlySums p }
-    ensures status { IfOk result (λ answer. answer.status ≡ Done) }
-    ensures run { OnOk result (HasRun p lim book.new) }
-    ensures out { IfOk result (λ answer. answer.out ≡ texts.result_text p (state_after p lim book.new.journal)) }
-    ensures err { IfOk result (λ answer. answer.err ≡ []) }
+    requires sequential { IsSequential p }
+    ensures { IfOk result (IsAnswerOfRun p lim book.new) }
 {
     let (journal, st) = run_main(alloc, &p, lim)?;
-    let out = result_text(alloc, &p, &st)?;
-    book.outcome = Some(outcome(&p, &st));
+    let ended = outcome(&p, &st);
+    let answer = answer_of(alloc, &p, &st, ended)?;
+    book.outcome = Some(ended);
     book.journal = journal;
     book.prog = Some(p);
-    Ok(Answer {
-        status: Status::Done,
-        out,
-        err: Bytes::new(alloc),
-    })
+    Ok(answer)
+}
+
+/// What the program has to say to a run that ended so in this state: its result, or after a fault the numbers that were
+/// printed and the fault.
+fn answer_of(alloc: Global, p: &Prog, st: &State, ended: Outcome) -> Result<Answer, Memory>
+    ensures { IfOk result (λ answer. answer ≡ answer_of p.now st.now ended) }
+{
+    match ended {
+        Outcome::Fault { task, kind, place } => Ok(Answer {
+            status: Status::Fault,
+            out: prints_text(alloc, st.prints.as_slice())?,
+            err: fault_text(alloc, task, kind, place)?,
+        }),
+        _ => Ok(Answer {
+            status: Status::Done,
+            out: result_text(alloc, p, st)?,
+            err: Bytes::new(alloc),
+        }),
+    }
 }
 
 /// Refuses a text.

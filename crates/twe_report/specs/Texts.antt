@@ -3,6 +3,8 @@ use Rattle.std.specs.Prelude.{◌++◌, ◌+◌, ℕ, zero, suc, ℤ, pos, List,
 use Rattle.std.specs.Fmt.{signed_decimal}
 use Rattle.std.specs.List.{flat_map}
 use Rattle.twe_io.specs.declared.place.Place.{Place}
+use Rattle.seg_journal.specs.declared.journal.FaultKind.{FaultKind}
+use Rattle.seg_journal.specs.declared.journal.FaultKind.TheVariants.{DivZero, Index, Fuel, Depth, TaskLimit}
 use Rattle.twe_program.specs.declared.program.Dims.{Dims}
 use Rattle.twe_program.specs.declared.program.Dims.TheVariants.{Scalar, Row, Grid}
 use Rattle.twe_program.specs.declared.program.CellDecl.{CellDecl}
@@ -24,6 +26,10 @@ line text = text ++ 10 ∷ []
 -- `42`
 abbrev pub printed_line : ℤ → List ℕ
 printed_line number = line (signed_decimal number)
+
+-- the printed numbers, each on a line of its own
+abbrev pub prints_text : List ℤ → List ℕ
+prints_text prints = flat_map printed_line prints
 
 -- the value of a cell; every cell of a program has one
 abbrev pub value_shown : Option ℤ → List ℕ
@@ -67,7 +73,7 @@ cell_line cells cell = line (cell.name ++ (codes " = " ++ values_text cells cell
 -- the printed numbers, the cells in the order of their declaration, and the count of tasks made
 abbrev pub result_text : Program → State → List ℕ
 result_text p st =
-    flat_map printed_line st.prints
+    prints_text st.prints
     ++ (flat_map (cell_line st.cells) p.cells
     ++ line (codes "tasks " ++ decimal (length st.tasks)))
 
@@ -113,6 +119,18 @@ place_text place = decimal place.line ++ (codes ":" ++ decimal place.col)
 -- `refused: E1 at 3:28`
 abbrev pub refusal_text : Refusal → List ℕ
 refusal_text refusal = line (codes "refused: " ++ (rule_text refusal.rule ++ (codes " at " ++ place_text refusal.place)))
+
+abbrev pub fault_name : FaultKind → List ℕ
+fault_name DivZero = codes "DivZero"
+fault_name Index = codes "Index"
+fault_name Fuel = codes "Fuel"
+fault_name Depth = codes "Depth"
+fault_name TaskLimit = codes "TaskLimit"
+
+-- `fault: DivZero in task 0 at 4:34`
+abbrev pub fault_text : ℕ → FaultKind → Place → List ℕ
+fault_text task kind place =
+    line (codes "fault: " ++ (fault_name kind ++ (codes " in task " ++ (decimal task ++ (codes " at " ++ place_text place)))))
 
 abbrev pub usage_text : List ℕ
 usage_text = line (codes "usage: twe check | run [--workers k] [--fuel f] [--tasks t] [--journal] | replay [--fuel f] [--tasks t] | load N [--workers k]")

@@ -1,11 +1,12 @@
 //! The lines of complaint. Each ends with byte 10.
 ghost use Rattle.std.specs.Prelude.{◌≡◌, ◌++◌, IfOk, OnOk};
-ghost use Rattle.twe_report.specs.Texts.{text_rule, name_rule, effect_rule, rule_text, place_text};
+ghost use Rattle.twe_report.specs.Texts.{text_rule, name_rule, effect_rule, rule_text, place_text, fault_name};
 ghost use Rattle.twe_report.specs.Texts as texts;
 
 use effect_check::ERule;
 use itoa::Buffer;
 use name_rules::NRule;
+use seg_journal::FaultKind;
 use std::alloc::Global;
 use twe_front::{Refusal, RuleName};
 use twe_io::{Bytes, Memory, Place};
@@ -52,6 +53,38 @@ pub fn refusal_text(alloc: Global, refusal: Refusal) -> Result<Bytes, Memory>
     push_place(&mut text, refusal.place)?;
     text.push(b'\n')?;
     Ok(text)
+}
+
+/// The line of a fault, as `fault: DivZero in task 0 at 4:34`.
+pub fn fault_text(
+    alloc: Global,
+    task: u32,
+    kind: FaultKind,
+    place: Place,
+) -> Result<Bytes, Memory>
+    ensures { IfOk result (λ text. text ≡ texts.fault_text task kind place) }
+{
+    let mut text = Bytes::from_slice(alloc, b"fault: ")?;
+    text.push_all(name_of_fault(kind))?;
+    text.push_all(b" in task ")?;
+    text.push_all(Buffer::new().format(task).as_bytes())?;
+    text.push_all(b" at ")?;
+    push_place(&mut text, place)?;
+    text.push(b'\n')?;
+    Ok(text)
+}
+
+/// The name of a fault.
+fn name_of_fault(kind: FaultKind) -> &'static [u8]
+    ensures { result.now ≡ fault_name kind }
+{
+    match kind {
+        FaultKind::DivZero => b"DivZero",
+        FaultKind::Index => b"Index",
+        FaultKind::Fuel => b"Fuel",
+        FaultKind::Depth => b"Depth",
+        FaultKind::TaskLimit => b"TaskLimit",
+    }
 }
 
 /// The name of a rule of the text.
