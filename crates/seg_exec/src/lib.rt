@@ -20,6 +20,8 @@ mod segment;
 mod stack;
 mod step;
 mod stop;
+#[cfg(test)]
+mod tests;
 mod unfold;
 mod values;
 mod work;
