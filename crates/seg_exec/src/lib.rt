@@ -11,6 +11,7 @@ mod entry;
 mod evaluate;
 mod execute;
 mod frame;
+mod give;
 mod laws;
 mod machine;
 mod operation;
