@@ -29,34 +29,34 @@ use Rattle.seg_exec.specs.Segment.{MayCarryOut, flow_of, stopped_by}
 use Rattle.seg_exec.proofs.CellNumbers.{cells_before, grid_within}
 
 -- a number, if there is one, is below the bound
-abbrev Below' : ℕ → Option ℕ → Type 0
-Below' bound None = Unit {0}
-Below' bound (Some n) = n < bound
+abbrev NumberBelow : ℕ → Option ℕ → Type 0
+NumberBelow bound None = Unit {0}
+NumberBelow bound (Some n) = n < bound
 
-index_below_by : (bound m : ℕ) (b : Bool) → nat_lt m bound ≡ b → Below' bound (cond b (Some m) None)
+index_below_by : (bound m : ℕ) (b : Bool) → nat_lt m bound ≡ b → NumberBelow bound (cond b (Some m) None)
 index_below_by bound m true is = ltb-true m bound is
 index_below_by bound m false is = tt
 
-index_fine : (bound : ℕ) (index : ℤ) → Below' bound (index_below bound index)
+index_fine : (bound : ℕ) (index : ℤ) → NumberBelow bound (index_below bound index)
 index_fine bound (pos m) = index_below_by bound m (nat_lt m bound) refl
 index_fine bound (negsuc m) = tt
 
-row_fine : (dims : Dims) (index : ℤ) → Below' (size_of dims) (in_row dims index)
+row_fine : (dims : Dims) (index : ℤ) → NumberBelow (size_of dims) (in_row dims index)
 row_fine (Row count) index = index_fine count index
 row_fine Scalar index = tt
 row_fine (Grid rows columns) index = tt
 
-column_fine : (rows columns : ℕ) (row column : Option ℕ) → Below' rows row → Below' columns column → Below' (rows * columns) (at_column columns row column)
+column_fine : (rows columns : ℕ) (row column : Option ℕ) → NumberBelow rows row → NumberBelow columns column → NumberBelow (rows * columns) (at_column columns row column)
 column_fine rows columns (Some row) (Some column) r c = grid_within rows columns row column r c
 column_fine rows columns None column r c = tt
 column_fine rows columns (Some row) None r c = tt
 
-grid_fine : (dims : Dims) (row column : ℤ) → Below' (size_of dims) (in_grid dims row column)
+grid_fine : (dims : Dims) (row column : ℤ) → NumberBelow (size_of dims) (in_grid dims row column)
 grid_fine (Grid rows columns) row column = column_fine rows columns (index_below rows row) (index_below columns column) (index_fine rows row) (index_fine columns column)
 grid_fine Scalar row column = tt
 grid_fine (Row count) row column = tt
 
-after_cell : (first size n : ℕ) (place : Option ℕ) → first + size ≤ n → Below' size place → Below' n (option_map (λ offset. first + offset) place)
+after_cell : (first size n : ℕ) (place : Option ℕ) → first + size ≤ n → NumberBelow size place → NumberBelow n (option_map (λ offset. first + offset) place)
 after_cell first size n None le h = tt
 after_cell first size n (Some place) le h = omega (arith, le, h)
 
@@ -81,7 +81,7 @@ module _ (p : Program) (well : IsWellFormed p) (cells : List ℤ) (enough : leng
   FlowFine (stops operation positions s) = Fine s
 
   abbrev NumberFine : Option ℕ → Type 0
-  NumberFine number = Below' (length cells) number
+  NumberFine number = NumberBelow (length cells) number
 
   cell_fine_by : (cell : ℕ) (found : Option CellDecl) → slice_get p.cells cell ≡ found → TakesIndexes found 0 → first_of found < length cells
   cell_fine_by cell None is takes = absurd takes

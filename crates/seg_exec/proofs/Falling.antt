@@ -21,7 +21,8 @@ use Rattle.seg_exec.specs.Access.{Ways}
 use Rattle.seg_exec.specs.Arithmetic.{is_true, decided}
 use Rattle.seg_exec.specs.inner.Reached.{Standing, Served, Advances}
 use Rattle.seg_exec.specs.inner.Sizes.{size_of_expression, size_of_arguments, size_of_statement, size_of_all, size_of_arms, size_of_task, size_of_work}
-use Rattle.seg_exec.specs.inner.Tasks.{Task, Evaluate, Execute, Rest, Choose, Chosen, Turn, Gather, Take, Negate, Invert, Right, Apply, ReadElement, ReadGridElement, GiveVar, GiveCell, GiveElement, GiveGridElement, PrintValue, Discard, Unwind, Suspend, Leave, Config, Step, asked_unit, unit_or, chosen_by, turned_by, entered_by, gathered, gathering, right_by, applied, read_at, written_at, unwound, unwound_past, suspended, suspended_past, left_by, worked, evaluated, executed, rested, choosing, step_by, step_of, top, without_value}
+use Rattle.seg_exec.specs.inner.Tasks.{Task, Evaluate, Execute, Rest, Choose, Chosen, Turn, Gather, Take, Negate, Invert, Right, Apply, ReadElement, ReadGridElement, GiveVar, GiveCell, GiveElement, GiveGridElement, PrintValue, Discard, Unwind, Suspend, Leave, Config, top, without_value}
+use Rattle.seg_exec.specs.inner.Steps.{Step, asked_unit, unit_or, chosen_by, turned_by, entered_by, gathered, gathering, right_by, applied, read_at, written_at, unwound, unwound_past, suspended, suspended_past, left_by, worked, evaluated, executed, rested, choosing, step_by, step_of}
 
 -- a step that is not the end has no more fuel, and, with as much fuel, less work
 abbrev FallsIn : ℕ → ℕ → Asked → Config → Type 0

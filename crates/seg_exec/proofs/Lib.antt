@@ -1,6 +1,7 @@
 pub mod Accesses
 pub mod Bounds
 pub mod CellNumbers
+pub mod Children
 pub mod Falling
 pub mod PlainLists
 pub mod Reaching

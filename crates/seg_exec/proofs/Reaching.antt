@@ -7,7 +7,8 @@ use Rattle.seg_exec.specs.declared.work.Asked.TheVariants.{Nothing, Read, Write,
 use Rattle.seg_exec.specs.declared.work.Ending.{Ending}
 use Rattle.seg_exec.specs.Access.{Access, Reads, Writes, Prints, MayAll, MaySame, Ways, after, printed}
 use Rattle.seg_exec.specs.Store.{Store}
-use Rattle.seg_exec.specs.inner.Tasks.{Config, Step, step_of, with_value}
+use Rattle.seg_exec.specs.inner.Tasks.{Config, with_value}
+use Rattle.seg_exec.specs.inner.Steps.{Step, step_of}
 use Rattle.seg_exec.specs.inner.Runs.{Moment, Over, Comes, run, served, stepped, store_of}
 use Rattle.seg_exec.specs.inner.Reached.{Standing, Served, Advances, MayAsk, MayRun, MayStep, Reaches, Finishes, over}
 use Rattle.seg_exec.proofs.Whole.{over_from}

@@ -21,7 +21,8 @@ use Rattle.seg_exec.specs.Arithmetic.{is_true, operated, decided}
 use Rattle.seg_exec.specs.Cells.{element_number, grid_element_number}
 use Rattle.seg_exec.specs.Store.{Store, Given, gives, faults, Flow, goes, returns, fails, stops, then_give, then_do, then_go, unit_taken}
 use Rattle.seg_exec.specs.Meaning.{Below, element_read, element_written, value_or_fault, right_given, body_of, vars_at_start, given_back, entered, called, value_of, values_of, turned, chosen, stopped_at, done_by, done_all, done_arms, done_within}
-use Rattle.seg_exec.specs.inner.Tasks.{Task, Evaluate, Execute, Rest, Choose, Chosen, Turn, Gather, Take, Negate, Invert, Right, Apply, ReadElement, ReadGridElement, GiveVar, GiveCell, GiveElement, GiveGridElement, PrintValue, Discard, Unwind, Suspend, Leave, Config, Step, on, unit_or, asked_unit, to_do, read_at, written_at, right_by, applied, turned_by, chosen_by, entered_by}
+use Rattle.seg_exec.specs.inner.Tasks.{Task, Evaluate, Execute, Rest, Choose, Chosen, Turn, Gather, Take, Negate, Invert, Right, Apply, ReadElement, ReadGridElement, GiveVar, GiveCell, GiveElement, GiveGridElement, PrintValue, Discard, Unwind, Suspend, Leave, Config, to_do}
+use Rattle.seg_exec.specs.inner.Steps.{Step, on, unit_or, asked_unit, read_at, written_at, right_by, applied, turned_by, chosen_by, entered_by}
 use Rattle.seg_exec.specs.inner.Runs.{Moment, Over, Comes, moment, stepped, run}
 
 module _ (p : Program) where

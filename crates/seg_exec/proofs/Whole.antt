@@ -9,7 +9,8 @@ use Rattle.seg_exec.specs.declared.work.Ending.TheVariants.{Returned, Faulted, S
 use Rattle.seg_exec.specs.Store.{Store, Flow, goes, returns, fails, stops}
 use Rattle.seg_exec.specs.Meaning.{Below, done_all}
 use Rattle.seg_exec.specs.Remaining.{after_first, last_of_first, block_of, block_at, turned_again, resumed}
-use Rattle.seg_exec.specs.inner.Tasks.{Task, Rest, step_of}
+use Rattle.seg_exec.specs.inner.Tasks.{Task, Rest}
+use Rattle.seg_exec.specs.inner.Steps.{step_of}
 use Rattle.seg_exec.specs.inner.Runs.{Comes, Moment, Outcome, Over, Unfinished, moment, served, run}
 use Rattle.seg_exec.specs.inner.Unfolded.{again_of, unfolded}
 use Rattle.seg_exec.proofs.Simulation.{stays, FlowTo, Meets, rest_then, again_then, all_meet}

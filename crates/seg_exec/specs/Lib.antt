@@ -2,6 +2,7 @@ pub mod Access
 pub mod Arithmetic
 pub mod Cells
 pub mod Entry
+pub mod Giving
 pub mod Meaning
 pub mod Plain
 pub mod Remaining

@@ -3,6 +3,7 @@ pub mod Reached
 pub mod Runs
 pub mod Sizes
 pub mod Stacks
+pub mod Steps
 pub mod Tasks
 pub mod Unfolded
 pub mod Views

@@ -5,14 +5,14 @@ ghost use Rattle.seg_exec.specs.Arithmetic.{decided, is_true, negation, negative
 use twe_program::BinOp;
 
 /// The number of a truth value: 1 for `true` and 0 for `false`.
-pub fn number_of(truth: bool) -> i32
+pub(crate) fn number_of(truth: bool) -> i32
     ensures { result ≡ number_of truth }
 {
     if truth { 1 } else { 0 }
 }
 
 /// Whether a number stands for `true`, which each but 0 does.
-pub fn is_true(value: i32) -> bool
+pub(crate) fn is_true(value: i32) -> bool
     ensures { result ≡ is_true value }
 {
     value != 0
@@ -42,7 +42,7 @@ fn remainder(x: i32, y: i32) -> Option<i32>
 
 /// The value of an operator on its two operands; sums, differences and products wrap. It is none exactly where the
 /// operator divides by zero.
-pub fn operate(op: BinOp, x: i32, y: i32) -> Option<i32>
+pub(crate) fn operate(op: BinOp, x: i32, y: i32) -> Option<i32>
     ensures { result ≡ operated op x y }
 {
     match op {
@@ -64,7 +64,7 @@ pub fn operate(op: BinOp, x: i32, y: i32) -> Option<i32>
 
 /// The value of an operator where its left operand alone decides it: `||` where that one is true, and `&&` where it is
 /// false. It is none else.
-pub fn decide(op: BinOp, left: bool) -> Option<i32>
+pub(crate) fn decide(op: BinOp, left: bool) -> Option<i32>
     ensures { result ≡ decided op left }
 {
     match (op, left) {
@@ -75,14 +75,14 @@ pub fn decide(op: BinOp, left: bool) -> Option<i32>
 }
 
 /// The negative of a number, which wraps: that of -2147483648 is itself.
-pub fn negate(x: i32) -> i32
+pub(crate) fn negate(x: i32) -> i32
     ensures { result ≡ negative x }
 {
     x.wrapping_neg()
 }
 
 /// The negation of a truth value.
-pub fn invert(x: i32) -> i32
+pub(crate) fn invert(x: i32) -> i32
     ensures { result ≡ negation x }
 {
     number_of(!is_true(x))

@@ -3,7 +3,8 @@ ghost use Rattle.std.specs.Prelude.{◌≡◌, [], IfOk, option_copied};
 ghost use Rattle.twe_program.specs.Statement.{statements_of};
 ghost use Rattle.twe_program.specs.Expression.{arguments_of};
 ghost use Rattle.seg_exec.specs.Meaning.{body_of, var_count_of, vars_at_start};
-ghost use Rattle.seg_exec.specs.inner.Tasks.{Gather, Suspend, asked_unit, entering, gathered, gathering, on, taking, to_do};
+ghost use Rattle.seg_exec.specs.inner.Tasks.{Gather, Suspend, to_do};
+ghost use Rattle.seg_exec.specs.inner.Steps.{asked_unit, entering, gathered, gathering, on, taking};
 ghost use Rattle.seg_exec.specs.inner.Views.{config_of};
 
 use crate::machine::{Machine, fault};

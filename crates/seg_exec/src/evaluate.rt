@@ -1,6 +1,7 @@
 //! Expressions: what is to be done for one.
 ghost use Rattle.std.specs.Prelude.{◌≡◌, IfOk};
-ghost use Rattle.seg_exec.specs.inner.Tasks.{evaluated, var_value};
+ghost use Rattle.seg_exec.specs.inner.Tasks.{var_value};
+ghost use Rattle.seg_exec.specs.inner.Steps.{evaluated};
 ghost use Rattle.seg_exec.specs.inner.Views.{config_of};
 
 use crate::arithmetic::number_of;

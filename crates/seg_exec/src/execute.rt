@@ -1,6 +1,6 @@
 //! Statements: what is to be done for one.
 ghost use Rattle.std.specs.Prelude.{◌≡◌, IfOk};
-ghost use Rattle.seg_exec.specs.inner.Tasks.{executed};
+ghost use Rattle.seg_exec.specs.inner.Steps.{executed};
 ghost use Rattle.seg_exec.specs.inner.Views.{config_of};
 
 use crate::machine::Machine;

@@ -11,6 +11,7 @@ mod entry;
 mod evaluate;
 mod execute;
 mod frame;
+mod give;
 mod laws;
 mod machine;
 mod operation;
@@ -20,6 +21,8 @@ mod segment;
 mod stack;
 mod step;
 mod stop;
+#[cfg(test)]
+mod tests;
 mod unfold;
 mod values;
 mod work;

@@ -2,7 +2,7 @@
 ghost use Rattle.std.specs.Prelude.{◌≡◌, IfOk, drop};
 ghost use Rattle.twe_program.specs.Statement.{statements_of};
 ghost use Rattle.twe_program.specs.inner.StatementView.{arms_of};
-ghost use Rattle.seg_exec.specs.inner.Tasks.{back_with, chosen_next, choosing, rested, suspended, turned_next, unwound};
+ghost use Rattle.seg_exec.specs.inner.Steps.{back_with, chosen_next, choosing, rested, suspended, turned_next, unwound};
 ghost use Rattle.seg_exec.specs.inner.Views.{config_of, tasks_of};
 
 use crate::arithmetic::is_true;

@@ -1,6 +1,6 @@
 //! One step of the evaluator.
 ghost use Rattle.std.specs.Prelude.{◌≡◌, IfOk};
-ghost use Rattle.seg_exec.specs.inner.Tasks.{step_of, worked};
+ghost use Rattle.seg_exec.specs.inner.Steps.{step_of, worked};
 ghost use Rattle.seg_exec.specs.inner.Views.{config_of, task_of};
 
 use crate::arithmetic::{invert, negate};

@@ -1,6 +1,6 @@
 //! What comes of the values on the stack.
 ghost use Rattle.std.specs.Prelude.{◌≡◌, IfOk};
-ghost use Rattle.seg_exec.specs.inner.Tasks.{applying, giving_element, giving_grid_element, giving_var, printing, reading_element, reading_grid_element, righting};
+ghost use Rattle.seg_exec.specs.inner.Steps.{applying, giving_element, giving_grid_element, giving_var, printing, reading_element, reading_grid_element, righting};
 ghost use Rattle.seg_exec.specs.inner.Views.{config_of};
 
 use crate::arithmetic::{decide, is_true, operate};

@@ -1,6 +1,6 @@
 //! What the evaluator has to do, one thing at a time.
 ghost use Rattle.std.specs.Prelude.{◌≡◌};
-ghost use Rattle.seg_exec.specs.inner.Tasks.{left_by};
+ghost use Rattle.seg_exec.specs.inner.Steps.{left_by};
 ghost use Rattle.seg_exec.specs.inner.Views.{task_of};
 
 use crate::frame::Position;

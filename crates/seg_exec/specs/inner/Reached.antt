@@ -7,7 +7,8 @@ use Rattle.seg_exec.specs.declared.work.Ending.{Ending}
 use Rattle.seg_exec.specs.declared.machine.Machine.{Machine}
 use Rattle.seg_exec.specs.Access.{Access, Reads, Writes, Prints, Agrees, Follows, HasRead, HasWritten, MayAll, MaySame, Ways, after, printed, value_in}
 use Rattle.seg_exec.specs.Store.{Store}
-use Rattle.seg_exec.specs.inner.Tasks.{Config, step_of, with_value}
+use Rattle.seg_exec.specs.inner.Tasks.{Config, with_value}
+use Rattle.seg_exec.specs.inner.Steps.{step_of}
 use Rattle.seg_exec.specs.inner.Runs.{Moment, Over, Comes, run, store_of}
 use Rattle.seg_exec.specs.inner.Views.{config_of}
 

@@ -6,7 +6,8 @@ use Rattle.seg_exec.specs.declared.work.Asked.TheVariants.{Nothing, Read, Write,
 use Rattle.seg_exec.specs.declared.work.Ending.{Ending}
 use Rattle.seg_exec.specs.Access.{Access, Reads, Writes, Prints, value_in}
 use Rattle.seg_exec.specs.Store.{Store}
-use Rattle.seg_exec.specs.inner.Tasks.{Task, Config, Step, step_of, with_value}
+use Rattle.seg_exec.specs.inner.Tasks.{Task, Config, with_value}
+use Rattle.seg_exec.specs.inner.Steps.{Step, step_of}
 
 -- the evaluator over cells, after some accesses
 pub record Moment : Type 0 where
