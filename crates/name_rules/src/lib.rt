@@ -20,6 +20,8 @@ mod names;
 mod rule;
 mod scope;
 mod seen;
+#[cfg(test)]
+mod tests;
 mod types;
 mod uses;
 mod whole;
