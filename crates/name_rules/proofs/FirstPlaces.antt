@@ -1,6 +1,6 @@
 -- Where names stand first in a list, after one name more or less.
-use Rattle.std.proofs.Common.{◌≡◌, ℕ, ◌≤◌, ◌<◌, Bool, true, false, cond, List, [], ◌∷◌, ◌++◌, length, get_or, Option, None, Some, String, BTreeMap, refl, sym, ap, subst, ◌∙◌, arith}
-use Rattle.std.specs.List.{position, position_or_len, find, slice_get}
+use Rattle.std.proofs.Common.{◌≡◌, ℕ, zero, suc, ◌≤◌, ◌<◌, nat_lt, take, Bool, true, false, cond, List, [], ◌∷◌, ◌++◌, length, get_or, Option, None, Some, String, BTreeMap, refl, sym, ap, subst, ◌∙◌, arith}
+use Rattle.std.specs.List.{position, position_or_len, find, slice_get, list_any}
 use Rattle.std.specs.Option.{option_map}
 use Rattle.std.specs.Str.{bytes_eq}
 use Rattle.std.specs.BTreeMap.{get_by_text}
@@ -143,3 +143,24 @@ module _ {A : Type 0} (text : List ℕ) (place : ℕ) (old new : BTreeMap (Strin
           let equal : text ≡ q = (bytes_decides text q).0 same in
           rw (same, nat_list_eq_equiv.symm q text ∙ same) (without_here (get_by_text old q) (subst (λ t. get_by_text old t ≡ Some place) equal some))
       by false differs = rw (differs, nat_list_eq_equiv.symm q text ∙ differs) (without_other (get_by_text old q))
+
+-- whether the first elements have one that passes
+any_before : {X : Type 0} (p : X → Bool) (xs : List X) (i : ℕ) → i ≤ length xs → list_any p (take i xs) ≡ nat_lt (position_or_len p xs) i
+any_before p [] i h = let none : i ≡ 0 = omega arith in rw none refl
+any_before p (x ∷ xs) zero h = grind (arith, nat_tests)
+any_before p (x ∷ xs) (suc i) h = by (p x) refl (any_before p xs i (omega arith)) where
+  by : (b : Bool) → p x ≡ b → list_any p (take i xs) ≡ nat_lt (position_or_len p xs) i → list_any p (take (suc i) (x ∷ xs)) ≡ nat_lt (position_or_len p (x ∷ xs)) (suc i)
+  by true e rest = rw e (grind (arith, nat_tests))
+  by false e rest = rw e (rest ∙ grind (arith, nat_tests))
+
+pub any_before_some : {X : Type 0} (p : X → Bool) (xs : List X) (i n : ℕ) → i ≤ length xs → position p xs ≡ Some n → nat_lt n i ≡ list_any p (take i xs)
+any_before_some p xs i n h some =
+    let at : position_or_len p xs ≡ n = grind (arith, nat_tests) in
+    ap (λ m. nat_lt m i) (sym at) ∙ sym (any_before p xs i h)
+
+pub any_before_none : {X : Type 0} (p : X → Bool) (xs : List X) (i : ℕ) → i ≤ length xs → position p xs ≡ None → false ≡ list_any p (take i xs)
+any_before_none p xs i h none =
+    let le = position_or_len-le p xs in
+    let at : length xs ≤ position_or_len p xs = grind (arith, nat_tests) in
+    let past : false ≡ nat_lt (position_or_len p xs) i = grind (arith, nat_tests) in
+    past ∙ sym (any_before p xs i h)

@@ -6,3 +6,10 @@ pub mod Arguments
 pub mod FirstSites
 pub mod Bodies
 pub mod PathsOver
+pub mod Members
+pub mod Ordered
+pub mod Gathered
+pub mod Elements
+pub mod Listed
+pub mod Fails
+pub mod FirstOfText

@@ -7,3 +7,4 @@ pub mod Failures
 pub mod Simple
 pub mod OtherFailures
 pub mod Elements
+pub mod Whole

@@ -13,12 +13,7 @@ use crate::uses::{judge_text, judge_use};
 use twe_ast::{CellElem, CellElemKind, Clause, Path, PathElem, PathElemKind};
 
 /// Notes the failures of an element of the path of an effect.
-fn judge_elem(
-    elem: &PathElem,
-    globals: &Globals,
-    locals: &Locals,
-    first: &mut Option<Failure>,
-)
+fn judge_elem(elem: &PathElem, globals: &Globals, locals: &Locals, first: &mut Option<Failure>)
     ensures { first.new ≡ first_of_asks globals.now locals.now first.old (asks_of_elem elem.now) }
 {
     match &elem.kind {
@@ -63,12 +58,7 @@ pub fn judge_effects(
 }
 
 /// Notes the failures of an element of the path of a cell.
-fn judge_cell_elem(
-    elem: &CellElem,
-    globals: &Globals,
-    locals: &Locals,
-    first: &mut Option<Failure>,
-)
+fn judge_cell_elem(elem: &CellElem, globals: &Globals, locals: &Locals, first: &mut Option<Failure>)
     ensures { first.new ≡ first_of_asks globals.now locals.now first.old (asks_of_cell_elem elem.now) }
 {
     match &elem.kind {

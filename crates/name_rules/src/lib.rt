@@ -12,19 +12,23 @@ mod here;
 mod judge_body;
 mod judge_decl;
 mod judge_expr;
-mod judge_simple;
 mod judge_path;
+mod judge_simple;
 mod limits;
 mod look;
 mod names;
 mod rule;
 mod scope;
 mod seen;
+#[cfg(test)]
+mod tests;
 mod types;
 mod uses;
+mod whole;
 
 pub use look::look_up;
 pub use names::{GlobalName, Globals};
 pub use rule::{Failure, NRule};
 pub use scope::{Here, LocalName, Locals};
 pub use seen::{Asked, Global, Local, Seen};
+pub use whole::first_failure;

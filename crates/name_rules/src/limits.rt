@@ -15,7 +15,7 @@ use twe_ast::{CellElem, Clause, Decl, Name, Path, PathElem, PathElemKind};
 use twe_io::{List, Place};
 
 /// Notes the failure of the rule at the place, if there is one.
-fn note_place(first: &mut Option<Failure>, rule: NRule, place: Option<Place>)
+pub fn note_place(first: &mut Option<Failure>, rule: NRule, place: Option<Place>)
     ensures { first.new ≡ first_from first.old (failures.failures_of_place rule place) }
 {
     if let Some(place) = place {

@@ -1,8 +1,14 @@
 //! The names of the whole program, in the order in which they are declared.
-ghost use Rattle.std.specs.Prelude.{◌≡◌, [], ◌∷◌, ◌++◌, OnOk};
+ghost use Rattle.std.specs.Prelude.{◌≡◌, ◌≤◌, [], ◌∷◌, ◌++◌, bytes_eq, length, take, OnOk};
+ghost use Rattle.std.specs.List.{list_any};
+ghost use Rattle.name_rules.specs.declared.names.GlobalName.{GlobalName as Entry};
+ghost use Rattle.name_rules.specs.inner.Least.{first_from};
+ghost use Rattle.name_rules.specs.inner.Whole.{again_failures, is_again};
 ghost use Rattle.name_rules.specs.Names.{global_of};
 
+use crate::first::note;
 use crate::firsts::{add_first, first_place};
+use crate::rule::{Failure, NRule};
 use crate::seen::Global;
 use std::alloc;
 use std::collections::BTreeMap;
@@ -86,6 +92,35 @@ impl Globals {
         match first_place(&self.firsts, text) {
             None => None,
             Some(place) => Some(self.entries[place].global),
+        }
+    }
+
+    /// Whether a name stands among the first `count` names. It takes no memory.
+    fn stands_among_first(&self, text: &Word, count: usize) -> bool
+        requires { count ≤ length self.now }
+        ensures { result ≡ list_any (λ (entry : Entry). bytes_eq text.now entry.text) (take count self.now) }
+    {
+        match first_place(&self.firsts, text) {
+            Some(place) => place < count,
+            None => false,
+        }
+    }
+
+    /// Whether a name is `Console`, or stands among the first `count` names. It takes no memory.
+    fn is_again(&self, entry: &GlobalName, count: usize) -> bool
+        requires { count ≤ length self.now }
+        ensures { result ≡ is_again (take count self.now) entry.now }
+    {
+        entry.text.as_str() == "Console" || self.stands_among_first(&entry.text, count)
+    }
+
+    /// Notes the failures of names that are `Console`, or stand after one of the same text.
+    pub(crate) fn judge_again(&self, first: &mut Option<Failure>)
+        ensures { first.new ≡ first_from first.old (again_failures [] self.now) }
+    {
+        for index in 0..self.entries.len() {
+            let entry = &self.entries[index];
+            note(first, self.is_again(entry, index), NRule::N2, entry.place);
         }
     }
 }

@@ -1,4 +1,3 @@
-use Rattle.std.proofs.Common.{◌≡◌}
 use Rattle.twe_ast.specs.declared.item.Decl.{Decl}
 use Rattle.name_rules.specs.declared.rule.NRule.TheVariants.{N5, N7}
 use Rattle.name_rules.specs.Ends.{close_of}
@@ -12,5 +11,5 @@ pub returns : goal.returns
 returns c =
     let decl : Decl = c.args.decl.now in
     let all = first_of_four c.args.first.now (failures_of_place N7 (fifth_name decl.params)) (failures_of_place N7 (ninth_path (paths_of decl)))
-        (clauses_failures decl.effects) (failure_if (lacks_return decl) N5 (close_of decl.body)) in
+    (clauses_failures decl.effects) (failure_if (lacks_return decl) N5 (close_of decl.body)) in
     cc
