@@ -7,3 +7,4 @@ pub mod Plain
 pub mod Remaining
 pub mod Segment
 pub mod Store
+pub mod inner

@@ -1,5 +1,5 @@
 -- What expressions and statements do. Operands and arguments are evaluated from the left.
-use Rattle.std.specs.Prelude.{ℕ, zero, suc, ◌+◌, ◌-◌, ℤ, pos, Bool, true, false, List, [], ◌∷◌, ◌++◌, take, length, replicate, Option, None, Some, nat_le, if◌then◌else◌, slice_get}
+use Rattle.std.specs.Prelude.{ℕ, zero, suc, ◌+◌, ◌-◌, ℤ, pos, Bool, true, false, List, [], ◌∷◌, ◌++◌, length, replicate, Option, None, Some, nat_le, slice_get}
 use Rattle.twe_io.specs.declared.place.Place.{Place}
 use Rattle.seg_journal.specs.declared.journal.FaultKind.TheVariants.{DivZero, Index, Depth}
 use Rattle.twe_program.specs.declared.expr.BinOp.{BinOp}
@@ -8,7 +8,6 @@ use Rattle.twe_program.specs.Program.{Program}
 use Rattle.twe_program.specs.Expression.{Expression, Literal, Truth, Variable, CellValue, ArrayElement, GridElement, CallValue, Negative, Negation, Binary, Arguments, argument}
 use Rattle.twe_program.specs.Expression as args
 use Rattle.twe_program.specs.Statement.{Statement, Block, Let, Set, SetCell, SetArray, SetGrid, If, While, Return, Print, Call, Make, Wait, Statements, no_more, statement, Arms, arm, otherwise, no_else}
-use Rattle.seg_exec.specs.declared.frame.Position.{Position}
 use Rattle.seg_exec.specs.declared.operation.Operation.TheVariants as operations
 use Rattle.seg_exec.specs.Arithmetic.{number_of, is_true, operated, decided, negative, negation}
 use Rattle.seg_exec.specs.Cells.{cell_number, element_number, grid_element_number}

@@ -1,5 +1,5 @@
 -- What expressions and statements work on, and how they come to an end.
-use Rattle.std.specs.Prelude.{ℕ, zero, suc, ◌-◌, ℤ, pos, List, ◌∷◌, slice_get, slice_set}
+use Rattle.std.specs.Prelude.{ℕ, zero, suc, ℤ, List, ◌∷◌, slice_get, slice_set}
 use Rattle.twe_io.specs.declared.place.Place.{Place}
 use Rattle.seg_journal.specs.declared.journal.FaultKind.{FaultKind}
 use Rattle.seg_journal.specs.declared.journal.FaultKind.TheVariants.{Fuel}

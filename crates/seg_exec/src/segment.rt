@@ -1,24 +1,194 @@
-//! A segment of a task.
-ghost use Rattle.std.specs.Prelude.{◌≡◌, IfOk};
-ghost use Rattle.seg_exec.specs.Segment.{CarriesOut};
-ghost use Rattle.seg_exec.specs.declared.frame.Next.TheVariants.{Go};
+//! One segment of a task.
+ghost use Rattle.std.specs.Prelude.{◌≡◌, IfOk, length, option_map, slice_get};
+ghost use Rattle.twe_program.specs.Program.{cell_count};
+ghost use Rattle.seg_exec.specs.Access.{ways_of};
+ghost use Rattle.seg_exec.specs.Segment.{CarriesOut, IsSegment, MayCarryOut, closing_stop, operation_next, operation_stop, task_of};
+ghost use Rattle.seg_exec.specs.inner.Finished.{ended_with, finished};
+ghost use Rattle.seg_exec.specs.inner.Unfolded.{config_at};
+ghost use Rattle.seg_exec.specs.inner.Views.{config_of};
 
+use crate::call::statements;
 use crate::cells::Cells;
-use crate::frame::Frame;
+use crate::entry::{effects_at, entry_frame};
+use crate::frame::{Call, Frame, Next};
+use crate::machine::Machine;
+use crate::operation::Operation;
+use crate::run::run;
+use crate::stack::Stack;
 use crate::stop::Stop;
-use std::alloc::{AllocError, Global};
-use twe_io::Memory;
+use crate::work::Ending;
+use std::alloc::Global;
+use twe_io::{Ints, List, Memory};
 use twe_program::Prog;
 
-/// Carries out a segment.
+/// The task that a future stands for, and 0 where it stands for none.
+fn task_of(futures: &List<Option<u32>>, future: u32) -> u32
+    ensures { result ≡ task_of (slice_get futures.now future) }
+{
+    match futures.get(future as usize) {
+        Some(Some(task)) => *task,
+        _ => 0,
+    }
+}
+
+/// What comes next after a task operation.
+fn next_of(frame: &Frame, operation: &Operation) -> Next
+    ensures { result ≡ operation_next frame.now operation.now }
+{
+    match operation {
+        Operation::Make { .. } => Next::Go,
+        Operation::Wait { future, join, into } => {
+            let on = task_of(&frame.futures, *future);
+            let into = *into;
+            if *join {
+                Next::Join { on, into }
+            } else {
+                Next::Get { on, into }
+            }
+        }
+    }
+}
+
+/// The stop at a task operation.
+fn stop_of(alloc: Global, p: &Prog, frame: &Frame, operation: Operation) -> Result<Stop, Memory>
+    ensures { IfOk result (λ stop. stop ≡ operation_stop p.now frame.now operation) }
+{
+    match operation {
+        Operation::Make {
+            future,
+            task,
+            args,
+            spawned,
+            place,
+        } => Ok(Stop::Make {
+            child: entry_frame(alloc, p, task, args.copy(alloc)?)?,
+            effects: effects_at(alloc, p, task, &args)?,
+            args,
+            spawned,
+            future,
+            place,
+        }),
+        Operation::Wait { future, join, .. } => {
+            let on = task_of(&frame.futures, future);
+            Ok(if join {
+                Stop::Joins { on }
+            } else {
+                Stop::Waits { on }
+            })
+        }
+    }
+}
+
+/// Ends the body of a task with a value: its unjoined children are to be joined, or else the task is done.
+fn end(alloc: Global, frame: &mut Frame, value: i32) -> Stop
+    ensures frame { frame.new ≡ ended_with frame.old value }
+    ensures stop { result ≡ closing_stop frame.old.out value }
+{
+    frame.calls = List::new(alloc);
+    frame.value = value;
+    match frame.out.get(0) {
+        None => {
+            frame.next = Next::Ended;
+            Stop::Done { value }
+        }
+        Some(child) => {
+            let on = *child;
+            frame.next = Next::Closing { on };
+            Stop::Joins { on }
+        }
+    }
+}
+
+/// Puts the end of what was carried out into the frame, and tells the stop.
+fn finish(
+    alloc: Global,
+    p: &Prog,
+    frame: &mut Frame,
+    vars: Ints,
+    ending: Ending,
+) -> Result<Stop, Memory>
+    ensures { IfOk result (λ stop. (frame.new, stop) ≡ finished p.now frame.old vars ending) }
+{
+    match ending {
+        Ending::Returned(value) => Ok(end(alloc, frame, value)),
+        Ending::Faulted { kind, place } => {
+            frame.calls = List::new(alloc);
+            frame.next = Next::Ended;
+            Ok(Stop::Fault { kind, place })
+        }
+        Ending::Suspended {
+            operation,
+            positions,
+        } => {
+            let mut calls = List::new(alloc);
+            calls.push(Call {
+                method: None,
+                vars,
+                stack: positions.into_list(),
+            })?;
+            frame.calls = calls;
+            frame.next = next_of(frame, &operation);
+            stop_of(alloc, p, frame, operation)
+        }
+    }
+}
+
+/// The evaluator at what remains of a frame, or none where the frame is at its end.
+fn machine_at<'a>(alloc: Global, p: &'a Prog, frame: &Frame) -> Result<Option<Machine<'a>>, Memory>
+    ensures { IfOk result (λ machine. option_map config_of machine ≡ config_at p.now frame.now frame.now.calls) }
+{
+    let Some(call) = frame.calls.get(0) else {
+        return Ok(None);
+    };
+    let mut machine = Machine {
+        work: Stack::new(alloc),
+        values: Stack::new(alloc),
+        vars: call.vars.copy(alloc)?,
+        fuel: frame.fuel,
+        calls: 0,
+    };
+    let decl = p.tasks.get(frame.decl as usize);
+    machine.unfold(statements(decl), call.stack.as_slice())?;
+    Ok(Some(machine))
+}
+
+/// Carries out one segment of a task: what remains in its frame, up to the next task operation or the end. Where the
+/// frame is at its end already, the next of its unjoined children is to be joined, or the task is done. What is printed
+/// goes to the frame's list. After `Memory` nothing is known of the frame and the cells.
 pub fn run_segment<C: Cells>(
     alloc: Global,
     p: &Prog,
     frame: &mut Frame,
     cells: &mut C,
 ) -> Result<Stop, Memory>
-    requires { frame.old.next ≡ Go }
+    requires { MayCarryOut p.now (ways_of C.known C.may_read C.may_write C.rule) frame.old cells.old }
     ensures { IfOk result (λ stop. CarriesOut p.now C.rule frame.old cells.old stop frame.new cells.new) }
 {
-    Err(Memory::from(AllocError))
+    match machine_at(alloc, p, frame)? {
+        None => {
+            let value = frame.value;
+            Ok(end(alloc, frame, value))
+        }
+        Some(mut machine) => {
+            let ending = run(alloc, p, &mut machine, cells, &mut frame.prints)?;
+            frame.fuel = machine.fuel;
+            finish(alloc, p, frame, machine.vars, ending)
+        }
+    }
+}
+
+/// Carries out one segment of a task over a plain list with the cells of the program. After `Memory` nothing is known of
+/// the frame and the cells.
+pub fn run_segment_over_list(
+    alloc: Global,
+    p: &Prog,
+    frame: &mut Frame,
+    cells: &mut Ints,
+) -> Result<Stop, Memory>
+    requires { length cells.old ≡ cell_count p.now }
+    ensures segment { IfOk result (λ stop. IsSegment p.now frame.old cells.old stop frame.new cells.new) }
+    ensures cells { IfOk result (λ stop. length cells.new ≡ length cells.old) }
+{
+    let _main = p.main;
+    run_segment(alloc, p, frame, cells)
 }

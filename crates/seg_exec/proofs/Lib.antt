@@ -1,0 +1,11 @@
+pub mod Accesses
+pub mod Bounds
+pub mod CellNumbers
+pub mod Falling
+pub mod PlainLists
+pub mod Reaching
+pub mod Remains
+pub mod Segments
+pub mod Simulation
+pub mod Whole
+pub mod Witnesses

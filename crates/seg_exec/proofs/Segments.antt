@@ -1,0 +1,106 @@
+-- A run of the evaluator that begins with what remains in a frame is the segment of that frame.
+use Rattle.std.proofs.Common.{◌≡◌, ℕ, ◌+◌, ℤ, pos, List, [], ◌∷◌, ◌++◌, Some, Result, Ok, Err, IfOk, sym, ap, ◌∙◌, subst, arith}
+use Rattle.std.specs.Prelude.{slice_get}
+use Rattle.twe_program.specs.Program.{Program}
+use Rattle.seg_exec.specs.declared.frame.Call.{Call}
+use Rattle.seg_exec.specs.declared.frame.Frame.{Frame}
+use Rattle.seg_exec.specs.declared.machine.Machine.{Machine}
+use Rattle.seg_exec.specs.declared.stop.Stop.{Stop}
+use Rattle.seg_exec.specs.declared.work.Ending.{Ending}
+use Rattle.seg_exec.specs.declared.work.Ending.TheVariants.{Returned, Faulted, Suspended}
+use Rattle.seg_exec.specs.Access.{MayAll, Ways, after, printed}
+use Rattle.seg_exec.specs.Meaning.{body_of, done_within}
+use Rattle.seg_exec.specs.Remaining.{resumed}
+use Rattle.seg_exec.specs.Segment.{Stopped, stopped_by, store_at, flow_of, CarriesOut, MayCarryOut}
+use Rattle.seg_exec.specs.Store.{Store, Flow, goes, returns, fails, stops}
+use Rattle.seg_exec.specs.inner.Finished.{finished}
+use Rattle.seg_exec.specs.inner.Reached.{Finishes, MayRun, over, standing}
+use Rattle.seg_exec.specs.inner.Runs.{Moment, Over, moment, run, store_of}
+use Rattle.seg_exec.specs.inner.Tasks.{Config}
+use Rattle.seg_exec.specs.inner.Unfolded.{config_at, unfolded}
+use Rattle.seg_exec.specs.inner.Views.{config_of}
+use Rattle.seg_exec.proofs.Simulation.{within_meets}
+use Rattle.seg_exec.proofs.Whole.{IsOver, ends_so, once, outcome_of, resumed_meets}
+
+module _ (p : Program) where
+  is_over : (f : Flow) → IsOver p (outcome_of p f)
+  is_over (goes s) = tt
+  is_over (returns value s) = tt
+  is_over (fails kind place s) = tt
+  is_over (stops operation positions s) = tt
+
+  -- a frame with what was printed, and what is left of its fuel
+  abbrev pub ran : Frame → List ℤ → ℕ → Frame
+  ran frame prints fuel = record frame { prints = prints; fuel = fuel }
+
+  -- what a run that ends so leaves
+  abbrev left : Frame → Ending → Store → Stopped
+  left frame ending s =
+      let done = finished p (ran frame (frame.prints ++ printed s.accesses) s.fuel) s.vars ending in
+      record { frame = done.0; cells = s.cells; accesses = s.accesses; stop = done.1 }
+
+  stopped_so : (frame : Frame) (f : Flow) (ending : Ending) (s : Store) → outcome_of p f ≡ Over ending s → stopped_by p frame f ≡ left frame ending s
+  stopped_so frame (goes s0) ending s e =
+      let a : Returned (pos 0) ≡ ending = cc in let b : s0 ≡ s = cc in
+      ap (λ (x : Store). left frame (Returned (pos 0)) x) b ∙ ap (λ (x : Ending). left frame x s) a
+  stopped_so frame (returns value s0) ending s e =
+      let a : Returned value ≡ ending = cc in let b : s0 ≡ s = cc in
+      ap (λ (x : Store). left frame (Returned value) x) b ∙ ap (λ (x : Ending). left frame x s) a
+  stopped_so frame (fails kind place s0) ending s e =
+      let a : Faulted kind place ≡ ending = cc in let b : s0 ≡ s = cc in
+      ap (λ (x : Store). left frame (Faulted kind place) x) b ∙ ap (λ (x : Ending). left frame x s) a
+  stopped_so frame (stops operation positions s0) ending s e =
+      let a : Suspended operation positions ≡ ending = cc in let b : s0 ≡ s = cc in
+      ap (λ (x : Store). left frame (Suspended operation positions) x) b ∙ ap (λ (x : Ending). left frame x s) a
+
+  -- over a list of cells
+  flow_so : (frame : Frame) (calls : List Call) (start : Config) (cells : List ℤ) → config_at p frame calls ≡ Some start
+      → (n : ℕ) × (run p n (over start cells []) ≡ outcome_of p (flow_of p frame calls cells))
+  flow_so frame [] start cells is = absurd (cc)
+  flow_so frame (call ∷ callers) start cells is =
+      let n = frame.fuel + 1 in
+      let body = body_of (slice_get p.tasks frame.decl) in
+      let store = store_at frame call.vars cells in
+      let begun : Config = (moment (unfolded body call.stack []) [] store).config in
+      let same : begun ≡ start = cc in
+      let flow = resumed (done_within p n) p body call.stack store in
+      let meets = resumed_meets p n (done_within p n) (within_meets p n) call.stack body frame.fuel (omega arith) store (omega arith) [] [] in
+      subst (λ (c : Config). (k : ℕ) × (run p k (over c cells []) ≡ outcome_of p flow)) same (ends_so p frame.fuel (over begun cells []) flow meets)
+
+  segment_so : (frame : Frame) (calls : List Call) (start : Config) (cells : List ℤ) (ending : Ending) (s : Store) → config_at p frame calls ≡ Some start
+      → (n : ℕ) × (run p n (over start cells []) ≡ Over ending s) → stopped_by p frame (flow_of p frame calls cells) ≡ left frame ending s
+  segment_so frame calls start cells ending s is ends =
+      let flow = flow_of p frame calls cells in
+      let other = flow_so frame calls start cells is in
+      stopped_so frame flow ending s (once p other.0 ends.0 (over start cells []) (outcome_of p flow) (Over ending s) (is_over flow) tt other.1 ends.1)
+
+  module _ {C : Type 0} (ways : Ways C) where
+    pub carries_out : (frame : Frame) (from to : Machine) (old_cells new_cells : C) (prints : List ℤ) (ending : Ending) (new_frame : Frame) (stop : Stop)
+        → config_at p frame frame.calls ≡ Some (config_of from)
+        → Finishes p ways (standing from old_cells frame.prints) ending (standing to new_cells prints)
+        → (new_frame, stop) ≡ finished p (ran frame prints to.fuel) to.vars ending
+        → CarriesOut p ways.rule frame old_cells stop new_frame new_cells
+    carries_out frame from to old_cells new_cells prints ending new_frame stop is f done = record {
+      accesses = f.accesses;
+      follows = f.follows;
+      means = λ cells agrees.
+          segment_so frame frame.calls (config_of from) cells ending (store_of (over (config_of to) cells f.accesses)) is (f.ends cells agrees)
+          ∙ ap (λ (all : List ℤ). let d = finished p (ran frame all to.fuel) to.vars ending in record { frame = d.0; cells = after cells f.accesses; accesses = f.accesses; stop = d.1 }) (sym f.prints)
+          ∙ ap (λ (d : Frame × Stop). record { frame = d.0; cells = after cells f.accesses; accesses = f.accesses; stop = d.1 }) (sym done);
+    }
+
+    may_end : (frame : Frame) (cells : C) (from : Moment) (f : Flow) → MayAll ways cells (stopped_by p frame f).accesses → (n : ℕ) × (run p n from ≡ outcome_of p f)
+        → (n : ℕ) × (ending : Ending) × (end : Store) × (run p n from ≡ Over ending end) × MayAll ways cells end.accesses
+    may_end frame cells from (goes s) may x = (x.0, Returned (pos 0), s, x.1, may)
+    may_end frame cells from (returns value s) may x = (x.0, Returned value, s, x.1, may)
+    may_end frame cells from (fails kind place s) may x = (x.0, Faulted kind place, s, x.1, may)
+    may_end frame cells from (stops operation positions s) may x = (x.0, Suspended operation positions, s, x.1, may)
+
+    pub may_run : (frame : Frame) (from : Machine) (cells : C) (prints : List ℤ) → MayCarryOut p ways frame cells → config_at p frame frame.calls ≡ Some (config_of from)
+        → MayRun p ways (standing from cells prints)
+    may_run frame from cells prints may is list =
+        may_end frame cells (over (config_of from) list []) (flow_of p frame frame.calls list) (may list) (flow_so frame frame.calls (config_of from) list is)
+
+pub if_ok_map : {T E : Type 0} {P Q : T → Type 0} (r : Result T E) → ((x : T) → P x → Q x) → IfOk r P → IfOk r Q
+if_ok_map (Ok x) so holds = so x holds
+if_ok_map (Err fail) so holds = tt

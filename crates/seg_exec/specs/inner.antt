@@ -1,0 +1,8 @@
+pub mod Finished
+pub mod Reached
+pub mod Runs
+pub mod Sizes
+pub mod Stacks
+pub mod Tasks
+pub mod Unfolded
+pub mod Views

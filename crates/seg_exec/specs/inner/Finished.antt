@@ -1,0 +1,19 @@
+-- What the end of the evaluator's run makes of a frame.
+use Rattle.std.specs.Prelude.{ℤ, List, [], ◌∷◌, None}
+use Rattle.twe_program.specs.Program.{Program}
+use Rattle.seg_exec.specs.declared.frame.Frame.{Frame}
+use Rattle.seg_exec.specs.declared.frame.Next.TheVariants.{Ended}
+use Rattle.seg_exec.specs.declared.stop.Stop.{Stop}
+use Rattle.seg_exec.specs.declared.stop.Stop.TheVariants.{Fault}
+use Rattle.seg_exec.specs.declared.work.Ending.{Ending}
+use Rattle.seg_exec.specs.declared.work.Ending.TheVariants.{Returned, Faulted, Suspended}
+use Rattle.seg_exec.specs.Segment.{closing, closing_stop, operation_next, operation_stop}
+
+abbrev pub ended_with : Frame → ℤ → Frame
+ended_with frame value = record frame { calls = []; next = closing frame.out; value = value }
+
+abbrev pub finished : Program → Frame → List ℤ → Ending → Frame × Stop
+finished p frame vars (Returned value) = (ended_with frame value, closing_stop frame.out value)
+finished p frame vars (Faulted kind place) = (record frame { calls = []; next = Ended }, Fault kind place)
+finished p frame vars (Suspended operation positions) =
+    (record frame { calls = record { method = None; vars = vars; stack = positions } ∷ []; next = operation_next frame operation }, operation_stop p frame operation)

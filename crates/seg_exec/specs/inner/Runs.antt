@@ -1,0 +1,53 @@
+-- Runs of the evaluator over a list of cells.
+use Rattle.std.specs.Prelude.{◌≤◌, ◌≡◌, ℕ, zero, suc, ℤ, List, ◌∷◌, slice_get, slice_set}
+use Rattle.twe_program.specs.Program.{Program}
+use Rattle.seg_exec.specs.declared.work.Asked.{Asked}
+use Rattle.seg_exec.specs.declared.work.Asked.TheVariants.{Nothing, Read, Write, Print, End}
+use Rattle.seg_exec.specs.declared.work.Ending.{Ending}
+use Rattle.seg_exec.specs.Access.{Access, Reads, Writes, Prints, value_in}
+use Rattle.seg_exec.specs.Store.{Store}
+use Rattle.seg_exec.specs.inner.Tasks.{Task, Config, Step, step_of, with_value}
+
+-- the evaluator over cells, after some accesses
+pub record Moment : Type 0 where
+  pub config : Config
+  pub cells : List ℤ
+  pub accesses : List Access
+
+-- how a run ends, and what with
+pub data Outcome : Type 0 where
+  Over : (ending : Ending) (store : Store) → Outcome
+  Unfinished : Outcome
+
+abbrev pub store_of : Moment → Store
+store_of m = record { cells = m.cells; vars = m.config.vars; fuel = m.config.fuel; calls = m.config.calls; accesses = m.accesses }
+
+-- the evaluator with this work, on this store
+abbrev pub moment : List Task → List ℤ → Store → Moment
+moment work values s = record {
+  config = record { work = work; values = values; vars = s.vars; fuel = s.fuel; calls = s.calls };
+  cells = s.cells;
+  accesses = s.accesses;
+}
+
+-- what is asked for is done
+abbrev pub served : (Moment → Outcome) → Asked → Moment → Outcome
+served next Nothing m = next m
+served next (Read cell) m =
+    let value = value_in (slice_get m.cells cell) in
+    next (record m { config = with_value value m.config; accesses = Reads cell value ∷ m.accesses })
+served next (Write cell value) m = next (record m { cells = slice_set m.cells cell value; accesses = Writes cell value ∷ m.accesses })
+served next (Print value) m = next (record m { accesses = Prints value ∷ m.accesses })
+served next (End ending) m = Over ending (store_of m)
+
+abbrev pub stepped : (Moment → Outcome) → Step → Moment → Outcome
+stepped next step m = served next step.0 (record m { config = step.1 })
+
+-- at most n steps
+abbrev pub run : Program → ℕ → Moment → Outcome
+run p zero m = Unfinished
+run p (suc n) m = stepped (run p n) (step_of p m.config) m
+
+-- from one moment a run comes to another: what it does from there in k steps, it does from here in at least as many
+pub record Comes (p : Program) (from to : Moment) : Type 0 where
+  pub by : (k : ℕ) → (n : ℕ) × (k ≤ n) × (run p n from ≡ run p k to)

@@ -1,0 +1,89 @@
+//! The operators on numbers of 32 bits. Truth values are the numbers 0 and 1.
+ghost use Rattle.std.specs.Prelude.{◌≡◌, ◌↔◌};
+ghost use Rattle.seg_exec.specs.Arithmetic.{decided, is_true, negation, negative, number_of, operated, quotient, remainder};
+
+use twe_program::BinOp;
+
+/// The number of a truth value: 1 for `true` and 0 for `false`.
+pub fn number_of(truth: bool) -> i32
+    ensures { result ≡ number_of truth }
+{
+    if truth { 1 } else { 0 }
+}
+
+/// Whether a number stands for `true`, which each but 0 does.
+pub fn is_true(value: i32) -> bool
+    ensures { result ≡ is_true value }
+{
+    value != 0
+}
+
+/// The quotient, rounded toward zero; -2147483648 / -1 wraps to -2147483648. It is none exactly where the divisor is 0.
+fn quotient(x: i32, y: i32) -> Option<i32>
+    ensures { result ≡ quotient x y }
+{
+    if y == 0 {
+        None
+    } else {
+        Some(x.wrapping_div(y))
+    }
+}
+
+/// The remainder, with the sign of the dividend. It is none exactly where the divisor is 0.
+fn remainder(x: i32, y: i32) -> Option<i32>
+    ensures { result ≡ remainder x y }
+{
+    if y == 0 {
+        None
+    } else {
+        Some(x.wrapping_rem(y))
+    }
+}
+
+/// The value of an operator on its two operands; sums, differences and products wrap. It is none exactly where the
+/// operator divides by zero.
+pub fn operate(op: BinOp, x: i32, y: i32) -> Option<i32>
+    ensures { result ≡ operated op x y }
+{
+    match op {
+        BinOp::Or => Some(y),
+        BinOp::And => Some(y),
+        BinOp::Equal => Some(number_of(x == y)),
+        BinOp::NotEqual => Some(number_of(x != y)),
+        BinOp::Less => Some(number_of(x < y)),
+        BinOp::LessEqual => Some(number_of(x <= y)),
+        BinOp::Greater => Some(number_of(x > y)),
+        BinOp::GreaterEqual => Some(number_of(x >= y)),
+        BinOp::Add => Some(x.wrapping_add(y)),
+        BinOp::Sub => Some(x.wrapping_sub(y)),
+        BinOp::Mul => Some(x.wrapping_mul(y)),
+        BinOp::Div => quotient(x, y),
+        BinOp::Rem => remainder(x, y),
+    }
+}
+
+/// The value of an operator where its left operand alone decides it: `||` where that one is true, and `&&` where it is
+/// false. It is none else.
+pub fn decide(op: BinOp, left: bool) -> Option<i32>
+    ensures { result ≡ decided op left }
+{
+    match (op, left) {
+        (BinOp::Or, true) => Some(1),
+        (BinOp::And, false) => Some(0),
+        _ => None,
+    }
+}
+
+/// The negative of a number, which wraps: that of -2147483648 is itself.
+pub fn negate(x: i32) -> i32
+    ensures { result ≡ negative x }
+{
+    x.wrapping_neg()
+}
+
+/// The negation of a truth value.
+pub fn invert(x: i32) -> i32
+    ensures { result ≡ negation x }
+{
+    number_of(!is_true(x))
+}

@@ -1,0 +1,182 @@
+//! Arguments, and what they are for: the call of a method, or the making of a task.
+ghost use Rattle.std.specs.Prelude.{◌≡◌, [], IfOk, option_copied};
+ghost use Rattle.twe_program.specs.Statement.{statements_of};
+ghost use Rattle.twe_program.specs.Expression.{arguments_of};
+ghost use Rattle.seg_exec.specs.Meaning.{body_of, var_count_of, vars_at_start};
+ghost use Rattle.seg_exec.specs.inner.Tasks.{Gather, Suspend, asked_unit, entering, gathered, gathering, on, taking, to_do};
+ghost use Rattle.seg_exec.specs.inner.Views.{config_of};
+
+use crate::machine::{Machine, fault};
+use crate::operation::Operation;
+use crate::stack::Stack;
+use crate::work::{Asked, Goal, Work};
+use seg_journal::FaultKind;
+use std::alloc::Global;
+use std::mem;
+use twe_io::{Ints, Memory, Place};
+use twe_program::{Args, Decl, Expr, Prog, Stmt};
+
+/// How many method calls a task may have active at once.
+const MAX_CALLS: u32 = 1000;
+
+/// The statements of a declaration, and none where there is no such declaration.
+pub(crate) fn statements(decl: Option<&Decl>) -> &[Stmt]
+    ensures { statements_of result.now ≡ body_of (option_copied decl.entry) }
+{
+    match decl {
+        None => &[],
+        Some(decl) => decl.body.block.stmts.as_slice(),
+    }
+}
+
+/// How many variables a body has, and 0 where there is no such declaration.
+fn var_count(decl: Option<&Decl>) -> usize
+    ensures { result ≡ var_count_of (option_copied decl.entry) }
+{
+    match decl {
+        None => 0,
+        Some(decl) => decl.body.vars as usize,
+    }
+}
+
+/// The variables of a body at its start: the arguments, and then 0 for each local.
+pub(crate) fn vars_at_start(alloc: Global, decl: Option<&Decl>, args: Ints) -> Result<Ints, Memory>
+    ensures { IfOk result (λ vars. vars ≡ vars_at_start (option_copied decl.entry) args) }
+{
+    let locals = var_count(decl).saturating_sub(args.len());
+    let zeros = vec![in alloc; 0i32; locals]?;
+    let mut vars = args;
+    vars.push_all(zeros.as_slice())?;
+    Ok(vars)
+}
+
+impl<'a> Machine<'a> {
+    /// Arguments are to be evaluated.
+    pub(crate) fn gather(&mut self, alloc: Global, args: &'a Args, goal: Goal) -> Result<(), Memory>
+        ensures { IfOk result (λ _. config_of self.new ≡ to_do (Gather [] args.now goal) (config_of self.old)) }
+    {
+        self.push(Work::Gather {
+            taken: Ints::new(alloc),
+            args: args.items.as_slice(),
+            goal,
+        })
+    }
+
+    /// Evaluates the next argument, or goes on with all of them.
+    pub(crate) fn gather_next(
+        &mut self,
+        alloc: Global,
+        p: &'a Prog,
+        taken: Ints,
+        args: &'a [Expr],
+        goal: Goal,
+    ) -> Result<Asked, Memory>
+        ensures { IfOk result (λ asked. (asked, config_of self.new) ≡ gathering p.now taken (arguments_of args.now) goal (config_of self.old)) }
+    {
+        match args {
+            [] => self.gathered(alloc, p, taken, goal),
+            [first, args @ ..] => {
+                self.push(Work::Take { taken, args, goal })?;
+                self.push(Work::Evaluate(first))?;
+                Ok(Asked::Nothing)
+            }
+        }
+    }
+
+    /// Takes the value of an argument.
+    pub(crate) fn take_argument(
+        &mut self,
+        taken: Ints,
+        args: &'a [Expr],
+        goal: Goal,
+    ) -> Result<Asked, Memory>
+        ensures { IfOk result (λ asked. (asked, config_of self.new) ≡ taking taken (arguments_of args.now) goal (config_of self.old)) }
+    {
+        let mut taken = taken;
+        taken.push(self.take())?;
+        self.push(Work::Gather { taken, args, goal })?;
+        Ok(Asked::Nothing)
+    }
+
+    /// Goes on with all arguments.
+    fn gathered(
+        &mut self,
+        alloc: Global,
+        p: &'a Prog,
+        args: Ints,
+        goal: Goal,
+    ) -> Result<Asked, Memory>
+        ensures { IfOk result (λ asked. (asked, config_of self.new) ≡ gathered p.now args goal (config_of self.old)) }
+    {
+        match goal {
+            Goal::Enter { method, place } => {
+                let decl = p.methods.get(method as usize);
+                self.enter(alloc, decl, args, place)
+            }
+            Goal::Make {
+                future,
+                task,
+                spawned,
+                place,
+            } => {
+                let operation = Operation::Make {
+                    future,
+                    task,
+                    args,
+                    spawned,
+                    place,
+                };
+                self.suspend(alloc, operation, place)
+            }
+        }
+    }
+
+    /// Enters a method, which takes a unit of fuel, unless too many calls are active.
+    fn enter(
+        &mut self,
+        alloc: Global,
+        decl: Option<&'a Decl>,
+        args: Ints,
+        place: Place,
+    ) -> Result<Asked, Memory>
+        ensures { IfOk result (λ asked. (asked, config_of self.new) ≡ entering (option_copied decl.entry) args place (config_of self.old)) }
+    {
+        if self.fuel == 0 {
+            return Ok(fault(FaultKind::Fuel, place));
+        }
+        self.fuel -= 1;
+        if self.calls >= MAX_CALLS {
+            return Ok(fault(FaultKind::Depth, place));
+        }
+        self.calls += 1;
+        let vars = vars_at_start(alloc, decl, args)?;
+        let caller = mem::replace(&mut self.vars, vars);
+        self.push(Work::Leave(caller))?;
+        self.push(Work::Rest {
+            block: 0,
+            at: 0,
+            stmts: statements(decl),
+        })?;
+        Ok(Asked::Nothing)
+    }
+
+    /// Stops at a task operation, which takes a unit of fuel.
+    pub(crate) fn suspend(
+        &mut self,
+        alloc: Global,
+        operation: Operation,
+        place: Place,
+    ) -> Result<Asked, Memory>
+        ensures { IfOk result (λ asked. (asked, config_of self.new) ≡ asked_unit place (config_of self.old) (λ c. on (to_do (Suspend operation []) c))) }
+    {
+        if self.fuel == 0 {
+            return Ok(fault(FaultKind::Fuel, place));
+        }
+        self.fuel -= 1;
+        self.push(Work::Suspend {
+            operation,
+            positions: Stack::new(alloc),
+        })?;
+        Ok(Asked::Nothing)
+    }
+}

@@ -1,0 +1,85 @@
+//! A task before its first segment.
+ghost use Rattle.std.specs.Prelude.{◌≡◌, IfOk, map, option_copied};
+ghost use Rattle.region_paths.specs.declared.elements.Elem.TheVariants.{Index};
+ghost use Rattle.seg_exec.specs.Entry.{effects_at, entry_call, entry_frame, frame_of, future_count_of};
+
+use crate::call::vars_at_start;
+use crate::frame::{Call, Frame, Next, Position};
+use effect_sets::{Effects, Summary};
+use region_paths::Elem;
+use std::alloc::{AllocError, Global};
+use twe_io::{Ints, List, Memory};
+use twe_program::{Decl, Prog};
+
+/// How many futures a body has, and 0 where there is no such declaration.
+fn future_count(decl: Option<&Decl>) -> usize
+    ensures { result ≡ future_count_of (option_copied decl.entry) }
+{
+    match decl {
+        None => 0,
+        Some(decl) => decl.body.futures as usize,
+    }
+}
+
+/// A body before its first statement.
+fn entry_call(alloc: Global, decl: Option<&Decl>, args: Ints) -> Result<Call, Memory>
+    ensures { IfOk result (λ call. call ≡ entry_call (option_copied decl.entry) args) }
+{
+    let mut stack = List::new(alloc);
+    stack.push(Position { block: 0, after: 0 })?;
+    Ok(Call {
+        method: None,
+        vars: vars_at_start(alloc, decl, args)?,
+        stack,
+    })
+}
+
+/// The frame of a task of a declaration before its first segment.
+fn frame_of(alloc: Global, decl: Option<&Decl>, task: u32, args: Ints) -> Result<Frame, Memory>
+    ensures { IfOk result (λ frame. frame ≡ frame_of (option_copied decl.entry) task args) }
+{
+    let mut calls = List::new(alloc);
+    calls.push(entry_call(alloc, decl, args)?)?;
+    let futures = vec![in alloc; None; future_count(decl)]?;
+    Ok(Frame {
+        task: 0,
+        decl: task,
+        calls,
+        fuel: 0,
+        futures: List::from(futures),
+        out: List::new(alloc),
+        next: Next::Go,
+        value: 0,
+        prints: Ints::new(alloc),
+    })
+}
+
+/// The frame of a task of this declaration with these arguments before its first segment. Its number and its fuel are 0
+/// and still to be put in.
+pub fn entry_frame(alloc: Global, p: &Prog, task: u32, args: Ints) -> Result<Frame, Memory>
+    ensures { IfOk result (λ frame. frame ≡ entry_frame p.now task args) }
+{
+    frame_of(alloc, p.tasks.get(task as usize), task, args)
+}
+
+/// Numbers as literal indexes.
+fn indexes(alloc: Global, values: &[i32]) -> Result<Vec<Elem>, AllocError>
+    ensures { IfOk result (λ elems. elems.items ≡ map (λ value. Index value) values.now) }
+{
+    values.iter().map(|v| Elem::Index(*v)).collect(alloc)
+}
+
+/// The effects of a task of this declaration with these arguments: its summary, filled with them.
+pub fn effects_at(alloc: Global, p: &Prog, task: u32, args: &Ints) -> Result<Summary, Memory>
+    ensures { IfOk result (λ effects. effects ≡ effects_at p.now task args.now) }
+{
+    match p.tasks.get(task as usize) {
+        None => Ok(Summary {
+            effects: Effects::new(alloc),
+        }),
+        Some(decl) => {
+            let elems = indexes(alloc, args.as_slice())?;
+            decl.summary.fill(alloc, elems.as_slice())
+        }
+    }
+}

@@ -1,0 +1,57 @@
+//! The evaluator: what it has to do, and what it works on.
+ghost use Rattle.std.specs.Prelude.{◌≡◌, IfOk};
+ghost use Rattle.seg_exec.specs.inner.Tasks.{to_do, top, with_value, without_value};
+ghost use Rattle.seg_exec.specs.declared.work.Asked.TheVariants.{End};
+ghost use Rattle.seg_exec.specs.declared.work.Ending.TheVariants.{Faulted};
+ghost use Rattle.seg_exec.specs.inner.Views.{task_of, config_of};
+
+use crate::stack::Stack;
+use crate::work::{Asked, Ending, Work};
+use seg_journal::FaultKind;
+use twe_io::{Ints, Memory, Place};
+
+/// A fault at a place of the text.
+pub(crate) fn fault(kind: FaultKind, place: Place) -> Asked
+    ensures { result ≡ End (Faulted kind place) }
+{
+    Asked::End(Ending::Faulted { kind, place })
+}
+
+/// What is to be done and what it is done with.
+#[derive(Debug, Drop)]
+pub(crate) struct Machine<'a> {
+    /// What is to be done, the next thing on top.
+    pub(crate) work: Stack<Work<'a>>,
+    /// The values that were evaluated and not yet taken, the latest on top.
+    pub(crate) values: Stack<i32>,
+    /// The values of the variables of the body.
+    pub(crate) vars: Ints,
+    /// How many units of fuel are left.
+    pub(crate) fuel: u64,
+    /// How many method calls are active.
+    pub(crate) calls: u32,
+}
+
+impl<'a> Machine<'a> {
+    /// One thing more is to be done.
+    pub(crate) fn push(&mut self, work: Work<'a>) -> Result<(), Memory>
+        ensures { IfOk result (λ _. config_of self.new ≡ to_do (task_of work.entry) (config_of self.old)) }
+    {
+        self.work.push(work)
+    }
+
+    /// A value was evaluated.
+    pub(crate) fn give(&mut self, value: i32) -> Result<(), Memory>
+        ensures { IfOk result (λ _. config_of self.new ≡ with_value value (config_of self.old)) }
+    {
+        self.values.push(value)
+    }
+
+    /// The latest value is taken, and 0 where there is none.
+    pub(crate) fn take(&mut self) -> i32
+        ensures value { result ≡ top self.old.values }
+        ensures config { config_of self.new ≡ without_value (config_of self.old) }
+    {
+        self.values.pop_or(0)
+    }
+}
