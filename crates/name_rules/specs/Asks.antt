@@ -1,6 +1,6 @@
 -- What a text asks for at a place: a name that stands for something, an expression of some type, a name that is new, and
 -- a value where one is returned.
-use Rattle.std.specs.Prelude.{ℕ, Bool, true, false, List, [], ◌∷◌, ◌++◌, Option, None, Some}
+use Rattle.std.specs.Prelude.{true, List, [], ◌∷◌, ◌++◌, Option, None, Some}
 use Rattle.twe_io.specs.declared.place.Place.{Place}
 use Rattle.twe_ast.specs.declared.name.Name.{Name}
 use Rattle.twe_ast.specs.declared.stmt.LocalType.{LocalType}

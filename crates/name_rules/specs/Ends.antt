@@ -1,6 +1,6 @@
 -- Which bodies can't end without a `return`.
 use Rattle.std.specs.Prelude.{Bool, true, false, ◌&&◌, ◌||◌}
-use Rattle.twe_ast.specs.Expression.{Expression, expression, Shape, Truth}
+use Rattle.twe_ast.specs.Expression.{Expression, expression, Truth}
 use Rattle.twe_ast.specs.Statement.{Statement, Block, If, While, Return, Statements, end_of_block, statement, Arms, arm, otherwise, no_else}
 use Rattle.twe_io.specs.declared.place.Place.{Place}
 

@@ -1,14 +1,11 @@
 -- What names stand for: those of the whole program, which are seen everywhere, and those inside a declaration.
-use Rattle.std.specs.Prelude.{ℕ, ◌+◌, Bool, bytes_eq, if◌then◌else◌, List, [], ◌∷◌, ◌++◌, Option, None, Some, length, codes}
-use Rattle.twe_io.specs.declared.place.Place.{Place}
+use Rattle.std.specs.Prelude.{ℕ, ◌+◌, bytes_eq, if◌then◌else◌, List, [], ◌∷◌, ◌++◌, Option, None, Some, length, codes}
 use Rattle.twe_ast.specs.declared.name.Name.{Name}
 use Rattle.twe_ast.specs.declared.item.Ast.{Ast}
 use Rattle.twe_ast.specs.declared.item.Item.{Item}
 use Rattle.twe_ast.specs.declared.item.Item.TheVariants as items
-use Rattle.twe_ast.specs.declared.item.CellDecl.{CellDecl}
 use Rattle.twe_ast.specs.declared.item.CellShape.{CellShape}
 use Rattle.twe_ast.specs.declared.item.CellShape.TheVariants as shapes
-use Rattle.twe_ast.specs.declared.item.Decl.{Decl}
 use Rattle.name_rules.specs.declared.names.GlobalName.{GlobalName}
 use Rattle.name_rules.specs.declared.scope.LocalName.{LocalName}
 use Rattle.name_rules.specs.declared.seen.Global.{Global}

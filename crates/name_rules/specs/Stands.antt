@@ -1,5 +1,5 @@
 -- Where a text asks for something, and what is seen there.
-use Rattle.std.specs.Prelude.{ℕ, ◌+◌, Bool, true, false, List, [], ◌∷◌, ◌++◌, map, length, Option, None, Some}
+use Rattle.std.specs.Prelude.{ℕ, ◌+◌, true, false, List, [], ◌∷◌, ◌++◌, map, length, Option, None, Some}
 use Rattle.twe_io.specs.declared.place.Place.{Place}
 use Rattle.std.specs.List.{flat_map}
 use Rattle.twe_ast.specs.declared.item.Ast.{Ast}

@@ -4,12 +4,29 @@
 //! crates of the text.
 #![tactic(auto)]
 
+mod declared;
+mod ends;
+mod first;
+mod firsts;
+mod here;
+mod judge_body;
+mod judge_decl;
+mod judge_expr;
+mod judge_path;
+mod judge_simple;
+mod limits;
+mod look;
 mod names;
 mod rule;
 mod scope;
 mod seen;
+mod types;
+mod uses;
+mod whole;
 
+pub use look::look_up;
 pub use names::{GlobalName, Globals};
 pub use rule::{Failure, NRule};
 pub use scope::{Here, LocalName, Locals};
 pub use seen::{Asked, Global, Local, Seen};
+pub use whole::first_failure;

@@ -1,6 +1,5 @@
 -- The limits on cells and nodes, and the declaration that goes over one.
-use Rattle.std.specs.Prelude.{◌≡◌, ℕ, ◌<◌, ◌≤◌, ◌⊎◌, List, [], ◌∷◌, ◌++◌, flat_map}
-use Rattle.twe_ast.specs.declared.item.Ast.{Ast}
+use Rattle.std.specs.Prelude.{◌≡◌, ◌<◌, ◌≤◌, ◌⊎◌, List, [], ◌∷◌, ◌++◌, flat_map}
 use Rattle.twe_ast.specs.declared.item.Item.{Item}
 use Rattle.twe_ast.specs.declared.item.Item.TheVariants as items
 use Rattle.twe_ast.specs.declared.item.CellDecl.{CellDecl}

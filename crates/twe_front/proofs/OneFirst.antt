@@ -1,5 +1,5 @@
 -- Of failures with numbers and places there is at most one that comes after no other.
-use Rattle.std.proofs.Common.{◌≡◌, ◌<◌, ◌≤◌, ℕ, ◌⊎◌, inl, inr, refl, sym, ap, ◌∙◌, subst, arith}
+use Rattle.std.proofs.Common.{◌≡◌, ◌≤◌, ℕ, ◌⊎◌, inl, inr, sym, ap, ◌∙◌, subst, arith}
 use Rattle.twe_io.specs.declared.place.Place.{Place}
 use Rattle.name_rules.specs.FailsName.{IsEarlier}
 

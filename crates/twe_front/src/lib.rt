@@ -4,10 +4,12 @@
 //! below say each of the three; this one puts them together.
 #![tactic(auto)]
 
+mod from_text;
 mod laws;
 mod read;
 mod refusal;
 
+pub use from_text::parsed_trees_are_from_texts;
 pub use laws::{one_program, one_refusal, refused_or_accepted};
 pub use read::{FrontFail, read_program};
 pub use refusal::{Refusal, RuleName};

@@ -1,7 +1,6 @@
 -- What the expressions and statements of a text mean, where these names are seen.
-use Rattle.std.specs.Prelude.{ℕ, ◌+◌, Bool, true, false, ◌&&◌, List, [], ◌∷◌, ◌++◌, Option, None, Some}
+use Rattle.std.specs.Prelude.{ℕ, Bool, false, List, Option, None, Some}
 use Rattle.twe_io.specs.declared.place.Place.{Place}
-use Rattle.twe_ast.specs.declared.name.Name.{Name}
 use Rattle.twe_ast.specs.declared.expr.BinOp as written
 use Rattle.twe_ast.specs.declared.expr.BinOp.TheVariants as written_ops
 use Rattle.twe_ast.specs.declared.stmt.LocalType.{LocalType}
@@ -20,7 +19,7 @@ use Rattle.name_rules.specs.declared.names.GlobalName.{GlobalName}
 use Rattle.name_rules.specs.declared.scope.LocalName.{LocalName}
 use Rattle.name_rules.specs.Names.{seen}
 use Rattle.name_rules.specs.declared.scope.Here.{Here}
-use Rattle.name_rules.specs.Here.{counted, after, after_all, after_block}
+use Rattle.name_rules.specs.Here.{counted, after, after_block}
 
 abbrev pub operator_of : written.BinOp → BinOp
 operator_of written_ops.Or = ops.Or
@@ -106,10 +105,10 @@ abbrev mutual
       set_of here.points (seen globals here.locals name.text) (expression_of globals here.locals value) name.place
   statement_of globals here (ast_stmt.SetArray array index value) =
       stmt.SetArray here.points (cells_number (seen globals here.locals array.text))
-        (expression_of globals here.locals index) (expression_of globals here.locals value) array.place
+      (expression_of globals here.locals index) (expression_of globals here.locals value) array.place
   statement_of globals here (ast_stmt.SetGrid array row column value) =
       stmt.SetGrid here.points (cells_number (seen globals here.locals array.text))
-        (expression_of globals here.locals row) (expression_of globals here.locals column) (expression_of globals here.locals value) array.place
+      (expression_of globals here.locals row) (expression_of globals here.locals column) (expression_of globals here.locals value) array.place
   statement_of globals here (ast_stmt.If arms) = stmt.If here.points (arms_of globals (counted here) arms)
   statement_of globals here (ast_stmt.While place condition body) =
       stmt.While here.points (expression_of globals here.locals condition) (statements_of globals (counted here) body) place

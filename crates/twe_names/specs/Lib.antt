@@ -3,3 +3,4 @@ pub mod PathMeaning
 pub mod Meaning
 pub mod FromText
 pub mod Resolves
+pub mod inner

@@ -1,11 +1,10 @@
 -- The program that a tree means.
-use Rattle.std.specs.Prelude.{ℕ, ℤ, pos, ◌+◌, Bool, true, false, List, [], ◌∷◌, ◌++◌, map, Option, None, Some, length, codes, flat_map}
+use Rattle.std.specs.Prelude.{ℕ, ℤ, pos, ◌+◌, Bool, true, false, List, [], ◌∷◌, map, Some, length, codes, flat_map}
 use Rattle.twe_ast.specs.declared.item.Ast.{Ast}
 use Rattle.twe_ast.specs.declared.item.CellDecl as written_cell
 use Rattle.twe_ast.specs.declared.item.CellShape.{CellShape}
 use Rattle.twe_ast.specs.declared.item.CellShape.TheVariants as shapes
 use Rattle.twe_ast.specs.declared.item.Decl as written_decl
-use Rattle.twe_ast.specs.declared.item.Initial.{Initial}
 use Rattle.twe_ast.specs.declared.item.Item.{Item}
 use Rattle.twe_ast.specs.declared.item.Item.TheVariants as items
 use Rattle.twe_ast.specs.declared.item.ReturnType.{ReturnType}
@@ -20,7 +19,6 @@ use Rattle.twe_program.specs.Program.{Program, size_of}
 use Rattle.node_count.specs.GoesOver.{cells_of}
 use Rattle.name_rules.specs.declared.names.GlobalName.{GlobalName}
 use Rattle.name_rules.specs.Names.{globals_of, seen}
-use Rattle.name_rules.specs.declared.scope.Here.{Here}
 use Rattle.name_rules.specs.Here.{after_all}
 use Rattle.name_rules.specs.Stands.{at_body}
 use Rattle.name_rules.specs.Ends.{close_of}

@@ -1,5 +1,5 @@
 -- What the paths of a text mean.
-use Rattle.std.specs.Prelude.{ℕ, ℤ, pos, ◌+◌, Bool, true, false, List, [], ◌∷◌, ◌++◌, map, not, length, drop, take_while, Option, None, Some, flat_map}
+use Rattle.std.specs.Prelude.{ℕ, pos, false, List, [], ◌∷◌, map, not, length, drop, take_while, Option, Some, flat_map}
 use Rattle.std.specs.List.{list_any}
 use Rattle.region_paths.specs.declared.elements.Elem.{Elem}
 use Rattle.region_paths.specs.declared.elements.Elem.TheVariants as elems

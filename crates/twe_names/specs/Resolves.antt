@@ -1,5 +1,4 @@
 -- The causes of the resolver's answers.
-use Rattle.twe_io.specs.declared.place.Place.{Place}
 use Rattle.twe_ast.specs.declared.item.Ast.{Ast}
 use Rattle.name_rules.specs.FailsName.{IsFirstFailure}
 use Rattle.twe_names.specs.declared.fail.NameFail.{NameFail}
