@@ -46,7 +46,7 @@ few_ran p st t (Some row) =
     let after = segment p row.frame st.cells in
     few_settled (record st { cells = after.cells }) t row after.frame after.stop
 
-few_taken : (p : Program) (st : State) (kind : Kind) (t : ℕ) → length (taken p st kind t).0.tasks ≡ length st.tasks
+pub few_taken : (p : Program) (st : State) (kind : Kind) (t : ℕ) → length (taken p st kind t).0.tasks ≡ length st.tasks
 few_taken p st Admit t = few_admitted st t (slice_get st.tasks t)
 few_taken p st Run t = few_ran p st t (slice_get st.tasks t)
 
@@ -128,7 +128,7 @@ module _ (p : Program) (lim : Bounds) where
   at_start = record { rows = first_alone (slice_get p.tasks p.main) refl }
 
   -- the row of a task that has come so far
-  status_of : (st : State) (t : ℕ) (row : TaskRow) (status : TaskStatus) → HasStatus st t status → slice_get st.tasks t ≡ Some row → row.status ≡ status
+  pub status_of : (st : State) (t : ℕ) (row : TaskRow) (status : TaskStatus) → HasStatus st t status → slice_get st.tasks t ≡ Some row → row.status ≡ status
   status_of st t row status (other, found, is) here = let same : other ≡ row = cc in ap (λ (r : TaskRow). r.status) (sym same) ∙ is
 
   after_admit : (st : State) (t : ℕ) (found : Option TaskRow) → HasStatus st t Made → slice_get st.tasks t ≡ found → IsAlone p lim st → IsAlone p lim (admitted st t found)

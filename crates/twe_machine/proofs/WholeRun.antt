@@ -104,7 +104,7 @@ whole_from p lim decl wellformed sequential found alone =
     let may1 : MayMove st1 run_main = may_run p lim st1 run_main (admitted_row (first_row p.main lim decl)) alone1 refl refl refl refl in
     let frame : Frame = start_frame p.main lim decl in
     let after = segment p frame st1.cells in
-    let stop : IsEnd after.stop = (main_ends p lim frame st1.cells wellformed sequential (record { decl = decl; found = found; same = refl })).1 in
+    let stop : IsEnd after.stop = main_ends p lim frame st1.cells wellformed sequential (record { decl = decl; found = found; same = refl }) in
     record {
       begins = let on = goes_on p lim st0 (omega arith) alone refl refl refl in (refl, on.0, on.1);
       goes_on = let on = goes_on p lim st1 (omega arith) alone1 refl refl refl in (refl, on.0, on.1);

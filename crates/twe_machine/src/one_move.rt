@@ -1,14 +1,15 @@
 //! One move.
 ghost use Rattle.std.specs.Prelude.{◌≡◌, ◌<◌, length, IfOk, slice_get};
+ghost use Rattle.twe_program.specs.Program.{cell_count};
 ghost use Rattle.twe_machine.specs.Legal.{MayMove};
 ghost use Rattle.twe_machine.specs.Moves.{admitted, moved, ran};
 ghost use Rattle.twe_machine.specs.Runs.{IsReached};
-ghost use Rattle.twe_machine.specs.inner.Ready.{IsReady};
+ghost use Rattle.twe_machine.specs.inner.Ends.{EndsTask};
 ghost use Rattle.twe_machine.specs.Sequential.{IsSequential};
 
 use crate::settling::settle;
 use crate::state::{State, TaskRow, TaskStatus};
-use seg_exec::{Frame, Next, run_segment};
+use seg_exec::{Frame, Next, run_segment_over_list};
 use seg_journal::{End, Kind, Limits, Move};
 use std::alloc::Global;
 use std::mem;
@@ -45,11 +46,12 @@ fn admit(st: &mut State, task: usize)
 fn run(alloc: Global, p: &Prog, st: &mut State, t: u32) -> Result<End, Memory>
     requires there { t < length st.old.tasks }
     requires linked { t < length st.old.links }
-    requires ready { IsReady p.now st.old (slice_get st.old.tasks t) }
+    requires cells { length st.old.cells ≡ cell_count p.now }
+    requires ends { EndsTask p.now st.old (slice_get st.old.tasks t) }
     ensures { IfOk result (λ end. (st.new, end) ≡ ran p.now st.old t (slice_get st.old.tasks t)) }
 {
     let mut frame = take_frame(alloc, st.tasks.item_mut(t as usize));
-    let stop = run_segment(alloc, p, &mut frame, &mut st.cells)?;
+    let stop = run_segment_over_list(alloc, p, &mut frame, &mut st.cells)?;
     settle(alloc, st, t, frame, stop)
 }
 

@@ -4,7 +4,7 @@ use Rattle.std.proofs.lemmas.Option.{slice_get_within}
 use Rattle.twe_program.specs.WellFormed.{IsWellFormed}
 use Rattle.twe_machine.specs.Legal.{MayTake}
 use Rattle.twe_machine.specs.Rows.{link_of_row}
-use Rattle.twe_machine.proofs.Main.{ready}
+use Rattle.twe_machine.proofs.Main.{comes_to_end, has_cells}
 use Rattle.twe_machine.proofs.OneTask.{reached_agrees}
 use Rattle.twe_machine.proofs.one_move.step.Goals as goal
 
@@ -17,8 +17,14 @@ run-requires-clause-linked c =
     let agree = reached_agrees c.args.p.now c.args.lim st c.requires.reached in
     omega (arith, there, ap length agree, length-map st.tasks link_of_row)
 
--- `main` comes to the end of its task
-pub run-requires-clause-ready : goal.run-requires-clause-ready
-run-requires-clause-ready c =
+-- there are as many values as cells
+pub run-requires-clause-cells : goal.run-requires-clause-cells
+run-requires-clause-cells c =
     let may = subst (λ kind. MayTake c.args.st.now kind c.args.mv.task) c.in-Run.is c.requires.legal in
-    ready c.args.p.now c.args.lim c.args.st.now c.args.mv.task (subst IsWellFormed c.p.view_is c.p.invariant) c.requires.sequential c.requires.reached may
+    has_cells c.args.p.now c.args.lim (subst IsWellFormed c.p.view_is c.p.invariant) c.requires.sequential c.args.st.now c.args.mv.task c.requires.reached may
+
+-- and `main` comes to its end
+pub run-requires-clause-ends : goal.run-requires-clause-ends
+run-requires-clause-ends c =
+    let may = subst (λ kind. MayTake c.args.st.now kind c.args.mv.task) c.in-Run.is c.requires.legal in
+    comes_to_end c.args.p.now c.args.lim (subst IsWellFormed c.p.view_is c.p.invariant) c.requires.sequential c.args.st.now c.args.mv.task c.requires.reached may
