@@ -1,0 +1,84 @@
+-- What a summary covers as it is written, it covers when it runs: under the values of the variables.
+use Rattle.std.proofs.Common.{◌≡◌, ℕ, zero, suc, ◌<◌, ℤ, Bool, true, false, IsTrue, List, [], ◌∷◌, map, length, take, inl, inr, Some, Any, Contains, refl, sym, ap, ◌∙◌, subst, arith}
+use Rattle.std.specs.Prelude.{slice_get}
+use Rattle.std.specs.List.{AllByRecursion}
+use Rattle.std.proofs.lemmas.Bool.{and_from, lt-ltb}
+use Rattle.std.proofs.lemmas.List.{length-map}
+use Rattle.region_paths.specs.declared.elements.Elem.{Elem}
+use Rattle.region_paths.specs.declared.elements.Elem.TheVariants.{Name, Index, Var, AnyIndex}
+use Rattle.region_paths.specs.Arguments.{ArgumentsStand, Gives, literals}
+use Rattle.region_paths.specs.Filled.{Valuation, has_args, vars_below}
+use Rattle.effect_sets.specs.declared.effects.Effect.{Effect}
+use Rattle.effect_sets.specs.declared.effects.Summary.{Summary}
+use Rattle.effect_sets.specs.Access.{Access, CoversAccess, SomeCoversAccess}
+use Rattle.effect_sets.specs.Covers.{covers, effect_covers}
+use Rattle.effect_sets.specs.Filled.{effect_under, fill_effect, fill_summary}
+use Rattle.effect_sets.proofs.Accesses.{within-covers, covers-under}
+use Rattle.effect_sets.proofs.Filling.{fill_effect-literals, fill_effect-within}
+use Rattle.twe_program.specs.WellFormed.{ElementFits, PathFits, SummaryFits}
+use Rattle.effect_check.proofs.Members.{IsIn, contains-in, in-contains, list_any-in, all-in}
+use Rattle.seg_exec.specs.Access.{value_in}
+
+pub in-map : {X Y : Type 0} (f : X → Y) (xs : List X) (x : X) → IsIn x xs → IsIn (f x) (map f xs)
+in-map f [] x h = absurd h
+in-map f (y ∷ ys) x (inl e) = inl (ap f e)
+in-map f (y ∷ ys) x (inr h) = inr (in-map f ys x h)
+
+pub map-in : {X Y : Type 0} (f : X → Y) (xs : List X) (y : Y) → IsIn y (map f xs) → (x : X) × IsIn x xs × (y ≡ f x)
+map-in f [] y h = absurd h
+map-in f (x ∷ xs) y (inl e) = (x, inl refl, e)
+map-in f (x ∷ xs) y (inr h) = let found = map-in f xs y h in (found.0, inr found.1, found.2)
+
+some_covers : (es : List Effect) (e : Effect) (a : Access) → IsIn e es → CoversAccess e a → SomeCoversAccess es a
+some_covers es e a here covered = let c = in-contains es e here in (c.0, e, c.1, c.2, covered)
+
+-- the variables of elements that fit are below the number of parameters
+vars_below-fits : (regions n : ℕ) (es : List Elem) → AllByRecursion (ElementFits regions n) es → vars_below n es ≡ true
+vars_below-fits regions n [] fit = refl
+vars_below-fits regions n (Name name ∷ es) fit = vars_below-fits regions n es fit.1
+vars_below-fits regions n (Index i ∷ es) fit = vars_below-fits regions n es fit.1
+vars_below-fits regions n (Var k ∷ es) fit = and_from _ _ (lt-ltb k n fit.0) (vars_below-fits regions n es fit.1)
+vars_below-fits regions n (AnyIndex ∷ es) fit = vars_below-fits regions n es fit.1
+
+-- variables that begin with the arguments have them as their values
+pub values_now : List ℤ → Valuation
+values_now vars = λ var. value_in (slice_get vars var)
+
+pub gives_args : (args vars : List ℤ) → take (length args) vars ≡ args → (k : ℕ) → k < length args → slice_get args k ≡ Some (value_in (slice_get vars k))
+gives_args [] vars e k h = absurd (omega arith)
+gives_args (a ∷ args) [] e k h = absurd (cc)
+gives_args (a ∷ args) (x ∷ vars) e zero h = let same : x ≡ a = cc in ap (λ (z : ℤ). Some z) (sym same)
+gives_args (a ∷ args) (x ∷ vars) e (suc k) h =
+    let rest : take (length args) vars ≡ args = cc in
+    gives_args args vars rest k (omega arith)
+
+-- a declared summary, and the arguments that it is filled with
+module _ (summary : Summary) (regions : ℕ) (args : List ℤ) (fits : SummaryFits regions (length args) summary) (v : Valuation) (gives : Gives v args) where
+  under_is_filled : (e : Effect) → PathFits regions (length args) e.path → fill_effect (literals args) e ≡ effect_under v e
+  under_is_filled e fit =
+      let same : length (literals args) ≡ length args = length-map args (λ z. Index z) in
+      let front : vars_below (length (literals args)) e.path.elems ≡ true = ap (λ n. vars_below n e.path.elems) same ∙ vars_below-fits regions (length args) e.path.elems fit.elems in
+      let back : vars_below (length (literals args)) e.path.tail ≡ true = ap (λ n. vars_below n e.path.tail) same ∙ vars_below-fits regions (length args) e.path.tail fit.tail in
+      fill_effect-literals v args e gives (and_from _ _ front back)
+
+  -- what an effect covers under the values now, the summary covers now
+  pub covered_now : (e : Effect) → IsTrue (covers summary e) → (a : Access) → CoversAccess (effect_under v e) a → SomeCoversAccess (fill_summary (literals args) summary).effects a
+  covered_now e covered a h =
+      let found = list_any-in (λ d. effect_covers d e) summary.effects covered in
+      let d = found.0 in
+      let fit : PathFits regions (length args) d.path = all-in (λ (x : Effect). PathFits regions (length args) x.path) summary.effects fits.effects d found.1 in
+      let now : CoversAccess (effect_under v d) a = within-covers (effect_under v d) (effect_under v e) (covers-under d e found.2 v) a h in
+      some_covers _ (fill_effect (literals args) d) a (in-map (fill_effect (literals args)) summary.effects d found.1)
+      (subst (λ (x : Effect). CoversAccess x a) (sym (under_is_filled d fit)) now)
+
+  -- what a called method's effects cover, filled with the values of its arguments, the summary covers now
+  pub called_now : (callee : Summary) (written : List Elem) (values : List ℤ) → ArgumentsStand v written values
+      → ((e : Effect) → IsIn e (fill_summary written callee).effects → IsTrue (covers summary e))
+      → (a : Access) → SomeCoversAccess (fill_summary (literals values) callee).effects a → SomeCoversAccess (fill_summary (literals args) summary).effects a
+  called_now callee written values stand covered a (k, e, below, read, h) =
+      let there : IsIn e (map (fill_effect (literals values)) callee.effects) = contains-in _ e (k, below, read) in
+      let found = map-in (fill_effect (literals values)) callee.effects e there in
+      let plain = found.0 in
+      let filled : CoversAccess (fill_effect (literals values) plain) a = subst (λ (x : Effect). CoversAccess x a) found.2 h in
+      covered_now (fill_effect written plain) (covered (fill_effect written plain) (in-map (fill_effect written) callee.effects plain found.1)) a
+      (within-covers (effect_under v (fill_effect written plain)) (fill_effect (literals values) plain) (fill_effect-within v written values plain stand) a filled)

@@ -1,0 +1,3 @@
+pub mod CellPaths
+pub mod Declared
+pub mod Static
