@@ -41,7 +41,7 @@ vars_below-fits regions n (Var k ∷ es) fit = and_from _ _ (lt-ltb k n fit.0) (
 vars_below-fits regions n (AnyIndex ∷ es) fit = vars_below-fits regions n es fit.1
 
 -- variables that begin with the arguments have them as their values
-pub values_now : List ℤ → Valuation
+abbrev pub values_now : List ℤ → Valuation
 values_now vars = λ var. value_in (slice_get vars var)
 
 pub gives_args : (args vars : List ℤ) → take (length args) vars ≡ args → (k : ℕ) → k < length args → slice_get args k ≡ Some (value_in (slice_get vars k))

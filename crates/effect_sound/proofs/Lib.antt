@@ -1,3 +1,6 @@
 pub mod CellPaths
 pub mod Declared
 pub mod Static
+pub mod Assigned
+pub mod Sound
+pub mod Expressions
