@@ -10,7 +10,7 @@ use Rattle.region_paths.specs.declared.elements.Elem.{Elem}
 use Rattle.region_paths.specs.declared.elements.Elem.TheVariants.{AnyIndex}
 use Rattle.region_paths.specs.Written.{WrittenPath}
 use Rattle.region_paths.specs.Arguments.{ArgumentsStand, Gives, literals}
-use Rattle.region_paths.specs.Concrete.{InSet, number, elem_stands}
+use Rattle.region_paths.specs.Concrete.{ConcretePath, InSet, number, elem_stands}
 use Rattle.region_paths.specs.Filled.{Valuation, under, elem_under}
 use Rattle.effect_sets.specs.declared.effects.Effect.{Effect}
 use Rattle.effect_sets.specs.Access.{Access as PathAccess, SomeCoversAccess}
@@ -46,6 +46,13 @@ use Rattle.effect_sound.proofs.Sound.{Sound, Fine, declared_front, declared_back
 -- nothing more is said of a value
 abbrev pub AnyValue : {A : Type 0} → A → Type 0
 AnyValue value = true ≡ true
+
+-- the element that the rules have for an expression stands against its value, where the variables have these values
+abbrev pub StandsFor : List ℤ → Expression → ℤ → Type 0
+StandsFor vars e value = elem_stands (elem_under (values_now vars) (element_of e)) (number value) ≡ true
+
+abbrev pub StandFor : List ℤ → Arguments → List ℤ → Type 0
+StandFor vars given values = ArgumentsStand (values_now vars) (elements_of given) values × (length values ≡ count_of given)
 
 module _ (p : Program) where
   -- each access is covered by one of the effects
@@ -128,21 +135,16 @@ module _ (p : Program) (wf : IsWellFormed p) (methods : (i : ℕ) (decl : Decl) 
   gives_now k h = gives_args args vars begins k h
 
   -- an access to a path that the summary covers is covered now
-  pub read_covered : (path : WrittenPath) (cell : ℕ) → IsTrue (covers decl.summary (record { write = false; path = path }))
-      → InSet (under now path) (path_of_cell p cell) → SomeCoversAccess es (record { write = false; path = path_of_cell p cell })
-  read_covered path cell covered there =
-      within _ (covered_now decl.summary (length p.regions) args summary_fits now gives_now (record { write = false; path = path }) covered _ ((λ w. w), there))
-
-  pub write_covered : (path : WrittenPath) (cell : ℕ) → IsTrue (covers decl.summary (record { write = true; path = path }))
-      → InSet (under now path) (path_of_cell p cell) → SomeCoversAccess es (record { write = true; path = path_of_cell p cell })
-  write_covered path cell covered there =
-      within _ (covered_now decl.summary (length p.regions) args summary_fits now gives_now (record { write = true; path = path }) covered _ ((λ w. w), there))
+  pub path_covered : (write : Bool) (path : WrittenPath) (c : ConcretePath) → IsTrue (covers decl.summary (record { write = write; path = path }))
+      → InSet (under now path) c → SomeCoversAccess es (record { write = write; path = c })
+  path_covered write path c covered there =
+      within _ (covered_now decl.summary (length p.regions) args summary_fits now gives_now (record { write = write; path = path }) covered _ ((λ w. w), there))
 
   element_kept : (path : WrittenPath) → IsTrue (covers decl.summary (record { write = false; path = path })) → (cell : Option ℕ)
       → AtSome (λ n. InSet (under now path) (path_of_cell p n)) cell → (place : Place) (s : Store) → s.vars ≡ vars → Each p es s.accesses
       → GivenKeeps p es vars AnyValue (element_read cell place s)
   element_kept path covered None there place s same each = each
-  element_kept path covered (Some cell) there place s same each = (same, (read_covered path cell covered there, each), refl)
+  element_kept path covered (Some cell) there place s same each = (same, (path_covered false path _ covered there, each), refl)
 
   -- a method keeps to what it declares for its arguments, which the caller declares for its own
   entered_kept : (method : ℕ) (written : List Elem) (values : List ℤ) → ArgumentsStand now written values
@@ -167,53 +169,46 @@ module _ (p : Program) (wf : IsWellFormed p) (methods : (i : ℕ) (decl : Decl) 
       give_kept p es vars AnyValue AnyValue (unit_taken place s) _ (unit_kept p es vars place s same each)
       (λ unit s1 same1 each1 q. entered_kept method written values stand (nat_le 1000 s1.calls) (slice_get p.methods method) refl takes covered place s1 same1 each1)
 
-  -- the element that the rules have for an expression stands against its value
-  abbrev pub StandsFor : Expression → ℤ → Type 0
-  StandsFor e value = elem_stands (elem_under now (element_of e)) (number value) ≡ true
-
-  abbrev pub StandFor : Arguments → List ℤ → Type 0
-  StandFor given values = ArgumentsStand now (elements_of given) values × (length values ≡ count_of given)
-
   mutual
     pub value_kept : (point : ℕ) (e : Expression) → AllDeclared decl.summary (acts_of p point e) → ExpressionFits (scope_of p decl) e
-        → (s : Store) → s.vars ≡ vars → Each p es s.accesses → GivenKeeps p es vars (StandsFor e) (value_of below p e s)
+        → (s : Store) → s.vars ≡ vars → Each p es s.accesses → GivenKeeps p es vars (StandsFor vars e) (value_of below p e s)
     value_kept point (Literal value) covered fits s same each = (same, each, (Decides-int_eq value value).1 refl)
     value_kept point (Truth value) covered fits s same each = (same, each, refl)
     value_kept point (Variable var true) covered fits s same each =
         (same, each, (Decides-int_eq _ _).1 (ap (λ (l : List ℤ). value_in (slice_get l var)) (sym same)))
     value_kept point (Variable var false) covered fits s same each = (same, each, refl)
     value_kept point (CellValue cell place) covered fits s same each =
-        (same, (read_covered (path_at p cell []) _ covered.0 (cell_touched p wf now cell (slice_get p.cells cell) refl fits), each), refl)
+        (same, (path_covered false (path_at p cell []) _ covered.0 (cell_touched p wf now cell (slice_get p.cells cell) refl fits), each), refl)
     value_kept point (ArrayElement array index place) covered fits s same each =
-        give_kept p es vars (StandsFor index) AnyValue (value_of below p index s) _ (value_kept point index covered.1 fits.1 s same each)
+        give_kept p es vars (StandsFor vars index) AnyValue (value_of below p index s) _ (value_kept point index covered.1 fits.1 s same each)
         (λ i s1 same1 each1 stand. element_kept (path_at p array (element_of index ∷ [])) covered.0 (element_number p array i)
         (element_touched p wf now array (element_of index) i (slice_get p.cells array) refl stand) place s1 same1 each1)
     value_kept point (GridElement array row column place) covered fits s same each =
-        give_kept p es vars (StandsFor row) AnyValue (value_of below p row s) _ (value_kept point row (declared_front decl.summary (acts_of p point row) (acts_of p point column) covered.1) fits.1 s same each)
+        give_kept p es vars (StandsFor vars row) AnyValue (value_of below p row s) _ (value_kept point row (declared_front decl.summary (acts_of p point row) (acts_of p point column) covered.1) fits.1 s same each)
         (λ i s1 same1 each1 first.
-        give_kept p es vars (StandsFor column) AnyValue (value_of below p column s1) _ (value_kept point column (declared_back decl.summary (acts_of p point row) (acts_of p point column) covered.1) fits.2 s1 same1 each1)
+        give_kept p es vars (StandsFor vars column) AnyValue (value_of below p column s1) _ (value_kept point column (declared_back decl.summary (acts_of p point row) (acts_of p point column) covered.1) fits.2 s1 same1 each1)
         (λ j s2 same2 each2 second. element_kept (path_at p array (element_of row ∷ element_of column ∷ [])) covered.0 (grid_element_number p array i j)
         (grid_element_touched p wf now array (element_of row) (element_of column) i j (slice_get p.cells array) refl first second) place s2 same2 each2))
     value_kept point (CallValue method given place) covered fits s same each =
-        give_kept p es vars (StandFor given) AnyValue (values_of below p given s) _ (values_kept point given covered.1 fits.2 s same each)
+        give_kept p es vars (StandFor vars given) AnyValue (values_of below p given s) _ (values_kept point given covered.1 fits.2 s same each)
         (λ values s1 same1 each1 stand. called_kept method (elements_of given) values stand.0
         (subst (λ (n : ℕ). TakesArguments (slice_get p.methods method) n) (sym stand.1) fits.0) covered.0 place s1 same1 each1)
     value_kept point (Negative operand) covered fits s same each =
-        give_kept p es vars (StandsFor operand) AnyValue (value_of below p operand s) _ (value_kept point operand covered fits s same each) (λ value s1 same1 each1 q. (same1, each1, refl))
+        give_kept p es vars (StandsFor vars operand) AnyValue (value_of below p operand s) _ (value_kept point operand covered fits s same each) (λ value s1 same1 each1 q. (same1, each1, refl))
     value_kept point (Negation operand) covered fits s same each =
-        give_kept p es vars (StandsFor operand) AnyValue (value_of below p operand s) _ (value_kept point operand covered fits s same each) (λ value s1 same1 each1 q. (same1, each1, refl))
+        give_kept p es vars (StandsFor vars operand) AnyValue (value_of below p operand s) _ (value_kept point operand covered fits s same each) (λ value s1 same1 each1 q. (same1, each1, refl))
     value_kept point (Binary op left right place) covered fits s same each =
-        give_kept p es vars (StandsFor left) AnyValue (value_of below p left s) _ (value_kept point left (declared_front decl.summary (acts_of p point left) (acts_of p point right) covered) fits.0 s same each)
-        (λ value s1 same1 each1 q. right_kept p es vars (StandsFor right) (decided op (is_true value)) op value place (value_of below p right s1) s1 same1 each1
+        give_kept p es vars (StandsFor vars left) AnyValue (value_of below p left s) _ (value_kept point left (declared_front decl.summary (acts_of p point left) (acts_of p point right) covered) fits.0 s same each)
+        (λ value s1 same1 each1 q. right_kept p es vars (StandsFor vars right) (decided op (is_true value)) op value place (value_of below p right s1) s1 same1 each1
         (value_kept point right (declared_back decl.summary (acts_of p point left) (acts_of p point right) covered) fits.1 s1 same1 each1))
 
     pub values_kept : (point : ℕ) (given : Arguments) → AllDeclared decl.summary (acts_of_all p point given) → ArgumentsFit (scope_of p decl) given
-        → (s : Store) → s.vars ≡ vars → Each p es s.accesses → GivenKeeps p es vars (StandFor given) (values_of below p given s)
+        → (s : Store) → s.vars ≡ vars → Each p es s.accesses → GivenKeeps p es vars (StandFor vars given) (values_of below p given s)
     values_kept point exprs.no_more covered fits s same each = (same, each, (refl, refl))
     values_kept point (argument first others) covered fits s same each =
-        give_kept p es vars (StandsFor first) (StandFor (argument first others)) (value_of below p first s) _
+        give_kept p es vars (StandsFor vars first) (StandFor vars (argument first others)) (value_of below p first s) _
         (value_kept point first (declared_front decl.summary (acts_of p point first) (acts_of_all p point others) covered) fits.0 s same each)
         (λ value s1 same1 each1 stand.
-        give_kept p es vars (StandFor others) (StandFor (argument first others)) (values_of below p others s1) _
+        give_kept p es vars (StandFor vars others) (StandFor vars (argument first others)) (values_of below p others s1) _
         (values_kept point others (declared_back decl.summary (acts_of p point first) (acts_of_all p point others) covered) fits.1 s1 same1 each1)
         (λ values s2 same2 each2 more. (same2, each2, (and_from _ _ stand more.0, omega (arith, more.1)))))

@@ -4,3 +4,4 @@ pub mod Static
 pub mod Assigned
 pub mod Sound
 pub mod Expressions
+pub mod Statements
