@@ -5,3 +5,5 @@ pub mod Assigned
 pub mod Sound
 pub mod Expressions
 pub mod Statements
+pub mod Resumed
+pub mod Segments
