@@ -1,6 +1,6 @@
 -- The path that the rules have for a cell has the cell's concrete path in its set, where its indexes stand against
 -- those of the cell.
-use Rattle.std.proofs.Common.{◌≡◌, ℕ, zero, suc, ◌+◌, ◌-◌, ◌*◌, ◌/◌, ◌%◌, ◌<◌, ◌≤◌, ℤ, pos, negsuc, Bool, true, false, IsTrue, List, [], ◌∷◌, ◌++◌, map, Option, None, Some, refl, sym, ap, ap₂, ◌∙◌, subst, arith, ltb-true}
+use Rattle.std.proofs.Common.{◌≡◌, ℕ, zero, suc, ◌+◌, ◌-◌, ◌*◌, ◌/◌, ◌%◌, ◌<◌, ◌≤◌, ℤ, pos, negsuc, Bool, true, false, List, [], ◌∷◌, ◌++◌, map, Option, None, Some, refl, sym, ap, ap₂, ◌∙◌, subst, arith, ltb-true}
 use Rattle.std.specs.Prelude.{nat_lt, slice_get, option_map, if◌then◌else◌}
 use Rattle.std.specs.List.{AllByRecursion}
 use Rattle.std.proofs.lemmas.Bool.{lt-ltb, le-ltb, and_from, eq-eqb}
@@ -9,7 +9,7 @@ use Rattle.std.proofs.lemmas.List.{map-append}
 use Rattle.std.proofs.lemmas.Nat.{div-mul-add, mod-mul-add}
 use Rattle.region_paths.specs.declared.elements.Elem.{Elem}
 use Rattle.region_paths.specs.declared.elements.Elem.TheVariants.{Name, Index, Var, AnyIndex}
-use Rattle.region_paths.specs.Concrete.{ConcreteElem, region, number, ConcretePath, InSet, elem_stands, each_stands}
+use Rattle.region_paths.specs.Concrete.{number, ConcretePath, InSet, elem_stands, each_stands}
 use Rattle.region_paths.specs.Filled.{Valuation, elem_under, under}
 use Rattle.region_paths.proofs.Standing.{each_stands-append}
 use Rattle.twe_program.specs.declared.program.Dims.{Dims}
@@ -19,7 +19,7 @@ use Rattle.twe_program.specs.Program.{Program, size_of}
 use Rattle.twe_program.specs.Numbering.{CellsCountUp}
 use Rattle.twe_program.specs.Fitting.{HasShape, TakesIndexes}
 use Rattle.twe_program.specs.WellFormed.{IsWellFormed, CellFits, CellElementFits}
-use Rattle.seg_exec.specs.Cells.{in_row, in_grid, at_column, index_below, cell_number, element_number, grid_element_number, element_of, grid_element_of, first_of}
+use Rattle.seg_exec.specs.Cells.{in_row, in_grid, at_column, index_below, cell_number, element_of, grid_element_of, first_of}
 use Rattle.seg_exec.proofs.CellNumbers.{grid_within}
 use Rattle.effect_check.specs.Standing.{path_at, elements_from}
 use Rattle.effect_sound.specs.CellPaths.{concrete, indexes_at, path_within, path_among, path_of_cell}

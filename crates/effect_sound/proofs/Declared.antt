@@ -1,5 +1,5 @@
 -- What a summary covers as it is written, it covers when it runs: under the values of the variables.
-use Rattle.std.proofs.Common.{◌≡◌, ℕ, zero, suc, ◌<◌, ℤ, Bool, true, false, IsTrue, List, [], ◌∷◌, map, length, take, inl, inr, Some, Any, Contains, refl, sym, ap, ◌∙◌, subst, arith}
+use Rattle.std.proofs.Common.{◌≡◌, ℕ, zero, suc, ◌<◌, ℤ, true, IsTrue, List, [], ◌∷◌, map, length, take, inl, inr, Some, refl, sym, ap, ◌∙◌, subst, arith}
 use Rattle.std.specs.Prelude.{slice_get}
 use Rattle.std.specs.List.{AllByRecursion}
 use Rattle.std.proofs.lemmas.Bool.{and_from, lt-ltb}
@@ -7,7 +7,7 @@ use Rattle.std.proofs.lemmas.List.{length-map}
 use Rattle.region_paths.specs.declared.elements.Elem.{Elem}
 use Rattle.region_paths.specs.declared.elements.Elem.TheVariants.{Name, Index, Var, AnyIndex}
 use Rattle.region_paths.specs.Arguments.{ArgumentsStand, Gives, literals}
-use Rattle.region_paths.specs.Filled.{Valuation, has_args, vars_below}
+use Rattle.region_paths.specs.Filled.{Valuation, vars_below}
 use Rattle.effect_sets.specs.declared.effects.Effect.{Effect}
 use Rattle.effect_sets.specs.declared.effects.Summary.{Summary}
 use Rattle.effect_sets.specs.Access.{Access, CoversAccess, SomeCoversAccess}

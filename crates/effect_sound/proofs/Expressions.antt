@@ -1,5 +1,5 @@
 -- Expressions keep to what their declaration declares, and leave its variables as they are.
-use Rattle.std.proofs.Common.{◌≡◌, ℕ, zero, suc, ◌+◌, ◌-◌, ◌<◌, ◌≤◌, ℤ, pos, Bool, true, false, IsTrue, List, [], ◌∷◌, ◌++◌, map, length, take, replicate, Option, None, Some, inl, inr, refl, sym, ap, ◌∙◌, subst, arith}
+use Rattle.std.proofs.Common.{◌≡◌, ℕ, zero, suc, ◌+◌, ℤ, Bool, true, false, IsTrue, List, [], ◌∷◌, length, take, Option, None, Some, refl, sym, ap, subst, arith}
 use Rattle.std.specs.Prelude.{nat_le, slice_get}
 use Rattle.std.specs.List.{AllByRecursion}
 use Rattle.std.proofs.lemmas.Bool.{and_from}
@@ -7,7 +7,6 @@ use Rattle.std.proofs.lemmas.Bool.Decides.{Decides-int_eq}
 use Rattle.std.proofs.Math.Seq.{take-append_seam}
 use Rattle.twe_io.specs.declared.place.Place.{Place}
 use Rattle.region_paths.specs.declared.elements.Elem.{Elem}
-use Rattle.region_paths.specs.declared.elements.Elem.TheVariants.{AnyIndex}
 use Rattle.region_paths.specs.Written.{WrittenPath}
 use Rattle.region_paths.specs.Arguments.{ArgumentsStand, Gives, literals}
 use Rattle.region_paths.specs.Concrete.{ConcretePath, InSet, number, elem_stands}
@@ -16,7 +15,6 @@ use Rattle.effect_sets.specs.declared.effects.Effect.{Effect}
 use Rattle.effect_sets.specs.Access.{Access as PathAccess, SomeCoversAccess}
 use Rattle.effect_sets.specs.Covers.{covers}
 use Rattle.effect_sets.specs.Filled.{fill_summary}
-use Rattle.seg_journal.specs.declared.journal.FaultKind.{FaultKind}
 use Rattle.twe_program.specs.declared.expr.BinOp.{BinOp}
 use Rattle.twe_program.specs.declared.program.Decl.{Decl}
 use Rattle.twe_program.specs.Program.{Program}
@@ -31,7 +29,7 @@ use Rattle.seg_exec.specs.Access.{Access, value_in}
 use Rattle.seg_exec.specs.Arithmetic.{is_true, operated, decided}
 use Rattle.seg_exec.specs.Cells.{element_number, grid_element_number}
 use Rattle.seg_exec.specs.Store.{Store, Given, gives, faults, Flow, goes, returns, fails, stops, then_give, unit_of, unit_taken}
-use Rattle.seg_exec.specs.Meaning.{Below, element_read, value_or_fault, right_given, vars_at_start, left_with, given_back, entered, called, value_of, values_of, done_within}
+use Rattle.seg_exec.specs.Meaning.{Below, element_read, value_or_fault, right_given, vars_at_start, given_back, entered, called, value_of, values_of}
 use Rattle.effect_check.specs.Acts.{acts_of, acts_of_all, filled_summary}
 use Rattle.effect_check.specs.Standing.{element_of, elements_of, path_at}
 use Rattle.effect_check.proofs.Members.{IsIn}

@@ -1,13 +1,13 @@
 -- What remains of a body keeps to what its declaration declares: each of its statements is one of the body.
-use Rattle.std.proofs.Common.{◌≡◌, ℕ, zero, suc, ◌+◌, ℤ, List, [], ◌∷◌, ◌++◌, length, Option, None, Some, refl}
+use Rattle.std.proofs.Common.{◌≡◌, ℕ, zero, suc, ℤ, List, [], ◌∷◌, ◌++◌, length, Option, None, Some}
 use Rattle.std.specs.Prelude.{slice_get}
 use Rattle.effect_sets.specs.declared.effects.Effect.{Effect}
 use Rattle.twe_program.specs.declared.program.Decl.{Decl}
 use Rattle.twe_program.specs.Program.{Program}
 use Rattle.twe_program.specs.Statement.{Statement, Block, Let, Set, SetCell, SetArray, SetGrid, If, While, Return, Print, Call, Make, Wait, Statements, no_more, statement, Arms, arm, otherwise, no_else}
-use Rattle.twe_program.specs.WellFormed.{IsWellFormed, scope_of}
+use Rattle.twe_program.specs.WellFormed.{IsWellFormed}
 use Rattle.seg_exec.specs.declared.frame.Position.{Position}
-use Rattle.seg_exec.specs.Meaning.{Below, done_all, stopped_at}
+use Rattle.seg_exec.specs.Meaning.{Below, stopped_at}
 use Rattle.seg_exec.specs.Remaining.{after_first, last_of_first, branch_of, block_of, block_at, turned_again, resumed}
 use Rattle.seg_exec.specs.Store.{Store, Flow}
 use Rattle.effect_check.specs.Acts.{acts_of, acts_in, acts_in_all, acts_in_one}

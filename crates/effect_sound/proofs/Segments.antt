@@ -1,5 +1,5 @@
 -- A segment keeps to the effects that its task declared, and leaves the arguments as they are.
-use Rattle.std.proofs.Common.{◌≡◌, ℕ, ◌+◌, ℤ, pos, Bool, true, false, List, [], ◌∷◌, length, take, Option, None, Some, Contains, refl, sym, ap, ◌∙◌, subst, arith}
+use Rattle.std.proofs.Common.{◌≡◌, ℕ, ◌+◌, ℤ, Bool, true, false, List, [], ◌∷◌, length, take, Option, None, Some, Contains, refl, sym, ap, ◌∙◌, subst, arith}
 use Rattle.std.specs.Prelude.{slice_get}
 use Rattle.std.specs.List.{AllByRecursion}
 use Rattle.std.proofs.lemmas.Bool.{and_from}
@@ -23,7 +23,6 @@ use Rattle.seg_exec.specs.declared.operation.Operation.TheVariants as operations
 use Rattle.seg_exec.specs.Access.{Access}
 use Rattle.seg_exec.specs.Entry.{effects_of, effects_at}
 use Rattle.seg_exec.specs.Meaning.{body_of, done_within}
-use Rattle.seg_exec.specs.Remaining.{resumed}
 use Rattle.seg_exec.specs.Segment.{Stopped, closing, waiting, operation_next, stopped_by, store_at, flow_of, segment, task_of}
 use Rattle.seg_exec.specs.Store.{Store, Flow, goes, returns, fails, stops}
 use Rattle.effect_check.proofs.Members.{contains-in, all-in}
@@ -32,7 +31,7 @@ use Rattle.effect_sound.specs.KeepsEffects.{KeepsEffects}
 use Rattle.effect_sound.specs.KeepsParams.{KeepsParams}
 use Rattle.effect_sound.specs.RunsWith.{RunsWith, BeginWith, IntoFrom, NextFrom}
 use Rattle.effect_sound.proofs.Sound.{Sound, AllFine, got-in, method_sound, task_sound}
-use Rattle.effect_sound.proofs.Expressions.{Each, Kept, FlowKeeps, OperationKeeps, DeclaredIn}
+use Rattle.effect_sound.proofs.Expressions.{Each, Kept, FlowKeeps, OperationKeeps}
 use Rattle.effect_sound.proofs.Statements.{within_keeps}
 use Rattle.effect_sound.proofs.Resumed.{resumed_kept}
 

@@ -1,7 +1,6 @@
 -- What is known of a declaration of an accepted program, and of the parts of its body.
-use Rattle.std.proofs.Common.{◌≡◌, ℕ, zero, suc, ◌<◌, ◌≤◌, List, [], ◌∷◌, ◌++◌, length, Option, None, Some, inl, inr, Contains, refl, sym, ap, ◌∙◌, subst, arith}
+use Rattle.std.proofs.Common.{◌≡◌, ℕ, zero, suc, List, [], ◌∷◌, ◌++◌, Some, inl, inr, arith}
 use Rattle.std.specs.Prelude.{slice_get}
-use Rattle.std.specs.List.{AllByRecursion}
 use Rattle.effect_sets.specs.declared.effects.Summary.{Summary}
 use Rattle.twe_program.specs.declared.program.Decl.{Decl}
 use Rattle.twe_program.specs.Program.{Program}
@@ -10,7 +9,7 @@ use Rattle.twe_program.specs.Fitting.{StatementFits, StatementsFit, ArmsFit}
 use Rattle.twe_program.specs.WellFormed.{IsWellFormed, DeclFits, MethodFits, scope_of}
 use Rattle.effect_check.specs.declared.act.Act.{Act}
 use Rattle.effect_check.specs.Acts.{acts_in, acts_in_all, acts_in_one}
-use Rattle.effect_check.proofs.Members.{IsIn, in-contains, contains-in, all-in, all-front, all-back}
+use Rattle.effect_check.proofs.Members.{IsIn, in-contains, all-in, all-front, all-back}
 use Rattle.effect_sound.specs.KeepsEffects.{KeepsEffects}
 use Rattle.effect_sound.specs.KeepsParams.{KeepsParams, KeepsItsParams}
 use Rattle.effect_sound.proofs.Assigned.{AssignsFrom, AllAssignFrom, ArmsAssignFrom, counted_from, all_assign}

@@ -1,13 +1,13 @@
 -- Statements keep to what their declaration declares, and leave its parameters as they are.
-use Rattle.std.proofs.Common.{◌≡◌, ℕ, zero, suc, ◌+◌, ◌≤◌, ℤ, pos, Bool, true, false, IsTrue, List, [], ◌∷◌, ◌++◌, length, take, Option, None, Some, refl, sym, ap, ◌∙◌, subst, arith}
-use Rattle.std.specs.Prelude.{slice_get, slice_set}
+use Rattle.std.proofs.Common.{◌≡◌, ℕ, zero, suc, ◌+◌, ◌≤◌, ℤ, Bool, true, false, IsTrue, List, [], ◌∷◌, ◌++◌, length, take, Option, None, Some, refl, sym, ap, ◌∙◌, subst, arith}
+use Rattle.std.specs.Prelude.{slice_get}
 use Rattle.std.proofs.lemmas.List.{take-set-le}
 use Rattle.twe_io.specs.declared.place.Place.{Place}
 use Rattle.region_paths.specs.Written.{WrittenPath}
 use Rattle.region_paths.specs.Concrete.{ConcretePath, InSet, region}
 use Rattle.region_paths.specs.Filled.{under}
 use Rattle.effect_sets.specs.declared.effects.Effect.{Effect}
-use Rattle.effect_sets.specs.Access.{Access as PathAccess, SomeCoversAccess}
+use Rattle.effect_sets.specs.Access.{SomeCoversAccess}
 use Rattle.effect_sets.specs.Covers.{covers}
 use Rattle.twe_program.specs.declared.program.Decl.{Decl}
 use Rattle.twe_program.specs.Program.{Program}
@@ -16,17 +16,16 @@ use Rattle.twe_program.specs.Statement.{Statement, Block, Let, Set, SetCell, Set
 use Rattle.twe_program.specs.Fitting.{TakesArguments, ExpressionFits, ArgumentsFit}
 use Rattle.twe_program.specs.WellFormed.{IsWellFormed, scope_of}
 use Rattle.seg_exec.specs.Arithmetic.{is_true}
-use Rattle.seg_exec.specs.Cells.{cell_number, element_number, grid_element_number}
+use Rattle.seg_exec.specs.Cells.{element_number, grid_element_number}
 use Rattle.seg_exec.specs.Store.{Store, Given, gives, faults, Flow, goes, returns, fails, stops, then_do, then_go, unit_taken, with_var}
 use Rattle.seg_exec.specs.Meaning.{Below, element_written, value_of, values_of, called, turned, chosen, stopped_at, done_by, done_all, done_arms, done_within}
-use Rattle.effect_check.specs.declared.act.ActKind.TheVariants as kinds
-use Rattle.effect_check.specs.Acts.{filled_summary, acts_of, acts_of_all, acts_in, acts_in_all, acts_in_one}
+use Rattle.effect_check.specs.Acts.{acts_of, acts_of_all, acts_in, acts_in_all, acts_in_one}
 use Rattle.effect_check.specs.Standing.{element_of, elements_of, path_at, console}
 use Rattle.effect_sound.specs.CellPaths.{path_of_cell}
 use Rattle.effect_sound.specs.RunsWith.{IntoFrom}
 use Rattle.effect_sound.proofs.CellPaths.{AtSome, cell_touched, element_touched, grid_element_touched}
-use Rattle.effect_sound.proofs.Declared.{values_now, covered_now}
-use Rattle.effect_sound.proofs.Static.{ActDeclared, AllDeclared}
+use Rattle.effect_sound.proofs.Declared.{values_now}
+use Rattle.effect_sound.proofs.Static.{AllDeclared}
 use Rattle.effect_sound.proofs.Sound.{Sound, Fine, AllFine, ArmsFine, declared_front, declared_back}
 use Rattle.effect_sound.proofs.Expressions.{AnyValue, Each, Kept, GivenKeeps, FlowKeeps, DeclaredIn, BelowKeeps, unit_kept, StandsFor, StandFor, value_kept, values_kept, called_kept, path_covered}
 

@@ -1,5 +1,5 @@
 -- What the rules say of a body that fails none of them: each effect of what it does is covered by its summary.
-use Rattle.std.proofs.Common.{◌≡◌, ℕ, Bool, true, false, IsTrue, List, [], ◌∷◌, inl, inr, Contains, refl, sym, ap, ◌∙◌}
+use Rattle.std.proofs.Common.{ℕ, IsTrue, List, [], ◌∷◌, inl, inr, Contains, refl, sym, ◌∙◌}
 use Rattle.std.specs.List.{AllByRecursion}
 use Rattle.std.proofs.lemmas.Bool.{true≢false, true_from_ne_false}
 use Rattle.effect_sets.specs.declared.effects.Effect.{Effect}
@@ -12,7 +12,7 @@ use Rattle.effect_check.specs.declared.act.ActKind.{ActKind}
 use Rattle.effect_check.specs.declared.act.ActKind.TheVariants as kinds
 use Rattle.effect_check.specs.declared.rule.ERule.TheVariants.{E1, E2, E8}
 use Rattle.effect_check.specs.Acts.{acts_in_all}
-use Rattle.effect_check.specs.FailsEffect.{TaskFails, access, called, MethodFails, access_outside, called_outside}
+use Rattle.effect_check.specs.FailsEffect.{access, called, access_outside, called_outside}
 use Rattle.effect_check.proofs.Members.{IsIn, in-contains}
 use Rattle.effect_sound.specs.KeepsEffects.{KeepsEffects}
 
