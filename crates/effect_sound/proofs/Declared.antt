@@ -11,12 +11,12 @@ use Rattle.region_paths.specs.Filled.{Valuation, vars_below}
 use Rattle.effect_sets.specs.declared.effects.Effect.{Effect}
 use Rattle.effect_sets.specs.declared.effects.Summary.{Summary}
 use Rattle.effect_sets.specs.Access.{Access, CoversAccess, SomeCoversAccess}
-use Rattle.effect_sets.specs.Covers.{covers, effect_covers}
+use Rattle.effect_sets.specs.Covers.{covers, effect_covers, EffectWithin}
 use Rattle.effect_sets.specs.Filled.{effect_under, fill_effect, fill_summary}
 use Rattle.effect_sets.proofs.Accesses.{within-covers, covers-under}
 use Rattle.effect_sets.proofs.Filling.{fill_effect-literals, fill_effect-within}
 use Rattle.twe_program.specs.WellFormed.{ElementFits, PathFits, SummaryFits}
-use Rattle.effect_check.proofs.Members.{IsIn, contains-in, in-contains, list_any-in, all-in}
+use Rattle.effect_check.proofs.Members.{IsIn, in-contains, list_any-in, all-in}
 use Rattle.seg_exec.specs.Access.{value_in}
 
 pub in-map : {X Y : Type 0} (f : X → Y) (xs : List X) (x : X) → IsIn x xs → IsIn (f x) (map f xs)
@@ -29,8 +29,20 @@ map-in f [] y h = absurd h
 map-in f (x ∷ xs) y (inl e) = (x, inl refl, e)
 map-in f (x ∷ xs) y (inr h) = let found = map-in f xs y h in (found.0, inr found.1, found.2)
 
-some_covers : (es : List Effect) (e : Effect) (a : Access) → IsIn e es → CoversAccess e a → SomeCoversAccess es a
-some_covers es e a here covered = let c = in-contains es e here in (c.0, e, c.1, c.2, covered)
+-- the effect is within one of these
+abbrev pub SomeWithin : List Effect → Effect → Type 0
+SomeWithin es e = (d : Effect) × IsIn d es × EffectWithin d e
+
+pub within_more : (es : List Effect) (d e : Effect) → SomeWithin es d → EffectWithin d e → SomeWithin es e
+within_more es d e first second = (first.0, first.1, (λ w. first.2.0 (second.0 w), λ c there. first.2.1 c (second.1 c there)))
+
+pub within_itself : (es : List Effect) (e : Effect) → IsIn e es → SomeWithin es e
+within_itself es e here = (e, here, (λ w. w, λ c there. there))
+
+pub some_covers : (es : List Effect) (e : Effect) (a : Access) → SomeWithin es e → CoversAccess e a → SomeCoversAccess es a
+some_covers es e a within covered =
+    let c = in-contains es within.0 within.1 in
+    (c.0, within.0, c.1, c.2, within-covers within.0 e within.2 a covered)
 
 -- the variables of elements that fit are below the number of parameters
 vars_below-fits : (regions n : ℕ) (es : List Elem) → AllByRecursion (ElementFits regions n) es → vars_below n es ≡ true
@@ -61,24 +73,24 @@ module _ (summary : Summary) (regions : ℕ) (args : List ℤ) (fits : SummaryFi
       let back : vars_below (length (literals args)) e.path.tail ≡ true = ap (λ n. vars_below n e.path.tail) same ∙ vars_below-fits regions (length args) e.path.tail fit.tail in
       fill_effect-literals v args e gives (and_from _ _ front back)
 
-  -- what an effect covers under the values now, the summary covers now
-  pub covered_now : (e : Effect) → IsTrue (covers summary e) → (a : Access) → CoversAccess (effect_under v e) a → SomeCoversAccess (fill_summary (literals args) summary).effects a
-  covered_now e covered a h =
+  -- an effect that the summary covers is within one of it now
+  pub covered_now : (e : Effect) → IsTrue (covers summary e) → SomeWithin (fill_summary (literals args) summary).effects (effect_under v e)
+  covered_now e covered =
       let found = list_any-in (λ d. effect_covers d e) summary.effects covered in
       let d = found.0 in
       let fit : PathFits regions (length args) d.path = all-in (λ (x : Effect). PathFits regions (length args) x.path) summary.effects fits.effects d found.1 in
-      let now : CoversAccess (effect_under v d) a = within-covers (effect_under v d) (effect_under v e) (covers-under d e found.2 v) a h in
-      some_covers _ (fill_effect (literals args) d) a (in-map (fill_effect (literals args)) summary.effects d found.1)
-      (subst (λ (x : Effect). CoversAccess x a) (sym (under_is_filled d fit)) now)
+      let now : EffectWithin (fill_effect (literals args) d) (effect_under v e) = subst (λ (x : Effect). EffectWithin x (effect_under v e)) (sym (under_is_filled d fit)) (covers-under d e found.2 v) in
+      (fill_effect (literals args) d, in-map (fill_effect (literals args)) summary.effects d found.1, now)
 
-  -- what a called method's effects cover, filled with the values of its arguments, the summary covers now
-  pub called_now : (callee : Summary) (written : List Elem) (values : List ℤ) → ArgumentsStand v written values
-      → ((e : Effect) → IsIn e (fill_summary written callee).effects → IsTrue (covers summary e))
-      → (a : Access) → SomeCoversAccess (fill_summary (literals values) callee).effects a → SomeCoversAccess (fill_summary (literals args) summary).effects a
-  called_now callee written values stand covered a (k, e, below, read, h) =
-      let there : IsIn e (map (fill_effect (literals values)) callee.effects) = contains-in _ e (k, below, read) in
-      let found = map-in (fill_effect (literals values)) callee.effects e there in
+  -- where the summary covers each effect of another as it is filled with the written arguments, each effect of that one
+  -- as it is filled with their values is within one of the summary now
+  pub filled_now : (other : Summary) (written : List Elem) (values : List ℤ) → ArgumentsStand v written values
+      → ((e : Effect) → IsIn e (fill_summary written other).effects → IsTrue (covers summary e))
+      → (e : Effect) → IsIn e (fill_summary (literals values) other).effects → SomeWithin (fill_summary (literals args) summary).effects e
+  filled_now other written values stand covered e there =
+      let found = map-in (fill_effect (literals values)) other.effects e there in
       let plain = found.0 in
-      let filled : CoversAccess (fill_effect (literals values) plain) a = subst (λ (x : Effect). CoversAccess x a) found.2 h in
-      covered_now (fill_effect written plain) (covered (fill_effect written plain) (in-map (fill_effect written) callee.effects plain found.1)) a
-      (within-covers (effect_under v (fill_effect written plain)) (fill_effect (literals values) plain) (fill_effect-within v written values plain stand) a filled)
+      let inside : EffectWithin (effect_under v (fill_effect written plain)) e
+      = subst (λ (x : Effect). EffectWithin (effect_under v (fill_effect written plain)) x) (sym found.2) (fill_effect-within v written values plain stand) in
+      within_more _ (effect_under v (fill_effect written plain)) e
+      (covered_now (fill_effect written plain) (covered (fill_effect written plain) (in-map (fill_effect written) other.effects plain found.1))) inside

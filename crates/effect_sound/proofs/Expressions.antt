@@ -1,5 +1,7 @@
 -- Expressions keep to what their declaration declares, and leave its variables as they are.
-use Rattle.std.proofs.Common.{◌≡◌, ℕ, zero, suc, ◌+◌, ℤ, Bool, true, false, IsTrue, List, [], ◌∷◌, length, take, Option, None, Some, refl, sym, ap, subst, arith}
+use Rattle.seg_exec.specs.Entry.{effects_at}
+use Rattle.effect_sets.specs.declared.effects.Summary.{Summary}
+use Rattle.std.proofs.Common.{◌≡◌, ℕ, zero, suc, ◌+◌, ℤ, Bool, true, false, IsTrue, List, [], ◌∷◌, length, take, Option, None, Some, refl, sym, ap, subst, arith, Contains}
 use Rattle.std.specs.Prelude.{nat_le, slice_get}
 use Rattle.std.specs.List.{AllByRecursion}
 use Rattle.std.proofs.lemmas.Bool.{and_from}
@@ -12,9 +14,9 @@ use Rattle.region_paths.specs.Arguments.{ArgumentsStand, Gives, literals}
 use Rattle.region_paths.specs.Concrete.{ConcretePath, InSet, number, elem_stands}
 use Rattle.region_paths.specs.Filled.{Valuation, under, elem_under}
 use Rattle.effect_sets.specs.declared.effects.Effect.{Effect}
-use Rattle.effect_sets.specs.Access.{Access as PathAccess, SomeCoversAccess}
+use Rattle.effect_sets.specs.Access.{SomeCoversAccess}
 use Rattle.effect_sets.specs.Covers.{covers}
-use Rattle.effect_sets.specs.Filled.{fill_summary}
+use Rattle.effect_sets.specs.Filled.{fill_summary, effect_under}
 use Rattle.twe_program.specs.declared.expr.BinOp.{BinOp}
 use Rattle.twe_program.specs.declared.program.Decl.{Decl}
 use Rattle.twe_program.specs.Program.{Program}
@@ -37,7 +39,7 @@ use Rattle.effect_sound.specs.CellPaths.{path_of_cell}
 use Rattle.effect_sound.specs.DeclaredNow.{access_of}
 use Rattle.effect_sound.specs.RunsWith.{IntoFrom}
 use Rattle.effect_sound.proofs.CellPaths.{AtSome, cell_touched, element_touched, grid_element_touched}
-use Rattle.effect_sound.proofs.Declared.{values_now, gives_args, covered_now, called_now}
+use Rattle.effect_sound.proofs.Declared.{SomeWithin, within_more, some_covers, values_now, gives_args, covered_now, filled_now}
 use Rattle.effect_sound.proofs.Static.{AllDeclared}
 use Rattle.effect_sound.proofs.Sound.{Sound, Fine, declared_front, declared_back}
 
@@ -67,26 +69,29 @@ module _ (p : Program) where
   GivenKeeps es vars Q (gives value s) = (s.vars ≡ vars) × Each es s.accesses × Q value
   GivenKeeps es vars Q (faults kind place s) = Each es s.accesses
 
-  -- a task is made with as many arguments as it has parameters, and a value is taken by a local
-  abbrev pub OperationKeeps : ℕ → Operation → Type 0
-  OperationKeeps params (operations.Make future task args spawned place) = TakesArguments (slice_get p.tasks task) (length args)
-  OperationKeeps params (operations.Wait future join into) = IntoFrom params into
+  -- a task is made with as many arguments as it has parameters, and where a task spawns it, each of its effects is within
+  -- one of these; and a value is taken by a local
+  abbrev pub OperationKeeps : Decl → List Effect → ℕ → Operation → Type 0
+  OperationKeeps decl es params (operations.Make future task args spawned place) =
+      TakesArguments (slice_get p.tasks task) (length args)
+      × (Contains p.tasks decl → spawned ≡ true → (e : Effect) → IsIn e (effects_at p task args).effects → SomeWithin es e)
+  OperationKeeps decl es params (operations.Wait future join into) = IntoFrom params into
 
   -- a statement is done: its accesses are covered, and the variables begin with the arguments
-  abbrev pub FlowKeeps : List Effect → List ℤ → Flow → Type 0
-  FlowKeeps es args (goes s) = Kept es args s
-  FlowKeeps es args (returns value s) = Kept es args s
-  FlowKeeps es args (fails kind place s) = Each es s.accesses
-  FlowKeeps es args (stops operation positions s) = Kept es args s × OperationKeeps (length args) operation
+  abbrev pub FlowKeeps : Decl → List Effect → List ℤ → Flow → Type 0
+  FlowKeeps decl es args (goes s) = Kept es args s
+  FlowKeeps decl es args (returns value s) = Kept es args s
+  FlowKeeps decl es args (fails kind place s) = Each es s.accesses
+  FlowKeeps decl es args (stops operation positions s) = Kept es args s × OperationKeeps decl es (length args) operation
 
-  -- what a declaration declares for these arguments, these effects cover
+  -- each effect that a declaration declares for these arguments is within one of these
   abbrev pub DeclaredIn : Decl → List ℤ → List Effect → Type 0
-  DeclaredIn decl args es = (a : PathAccess) → SomeCoversAccess (fill_summary (literals args) decl.summary).effects a → SomeCoversAccess es a
+  DeclaredIn decl args es = (e : Effect) → IsIn e (fill_summary (literals args) decl.summary).effects → SomeWithin es e
 
   -- each statement of a declaration keeps to what it declares
   abbrev pub BelowKeeps : Below → Type 0
   BelowKeeps below = (decl : Decl) → Sound p decl → (args : List ℤ) → decl.params ≡ length args → (es : List Effect) → DeclaredIn decl args es
-      → (stmt : Statement) → Fine p decl stmt → (s : Store) → Kept es args s → FlowKeeps es args (below stmt s)
+      → (stmt : Statement) → Fine p decl stmt → (s : Store) → Kept es args s → FlowKeeps decl es args (below stmt s)
 
   -- one after the other
   pub give_kept : {A B : Type 0} (es : List Effect) (vars : List ℤ) (Q : A → Type 0) (R : B → Type 0) (g : Given A) (next : A → Store → Given B)
@@ -113,11 +118,11 @@ module _ (p : Program) where
       give_kept es vars Q AnyValue right _ h (λ value s1 same1 each1 q. fault_kept es vars (operated op left value) place s1 same1 each1)
 
   -- after a call the caller's variables are as they were
-  given_back_kept : (es : List Effect) (args vars old : List ℤ) (f : Flow) → old ≡ vars → FlowKeeps es args f → GivenKeeps es vars AnyValue (given_back old f)
-  given_back_kept es args vars old (goes s) same h = (same, h.each, refl)
-  given_back_kept es args vars old (returns value s) same h = (same, h.each, refl)
-  given_back_kept es args vars old (fails kind place s) same h = h
-  given_back_kept es args vars old (stops operation positions s) same h = (same, h.0.each, refl)
+  given_back_kept : (decl : Decl) (es : List Effect) (args vars old : List ℤ) (f : Flow) → old ≡ vars → FlowKeeps decl es args f → GivenKeeps es vars AnyValue (given_back old f)
+  given_back_kept decl es args vars old (goes s) same h = (same, h.each, refl)
+  given_back_kept decl es args vars old (returns value s) same h = (same, h.each, refl)
+  given_back_kept decl es args vars old (fails kind place s) same h = h
+  given_back_kept decl es args vars old (stops operation positions s) same h = (same, h.0.each, refl)
 
 module _ (p : Program) (wf : IsWellFormed p) (methods : (i : ℕ) (decl : Decl) → slice_get p.methods i ≡ Some decl → Sound p decl)
     (below : Below) (keeps : BelowKeeps p below)
@@ -136,7 +141,19 @@ module _ (p : Program) (wf : IsWellFormed p) (methods : (i : ℕ) (decl : Decl) 
   pub path_covered : (write : Bool) (path : WrittenPath) (c : ConcretePath) → IsTrue (covers decl.summary (record { write = write; path = path }))
       → InSet (under now path) c → SomeCoversAccess es (record { write = write; path = c })
   path_covered write path c covered there =
-      within _ (covered_now decl.summary (length p.regions) args summary_fits now gives_now (record { write = write; path = path }) covered _ ((λ w. w), there))
+      let effect : Effect = record { write = write; path = path } in
+      let declared = covered_now decl.summary (length p.regions) args summary_fits now gives_now effect covered in
+      let inside = within_more es declared.0 (effect_under now effect) (within declared.0 declared.1) declared.2 in
+      some_covers es (effect_under now effect) _ inside ((λ w. w), there)
+
+  -- where the summary covers each effect of another as it is filled with the written arguments, each effect of that one
+  -- as it is filled with their values is within one of these
+  pub filled_within : (other : Summary) (written : List Elem) (values : List ℤ) → ArgumentsStand now written values
+      → ((e : Effect) → IsIn e (fill_summary written other).effects → IsTrue (covers decl.summary e))
+      → (e : Effect) → IsIn e (fill_summary (literals values) other).effects → SomeWithin es e
+  filled_within other written values stand covered e here =
+      let d = filled_now decl.summary (length p.regions) args summary_fits now gives_now other written values stand covered e here in
+      within_more es d.0 e (within d.0 d.1) d.2
 
   element_kept : (path : WrittenPath) → IsTrue (covers decl.summary (record { write = false; path = path })) → (cell : Option ℕ)
       → AtSome (λ n. InSet (under now path) (path_of_cell p n)) cell → (place : Place) (s : Store) → s.vars ≡ vars → Each p es s.accesses
@@ -153,11 +170,11 @@ module _ (p : Program) (wf : IsWellFormed p) (methods : (i : ℕ) (decl : Decl) 
   entered_kept method written values stand false None found takes covered place s same each = absurd takes
   entered_kept method written values stand false (Some callee) found takes covered place s same each =
       let callee_sound = methods method callee found in
-      let declared : DeclaredIn p callee values es = λ a h. within a (called_now decl.summary (length p.regions) args summary_fits now gives_now callee.summary written values stand covered a h) in
+      let declared : DeclaredIn p callee values es = filled_within callee.summary written values stand covered in
       let start : Store = record s { vars = vars_at_start (Some callee) values; calls = s.calls + 1 } in
       let body : Fine p callee (Block 0 callee.body.block) = record { declares = callee_sound.body.declares; fits = callee_sound.body.fits; assigns = callee_sound.body.assigns } in
       let kept : Kept p es values start = record { each = each; begins = take-append_seam values _ } in
-      given_back_kept p es values vars s.vars _ same (keeps callee callee_sound values takes es declared (Block 0 callee.body.block) body start kept)
+      given_back_kept p callee es values vars s.vars _ same (keeps callee callee_sound values takes es declared (Block 0 callee.body.block) body start kept)
 
   pub called_kept : (method : ℕ) (written : List Elem) (values : List ℤ) → ArgumentsStand now written values
       → TakesArguments (slice_get p.methods method) (length values)
@@ -168,7 +185,7 @@ module _ (p : Program) (wf : IsWellFormed p) (methods : (i : ℕ) (decl : Decl) 
       (λ unit s1 same1 each1 q. entered_kept method written values stand (nat_le 1000 s1.calls) (slice_get p.methods method) refl takes covered place s1 same1 each1)
 
   mutual
-    pub value_kept : (point : ℕ) (e : Expression) → AllDeclared decl.summary (acts_of p point e) → ExpressionFits (scope_of p decl) e
+    pub value_kept : (point : ℕ) (e : Expression) → AllDeclared p decl (acts_of p point e) → ExpressionFits (scope_of p decl) e
         → (s : Store) → s.vars ≡ vars → Each p es s.accesses → GivenKeeps p es vars (StandsFor vars e) (value_of below p e s)
     value_kept point (Literal value) covered fits s same each = (same, each, (Decides-int_eq value value).1 refl)
     value_kept point (Truth value) covered fits s same each = (same, each, refl)
@@ -182,9 +199,9 @@ module _ (p : Program) (wf : IsWellFormed p) (methods : (i : ℕ) (decl : Decl) 
         (λ i s1 same1 each1 stand. element_kept (path_at p array (element_of index ∷ [])) covered.0 (element_number p array i)
         (element_touched p wf now array (element_of index) i (slice_get p.cells array) refl stand) place s1 same1 each1)
     value_kept point (GridElement array row column place) covered fits s same each =
-        give_kept p es vars (StandsFor vars row) AnyValue (value_of below p row s) _ (value_kept point row (declared_front decl.summary (acts_of p point row) (acts_of p point column) covered.1) fits.1 s same each)
+        give_kept p es vars (StandsFor vars row) AnyValue (value_of below p row s) _ (value_kept point row (declared_front p decl (acts_of p point row) (acts_of p point column) covered.1) fits.1 s same each)
         (λ i s1 same1 each1 first.
-        give_kept p es vars (StandsFor vars column) AnyValue (value_of below p column s1) _ (value_kept point column (declared_back decl.summary (acts_of p point row) (acts_of p point column) covered.1) fits.2 s1 same1 each1)
+        give_kept p es vars (StandsFor vars column) AnyValue (value_of below p column s1) _ (value_kept point column (declared_back p decl (acts_of p point row) (acts_of p point column) covered.1) fits.2 s1 same1 each1)
         (λ j s2 same2 each2 second. element_kept (path_at p array (element_of row ∷ element_of column ∷ [])) covered.0 (grid_element_number p array i j)
         (grid_element_touched p wf now array (element_of row) (element_of column) i j (slice_get p.cells array) refl first second) place s2 same2 each2))
     value_kept point (CallValue method given place) covered fits s same each =
@@ -196,17 +213,17 @@ module _ (p : Program) (wf : IsWellFormed p) (methods : (i : ℕ) (decl : Decl) 
     value_kept point (Negation operand) covered fits s same each =
         give_kept p es vars (StandsFor vars operand) AnyValue (value_of below p operand s) _ (value_kept point operand covered fits s same each) (λ value s1 same1 each1 q. (same1, each1, refl))
     value_kept point (Binary op left right place) covered fits s same each =
-        give_kept p es vars (StandsFor vars left) AnyValue (value_of below p left s) _ (value_kept point left (declared_front decl.summary (acts_of p point left) (acts_of p point right) covered) fits.0 s same each)
+        give_kept p es vars (StandsFor vars left) AnyValue (value_of below p left s) _ (value_kept point left (declared_front p decl (acts_of p point left) (acts_of p point right) covered) fits.0 s same each)
         (λ value s1 same1 each1 q. right_kept p es vars (StandsFor vars right) (decided op (is_true value)) op value place (value_of below p right s1) s1 same1 each1
-        (value_kept point right (declared_back decl.summary (acts_of p point left) (acts_of p point right) covered) fits.1 s1 same1 each1))
+        (value_kept point right (declared_back p decl (acts_of p point left) (acts_of p point right) covered) fits.1 s1 same1 each1))
 
-    pub values_kept : (point : ℕ) (given : Arguments) → AllDeclared decl.summary (acts_of_all p point given) → ArgumentsFit (scope_of p decl) given
+    pub values_kept : (point : ℕ) (given : Arguments) → AllDeclared p decl (acts_of_all p point given) → ArgumentsFit (scope_of p decl) given
         → (s : Store) → s.vars ≡ vars → Each p es s.accesses → GivenKeeps p es vars (StandFor vars given) (values_of below p given s)
     values_kept point exprs.no_more covered fits s same each = (same, each, (refl, refl))
     values_kept point (argument first others) covered fits s same each =
         give_kept p es vars (StandsFor vars first) (StandFor vars (argument first others)) (value_of below p first s) _
-        (value_kept point first (declared_front decl.summary (acts_of p point first) (acts_of_all p point others) covered) fits.0 s same each)
+        (value_kept point first (declared_front p decl (acts_of p point first) (acts_of_all p point others) covered) fits.0 s same each)
         (λ value s1 same1 each1 stand.
         give_kept p es vars (StandFor vars others) (StandFor vars (argument first others)) (values_of below p others s1) _
-        (values_kept point others (declared_back decl.summary (acts_of p point first) (acts_of_all p point others) covered) fits.1 s1 same1 each1)
+        (values_kept point others (declared_back p decl (acts_of p point first) (acts_of_all p point others) covered) fits.1 s1 same1 each1)
         (λ values s2 same2 each2 more. (same2, each2, (and_from _ _ stand more.0, omega (arith, more.1)))))

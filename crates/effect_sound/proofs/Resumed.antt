@@ -26,14 +26,14 @@ module _ (p : Program) (decl : Decl) where
 
   first_fine : (first : Statement) (others : Statements) → AllFine p decl (statement first others) → Fine p decl first
   first_fine first others fine = record {
-    declares = declared_front decl.summary (acts_in p first) (acts_in_all p others) fine.declares;
+    declares = declared_front p decl (acts_in p first) (acts_in_all p others) fine.declares;
     fits = fine.fits.0;
     assigns = fine.assigns.0;
   }
 
   others_fine : (first : Statement) (others : Statements) → AllFine p decl (statement first others) → AllFine p decl others
   others_fine first others fine = record {
-    declares = declared_back decl.summary (acts_in p first) (acts_in_all p others) fine.declares;
+    declares = declared_back p decl (acts_in p first) (acts_in_all p others) fine.declares;
     fits = fine.fits.1;
     assigns = fine.assigns.1;
   }
@@ -51,12 +51,12 @@ module _ (p : Program) (decl : Decl) where
 
   branch_fine : (n point : ℕ) (arms : Arms) → ArmsFine p decl point arms → AllFine p decl (branch_of n arms)
   branch_fine zero point (arm condition body others) fine =
-      let after = declared_back decl.summary (acts_of p point condition) (acts_in_all p body ++ acts_in_one p point others) fine.declares in
-      record { declares = declared_front decl.summary (acts_in_all p body) (acts_in_one p point others) after; fits = fine.fits.1; assigns = fine.assigns.0 }
+      let after = declared_back p decl (acts_of p point condition) (acts_in_all p body ++ acts_in_one p point others) fine.declares in
+      record { declares = declared_front p decl (acts_in_all p body) (acts_in_one p point others) after; fits = fine.fits.1; assigns = fine.assigns.0 }
   branch_fine (suc n) point (arm condition body others) fine =
-      let after = declared_back decl.summary (acts_of p point condition) (acts_in_all p body ++ acts_in_one p point others) fine.declares in
+      let after = declared_back p decl (acts_of p point condition) (acts_in_all p body ++ acts_in_one p point others) fine.declares in
       branch_fine n point others
-      (record { declares = declared_back decl.summary (acts_in_all p body) (acts_in_one p point others) after; fits = fine.fits.2; assigns = fine.assigns.1 })
+      (record { declares = declared_back p decl (acts_in_all p body) (acts_in_one p point others) after; fits = fine.fits.2; assigns = fine.assigns.1 })
   branch_fine zero point (otherwise body) fine = record { declares = fine.declares; fits = fine.fits; assigns = fine.assigns }
   branch_fine (suc n) point (otherwise body) fine = record { declares = fine.declares; fits = fine.fits; assigns = fine.assigns }
   branch_fine zero point no_else fine = none_fine
@@ -72,7 +72,7 @@ module _ (p : Program) (decl : Decl) where
   block_fine n (Some (SetGrid point array row column value place)) fine = none_fine
   block_fine n (Some (If point arms)) fine = branch_fine n point arms (record { declares = fine.declares; fits = fine.fits; assigns = fine.assigns })
   block_fine n (Some (While point condition body place)) fine = record {
-    declares = declared_back decl.summary (acts_of p point condition) (acts_in_all p body) fine.declares;
+    declares = declared_back p decl (acts_of p point condition) (acts_in_all p body) fine.declares;
     fits = fine.fits.1;
     assigns = fine.assigns;
   }
@@ -85,11 +85,11 @@ module _ (p : Program) (decl : Decl) where
 module _ (p : Program) (wf : IsWellFormed p) (methods : (i : ℕ) (decl : Decl) → slice_get p.methods i ≡ Some decl → Sound p decl)
     (below : Below) (keeps : BelowKeeps p below)
     (decl : Decl) (sound : Sound p decl) (args : List ℤ) (count : decl.params ≡ length args) (es : List Effect) (within : DeclaredIn p decl args es) where
-  turned_again_kept : (positions : List Position) (o : Option Statement) → FineIf p decl o → (f : Flow) → FlowKeeps p es args f → FlowKeeps p es args (turned_again below positions o f)
+  turned_again_kept : (positions : List Position) (o : Option Statement) → FineIf p decl o → (f : Flow) → FlowKeeps p decl es args f → FlowKeeps p decl es args (turned_again below positions o f)
   turned_again_kept [] o fine f h = h
   turned_again_kept (position ∷ inner) None fine f h = h
   turned_again_kept (position ∷ inner) (Some (While point condition body place)) fine f h =
-      go_kept p es args f (below (While point condition body place)) h (λ s kept. keeps decl sound args count es within (While point condition body place) fine s kept)
+      go_kept p decl es args f (below (While point condition body place)) h (λ s kept. keeps decl sound args count es within (While point condition body place) fine s kept)
   turned_again_kept (position ∷ inner) (Some (Block point body)) fine f h = h
   turned_again_kept (position ∷ inner) (Some (Let point var value)) fine f h = h
   turned_again_kept (position ∷ inner) (Some (Set point var value)) fine f h = h
@@ -103,13 +103,13 @@ module _ (p : Program) (wf : IsWellFormed p) (methods : (i : ℕ) (decl : Decl) 
   turned_again_kept (position ∷ inner) (Some (Make point future task args spawned future_place place)) fine f h = h
   turned_again_kept (position ∷ inner) (Some (Wait point future join into place)) fine f h = h
 
-  pub resumed_kept : (stmts : Statements) → AllFine p decl stmts → (positions : List Position) (s : Store) → Kept p es args s → FlowKeeps p es args (resumed below p stmts positions s)
+  pub resumed_kept : (stmts : Statements) → AllFine p decl stmts → (positions : List Position) (s : Store) → Kept p es args s → FlowKeeps p decl es args (resumed below p stmts positions s)
   resumed_kept stmts fine [] s kept = kept
   resumed_kept stmts fine (position ∷ inner) s kept =
       let last = last_of_first position.after stmts in
       let here : FineIf p decl last = last_fine p decl position.after stmts fine in
       let inside = resumed below p (block_of (block_at inner) last) inner s in
-      go_kept p es args (stopped_at position.block position.after (turned_again below inner last inside)) _
-      (stopped_kept p es args position.block position.after (turned_again below inner last inside)
+      go_kept p decl es args (stopped_at position.block position.after (turned_again below inner last inside)) _
+      (stopped_kept p decl es args position.block position.after (turned_again below inner last inside)
       (turned_again_kept inner last here inside (resumed_kept (block_of (block_at inner) last) (block_fine p decl (block_at inner) last here) inner s kept)))
       (λ s1 kept1. all_kept p wf methods below keeps decl sound args count es within position.block position.after (after_first position.after stmts) (after_fine p decl position.after stmts fine) s1 kept1)

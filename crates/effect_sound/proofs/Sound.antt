@@ -1,7 +1,6 @@
 -- What is known of a declaration of an accepted program, and of the parts of its body.
 use Rattle.std.proofs.Common.{◌≡◌, ℕ, zero, suc, List, [], ◌∷◌, ◌++◌, Some, inl, inr, arith}
 use Rattle.std.specs.Prelude.{slice_get}
-use Rattle.effect_sets.specs.declared.effects.Summary.{Summary}
 use Rattle.twe_program.specs.declared.program.Decl.{Decl}
 use Rattle.twe_program.specs.Program.{Program}
 use Rattle.twe_program.specs.Statement.{Statement, Statements, Arms}
@@ -17,17 +16,17 @@ use Rattle.effect_sound.proofs.Static.{ActDeclared, AllDeclared, task_declares, 
 
 -- a statement, statements and arms of the body of a declaration
 pub record Fine (p : Program) (decl : Decl) (stmt : Statement) : Type 0 where
-  pub declares : AllDeclared decl.summary (acts_in p stmt)
+  pub declares : AllDeclared p decl (acts_in p stmt)
   pub fits : StatementFits (scope_of p decl) stmt
   pub assigns : AssignsFrom decl.params stmt
 
 pub record AllFine (p : Program) (decl : Decl) (stmts : Statements) : Type 0 where
-  pub declares : AllDeclared decl.summary (acts_in_all p stmts)
+  pub declares : AllDeclared p decl (acts_in_all p stmts)
   pub fits : StatementsFit (scope_of p decl) stmts
   pub assigns : AllAssignFrom decl.params stmts
 
 pub record ArmsFine (p : Program) (decl : Decl) (point : ℕ) (arms : Arms) : Type 0 where
-  pub declares : AllDeclared decl.summary (acts_in_one p point arms)
+  pub declares : AllDeclared p decl (acts_in_one p point arms)
   pub fits : ArmsFit (scope_of p decl) arms
   pub assigns : ArmsAssignFrom decl.params arms
 
@@ -35,11 +34,11 @@ pub record Sound (p : Program) (decl : Decl) : Type 0 where
   pub fits : DeclFits p decl
   pub body : AllFine p decl decl.body.block
 
-pub declared_front : (s : Summary) (xs ys : List Act) → AllDeclared s (xs ++ ys) → AllDeclared s xs
-declared_front s xs ys h = all-front (λ (act : Act). ActDeclared s act.kind) xs ys h
+pub declared_front : (p : Program) (decl : Decl) (xs ys : List Act) → AllDeclared p decl (xs ++ ys) → AllDeclared p decl xs
+declared_front p decl xs ys h = all-front (λ (act : Act). ActDeclared p decl act.kind) xs ys h
 
-pub declared_back : (s : Summary) (xs ys : List Act) → AllDeclared s (xs ++ ys) → AllDeclared s ys
-declared_back s xs ys h = all-back (λ (act : Act). ActDeclared s act.kind) xs ys h
+pub declared_back : (p : Program) (decl : Decl) (xs ys : List Act) → AllDeclared p decl (xs ++ ys) → AllDeclared p decl ys
+declared_back p decl xs ys h = all-back (λ (act : Act). ActDeclared p decl act.kind) xs ys h
 
 -- what is at a place of a list is in it
 pub got-in : {X : Type 0} (xs : List X) (i : ℕ) (x : X) → slice_get xs i ≡ Some x → IsIn x xs

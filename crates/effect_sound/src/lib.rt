@@ -6,4 +6,7 @@
 
 mod laws;
 
-pub use laws::{accepted_programs_keep_their_effects, main_keeps_to_its_summary};
+pub use laws::{
+    accepted_programs_keep_their_effects, arguments_stay, main_keeps_to_its_summary,
+    spawned_effects_lie_within,
+};
