@@ -1,16 +1,12 @@
 -- A bound above the fuel is never met: a larger one changes nothing.
-use Rattle.std.proofs.Common.{◌≡◌, ℕ, zero, suc, ◌+◌, ◌<◌, ◌≤◌, ℤ, pos, true, false, List, [], ◌∷◌, Option, None, refl, sym, ap, ◌∙◌, arith}
-use Rattle.twe_io.specs.declared.place.Place.{Place}
-use Rattle.seg_journal.specs.declared.journal.FaultKind.{FaultKind}
+use Rattle.std.proofs.Common.{◌≡◌, ℕ, ◌<◌, false, [], ◌∷◌, None, ap, arith}
 use Rattle.twe_program.specs.Program.{Program}
 use Rattle.twe_program.specs.Statement.{Statement}
-use Rattle.seg_exec.specs.declared.frame.Position.{Position}
-use Rattle.seg_exec.specs.declared.operation.Operation.{Operation}
 use Rattle.seg_exec.specs.declared.operation.Operation.TheVariants as operations
 use Rattle.seg_exec.specs.declared.work.Ending.TheVariants.{Returned, Faulted, Suspended}
 use Rattle.seg_exec.specs.Store.{Store, Flow, goes, returns, fails, stops}
-use Rattle.seg_exec.specs.Meaning.{Below, done_within}
-use Rattle.seg_exec.specs.inner.Tasks.{Task, Execute, Suspend}
+use Rattle.seg_exec.specs.Meaning.{done_within}
+use Rattle.seg_exec.specs.inner.Tasks.{Execute, Suspend}
 use Rattle.seg_exec.specs.inner.Runs.{Moment, Outcome, Over, moment, run}
 use Rattle.seg_exec.proofs.Simulation.{FlowTo, within_meets}
 use Rattle.seg_exec.proofs.Whole.{IsOver, once}
@@ -30,10 +26,10 @@ module _ (p : Program) where
   marked_over n (stops operation positions s) = tt
 
   ends_marked : (n bound : ℕ) (from : Moment) (f : Flow) → FlowTo p bound from (Suspend (operations.Wait n false None) [] ∷ []) [] f → (k : ℕ) × (run p k from ≡ marked n f)
-  ends_marked n bound from (goes s) h = h.1.by 1
-  ends_marked n bound from (returns value s) h = h.1.by 2
+  ends_marked n bound from (goes s) h = let x = h.1.by 1 in (x.0, x.2)
+  ends_marked n bound from (returns value s) h = let x = h.1.by 2 in (x.0, x.2)
   ends_marked n bound from (fails kind place s) h = h.by
-  ends_marked n bound from (stops operation positions s) h = h.1.by 2
+  ends_marked n bound from (stops operation positions s) h = let x = h.1.by 2 in (x.0, x.2)
 
   -- a flow is known by how it ends before two different operations
   known : (f g : Flow) → marked 0 f ≡ marked 0 g → marked 1 f ≡ marked 1 g → f ≡ g
@@ -60,8 +56,8 @@ module _ (p : Program) where
       let from = moment (Execute stmt ∷ work) [] s in
       let f = done_within p n stmt s in
       let g = done_within p m stmt s in
-      let x = ends_marked k s.fuel from f (within_meets p n stmt s s.fuel (omega arith) h work []) in
-      let y = ends_marked k s.fuel from g (within_meets p m stmt s s.fuel (omega arith) h' work []) in
+      let x = ends_marked k s.fuel from f ((within_meets p n).0 stmt s s.fuel (omega arith) h work []) in
+      let y = ends_marked k s.fuel from g ((within_meets p m).0 stmt s s.fuel (omega arith) h' work []) in
       once p x.0 y.0 from (marked k f) (marked k g) (marked_over k f) (marked_over k g) x.1 y.1
 
   pub larger_bounds : (n m : ℕ) (stmt : Statement) (s : Store) → s.fuel < n → s.fuel < m → done_within p n stmt s ≡ done_within p m stmt s

@@ -7,7 +7,7 @@ use Rattle.twe_program.specs.Program.{cells_made, size_of}
 use Rattle.twe_program.specs.Numbering.{CellsCountUp}
 
 -- the cells of a declaration come before the end of all
-cells_before : (decls : List CellDecl) (n i : ℕ) (cell : CellDecl) → CellsCountUp n decls → slice_get decls i ≡ Some cell
+pub cells_before : (decls : List CellDecl) (n i : ℕ) (cell : CellDecl) → CellsCountUp n decls → slice_get decls i ≡ Some cell
     → cell.first + size_of cell.dims ≤ n + cells_made decls
 cells_before [] n i cell up found = absurd (cc)
 cells_before (c ∷ cells) n zero cell up found =

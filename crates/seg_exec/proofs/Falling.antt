@@ -17,7 +17,7 @@ use Rattle.seg_exec.specs.declared.work.Goal.{Goal}
 use Rattle.seg_exec.specs.declared.work.Goal.TheVariants as goals
 use Rattle.seg_exec.specs.declared.work.Left.{Left}
 use Rattle.seg_exec.specs.declared.work.Left.TheVariants as lefts
-use Rattle.seg_exec.specs.Access.{Access}
+use Rattle.seg_exec.specs.Access.{Ways}
 use Rattle.seg_exec.specs.Arithmetic.{is_true, decided}
 use Rattle.seg_exec.specs.inner.Reached.{Standing, Served, Advances}
 use Rattle.seg_exec.specs.inner.Sizes.{size_of_expression, size_of_arguments, size_of_statement, size_of_all, size_of_arms, size_of_task, size_of_work}
@@ -220,18 +220,18 @@ step_falls p [] c = tt
 step_falls p (task ∷ work) c = worked_falls p task (record c { work = work })
 
 -- the same once what is asked for was done
-served_falls : {C : Type 0} (rule : C → Access → C → Type 0) (fuel size : ℕ) (asked : Asked) (old new : Standing C) → FallsIn fuel size asked old.config → Served rule asked old None new
+served_falls : {C : Type 0} (ways : Ways C) (fuel size : ℕ) (asked : Asked) (old new : Standing C) → FallsIn fuel size asked old.config → Served ways asked old None new
     → (new.config.fuel ≤ fuel) × (new.config.fuel ≡ fuel → size_of_work new.config.work < size)
-served_falls rule fuel size asks.Nothing old new f h = subst (λ (c : Config). (c.fuel ≤ fuel) × (c.fuel ≡ fuel → size_of_work c.work < size)) (sym (ap (λ s. s.config) h.1)) f
-served_falls rule fuel size (asks.Read cell) old new f h = subst (λ (c : Config). (c.fuel ≤ fuel) × (c.fuel ≡ fuel → size_of_work c.work < size)) (sym h.2) f
-served_falls rule fuel size (asks.Write cell value) old new f h = subst (λ (c : Config). (c.fuel ≤ fuel) × (c.fuel ≡ fuel → size_of_work c.work < size)) (sym h.1) f
-served_falls rule fuel size (asks.Print value) old new f h = subst (λ (c : Config). (c.fuel ≤ fuel) × (c.fuel ≡ fuel → size_of_work c.work < size)) (sym (ap (λ s. s.config) h.1)) f
-served_falls rule fuel size (asks.End ending) old new f h = let none = h.0 in absurd (cc)
+served_falls ways fuel size asks.Nothing old new f h = subst (λ (c : Config). (c.fuel ≤ fuel) × (c.fuel ≡ fuel → size_of_work c.work < size)) (sym (ap (λ s. s.config) h.1)) f
+served_falls ways fuel size (asks.Read cell) old new f h = subst (λ (c : Config). (c.fuel ≤ fuel) × (c.fuel ≡ fuel → size_of_work c.work < size)) (sym h.2) f
+served_falls ways fuel size (asks.Write cell value) old new f h = subst (λ (c : Config). (c.fuel ≤ fuel) × (c.fuel ≡ fuel → size_of_work c.work < size)) (sym h.1) f
+served_falls ways fuel size (asks.Print value) old new f h = subst (λ (c : Config). (c.fuel ≤ fuel) × (c.fuel ≡ fuel → size_of_work c.work < size)) (sym (ap (λ s. s.config) h.1)) f
+served_falls ways fuel size (asks.End ending) old new f h = let none = h.0 in absurd (cc)
 
-pub advance_falls : {C : Type 0} (p : Program) (rule : C → Access → C → Type 0) (old new : Standing C) → Advances p rule old None new
+pub advance_falls : {C : Type 0} (p : Program) (ways : Ways C) (old new : Standing C) → Advances p ways old None new
     → (new.config.fuel ≤ old.config.fuel) × (new.config.fuel ≡ old.config.fuel → size_of_work new.config.work < size_of_work old.config.work)
-advance_falls p rule old new h =
-    served_falls rule old.config.fuel (size_of_work old.config.work) (step_of p old.config).0 (record old { config = (step_of p old.config).1 }) new (step_falls p old.config.work old.config) h
+advance_falls p ways old new h =
+    served_falls ways old.config.fuel (size_of_work old.config.work) (step_of p old.config).0 (record old { config = (step_of p old.config).1 }) new (step_falls p old.config.work old.config) h
 
 -- the measure falls: the work that is left while the fuel is as it was, and nothing once a unit was taken
 measure_falls_by : (fuel old_size new old new_size : ℕ) (same : Bool) → nat_eq new fuel ≡ same → old ≡ fuel → new ≤ old → (new ≡ old → new_size < old_size)

@@ -1,3 +1,4 @@
+pub mod Accesses
 pub mod Bounds
 pub mod CellNumbers
 pub mod Falling
@@ -7,3 +8,4 @@ pub mod Remains
 pub mod Segments
 pub mod Simulation
 pub mod Whole
+pub mod Witnesses

@@ -1,6 +1,5 @@
 -- A run of the evaluator that begins with what remains in a frame is the segment of that frame.
-use Rattle.std.proofs.Common.{◌≡◌, ℕ, ◌+◌, ℤ, pos, List, [], ◌∷◌, ◌++◌, None, Some, Result, Ok, Err, IfOk, refl, sym, ap, ◌∙◌, subst, arith}
-use Rattle.std.proofs.lemmas.List.{append-nil}
+use Rattle.std.proofs.Common.{◌≡◌, ℕ, ◌+◌, ℤ, pos, List, [], ◌∷◌, ◌++◌, Some, Result, Ok, Err, IfOk, sym, ap, ◌∙◌, subst, arith}
 use Rattle.std.specs.Prelude.{slice_get}
 use Rattle.twe_program.specs.Program.{Program}
 use Rattle.seg_exec.specs.declared.frame.Call.{Call}
@@ -9,14 +8,14 @@ use Rattle.seg_exec.specs.declared.machine.Machine.{Machine}
 use Rattle.seg_exec.specs.declared.stop.Stop.{Stop}
 use Rattle.seg_exec.specs.declared.work.Ending.{Ending}
 use Rattle.seg_exec.specs.declared.work.Ending.TheVariants.{Returned, Faulted, Suspended}
-use Rattle.seg_exec.specs.Access.{Access, after, printed}
+use Rattle.seg_exec.specs.Access.{MayAll, Ways, after, printed}
 use Rattle.seg_exec.specs.Meaning.{body_of, done_within}
 use Rattle.seg_exec.specs.Remaining.{resumed}
-use Rattle.seg_exec.specs.Segment.{Stopped, stopped_by, store_at, flow_of, CarriesOut, closing_stop}
+use Rattle.seg_exec.specs.Segment.{Stopped, stopped_by, store_at, flow_of, CarriesOut, MayCarryOut}
 use Rattle.seg_exec.specs.Store.{Store, Flow, goes, returns, fails, stops}
-use Rattle.seg_exec.specs.inner.Finished.{ended_with, finished}
-use Rattle.seg_exec.specs.inner.Reached.{Finishes, over, standing}
-use Rattle.seg_exec.specs.inner.Runs.{Over, moment, run, store_of}
+use Rattle.seg_exec.specs.inner.Finished.{finished}
+use Rattle.seg_exec.specs.inner.Reached.{Finishes, MayRun, over, standing}
+use Rattle.seg_exec.specs.inner.Runs.{Moment, Over, moment, run, store_of}
 use Rattle.seg_exec.specs.inner.Tasks.{Config}
 use Rattle.seg_exec.specs.inner.Unfolded.{config_at, unfolded}
 use Rattle.seg_exec.specs.inner.Views.{config_of}
@@ -55,10 +54,10 @@ module _ (p : Program) where
       ap (λ (x : Store). left frame (Suspended operation positions) x) b ∙ ap (λ (x : Ending). left frame x s) a
 
   -- over a list of cells
-  segment_so : (frame : Frame) (calls : List Call) (start : Config) (cells : List ℤ) (ending : Ending) (s : Store) → config_at p frame calls ≡ Some start
-      → (n : ℕ) × (run p n (over start cells []) ≡ Over ending s) → stopped_by p frame (flow_of p frame calls cells) ≡ left frame ending s
-  segment_so frame [] start cells ending s is ends = absurd (cc)
-  segment_so frame (call ∷ callers) start cells ending s is ends =
+  flow_so : (frame : Frame) (calls : List Call) (start : Config) (cells : List ℤ) → config_at p frame calls ≡ Some start
+      → (n : ℕ) × (run p n (over start cells []) ≡ outcome_of p (flow_of p frame calls cells))
+  flow_so frame [] start cells is = absurd (cc)
+  flow_so frame (call ∷ callers) start cells is =
       let n = frame.fuel + 1 in
       let body = body_of (slice_get p.tasks frame.decl) in
       let store = store_at frame call.vars cells in
@@ -66,16 +65,21 @@ module _ (p : Program) where
       let same : begun ≡ start = cc in
       let flow = resumed (done_within p n) p body call.stack store in
       let meets = resumed_meets p n (done_within p n) (within_meets p n) call.stack body frame.fuel (omega arith) store (omega arith) [] [] in
-      let other = ends_so p frame.fuel (over begun cells []) flow meets in
-      let ends' = subst (λ (c : Config). (k : ℕ) × (run p k (over c cells []) ≡ Over ending s)) (sym same) ends in
-      stopped_so frame flow ending s (once p other.0 ends'.0 (over begun cells []) (outcome_of p flow) (Over ending s) (is_over flow) tt other.1 ends'.1)
+      subst (λ (c : Config). (k : ℕ) × (run p k (over c cells []) ≡ outcome_of p flow)) same (ends_so p frame.fuel (over begun cells []) flow meets)
 
-  module _ {C : Type 0} (rule : C → Access → C → Type 0) where
+  segment_so : (frame : Frame) (calls : List Call) (start : Config) (cells : List ℤ) (ending : Ending) (s : Store) → config_at p frame calls ≡ Some start
+      → (n : ℕ) × (run p n (over start cells []) ≡ Over ending s) → stopped_by p frame (flow_of p frame calls cells) ≡ left frame ending s
+  segment_so frame calls start cells ending s is ends =
+      let flow = flow_of p frame calls cells in
+      let other = flow_so frame calls start cells is in
+      stopped_so frame flow ending s (once p other.0 ends.0 (over start cells []) (outcome_of p flow) (Over ending s) (is_over flow) tt other.1 ends.1)
+
+  module _ {C : Type 0} (ways : Ways C) where
     pub carries_out : (frame : Frame) (from to : Machine) (old_cells new_cells : C) (prints : List ℤ) (ending : Ending) (new_frame : Frame) (stop : Stop)
         → config_at p frame frame.calls ≡ Some (config_of from)
-        → Finishes p rule (standing from old_cells frame.prints) ending (standing to new_cells prints)
+        → Finishes p ways (standing from old_cells frame.prints) ending (standing to new_cells prints)
         → (new_frame, stop) ≡ finished p (ran frame prints to.fuel) to.vars ending
-        → CarriesOut p rule frame old_cells stop new_frame new_cells
+        → CarriesOut p ways.rule frame old_cells stop new_frame new_cells
     carries_out frame from to old_cells new_cells prints ending new_frame stop is f done = record {
       accesses = f.accesses;
       follows = f.follows;
@@ -85,22 +89,17 @@ module _ (p : Program) where
           ∙ ap (λ (d : Frame × Stop). record { frame = d.0; cells = after cells f.accesses; accesses = f.accesses; stop = d.1 }) (sym done);
     }
 
-    closed_so : (frame : Frame) (calls : List Call) (cells : List ℤ) → config_at p frame calls ≡ None
-        → stopped_by p frame (flow_of p frame calls cells) ≡ record { frame = ended_with frame frame.value; cells = cells; accesses = []; stop = closing_stop frame.out frame.value }
-    closed_so frame [] cells is =
-        ap (λ (prints : List ℤ). record { frame = ended_with (record frame { prints = prints }) frame.value; cells = cells; accesses = []; stop = closing_stop frame.out frame.value }) (append-nil frame.prints)
-    closed_so frame (call ∷ callers) cells is = absurd (cc)
+    may_end : (frame : Frame) (cells : C) (from : Moment) (f : Flow) → MayAll ways cells (stopped_by p frame f).accesses → (n : ℕ) × (run p n from ≡ outcome_of p f)
+        → (n : ℕ) × (ending : Ending) × (end : Store) × (run p n from ≡ Over ending end) × MayAll ways cells end.accesses
+    may_end frame cells from (goes s) may x = (x.0, Returned (pos 0), s, x.1, may)
+    may_end frame cells from (returns value s) may x = (x.0, Returned value, s, x.1, may)
+    may_end frame cells from (fails kind place s) may x = (x.0, Faulted kind place, s, x.1, may)
+    may_end frame cells from (stops operation positions s) may x = (x.0, Suspended operation positions, s, x.1, may)
 
-    -- a frame at its end
-    pub carries_out_end : (frame : Frame) (cells : C) (new_frame : Frame) (stop : Stop) → config_at p frame frame.calls ≡ None
-        → new_frame ≡ ended_with frame frame.value → stop ≡ closing_stop frame.out frame.value → CarriesOut p rule frame cells stop new_frame cells
-    carries_out_end frame cells new_frame stop is ef es = record {
-      accesses = [];
-      follows = refl;
-      means = λ list agrees. closed_so frame frame.calls list is
-          ∙ ap (λ (f : Frame). record { frame = f; cells = list; accesses = []; stop = closing_stop frame.out frame.value }) (sym ef)
-          ∙ ap (λ (s : Stop). record { frame = new_frame; cells = list; accesses = []; stop = s }) (sym es);
-    }
+    pub may_run : (frame : Frame) (from : Machine) (cells : C) (prints : List ℤ) → MayCarryOut p ways frame cells → config_at p frame frame.calls ≡ Some (config_of from)
+        → MayRun p ways (standing from cells prints)
+    may_run frame from cells prints may is list =
+        may_end frame cells (over (config_of from) list []) (flow_of p frame frame.calls list) (may list) (flow_so frame frame.calls (config_of from) list is)
 
 pub if_ok_map : {T E : Type 0} {P Q : T → Type 0} (r : Result T E) → ((x : T) → P x → Q x) → IfOk r P → IfOk r Q
 if_ok_map (Ok x) so holds = so x holds

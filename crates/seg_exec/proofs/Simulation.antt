@@ -22,7 +22,7 @@ use Rattle.seg_exec.specs.Cells.{element_number, grid_element_number}
 use Rattle.seg_exec.specs.Store.{Store, Given, gives, faults, Flow, goes, returns, fails, stops, then_give, then_do, then_go, unit_taken}
 use Rattle.seg_exec.specs.Meaning.{Below, element_read, element_written, value_or_fault, right_given, body_of, vars_at_start, given_back, entered, called, value_of, values_of, turned, chosen, stopped_at, done_by, done_all, done_arms, done_within}
 use Rattle.seg_exec.specs.inner.Tasks.{Task, Evaluate, Execute, Rest, Choose, Chosen, Turn, Gather, Take, Negate, Invert, Right, Apply, ReadElement, ReadGridElement, GiveVar, GiveCell, GiveElement, GiveGridElement, PrintValue, Discard, Unwind, Suspend, Leave, Config, Step, on, unit_or, asked_unit, to_do, read_at, written_at, right_by, applied, turned_by, chosen_by, entered_by}
-use Rattle.seg_exec.specs.inner.Runs.{Moment, Outcome, Over, Comes, moment, stepped, run}
+use Rattle.seg_exec.specs.inner.Runs.{Moment, Over, Comes, moment, stepped, run}
 
 module _ (p : Program) where
   -- from a moment the evaluator comes to an end
@@ -34,17 +34,17 @@ module _ (p : Program) where
   Steps from step = (k : ℕ) → run p (suc k) from ≡ stepped (run p k) step from
 
   pub stays : (m : Moment) → Comes p m m
-  stays m = record { by = λ k. (k, refl) }
+  stays m = record { by = λ k. (k, omega arith, refl) }
 
   pub onward : (a b c : Moment) → Comes p a b → Comes p b c → Comes p a c
-  onward a b c first second = record { by = λ k. let y = second.by k in let x = first.by y.0 in (x.0, x.1 ∙ y.1) }
+  onward a b c first second = record { by = λ k. let y = second.by k in let x = first.by y.0 in (x.0, omega (arith, x.1, y.1), x.2 ∙ y.2) }
 
   ends_later : (a b : Moment) (ending : Ending) (s : Store) → Comes p a b → Ends b ending s → Ends a ending s
-  ends_later a b ending s first second = record { by = let y = second.by in let x = first.by y.0 in (x.0, x.1 ∙ y.1) }
+  ends_later a b ending s first second = record { by = let y = second.by in let x = first.by y.0 in (x.0, x.2 ∙ y.1) }
 
   -- one step
   one : (a b : Moment) → ((k : ℕ) → run p (suc k) a ≡ run p k b) → Comes p a b
-  one a b e = record { by = λ k. (suc k, e k) }
+  one a b e = record { by = λ k. (suc k, omega arith, e k) }
 
   last_one : (a : Moment) (ending : Ending) (s : Store) → ((k : ℕ) → run p (suc k) a ≡ Over ending s) → Ends a ending s
   last_one a ending s e = record { by = (suc zero, e zero) }
@@ -158,23 +158,6 @@ module _ (p : Program) where
       k left refl (λ n. e n ∙ ap (λ (none : Bool). stepped (run p n) (unit_or none place (moment work values (s (suc left))).config step) (moment work values (s (suc left)))) (eqb-suc-zero left)
       ∙ ap (λ (fuel : ℕ). stepped (run p n) (step (moment work values (s fuel)).config) (moment work values (s fuel))) same)
 
-  -- a step into a block, left out
-  drop_step : (a b : Moment) (o : Outcome) → ((k : ℕ) → run p (suc k) a ≡ run p k b) → (n : ℕ) → run p n a ≡ o → (m : ℕ) × (run p m b ≡ o)
-  drop_step a b o e zero h = (zero, h)
-  drop_step a b o e (suc n) h = (n, sym (e n) ∙ h)
-
-  comes_after : (a b to : Moment) → ((k : ℕ) → run p (suc k) a ≡ run p k b) → Comes p a to → Comes p b to
-  comes_after a b to e h = record { by = λ k. let x = h.by k in drop_step a b (run p k to) e x.0 x.1 }
-
-  ends_after : (a b : Moment) (ending : Ending) (s : Store) → ((k : ℕ) → run p (suc k) a ≡ run p k b) → Ends a ending s → Ends b ending s
-  ends_after a b ending s e h = record { by = drop_step a b (Over ending s) e h.by.0 h.by.1 }
-
-  flow_after : (bound : ℕ) (a b : Moment) (work : List Task) (values : List ℤ) (f : Flow) → ((k : ℕ) → run p (suc k) a ≡ run p k b) → FlowTo bound a work values f → FlowTo bound b work values f
-  flow_after bound a b work values (goes s) e h = (h.0, comes_after a b _ e h.1)
-  flow_after bound a b work values (returns value s) e h = (h.0, comes_after a b _ e h.1)
-  flow_after bound a b work values (fails kind place s) e h = ends_after a b _ s e h
-  flow_after bound a b work values (stops operation positions s) e h = (h.0, comes_after a b _ e h.1)
-
   -- a method is left
   back_meets : (least bound : ℕ) (from : Moment) (vars : List ℤ) (work : List Task) (values : List ℤ) (f : Flow) → least ≤ bound
       → FlowTo least from (Leave vars ∷ work) values f → GivenTo bound from (λ v s. moment work (v ∷ values) s) (given_back vars f)
@@ -184,9 +167,16 @@ module _ (p : Program) where
   back_meets least bound from vars work values (stops operation positions s) le h = (omega (arith, h.0), onward from _ _ h.1 (one _ _ (λ k. refl)))
 
   -- what takes a unit of fuel and comes after it meets its meaning, where less than n units are left
-  abbrev pub Meets : ℕ → Below → Type 0
-  Meets n below = (stmt : Statement) (s : Store) (bound : ℕ) → s.fuel ≤ bound → bound < n → (work : List Task) (values : List ℤ)
+  abbrev pub MeetsStatements : ℕ → Below → Type 0
+  MeetsStatements n below = (stmt : Statement) (s : Store) (bound : ℕ) → s.fuel ≤ bound → bound < n → (work : List Task) (values : List ℤ)
       → FlowTo bound (moment (Execute stmt ∷ work) values s) work values (below stmt s)
+
+  abbrev pub MeetsBodies : ℕ → Below → Type 0
+  MeetsBodies n below = (body : Statements) (s : Store) (bound : ℕ) → s.fuel ≤ bound → bound < n → (work : List Task) (values : List ℤ)
+      → FlowTo bound (moment (Rest 0 0 body ∷ work) values s) work values (below (Block 0 body) s)
+
+  abbrev pub Meets : ℕ → Below → Type 0
+  Meets n below = MeetsStatements n below × MeetsBodies n below
 
   module _ (n : ℕ) (below : Below) (meets : Meets n below) where
     entered_meets : (full : Bool) (decl : Option Decl) (vs : List ℤ) (place : Place) (from : Moment) (left bound : ℕ) (work : List Task) (values : List ℤ) (s : Store)
@@ -199,8 +189,7 @@ module _ (p : Program) where
         let body = body_of decl in
         given_later bound from (moment (Rest 0 0 body ∷ (Leave s.vars ∷ work)) values inside) (λ v s1. moment work (v ∷ values) s1) _ (one from _ e)
         (back_meets left bound _ s.vars work values (below (Block 0 body) inside) le
-        (flow_after left (moment (Execute (Block 0 body) ∷ (Leave s.vars ∷ work)) values inside) _ (Leave s.vars ∷ work) values (below (Block 0 body) inside) (λ k. refl)
-        (meets (Block 0 body) inside left h lt (Leave s.vars ∷ work) values)))
+        (meets.1 body inside left h lt (Leave s.vars ∷ work) values))
 
     called_meets : (method : ℕ) (vs : List ℤ) (place : Place) (bound : ℕ) (work : List Task) (values : List ℤ) (s : Store) → bound ≤ n → s.fuel ≤ bound
         → GivenTo bound (moment (Gather vs exprs.no_more (goals.Enter method place) ∷ work) values s) (λ v s1. moment work (v ∷ values) s1) (called below p method vs place s)
@@ -264,7 +253,7 @@ module _ (p : Program) where
       values_meet : (args : Arguments) (bound : ℕ) → bound ≤ n → (s : Store) → s.fuel ≤ bound → (taken : List ℤ) (goal : Goal) (work : List Task) (values : List ℤ)
           → GivenTo bound (moment (Gather taken args goal ∷ work) values s) (λ vs s1. moment (Gather (taken ++ vs) exprs.no_more goal ∷ work) values s1) (values_of below p args s)
       values_meet exprs.no_more bound le s h taken goal work values =
-          (h, record { by = λ k. (k, ap (λ (vs : List ℤ). run p k (moment (Gather vs exprs.no_more goal ∷ work) values s)) (sym (append-nil taken))) })
+          (h, record { by = λ k. (k, omega arith, ap (λ (vs : List ℤ). run p k (moment (Gather vs exprs.no_more goal ∷ work) values s)) (sym (append-nil taken))) })
       values_meet (argument first others) bound le s h taken goal work values =
           given_later bound _ (moment (Evaluate first ∷ (Take taken others goal ∷ work)) values s) (λ vs s1. moment (Gather (taken ++ vs) exprs.no_more goal ∷ work) values s1) _ (one _ _ (λ k. refl))
           (give_then bound _ (λ v s1. moment (Take taken others goal ∷ work) (v ∷ values) s1) (λ vs s1. moment (Gather (taken ++ vs) exprs.no_more goal ∷ work) values s1) (value_of below p first s)
@@ -272,7 +261,7 @@ module _ (p : Program) where
           (λ v s1 h1. given_later bound _ (moment (Gather (taken ++ v ∷ []) others goal ∷ work) values s1) (λ vs s2. moment (Gather (taken ++ vs) exprs.no_more goal ∷ work) values s2) _ (one _ _ (λ k. refl))
           (give_then bound _ (λ vs s2. moment (Gather ((taken ++ v ∷ []) ++ vs) exprs.no_more goal ∷ work) values s2) (λ vs s2. moment (Gather (taken ++ vs) exprs.no_more goal ∷ work) values s2) (values_of below p others s1)
           (λ vs s2. gives (v ∷ vs) s2) (values_meet others bound le s1 h1 (taken ++ v ∷ []) goal work values)
-          (λ vs s2 h2. (h2, record { by = λ k. (k, ap (λ (all : List ℤ). run p k (moment (Gather all exprs.no_more goal ∷ work) values s2)) (append_assoc taken (v ∷ []) vs)) })))))
+          (λ vs s2 h2. (h2, record { by = λ k. (k, omega arith, ap (λ (all : List ℤ). run p k (moment (Gather all exprs.no_more goal ∷ work) values s2)) (append_assoc taken (v ∷ []) vs)) })))))
 
     -- a loop that is tested
     turned_meets : (true_or_not : Bool) (point : ℕ) (condition : Expression) (body : Statements) (place : Place) (from : Moment) (bound : ℕ) (work : List Task) (values : List ℤ) (s : Store)
@@ -290,7 +279,7 @@ module _ (p : Program) where
         (flow_later left from (moment (Rest 0 0 body ∷ (Execute again ∷ work)) values s1) work values (then_go (done_all below p 0 0 body s1) (below again)) (one from _ e1)
         (again_then left (moment (Rest 0 0 body ∷ (Execute again ∷ work)) values s1) again work values (done_all below p 0 0 body s1) (below again)
         (inside left (omega (arith, is)) s1 (omega arith))
-        (λ s2 h2. meets again s2 left h2 (omega (arith, is)) work values))))
+        (λ s2 h2. meets.0 again s2 left h2 (omega (arith, is)) work values))))
 
     chosen_meets : (true_or_not : Bool) (block : ℕ) (body : Statements) (others : Arms) (from : Moment) (bound : ℕ) (work : List Task) (values : List ℤ) (s : Store)
         → ((k : ℕ) → run p (suc k) from ≡ stepped (run p k) (chosen_by true_or_not block (block + 1) body others (moment work values s).config) (moment work values s))
@@ -390,5 +379,8 @@ module _ (p : Program) where
 
   -- whatever the bound is
   pub within_meets : (n : ℕ) → Meets n (done_within p n)
-  within_meets zero stmt s bound h lt work values = absurd (omega (arith, lt))
-  within_meets (suc n) stmt s bound h lt work values = statement_meets n (done_within p n) (within_meets n) stmt bound (omega (arith, lt)) s h work values
+  within_meets zero = (λ stmt s bound h lt work values. absurd (omega (arith, lt)), λ body s bound h lt work values. absurd (omega (arith, lt)))
+  within_meets (suc n) = (
+    λ stmt s bound h lt work values. statement_meets n (done_within p n) (within_meets n) stmt bound (omega (arith, lt)) s h work values,
+    λ body s bound h lt work values. all_meet n (done_within p n) (within_meets n) body 0 0 bound (omega (arith, lt)) s h work values,
+  )

@@ -10,7 +10,7 @@ use Rattle.seg_exec.specs.Store.{Store, Flow, goes, returns, fails, stops}
 use Rattle.seg_exec.specs.Meaning.{Below, done_all}
 use Rattle.seg_exec.specs.Remaining.{after_first, last_of_first, block_of, block_at, turned_again, resumed}
 use Rattle.seg_exec.specs.inner.Tasks.{Task, Rest, step_of}
-use Rattle.seg_exec.specs.inner.Runs.{Moment, Outcome, Over, Unfinished, moment, served, run}
+use Rattle.seg_exec.specs.inner.Runs.{Comes, Moment, Outcome, Over, Unfinished, moment, served, run}
 use Rattle.seg_exec.specs.inner.Unfolded.{again_of, unfolded}
 use Rattle.seg_exec.proofs.Simulation.{stays, FlowTo, Meets, rest_then, again_then, all_meet}
 
@@ -20,7 +20,7 @@ module _ (p : Program) where
         → FlowTo p bound from (again_of inner stmt work) values f → FlowTo p bound from work values (turned_again below inner stmt f)
     again_meets (position ∷ inner) (Some (While point condition body place)) from bound lt work values f h =
         again_then p bound from (While point condition body place) work values f (below (While point condition body place)) h
-        (λ s h1. meets (While point condition body place) s bound h1 lt work values)
+        (λ s h1. meets.0 (While point condition body place) s bound h1 lt work values)
     again_meets [] stmt from bound lt work values f h = h
     again_meets (position ∷ inner) None from bound lt work values f h = h
     again_meets (position ∷ inner) (Some _) from bound lt work values f h = h
@@ -44,10 +44,10 @@ module _ (p : Program) where
   outcome_of (stops operation positions s) = Over (Suspended operation positions) s
 
   pub ends_so : (bound : ℕ) (from : Moment) (f : Flow) → FlowTo p bound from [] [] f → (k : ℕ) × (run p k from ≡ outcome_of f)
-  ends_so bound from (goes s) h = h.1.by 1
-  ends_so bound from (returns value s) h = h.1.by 1
+  ends_so bound from (goes s) h = let x = h.1.by 1 in (x.0, x.2)
+  ends_so bound from (returns value s) h = let x = h.1.by 1 in (x.0, x.2)
   ends_so bound from (fails kind place s) h = h.by
-  ends_so bound from (stops operation positions s) h = h.1.by 1
+  ends_so bound from (stops operation positions s) h = let x = h.1.by 1 in (x.0, x.2)
 
   -- a run has one end
   abbrev pub IsOver : Outcome → Type 0
@@ -70,3 +70,24 @@ module _ (p : Program) where
   once zero j m o o' h h' e e' = absurd (not_over o h e)
   once (suc k) zero m o o' h h' e e' = absurd (not_over o' h' e')
   once (suc k) (suc j) m o o' h h' e e' = once_served k j (once k j) (step_of p m.config).0 (record m { config = (step_of p m.config).1 }) o o' h h' e e'
+
+  -- a run that is over stays over with more steps
+  longer_served : (k j : ℕ) → ((m : Moment) (o : Outcome) → IsOver o → run p k m ≡ o → run p j m ≡ o) → (asked : Asked) (m : Moment) (o : Outcome) → IsOver o
+      → served (run p k) asked m ≡ o → served (run p j) asked m ≡ o
+  longer_served k j longer asks.Nothing m o h e = longer _ o h e
+  longer_served k j longer (asks.Read cell) m o h e = longer _ o h e
+  longer_served k j longer (asks.Write cell value) m o h e = longer _ o h e
+  longer_served k j longer (asks.Print value) m o h e = longer _ o h e
+  longer_served k j longer (asks.End ending) m o h e = e
+
+  longer : (k j : ℕ) → k ≤ j → (m : Moment) (o : Outcome) → IsOver o → run p k m ≡ o → run p j m ≡ o
+  longer zero j le m o h e = absurd (not_over o h e)
+  longer (suc k) zero le m o h e = absurd (omega (arith, le))
+  longer (suc k) (suc j) le m o h e =
+      longer_served k j (longer k j (omega (arith, le))) (step_of p m.config).0 (record m { config = (step_of p m.config).1 }) o h e
+
+  -- what a run comes to is over where the run is
+  pub over_from : (from to : Moment) (k : ℕ) (o : Outcome) → IsOver o → Comes p from to → run p k from ≡ o → run p k to ≡ o
+  over_from from to k o h comes e =
+      let x = comes.by k in
+      sym x.2 ∙ longer k x.0 x.1 from o h e

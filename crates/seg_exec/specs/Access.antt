@@ -1,6 +1,6 @@
 -- What a segment does to the world outside its task: it reads and writes cells, and prints. Accesses are listed with
 -- the latest first.
-use Rattle.std.specs.Prelude.{◌≡◌, ℕ, ℤ, pos, List, [], ◌∷◌, ◌++◌, Option, None, Some, slice_get, slice_set}
+use Rattle.std.specs.Prelude.{◌≡◌, ◌↔◌, ℕ, ℤ, pos, List, [], ◌∷◌, ◌++◌, Option, None, Some, nat_eq, if◌then◌else◌, slice_get, slice_set}
 
 pub data Access : Type 0 where
   -- a cell, by its number, is read and has this value
@@ -34,6 +34,46 @@ printed [] = []
 printed (Reads cell value ∷ earlier) = printed earlier
 printed (Writes cell value ∷ earlier) = printed earlier
 printed (Prints value ∷ earlier) = printed earlier ++ value ∷ []
+
+-- What is known of something that has the cells of a program: the values of the cells that are known, which cells may be
+-- read and which may be written, and the rule that says what an access does to it
+pub record Ways (C : Type 0) : Type 1 where
+  pub known : C → ℕ → Option ℤ
+  pub may_read : C → ℕ → Type 0
+  pub may_write : C → ℕ → Type 0
+  pub rule : C → Access → C → Type 0
+
+abbrev pub ways_of : {C : Type 0} → (C → ℕ → Option ℤ) → (C → ℕ → Type 0) → (C → ℕ → Type 0) → (C → Access → C → Type 0) → Ways C
+ways_of known may_read may_write rule = record { known = known; may_read = may_read; may_write = may_write; rule = rule }
+
+-- one cell is known with this value now, and the others as before
+abbrev pub KnowsNow : (ℕ → Option ℤ) → ℕ → ℤ → (ℕ → Option ℤ) → Type 0
+KnowsNow old cell value new = (k : ℕ) → new k ≡ (if nat_eq k cell then Some value else old k)
+
+-- the same may be read and written as before
+pub record MaySame {C : Type 0} (ways : Ways C) (old new : C) : Type 0 where
+  pub read : (k : ℕ) → ways.may_read old k ↔ ways.may_read new k
+  pub write : (k : ℕ) → ways.may_write old k ↔ ways.may_write new k
+
+-- a cell was read, with this answer: the value that was known, if one was
+pub record HasRead {C : Type 0} (ways : Ways C) (old : C) (cell : ℕ) (value : ℤ) (new : C) : Type 0 where
+  pub answer : (v : ℤ) → ways.known old cell ≡ Some v → value ≡ v
+  pub known : KnowsNow (ways.known old) cell value (ways.known new)
+  pub same : MaySame ways old new
+  pub rule : ways.rule old (Reads cell value) new
+
+-- a cell was given this value
+pub record HasWritten {C : Type 0} (ways : Ways C) (old : C) (cell : ℕ) (value : ℤ) (new : C) : Type 0 where
+  pub known : KnowsNow (ways.known old) cell value (ways.known new)
+  pub same : MaySame ways old new
+  pub rule : ways.rule old (Writes cell value) new
+
+-- all these accesses may be made
+abbrev pub MayAll : {C : Type 0} → Ways C → C → List Access → Type 0
+MayAll ways cells [] = Unit {0}
+MayAll ways cells (Reads cell value ∷ earlier) = ways.may_read cells cell × MayAll ways cells earlier
+MayAll ways cells (Writes cell value ∷ earlier) = ways.may_write cells cell × MayAll ways cells earlier
+MayAll ways cells (Prints value ∷ earlier) = MayAll ways cells earlier
 
 -- a thing that holds cells follows accesses: it goes from one state to another by its rule at each read and each write
 abbrev pub Follows : {C : Type 0} → (C → Access → C → Type 0) → C → List Access → C → Type 0

@@ -10,7 +10,7 @@ use Rattle.seg_exec.specs.declared.operation.Operation.{Operation}
 use Rattle.seg_exec.specs.declared.operation.Operation.TheVariants as operations
 use Rattle.seg_exec.specs.declared.stop.Stop.{Stop}
 use Rattle.seg_exec.specs.declared.stop.Stop.TheVariants as ends
-use Rattle.seg_exec.specs.Access.{Access, Agrees, Follows, after, printed}
+use Rattle.seg_exec.specs.Access.{Access, Agrees, Follows, MayAll, Ways, after, printed}
 use Rattle.seg_exec.specs.Entry.{effects_at, entry_frame}
 use Rattle.seg_exec.specs.Meaning.{body_of, done_within}
 use Rattle.seg_exec.specs.Remaining.{resumed}
@@ -100,6 +100,16 @@ flow_of p frame (call ∷ callers) cells =
 
 abbrev pub segment : Program → Frame → List ℤ → Stopped
 segment p frame cells = stopped_by p frame (flow_of p frame frame.calls cells)
+
+-- these are what the segment leaves over this list of cells
+abbrev pub IsSegment : Program → Frame → List ℤ → Stop → Frame → List ℤ → Type 0
+IsSegment p old_frame old_cells stop new_frame new_cells =
+    let after = segment p old_frame old_cells in
+    (after.frame ≡ new_frame) × (after.cells ≡ new_cells) × (after.stop ≡ stop)
+
+-- each access of the segment, over any list of cells, may be made
+abbrev pub MayCarryOut : {C : Type 0} → Program → Ways C → Frame → C → Type 0
+MayCarryOut p ways frame holder = (cells : List ℤ) → MayAll ways holder (segment p frame cells).accesses
 
 -- Whoever carries out a segment over cells of any kind makes accesses, each by the rule of the cells, which are exactly
 -- those of the segment over each list of cells that agrees with what was read; the frame and the stop are those of that

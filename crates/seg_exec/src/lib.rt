@@ -27,7 +27,9 @@ mod work;
 pub use cells::Cells;
 pub use entry::{effects_at, entry_frame};
 pub use frame::{Call, Frame, Next, Position};
-pub use laws::{larger_bounds_change_nothing, over_a_list_it_is_the_segment};
+pub use laws::{
+    accesses_are_of_the_program, larger_bounds_change_nothing, over_a_list_it_is_the_segment,
+};
 pub use operation::Operation;
-pub use segment::run_segment;
+pub use segment::{run_segment, run_segment_over_list};
 pub use stop::Stop;

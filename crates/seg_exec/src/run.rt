@@ -1,6 +1,7 @@
 //! The evaluator's run up to the end.
 ghost use Rattle.std.specs.Prelude.{◌≡◌, IfOk};
-ghost use Rattle.seg_exec.specs.inner.Reached.{Advances, Finishes, standing};
+ghost use Rattle.seg_exec.specs.inner.Reached.{Advances, Finishes, MayRun, MayStep, standing};
+ghost use Rattle.seg_exec.specs.Access.{ways_of};
 
 use crate::cells::Cells;
 use crate::machine::Machine;
@@ -17,7 +18,8 @@ fn advance<'a, C: Cells>(
     cells: &mut C,
     prints: &mut Ints,
 ) -> Result<Option<Ending>, Memory>
-    ensures { IfOk result (λ ending. Advances p.now C.rule (standing machine.old cells.old prints.old) ending (standing machine.new cells.new prints.new)) }
+    requires { MayStep p.now (ways_of C.known C.may_read C.may_write C.rule) (standing machine.old cells.old prints.old) }
+    ensures { IfOk result (λ ending. Advances p.now (ways_of C.known C.may_read C.may_write C.rule) (standing machine.old cells.old prints.old) ending (standing machine.new cells.new prints.new)) }
 {
     match machine.step(alloc, p)? {
         Asked::Nothing => {}
@@ -40,7 +42,8 @@ pub(crate) fn run<'a, C: Cells>(
     cells: &mut C,
     prints: &mut Ints,
 ) -> Result<Ending, Memory>
-    ensures { IfOk result (λ ending. Finishes p.now C.rule (standing machine.old cells.old prints.old) ending (standing machine.new cells.new prints.new)) }
+    requires { MayRun p.now (ways_of C.known C.may_read C.may_write C.rule) (standing machine.old cells.old prints.old) }
+    ensures { IfOk result (λ ending. Finishes p.now (ways_of C.known C.may_read C.may_write C.rule) (standing machine.old cells.old prints.old) ending (standing machine.new cells.new prints.new)) }
 {
     'units: loop {
         let fuel = machine.fuel;

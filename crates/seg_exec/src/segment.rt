@@ -1,6 +1,8 @@
 //! One segment of a task.
-ghost use Rattle.std.specs.Prelude.{◌≡◌, IfOk, option_map, slice_get};
-ghost use Rattle.seg_exec.specs.Segment.{CarriesOut, closing_stop, operation_next, operation_stop, task_of};
+ghost use Rattle.std.specs.Prelude.{◌≡◌, IfOk, length, option_map, slice_get};
+ghost use Rattle.twe_program.specs.Program.{cell_count};
+ghost use Rattle.seg_exec.specs.Access.{ways_of};
+ghost use Rattle.seg_exec.specs.Segment.{CarriesOut, IsSegment, MayCarryOut, closing_stop, operation_next, operation_stop, task_of};
 ghost use Rattle.seg_exec.specs.inner.Finished.{ended_with, finished};
 ghost use Rattle.seg_exec.specs.inner.Unfolded.{config_at};
 ghost use Rattle.seg_exec.specs.inner.Views.{config_of};
@@ -159,6 +161,7 @@ pub fn run_segment<C: Cells>(
     frame: &mut Frame,
     cells: &mut C,
 ) -> Result<Stop, Memory>
+    requires { MayCarryOut p.now (ways_of C.known C.may_read C.may_write C.rule) frame.old cells.old }
     ensures { IfOk result (λ stop. CarriesOut p.now C.rule frame.old cells.old stop frame.new cells.new) }
 {
     match machine_at(alloc, p, frame)? {
@@ -172,4 +175,20 @@ pub fn run_segment<C: Cells>(
             finish(alloc, p, frame, machine.vars, ending)
         }
     }
+}
+
+/// Carries out one segment of a task over a plain list with the cells of the program. After `Memory` nothing is known of
+/// the frame and the cells.
+pub fn run_segment_over_list(
+    alloc: Global,
+    p: &Prog,
+    frame: &mut Frame,
+    cells: &mut Ints,
+) -> Result<Stop, Memory>
+    requires { length cells.old ≡ cell_count p.now }
+    ensures segment { IfOk result (λ stop. IsSegment p.now frame.old cells.old stop frame.new cells.new) }
+    ensures cells { IfOk result (λ stop. length cells.new ≡ length cells.old) }
+{
+    let _main = p.main;
+    run_segment(alloc, p, frame, cells)
 }

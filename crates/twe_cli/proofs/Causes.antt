@@ -7,32 +7,58 @@ use Rattle.twe_io.specs.Runs.{ReadsWhole}
 use Rattle.twe_io.specs.declared.memory.Memory as out_of
 use Rattle.twe_io.specs.declared.whole.ReadFail.{ReadFail}
 use Rattle.twe_io.specs.declared.whole.ReadFail.TheVariants as reads
+use Rattle.seg_journal.specs.declared.journal.Entry.{Entry}
 use Rattle.seg_journal.specs.Limits.{Bounds}
 use Rattle.twe_program.specs.Program.{Program}
-use Rattle.twe_syntax.specs.FirstMeaning.{IsFirstProgram}
-use Rattle.twe_machine.specs.Runs.{state_after}
-use Rattle.twe_report.specs.Texts.{result_text, usage_text, read_fault_text, too_long_text}
+use Rattle.twe_front.specs.Accepted.{Accepted}
+use Rattle.twe_machine.specs.declared.ending.Outcome.{Outcome}
+use Rattle.twe_machine.specs.declared.ending.Outcome.TheVariants.{AllDone, Stuck, Unfinished}
+use Rattle.twe_machine.specs.declared.ending.Outcome.TheVariants as outcomes
+use Rattle.twe_machine.specs.Runs.{state_after, counted}
+use Rattle.twe_machine.specs.Sequential.{IsSequential}
+use Rattle.twe_report.specs.Texts.{prints_text, fault_text, accepted_text, refusal_text, usage_text, read_fault_text, too_long_text}
 use Rattle.twe_cli.specs.declared.answer.Answer.{Answer}
 use Rattle.twe_cli.specs.declared.book.Book.{Book}
 use Rattle.twe_cli.specs.declared.status.Status.{Status}
-use Rattle.twe_cli.specs.declared.status.Status.TheVariants.{Done, Usage, ReadFault, TooLong, Memory}
-use Rattle.twe_cli.specs.declared.words.Command.{Command}
-use Rattle.twe_cli.specs.declared.words.Command.TheVariants.{Run}
-use Rattle.twe_cli.specs.Answers.{Due, Cause, Tells, Answers}
+use Rattle.twe_cli.specs.declared.status.Status.TheVariants.{Done, Refused, Usage, Fault, ReadFault, TooLong, Memory}
+use Rattle.twe_words.specs.declared.command.Command.{Command}
+use Rattle.twe_words.specs.declared.command.Command.TheVariants.{Check, Run}
+use Rattle.twe_cli.specs.Answers.{Due, Cause, Tells, Answers, not_of_the_form}
 use Rattle.twe_cli.specs.Ends.{SourceTells, SinkTells, WasRead, most_bytes}
-use Rattle.twe_cli.specs.Theorem.{HasRun, IsNew}
+use Rattle.twe_cli.specs.Theorem.{HasProgram, HasRefusal, HasRun, IsNew}
+use Rattle.twe_cli.specs.inner.Given.{IsDueFor, IsAnswerOfRun, IsFinal, answer_of}
 use Rattle.twe_cli.specs.inner.Usage.{TellsUsage}
 use Rattle.twe_cli.proofs.Read.{was_read}
 
--- what is due for the text of a program
-pub due_ran : (lim : Bounds) (text : List ℕ) (p : Program) (book : Book) (result : Result Answer out_of.Memory) → IsFirstProgram text p
-    → IfOk result (λ a. a.status ≡ Done) → OnOk result (HasRun p lim book) → IfOk result (λ a. a.out ≡ result_text p (state_after p lim book.journal)) → IfOk result (λ a. a.err ≡ [])
-    → IfOk result (λ a. Due lim text book a.status a.out a.err)
-due_ran lim text p book (Ok a) first status run out err =
-    subst (λ (s : Status). Due lim text book s a.out a.err) (sym status)
-    (subst (λ (o : List ℕ). Due lim text book Done o a.err) (sym out)
-    (subst (λ (e : List ℕ). Due lim text book Done (result_text p (state_after p lim book.journal)) e) (sym err) (Due.ran p first run)))
-due_ran lim text p book (Err e) first status run out err = tt
+-- what is due where a program was run
+due_as : (cmd : Command) (lim : Bounds) (p : Program) (book : Book) (outcome : Outcome) → cmd ≡ Run lim → IsSequential p → IsFinal outcome → HasRun p lim outcome book
+    → counted book.journal ≡ book.journal → IsDueFor cmd p book (answer_of p (state_after p lim book.journal) outcome)
+due_as cmd lim p book AllDone command sequential final run counts = λ text accepted. Due.ran lim p command accepted sequential run
+due_as cmd lim p book (outcomes.Fault task kind place) command sequential final run counts = λ text accepted.
+    subst (λ (journal : List Entry). Due cmd text book Fault (prints_text (state_after p lim journal).prints) (fault_text task kind place)) counts
+    (Due.faulted lim p task kind place command accepted sequential run)
+due_as cmd lim p book Stuck command sequential final run counts = absurd final
+due_as cmd lim p book Unfinished command sequential final run counts = absurd final
+
+pub due_ran : (cmd : Command) (lim : Bounds) (p : Program) (book : Book) (result : Result Answer out_of.Memory) → cmd ≡ Run lim → IsSequential p
+    → IfOk result (IsAnswerOfRun p lim book) → IfOk result (λ a. IsDueFor cmd p book a)
+due_ran cmd lim p book (Ok a) command sequential ran =
+    subst (IsDueFor cmd p book) (sym ran.same) (due_as cmd lim p book ran.outcome command sequential ran.final ran.run ran.counts)
+due_ran cmd lim p book (Err e) command sequential ran = tt
+
+-- what is due where a program was accepted
+pub due_accepted : (cmd : Command) (p : Program) (book : Book) (result : Result Answer out_of.Memory) → cmd ≡ Check
+    → OnOk result (HasProgram p book) → IfOk result (λ a. a ≡ record { status = Done; out = accepted_text; err = [] }) → IfOk result (λ a. IsDueFor cmd p book a)
+due_accepted cmd p book (Ok a) command has same = λ text accepted.
+    subst (λ (x : Answer). Due cmd text book x.status x.out x.err) (sym same) (Due.accepted p command accepted has)
+due_accepted cmd p book (Err e) command has same = tt
+
+-- what is due where a program can't be run
+pub due_not_run : (cmd : Command) (lim : Bounds) (p : Program) (book : Book) (result : Result Answer out_of.Memory) → cmd ≡ Run lim → ¬ IsSequential p
+    → OnOk result (HasRefusal not_of_the_form book) → IfOk result (λ a. a ≡ record { status = Refused; out = []; err = refusal_text not_of_the_form }) → IfOk result (λ a. IsDueFor cmd p book a)
+due_not_run cmd lim p book (Ok a) command other has same = λ text accepted.
+    subst (λ (x : Answer). Due cmd text book x.status x.out x.err) (sym same) (Due.not_run lim p command accepted other has)
+due_not_run cmd lim p book (Err e) command other has same = tt
 
 -- the same of a read that gave no text, where its failure is known
 pub was_not_read : {S : Type 0} (tells : SourceTells S) (before after : S) (fail known : ReadFail) → fail ≡ known
@@ -43,10 +69,10 @@ was_not_read tells before after fail known same fault too_long run =
     subst (λ (f : ReadFail). WasRead tells before (Err f) after) same (was_read tells before after (Err fail) tt tt tt fault too_long run)
 
 -- what was read is answered as is due for it
-pub cause_text : {S : Type 0} (tells : SourceTells S) (cmd : Command) (lim : Bounds) (before after : S) (text bytes : List ℕ) (book : Book) (a : Answer) → cmd ≡ Run lim → bytes ≡ text
-    → WasRead tells before (Ok text) after → Due lim bytes book a.status a.out a.err → Cause tells (Some cmd) before after book a.status a.out a.err
-cause_text tells cmd lim before after text bytes book a command same read due =
-    Cause.text lim text (ap Some command) read (subst (λ (t : List ℕ). Due lim t book a.status a.out a.err) same due)
+pub cause_text : {S : Type 0} (tells : SourceTells S) (cmd : Command) (before after : S) (text bytes : List ℕ) (book : Book) (a : Answer) → bytes ≡ text
+    → WasRead tells before (Ok text) after → Due cmd bytes book a.status a.out a.err → Cause tells (Some cmd) before after book a.status a.out a.err
+cause_text tells cmd before after text bytes book a same read due =
+    Cause.text cmd text refl read (subst (λ (t : List ℕ). Due cmd t book a.status a.out a.err) same due)
 
 -- an answer that has something for err alone
 module _ {S : Type 0} (tells : SourceTells S) (cmd : Command) (before after : S) (book : Book) (new : IsNew book) where

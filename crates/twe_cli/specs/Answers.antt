@@ -1,32 +1,46 @@
 -- What the program answers, and why.
 use Rattle.std.specs.Prelude.{◌≡◌, ℕ, List, [], Option, None, Some, IsSome, Result, Ok, Err}
 use Rattle.twe_io.specs.declared.whole.ReadFail.TheVariants as reads
+use Rattle.twe_io.specs.declared.place.Place.{Place}
+use Rattle.seg_journal.specs.declared.journal.FaultKind.{FaultKind}
 use Rattle.seg_journal.specs.Limits.{Bounds}
 use Rattle.twe_program.specs.Program.{Program}
-use Rattle.twe_syntax.specs.declared.refusal.Refusal.{Refusal}
-use Rattle.twe_syntax.specs.declared.refusal.RuleName.TheVariants.{Form}
-use Rattle.twe_syntax.specs.FirstMeaning.{IsFirstProgram}
-use Rattle.twe_machine.specs.Runs.{state_after}
-use Rattle.twe_report.specs.Texts.{result_text, refusal_text, usage_text, read_fault_text, too_long_text}
+use Rattle.twe_front.specs.declared.refusal.Refusal.{Refusal}
+use Rattle.twe_front.specs.declared.refusal.RuleName.TheVariants.{Form}
+use Rattle.twe_front.specs.Accepted.{Accepted, IsRefusal}
+use Rattle.twe_machine.specs.declared.ending.Outcome.TheVariants.{AllDone}
+use Rattle.twe_machine.specs.declared.ending.Outcome.TheVariants as outcomes
+use Rattle.twe_machine.specs.Runs.{state_after, counted}
+use Rattle.twe_machine.specs.Sequential.{IsSequential}
+use Rattle.twe_report.specs.Texts.{result_text, prints_text, fault_text, accepted_text, refusal_text, usage_text, read_fault_text, too_long_text}
 use Rattle.twe_cli.specs.declared.book.Book.{Book}
 use Rattle.twe_cli.specs.declared.status.Status.{Status}
-use Rattle.twe_cli.specs.declared.status.Status.TheVariants.{Done, Refused, Usage, ReadFault, WriteFault, Memory, TooLong}
-use Rattle.twe_cli.specs.declared.words.Command.{Command}
-use Rattle.twe_cli.specs.declared.words.Command.TheVariants.{Run}
+use Rattle.twe_cli.specs.declared.status.Status.TheVariants.{Done, Refused, Usage, Fault, ReadFault, WriteFault, Memory, TooLong}
+use Rattle.twe_words.specs.declared.command.Command.{Command}
+use Rattle.twe_words.specs.declared.command.Command.TheVariants.{Check, Run}
 use Rattle.twe_cli.specs.Ends.{SourceTells, SinkTells, WasRead, Took, BrokeOff}
-use Rattle.twe_cli.specs.Theorem.{HasRun, IsNew, HasRefusal}
+use Rattle.twe_cli.specs.Theorem.{HasProgram, HasRun, IsNew, HasRefusal}
 
--- the text is that of no program, which this refusal says
-abbrev pub IsRefusal : List ℕ → Refusal → Type 0
-IsRefusal text refusal =
-    (refusal ≡ record { rule = Form; place = record { line = 1; col = 1 } }) × ((p : Program) → ¬ IsFirstProgram text p)
+-- what is said of a program that can't be run today
+abbrev pub not_of_the_form : Refusal
+not_of_the_form = record { rule = Form; place = record { line = 1; col = 1 } }
 
 -- What is due for a text that was read: the status, and the bytes for out and err.
-pub data Due (lim : Bounds) (text : List ℕ) (book : Book) : Status → List ℕ → List ℕ → Type 0 where
+pub data Due (command : Command) (text : List ℕ) (book : Book) : Status → List ℕ → List ℕ → Type 0 where
   -- the text is refused, and the book has the refusal
-  refused : (r : Refusal) → IsRefusal text r → HasRefusal r book → Due lim text book Refused [] (refusal_text r)
-  -- the run theorem: the text is that of a program, and the book has a run of it in which all was done
-  ran : (p : Program) → IsFirstProgram text p → HasRun p lim book → Due lim text book Done (result_text p (state_after p lim book.journal)) []
+  refused : (r : Refusal) → IsRefusal text r → HasRefusal r book → Due command text book Refused [] (refusal_text r)
+  -- the text is accepted, and the book has its program
+  accepted : (p : Program) → command ≡ Check → Accepted text p → HasProgram p book → Due command text book Done accepted_text []
+  -- the run theorem: the text is accepted, and the book has a run of its program in which all was done
+  ran : (lim : Bounds) (p : Program) → command ≡ Run lim → Accepted text p → IsSequential p → HasRun p lim AllDone book
+      → Due command text book Done (result_text p (state_after p lim book.journal)) []
+  -- or a run that ended in a fault: what was printed up to it stands
+  faulted : (lim : Bounds) (p : Program) (task : ℕ) (kind : FaultKind) (place : Place) → command ≡ Run lim → Accepted text p → IsSequential p
+      → HasRun p lim (outcomes.Fault task kind place) book
+      → Due command text book Fault (prints_text (state_after p lim (counted book.journal)).prints) (fault_text task kind place)
+  -- the text is accepted, and its program can't be run today
+  not_run : (lim : Bounds) (p : Program) → command ≡ Run lim → Accepted text p → ¬ IsSequential p → HasRefusal not_of_the_form book
+      → Due command text book Refused [] (refusal_text not_of_the_form)
 
 -- Why the program answers with a status, before it writes anything, and which bytes it has for the two sinks.
 pub data Cause {S : Type 0} (tells : SourceTells S) (command : Option Command) (before after : S) (book : Book) : Status → List ℕ → List ℕ → Type 0 where
@@ -39,8 +53,8 @@ pub data Cause {S : Type 0} (tells : SourceTells S) (command : Option Command) (
   too_long : IsSome command → WasRead tells before (Err reads.TooLong) after → IsNew book
       → Cause tells command before after book TooLong [] too_long_text
   -- the source gave a text, and this is due for it
-  text : {status : Status} {out err : List ℕ} (lim : Bounds) (bytes : List ℕ) → command ≡ Some (Run lim) → WasRead tells before (Ok bytes) after
-      → Due lim bytes book status out err → Cause tells command before after book status out err
+  text : {status : Status} {out err : List ℕ} (given : Command) (bytes : List ℕ) → command ≡ Some given → WasRead tells before (Ok bytes) after
+      → Due given bytes book status out err → Cause tells command before after book status out err
 
 -- What is written for an answer, out before err: all of it, or up to a write that fails, after which nothing is
 -- written.

@@ -2,5 +2,4 @@ pub mod Answers
 pub mod Codes
 pub mod Ends
 pub mod Theorem
-pub mod Words
 pub mod inner

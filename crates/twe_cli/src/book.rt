@@ -2,9 +2,9 @@
 
 use seg_journal::Journal;
 use std::alloc::Global;
+use twe_front::Refusal;
 use twe_machine::Outcome;
 use twe_program::Prog;
-use twe_syntax::Refusal;
 
 /// What a call of the program has made: the program that its text means and the journal and outcome of its run, or
 /// the refusal of the text.

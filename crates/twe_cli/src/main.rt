@@ -9,7 +9,6 @@ mod status;
 #[cfg(test)]
 mod tests;
 mod top;
-mod words;
 
 use book::Book;
 use std::alloc::{AllocError, Global};

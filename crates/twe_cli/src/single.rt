@@ -1,30 +1,32 @@
 //! A command that takes no other thread: it returns for every source and every sink.
-ghost use Rattle.std.specs.Prelude.{◌≡◌, [], Some, IfOk, OnOk};
-ghost use Rattle.twe_cli.specs.Answers.{IsRefusal, Due, Cause, Answers};
-ghost use Rattle.twe_cli.specs.Ends.{source, sink};
+ghost use Rattle.std.specs.Prelude.{◌≡◌, ◌≤◌, [], length, Some, IfOk, OnOk};
+ghost use Rattle.twe_cli.specs.Answers.{Due, Cause, Answers};
+ghost use Rattle.twe_cli.specs.Ends.{most_bytes, source, sink};
+ghost use Rattle.twe_cli.specs.inner.Given.{IsDueFor, IsAnswerOfRun, answer_of};
 ghost use Rattle.twe_report.specs.Texts as texts;
-ghost use Rattle.twe_cli.specs.Theorem.{HasRun, HasRefusal, IsNew};
+ghost use Rattle.twe_cli.specs.Theorem.{HasProgram, HasRefusal, IsNew};
 ghost use Rattle.twe_cli.specs.declared.status.Status.TheVariants.{Done, Refused};
-ghost use Rattle.twe_machine.specs.Runs.{state_after};
-ghost use Rattle.twe_machine.specs.Segment.{HasOnlySums};
+ghost use Rattle.twe_machine.specs.Sequential.{IsSequential};
 
 use crate::answer::{Answer, tell};
 use crate::book::Book;
 use crate::status::Status;
-use crate::words::Command;
 use seg_journal::Limits;
 use std::alloc::Global;
+use twe_front::{FrontFail, Refusal, RuleName, read_program};
 use twe_io::{Bytes, Memory, Place, ReadFail, Sink, Source, read_all};
-use twe_machine::{outcome, run_main};
+use twe_machine::{Outcome, State, is_sequential, outcome, run_main};
 use twe_program::Prog;
-use twe_report::{read_fault_text, refusal_text, result_text, too_long_text};
-use twe_syntax::first::{FirstFail, parse_first};
-use twe_syntax::{Refusal, RuleName};
+use twe_report::{
+    accepted_text, fault_text, prints_text, read_fault_text, refusal_text, result_text, too_long_text,
+};
+use twe_words::Command;
 
 /// How many bytes a text may have.
 const MOST_BYTES: usize = 1_048_576;
 
-/// Carries out a command: reads the text of a program from the source, runs it, and writes its answer.
+/// Carries out a command: reads the text of a program from the source, checks it, runs it where the command says so, and
+/// writes its answer.
 ///
 /// `Answers` says what each status means and what is written with it. The book has the program, the journal of its run
 /// and how the run ended, or the refusal of the text. After `Memory` nothing was written, and nothing more is said of
@@ -58,9 +60,8 @@ fn answer<S: Source>(
     ensures { IfOk result (λ answer. Cause (source S.left S.faults S.read_gives) (Some cmd.now) src.old src.new
         book.new answer.status answer.out answer.err) }
 {
-    let lim = cmd.limits();
     match read_all(alloc, src, MOST_BYTES) {
-        Ok(text) => Ok(run_text(alloc, lim, text.as_slice(), book)?),
+        Ok(text) => Ok(answer_text(alloc, cmd, text.as_slice(), book)?),
         Err(ReadFail::ReadFault) => complaint(alloc, Status::ReadFault, read_fault_text(alloc)?),
         Err(ReadFail::TooLong) => complaint(alloc, Status::TooLong, too_long_text(alloc)?),
         Err(ReadFail::OutOfMemory(memory)) => Err(memory),
@@ -78,31 +79,38 @@ fn complaint(alloc: Global, status: Status, err: Bytes) -> Result<Answer, Memory
     })
 }
 
-/// Runs the program of a text, and says what came of it.
-fn run_text(alloc: Global, lim: Limits, text: &[u8], book: &mut Book) -> Result<Answer, Memory>
-    requires { IsNew book.old }
-    ensures { IfOk result (λ answer. Due lim text.now book.new answer.status answer.out answer.err) }
+/// What the program has to say to a text.
+fn answer_text(alloc: Global, cmd: &Command, text: &[u8], book: &mut Book) -> Result<Answer, Memory>
+    requires new { IsNew book.old }
+    requires short { length text.now ≤ most_bytes }
+    ensures { IfOk result (λ answer. Due cmd.now text.now book.new answer.status answer.out answer.err) }
 {
-    match parse_first(alloc, text) {
-        Ok(p) => run_program(alloc, lim, p, book),
-        Err(FirstFail::Form) => Ok(refuse(alloc, NOT_OF_THE_FORM, book)?),
-        Err(FirstFail::OutOfMemory(memory)) => Err(memory),
+    match read_program(alloc, text) {
+        Ok(p) => Ok(answer_program(alloc, cmd, p, book)?),
+        Err(FrontFail::Refused(refusal)) => Ok(refuse(alloc, refusal, book)?),
+        Err(FrontFail::OutOfMemory(memory)) => Err(memory),
     }
 }
 
-/// Runs a program, and says its result.
-fn run_program(alloc: Global, lim: Limits, p: Prog, book: &mut Book) -> Result<Answer, Memory>
-    requires new { IsNew book.old }
-    requires sums { HasOnlySums p }
-    ensures status { IfOk result (λ answer. answer.status ≡ Done) }
-    ensures run { OnOk result (HasRun p lim book.new) }
-    ensures out { IfOk result (λ answer. answer.out ≡ texts.result_text p (state_after p lim book.new.journal)) }
-    ensures err { IfOk result (λ answer. answer.err ≡ []) }
+/// What the program has to say to a text that is accepted and has this program.
+fn answer_program(alloc: Global, cmd: &Command, p: Prog, book: &mut Book) -> Result<Answer, Memory>
+    requires { IsNew book.old }
+    ensures { IfOk result (λ answer. IsDueFor cmd.now p book.new answer) }
 {
-    let (journal, st) = run_main(alloc, &p, lim)?;
-    let out = result_text(alloc, &p, &st)?;
-    book.outcome = Some(outcome(&p, &st));
-    book.journal = journal;
+    match *cmd {
+        Command::Check => accept(alloc, p, book),
+        Command::Run { lim } if is_sequential(&p) => run_program(alloc, lim, p, book),
+        Command::Run { .. } => refuse(alloc, NOT_OF_THE_FORM, book),
+    }
+}
+
+/// Accepts a program.
+fn accept(alloc: Global, p: Prog, book: &mut Book) -> Result<Answer, Memory>
+    requires { IsNew book.old }
+    ensures program { OnOk result (HasProgram p book.new) }
+    ensures answer { IfOk result (λ answer. answer ≡ record { status = Done; out = texts.accepted_text; err = [] }) }
+{
+    let out = accepted_text(alloc)?;
     book.prog = Some(p);
     Ok(Answer {
         status: Status::Done,
@@ -111,7 +119,41 @@ fn run_program(alloc: Global, lim: Limits, p: Prog, book: &mut Book) -> Result<A
     })
 }
 
-/// Refuses a text that is not of the first form.
+/// Runs a program, and says how the run ended.
+fn run_program(alloc: Global, lim: Limits, p: Prog, book: &mut Book) -> Result<Answer, Memory>
+    requires new { IsNew book.old }
+    requires sequential { IsSequential p }
+    ensures { IfOk result (IsAnswerOfRun p lim book.new) }
+{
+    let (journal, st) = run_main(alloc, &p, lim)?;
+    let ended = outcome(&p, &st);
+    let answer = answer_of(alloc, &p, &st, ended)?;
+    book.outcome = Some(ended);
+    book.journal = journal;
+    book.prog = Some(p);
+    Ok(answer)
+}
+
+/// What the program has to say to a run that ended so in this state: its result, or after a fault the numbers that were
+/// printed and the fault.
+fn answer_of(alloc: Global, p: &Prog, st: &State, ended: Outcome) -> Result<Answer, Memory>
+    ensures { IfOk result (λ answer. answer ≡ answer_of p.now st.now ended) }
+{
+    match ended {
+        Outcome::Fault { task, kind, place } => Ok(Answer {
+            status: Status::Fault,
+            out: prints_text(alloc, st.prints.as_slice())?,
+            err: fault_text(alloc, task, kind, place)?,
+        }),
+        _ => Ok(Answer {
+            status: Status::Done,
+            out: result_text(alloc, p, st)?,
+            err: Bytes::new(alloc),
+        }),
+    }
+}
+
+/// Refuses a text.
 fn refuse(alloc: Global, refusal: Refusal, book: &mut Book) -> Result<Answer, Memory>
     requires { IsNew book.old }
     ensures refusal { OnOk result (HasRefusal refusal book.new) }
@@ -122,7 +164,7 @@ fn refuse(alloc: Global, refusal: Refusal, book: &mut Book) -> Result<Answer, Me
     complaint(alloc, Status::Refused, err)
 }
 
-/// The refusal of a text that is not of the first form.
+/// What is said of a program that can't be run today.
 const NOT_OF_THE_FORM: Refusal = Refusal {
     rule: RuleName::Form,
     place: Place { line: 1, col: 1 },

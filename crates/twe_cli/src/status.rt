@@ -11,6 +11,8 @@ pub enum Status {
     Refused,
     /// The words are no command.
     Usage,
+    /// The program has run, and met a fault.
+    Fault,
     /// A read of the source failed.
     ReadFault,
     /// A write to a sink failed.
@@ -30,6 +32,7 @@ impl Status {
             Status::Done => 0,
             Status::Refused => 1,
             Status::Usage => 2,
+            Status::Fault => 3,
             Status::ReadFault => 5,
             Status::WriteFault => 6,
             Status::Memory => 7,

@@ -4,11 +4,11 @@ use crate::top::twe;
 use seg_journal::{Kind, Limits, Move};
 use std::alloc::Global;
 use std::test::Fail;
+use twe_front::read_program;
 use twe_io::{
     Bytes, Calls, MemSink, MemSource, Memory, PlainSink, PlainSource, Sink, Source, Word,
 };
 use twe_machine::{Outcome, Why, may, outcome, start};
-use twe_syntax::first::parse_first;
 
 const INCREMENT: &[u8] = b"region A;\nint x in A = 41;\ntask void main() writes A { x = x + 1; }\n";
 
@@ -71,7 +71,7 @@ fn a_sink_that_fails_at_any_call_keeps_what_it_took(rt: HostRuntime) -> Result<(
 
 /// Whether a move is legal when a run starts, and how the run stands then.
 fn at_the_start(alloc: Global, mv: Move) -> Result<(Result<(), Why>, Outcome), Fail> {
-    let p = parse_first(alloc, INCREMENT)?;
+    let p = read_program(alloc, INCREMENT)?;
     let st = start(alloc, &p, Limits::default())?;
     Ok((may(&p, &st, mv), outcome(&p, &st)))
 }

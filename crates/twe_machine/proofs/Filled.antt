@@ -1,5 +1,5 @@
 -- The effects of the only task are those that `main` declares, which has no parameters.
-use Rattle.std.proofs.Common.{◌≡◌, ◌<◌, ◌&&◌, ℕ, zero, suc, Bool, true, false, List, [], ◌∷◌, length, Option, None, Some, IsTrue, refl, sym, ap, ◌∙◌, subst, arith}
+use Rattle.std.proofs.Common.{◌≡◌, ◌&&◌, ℕ, zero, suc, Bool, true, false, List, [], ◌∷◌, length, Option, None, Some, IsTrue, refl, sym, ap, subst, arith}
 use Rattle.std.specs.Prelude.{slice_get, slice_set}
 use Rattle.std.specs.List.{AllByRecursion}
 use Rattle.seg_journal.specs.declared.journal.Entry.{Entry}
@@ -14,12 +14,21 @@ use Rattle.effect_sets.specs.Filled.{all_filled}
 use Rattle.twe_program.specs.declared.program.Decl.{Decl}
 use Rattle.twe_program.specs.Program.{Program}
 use Rattle.twe_program.specs.WellFormed.{IsWellFormed, IsMain, DeclFits, ElementFits, PathFits}
+use Rattle.seg_exec.specs.declared.frame.Frame.{Frame}
+use Rattle.seg_exec.specs.declared.stop.Stop.{Stop}
+use Rattle.seg_exec.specs.declared.stop.Stop.TheVariants as stops
+use Rattle.seg_exec.specs.Segment.{segment}
 use Rattle.twe_machine.specs.declared.state.State.{State}
 use Rattle.twe_machine.specs.declared.state.TaskRow.{TaskRow}
-use Rattle.twe_machine.specs.Moves.{taken, start_of, first_row, first_rows, admitted, admitted_row, ran}
+use Rattle.twe_machine.specs.Moves.{taken, start_of, first_row, first_rows, admitted, admitted_row, done_row, faulted_row, settled_row, ran}
 use Rattle.twe_machine.specs.Rows.{EffectsAreFilled}
 use Rattle.twe_machine.specs.Runs.{replayed, IsReached}
-use Rattle.twe_machine.proofs.Cells.{All-slice_get}
+
+-- what holds of each element holds of the one at a place
+pub All-slice_get : {A : Type 0} (P : A → Type 0) (xs : List A) (i : ℕ) (x : A) → slice_get xs i ≡ Some x → AllByRecursion P xs → P x
+All-slice_get P [] i x e h = absurd (cc)
+All-slice_get P (y ∷ ys) zero x e h = let same : y ≡ x = cc in subst P same h.0
+All-slice_get P (y ∷ ys) (suc i) x e h = All-slice_get P ys i x e h.1
 
 -- a path that names no parameter has no variable
 elements_filled : (regions : ℕ) (es : List Elem) → AllByRecursion (ElementFits regions 0) es → IsTrue (no_var es)
@@ -66,9 +75,17 @@ admit_filled : (st : State) (t : ℕ) (found : Option TaskRow) → slice_get st.
 admit_filled st t None e filled = filled
 admit_filled st t (Some row) e filled = set_filled st.tasks t row (admitted_row row) e refl filled
 
+settled_filled : (st : State) (t : ℕ) (row : TaskRow) (frame : Frame) (stop : Stop) → slice_get st.tasks t ≡ Some row → RowsFilled st.tasks
+    → RowsFilled (settled_row st t row frame stop).0.tasks
+settled_filled st t row frame (stops.Done value) e filled = set_filled st.tasks t row (done_row row frame value) e refl filled
+settled_filled st t row frame (stops.Fault kind place) e filled = set_filled st.tasks t row (faulted_row row frame) e refl filled
+settled_filled st t row frame _ e filled = filled
+
 run_filled : (p : Program) (st : State) (t : ℕ) (found : Option TaskRow) → slice_get st.tasks t ≡ found → RowsFilled st.tasks → RowsFilled ((ran p st t found).0).tasks
 run_filled p st t None e filled = filled
-run_filled p st t (Some row) e filled = set_filled st.tasks t row _ e refl filled
+run_filled p st t (Some row) e filled =
+    let after = segment p row.frame st.cells in
+    settled_filled (record st { cells = after.cells }) t row after.frame after.stop e filled
 
 kept : (p : Program) (st : State) (kind : Kind) (t : ℕ) → RowsFilled st.tasks → RowsFilled ((taken p st kind t).0).tasks
 kept p st Admit t filled = admit_filled st t (slice_get st.tasks t) refl filled

@@ -1,6 +1,8 @@
-pub mod OneTask
 pub mod Alone
-pub mod Cells
 pub mod Filled
-pub mod WholeRun
+pub mod Main
 pub mod OneLowest
+pub mod OneTask
+pub mod Quiet
+pub mod Segments
+pub mod WholeRun

@@ -3,5 +3,5 @@ pub mod LowestFirst
 pub mod Moves
 pub mod Rows
 pub mod Runs
-pub mod Segment
+pub mod Sequential
 pub mod inner

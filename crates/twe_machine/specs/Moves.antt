@@ -1,5 +1,7 @@
 -- What a move makes of a state, and the state that a run starts from.
 use Rattle.std.specs.Prelude.{◌++◌, ℕ, ℤ, pos, List, [], ◌∷◌, replicate, false, Option, None, Some, slice_get, slice_set}
+use Rattle.twe_io.specs.declared.place.Place.{Place}
+use Rattle.seg_journal.specs.declared.journal.FaultKind.{FaultKind}
 use Rattle.seg_journal.specs.declared.journal.End.{End}
 use Rattle.seg_journal.specs.declared.journal.End.TheVariants.{Admitted}
 use Rattle.seg_journal.specs.declared.journal.End.TheVariants as ends
@@ -12,15 +14,17 @@ use Rattle.wait_graph.specs.Link.{new_link, with_done}
 use Rattle.twe_program.specs.declared.program.CellDecl.{CellDecl}
 use Rattle.twe_program.specs.declared.program.Decl.{Decl}
 use Rattle.twe_program.specs.Program.{Program, size_of}
-use Rattle.twe_machine.specs.declared.frame.Call.{Call}
-use Rattle.twe_machine.specs.declared.frame.Frame.{Frame}
-use Rattle.twe_machine.specs.declared.frame.Next.TheVariants.{Go}
+use Rattle.seg_exec.specs.declared.frame.Call.{Call}
+use Rattle.seg_exec.specs.declared.frame.Frame.{Frame}
+use Rattle.seg_exec.specs.declared.frame.Next.TheVariants.{Go}
+use Rattle.seg_exec.specs.declared.stop.Stop.{Stop}
+use Rattle.seg_exec.specs.declared.stop.Stop.TheVariants as stops
+use Rattle.seg_exec.specs.Segment.{segment}
+use Rattle.twe_machine.specs.declared.state.FirstFault.{FirstFault}
 use Rattle.twe_machine.specs.declared.state.State.{State}
 use Rattle.twe_machine.specs.declared.state.TaskRow.{TaskRow}
 use Rattle.twe_machine.specs.declared.state.TaskStatus.TheVariants.{Made, Enabled}
 use Rattle.twe_machine.specs.declared.state.TaskStatus.TheVariants as status
-use Rattle.twe_machine.specs.Segment.{Stop, Stopped, segment}
-use Rattle.twe_machine.specs.Segment as stops
 
 abbrev pub with_row : State → ℕ → TaskRow → State
 with_row st t row = record st { tasks = slice_set st.tasks t row }
@@ -33,26 +37,59 @@ abbrev pub admitted : State → ℕ → Option TaskRow → State
 admitted st t None = st
 admitted st t (Some row) = with_row st t (admitted_row row)
 
+-- a frame between segments: what the segment has printed is taken out of it
+abbrev pub emptied : Frame → Frame
+emptied frame = record frame { prints = [] }
+
 -- the row of a task that is done with this value
 abbrev pub done_row : TaskRow → Frame → ℤ → TaskRow
-done_row row frame value = record row { frame = frame; status = status.Done; value = value }
+done_row row frame value = record row { frame = emptied frame; status = status.Done; value = value }
 
--- the state after a segment of task t that stopped so, and what the move ended in
-abbrev pub ended : State → ℕ → TaskRow → Stopped → Stop → State × End
-ended st t row after (stops.Done value) = (
+-- the row of a task that has met a fault
+abbrev pub faulted_row : TaskRow → Frame → TaskRow
+faulted_row row frame = record row { frame = emptied frame; status = status.Faulted }
+
+-- the first fault of a run stays the first
+abbrev pub first_fault_of : Option FirstFault → ℕ → FaultKind → Place → Option FirstFault
+first_fault_of (Some earlier) t kind place = Some earlier
+first_fault_of None t kind place = Some (record { task = t; kind = kind; place = place })
+
+-- the segment came to the end of its task
+abbrev pub IsEnd : Stop → Type 0
+IsEnd (stops.Done value) = Unit {0}
+IsEnd (stops.Fault kind place) = Unit {0}
+IsEnd _ = ⊥
+
+-- the state after a segment of task t that left this frame and stopped so, where the cells are those after the segment,
+-- and what the move ended in. What a task wrote and printed before a fault stands. The programs that run today have no
+-- stop but these two, and the others are not given a meaning yet; see `IsSequential`.
+abbrev pub settled_row : State → ℕ → TaskRow → Frame → Stop → State × End
+settled_row st t row frame (stops.Done value) = (
   record st {
-    cells = after.cells;
-    prints = st.prints ++ after.prints;
-    tasks = slice_set st.tasks t (done_row row after.frame value);
+    prints = st.prints ++ frame.prints;
+    tasks = slice_set st.tasks t (done_row row frame value);
     links = with_done st.links t;
   },
   ends.Done value,
 )
+settled_row st t row frame (stops.Fault kind place) = (
+  record st {
+    prints = st.prints ++ frame.prints;
+    tasks = slice_set st.tasks t (faulted_row row frame);
+    first_fault = first_fault_of st.first_fault t kind place;
+  },
+  ends.Fault kind place,
+)
+settled_row st t row frame _ = (st, Admitted)
+
+abbrev pub settled : State → ℕ → Option TaskRow → Frame → Stop → State × End
+settled st t None frame stop = (st, Admitted)
+settled st t (Some row) frame stop = settled_row st t row frame stop
 
 -- one segment of task t
 abbrev pub ran : Program → State → ℕ → Option TaskRow → State × End
 ran p st t None = (st, Admitted)
-ran p st t (Some row) = let after = segment p row.frame st.cells in ended st t row after after.stop
+ran p st t (Some row) = let after = segment p row.frame st.cells in settled_row (record st { cells = after.cells }) t row after.frame after.stop
 
 abbrev pub taken : Program → State → Kind → ℕ → State × End
 taken p st Admit t = (admitted st t (slice_get st.tasks t), Admitted)

@@ -2,8 +2,8 @@
 use Rattle.std.specs.Prelude.{◌≡◌, ℕ, Bool, true, false, map, Option, None, Some, slice_get, IsTrue}
 use Rattle.wait_graph.specs.declared.tasks.Link.{Link}
 use Rattle.effect_sets.specs.Filled.{all_filled}
-use Rattle.twe_machine.specs.declared.frame.Next.{Next}
-use Rattle.twe_machine.specs.declared.frame.Next.TheVariants.{Go, Get, Join, Closing, Ended}
+use Rattle.seg_exec.specs.declared.frame.Next.{Next}
+use Rattle.seg_exec.specs.declared.frame.Next.TheVariants.{Go, Get, Join, Closing, Ended}
 use Rattle.twe_machine.specs.declared.state.State.{State}
 use Rattle.twe_machine.specs.declared.state.TaskRow.{TaskRow}
 use Rattle.twe_machine.specs.declared.state.TaskStatus.{TaskStatus}

@@ -11,6 +11,7 @@ use Rattle.seg_journal.specs.Limits.{Bounds}
 use Rattle.twe_program.specs.Program.{Program}
 use Rattle.twe_machine.specs.declared.ending.Outcome.{Outcome}
 use Rattle.twe_machine.specs.declared.ending.Outcome.TheVariants.{AllDone, Fault, Stuck, Unfinished}
+use Rattle.twe_machine.specs.declared.state.FirstFault.{FirstFault}
 use Rattle.twe_machine.specs.declared.state.State.{State}
 use Rattle.twe_machine.specs.declared.state.TaskRow.{TaskRow}
 use Rattle.twe_machine.specs.declared.state.TaskStatus.TheVariants.{Done}
@@ -68,6 +69,19 @@ IsOutcome st AllDone = (st.first_fault ≡ None) × AllTasksDone st
 IsOutcome st Stuck = (st.first_fault ≡ None) × ¬ AllTasksDone st × ((mv : Move) → ¬ MayMove st mv)
 IsOutcome st Unfinished = (st.first_fault ≡ None) × ¬ AllTasksDone st × ((mv : Move) × MayMove st mv)
 
+-- there was a fault
+abbrev pub HasFault : State → Type 0
+HasFault st = (fault : FirstFault) × (st.first_fault ≡ Some fault)
+
+abbrev pub is_fault : End → Bool
+is_fault (ends.Fault kind place) = true
+is_fault _ = false
+
+-- the part of a journal that counts: up to its first fault, or all of it where there is none
+abbrev pub counted : List Entry → List Entry
+counted [] = []
+counted (entry ∷ entries) = entry ∷ (if is_fault entry.end then [] else counted entries)
+
 -- after each beginning of the journal, of two tasks that may run and interfere one yields to the other
 abbrev pub AlwaysIsolated : Program → Bounds → List Entry → Type 0
 AlwaysIsolated p lim journal = (n : ℕ) → n ≤ length journal → Isolated (state_after p lim (take n journal))
@@ -101,3 +115,9 @@ pub record EachOnce (journal : List Entry) (st : State) : Type 0 where
   pub no_other : (t : ℕ) → (t ≡ 0) ⊎ (length st.tasks ≤ t) → count_by (makes t) journal ≡ 0
   pub enabled : (t : ℕ) (row : TaskRow) → IsRow st t row → count_by (admits t) journal ≡ (if is_some row.parent then 0 else 1)
   pub done : (t : ℕ) → t < length st.tasks → count_by (finishes t) journal ≡ 1
+
+-- Each task was made, enabled and ended at most once.
+pub record EachAtMostOnce (journal : List Entry) : Type 0 where
+  pub made : (t : ℕ) → count_by (makes t) journal ≤ 1
+  pub enabled : (t : ℕ) → count_by (admits t) journal ≤ 1
+  pub done : (t : ℕ) → count_by (finishes t) journal ≤ 1

@@ -2,8 +2,8 @@
 ghost use Rattle.std.specs.Prelude.{◌≡◌, IfOk};
 ghost use Rattle.twe_machine.specs.Moves.{start_of, start_frame, first_row, initial_values, entry_call};
 
-use crate::frame::{Call, Frame, Next, Position};
 use crate::state::{State, TaskRow, TaskStatus};
+use seg_exec::{Call, Frame, Next, Position};
 use seg_journal::Limits;
 use std::alloc::Global;
 use twe_io::{Ints, List, Memory};

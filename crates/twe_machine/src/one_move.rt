@@ -1,32 +1,35 @@
 //! One move.
-ghost use Rattle.std.specs.Prelude.{◌≡◌, ◌<◌, length, pos, IfOk, slice_get};
-ghost use Rattle.twe_program.specs.Program.{cell_count};
+ghost use Rattle.std.specs.Prelude.{◌≡◌, ◌<◌, length, IfOk, slice_get};
 ghost use Rattle.twe_machine.specs.Legal.{MayMove};
-ghost use Rattle.twe_machine.specs.Moves.{admitted, done_row, ran, moved};
+ghost use Rattle.twe_machine.specs.Moves.{admitted, moved, ran};
 ghost use Rattle.twe_machine.specs.Runs.{IsReached};
-ghost use Rattle.twe_machine.specs.Segment.{HasOnlySums, at_end, executed_all, remaining};
+ghost use Rattle.twe_machine.specs.inner.Ready.{IsReady};
+ghost use Rattle.twe_machine.specs.Sequential.{IsSequential};
 
-use crate::segment::{end, execute_all, left};
+use crate::settling::settle;
 use crate::state::{State, TaskRow, TaskStatus};
+use seg_exec::{Frame, Next, run_segment};
 use seg_journal::{End, Kind, Limits, Move};
 use std::alloc::Global;
-use twe_io::{Ints, Memory};
+use std::mem;
+use twe_io::{Ints, List, Memory};
 use twe_program::Prog;
 
 /// Takes a legal move in a state that a run of the program has come to under these limits, and tells what the move
 /// ended in. After `Memory` nothing is known of the state, which can only be dropped.
 pub fn step(alloc: Global, p: &Prog, lim: Limits, st: &mut State, mv: Move) -> Result<End, Memory>
-    requires sums { HasOnlySums p.now }
+    requires sequential { IsSequential p.now }
     requires reached { IsReached p.now lim st.old }
     requires legal { MayMove st.old mv }
     ensures { IfOk result (λ end. (st.new, end) ≡ moved p.now lim st.old mv) }
 {
+    let _main = p.main;
     match mv.kind {
         Kind::Admit => {
             admit(st, mv.task as usize);
             Ok(End::Admitted)
         }
-        Kind::Run => Ok(run(alloc, p, st, mv.task)),
+        Kind::Run => run(alloc, p, st, mv.task),
     }
 }
 
@@ -38,30 +41,35 @@ fn admit(st: &mut State, task: usize)
     st.tasks.item_mut(task).status = TaskStatus::Enabled;
 }
 
-/// Runs a task to its end.
-fn run(alloc: Global, p: &Prog, st: &mut State, task: u32) -> End
-    requires there { task < length st.old.tasks }
-    requires linked { task < length st.old.links }
-    requires cells { length st.old.cells ≡ cell_count p.now }
-    ensures { (st.new, result) ≡ ran p.now st.old task (slice_get st.old.tasks task) }
+/// Runs a task up to its end.
+fn run(alloc: Global, p: &Prog, st: &mut State, t: u32) -> Result<End, Memory>
+    requires there { t < length st.old.tasks }
+    requires linked { t < length st.old.links }
+    requires ready { IsReady p.now st.old (slice_get st.old.tasks t) }
+    ensures { IfOk result (λ end. (st.new, end) ≡ ran p.now st.old t (slice_get st.old.tasks t)) }
 {
-    run_row(alloc, p, st.tasks.item_mut(task as usize), &mut st.cells);
-    st.links.set_done(task);
-    End::Done { value: 0 }
+    let mut frame = take_frame(alloc, st.tasks.item_mut(t as usize));
+    let stop = run_segment(alloc, p, &mut frame, &mut st.cells)?;
+    settle(alloc, st, t, frame, stop)
 }
 
-/// Runs the segment of a task over the cells.
-fn run_row(alloc: Global, p: &Prog, row: &mut TaskRow, cells: &mut Ints)
-    requires { length cells.old ≡ cell_count p.now }
-    ensures row { row.new ≡ done_row row.old (at_end row.old.frame (pos 0)) (pos 0) }
-    ensures cells { cells.new ≡ executed_all p.now.cells (remaining p.now row.old.frame) cells.old }
+/// Takes the frame out of a row, where nothing of it is left.
+fn take_frame(alloc: Global, row: &mut TaskRow) -> Frame
+    ensures frame { result ≡ row.old.frame }
+    ensures row { row.new ≡ record row.old { frame = row.new.frame } }
 {
-    execute_all(
-        p.cells.as_slice(),
-        left(p, &row.frame),
-        cells.as_mut_slice(),
-    );
-    end(alloc, &mut row.frame, 0);
-    row.status = TaskStatus::Done;
-    row.value = 0;
+    mem::replace(
+        &mut row.frame,
+        Frame {
+            task: 0,
+            decl: 0,
+            calls: List::new(alloc),
+            fuel: 0,
+            futures: List::new(alloc),
+            out: List::new(alloc),
+            next: Next::Ended,
+            value: 0,
+            prints: Ints::new(alloc),
+        },
+    )
 }

@@ -1,7 +1,7 @@
 //! The state of a run.
 
-use crate::frame::Frame;
 use effect_sets::Summary;
+use seg_exec::Frame;
 use seg_journal::FaultKind;
 use twe_io::{Ints, List, Place};
 use wait_graph::Links;

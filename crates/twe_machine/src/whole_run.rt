@@ -1,9 +1,9 @@
 //! The run of a program that makes no task besides `main`.
-ghost use Rattle.std.specs.Prelude.{◌≡◌, [], ◌∷◌, ◌++◌, IfOk, OnOk};
+ghost use Rattle.std.specs.Prelude.{◌≡◌, ◌⊎◌, [], ◌∷◌, ◌++◌, IfOk, OnOk};
 ghost use Rattle.twe_machine.specs.Legal.{MayMove};
 ghost use Rattle.twe_machine.specs.LowestFirst.{LowestFirst};
-ghost use Rattle.twe_machine.specs.Runs.{IsRun, Legal, state_after, IsOutcome, EachOnce, AlwaysIsolated, entry_of};
-ghost use Rattle.twe_machine.specs.Segment.{HasOnlySums};
+ghost use Rattle.twe_machine.specs.Runs.{IsRun, Legal, state_after, IsOutcome, HasFault, EachOnce, EachAtMostOnce, AlwaysIsolated, counted, entry_of};
+ghost use Rattle.twe_machine.specs.Sequential.{IsSequential};
 ghost use Rattle.twe_machine.specs.declared.ending.Outcome.TheVariants.{AllDone};
 
 use crate::first_state::start;
@@ -15,16 +15,18 @@ use twe_io::Memory;
 use twe_program::Prog;
 
 /// The journal of a whole run of the program under these limits, and the state that it leads to: `main` is admitted
-/// and runs to its end. The journal is the
-/// lowest-first one, and in the end every task is done.
+/// and runs to its end or to a fault. The journal is the lowest-first one. Where all is done each thing happened once,
+/// and after a fault at most once; nothing comes after a fault.
 pub fn run_main(alloc: Global, p: &Prog, lim: Limits) -> Result<(Journal, State), Memory>
-    requires { HasOnlySums p.now }
+    requires { IsSequential p.now }
     ensures legal { IfOk result (λ run. Legal p.now lim run.0) }
     ensures state { IfOk result (λ run. run.1 ≡ state_after p.now lim run.0) }
-    ensures all_done { IfOk result (λ run. IsOutcome run.1 AllDone) }
-    ensures once { IfOk result (λ run. EachOnce run.0 run.1) }
+    ensures ended { IfOk result (λ run. IsOutcome run.1 AllDone ⊎ HasFault run.1) }
+    ensures once { IfOk result (λ run. IsOutcome run.1 AllDone → EachOnce run.0 run.1) }
+    ensures at_most_once { IfOk result (λ run. EachAtMostOnce run.0) }
     ensures isolated { IfOk result (λ run. AlwaysIsolated p.now lim run.0) }
     ensures lowest { IfOk result (λ run. LowestFirst p.now lim run.0) }
+    ensures counted { IfOk result (λ run. counted run.0 ≡ run.0) }
 {
     let _main = p.main;
     let mut st = start(alloc, p, lim)?;
@@ -51,7 +53,7 @@ fn take(
     journal: &mut Journal,
     mv: Move,
 ) -> Result<(), Memory>
-    requires sums { HasOnlySums p.now }
+    requires sequential { IsSequential p.now }
     requires run { IsRun p.now lim journal.old st.old }
     requires legal { MayMove st.old mv }
     ensures entered { OnOk result (journal.new ≡ journal.old ++ entry_of p.now lim st.old mv ∷ []) }

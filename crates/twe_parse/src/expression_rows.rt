@@ -4,7 +4,7 @@ ghost use Rattle.twe_parse.specs.inner.Rows.{after_minus_row, args_row, climb_ro
 ghost use Rattle.twe_parse.specs.inner.Operators.{operator_of};
 
 use crate::operator::{level_of, operator_of};
-use crate::row::{Row, marked, plain};
+use crate::row::{Row, marked, operand_then, plain};
 use crate::symbol::Act::Expr;
 use crate::symbol::Symbol::{Do, Rule, Token};
 use crate::symbol::{ExprAct, Part, Symbol, Terminal};
@@ -70,14 +70,9 @@ pub(crate) fn suffix(alloc: Global, next: Terminal) -> Result<Option<Row>, Memor
                 Do(Expr(ExprAct::CallValue)),
             ],
         ),
-        Terminal::Fixed(Fixed::OpenBracket) => plain(
+        Terminal::Fixed(Fixed::OpenBracket) => operand_then(
             alloc,
-            &[
-                Rule(Part::Unary),
-                Rule(Part::Climb(0)),
-                Token(Fixed::CloseBracket),
-                Rule(Part::SecondIndex),
-            ],
+            &[Token(Fixed::CloseBracket), Rule(Part::SecondIndex)],
         ),
         _ => Ok(None),
     }
@@ -88,14 +83,9 @@ pub(crate) fn second_index(alloc: Global, next: Terminal) -> Result<Option<Row>,
     ensures { IfOk result (λ row. row ≡ second_index_row next) }
 {
     match next {
-        Terminal::Fixed(Fixed::OpenBracket) => plain(
+        Terminal::Fixed(Fixed::OpenBracket) => operand_then(
             alloc,
-            &[
-                Rule(Part::Unary),
-                Rule(Part::Climb(0)),
-                Token(Fixed::CloseBracket),
-                Do(Expr(ExprAct::GridElement)),
-            ],
+            &[Token(Fixed::CloseBracket), Do(Expr(ExprAct::GridElement))],
         ),
         _ => Ok(None),
     }
@@ -125,14 +115,9 @@ pub(crate) fn more_args(alloc: Global, next: Terminal) -> Result<Option<Row>, Me
 {
     match next {
         Terminal::Fixed(Fixed::CloseParen) => plain(alloc, &[]),
-        Terminal::Fixed(Fixed::Comma) => plain(
+        Terminal::Fixed(Fixed::Comma) => operand_then(
             alloc,
-            &[
-                Rule(Part::Unary),
-                Rule(Part::Climb(0)),
-                Do(Expr(ExprAct::KeepArg)),
-                Rule(Part::MoreArgs),
-            ],
+            &[Do(Expr(ExprAct::KeepArg)), Rule(Part::MoreArgs)],
         ),
         _ => Ok(None),
     }

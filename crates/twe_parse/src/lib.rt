@@ -20,6 +20,7 @@ mod stack;
 mod statement_rows;
 mod symbol;
 mod text;
+mod wait_rows;
 mod work;
 
 pub use fail::{ParseFail, SRule};

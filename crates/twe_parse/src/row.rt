@@ -1,5 +1,7 @@
 //! The rows of the table by which the parser goes.
-ghost use Rattle.std.specs.Prelude.{◌≡◌, true, false, Some, IfOk};
+ghost use Rattle.std.specs.Prelude.{◌≡◌, ◌∷◌, true, false, Some, IfOk};
+ghost use Rattle.twe_parse.specs.declared.symbol.Part.TheVariants as parts;
+ghost use Rattle.twe_parse.specs.declared.symbol.Symbol.TheVariants as symbols;
 ghost use Rattle.twe_parse.specs.inner.Rows.{row_of, otherwise};
 
 use crate::expression_rows::{after_minus, args, climb, more_args, second_index, suffix, unary};
@@ -9,10 +11,10 @@ use crate::item_rows::{
     task_returns,
 };
 use crate::statement_rows::{
-    after_arm, after_index, after_name, after_value_name, awaited, awaited_value, else_body,
-    int_value, local_type, make, return_value, statements,
+    after_arm, after_index, after_name, else_body, int_value, local_type, return_value, statements,
 };
 use crate::symbol::{Act, ExprAct, Part, StmtAct, Symbol, Terminal};
+use crate::wait_rows::{after_value_name, awaited, awaited_value, make};
 use std::alloc::Global;
 use twe_io::{List, Memory};
 
@@ -43,6 +45,18 @@ pub(crate) fn marked(alloc: Global, todo: &[Symbol]) -> Result<Option<Row>, Memo
         mark: true,
         todo: List::from_slice(alloc, todo)?,
     }))
+}
+
+/// A row of an operand with what follows it, and then more. The place of its token is not kept.
+pub(crate) fn operand_then(alloc: Global, more: &[Symbol]) -> Result<Option<Row>, Memory>
+    ensures { IfOk result (λ row. row ≡ Some (record { mark = false; todo = symbols.Rule parts.Unary ∷ symbols.Rule (parts.Climb 0) ∷ more.now })) }
+{
+    let mut todo = List::from_slice(
+        alloc,
+        &[Symbol::Rule(Part::Unary), Symbol::Rule(Part::Climb(0))],
+    )?;
+    todo.push_all(more)?;
+    Ok(Some(Row { mark: false, todo }))
 }
 
 /// The row of a part that begins with such a token, if there is one.

@@ -1,14 +1,12 @@
 //! The rows of statements.
 ghost use Rattle.std.specs.Prelude.{◌≡◌, IfOk};
-ghost use Rattle.twe_parse.specs.inner.Rows.{after_arm_row, after_index_row, after_name_row, after_value_name_row, awaited_row, awaited_value_row, else_body_row, int_value_row, local_type_row, make_row, operator_after_name_row, return_value_row, statements_row};
-ghost use Rattle.twe_parse.specs.inner.Operators.{operator_of};
+ghost use Rattle.twe_parse.specs.inner.Rows.{after_arm_row, after_index_row, after_name_row, else_body_row, int_value_row, local_type_row, return_value_row, statements_row};
 
 use crate::expression_rows::unary_then;
-use crate::operator::{level_of, operator_of};
-use crate::row::{Row, marked, plain};
+use crate::row::{Row, marked, operand_then, plain};
 use crate::symbol::Act::{Expr, Stmt};
 use crate::symbol::Symbol::{Do, Name, Rule, Token};
-use crate::symbol::{ExprAct, Part, StmtAct, Symbol, Terminal};
+use crate::symbol::{ExprAct, Part, StmtAct, Terminal};
 use std::alloc::Global;
 use twe_ast::LocalType;
 use twe_io::Memory;
@@ -184,66 +182,6 @@ pub(crate) fn int_value(
     }
 }
 
-/// In a task, after `int`, a name, `=` and a name.
-pub(crate) fn after_value_name(
-    alloc: Global,
-    is_final: bool,
-    next: Terminal,
-) -> Result<Option<Row>, Memory>
-    ensures { IfOk result (λ row. row ≡ after_value_name_row is_final next) }
-{
-    let take = Do(Stmt(StmtAct::Let(is_final, LocalType::Int)));
-    match next {
-        Terminal::Fixed(Fixed::Dot) => plain(alloc, &[Rule(Part::AwaitedValue(is_final))]),
-        Terminal::Fixed(Fixed::Semicolon) => plain(alloc, &[Do(Expr(ExprAct::Variable)), take]),
-        Terminal::Fixed(Fixed::OpenParen) => plain(
-            alloc,
-            &[
-                Do(Expr(ExprAct::NewArgs)),
-                Rule(Part::Args),
-                Do(Expr(ExprAct::CallValue)),
-                Rule(Part::Climb(0)),
-                Token(Fixed::Semicolon),
-                take,
-            ],
-        ),
-        Terminal::Fixed(Fixed::OpenBracket) => plain(
-            alloc,
-            &[
-                Rule(Part::Unary),
-                Rule(Part::Climb(0)),
-                Token(Fixed::CloseBracket),
-                Rule(Part::SecondIndex),
-                Rule(Part::Climb(0)),
-                Token(Fixed::Semicolon),
-                take,
-            ],
-        ),
-        _ => operator_after_name(alloc, next, take),
-    }
-}
-
-/// An operator after the name that a value begins with.
-fn operator_after_name(alloc: Global, next: Terminal, take: Symbol) -> Result<Option<Row>, Memory>
-    ensures { IfOk result (λ row. row ≡ operator_after_name_row (operator_of next) take) }
-{
-    match operator_of(next) {
-        Some(op) => marked(
-            alloc,
-            &[
-                Do(Expr(ExprAct::Variable)),
-                Rule(Part::Unary),
-                Rule(Part::Climb(level_of(op) + 1)),
-                Do(Expr(ExprAct::Binary(op))),
-                Rule(Part::Climb(0)),
-                Token(Fixed::Semicolon),
-                take,
-            ],
-        ),
-        None => Ok(None),
-    }
-}
-
 /// After the name that a statement begins with.
 pub(crate) fn after_name(
     alloc: Global,
@@ -253,23 +191,13 @@ pub(crate) fn after_name(
     ensures { IfOk result (λ row. row ≡ after_name_row in_task next) }
 {
     match next {
-        Terminal::Fixed(Fixed::Assign) => plain(
+        Terminal::Fixed(Fixed::Assign) => operand_then(
             alloc,
-            &[
-                Rule(Part::Unary),
-                Rule(Part::Climb(0)),
-                Token(Fixed::Semicolon),
-                Do(Stmt(StmtAct::Set)),
-            ],
+            &[Token(Fixed::Semicolon), Do(Stmt(StmtAct::Set))],
         ),
-        Terminal::Fixed(Fixed::OpenBracket) => plain(
+        Terminal::Fixed(Fixed::OpenBracket) => operand_then(
             alloc,
-            &[
-                Rule(Part::Unary),
-                Rule(Part::Climb(0)),
-                Token(Fixed::CloseBracket),
-                Rule(Part::AfterIndex),
-            ],
+            &[Token(Fixed::CloseBracket), Rule(Part::AfterIndex)],
         ),
         Terminal::Fixed(Fixed::OpenParen) => plain(
             alloc,
@@ -290,113 +218,19 @@ pub(crate) fn after_index(alloc: Global, next: Terminal) -> Result<Option<Row>, 
     ensures { IfOk result (λ row. row ≡ after_index_row next) }
 {
     match next {
-        Terminal::Fixed(Fixed::Assign) => plain(
+        Terminal::Fixed(Fixed::Assign) => operand_then(
             alloc,
-            &[
-                Rule(Part::Unary),
-                Rule(Part::Climb(0)),
-                Token(Fixed::Semicolon),
-                Do(Stmt(StmtAct::SetArray)),
-            ],
+            &[Token(Fixed::Semicolon), Do(Stmt(StmtAct::SetArray))],
         ),
-        Terminal::Fixed(Fixed::OpenBracket) => plain(
+        Terminal::Fixed(Fixed::OpenBracket) => operand_then(
             alloc,
             &[
-                Rule(Part::Unary),
-                Rule(Part::Climb(0)),
                 Token(Fixed::CloseBracket),
                 Token(Fixed::Assign),
                 Rule(Part::Unary),
                 Rule(Part::Climb(0)),
                 Token(Fixed::Semicolon),
                 Do(Stmt(StmtAct::SetGrid)),
-            ],
-        ),
-        _ => Ok(None),
-    }
-}
-
-/// After the `.` of a wait.
-pub(crate) fn awaited(alloc: Global, next: Terminal) -> Result<Option<Row>, Memory>
-    ensures { IfOk result (λ row. row ≡ awaited_row next) }
-{
-    match next {
-        Terminal::Fixed(Fixed::GetValue) => plain(
-            alloc,
-            &[
-                Token(Fixed::OpenParen),
-                Token(Fixed::CloseParen),
-                Token(Fixed::Semicolon),
-                Do(Stmt(StmtAct::Wait(false))),
-            ],
-        ),
-        Terminal::Fixed(Fixed::Join) => plain(
-            alloc,
-            &[
-                Token(Fixed::OpenParen),
-                Token(Fixed::CloseParen),
-                Token(Fixed::Semicolon),
-                Do(Stmt(StmtAct::Wait(true))),
-            ],
-        ),
-        _ => Ok(None),
-    }
-}
-
-/// After the `.` of a wait whose value a local takes.
-pub(crate) fn awaited_value(
-    alloc: Global,
-    is_final: bool,
-    next: Terminal,
-) -> Result<Option<Row>, Memory>
-    ensures { IfOk result (λ row. row ≡ awaited_value_row is_final next) }
-{
-    match next {
-        Terminal::Fixed(Fixed::GetValue) => plain(
-            alloc,
-            &[
-                Token(Fixed::OpenParen),
-                Token(Fixed::CloseParen),
-                Token(Fixed::Semicolon),
-                Do(Stmt(StmtAct::LetWait(is_final, false))),
-            ],
-        ),
-        Terminal::Fixed(Fixed::Join) => plain(
-            alloc,
-            &[
-                Token(Fixed::OpenParen),
-                Token(Fixed::CloseParen),
-                Token(Fixed::Semicolon),
-                Do(Stmt(StmtAct::LetWait(is_final, true))),
-            ],
-        ),
-        _ => Ok(None),
-    }
-}
-
-/// After the `.` of the making of a task.
-pub(crate) fn make(alloc: Global, next: Terminal) -> Result<Option<Row>, Memory>
-    ensures { IfOk result (λ row. row ≡ make_row next) }
-{
-    match next {
-        Terminal::Fixed(Fixed::Spawn) => plain(
-            alloc,
-            &[
-                Token(Fixed::OpenParen),
-                Do(Expr(ExprAct::NewArgs)),
-                Rule(Part::Args),
-                Token(Fixed::Semicolon),
-                Do(Stmt(StmtAct::Make(true))),
-            ],
-        ),
-        Terminal::Fixed(Fixed::ExecuteLater) => plain(
-            alloc,
-            &[
-                Token(Fixed::OpenParen),
-                Do(Expr(ExprAct::NewArgs)),
-                Rule(Part::Args),
-                Token(Fixed::Semicolon),
-                Do(Stmt(StmtAct::Make(false))),
             ],
         ),
         _ => Ok(None),

@@ -3,13 +3,21 @@ use Rattle.std.specs.Prelude.{◌++◌, ◌+◌, ℕ, zero, suc, ℤ, pos, List,
 use Rattle.std.specs.Fmt.{signed_decimal}
 use Rattle.std.specs.List.{flat_map}
 use Rattle.twe_io.specs.declared.place.Place.{Place}
+use Rattle.seg_journal.specs.declared.journal.FaultKind.{FaultKind}
+use Rattle.seg_journal.specs.declared.journal.FaultKind.TheVariants.{DivZero, Index, Fuel, Depth, TaskLimit}
 use Rattle.twe_program.specs.declared.program.Dims.{Dims}
 use Rattle.twe_program.specs.declared.program.Dims.TheVariants.{Scalar, Row, Grid}
 use Rattle.twe_program.specs.declared.program.CellDecl.{CellDecl}
 use Rattle.twe_program.specs.Program.{Program}
-use Rattle.twe_syntax.specs.declared.refusal.Refusal.{Refusal}
-use Rattle.twe_syntax.specs.declared.refusal.RuleName.{RuleName}
-use Rattle.twe_syntax.specs.declared.refusal.RuleName.TheVariants.{Form}
+use Rattle.twe_parse.specs.declared.fail.SRule.{SRule}
+use Rattle.twe_parse.specs.declared.fail.SRule.TheVariants.{S1, S2, S3, S4, S5, S6}
+use Rattle.name_rules.specs.declared.rule.NRule.{NRule}
+use Rattle.name_rules.specs.declared.rule.NRule.TheVariants.{N1, N2, N3, N4, N5, N6, N7, N8, N9}
+use Rattle.effect_check.specs.declared.rule.ERule.{ERule}
+use Rattle.effect_check.specs.declared.rule.ERule.TheVariants.{E1, E2, E3, E4, E5, E6, E7, E8}
+use Rattle.twe_front.specs.declared.refusal.Refusal.{Refusal}
+use Rattle.twe_front.specs.declared.refusal.RuleName.{RuleName}
+use Rattle.twe_front.specs.declared.refusal.RuleName.TheVariants.{Text, Name, Effect, Form}
 use Rattle.twe_machine.specs.declared.state.State.{State}
 
 abbrev pub line : List ℕ → List ℕ
@@ -18,6 +26,10 @@ line text = text ++ 10 ∷ []
 -- `42`
 abbrev pub printed_line : ℤ → List ℕ
 printed_line number = line (signed_decimal number)
+
+-- the printed numbers, each on a line of its own
+abbrev pub prints_text : List ℤ → List ℕ
+prints_text prints = flat_map printed_line prints
 
 -- the value of a cell; every cell of a program has one
 abbrev pub value_shown : Option ℤ → List ℕ
@@ -61,20 +73,64 @@ cell_line cells cell = line (cell.name ++ (codes " = " ++ values_text cells cell
 -- the printed numbers, the cells in the order of their declaration, and the count of tasks made
 abbrev pub result_text : Program → State → List ℕ
 result_text p st =
-    flat_map printed_line st.prints
+    prints_text st.prints
     ++ (flat_map (cell_line st.cells) p.cells
     ++ line (codes "tasks " ++ decimal (length st.tasks)))
 
+abbrev pub text_rule : SRule → List ℕ
+text_rule S1 = codes "S1"
+text_rule S2 = codes "S2"
+text_rule S3 = codes "S3"
+text_rule S4 = codes "S4"
+text_rule S5 = codes "S5"
+text_rule S6 = codes "S6"
+
+abbrev pub name_rule : NRule → List ℕ
+name_rule N1 = codes "N1"
+name_rule N2 = codes "N2"
+name_rule N3 = codes "N3"
+name_rule N4 = codes "N4"
+name_rule N5 = codes "N5"
+name_rule N6 = codes "N6"
+name_rule N7 = codes "N7"
+name_rule N8 = codes "N8"
+name_rule N9 = codes "N9"
+
+abbrev pub effect_rule : ERule → List ℕ
+effect_rule E1 = codes "E1"
+effect_rule E2 = codes "E2"
+effect_rule E3 = codes "E3"
+effect_rule E4 = codes "E4"
+effect_rule E5 = codes "E5"
+effect_rule E6 = codes "E6"
+effect_rule E7 = codes "E7"
+effect_rule E8 = codes "E8"
+
 abbrev pub rule_text : RuleName → List ℕ
+rule_text (Text rule) = text_rule rule
+rule_text (Name rule) = name_rule rule
+rule_text (Effect rule) = effect_rule rule
 rule_text Form = codes "Form"
 
 -- `3:28`
 abbrev pub place_text : Place → List ℕ
 place_text place = decimal place.line ++ (codes ":" ++ decimal place.col)
 
--- `refused: Form at 1:1`
+-- `refused: E1 at 3:28`
 abbrev pub refusal_text : Refusal → List ℕ
 refusal_text refusal = line (codes "refused: " ++ (rule_text refusal.rule ++ (codes " at " ++ place_text refusal.place)))
+
+abbrev pub fault_name : FaultKind → List ℕ
+fault_name DivZero = codes "DivZero"
+fault_name Index = codes "Index"
+fault_name Fuel = codes "Fuel"
+fault_name Depth = codes "Depth"
+fault_name TaskLimit = codes "TaskLimit"
+
+-- `fault: DivZero in task 0 at 4:34`
+abbrev pub fault_text : ℕ → FaultKind → Place → List ℕ
+fault_text task kind place =
+    line (codes "fault: " ++ (fault_name kind ++ (codes " in task " ++ (decimal task ++ (codes " at " ++ place_text place)))))
 
 abbrev pub usage_text : List ℕ
 usage_text = line (codes "usage: twe check | run [--workers k] [--fuel f] [--tasks t] [--journal] | replay [--fuel f] [--tasks t] | load N [--workers k]")
@@ -84,3 +140,6 @@ read_fault_text = line (codes "read fault")
 
 abbrev pub too_long_text : List ℕ
 too_long_text = line (codes "input too long")
+
+abbrev pub accepted_text : List ℕ
+accepted_text = line (codes "accepted")

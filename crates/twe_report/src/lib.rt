@@ -5,5 +5,7 @@
 mod lines;
 mod result;
 
-pub use lines::{read_fault_text, refusal_text, too_long_text, usage_text};
-pub use result::result_text;
+pub use lines::{
+    accepted_text, fault_text, read_fault_text, refusal_text, too_long_text, usage_text,
+};
+pub use result::{prints_text, result_text};

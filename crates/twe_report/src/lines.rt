@@ -1,12 +1,16 @@
 //! The lines of complaint. Each ends with byte 10.
 ghost use Rattle.std.specs.Prelude.{◌≡◌, ◌++◌, IfOk, OnOk};
-ghost use Rattle.twe_report.specs.Texts.{rule_text, place_text};
+ghost use Rattle.twe_report.specs.Texts.{text_rule, name_rule, effect_rule, rule_text, place_text, fault_name};
 ghost use Rattle.twe_report.specs.Texts as texts;
 
+use effect_check::ERule;
 use itoa::Buffer;
+use name_rules::NRule;
+use seg_journal::FaultKind;
 use std::alloc::Global;
+use twe_front::{Refusal, RuleName};
 use twe_io::{Bytes, Memory, Place};
-use twe_syntax::{Refusal, RuleName};
+use twe_parse::SRule;
 
 /// The usage line.
 pub fn usage_text(alloc: Global) -> Result<Bytes, Memory>
@@ -32,23 +36,112 @@ pub fn too_long_text(alloc: Global) -> Result<Bytes, Memory>
     Bytes::from_slice(alloc, b"input too long\n")
 }
 
-/// The line that names the refusal of a text, as `refused: Form at 1:1`.
+/// The line for a text that is accepted.
+pub fn accepted_text(alloc: Global) -> Result<Bytes, Memory>
+    ensures { IfOk result (λ text. text ≡ texts.accepted_text) }
+{
+    Bytes::from_slice(alloc, b"accepted\n")
+}
+
+/// The line that names the refusal of a text, as `refused: E1 at 3:28`.
 pub fn refusal_text(alloc: Global, refusal: Refusal) -> Result<Bytes, Memory>
     ensures { IfOk result (λ text. text ≡ texts.refusal_text refusal) }
 {
     let mut text = Bytes::from_slice(alloc, b"refused: ")?;
-    text.push_all(rule(refusal.rule))?;
+    text.push_all(name_of(refusal.rule))?;
     text.push_all(b" at ")?;
     push_place(&mut text, refusal.place)?;
     text.push(b'\n')?;
     Ok(text)
 }
 
-/// The name of a rule.
-fn rule(name: RuleName) -> &'static [u8]
-    ensures { result.now ≡ rule_text name }
+/// The line of a fault, as `fault: DivZero in task 0 at 4:34`.
+pub fn fault_text(
+    alloc: Global,
+    task: u32,
+    kind: FaultKind,
+    place: Place,
+) -> Result<Bytes, Memory>
+    ensures { IfOk result (λ text. text ≡ texts.fault_text task kind place) }
 {
-    match name {
+    let mut text = Bytes::from_slice(alloc, b"fault: ")?;
+    text.push_all(name_of_fault(kind))?;
+    text.push_all(b" in task ")?;
+    text.push_all(Buffer::new().format(task).as_bytes())?;
+    text.push_all(b" at ")?;
+    push_place(&mut text, place)?;
+    text.push(b'\n')?;
+    Ok(text)
+}
+
+/// The name of a fault.
+fn name_of_fault(kind: FaultKind) -> &'static [u8]
+    ensures { result.now ≡ fault_name kind }
+{
+    match kind {
+        FaultKind::DivZero => b"DivZero",
+        FaultKind::Index => b"Index",
+        FaultKind::Fuel => b"Fuel",
+        FaultKind::Depth => b"Depth",
+        FaultKind::TaskLimit => b"TaskLimit",
+    }
+}
+
+/// The name of a rule of the text.
+fn name_of_text_rule(rule: SRule) -> &'static [u8]
+    ensures { result.now ≡ text_rule rule }
+{
+    match rule {
+        SRule::S1 => b"S1",
+        SRule::S2 => b"S2",
+        SRule::S3 => b"S3",
+        SRule::S4 => b"S4",
+        SRule::S5 => b"S5",
+        SRule::S6 => b"S6",
+    }
+}
+
+/// The name of a rule of names.
+fn name_of_name_rule(rule: NRule) -> &'static [u8]
+    ensures { result.now ≡ name_rule rule }
+{
+    match rule {
+        NRule::N1 => b"N1",
+        NRule::N2 => b"N2",
+        NRule::N3 => b"N3",
+        NRule::N4 => b"N4",
+        NRule::N5 => b"N5",
+        NRule::N6 => b"N6",
+        NRule::N7 => b"N7",
+        NRule::N8 => b"N8",
+        NRule::N9 => b"N9",
+    }
+}
+
+/// The name of a rule on effects.
+fn name_of_effect_rule(rule: ERule) -> &'static [u8]
+    ensures { result.now ≡ effect_rule rule }
+{
+    match rule {
+        ERule::E1 => b"E1",
+        ERule::E2 => b"E2",
+        ERule::E3 => b"E3",
+        ERule::E4 => b"E4",
+        ERule::E5 => b"E5",
+        ERule::E6 => b"E6",
+        ERule::E7 => b"E7",
+        ERule::E8 => b"E8",
+    }
+}
+
+/// The name of a rule.
+fn name_of(rule: RuleName) -> &'static [u8]
+    ensures { result.now ≡ rule_text rule }
+{
+    match rule {
+        RuleName::Text(rule) => name_of_text_rule(rule),
+        RuleName::Name(rule) => name_of_name_rule(rule),
+        RuleName::Effect(rule) => name_of_effect_rule(rule),
         RuleName::Form => b"Form",
     }
 }

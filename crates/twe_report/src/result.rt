@@ -1,7 +1,7 @@
 //! The result of a run.
 ghost use Rattle.std.specs.Prelude.{◌≡◌, ◌++◌, ◌+◌, ◌*◌, ◌^◌, ◌<◌, ◌-◌, IfOk, OnOk};
 ghost use Rattle.std.specs.List.{flat_map};
-ghost use Rattle.twe_report.specs.Texts.{printed_line, value_text, more_values, row_text, more_rows, grid_text, values_text, cell_line};
+ghost use Rattle.twe_report.specs.Texts.{prints_text, printed_line, value_text, more_values, row_text, more_rows, grid_text, values_text, cell_line};
 ghost use Rattle.twe_report.specs.Texts as texts;
 
 use itoa::Buffer;
@@ -24,9 +24,18 @@ pub fn result_text(alloc: Global, p: &Prog, st: &State) -> Result<Bytes, Memory>
     Ok(text)
 }
 
+/// The printed numbers, each on a line of its own.
+pub fn prints_text(alloc: Global, prints: &[i32]) -> Result<Bytes, Memory>
+    ensures { IfOk result (λ text. text ≡ texts.prints_text prints.now) }
+{
+    let mut text = Bytes::new(alloc);
+    push_prints(&mut text, prints)?;
+    Ok(text)
+}
+
 /// Each printed number, on a line of its own.
 fn push_prints(text: &mut Bytes, prints: &[i32]) -> Result<(), Memory>
-    ensures { OnOk result (text.new ≡ text.old ++ flat_map printed_line prints.now) }
+    ensures { OnOk result (text.new ≡ text.old ++ prints_text prints.now) }
 {
     for number in prints {
         push_print(text, *number)?;

@@ -1,11 +1,12 @@
 -- How far a run of the evaluator has come, over cells of any kind.
-use Rattle.std.specs.Prelude.{◌≡◌, ℕ, ℤ, List, [], ◌∷◌, ◌++◌, Option, None, Some}
+use Rattle.std.specs.Prelude.{◌<◌, Bool, true, false, ◌||◌, length, nat_eq, slice_get, ◌≡◌, ℕ, ℤ, List, [], ◌∷◌, ◌++◌, Option, None, Some}
 use Rattle.twe_program.specs.Program.{Program}
 use Rattle.seg_exec.specs.declared.work.Asked.{Asked}
 use Rattle.seg_exec.specs.declared.work.Asked.TheVariants.{Nothing, Read, Write, Print, End}
 use Rattle.seg_exec.specs.declared.work.Ending.{Ending}
 use Rattle.seg_exec.specs.declared.machine.Machine.{Machine}
-use Rattle.seg_exec.specs.Access.{Access, Reads, Writes, Agrees, Follows, after, printed}
+use Rattle.seg_exec.specs.Access.{Access, Reads, Writes, Prints, Agrees, Follows, HasRead, HasWritten, MayAll, MaySame, Ways, after, printed, value_in}
+use Rattle.seg_exec.specs.Store.{Store}
 use Rattle.seg_exec.specs.inner.Tasks.{Config, step_of, with_value}
 use Rattle.seg_exec.specs.inner.Runs.{Moment, Over, Comes, run, store_of}
 use Rattle.seg_exec.specs.inner.Views.{config_of}
@@ -24,30 +25,61 @@ pub record Standing (C : Type 0) : Type 0 where
 abbrev pub standing : {C : Type 0} → Machine → C → List ℤ → Standing C
 standing machine cells prints = record { config = config_of machine; cells = cells; prints = prints }
 
+-- what a step asks for may be done
+abbrev pub MayAsk : {C : Type 0} → Ways C → C → Asked → Type 0
+MayAsk ways cells Nothing = Unit {0}
+MayAsk ways cells (Read cell) = ways.may_read cells cell
+MayAsk ways cells (Write cell value) = ways.may_write cells cell
+MayAsk ways cells (Print value) = Unit {0}
+MayAsk ways cells (End ending) = Unit {0}
+
+abbrev pub MayStep : {C : Type 0} → Program → Ways C → Standing C → Type 0
+MayStep p ways s = MayAsk ways s.cells (step_of p s.config).0
+
 -- what a step asks for is done, or is the end
-abbrev pub Served : {C : Type 0} → (C → Access → C → Type 0) → Asked → Standing C → Option Ending → Standing C → Type 0
-Served rule Nothing old ending new = (ending ≡ None) × (new ≡ old)
-Served rule (Read cell) old ending new =
-    (value : ℤ) × (ending ≡ None) × (new.config ≡ with_value value old.config) × rule old.cells (Reads cell value) new.cells × (new.prints ≡ old.prints)
-Served rule (Write cell value) old ending new =
-    (ending ≡ None) × (new.config ≡ old.config) × rule old.cells (Writes cell value) new.cells × (new.prints ≡ old.prints)
-Served rule (Print value) old ending new = (ending ≡ None) × (new ≡ record old { prints = old.prints ++ value ∷ [] })
-Served rule (End last) old ending new = (ending ≡ Some last) × (new ≡ old)
+abbrev pub Served : {C : Type 0} → Ways C → Asked → Standing C → Option Ending → Standing C → Type 0
+Served ways Nothing old ending new = (ending ≡ None) × (new ≡ old)
+Served ways (Read cell) old ending new =
+    (value : ℤ) × (ending ≡ None) × (new.config ≡ with_value value old.config) × HasRead ways old.cells cell value new.cells × (new.prints ≡ old.prints)
+Served ways (Write cell value) old ending new =
+    (ending ≡ None) × (new.config ≡ old.config) × HasWritten ways old.cells cell value new.cells × (new.prints ≡ old.prints)
+Served ways (Print value) old ending new = (ending ≡ None) × (new ≡ record old { prints = old.prints ++ value ∷ [] })
+Served ways (End last) old ending new = (ending ≡ Some last) × (new ≡ old)
 
 -- one step
-abbrev pub Advances : {C : Type 0} → Program → (C → Access → C → Type 0) → Standing C → Option Ending → Standing C → Type 0
-Advances p rule old ending new = Served rule (step_of p old.config).0 (record old { config = (step_of p old.config).1 }) ending new
+abbrev pub Advances : {C : Type 0} → Program → Ways C → Standing C → Option Ending → Standing C → Type 0
+Advances p ways old ending new = Served ways (step_of p old.config).0 (record old { config = (step_of p old.config).1 }) ending new
+
+-- whether a cell was read or written
+abbrev pub is_accessed : ℕ → List Access → Bool
+is_accessed k [] = false
+is_accessed k (Reads cell value ∷ earlier) = nat_eq k cell || is_accessed k earlier
+is_accessed k (Writes cell value ∷ earlier) = nat_eq k cell || is_accessed k earlier
+is_accessed k (Prints value ∷ earlier) = is_accessed k earlier
+
+-- a list of cells that agrees with the accesses, and with what is known of the cells that were accessed
+pub record Witness (known : ℕ → Option ℤ) (accesses : List Access) : Type 0 where
+  pub cells : List ℤ
+  pub agrees : Agrees cells accesses
+  pub within : (k : ℕ) → is_accessed k accesses ≡ true → k < length cells
+  pub knows : (k : ℕ) → is_accessed k accesses ≡ true → known k ≡ Some (value_in (slice_get (after cells accesses) k))
 
 -- some steps: the accesses are made by the rule, and over each list of cells that agrees with them the evaluator comes so far
-pub record Reaches {C : Type 0} (p : Program) (rule : C → Access → C → Type 0) (old new : Standing C) : Type 0 where
+pub record Reaches {C : Type 0} (p : Program) (ways : Ways C) (old new : Standing C) : Type 0 where
   pub accesses : List Access
-  pub follows : Follows rule old.cells accesses new.cells
+  pub follows : Follows ways.rule old.cells accesses new.cells
   pub prints : new.prints ≡ old.prints ++ printed accesses
+  pub same : MaySame ways old.cells new.cells
+  pub witness : Witness (ways.known new.cells) accesses
   pub comes : (cells : List ℤ) → Agrees cells accesses → Comes p (over old.config cells []) (over new.config cells accesses)
 
+-- over each list of cells the evaluator comes to an end, and may make all its accesses
+abbrev pub MayRun : {C : Type 0} → Program → Ways C → Standing C → Type 0
+MayRun p ways s = (cells : List ℤ) → (n : ℕ) × (ending : Ending) × (end : Store) × (run p n (over s.config cells []) ≡ Over ending end) × MayAll ways s.cells end.accesses
+
 -- all steps, up to the end
-pub record Finishes {C : Type 0} (p : Program) (rule : C → Access → C → Type 0) (old : Standing C) (ending : Ending) (new : Standing C) : Type 0 where
+pub record Finishes {C : Type 0} (p : Program) (ways : Ways C) (old : Standing C) (ending : Ending) (new : Standing C) : Type 0 where
   pub accesses : List Access
-  pub follows : Follows rule old.cells accesses new.cells
+  pub follows : Follows ways.rule old.cells accesses new.cells
   pub prints : new.prints ≡ old.prints ++ printed accesses
   pub ends : (cells : List ℤ) → Agrees cells accesses → (n : ℕ) × (run p n (over old.config cells []) ≡ Over ending (store_of (over new.config cells accesses)))

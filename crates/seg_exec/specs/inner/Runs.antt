@@ -1,5 +1,5 @@
 -- Runs of the evaluator over a list of cells.
-use Rattle.std.specs.Prelude.{◌≡◌, ℕ, zero, suc, ℤ, List, ◌∷◌, slice_get, slice_set}
+use Rattle.std.specs.Prelude.{◌≤◌, ◌≡◌, ℕ, zero, suc, ℤ, List, ◌∷◌, slice_get, slice_set}
 use Rattle.twe_program.specs.Program.{Program}
 use Rattle.seg_exec.specs.declared.work.Asked.{Asked}
 use Rattle.seg_exec.specs.declared.work.Asked.TheVariants.{Nothing, Read, Write, Print, End}
@@ -48,6 +48,6 @@ abbrev pub run : Program → ℕ → Moment → Outcome
 run p zero m = Unfinished
 run p (suc n) m = stepped (run p n) (step_of p m.config) m
 
--- from one moment a run comes to another
+-- from one moment a run comes to another: what it does from there in k steps, it does from here in at least as many
 pub record Comes (p : Program) (from to : Moment) : Type 0 where
-  pub by : (k : ℕ) → (n : ℕ) × (run p n from ≡ run p k to)
+  pub by : (k : ℕ) → (n : ℕ) × (k ≤ n) × (run p n from ≡ run p k to)

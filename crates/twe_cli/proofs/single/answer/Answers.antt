@@ -6,13 +6,13 @@ use Rattle.twe_cli.proofs.Causes.{cause_text, cause_fault, cause_long, was_not_r
 use Rattle.twe_cli.proofs.single.answer.Goals as goal
 
 -- the source gave the text, and the text has what is due for it
-pub returns-in_ok-run_text-in-Ok : goal.returns-in_ok-run_text-in-Ok
-returns-in_ok-run_text-in-Ok g c =
+pub returns-in_ok-answer_text-in-Ok : goal.returns-in_ok-answer_text-in-Ok
+returns-in_ok-answer_text-in-Ok g c =
     let tells = source g.S.Source.left g.S.Source.faults g.S.Source.read_gives in
     let said = c.in-Ok.ensures in
     let read = was_read tells c.args.src.now c.read_all.new.source (Ok c.in-Ok.text) said.whole said.ended said.short said.fault said.too_long said.reads in
-    cause_text tells c.args.cmd.now c.limits-lim.result c.args.src.now c.read_all.new.source c.in-Ok.text c.as_slice.result.now c.run_text.new.book c.in_ok-run_text-in-Ok.field-0
-    c.limits-lim.ensures c.as_slice.ensures read c.in_ok-run_text-in-Ok.ensures
+    cause_text tells c.args.cmd.now c.args.src.now c.read_all.new.source c.in-Ok.text c.as_slice.result.now c.answer_text.new.book c.in_ok-answer_text-in-Ok.field-0
+    c.as_slice.ensures read c.in_ok-answer_text-in-Ok.ensures
 
 pub returns-in_ok-read_fault_text-in-Err-ReadFault : goal.returns-in_ok-read_fault_text-in-Err-ReadFault
 returns-in_ok-read_fault_text-in-Err-ReadFault g c =

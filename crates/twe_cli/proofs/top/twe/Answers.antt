@@ -1,5 +1,5 @@
 use Rattle.std.proofs.Common.{Option, subst}
-use Rattle.twe_cli.specs.declared.words.Command.{Command}
+use Rattle.twe_words.specs.declared.command.Command.{Command}
 use Rattle.twe_cli.specs.Answers.{Answers}
 use Rattle.twe_cli.specs.Ends.{source, sink}
 use Rattle.twe_cli.proofs.Causes.{usage_answered}

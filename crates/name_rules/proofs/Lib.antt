@@ -1,0 +1,15 @@
+pub mod FirstPlaces
+pub mod Walks
+pub mod Rooms
+pub mod FirstFailures
+pub mod Arguments
+pub mod FirstSites
+pub mod Bodies
+pub mod PathsOver
+pub mod Members
+pub mod Ordered
+pub mod Gathered
+pub mod Elements
+pub mod Listed
+pub mod Fails
+pub mod FirstOfText

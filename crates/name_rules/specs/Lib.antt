@@ -1,0 +1,10 @@
+pub mod Names
+pub mod Here
+pub mod Types
+pub mod Asks
+pub mod Stands
+pub mod Ends
+pub mod Limits
+pub mod Size
+pub mod FailsName
+pub mod inner

@@ -1,0 +1,10 @@
+pub mod Firsts
+pub mod Parameters
+pub mod Counts
+pub mod Room
+pub mod Least
+pub mod Failures
+pub mod Simple
+pub mod OtherFailures
+pub mod Elements
+pub mod Whole

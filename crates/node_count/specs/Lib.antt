@@ -1,0 +1,4 @@
+pub mod Nodes
+pub mod GoesOver
+pub mod FirstOver
+pub mod inner

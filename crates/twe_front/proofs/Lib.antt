@@ -1,0 +1,9 @@
+mod SameTree
+mod OneFirst
+mod OneAnswer
+mod Tails
+mod Sizes
+mod NoTasks
+mod Literals
+mod Indexes
+mod FromText

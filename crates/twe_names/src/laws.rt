@@ -1,0 +1,14 @@
+//! What the meaning of a tree keeps.
+ghost use Rattle.twe_io.specs.declared.place.Place.{Place};
+ghost use Rattle.twe_ast.specs.declared.item.Ast.{Ast};
+ghost use Rattle.twe_program.specs.WellFormed.{IsWellFormed};
+ghost use Rattle.name_rules.specs.declared.rule.NRule.{NRule};
+ghost use Rattle.name_rules.specs.FailsName.{FailsName};
+ghost use Rattle.twe_names.specs.FromText.{IsFromText};
+ghost use Rattle.twe_names.specs.Meaning.{program_of};
+
+/// A tree of a text that fails no rule of names means a well-formed program.
+pub fn meaning_is_well_formed()
+    ensures { (ast : Ast) → IsFromText ast → ((rule : NRule) (place : Place) → ¬ FailsName ast rule place)
+        → IsWellFormed (program_of ast) }
+{}

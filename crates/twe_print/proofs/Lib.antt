@@ -1,0 +1,16 @@
+pub mod Texts
+pub mod Supply
+pub mod PlacedExpression
+pub mod AgainExpression
+pub mod PlacedStatement
+pub mod AgainStatement
+pub mod PlacedItem
+pub mod AgainItem
+pub mod Passing
+pub mod PassesExpression
+pub mod PassesStatement
+pub mod PassesItem
+pub mod Alone
+pub mod Cutting
+pub mod Accepted
+pub mod ParsedAgain

@@ -1,0 +1,11 @@
+pub mod Text
+pub mod ExpressionWords
+pub mod StatementWords
+pub mod PathWords
+pub mod ItemWords
+pub mod Enclosed
+pub mod BareExpression
+pub mod BareStatement
+pub mod BareItem
+pub mod ParsesAgain
+pub mod inner

@@ -1,5 +1,0 @@
-pub mod FirstLiterals
-pub mod FirstReading
-pub mod Numbering
-pub mod Reading
-pub mod Writable

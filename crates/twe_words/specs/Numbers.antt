@@ -1,0 +1,16 @@
+-- The numbers on the command line.
+use Rattle.std.specs.Prelude.{ℕ, ◌+◌, ◌-◌, ◌*◌, ◌&&◌, Bool, List, length, Option, None, Some, fold, nat_le, if◌then◌else◌}
+use Rattle.std.specs.List.{list_all}
+use Rattle.std.specs.Char.{is_ascii_digit}
+
+-- 1 to 10 decimal digits, of which the first may be zeros
+abbrev pub is_number : List ℕ → Bool
+is_number word = nat_le 1 (length word) && (nat_le (length word) 10 && list_all is_ascii_digit word)
+
+-- the number that digits write
+abbrev pub number_of : List ℕ → ℕ
+number_of digits = fold (λ value digit. value * 10 + (digit - 48)) 0 digits
+
+-- the number that a word is, if it is one and no larger than this
+abbrev pub number_within : ℕ → List ℕ → Option ℕ
+number_within most word = if is_number word && nat_le (number_of word) most then Some (number_of word) else None

@@ -1,0 +1,7 @@
+//! The words of the command line: what they mean. What is done then is left to the crate above.
+#![tactic(auto)]
+
+mod command;
+mod number;
+
+pub use command::{Command, read_words};
