@@ -1,0 +1,2 @@
+pub mod Assignable
+pub mod Assignments

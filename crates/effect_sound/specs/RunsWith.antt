@@ -1,0 +1,32 @@
+-- Frames of tasks that run with given arguments.
+use Rattle.std.specs.Prelude.{◌≡◌, ◌≤◌, ℕ, ℤ, List, [], ◌∷◌, length, take, Option, None, Some, slice_get}
+use Rattle.twe_program.specs.Fitting.{TakesArguments}
+use Rattle.twe_program.specs.Program.{Program}
+use Rattle.seg_exec.specs.declared.frame.Call.{Call}
+use Rattle.seg_exec.specs.declared.frame.Frame.{Frame}
+use Rattle.seg_exec.specs.declared.frame.Next.{Next}
+use Rattle.seg_exec.specs.declared.frame.Next.TheVariants.{Go, Get, Join, Closing, Ended}
+
+-- the variables of the task's own body, where it is not at its end, begin with the arguments
+abbrev pub BeginWith : List ℤ → List Call → Type 0
+BeginWith args [] = Unit {0}
+BeginWith args (call ∷ callers) = take (length args) call.vars ≡ args
+
+-- the local that takes a value, if there is one, comes after the parameters
+abbrev pub IntoFrom : ℕ → Option ℕ → Type 0
+IntoFrom params None = Unit {0}
+IntoFrom params (Some var) = params ≤ var
+
+abbrev pub NextFrom : ℕ → Next → Type 0
+NextFrom params Go = Unit {0}
+NextFrom params (Get on into) = IntoFrom params into
+NextFrom params (Join on into) = IntoFrom params into
+NextFrom params (Closing on) = Unit {0}
+NextFrom params Ended = Unit {0}
+
+-- the frame is that of a task with these arguments, as many as its declaration has parameters: its parameters have
+-- these values, and the value that it waits for is taken by a local
+pub record RunsWith (p : Program) (args : List ℤ) (frame : Frame) : Type 0 where
+  pub count : TakesArguments (slice_get p.tasks frame.decl) (length args)
+  pub params : BeginWith args frame.calls
+  pub next : NextFrom (length args) frame.next
