@@ -99,6 +99,7 @@ pub fn statements(
     for stmt in written.stmts.as_slice() {
         stmts.push(statement(stmt, alloc, globals, here)?)?;
     }
+    // The proof reads the parts of the block up to here.
     let _ = &written.close;
     Ok(Block { stmts })
 }
