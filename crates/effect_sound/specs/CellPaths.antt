@@ -25,7 +25,7 @@ indexes_at (Grid rows columns) place = number (pos (place / columns)) ∷ number
 abbrev pub path_within : CellDecl → ℕ → ConcretePath
 path_within decl cell = map concrete decl.path.elems ++ indexes_at decl.dims (cell - decl.first)
 
--- the path of a cell of one of the declarations: the first that ends behind it
+-- the path of a cell of one of the declarations: the first that ends after it
 abbrev pub path_among : List CellDecl → ℕ → ConcretePath
 path_among [] cell = []
 path_among (decl ∷ others) cell = if nat_lt cell (decl.first + size_of decl.dims) then path_within decl cell else path_among others cell

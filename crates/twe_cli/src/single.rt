@@ -18,7 +18,8 @@ use twe_io::{Bytes, Memory, Place, ReadFail, Sink, Source, read_all};
 use twe_machine::{Outcome, State, is_sequential, outcome, run_main};
 use twe_program::Prog;
 use twe_report::{
-    accepted_text, fault_text, prints_text, read_fault_text, refusal_text, result_text, too_long_text,
+    accepted_text, fault_text, prints_text, read_fault_text, refusal_text, result_text,
+    too_long_text,
 };
 use twe_words::Command;
 

@@ -56,12 +56,7 @@ pub fn refusal_text(alloc: Global, refusal: Refusal) -> Result<Bytes, Memory>
 }
 
 /// The line of a fault, as `fault: DivZero in task 0 at 4:34`.
-pub fn fault_text(
-    alloc: Global,
-    task: u32,
-    kind: FaultKind,
-    place: Place,
-) -> Result<Bytes, Memory>
+pub fn fault_text(alloc: Global, task: u32, kind: FaultKind, place: Place) -> Result<Bytes, Memory>
     ensures { IfOk result (λ text. text ≡ texts.fault_text task kind place) }
 {
     let mut text = Bytes::from_slice(alloc, b"fault: ")?;

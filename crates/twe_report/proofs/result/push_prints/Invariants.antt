@@ -1,5 +1,4 @@
 use Rattle.std.proofs.Common.{◌≡◌, ◌++◌, take}
-
 use Rattle.twe_report.specs.Texts.{prints_text}
 use Rattle.twe_report.proofs.result.push_prints.Given as goal
 
