@@ -1,2 +1,0 @@
-pub mod Assignable
-pub mod Assignments

@@ -11,14 +11,7 @@ ghost use Rattle.seg_exec.specs.Access.{Access};
 ghost use Rattle.seg_exec.specs.Segment.{segment};
 ghost use Rattle.effect_sound.specs.DeclaredNow.{DeclaredNow};
 ghost use Rattle.effect_sound.specs.KeepsEffects.{KeepsEffects};
-ghost use Rattle.effect_sound.specs.KeepsParams.{KeepsParams};
 ghost use Rattle.effect_sound.specs.RunsWith.{RunsWith};
-
-/// A tree that fails no rule of names means a program that assigns to no parameter: a parameter may not be assigned, and
-/// a local, which may be, has a number after those of the parameters.
-pub fn named_programs_keep_their_params()
-    ensures { (ast : Ast) → ((rule : NRule) (place : Place) → ¬ FailsName ast rule place) → KeepsParams (program_of ast) }
-{}
 
 /// A tree of a text that fails no rule, of names or of effects, means a program whose tasks keep to the effects that
 /// they declare: each access of a segment lies in the set of one effect of its task, which writes if the access does.

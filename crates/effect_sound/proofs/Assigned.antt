@@ -4,8 +4,8 @@ use Rattle.std.specs.Prelude.{option_to_list}
 use Rattle.std.specs.List.{AllByRecursion}
 use Rattle.twe_program.specs.Statement.{Statement, Block, Let, Set, SetCell, SetArray, SetGrid, If, While, Return, Print, Call, Make, Wait, Statements, no_more, statement, Arms, arm, otherwise, no_else}
 use Rattle.twe_program.specs.Numbering.{CountUp, locals_of, locals_of_all, locals_of_arms}
+use Rattle.twe_program.specs.Params.{SetsFrom, AllSetFrom, ArmsSetFrom}
 use Rattle.effect_check.proofs.Members.{all-front, all-back}
-use Rattle.effect_sound.specs.KeepsParams.{SetsFrom, AllSetFrom, ArmsSetFrom}
 use Rattle.effect_sound.specs.RunsWith.{IntoFrom}
 
 -- each variable that a statement changes is this one or a later one

@@ -35,7 +35,6 @@ use Rattle.seg_exec.specs.Store.{Store, Flow, goes, returns, fails, stops}
 use Rattle.effect_check.proofs.Members.{contains-in, all-in, IsIn, in-contains}
 use Rattle.effect_sound.specs.DeclaredNow.{DeclaredNow, access_of}
 use Rattle.effect_sound.specs.KeepsEffects.{KeepsEffects}
-use Rattle.effect_sound.specs.KeepsParams.{KeepsParams}
 use Rattle.effect_sound.specs.RunsWith.{RunsWith, BeginWith, IntoFrom, NextFrom}
 use Rattle.effect_sound.proofs.Sound.{Sound, AllFine, got-in, method_sound, task_sound}
 use Rattle.effect_sound.proofs.Expressions.{Each, Kept, FlowKeeps, OperationKeeps}
@@ -100,7 +99,7 @@ module _ (p : Program) (args : List ℤ) (es : List Effect) where
     stop = operation_keeps decl is_task frame operation h.1;
   }
 
-module _ (p : Program) (wf : IsWellFormed p) (effects : KeepsEffects p) (params : KeepsParams p) where
+module _ (p : Program) (wf : IsWellFormed p) (effects : KeepsEffects p) where
   -- what remains of a frame of this declaration
   calls_left_of : (args : List ℤ) (frame : Frame) (o : Option Decl) → slice_get p.tasks frame.decl ≡ o → TakesArguments o (length args)
       → (calls : List Call) → BeginWith args calls → (cells : List ℤ) → Left p args (effects_of o args).effects frame.decl (stopped_by p frame (flow_of p frame calls cells))
@@ -109,7 +108,7 @@ module _ (p : Program) (wf : IsWellFormed p) (effects : KeepsEffects p) (params 
       let es = (effects_of (Some decl) args).effects in
       record { each = tt; begins = tt; next = closing_from p args es frame.out; same = refl; stop = closing_keeps p args es frame.out frame.value }
   calls_left_of args frame (Some decl) found takes (call ∷ callers) begins cells =
-      let sound : Sound p decl = task_sound p wf effects params frame.decl decl found in
+      let sound : Sound p decl = task_sound p wf effects frame.decl decl found in
       let is_task = in-contains p.tasks decl (got-in p.tasks frame.decl decl found) in
       let n = frame.fuel + 1 in
       let es = (effects_of (Some decl) args).effects in
@@ -117,7 +116,7 @@ module _ (p : Program) (wf : IsWellFormed p) (effects : KeepsEffects p) (params 
       let kept : Kept p es args start = record { each = tt; begins = begins } in
       let all : AllFine p decl (body_of (slice_get p.tasks frame.decl)) = subst (λ (x : Option Decl). AllFine p decl (body_of x)) (sym found) sound.body in
       left_by p args es decl is_task frame (flow_of p frame (call ∷ callers) cells)
-      (resumed_kept p wf (method_sound p wf effects params) (done_within p n) (within_keeps p wf (method_sound p wf effects params) n)
+      (resumed_kept p wf (method_sound p wf effects) (done_within p n) (within_keeps p wf (method_sound p wf effects) n)
       decl sound args takes es (within_itself es) (body_of (slice_get p.tasks frame.decl)) all call.stack start kept)
 
   left : (args : List ℤ) (frame : Frame) → RunsWith p args frame → (cells : List ℤ) → Left p args (effects_at p frame.decl args).effects frame.decl (segment p frame cells)

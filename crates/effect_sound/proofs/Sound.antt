@@ -10,7 +10,6 @@ use Rattle.effect_check.specs.declared.act.Act.{Act}
 use Rattle.effect_check.specs.Acts.{acts_in, acts_in_all, acts_in_one}
 use Rattle.effect_check.proofs.Members.{IsIn, in-contains, all-in, all-front, all-back}
 use Rattle.effect_sound.specs.KeepsEffects.{KeepsEffects}
-use Rattle.effect_sound.specs.KeepsParams.{KeepsParams, KeepsItsParams}
 use Rattle.effect_sound.proofs.Assigned.{AssignsFrom, AllAssignFrom, ArmsAssignFrom, counted_from, all_assign}
 use Rattle.effect_sound.proofs.Static.{ActDeclared, AllDeclared, task_declares, method_declares}
 
@@ -46,9 +45,9 @@ got-in [] i x e = absurd (cc)
 got-in (y ∷ ys) zero x e = inl (cc)
 got-in (y ∷ ys) (suc i) x e = inr (got-in ys i x e)
 
-module _ (p : Program) (wf : IsWellFormed p) (effects : KeepsEffects p) (params : KeepsParams p) where
-  body_assigns : (decl : Decl) → DeclFits p decl → KeepsItsParams decl → AllAssignFrom decl.params decl.body.block
-  body_assigns decl fits keeps = all_assign decl.params decl.body.block keeps (counted_from decl.params decl.params _ (omega arith) fits.numbered.locals)
+module _ (p : Program) (wf : IsWellFormed p) (effects : KeepsEffects p) where
+  body_assigns : (decl : Decl) → DeclFits p decl → AllAssignFrom decl.params decl.body.block
+  body_assigns decl fits = all_assign decl.params decl.body.block fits.assigned (counted_from decl.params decl.params _ (omega arith) fits.numbered.locals)
 
   pub task_sound : (i : ℕ) (decl : Decl) → slice_get p.tasks i ≡ Some decl → Sound p decl
   task_sound i decl found =
@@ -56,7 +55,7 @@ module _ (p : Program) (wf : IsWellFormed p) (effects : KeepsEffects p) (params 
       let there = in-contains p.tasks decl here in
       let fits : DeclFits p decl = all-in (DeclFits p) p.tasks wf.tasks decl here in record {
         fits = fits;
-        body = record { declares = task_declares p effects decl there; fits = fits.body; assigns = body_assigns decl fits (params.tasks decl there) };
+        body = record { declares = task_declares p effects decl there; fits = fits.body; assigns = body_assigns decl fits };
       }
 
   pub method_sound : (i : ℕ) (decl : Decl) → slice_get p.methods i ≡ Some decl → Sound p decl
@@ -65,5 +64,5 @@ module _ (p : Program) (wf : IsWellFormed p) (effects : KeepsEffects p) (params 
       let there = in-contains p.methods decl here in
       let fits : MethodFits p decl = all-in (MethodFits p) p.methods wf.methods decl here in record {
         fits = fits.fits;
-        body = record { declares = method_declares p effects decl there; fits = fits.fits.body; assigns = body_assigns decl fits.fits (params.methods decl there) };
+        body = record { declares = method_declares p effects decl there; fits = fits.fits.body; assigns = body_assigns decl fits.fits };
       }

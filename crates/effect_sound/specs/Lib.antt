@@ -1,5 +1,4 @@
 pub mod CellPaths
 pub mod DeclaredNow
-pub mod KeepsParams
 pub mod KeepsEffects
 pub mod RunsWith

@@ -16,14 +16,13 @@ ghost use Rattle.seg_exec.specs.Entry.{effects_at, entry_frame};
 ghost use Rattle.seg_exec.specs.Segment.{segment};
 ghost use Rattle.effect_sound.specs.DeclaredNow.{DeclaredNow, access_of};
 ghost use Rattle.effect_sound.specs.KeepsEffects.{KeepsEffects};
-ghost use Rattle.effect_sound.specs.KeepsParams.{KeepsParams};
 ghost use Rattle.effect_sound.specs.RunsWith.{RunsWith};
 
 /// A task of a program that fails no rule on effects keeps to the effects that it declares: each access of its segment,
 /// whatever the cells have, lies in the set of one effect of its summary, filled with its arguments, which writes if the
 /// access does. A segment leaves the arguments as they are, so this holds of the task's later segments too.
 pub fn accepted_programs_keep_their_effects()
-    ensures { (p : Program) → IsWellFormed p → KeepsEffects p → KeepsParams p
+    ensures { (p : Program) → IsWellFormed p → KeepsEffects p
         → (args : List ℤ) (frame : Frame) → RunsWith p args frame → (cells : List ℤ)
         → (access : Access) → Contains (segment p frame cells).accesses access → DeclaredNow p frame.decl args access }
 {}
@@ -33,10 +32,10 @@ pub fn accepted_programs_keep_their_effects()
 pub fn arguments_stay()
     ensures entry { (p : Program) (task : ℕ) (args : List ℤ) → TakesArguments (slice_get p.tasks task) (length args)
         → RunsWith p args (entry_frame p task args) }
-    ensures later { (p : Program) → IsWellFormed p → KeepsEffects p → KeepsParams p
+    ensures later { (p : Program) → IsWellFormed p → KeepsEffects p
         → (args : List ℤ) (frame : Frame) → RunsWith p args frame → (cells : List ℤ)
         → RunsWith p args (segment p frame cells).frame }
-    ensures made { (p : Program) → IsWellFormed p → KeepsEffects p → KeepsParams p
+    ensures made { (p : Program) → IsWellFormed p → KeepsEffects p
         → (args : List ℤ) (frame : Frame) → RunsWith p args frame → (cells : List ℤ)
         → (child : Frame) (given : List ℤ) (effects : Summary) (spawned : Bool) (future : ℕ) (place : Place)
         → (segment p frame cells).stop ≡ Make child given effects spawned future place
@@ -45,7 +44,7 @@ pub fn arguments_stay()
 
 /// Each effect of a task that is spawned lies within one that its maker declares, which writes if it writes.
 pub fn spawned_effects_lie_within()
-    ensures { (p : Program) → IsWellFormed p → KeepsEffects p → KeepsParams p
+    ensures { (p : Program) → IsWellFormed p → KeepsEffects p
         → (args : List ℤ) (frame : Frame) → RunsWith p args frame → (cells : List ℤ)
         → (child : Frame) (given : List ℤ) (effects : Summary) (future : ℕ) (place : Place)
         → (segment p frame cells).stop ≡ Make child given effects true future place
@@ -54,7 +53,7 @@ pub fn spawned_effects_lie_within()
 
 /// The first task of such a program keeps to the effects that `main` declares, as they are written.
 pub fn main_keeps_to_its_summary()
-    ensures { (p : Program) → IsWellFormed p → KeepsEffects p → KeepsParams p
+    ensures { (p : Program) → IsWellFormed p → KeepsEffects p
         → (main : Decl) → slice_get p.tasks p.main ≡ Some main
         → (frame : Frame) → frame.decl ≡ p.main → (cells : List ℤ)
         → (access : Access) → Contains (segment p frame cells).accesses access

@@ -7,6 +7,7 @@ use Rattle.twe_ast.specs.declared.item.Ast.{Ast}
 use Rattle.twe_ast.specs.declared.item.ReturnType.{ReturnType}
 use Rattle.twe_ast.specs.declared.item.ReturnType.TheVariants as return_types
 use Rattle.twe_ast.specs.declared.name.Name.{Name}
+use Rattle.twe_ast.specs.declared.stmt.LocalType.{LocalType}
 use Rattle.name_rules.specs.declared.rule.NRule.{NRule}
 use Rattle.name_rules.specs.declared.seen.Asked.{Asked}
 use Rattle.name_rules.specs.declared.seen.Asked.TheVariants as asked
@@ -19,17 +20,17 @@ use Rattle.name_rules.specs.declared.scope.LocalName.{LocalName}
 use Rattle.name_rules.specs.Names.{globals_of}
 use Rattle.name_rules.specs.Asks.{Ask, uses, needs, declares, returns_value, returns_nothing}
 use Rattle.name_rules.specs.Stands.{Site, sites_at, sites_of}
-use Rattle.name_rules.specs.FailsName.{FailsName, unknown, other_kind, void_method, void_task, value_for_nothing, nothing_for_value, other_count_of_method, other_count_of_task, seen_as, fits, Asks}
+use Rattle.name_rules.specs.FailsName.{FailsName, unknown, other_kind, assigned, void_method, void_task, value_for_nothing, nothing_for_value, other_count_of_method, other_count_of_task, seen_as, fits, Asks}
 use Rattle.twe_names.proofs.Lists.{contained-all}
 
--- what a name stands for is of the kind that its use asks for, takes so many indexes or arguments, and has a value where
--- one is taken
+-- what a name stands for is of the kind that its use asks for, takes so many indexes or arguments, has a value where one
+-- is taken, and may be assigned where it is: it is no parameter and no `final` local
 abbrev pub UseClean : Asked → Option Seen → Type 0
 UseClean asked.Region (Some (seens.Global (global_kinds.Region number))) = Unit {0}
 UseClean asked.Parameter (Some (seens.Local (local_kinds.Variable number local_type constant))) = Unit {0}
 UseClean asked.Value (Some (seens.Local (local_kinds.Variable number local_type constant))) = Unit {0}
 UseClean asked.Value (Some (seens.Global (global_kinds.Cells number indexes))) = indexes ≡ 0
-UseClean asked.Target (Some (seens.Local (local_kinds.Variable number local_type constant))) = Unit {0}
+UseClean asked.Target (Some (seens.Local (local_kinds.Variable number local_type constant))) = constant ≡ false
 UseClean asked.Target (Some (seens.Global (global_kinds.Cells number indexes))) = indexes ≡ 0
 UseClean (asked.Array given) (Some (seens.Global (global_kinds.Cells number indexes))) = indexes ≡ given
 UseClean (asked.Method args valued) (Some (seens.Global (global_kinds.Method number params returns))) =
@@ -66,6 +67,7 @@ data FailsUse : Asked → Option Seen → Type 0 where
   kind : {asks : Asked} {other : Seen} → fits asks other ≡ false → FailsUse asks (Some other)
   no_value : {args number params : ℕ}
       → FailsUse (asked.Method args true) (Some (seens.Global (global_kinds.Method number params return_types.Void)))
+  unassignable : {number : ℕ} {type : LocalType} → FailsUse asked.Target (Some (seens.Local (local_kinds.Variable number type true)))
   no_result : {join spawned : Bool} {number : ℕ}
       → FailsUse (asked.Future join true) (Some (seens.Local (local_kinds.Future number spawned true)))
   args_of_method : {args number params : ℕ} {valued : Bool} {its : ReturnType}
@@ -110,7 +112,8 @@ use-clean asked.Parameter (Some (seens.Local (local_kinds.Variable number local_
 use-clean asked.Value (Some (seens.Local (local_kinds.Variable number local_type constant))) h = tt
 use-clean asked.Value (Some (seens.Global (global_kinds.Cells number indexes))) h =
     eqb-true indexes 0 (true_from_ne_false (indexes == 0) (λ e. h (kind e)))
-use-clean asked.Target (Some (seens.Local (local_kinds.Variable number local_type constant))) h = tt
+use-clean asked.Target (Some (seens.Local (local_kinds.Variable number local_type false))) h = refl
+use-clean asked.Target (Some (seens.Local (local_kinds.Variable number local_type true))) h = absurd (h unassignable)
 use-clean asked.Target (Some (seens.Global (global_kinds.Cells number indexes))) h =
     eqb-true indexes 0 (true_from_ne_false (indexes == 0) (λ e. h (kind e)))
 use-clean (asked.Array given) (Some (seens.Global (global_kinds.Cells number indexes))) h =
@@ -134,6 +137,7 @@ use-fails ast locals returns name asks None there e nothing = (_, _, unknown loc
 use-fails ast locals returns name asks (Some other) there e (kind k) = (_, _, other_kind locals returns name asks other there e k)
 use-fails ast locals returns name _ _ there e (no_value {args = a} {number = n} {params = p}) = (_, _, void_method locals returns name a n p there e)
 use-fails ast locals returns name _ _ there e (no_result {join = j} {spawned = s} {number = n}) = (_, _, void_task locals returns name j s n there e)
+use-fails ast locals returns name _ _ there e (unassignable {number = n} {type = t}) = (_, _, assigned locals returns name n t there e)
 use-fails ast locals returns name _ _ there e (args_of_method {args = a} {number = n} {params = p} {valued = v} {its = i} d) =
     (_, _, other_count_of_method locals returns i name a n p v there e d)
 use-fails ast locals returns name _ _ there e (args_of_task {args = a} {number = n} {params = p} {its = i} d) =

@@ -26,6 +26,8 @@ use Rattle.twe_names.proofs.Clean.{SiteClean, AllClean, asks-clean}
 use Rattle.twe_names.proofs.There.{GlobalsThere, AllLocalsThere}
 use Rattle.twe_names.proofs.PathsFit.{clauses-fit}
 use Rattle.twe_names.proofs.StatementsFit.{statements-fit}
+use Rattle.twe_names.proofs.Assigned.{params-free, all-set}
+use Rattle.twe_names.proofs.Waits.{params-made, all-follow}
 
 -- a declaration keeps the limits on parameters, effects and the elements of paths
 pub record KeepsLimits (decl : Decl) : Type 0 where
@@ -102,6 +104,7 @@ module _ (globals : List GlobalName) where
         let end = after_all globals (at_body decl) decl.body in
         let futures = futures_of_all (statements_of globals (at_body decl) decl.body) in
         let n = numbered_all globals (at_body decl) decl.body in
+        let clean_body = all-back P effects body later in
         let enough : 0 + length decl.params ≤ end.vars = omega (arith, n.locals_end) in
         record {
           few = limits.params;
@@ -116,7 +119,10 @@ module _ (globals : List GlobalName) where
               statements-fit p end.vars futures (returns_value decl.returns) globals globals_there decl.returns refl (at_body decl) decl.body
               (params-there p end.vars futures 0 decl.params enough)
               (record { vars_fit = omega arith; before = []; after = []; list = sym (append-nil futures); many = refl })
-              (all-back P effects body later);
+              clean_body;
+          assigned =
+              all-set globals decl.returns (length decl.params) (at_body decl) decl.body (params-free (length decl.params) 0 decl.params) (omega arith) clean_body;
+          waits = all-follow globals decl.returns (λ f. false) (at_body decl) decl.body (params-made (λ f. false) 0 decl.params) clean_body;
         }
 
     pub method-fits : (decl : Decl) → KeepsLimits decl → AllClean globals (sites_of_decl globals decl) → all_make_none decl.body ≡ true

@@ -5,9 +5,12 @@ pub mod Lists
 pub mod Numbered
 pub mod Clean
 pub mod There
+pub mod SeenLocals
 pub mod ExpressionsFit
 pub mod Rooms
 pub mod StatementsFit
+pub mod Assigned
+pub mod Waits
 pub mod Globals
 pub mod CellsFit
 pub mod PathsFit

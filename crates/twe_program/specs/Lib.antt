@@ -3,5 +3,7 @@ pub mod Statement
 pub mod Program
 pub mod Numbering
 pub mod Fitting
+pub mod Futures
+pub mod Params
 pub mod WellFormed
 pub mod inner

@@ -12,6 +12,8 @@ use Rattle.twe_program.specs.declared.program.Decl.{Decl}
 use Rattle.twe_program.specs.Program.{Program, cell_count}
 use Rattle.twe_program.specs.Numbering.{CountUp, CellsCountUp, points_of_all, locals_of_all, futures_of_all}
 use Rattle.twe_program.specs.Fitting.{Scope, StatementsFit}
+use Rattle.twe_program.specs.Futures.{WaitsFollowMakes}
+use Rattle.twe_program.specs.Params.{AllSetFrom}
 
 -- an element names a region and a parameter that are there
 abbrev pub ElementFits : ℕ → ℕ → Elem → Type 0
@@ -69,12 +71,15 @@ scope_of p decl = record {
   int = decl.int;
 }
 
--- a declaration has at most 4 parameters, a summary that fits, and a body that is numbered and fits
+-- a declaration has at most 4 parameters, a summary that fits, and a body that is numbered and fits, assigns to no
+-- parameter, and waits only for tasks that it has made
 pub record DeclFits (p : Program) (decl : Decl) : Type 0 where
   pub few : decl.params ≤ 4
   pub summary : SummaryFits (length p.regions) decl.params decl.summary
   pub numbered : IsNumbered decl.params decl.body
   pub body : StatementsFit (scope_of p decl) decl.body.block
+  pub assigned : AllSetFrom decl.params decl.body.block
+  pub waits : WaitsFollowMakes decl.body.block
 
 -- a method makes no tasks, and is not declared deterministic
 pub record MethodFits (p : Program) (decl : Decl) : Type 0 where

@@ -1,7 +1,5 @@
--- Programs whose parameters keep their values.
-use Rattle.std.specs.Prelude.{ℕ, ◌≤◌, Contains}
-use Rattle.twe_program.specs.declared.program.Decl.{Decl}
-use Rattle.twe_program.specs.Program.{Program}
+-- Parameters keep their values: a body assigns to its locals alone, whose numbers come after those of the parameters.
+use Rattle.std.specs.Prelude.{ℕ, ◌≤◌}
 use Rattle.twe_program.specs.Statement.{Statement, Block, Let, Set, SetCell, SetArray, SetGrid, If, While, Return, Print, Call, Make, Wait, Statements, no_more, statement, Arms, arm, otherwise, no_else}
 
 -- each assignment to a variable is to one of this number or a higher one
@@ -29,12 +27,3 @@ abbrev mutual
   ArmsSetFrom n no_else = Unit {0}
   ArmsSetFrom n (otherwise body) = AllSetFrom n body
   ArmsSetFrom n (arm condition body others) = AllSetFrom n body × ArmsSetFrom n others
-
--- no parameter is assigned: they are the first variables of a body, and its locals come after them
-abbrev pub KeepsItsParams : Decl → Type 0
-KeepsItsParams decl = AllSetFrom decl.params decl.body.block
-
--- no method and no task of the program assigns to its parameters
-pub record KeepsParams (p : Program) : Type 0 where
-  pub methods : (decl : Decl) → Contains p.methods decl → KeepsItsParams decl
-  pub tasks : (decl : Decl) → Contains p.tasks decl → KeepsItsParams decl
