@@ -1,7 +1,8 @@
 //! The rules of names in expressions.
-ghost use Rattle.std.specs.Prelude.{◌≡◌};
-ghost use Rattle.name_rules.specs.Types.{are_ints, count_of, type_of};
-ghost use Rattle.name_rules.specs.Asks.{asks_of, asks_of_all};
+ghost use Rattle.std.specs.Prelude.{◌≡◌, ◌++◌, None, Some};
+ghost use Rattle.twe_ast.specs.Expression.{ArrayElement, CallValue, GridElement, Variable};
+ghost use Rattle.name_rules.specs.Types.{are_ints, count_of, gives, left_need, operands_agree, right_need, type_if, type_of, type_of_shape};
+ghost use Rattle.name_rules.specs.Asks.{asks_inside, asks_of, asks_of_all};
 ghost use Rattle.name_rules.specs.inner.Failures.{failures_of_need, first_of_asks};
 ghost use Rattle.name_rules.specs.inner.Least.{first_from};
 
@@ -16,7 +17,7 @@ use crate::types::{
     unary_type,
 };
 use crate::uses::judge_use;
-use twe_ast::{Args, Expr, ExprKind, LocalType};
+use twe_ast::{Args, BinOp, Expr, ExprKind, LocalType, Name};
 use twe_io::Place;
 
 /// The type that was found, where the failure is noted of one that differs from what is needed.
@@ -48,6 +49,147 @@ pub fn count(args: &Args) -> usize
     args.items.len()
 }
 
+/// The type of a name that stands as a value. Notes the failures of its use.
+fn judge_name(
+    name: &Name,
+    globals: &Globals,
+    locals: &Locals,
+    first: &mut Option<Failure>,
+) -> Option<LocalType>
+    ensures found { result ≡ type_of_shape globals.now locals.now (Variable name.now) }
+    ensures noted { first.new ≡ first_of_asks globals.now locals.now first.old (asks_inside globals.now locals.now (Variable name.now)) }
+{
+    judge_use(name, Asked::Value, globals, locals, first);
+    name_type(look_up(globals, locals, &name.text))
+}
+
+/// The type of an element of an array. Notes the failures of the array's name and of the index.
+#[cycle(expr)]
+#[tactic(auto, using(crate::proofs::FirstFailures::firsts))]
+fn judge_element(
+    array: &Name,
+    index: &Expr,
+    globals: &Globals,
+    locals: &Locals,
+    first: &mut Option<Failure>,
+) -> Option<LocalType>
+    ensures found { result ≡ type_of_shape globals.now locals.now (ArrayElement array.now index.now) }
+    ensures noted { first.new ≡ first_of_asks globals.now locals.now first.old (asks_inside globals.now locals.now (ArrayElement array.now index.now)) }
+{
+    judge_use(array, Asked::Array { indexes: 1 }, globals, locals, first);
+    let index = judge_expr(index, Some(LocalType::Int), globals, locals, first);
+    let numbers = is_type(index, LocalType::Int);
+    element_type(look_up(globals, locals, &array.text), 1, numbers)
+}
+
+/// The type of an element of a grid. Notes the failures of the grid's name, of the row and of the column.
+#[cycle(expr)]
+#[tactic(auto, using(crate::proofs::FirstFailures::firsts))]
+fn judge_grid_element(
+    array: &Name,
+    row: &Expr,
+    column: &Expr,
+    globals: &Globals,
+    locals: &Locals,
+    first: &mut Option<Failure>,
+) -> Option<LocalType>
+    ensures found { result ≡ type_of_shape globals.now locals.now (GridElement array.now row.now column.now) }
+    ensures noted { first.new ≡ first_of_asks globals.now locals.now first.old (asks_inside globals.now locals.now (GridElement array.now row.now column.now)) }
+{
+    judge_use(array, Asked::Array { indexes: 2 }, globals, locals, first);
+    let row = judge_expr(row, Some(LocalType::Int), globals, locals, first);
+    let column = judge_expr(column, Some(LocalType::Int), globals, locals, first);
+    let numbers = is_type(row, LocalType::Int) && is_type(column, LocalType::Int);
+    element_type(look_up(globals, locals, &array.text), 2, numbers)
+}
+
+/// The type of what a method returns. Notes the failures of the method's name and of the arguments.
+#[cycle(expr)]
+#[tactic(auto, using(crate::proofs::FirstFailures::firsts))]
+fn judge_call(
+    method: &Name,
+    args: &Args,
+    globals: &Globals,
+    locals: &Locals,
+    first: &mut Option<Failure>,
+) -> Option<LocalType>
+    ensures found { result ≡ type_of_shape globals.now locals.now (CallValue method.now args.now) }
+    ensures noted { first.new ≡ first_of_asks globals.now locals.now first.old (asks_inside globals.now locals.now (CallValue method.now args.now)) }
+{
+    let count = count(args);
+    let asked = Asked::Method {
+        args: count,
+        valued: true,
+    };
+    judge_use(method, asked, globals, locals, first);
+    let numbers = judge_args(args, globals, locals, first);
+    call_type(look_up(globals, locals, &method.text), count, numbers)
+}
+
+/// The type of an operator with its two operands. Notes their failures.
+#[cycle(expr)]
+#[tactic(auto, using(crate::proofs::FirstFailures::firsts))]
+fn judge_operands(
+    op: BinOp,
+    left: &Expr,
+    right: &Expr,
+    globals: &Globals,
+    locals: &Locals,
+    first: &mut Option<Failure>,
+) -> Option<LocalType>
+    ensures found { result ≡ type_if (operands_agree op (type_of globals.now locals.now left.now) (type_of globals.now locals.now right.now)) (Some (gives op)) }
+    ensures noted { first.new ≡ first_of_asks globals.now locals.now first.old (asks_of globals.now locals.now (left_need op) left.now ++ asks_of globals.now locals.now (right_need op (type_of globals.now locals.now left.now)) right.now) }
+{
+    let left = judge_expr(left, left_need(op), globals, locals, first);
+    let right = judge_expr(right, right_need(op, left), globals, locals, first);
+    binary_type(op, left, right)
+}
+
+/// The type of an expression, wherever it stands. There is none where a rule fails inside it. Notes the failures inside
+/// the expression.
+#[cycle(expr)]
+#[tactic(auto, using(crate::proofs::FirstFailures::firsts))]
+fn judge_inside(
+    expr: &Expr,
+    globals: &Globals,
+    locals: &Locals,
+    first: &mut Option<Failure>,
+) -> Option<LocalType>
+    ensures found { result ≡ type_of globals.now locals.now expr.now }
+    ensures noted { first.new ≡ first_of_asks globals.now locals.now first.old (asks_of globals.now locals.now None expr.now) }
+{
+    match &expr.kind {
+        ExprKind::Lit(_) => Some(LocalType::Int),
+        ExprKind::Truth(_) => Some(LocalType::Boolean),
+        ExprKind::Name(name) => judge_name(name, globals, locals, first),
+        ExprKind::At {
+            array,
+            index,
+            second: None,
+        } => judge_element(array, index, globals, locals, first),
+        ExprKind::At {
+            array,
+            index,
+            second: Some(second),
+        } => judge_grid_element(array, index, second, globals, locals, first),
+        ExprKind::Call { method, args } => judge_call(method, args, globals, locals, first),
+        ExprKind::Neg(operand) => {
+            let operand = judge_expr(operand, Some(LocalType::Int), globals, locals, first);
+            unary_type(LocalType::Int, operand)
+        }
+        ExprKind::Not(operand) => {
+            let operand = judge_expr(operand, Some(LocalType::Boolean), globals, locals, first);
+            unary_type(LocalType::Boolean, operand)
+        }
+        ExprKind::Bin {
+            op,
+            left,
+            right,
+            ..
+        } => judge_operands(*op, left, right, globals, locals, first),
+    }
+}
+
 /// The type of an expression, which stands where a type is needed, if one is. There is none where a rule fails inside
 /// it. Notes the failures of the expression.
 #[cycle(expr)]
@@ -62,69 +204,8 @@ pub fn judge_expr(
     ensures found { result ≡ type_of globals.now locals.now expr.now }
     ensures noted { first.new ≡ first_of_asks globals.now locals.now first.old (asks_of globals.now locals.now need expr.now) }
 {
-    match &expr.kind {
-        ExprKind::Lit(_) => met(need, Some(LocalType::Int), expr.place, first),
-        ExprKind::Truth(_) => met(need, Some(LocalType::Boolean), expr.place, first),
-        ExprKind::Name(name) => {
-            judge_use(name, Asked::Value, globals, locals, first);
-            let found = name_type(look_up(globals, locals, &name.text));
-            met(need, found, expr.place, first)
-        }
-        ExprKind::At {
-            array,
-            index,
-            second: None,
-        } => {
-            judge_use(array, Asked::Array { indexes: 1 }, globals, locals, first);
-            let index = judge_expr(index, Some(LocalType::Int), globals, locals, first);
-            let numbers = is_type(index, LocalType::Int);
-            let found = element_type(look_up(globals, locals, &array.text), 1, numbers);
-            met(need, found, expr.place, first)
-        }
-        ExprKind::At {
-            array,
-            index,
-            second: Some(second),
-        } => {
-            judge_use(array, Asked::Array { indexes: 2 }, globals, locals, first);
-            let row = judge_expr(index, Some(LocalType::Int), globals, locals, first);
-            let column = judge_expr(second, Some(LocalType::Int), globals, locals, first);
-            let numbers = is_type(row, LocalType::Int) && is_type(column, LocalType::Int);
-            let found = element_type(look_up(globals, locals, &array.text), 2, numbers);
-            met(need, found, expr.place, first)
-        }
-        ExprKind::Call { method, args } => {
-            let count = count(args);
-            let asked = Asked::Method {
-                args: count,
-                valued: true,
-            };
-            judge_use(method, asked, globals, locals, first);
-            let numbers = judge_args(args, globals, locals, first);
-            let found = call_type(look_up(globals, locals, &method.text), count, numbers);
-            met(need, found, expr.place, first)
-        }
-        ExprKind::Neg(operand) => {
-            let operand = judge_expr(operand, Some(LocalType::Int), globals, locals, first);
-            let found = unary_type(LocalType::Int, operand);
-            met(need, found, expr.place, first)
-        }
-        ExprKind::Not(operand) => {
-            let operand = judge_expr(operand, Some(LocalType::Boolean), globals, locals, first);
-            let found = unary_type(LocalType::Boolean, operand);
-            met(need, found, expr.place, first)
-        }
-        ExprKind::Bin {
-            op,
-            left,
-            right,
-            ..
-        } => {
-            let left = judge_expr(left, left_need(*op), globals, locals, first);
-            let right = judge_expr(right, right_need(*op, left), globals, locals, first);
-            met(need, binary_type(*op, left, right), expr.place, first)
-        }
-    }
+    let found = judge_inside(expr, globals, locals, first);
+    met(need, found, expr.place, first)
 }
 
 /// Whether each of the arguments is an `int`, and no rule fails inside one. Notes their failures.

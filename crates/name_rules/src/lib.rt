@@ -20,8 +20,6 @@ mod names;
 mod rule;
 mod scope;
 mod seen;
-#[cfg(test)]
-mod tests;
 mod types;
 mod uses;
 mod whole;

@@ -6,6 +6,7 @@ ghost use Rattle.seg_exec.specs.Meaning.{body_of, var_count_of, vars_at_start};
 ghost use Rattle.seg_exec.specs.inner.Tasks.{Gather, Suspend, to_do};
 ghost use Rattle.seg_exec.specs.inner.Steps.{asked_unit, entering, gathered, gathering, on, taking};
 ghost use Rattle.seg_exec.specs.inner.Views.{config_of};
+ghost use Rattle.seg_exec.specs.declared.work.Goal.TheVariants.{Enter};
 
 use crate::machine::{Machine, fault};
 use crate::operation::Operation;
@@ -61,6 +62,20 @@ impl<'a> Machine<'a> {
             args: args.items.as_slice(),
             goal,
         })
+    }
+
+    /// A method is to be called: its arguments are to be evaluated, from the left.
+    pub(crate) fn call(
+        &mut self,
+        alloc: Global,
+        method: u32,
+        args: &'a Args,
+        place: Place,
+    ) -> Result<Asked, Memory>
+        ensures { IfOk result (λ asked. (asked, config_of self.new) ≡ on (to_do (Gather [] args.now (Enter method place)) (config_of self.old))) }
+    {
+        self.gather(alloc, args, Goal::Enter { method, place })?;
+        Ok(Asked::Nothing)
     }
 
     /// Evaluates the next argument, or goes on with all of them.

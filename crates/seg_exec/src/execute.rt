@@ -1,112 +1,71 @@
 //! Statements: what is to be done for one.
 ghost use Rattle.std.specs.Prelude.{◌≡◌, IfOk};
-ghost use Rattle.seg_exec.specs.inner.Steps.{executed};
+ghost use Rattle.seg_exec.specs.inner.Steps.{assigning, executed};
 ghost use Rattle.seg_exec.specs.inner.Views.{config_of};
 
 use crate::machine::Machine;
-use crate::operation::Operation;
-use crate::stack::Stack;
-use crate::work::{Asked, Goal, Work};
+use crate::work::{Asked, Work};
 use std::alloc::Global;
-use twe_io::Memory;
-use twe_program::{Stmt, StmtKind};
+use twe_io::{Memory, Place};
+use twe_program::{Expr, Stmt, StmtKind};
 
 impl<'a> Machine<'a> {
+    /// An element of an array or of a grid is to take a value. Its indexes are evaluated before the value.
+    fn assign_element(
+        &mut self,
+        array: u32,
+        index: &'a Expr,
+        second: &'a Option<Expr>,
+        value: &'a Expr,
+        place: Place,
+    ) -> Result<Asked, Memory>
+        ensures { IfOk result (λ asked. (asked, config_of self.new) ≡ assigning array index.now second.now value.now place (config_of self.old)) }
+    {
+        match second {
+            None => {
+                self.push(Work::GiveElement { array, place })?;
+                self.evaluate_then(index, Work::Evaluate(value))
+            }
+            Some(second) => {
+                self.push(Work::GiveGridElement { array, place })?;
+                self.push(Work::Evaluate(value))?;
+                self.evaluate_then(index, Work::Evaluate(second))
+            }
+        }
+    }
+
     /// Puts what there is to do for a statement onto the work.
     pub(crate) fn execute(&mut self, alloc: Global, stmt: &'a Stmt) -> Result<Asked, Memory>
         ensures { IfOk result (λ asked. (asked, config_of self.new) ≡ executed stmt.now (config_of self.old)) }
     {
         match &stmt.kind {
-            StmtKind::Block(body) => self.push(Work::Rest {
-                block: 0,
-                at: 0,
-                stmts: body.stmts.as_slice(),
-            })?,
-            StmtKind::Let { var, value } => {
-                self.push(Work::GiveVar(*var))?;
-                self.push(Work::Evaluate(value))?;
-            }
-            StmtKind::Set { var, value } => {
-                self.push(Work::GiveVar(*var))?;
-                self.push(Work::Evaluate(value))?;
-            }
-            StmtKind::SetCell { cell, value, .. } => {
-                self.push(Work::GiveCell(*cell))?;
-                self.push(Work::Evaluate(value))?;
-            }
+            StmtKind::Block(body) => self.begin_block(body),
+            StmtKind::Let { var, value } => self.evaluate_then(value, Work::GiveVar(*var)),
+            StmtKind::Set { var, value } => self.evaluate_then(value, Work::GiveVar(*var)),
+            StmtKind::SetCell { cell, value, .. } => self.evaluate_then(
+                value,
+                Work::GiveCell(*cell),
+            ),
             StmtKind::SetAt {
                 array,
                 index,
-                second: None,
+                second,
                 value,
                 place,
-            } => {
-                self.push(Work::GiveElement {
-                    array: *array,
-                    place: *place,
-                })?;
-                self.push(Work::Evaluate(value))?;
-                self.push(Work::Evaluate(index))?;
-            }
-            StmtKind::SetAt {
-                array,
-                index,
-                second: Some(second),
-                value,
-                place,
-            } => {
-                self.push(Work::GiveGridElement {
-                    array: *array,
-                    place: *place,
-                })?;
-                self.push(Work::Evaluate(value))?;
-                self.push(Work::Evaluate(second))?;
-                self.push(Work::Evaluate(index))?;
-            }
-            StmtKind::If(arms) => self.push(Work::Choose {
-                block: 0,
-                arms: arms.arms.as_slice(),
-                last: &arms.last,
-            })?,
+            } => self.assign_element(*array, index, second, value, *place),
+            StmtKind::If(arms) => self.begin_if(arms),
             StmtKind::While {
                 condition,
                 body,
                 place,
-            } => {
-                self.push(Work::Turn {
-                    again: stmt,
-                    body,
-                    place: *place,
-                })?;
-                self.push(Work::Evaluate(condition))?;
-            }
-            StmtKind::Return(None) => {
-                self.give(0)?;
-                self.push(Work::Unwind)?;
-            }
-            StmtKind::Return(Some(value)) => {
-                self.push(Work::Unwind)?;
-                self.push(Work::Evaluate(value))?;
-            }
-            StmtKind::Print { value, place } => {
-                self.push(Work::PrintValue(*place))?;
-                self.push(Work::Evaluate(value))?;
-            }
+            } => self.begin_loop(stmt, condition, body, *place),
+            StmtKind::Return(value) => self.begin_return(value),
+            StmtKind::Print { value, place } => self.evaluate_then(value, Work::PrintValue(*place)),
             StmtKind::Call {
                 method,
                 args,
                 place,
-            } => {
-                self.push(Work::Discard)?;
-                self.gather(
-                    alloc,
-                    args,
-                    Goal::Enter {
-                        method: *method,
-                        place: *place,
-                    },
-                )?;
-            }
+            } => self.call_alone(alloc, *method, args, *place),
             StmtKind::Make {
                 future,
                 task,
@@ -114,30 +73,13 @@ impl<'a> Machine<'a> {
                 spawned,
                 place,
                 ..
-            } => self.gather(
-                alloc,
-                args,
-                Goal::Make {
-                    future: *future,
-                    task: *task,
-                    spawned: *spawned,
-                    place: *place,
-                },
-            )?,
+            } => self.make(alloc, *future, *task, args, *spawned, *place),
             StmtKind::Wait {
                 future,
                 join,
                 into,
                 place,
-            } => {
-                let operation = Operation::Wait {
-                    future: *future,
-                    join: *join,
-                    into: *into,
-                };
-                return self.suspend(alloc, operation, *place);
-            }
+            } => self.wait(alloc, *future, *join, *into, *place),
         }
-        Ok(Asked::Nothing)
     }
 }

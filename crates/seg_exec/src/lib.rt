@@ -4,6 +4,7 @@
 #![tactic(auto)]
 
 mod arithmetic;
+mod begin;
 mod call;
 mod cells;
 mod elements;
@@ -14,6 +15,7 @@ mod frame;
 mod give;
 mod laws;
 mod machine;
+mod operate;
 mod operation;
 mod resume;
 mod run;
@@ -21,8 +23,6 @@ mod segment;
 mod stack;
 mod step;
 mod stop;
-#[cfg(test)]
-mod tests;
 mod unfold;
 mod values;
 mod work;

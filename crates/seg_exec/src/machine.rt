@@ -1,6 +1,7 @@
 //! The evaluator: what it has to do, and what it works on.
 ghost use Rattle.std.specs.Prelude.{◌≡◌, IfOk};
-ghost use Rattle.seg_exec.specs.inner.Tasks.{to_do, top, with_value, without_value};
+ghost use Rattle.seg_exec.specs.inner.Tasks.{Evaluate, to_do, top, with_value, without_value};
+ghost use Rattle.seg_exec.specs.inner.Steps.{on};
 ghost use Rattle.seg_exec.specs.declared.work.Asked.TheVariants.{End};
 ghost use Rattle.seg_exec.specs.declared.work.Ending.TheVariants.{Faulted};
 ghost use Rattle.seg_exec.specs.inner.Views.{task_of, config_of};
@@ -9,6 +10,7 @@ use crate::stack::Stack;
 use crate::work::{Asked, Ending, Work};
 use seg_journal::FaultKind;
 use twe_io::{Ints, Memory, Place};
+use twe_program::Expr;
 
 /// A fault at a place of the text.
 pub(crate) fn fault(kind: FaultKind, place: Place) -> Asked
@@ -45,6 +47,23 @@ impl<'a> Machine<'a> {
         ensures { IfOk result (λ _. config_of self.new ≡ with_value value (config_of self.old)) }
     {
         self.values.push(value)
+    }
+
+    /// A value was evaluated, and nothing is asked for.
+    pub(crate) fn answer(&mut self, value: i32) -> Result<Asked, Memory>
+        ensures { IfOk result (λ asked. (asked, config_of self.new) ≡ on (with_value value (config_of self.old))) }
+    {
+        self.give(value)?;
+        Ok(Asked::Nothing)
+    }
+
+    /// An expression is to be evaluated, and then something is to be done with its value.
+    pub(crate) fn evaluate_then(&mut self, expr: &'a Expr, then: Work<'a>) -> Result<Asked, Memory>
+        ensures { IfOk result (λ asked. (asked, config_of self.new) ≡ on (to_do (Evaluate expr.now) (to_do (task_of then.entry) (config_of self.old)))) }
+    {
+        self.push(then)?;
+        self.push(Work::Evaluate(expr))?;
+        Ok(Asked::Nothing)
     }
 
     /// The latest value is taken, and 0 where there is none.

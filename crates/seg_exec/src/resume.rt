@@ -1,8 +1,8 @@
 //! Blocks, arms and loops that are under way, and bodies that are left.
-ghost use Rattle.std.specs.Prelude.{◌≡◌, IfOk, drop};
+ghost use Rattle.std.specs.Prelude.{◌≡◌, IfOk, drop, pos};
 ghost use Rattle.twe_program.specs.Statement.{statements_of};
 ghost use Rattle.twe_program.specs.inner.StatementView.{arms_of};
-ghost use Rattle.seg_exec.specs.inner.Steps.{back_with, chosen_next, choosing, rested, suspended, turned_next, unwound};
+ghost use Rattle.seg_exec.specs.inner.Steps.{back_with, chosen_next, choosing, on, rested, suspended, turned_next, unwound};
 ghost use Rattle.seg_exec.specs.inner.Views.{config_of, tasks_of};
 
 use crate::arithmetic::is_true;
@@ -124,6 +124,14 @@ impl<'a> Machine<'a> {
         self.vars = vars;
         self.calls = self.calls.saturating_sub(1);
         Ok(())
+    }
+
+    /// Leaves a method at the end of its body, with 0.
+    pub(crate) fn leave(&mut self, vars: Ints) -> Result<Asked, Memory>
+        ensures { IfOk result (λ asked. (asked, config_of self.new) ≡ on (back_with (pos 0) vars (config_of self.old))) }
+    {
+        self.back(0, vars)?;
+        Ok(Asked::Nothing)
     }
 
     /// Leaves the body with the latest value.

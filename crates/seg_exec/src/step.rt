@@ -3,7 +3,6 @@ ghost use Rattle.std.specs.Prelude.{◌≡◌, IfOk};
 ghost use Rattle.seg_exec.specs.inner.Steps.{step_of, worked};
 ghost use Rattle.seg_exec.specs.inner.Views.{config_of, task_of};
 
-use crate::arithmetic::{invert, negate};
 use crate::elements::cell_number;
 use crate::machine::Machine;
 use crate::work::{Asked, Ending, Work};
@@ -41,16 +40,8 @@ impl<'a> Machine<'a> {
             Work::Turn { again, body, place } => self.turn(again, body, place),
             Work::Gather { taken, args, goal } => self.gather_next(alloc, p, taken, args, goal),
             Work::Take { taken, args, goal } => self.take_argument(taken, args, goal),
-            Work::Negate => {
-                let value = self.take();
-                self.give(negate(value))?;
-                Ok(Asked::Nothing)
-            }
-            Work::Invert => {
-                let value = self.take();
-                self.give(invert(value))?;
-                Ok(Asked::Nothing)
-            }
+            Work::Negate => self.negate(),
+            Work::Invert => self.invert(),
             Work::Right { op, right, place } => self.right(op, right, place),
             Work::Apply { op, place } => self.apply(op, place),
             Work::ReadElement { array, place } => Ok(self.read_element(p, array, place)),
@@ -60,19 +51,13 @@ impl<'a> Machine<'a> {
             Work::GiveElement { array, place } => Ok(self.give_element(p, array, place)),
             Work::GiveGridElement { array, place } => Ok(self.give_grid_element(p, array, place)),
             Work::PrintValue(place) => Ok(self.print(place)),
-            Work::Discard => {
-                let _ = self.take();
-                Ok(Asked::Nothing)
-            }
+            Work::Discard => Ok(self.discard()),
             Work::Unwind => self.unwind(),
             Work::Suspend {
                 operation,
                 positions,
             } => self.suspend_on(operation, positions),
-            Work::Leave(vars) => {
-                self.back(0, vars)?;
-                Ok(Asked::Nothing)
-            }
+            Work::Leave(vars) => self.leave(vars),
         }
     }
 }

@@ -1,9 +1,11 @@
 //! What comes of the values on the stack.
 ghost use Rattle.std.specs.Prelude.{◌≡◌, IfOk};
-ghost use Rattle.seg_exec.specs.inner.Steps.{applying, giving_element, giving_grid_element, giving_var, printing, reading_element, reading_grid_element, righting};
+ghost use Rattle.seg_exec.specs.Arithmetic.{negation, negative};
+ghost use Rattle.seg_exec.specs.inner.Tasks.{top, with_value, without_value};
+ghost use Rattle.seg_exec.specs.inner.Steps.{applying, giving_element, giving_grid_element, giving_var, on, printing, reading_element, reading_grid_element, righting};
 ghost use Rattle.seg_exec.specs.inner.Views.{config_of};
 
-use crate::arithmetic::{decide, is_true, operate};
+use crate::arithmetic::{decide, invert, is_true, negate, operate};
 use crate::elements::{element_number, grid_element_number};
 use crate::machine::{Machine, fault};
 use crate::work::{Asked, Work};
@@ -12,6 +14,30 @@ use twe_io::{Memory, Place};
 use twe_program::{BinOp, Expr, Prog};
 
 impl<'a> Machine<'a> {
+    /// The negative of the latest value.
+    pub(crate) fn negate(&mut self) -> Result<Asked, Memory>
+        ensures { IfOk result (λ asked. (asked, config_of self.new) ≡ on (with_value (negative (top self.old.values)) (without_value (config_of self.old)))) }
+    {
+        let value = self.take();
+        self.answer(negate(value))
+    }
+
+    /// The negation of the latest value.
+    pub(crate) fn invert(&mut self) -> Result<Asked, Memory>
+        ensures { IfOk result (λ asked. (asked, config_of self.new) ≡ on (with_value (negation (top self.old.values)) (without_value (config_of self.old)))) }
+    {
+        let value = self.take();
+        self.answer(invert(value))
+    }
+
+    /// Drops the latest value.
+    pub(crate) fn discard(&mut self) -> Asked
+        ensures { (result, config_of self.new) ≡ on (without_value (config_of self.old)) }
+    {
+        let _ = self.take();
+        Asked::Nothing
+    }
+
     /// Goes on with the right operand, unless the left one decides.
     pub(crate) fn right(
         &mut self,

@@ -18,6 +18,7 @@ mod reading;
 mod row;
 mod stack;
 mod statement_rows;
+mod statement_starts;
 mod symbol;
 mod text;
 mod wait_rows;
@@ -27,6 +28,3 @@ pub use fail::{ParseFail, SRule};
 pub use laws::{no_program, one_tree};
 pub use limits::Sofar;
 pub use text::parse;
-
-#[cfg(test)]
-mod tests;

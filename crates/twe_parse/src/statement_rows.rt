@@ -4,6 +4,10 @@ ghost use Rattle.twe_parse.specs.inner.Rows.{after_arm_row, after_index_row, aft
 
 use crate::expression_rows::unary_then;
 use crate::row::{Row, marked, operand_then, plain};
+use crate::statement_starts::{
+    block, boolean_local, if_statement, int_local, make_statement, print_statement,
+    return_statement, statement_then, while_statement,
+};
 use crate::symbol::Act::{Expr, Stmt};
 use crate::symbol::Symbol::{Do, Name, Rule, Token};
 use crate::symbol::{ExprAct, Part, StmtAct, Terminal};
@@ -22,107 +26,16 @@ pub(crate) fn statements(
 {
     match next {
         Terminal::Fixed(Fixed::CloseBrace) => marked(alloc, &[Do(Stmt(StmtAct::CloseBlock))]),
-        Terminal::Fixed(Fixed::OpenBrace) => plain(
-            alloc,
-            &[
-                Do(Stmt(StmtAct::NewBlock)),
-                Rule(Part::Statements(in_task)),
-                Do(Stmt(StmtAct::BlockStatement)),
-                Rule(Part::Statements(in_task)),
-            ],
-        ),
-        Terminal::Fixed(Fixed::Final) => plain(
-            alloc,
-            &[
-                Rule(Part::LocalType(in_task)),
-                Rule(Part::Statements(in_task)),
-            ],
-        ),
-        Terminal::Fixed(Fixed::Int) => plain(
-            alloc,
-            &[
-                Name,
-                Token(Fixed::Assign),
-                Rule(Part::IntValue(in_task, false)),
-                Rule(Part::Statements(in_task)),
-            ],
-        ),
-        Terminal::Fixed(Fixed::Boolean) => plain(
-            alloc,
-            &[
-                Name,
-                Token(Fixed::Assign),
-                Rule(Part::Unary),
-                Rule(Part::Climb(0)),
-                Token(Fixed::Semicolon),
-                Do(Stmt(StmtAct::Let(false, LocalType::Boolean))),
-                Rule(Part::Statements(in_task)),
-            ],
-        ),
-        Terminal::Name => plain(
-            alloc,
-            &[
-                Rule(Part::AfterName(in_task)),
-                Rule(Part::Statements(in_task)),
-            ],
-        ),
-        Terminal::Fixed(Fixed::If) => plain(
-            alloc,
-            &[
-                Do(Stmt(StmtAct::NewArms)),
-                Token(Fixed::OpenParen),
-                Rule(Part::Unary),
-                Rule(Part::Climb(0)),
-                Token(Fixed::CloseParen),
-                Token(Fixed::OpenBrace),
-                Do(Stmt(StmtAct::NewBlock)),
-                Rule(Part::Statements(in_task)),
-                Do(Stmt(StmtAct::KeepArm)),
-                Rule(Part::AfterArm(in_task)),
-                Rule(Part::Statements(in_task)),
-            ],
-        ),
-        Terminal::Fixed(Fixed::While) => marked(
-            alloc,
-            &[
-                Token(Fixed::OpenParen),
-                Rule(Part::Unary),
-                Rule(Part::Climb(0)),
-                Token(Fixed::CloseParen),
-                Token(Fixed::OpenBrace),
-                Do(Stmt(StmtAct::NewBlock)),
-                Rule(Part::Statements(in_task)),
-                Do(Stmt(StmtAct::While)),
-                Rule(Part::Statements(in_task)),
-            ],
-        ),
-        Terminal::Fixed(Fixed::Return) => marked(
-            alloc,
-            &[Rule(Part::ReturnValue), Rule(Part::Statements(in_task))],
-        ),
-        Terminal::Fixed(Fixed::Print) => marked(
-            alloc,
-            &[
-                Token(Fixed::OpenParen),
-                Rule(Part::Unary),
-                Rule(Part::Climb(0)),
-                Token(Fixed::CloseParen),
-                Token(Fixed::Semicolon),
-                Do(Stmt(StmtAct::Print)),
-                Rule(Part::Statements(in_task)),
-            ],
-        ),
-        Terminal::Fixed(Fixed::Future) if in_task => plain(
-            alloc,
-            &[
-                Name,
-                Token(Fixed::Assign),
-                Name,
-                Token(Fixed::Dot),
-                Rule(Part::Make),
-                Rule(Part::Statements(in_task)),
-            ],
-        ),
+        Terminal::Fixed(Fixed::OpenBrace) => block(alloc, in_task),
+        Terminal::Fixed(Fixed::Final) => statement_then(alloc, Part::LocalType(in_task), in_task),
+        Terminal::Fixed(Fixed::Int) => int_local(alloc, in_task),
+        Terminal::Fixed(Fixed::Boolean) => boolean_local(alloc, in_task),
+        Terminal::Name => statement_then(alloc, Part::AfterName(in_task), in_task),
+        Terminal::Fixed(Fixed::If) => if_statement(alloc, in_task),
+        Terminal::Fixed(Fixed::While) => while_statement(alloc, in_task),
+        Terminal::Fixed(Fixed::Return) => return_statement(alloc, in_task),
+        Terminal::Fixed(Fixed::Print) => print_statement(alloc, in_task),
+        Terminal::Fixed(Fixed::Future) if in_task => make_statement(alloc),
         _ => Ok(None),
     }
 }

@@ -10,7 +10,7 @@ ghost use Rattle.twe_print.specs.Text.{text_of};
 ghost use Rattle.twe_print.specs.StatementWords.{returned_words, statement_words, value_words, wait_words};
 ghost use Rattle.twe_print.specs.inner.SimpleWords.{action_words, simple_words};
 
-use crate::expr::{push_args, push_expr};
+use crate::expr::{push_args, push_element, push_expr, push_grid_element};
 use crate::word::{push_fixed, push_name, push_two, push_when};
 use twe_ast::{Args, Expr, LocalType, Name, Stmt, StmtKind, WaitCall};
 use twe_io::{Bytes, Memory};
@@ -110,10 +110,8 @@ fn push_set(text: &mut Bytes, name: &Name, value: &Expr) -> Result<(), Memory>
 fn push_set_array(text: &mut Bytes, array: &Name, index: &Expr, value: &Expr) -> Result<(), Memory>
     ensures { OnOk result (text.new ≡ text.old ++ text_of (statement_words (SetArray array.now index.now value.now))) }
 {
-    push_name(text, array)?;
-    push_fixed(text, Fixed::OpenBracket)?;
-    push_expr(index, text, 0)?;
-    push_two(text, Fixed::CloseBracket, Fixed::Assign)?;
+    push_element(array, index, text)?;
+    push_fixed(text, Fixed::Assign)?;
     push_value(value, text)
 }
 
@@ -127,12 +125,8 @@ fn push_set_grid(
 ) -> Result<(), Memory>
     ensures { OnOk result (text.new ≡ text.old ++ text_of (statement_words (SetGrid array.now row.now column.now value.now))) }
 {
-    push_name(text, array)?;
-    push_fixed(text, Fixed::OpenBracket)?;
-    push_expr(row, text, 0)?;
-    push_two(text, Fixed::CloseBracket, Fixed::OpenBracket)?;
-    push_expr(column, text, 0)?;
-    push_two(text, Fixed::CloseBracket, Fixed::Assign)?;
+    push_grid_element(array, row, column, text)?;
+    push_fixed(text, Fixed::Assign)?;
     push_value(value, text)
 }
 

@@ -55,19 +55,28 @@ evaluated p (Negative operand) c = on (to_do (Evaluate operand) (to_do Negate c)
 evaluated p (Negation operand) c = on (to_do (Evaluate operand) (to_do Invert c))
 evaluated p (Binary op left right place) c = on (to_do (Evaluate left) (to_do (Right op right place) c))
 
+-- an element is to take a value: by its index, or by its row and its column
+abbrev pub assigning : ℕ → Expression → Option Expression → Expression → Place → Config → Step
+assigning array index None value place c = on (to_do (Evaluate index) (to_do (Evaluate value) (to_do (GiveElement array place) c)))
+assigning array row (Some column) value place c =
+    on (to_do (Evaluate row) (to_do (Evaluate column) (to_do (Evaluate value) (to_do (GiveGridElement array place) c))))
+
+-- a body is to be left with a value, and with 0 where none is returned
+abbrev pub returning : Option Expression → Config → Step
+returning None c = on (to_do Unwind (with_value (pos 0) c))
+returning (Some value) c = on (to_do (Evaluate value) (to_do Unwind c))
+
 abbrev pub executed : Statement → Config → Step
 executed (Block point body) c = on (to_do (Rest 0 0 body) c)
 executed (Let point var value) c = on (to_do (Evaluate value) (to_do (GiveVar var) c))
 executed (Set point var value) c = on (to_do (Evaluate value) (to_do (GiveVar var) c))
 executed (SetCell point cell value place) c = on (to_do (Evaluate value) (to_do (GiveCell cell) c))
-executed (SetArray point array index value place) c = on (to_do (Evaluate index) (to_do (Evaluate value) (to_do (GiveElement array place) c)))
-executed (SetGrid point array row column value place) c =
-    on (to_do (Evaluate row) (to_do (Evaluate column) (to_do (Evaluate value) (to_do (GiveGridElement array place) c))))
+executed (SetArray point array index value place) c = assigning array index None value place c
+executed (SetGrid point array row column value place) c = assigning array row (Some column) value place c
 executed (If point arms) c = on (to_do (Choose 0 arms) c)
 executed (While point condition body place) c =
     on (to_do (Evaluate condition) (to_do (Turn (While point condition body place) body place) c))
-executed (Return point None) c = on (to_do Unwind (with_value (pos 0) c))
-executed (Return point (Some value)) c = on (to_do (Evaluate value) (to_do Unwind c))
+executed (Return point value) c = returning value c
 executed (Print point value place) c = on (to_do (Evaluate value) (to_do (PrintValue place) c))
 executed (Call point method args place) c = on (to_do (Gather [] args (goals.Enter method place)) (to_do Discard c))
 executed (Make point future task args spawned future_place place) c = on (to_do (Gather [] args (goals.Make future task spawned place)) c)
