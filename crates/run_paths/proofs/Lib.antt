@@ -1,0 +1,11 @@
+pub mod Keeping
+pub mod SegmentKept
+pub mod Quiet
+pub mod ArgumentValues
+pub mod Leading
+pub mod LeftLeading
+pub mod Following
+pub mod Waits
+pub mod OperationsFitting
+pub mod EntryFutures
+pub mod BeingReady

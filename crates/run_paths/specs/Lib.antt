@@ -1,0 +1,5 @@
+pub mod Left
+pub mod Passes
+pub mod Operations
+pub mod Keeps
+pub mod Ready
