@@ -3,5 +3,4 @@ pub mod LowestFirst
 pub mod Moves
 pub mod Rows
 pub mod Runs
-pub mod Sequential
 pub mod inner

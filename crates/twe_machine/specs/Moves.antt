@@ -1,7 +1,11 @@
 -- What a move makes of a state, and the state that a run starts from.
-use Rattle.std.specs.Prelude.{◌++◌, ℕ, ℤ, pos, List, [], ◌∷◌, replicate, false, Option, None, Some, slice_get, slice_set}
+use Rattle.std.specs.Prelude.{◌++◌, ◌+◌, ◌==◌, ◌<◌, ◌≡◌, ◌^◌, ℕ, ℤ, pos, Bool, true, false, List, [], ◌∷◌, length, replicate, Option, None, Some, nat_lt, if◌then◌else◌, slice_get, slice_set}
+use Rattle.std.specs.List.{list_any}
+use Rattle.std.specs.Option.{ForSome}
 use Rattle.twe_io.specs.declared.place.Place.{Place}
+use Rattle.effect_sets.specs.declared.effects.Summary.{Summary}
 use Rattle.seg_journal.specs.declared.journal.FaultKind.{FaultKind}
+use Rattle.seg_journal.specs.declared.journal.FaultKind.TheVariants.{TaskLimit}
 use Rattle.seg_journal.specs.declared.journal.End.{End}
 use Rattle.seg_journal.specs.declared.journal.End.TheVariants.{Admitted}
 use Rattle.seg_journal.specs.declared.journal.End.TheVariants as ends
@@ -9,136 +13,191 @@ use Rattle.seg_journal.specs.declared.moves.Kind.{Kind}
 use Rattle.seg_journal.specs.declared.moves.Kind.TheVariants.{Admit, Run}
 use Rattle.seg_journal.specs.declared.moves.Move.{Move}
 use Rattle.seg_journal.specs.Limits.{Bounds}
-use Rattle.wait_graph.specs.declared.tasks.Link.{Link}
-use Rattle.wait_graph.specs.Link.{new_link, with_done}
+use Rattle.wait_graph.specs.Link.{link_of, new_link, with_wait, with_joined, with_done}
 use Rattle.twe_program.specs.declared.program.CellDecl.{CellDecl}
-use Rattle.twe_program.specs.declared.program.Decl.{Decl}
 use Rattle.twe_program.specs.Program.{Program, size_of}
-use Rattle.seg_exec.specs.declared.frame.Call.{Call}
 use Rattle.seg_exec.specs.declared.frame.Frame.{Frame}
-use Rattle.seg_exec.specs.declared.frame.Next.TheVariants.{Go}
+use Rattle.seg_exec.specs.declared.frame.Next.{Next}
+use Rattle.seg_exec.specs.declared.frame.Next.TheVariants.{Ended}
 use Rattle.seg_exec.specs.declared.stop.Stop.{Stop}
 use Rattle.seg_exec.specs.declared.stop.Stop.TheVariants as stops
+use Rattle.seg_exec.specs.Entry.{entry_frame, effects_at}
+use Rattle.seg_exec.specs.Giving.{given}
 use Rattle.seg_exec.specs.Segment.{segment}
 use Rattle.twe_machine.specs.declared.state.FirstFault.{FirstFault}
 use Rattle.twe_machine.specs.declared.state.State.{State}
 use Rattle.twe_machine.specs.declared.state.TaskRow.{TaskRow}
+use Rattle.twe_machine.specs.declared.state.TaskStatus.{TaskStatus}
 use Rattle.twe_machine.specs.declared.state.TaskStatus.TheVariants.{Made, Enabled}
 use Rattle.twe_machine.specs.declared.state.TaskStatus.TheVariants as status
+use Rattle.twe_machine.specs.Rows.{awaited}
 
-abbrev pub with_row : State → ℕ → TaskRow → State
-with_row st t row = record st { tasks = slice_set st.tasks t row }
+-- Admission.
 
--- t becomes enabled, and nothing else changes
 abbrev pub admitted_row : TaskRow → TaskRow
 admitted_row row = record row { status = Enabled }
 
+-- t becomes enabled, and nothing else changes
 abbrev pub admitted : State → ℕ → Option TaskRow → State
 admitted st t None = st
-admitted st t (Some row) = with_row st t (admitted_row row)
+admitted st t (Some row) = record st { tasks = slice_set st.tasks t (admitted_row row) }
+
+-- The making of a task.
+
+-- a task of `spawn` has the task that spawned it as its parent and is enabled at once; one of `executeLater` has no
+-- parent, and is to be admitted
+abbrev pub parent_of : ℕ → Bool → Option ℕ
+parent_of t true = Some t
+parent_of t false = None
+
+abbrev pub status_at_start : Option ℕ → TaskStatus
+status_at_start None = Made
+status_at_start (Some parent) = Enabled
+
+-- the row of a new task of this number: its frame has the number, and all of the fuel
+abbrev pub new_row : Bounds → ℕ → Option ℕ → Frame → List ℤ → Summary → TaskRow
+new_row lim number parent frame args effects = record {
+  decl = frame.decl;
+  args = args;
+  effects = effects;
+  frame = record frame { task = number; fuel = lim.fuel };
+  parent = parent;
+  joined = false;
+  out = [];
+  status = status_at_start parent;
+  value = pos 0;
+}
+
+-- a spawned child is the last of the unjoined children
+abbrev pub out_with : Bool → ℕ → List ℕ → List ℕ
+out_with true child out = out ++ child ∷ []
+out_with false child out = out
+
+-- the frame of a task that has made this one: the future stands for it
+abbrev pub making_frame : ℕ → Bool → ℕ → Frame → Frame
+making_frame future spawned child frame = record frame { futures = slice_set frame.futures future (Some child); out = out_with spawned child frame.out }
+
+-- The end of a segment.
 
 -- a frame between segments: what the segment has printed is taken out of it
 abbrev pub emptied : Frame → Frame
 emptied frame = record frame { prints = [] }
 
--- the row of a task that is done with this value
-abbrev pub done_row : TaskRow → Frame → ℤ → TaskRow
-done_row row frame value = record row { frame = emptied frame; status = status.Done; value = value }
+-- the frame of a task that has met a fault where it was to make a task: nothing of it is left
+abbrev pub stopped_frame : Frame → Frame
+stopped_frame frame = record frame { calls = []; next = Ended }
 
--- the row of a task that has met a fault
+-- the row of a task that goes on, that is done with a value, and that has met a fault
+abbrev pub going_row : TaskRow → Frame → TaskRow
+going_row row frame = record row { frame = emptied frame; out = frame.out }
+
+abbrev pub done_row : TaskRow → Frame → ℤ → TaskRow
+done_row row frame value = record row { frame = emptied frame; out = frame.out; status = status.Done; value = value }
+
 abbrev pub faulted_row : TaskRow → Frame → TaskRow
-faulted_row row frame = record row { frame = emptied frame; status = status.Faulted }
+faulted_row row frame = record row { frame = emptied frame; out = frame.out; status = status.Faulted }
 
 -- the first fault of a run stays the first
 abbrev pub first_fault_of : Option FirstFault → ℕ → FaultKind → Place → Option FirstFault
 first_fault_of (Some earlier) t kind place = Some earlier
 first_fault_of None t kind place = Some (record { task = t; kind = kind; place = place })
 
--- the segment came to the end of its task
-abbrev pub IsEnd : Stop → Type 0
-IsEnd (stops.Done value) = Unit {0}
-IsEnd (stops.Fault kind place) = Unit {0}
-IsEnd _ = ⊥
+-- the state once the frame of t has gone home and t has this row: what was printed joins the numbers of the run, and
+-- the links say what t waits for
+abbrev pub home : State → ℕ → Frame → TaskRow → State
+home st t frame row = record st {
+  prints = st.prints ++ frame.prints;
+  tasks = slice_set st.tasks t row;
+  links = with_wait st.links t (awaited frame.next);
+}
 
--- the state after a segment of task t that left this frame and stopped so, where the cells are those after the segment,
--- and what the move ended in. What a task wrote and printed before a fault stands. The programs that run today have no
--- stop but these two, and the others are not given a meaning yet; see `IsSequential`.
-abbrev pub settled_row : State → ℕ → TaskRow → Frame → Stop → State × End
-settled_row st t row frame (stops.Done value) = (
-  record st {
-    prints = st.prints ++ frame.prints;
-    tasks = slice_set st.tasks t (done_row row frame value);
-    links = with_done st.links t;
-  },
-  ends.Done value,
-)
-settled_row st t row frame (stops.Fault kind place) = (
-  record st {
-    prints = st.prints ++ frame.prints;
-    tasks = slice_set st.tasks t (faulted_row row frame);
-    first_fault = first_fault_of st.first_fault t kind place;
-  },
-  ends.Fault kind place,
-)
-settled_row st t row frame _ = (st, Admitted)
+abbrev pub faulted : State → ℕ → TaskRow → Frame → FaultKind → Place → State
+faulted st t row frame kind place =
+    record (home st t frame (faulted_row row frame)) { first_fault = first_fault_of st.first_fault t kind place }
 
-abbrev pub settled : State → ℕ → Option TaskRow → Frame → Stop → State × End
-settled st t None frame stop = (st, Admitted)
-settled st t (Some row) frame stop = settled_row st t row frame stop
+abbrev pub finished : State → ℕ → TaskRow → Frame → ℤ → State
+finished st t row frame value =
+    let after = home st t frame (done_row row frame value) in record after { links = with_done after.links t }
+
+-- one more task was asked for
+abbrev pub asking : State → State
+asking st = record st { asked = st.asked + 1 }
+
+-- t has made a task, which has the next number
+abbrev pub having_made : Bounds → State → ℕ → TaskRow → Frame → ℕ → Bool → Frame → List ℤ → Summary → State
+having_made lim st t row frame future spawned child args effects =
+    let number = st.asked + 1 in
+    let maker = making_frame future spawned number frame in
+    let after = home (asking st) t maker (going_row row maker) in
+    record after {
+      tasks = after.tasks ++ new_row lim number (parent_of t spawned) child args effects ∷ [];
+      links = after.links ++ new_link (parent_of t spawned) ∷ [];
+    }
+
+-- the state after a segment of t that left this frame and stopped so, and what the move ended in. What a task wrote and
+-- printed before a fault stands. A make whose number is not below the limit is a fault of its maker, and makes no task.
+abbrev pub stopped : Bounds → State → ℕ → TaskRow → Frame → Stop → State × End
+stopped lim st t row frame (stops.Make child args effects spawned future place) =
+    if nat_lt (st.asked + 1) lim.tasks
+    then (having_made lim st t row frame future spawned child args effects, ends.Made (st.asked + 1))
+    else (faulted (asking st) t row (stopped_frame frame) TaskLimit place, ends.Fault TaskLimit place)
+stopped lim st t row frame (stops.Waits on) = (home st t frame (going_row row frame), ends.Waits on)
+stopped lim st t row frame (stops.Joins on) = (home st t frame (going_row row frame), ends.Joins on)
+stopped lim st t row frame (stops.Done value) = (finished st t row frame value, ends.Done value)
+stopped lim st t row frame (stops.Fault kind place) = (faulted st t row frame kind place, ends.Fault kind place)
+
+-- The start of a segment.
+
+-- the child whose join the segment took: the task that was waited for, where it is one of the unjoined children
+abbrev pub joined_child : List ℕ → Option ℕ → Option ℕ
+joined_child out None = None
+joined_child out (Some on) = if list_any (λ child. child == on) out then Some on else None
+
+abbrev pub joined_row : TaskRow → TaskRow
+joined_row row = record row { joined = true }
+
+abbrev pub joined_rows : List TaskRow → ℕ → Option TaskRow → List TaskRow
+joined_rows rows child None = rows
+joined_rows rows child (Some row) = slice_set rows child (joined_row row)
+
+-- the child, if there is one, is joined
+abbrev pub joined : State → Option ℕ → State
+joined st None = st
+joined st (Some child) = record st { tasks = joined_rows st.tasks child (slice_get st.tasks child); links = with_joined st.links child }
+
+-- the state after a segment of t that left this frame and stopped so, and what the move ended in; the cells are those
+-- after the segment, and all else but the frame of t is as before it. The join that the segment took is taken here.
+abbrev pub settled : Bounds → State → ℕ → Option TaskRow → Frame → Stop → State × End
+settled lim st t None frame stop = (st, Admitted)
+settled lim st t (Some row) frame stop = stopped lim (joined st (joined_child row.out (link_of st.links t).waits)) t row frame stop
+
+-- the value of the task that was waited for
+abbrev pub value_of : Option TaskRow → ℤ
+value_of None = pos 0
+value_of (Some row) = row.value
+
+abbrev pub awaited_value : List TaskRow → Option ℕ → ℤ
+awaited_value rows None = pos 0
+awaited_value rows (Some on) = value_of (slice_get rows on)
+
+-- the frame that the next segment of a task starts from: where the task has waited, it takes the value
+abbrev pub ready : List TaskRow → Frame → Frame
+ready rows frame = given frame (awaited_value rows (awaited frame.next))
 
 -- one segment of task t
-abbrev pub ran : Program → State → ℕ → Option TaskRow → State × End
-ran p st t None = (st, Admitted)
-ran p st t (Some row) = let after = segment p row.frame st.cells in settled_row (record st { cells = after.cells }) t row after.frame after.stop
+abbrev pub ran : Program → Bounds → State → ℕ → Option TaskRow → State × End
+ran p lim st t None = (st, Admitted)
+ran p lim st t (Some row) =
+    let after = segment p (ready st.tasks row.frame) st.cells in
+    settled lim (record st { cells = after.cells }) t (Some row) after.frame after.stop
 
-abbrev pub taken : Program → State → Kind → ℕ → State × End
-taken p st Admit t = (admitted st t (slice_get st.tasks t), Admitted)
-taken p st Run t = ran p st t (slice_get st.tasks t)
+abbrev pub taken : Program → Bounds → State → Kind → ℕ → State × End
+taken p lim st Admit t = (admitted st t (slice_get st.tasks t), Admitted)
+taken p lim st Run t = ran p lim st t (slice_get st.tasks t)
 
 -- the state after a legal move, and what the move ended in
 abbrev pub moved : Program → Bounds → State → Move → State × End
-moved p lim st mv = taken p st mv.kind mv.task
-
--- the body of a declaration before its first statement
-abbrev pub entry_call : Decl → Call
-entry_call decl = record { method = None; vars = replicate decl.body.vars (pos 0); stack = record { block = 0; after = 0 } ∷ [] }
-
--- what task 0, a task of this declaration, keeps before its first segment
-abbrev pub start_frame : ℕ → Bounds → Decl → Frame
-start_frame number lim decl = record {
-  task = 0;
-  decl = number;
-  calls = entry_call decl ∷ [];
-  fuel = lim.fuel;
-  futures = replicate decl.body.futures None;
-  out = [];
-  next = Go;
-  value = pos 0;
-  prints = [];
-}
-
--- task 0 before its admission
-abbrev pub first_row : ℕ → Bounds → Decl → TaskRow
-first_row number lim decl = record {
-  decl = number;
-  args = [];
-  effects = decl.summary;
-  frame = start_frame number lim decl;
-  parent = None;
-  joined = false;
-  out = [];
-  status = Made;
-  value = pos 0;
-}
-
-abbrev pub first_rows : ℕ → Bounds → Option Decl → List TaskRow
-first_rows number lim None = []
-first_rows number lim (Some decl) = first_row number lim decl ∷ []
-
--- task 0 waits for nobody and was spawned by nobody
-abbrev pub first_links : Option Decl → List Link
-first_links None = []
-first_links (Some decl) = new_link None ∷ []
+moved p lim st mv = taken p lim st mv.kind mv.task
 
 -- the initial values of the cells, in the order of their numbers
 abbrev pub initial_values : List CellDecl → List ℤ
@@ -149,9 +208,19 @@ initial_values (cell ∷ cells) = replicate (size_of cell.dims) cell.init ++ ini
 abbrev pub start_of : Program → Bounds → State
 start_of p lim = record {
   cells = initial_values p.cells;
-  tasks = first_rows p.main lim (slice_get p.tasks p.main);
-  links = first_links (slice_get p.tasks p.main);
+  tasks = new_row lim 0 None (entry_frame p p.main []) [] (effects_at p p.main []) ∷ [];
+  links = new_link None ∷ [];
   prints = [];
   asked = 0;
   first_fault = None;
 }
+
+-- What the settling of a segment of t rests on, where `next` is what comes next in its frame: there is a link for each
+-- row; the number of a task that may be made is that of the next row; and a task that is to be waited for is there and
+-- has a higher number.
+pub record MaySettle (lim : Bounds) (st : State) (t : ℕ) (next : Next) : Type 0 where
+  pub there : t < length st.tasks
+  pub linked : length st.links ≡ length st.tasks
+  pub number : st.asked + 1 < lim.tasks → st.asked + 1 ≡ length st.tasks
+  pub few : st.asked + 1 < 2 ^ 32
+  pub above : ForSome (awaited next) (λ on. (t < on) × (on < length st.tasks))

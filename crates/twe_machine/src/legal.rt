@@ -1,8 +1,12 @@
 //! Which moves may be taken.
-ghost use Rattle.std.specs.Prelude.{◌↔◌, IsOk, IfErr};
-ghost use Rattle.twe_machine.specs.Legal.{MayMove, Forbids};
+ghost use Rattle.std.specs.Prelude.{◌≡◌, ◌↔◌, length, IsOk, IfErr};
+ghost use Rattle.seg_journal.specs.declared.moves.Kind.TheVariants.{Admit, Run};
+ghost use Rattle.twe_machine.specs.declared.state.TaskStatus.TheVariants.{Made, Enabled};
+ghost use Rattle.twe_machine.specs.Legal.{Forbids, MayMove, MayTake};
+ghost use Rattle.twe_machine.specs.Rows.{EffectsAreFilled, HasStatus};
 ghost use Rattle.twe_machine.specs.Runs.{IsReachable};
 
+use crate::bars::bar;
 use crate::state::{State, TaskStatus};
 use seg_journal::{Kind, Move};
 use twe_program::Prog;
@@ -31,10 +35,38 @@ pub fn may(p: &Prog, st: &State, mv: Move) -> Result<(), Why>
     let Some(row) = st.tasks.get(mv.task as usize) else {
         return Err(Why::NoTask);
     };
+    let _main = p.main;
     match (mv.kind, row.status) {
-        // A program of the first form makes no second task, which could be a bar.
-        (Kind::Admit, TaskStatus::Made) | (Kind::Run, TaskStatus::Enabled) => Ok(()),
+        (Kind::Admit, TaskStatus::Made) => may_admit(st, mv.task),
         (Kind::Admit, _) => Err(Why::NotMade),
+        (Kind::Run, TaskStatus::Enabled) => may_run(st, mv.task),
         (Kind::Run, _) => Err(Why::NotEnabled),
+    }
+}
+
+/// Whether a task that was made may be admitted, and if not, which task is the lowest bar.
+fn may_admit(st: &State, t: u32) -> Result<(), Why>
+    requires made { HasStatus st.now t Made }
+    requires linked { length st.now.links ≡ length st.now.tasks }
+    requires filled { EffectsAreFilled st.now }
+    ensures legal { IsOk result ↔ MayTake st.now Admit t }
+    ensures why { IfErr result (Forbids st.now Admit t) }
+{
+    match bar(st, t) {
+        None => Ok(()),
+        Some(s) => Err(Why::HeldBy(s)),
+    }
+}
+
+/// Whether an enabled task may run, and if not, for which it waits.
+fn may_run(st: &State, t: u32) -> Result<(), Why>
+    requires enabled { HasStatus st.now t Enabled }
+    requires linked { length st.now.links ≡ length st.now.tasks }
+    ensures legal { IsOk result ↔ MayTake st.now Run t }
+    ensures why { IfErr result (Forbids st.now Run t) }
+{
+    match st.links.awaited(t) {
+        None => Ok(()),
+        Some(u) => Err(Why::WaitsFor(u)),
     }
 }

@@ -1,25 +1,33 @@
 //! The sequential machine: a state, the moves that may be taken in it, what a move makes of it, and how a run ends.
 #![tactic(auto)]
 
+mod bars;
+mod coming_home;
 mod ending;
 mod first_state;
 mod laws;
 mod legal;
+mod lowest_move;
+mod making;
+mod new_task;
 mod one_move;
-mod sequential;
+mod outcomes;
+mod running;
 mod settling;
-mod standing;
 mod state;
-mod whole_run;
+mod taken_joins;
+mod task_end;
 
+pub use bars::bar;
 pub use ending::Outcome;
 pub use first_state::start;
-pub use laws::{effects_are_filled, links_agree, one_lowest_first};
+pub use laws::{
+    children_are_done_first, effects_are_filled, links_agree, links_are_in_order, one_lowest_first,
+};
 pub use legal::{Why, may};
+pub use lowest_move::{lowest, lowest_from};
 pub use one_move::step;
+pub use outcomes::outcome;
 pub use seg_exec::{Call, Frame, Next, Position, Stop};
-pub use sequential::is_sequential;
 pub use settling::settle;
-pub use standing::outcome;
 pub use state::{FirstFault, State, TaskRow, TaskStatus};
-pub use whole_run::run_main;

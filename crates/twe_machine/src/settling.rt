@@ -1,77 +1,89 @@
 //! What a segment that has stopped makes of the state.
-ghost use Rattle.std.specs.Prelude.{◌≡◌, ◌<◌, ◌++◌, length, IfOk, OnOk, slice_get};
-ghost use Rattle.twe_machine.specs.Moves.{IsEnd, done_row, faulted_row, emptied, first_fault_of, settled};
+ghost use Rattle.std.specs.Prelude.{◌≡◌, ◌<◌, length, IfOk, OnOk, slice_get};
+ghost use Rattle.std.specs.Option.{ForSome};
+ghost use Rattle.twe_machine.specs.declared.state.TaskRow.{TaskRow};
+ghost use Rattle.twe_machine.specs.Moves.{MaySettle, going_row, home, settled, stopped};
+ghost use Rattle.twe_machine.specs.Rows.{IsRow, awaited};
 
-use crate::state::{FirstFault, State, TaskRow, TaskStatus};
+use crate::coming_home::come_home;
+use crate::making::{Asking, ask};
+use crate::new_task::NewTask;
+use crate::state::State;
+use crate::taken_joins::take_join;
+use crate::task_end::{fail, finish};
 use seg_exec::{Frame, Stop};
-use seg_journal::{End, FaultKind};
+use seg_journal::{End, Limits};
 use std::alloc::Global;
-use twe_io::{Ints, Memory, Place};
+use twe_io::Memory;
 
 /// The state after a segment of this task that left this frame and stopped so, and what the move ended in: the frame
-/// goes home, and the numbers that it has printed go to those of the run. The cells of the state have to be those after
-/// the segment. After `Memory` nothing is known of the state, which can only be dropped.
+/// goes home, the join that the segment has taken is taken, a task that it makes is added, and the numbers that it has
+/// printed go to those of the run. The cells of the state have to be those after the segment. After `Memory` nothing is
+/// known of the state, which can only be dropped.
 pub fn settle(
     alloc: Global,
+    lim: Limits,
     st: &mut State,
     t: u32,
     frame: Frame,
     stop: Stop,
 ) -> Result<End, Memory>
-    requires there { t < length st.old.tasks }
-    requires linked { t < length st.old.links }
-    requires ends { IsEnd stop }
-    ensures { IfOk result (λ end. (st.new, end) ≡ settled st.old t (slice_get st.old.tasks t) frame stop) }
+    requires { MaySettle lim st.old t frame.next }
+    ensures { IfOk result (λ end. (st.new, end) ≡ settled lim st.old t (slice_get st.old.tasks t) frame stop) }
 {
-    let mut frame = frame;
-    take_prints(alloc, &mut st.prints, &mut frame)?;
+    take_join(st, t);
+    stop_task(alloc, lim, st, t, frame, stop)
+}
+
+/// The same, once the join is taken.
+fn stop_task(
+    alloc: Global,
+    lim: Limits,
+    st: &mut State,
+    t: u32,
+    frame: Frame,
+    stop: Stop,
+) -> Result<End, Memory>
+    requires { MaySettle lim st.old t frame.next }
+    ensures { IfOk result (λ end. (row : TaskRow) → IsRow st.old t row
+        → (st.new, end) ≡ stopped lim st.old t row frame stop) }
+{
     match stop {
-        Stop::Done { value } => {
-            finish(st.tasks.item_mut(t as usize), frame, value);
-            st.links.set_done(t);
-            Ok(End::Done { value })
+        Stop::Make {
+            child,
+            args,
+            effects,
+            spawned,
+            future,
+            place,
+        } => {
+            let task = NewTask {
+                frame: child,
+                args,
+                effects,
+            };
+            let how = Asking {
+                spawned,
+                future,
+                place,
+            };
+            ask(alloc, lim, st, t, frame, task, how)
         }
-        Stop::Fault { kind, place } => {
-            fail(st.tasks.item_mut(t as usize), frame);
-            note_fault(&mut st.first_fault, t, kind, place);
-            Ok(End::Fault { kind, place })
-        }
-        _ => Ok(End::Admitted),
+        Stop::Waits { on } => go_on(alloc, st, t, frame, End::Waits { on }),
+        Stop::Joins { on } => go_on(alloc, st, t, frame, End::Joins { on }),
+        Stop::Done { value } => finish(alloc, st, t, frame, value),
+        Stop::Fault { kind, place } => fail(alloc, st, t, frame, kind, place),
     }
 }
 
-/// Takes the printed numbers out of a frame.
-fn take_prints(alloc: Global, prints: &mut Ints, frame: &mut Frame) -> Result<(), Memory>
-    ensures prints { OnOk result (prints.new ≡ prints.old ++ frame.old.prints) }
-    ensures frame { OnOk result (frame.new ≡ emptied frame.old) }
+/// Lets a task come home that goes on, where its segment has ended in this.
+fn go_on(alloc: Global, st: &mut State, t: u32, frame: Frame, end: End) -> Result<End, Memory>
+    requires there { t < length st.old.tasks }
+    requires linked { length st.old.links ≡ length st.old.tasks }
+    requires above { ForSome (awaited frame.next) (λ on. (t < on) × (on < length st.old.tasks)) }
+    ensures state { OnOk result ((row : TaskRow) → IsRow st.old t row → st.new ≡ home st.old t frame (going_row row frame)) }
+    ensures end { IfOk result (λ told. told ≡ end) }
 {
-    prints.push_all(frame.prints.as_slice())?;
-    frame.prints = Ints::new(alloc);
-    Ok(())
-}
-
-/// Ends a task with a value.
-fn finish(row: &mut TaskRow, frame: Frame, value: i32)
-    ensures { emptied frame ≡ frame → row.new ≡ done_row row.old frame value }
-{
-    row.frame = frame;
-    row.status = TaskStatus::Done;
-    row.value = value;
-}
-
-/// Ends a task with a fault.
-fn fail(row: &mut TaskRow, frame: Frame)
-    ensures { emptied frame ≡ frame → row.new ≡ faulted_row row.old frame }
-{
-    row.frame = frame;
-    row.status = TaskStatus::Faulted;
-}
-
-/// Notes a fault, unless there was one before.
-fn note_fault(first: &mut Option<FirstFault>, task: u32, kind: FaultKind, place: Place)
-    ensures { first.new ≡ first_fault_of first.old task kind place }
-{
-    if first.is_none() {
-        *first = Some(FirstFault { task, kind, place });
-    }
+    come_home(alloc, st, t, frame)?;
+    Ok(end)
 }

@@ -1,5 +1,5 @@
-use Rattle.twe_machine.proofs.Filled.{reached_is_filled}
+use Rattle.twe_machine.proofs.Filled.{reached_filled}
 use Rattle.twe_machine.proofs.laws.effects_are_filled.Goals as goal
 
 pub returns : goal.returns
-returns c p st well reached = reached_is_filled p reached.0 st well reached.1
+returns c p st well reached = reached_filled p reached.0 st well reached.1

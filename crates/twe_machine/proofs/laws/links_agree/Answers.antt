@@ -1,5 +1,5 @@
-use Rattle.twe_machine.proofs.OneTask.{reached_agrees}
+use Rattle.twe_machine.proofs.LinksAgree.{reached_linked}
 use Rattle.twe_machine.proofs.laws.links_agree.Goals as goal
 
 pub returns : goal.returns
-returns c p st reached = reached_agrees p reached.0 st reached.1
+returns c p st reached = (reached_linked p reached.0 st reached.1).links

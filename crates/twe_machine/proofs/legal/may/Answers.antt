@@ -1,18 +1,21 @@
-use Rattle.std.proofs.Common.{sym, refl}
-use Rattle.twe_machine.proofs.OneTask.{reached_is_alone, reached_agrees, reached_few}
-use Rattle.twe_machine.proofs.Alone.{may_admit, may_run}
+use Rattle.std.proofs.Common.{subst}
+use Rattle.twe_program.specs.WellFormed.{IsWellFormed}
+use Rattle.twe_machine.proofs.Filled.{reached_filled}
+use Rattle.twe_machine.proofs.ReachedStands.{reached_stands}
+use Rattle.twe_machine.proofs.SettlesNext.{as_many_links}
 use Rattle.twe_machine.proofs.legal.may.Goals as goal
 
--- the only task has no bar
-pub returns-in-Admit-Made-clause-legal : goal.returns-in-Admit-Made-clause-legal
-returns-in-Admit-Made-clause-legal c =
-    let st = c.args.st.now in
-    let few = reached_few c.args.p.now c.requires.0 st c.requires.1 in
-    (λ _. may_admit st c.args.mv c.in-Some.row.now few (sym c.in-Some.ensures) c.in-Admit-Made.is-0 c.in-Admit-Made.is-1, λ _. refl)
+-- there are as many links as rows
+pub may_admit-requires-clause-linked : goal.may_admit-requires-clause-linked
+may_admit-requires-clause-linked c =
+    let p = c.args.p.now in
+    let st = c.args.st.now in as_many_links p c.requires.0 st (reached_stands p c.requires.0 st (subst IsWellFormed c.p.view_is c.p.invariant) c.requires.1)
 
--- the only task waits for nobody
-pub returns-in-Admit-Made-2-clause-legal : goal.returns-in-Admit-Made-2-clause-legal
-returns-in-Admit-Made-2-clause-legal c =
-    let st = c.args.st.now in
-    let alone = reached_is_alone c.args.p.now c.requires.0 st c.requires.1 in
-    (λ _. may_run c.args.p.now c.requires.0 st c.args.mv c.in-Some.row.now alone (reached_agrees c.args.p.now c.requires.0 st c.requires.1) (sym c.in-Some.ensures) c.in-Admit-Made.is-0 c.in-Admit-Made.is-1, λ _. refl)
+-- no effect has a variable
+pub may_admit-requires-clause-filled : goal.may_admit-requires-clause-filled
+may_admit-requires-clause-filled c = reached_filled c.args.p.now c.requires.0 c.args.st.now (subst IsWellFormed c.p.view_is c.p.invariant) c.requires.1
+
+pub may_run-requires-clause-linked : goal.may_run-requires-clause-linked
+may_run-requires-clause-linked c =
+    let p = c.args.p.now in
+    let st = c.args.st.now in as_many_links p c.requires.0 st (reached_stands p c.requires.0 st (subst IsWellFormed c.p.view_is c.p.invariant) c.requires.1)

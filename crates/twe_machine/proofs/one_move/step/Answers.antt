@@ -1,30 +1,17 @@
-use Rattle.std.proofs.Common.{ap, arith, subst, length}
-use Rattle.std.proofs.lemmas.List.{length-map}
-use Rattle.std.proofs.lemmas.Option.{slice_get_within}
+use Rattle.std.proofs.Common.{subst}
+use Rattle.seg_journal.specs.Limits.{Bounds, IsWithin}
 use Rattle.twe_program.specs.WellFormed.{IsWellFormed}
-use Rattle.twe_machine.specs.Legal.{MayTake}
-use Rattle.twe_machine.specs.Rows.{link_of_row}
-use Rattle.twe_machine.proofs.Main.{comes_to_end, has_cells}
-use Rattle.twe_machine.proofs.OneTask.{reached_agrees}
+use Rattle.twe_machine.proofs.ReachedStands.{reached_stands}
+use Rattle.twe_machine.proofs.SettlesNext.{may_settle}
 use Rattle.twe_machine.proofs.one_move.step.Goals as goal
-
--- there is a link for each row
-pub run-requires-clause-linked : goal.run-requires-clause-linked
-run-requires-clause-linked c =
-    let st = c.args.st.now in
-    let may = subst (λ kind. MayTake st kind c.args.mv.task) c.in-Run.is c.requires.legal in
-    let there = slice_get_within st.tasks c.args.mv.task may.0.0 may.0.1 in
-    let agree = reached_agrees c.args.p.now c.args.lim st c.requires.reached in
-    omega (arith, there, ap length agree, length-map st.tasks link_of_row)
 
 -- there are as many values as cells
 pub run-requires-clause-cells : goal.run-requires-clause-cells
-run-requires-clause-cells c =
-    let may = subst (λ kind. MayTake c.args.st.now kind c.args.mv.task) c.in-Run.is c.requires.legal in
-    has_cells c.args.p.now c.args.lim (subst IsWellFormed c.p.view_is c.p.invariant) c.requires.sequential c.args.st.now c.args.mv.task c.requires.reached may
+run-requires-clause-cells c = (reached_stands c.args.p.now c.args.lim c.args.st.now (subst IsWellFormed c.p.view_is c.p.invariant) c.requires.reached).cells
 
--- and `main` comes to its end
-pub run-requires-clause-ends : goal.run-requires-clause-ends
-run-requires-clause-ends c =
-    let may = subst (λ kind. MayTake c.args.st.now kind c.args.mv.task) c.in-Run.is c.requires.legal in
-    comes_to_end c.args.p.now c.args.lim (subst IsWellFormed c.p.view_is c.p.invariant) c.requires.sequential c.args.st.now c.args.mv.task c.requires.reached may
+-- and what the segment leaves may be settled
+pub run-requires-clause-settles : goal.run-requires-clause-settles
+run-requires-clause-settles c =
+    λ row here.
+    let within = subst (λ (lim : Bounds). IsWithin lim.fuel lim.tasks) c.lim.view_is c.lim.invariant in
+    may_settle c.args.p.now c.args.lim c.args.st.now c.args.mv.task row (subst IsWellFormed c.p.view_is c.p.invariant) within c.requires.reached here

@@ -1,0 +1,34 @@
+-- A run of one segment whose frame is out of its row meanwhile.
+use Rattle.std.specs.Prelude.{ℕ, pos, []}
+use Rattle.seg_journal.specs.Limits.{Bounds}
+use Rattle.twe_program.specs.Program.{Program}
+use Rattle.seg_exec.specs.declared.frame.Frame.{Frame}
+use Rattle.seg_exec.specs.declared.frame.Next.TheVariants.{Ended}
+use Rattle.seg_exec.specs.Segment.{segment}
+use Rattle.twe_machine.specs.declared.state.State.{State}
+use Rattle.twe_machine.specs.declared.state.TaskRow.{TaskRow}
+use Rattle.twe_machine.specs.Moves.{MaySettle, ready}
+use Rattle.twe_machine.specs.Rows.{IsRow}
+
+-- a frame of which nothing is left
+abbrev pub no_frame : Frame
+no_frame = record {
+  task = 0;
+  decl = 0;
+  calls = [];
+  fuel = 0;
+  futures = [];
+  out = [];
+  next = Ended;
+  value = pos 0;
+  prints = [];
+}
+
+-- the row while its frame is out
+abbrev pub without_frame : TaskRow → TaskRow
+without_frame row = record row { frame = no_frame }
+
+-- what the next segment of t leaves may be settled
+abbrev pub SettlesAfter : Program → Bounds → State → ℕ → Type 0
+SettlesAfter p lim st t =
+    (row : TaskRow) → IsRow st t row → MaySettle lim st t (segment p (ready st.tasks row.frame) st.cells).frame.next

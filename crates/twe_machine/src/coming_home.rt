@@ -1,0 +1,54 @@
+//! How the frame of a segment that has stopped comes back into the row of its task.
+ghost use Rattle.std.specs.Prelude.{◌≡◌, ◌<◌, ◌++◌, length, OnOk};
+ghost use Rattle.std.specs.Option.{ForSome};
+ghost use Rattle.twe_machine.specs.declared.state.TaskRow.{TaskRow};
+ghost use Rattle.twe_machine.specs.Moves.{emptied, going_row, home};
+ghost use Rattle.twe_machine.specs.Rows.{IsRow, awaited};
+
+use crate::state::State;
+use seg_exec::{Frame, Next};
+use std::alloc::Global;
+use twe_io::{Ints, Memory};
+
+/// The task of which the next operation is a wait, where it is one.
+pub(crate) fn awaited(next: Next) -> Option<u32>
+    ensures { result ≡ awaited next }
+{
+    match next {
+        Next::Go => None,
+        Next::Get { on, .. } => Some(on),
+        Next::Join { on, .. } => Some(on),
+        Next::Closing { on } => Some(on),
+        Next::Ended => None,
+    }
+}
+
+/// Takes the printed numbers out of a frame.
+fn take_prints(alloc: Global, prints: &mut Ints, frame: &mut Frame) -> Result<(), Memory>
+    ensures prints { OnOk result (prints.new ≡ prints.old ++ frame.old.prints) }
+    ensures frame { OnOk result (frame.new ≡ emptied frame.old) }
+{
+    prints.push_all(frame.prints.as_slice())?;
+    frame.prints = Ints::new(alloc);
+    Ok(())
+}
+
+/// Puts the frame of a segment into the row of its task, which goes on: the numbers that it has printed go to those of
+/// the run, and the links say what the task waits for.
+pub(crate) fn come_home(alloc: Global, st: &mut State, t: u32, frame: Frame) -> Result<(), Memory>
+    requires there { t < length st.old.tasks }
+    requires linked { length st.old.links ≡ length st.old.tasks }
+    requires above { ForSome (awaited frame.next) (λ on. (t < on) × (on < length st.old.tasks)) }
+    ensures state { OnOk result ((row : TaskRow) → IsRow st.old t row → st.new ≡ home st.old t frame (going_row row frame)) }
+    ensures rows { OnOk result (length st.new.tasks ≡ length st.old.tasks) }
+    ensures linked { OnOk result (length st.new.links ≡ length st.new.tasks) }
+{
+    let mut frame = frame;
+    st.links.set_wait(t, awaited(frame.next));
+    take_prints(alloc, &mut st.prints, &mut frame)?;
+    let out = frame.out.copy(alloc)?;
+    let row = st.tasks.item_mut(t as usize);
+    row.frame = frame;
+    row.out = out;
+    Ok(())
+}

@@ -1,0 +1,127 @@
+//! The making of a task.
+ghost use Rattle.std.specs.Prelude.{◌≡◌, ◌+◌, ◌-◌, ◌^◌, ◌<◌, ◌++◌, ◌∷◌, [], length, Some, IfOk, OnOk, slice_set};
+ghost use Rattle.std.specs.Option.{ForSome};
+ghost use Rattle.wait_graph.specs.Link.{new_link};
+ghost use Rattle.twe_machine.specs.declared.state.TaskRow.{TaskRow};
+ghost use Rattle.twe_machine.specs.Moves.{MaySettle, having_made, making_frame, new_row, out_with, stopped};
+ghost use Rattle.twe_machine.specs.Rows.{IsRow, awaited};
+
+use crate::coming_home::come_home;
+use crate::new_task::{NewTask, new_row, parent_of};
+use crate::state::State;
+use crate::task_end::{fail, without_rest};
+use seg_exec::{Frame, Stop};
+use seg_journal::{End, FaultKind, Limits};
+use std::alloc::Global;
+use twe_io::{List, Memory, Place};
+
+/// How a task is asked for.
+#[derive(Clone, Copy)]
+pub(crate) struct Asking {
+    /// Whether it is spawned.
+    pub spawned: bool,
+    /// The future that is to stand for it.
+    pub future: u32,
+    /// The place of its name.
+    pub place: Place,
+}
+
+/// Lets a future stand for a task, where the frame has the future.
+fn set_future(futures: &mut List<Option<u32>>, future: u32, task: u32)
+    ensures { futures.new ≡ slice_set futures.old future (Some task) }
+{
+    let at = future as usize;
+    if at < futures.len() {
+        futures.set(at, Some(task));
+    }
+}
+
+/// Puts a spawned child after the other children.
+fn add_child(out: &mut List<u32>, child: u32, spawned: bool) -> Result<(), Memory>
+    ensures { OnOk result (out.new ≡ out_with spawned child out.old) }
+{
+    if spawned {
+        out.push(child)?;
+    }
+    Ok(())
+}
+
+/// Enters a task into the frame of its maker.
+fn note(frame: &mut Frame, child: u32, future: u32, spawned: bool) -> Result<(), Memory>
+    ensures { OnOk result (frame.new ≡ making_frame future spawned child frame.old) }
+{
+    set_future(&mut frame.futures, future, child);
+    add_child(&mut frame.out, child, spawned)
+}
+
+/// Adds a task after the others.
+fn add_task(
+    alloc: Global,
+    lim: Limits,
+    st: &mut State,
+    parent: Option<u32>,
+    task: NewTask,
+) -> Result<(), Memory>
+    requires linked { length st.old.links ≡ length st.old.tasks }
+    requires parent { ForSome parent (λ t. t < length st.old.tasks) }
+    requires room { length st.old.tasks < 2 ^ 32 - 1 }
+    ensures { OnOk result (st.new ≡ record st.old {
+      tasks = st.old.tasks ++ new_row lim (length st.old.tasks) parent task.frame task.args task.effects ∷ [];
+      links = st.old.links ++ new_link parent ∷ [];
+    }) }
+{
+    let number = st.links.add(parent)?;
+    st.tasks.push(new_row(alloc, lim, number, parent, task))
+}
+
+/// Makes a task for `t`, and answers its number: the future stands for it in the frame of `t`.
+fn make(
+    alloc: Global,
+    lim: Limits,
+    st: &mut State,
+    t: u32,
+    frame: Frame,
+    task: NewTask,
+    how: Asking,
+) -> Result<u32, Memory>
+    requires there { t < length st.old.tasks }
+    requires linked { length st.old.links ≡ length st.old.tasks }
+    requires above { ForSome (awaited frame.next) (λ on. (t < on) × (on < length st.old.tasks)) }
+    requires number { st.old.asked + 1 ≡ length st.old.tasks }
+    requires room { length st.old.tasks < 2 ^ 32 - 1 }
+    ensures state { OnOk result ((row : TaskRow) → IsRow st.old t row
+        → st.new ≡ having_made lim st.old t row frame how.future how.spawned task.frame task.args task.effects) }
+    ensures number { IfOk result (λ child. child ≡ st.old.asked + 1) }
+{
+    let mut frame = frame;
+    st.asked += 1;
+    let child = st.asked;
+    note(&mut frame, child, how.future, how.spawned)?;
+    come_home(alloc, st, t, frame)?;
+    add_task(alloc, lim, st, parent_of(t, how.spawned), task)?;
+    Ok(child)
+}
+
+/// Makes a task for `t`, which has stopped so to make it. Where its number is not below the limit, `t` ends with a fault
+/// instead.
+pub(crate) fn ask(
+    alloc: Global,
+    lim: Limits,
+    st: &mut State,
+    t: u32,
+    frame: Frame,
+    task: NewTask,
+    how: Asking,
+) -> Result<End, Memory>
+    requires { MaySettle lim st.old t frame.next }
+    ensures { IfOk result (λ end. (row : TaskRow) → IsRow st.old t row
+        → (st.new, end) ≡ stopped lim st.old t row frame (Stop.Make task.frame task.args task.effects how.spawned how.future how.place)) }
+{
+    if st.asked + 1 < lim.tasks {
+        let child = make(alloc, lim, st, t, frame, task, how)?;
+        return Ok(End::Made { child });
+    }
+    st.asked += 1;
+    let rest = without_rest(alloc, frame);
+    fail(alloc, st, t, rest, FaultKind::TaskLimit, how.place)
+}

@@ -1,0 +1,84 @@
+//! One segment of a task.
+ghost use Rattle.std.specs.Prelude.{◌≡◌, ◌<◌, length, IfOk, Some, slice_get, slice_set, option_copied};
+ghost use Rattle.twe_program.specs.Program.{cell_count};
+ghost use Rattle.twe_machine.specs.declared.state.TaskRow.{TaskRow};
+ghost use Rattle.twe_machine.specs.Moves.{awaited_value, ran, ready, value_of};
+ghost use Rattle.twe_machine.specs.Rows.{awaited};
+ghost use Rattle.twe_machine.specs.inner.Settling.{SettlesAfter, no_frame, without_frame};
+
+use crate::coming_home::awaited;
+use crate::settling::settle;
+use crate::state::{State, TaskRow};
+use seg_exec::{Frame, Next, run_segment_over_list};
+use seg_journal::{End, Limits};
+use std::alloc::Global;
+use std::mem;
+use twe_io::{Ints, List, Memory};
+use twe_program::Prog;
+
+/// Runs a task from where it stands, with the value that it has waited for, up to its next stop.
+pub(crate) fn run(
+    alloc: Global,
+    p: &Prog,
+    lim: Limits,
+    st: &mut State,
+    t: u32,
+) -> Result<End, Memory>
+    requires there { t < length st.old.tasks }
+    requires cells { length st.old.cells ≡ cell_count p.now }
+    requires settles { SettlesAfter p.now lim st.old t }
+    ensures { IfOk result (λ end. (st.new, end) ≡ ran p.now lim st.old t (slice_get st.old.tasks t)) }
+{
+    let mut frame = take_ready(alloc, &mut st.tasks, t);
+    let stop = run_segment_over_list(alloc, p, &mut frame, &mut st.cells)?;
+    settle(alloc, lim, st, t, frame, stop)
+}
+
+/// Takes the frame out of the row of a task, with the value that it has waited for.
+fn take_ready(alloc: Global, rows: &mut List<TaskRow>, t: u32) -> Frame
+    requires { t < length rows.old }
+    ensures frame { (row : TaskRow) → slice_get rows.old t ≡ Some row → result ≡ ready rows.old row.frame }
+    ensures rows { (row : TaskRow) → slice_get rows.old t ≡ Some row → rows.new ≡ slice_set rows.old t (without_frame row) }
+{
+    let mut frame = mem::replace(&mut rows.item_mut(t as usize).frame, no_frame(alloc));
+    let value = awaited_value(rows, awaited(frame.next));
+    frame.give(alloc, value);
+    frame
+}
+
+/// A frame of which nothing is left.
+fn no_frame(alloc: Global) -> Frame
+    ensures { result ≡ no_frame }
+{
+    Frame {
+        task: 0,
+        decl: 0,
+        calls: List::new(alloc),
+        fuel: 0,
+        futures: List::new(alloc),
+        out: List::new(alloc),
+        next: Next::Ended,
+        value: 0,
+        prints: Ints::new(alloc),
+    }
+}
+
+/// The value of the task that is waited for, and 0 where there is none.
+fn awaited_value(rows: &List<TaskRow>, on: Option<u32>) -> i32
+    ensures { result ≡ awaited_value rows.now on }
+{
+    match on {
+        None => 0,
+        Some(on) => value_of(rows.get(on as usize)),
+    }
+}
+
+/// The value of a task, and 0 where there is no such task.
+fn value_of(row: Option<&TaskRow>) -> i32
+    ensures { result ≡ value_of (option_copied row.entry) }
+{
+    match row {
+        None => 0,
+        Some(row) => row.value,
+    }
+}
