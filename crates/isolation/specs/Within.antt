@@ -1,0 +1,16 @@
+-- The effects of spawned tasks lie within those of the tasks that spawned them.
+use Rattle.std.specs.Prelude.{◌≡◌, ℕ, Any, Contains, Some}
+use Rattle.effect_sets.specs.declared.effects.Effect.{Effect}
+use Rattle.effect_sets.specs.Covers.{EffectWithin}
+use Rattle.twe_machine.specs.declared.state.State.{State}
+use Rattle.twe_machine.specs.declared.state.TaskRow.{TaskRow}
+use Rattle.twe_machine.specs.Rows.{IsRow}
+
+-- each effect of the first task lies within one of the second, which writes if it writes
+abbrev pub EffectsWithin : TaskRow → TaskRow → Type 0
+EffectsWithin inner outer = (e : Effect) → Contains inner.effects.effects e → Any (λ d. EffectWithin d e) outer.effects.effects
+
+-- the effects of each spawned task lie within those of its parent
+abbrev pub SpawnedWithin : State → Type 0
+SpawnedWithin st =
+    (t q : ℕ) (child parent : TaskRow) → IsRow st t child → IsRow st q parent → child.parent ≡ Some q → EffectsWithin child parent
