@@ -1,0 +1,81 @@
+-- A run that goes on by a legal move keeps its counts.
+use Rattle.std.proofs.Common.{◌≡◌, ◌+◌, ◌<◌, ◌==◌, ◌&&◌, ℕ, List, [], ◌∷◌, ◌++◌, length, Option, Some, None, cond, sym, ap, ◌∙◌, subst, arith, length-set}
+use Rattle.std.specs.Prelude.{slice_get}
+use Rattle.seg_journal.specs.declared.journal.Entry.{Entry}
+use Rattle.seg_journal.specs.declared.journal.End.{End}
+use Rattle.seg_journal.specs.declared.journal.End.TheVariants as ends
+use Rattle.seg_journal.specs.declared.moves.Kind.{Kind}
+use Rattle.seg_journal.specs.declared.moves.Kind.TheVariants.{Admit, Run}
+use Rattle.seg_journal.specs.Limits.{Bounds}
+use Rattle.twe_program.specs.Program.{Program}
+use Rattle.wait_graph.specs.Link.{link_of}
+use Rattle.seg_exec.specs.Segment.{segment}
+use Rattle.twe_machine.specs.declared.state.State.{State}
+use Rattle.twe_machine.specs.declared.state.TaskRow.{TaskRow}
+use Rattle.twe_machine.specs.declared.state.TaskStatus.TheVariants.{Made, Enabled}
+use Rattle.twe_machine.specs.Legal.{MayTake}
+use Rattle.twe_machine.specs.Moves.{admitted, admitted_row, joined_child, ran, taken, ready}
+use Rattle.twe_machine.specs.Runs.{makes, admits, finishes, makes_task, is_admission, is_done}
+use Rattle.flat_sched.proofs.Counts.{Counts, count_more, times_made, times_admitted, times_admitted_at, times_finished, times_finished_at}
+use Rattle.flat_sched.proofs.Counting.{CountsOn, stopped_counts, stopped_admitted}
+use Rattle.flat_sched.proofs.Falls.{CountsMade}
+use Rattle.flat_sched.proofs.Places.{told, hits_is, hits_none, told_set}
+
+-- what a move of t does to the three numbers of task u
+pub record Adds (u : ℕ) (kind : Kind) (t : ℕ) (before : State) (after : State × End) : Type 0 where
+  pub on : CountsOn u t before after
+  pub admitted : told times_admitted (slice_get after.0.tasks u) ≡ told times_admitted (slice_get before.tasks u) + cond (is_admission kind && (t == u)) 1 0
+
+-- an admission
+admission_adds : (st : State) (u t : ℕ) (row : TaskRow) → slice_get st.tasks t ≡ Some row → row.status ≡ Made → row.parent ≡ None
+    → Adds u Admit t st (admitted st t (Some row), ends.Admitted)
+admission_adds st u t row found made alone =
+    let once : times_admitted (admitted_row row) ≡ times_admitted row + 1 =
+    ap (λ (q : Option ℕ). times_admitted_at q Enabled) alone
+    ∙ ap (λ (n : ℕ). n + 1) (sym (ap (λ (q : Option ℕ). times_admitted_at q row.status) alone ∙ ap (times_admitted_at None) made)) in
+    let never : times_finished (admitted_row row) ≡ times_finished row + 0 = ap (λ (n : ℕ). n + 0) (sym (ap times_finished_at made)) in
+    record {
+      on = record {
+        made = ap (times_made u) (length-set st.tasks t (admitted_row row)) ∙ omega arith;
+        finished = told_set times_finished st.tasks t u 0 row (admitted_row row) found never ∙ omega (arith, hits_none t u);
+      };
+      admitted = told_set times_admitted st.tasks t u 1 row (admitted_row row) found once
+          ∙ ap (λ (n : ℕ). told times_admitted (slice_get st.tasks u) + n) (hits_is t u 1);
+    }
+
+-- a segment
+segment_adds : (p : Program) (lim : Bounds) (st : State) (u t : ℕ) (row : TaskRow) → slice_get st.tasks t ≡ Some row → row.status ≡ Enabled
+    → 0 < length st.tasks → CountsMade lim st → Adds u Run t st (ran p lim st t (Some row))
+segment_adds p lim st u t row found enabled some counts =
+    let after = segment p (ready st.tasks row.frame) st.cells in
+    let later : State = record st { cells = after.cells } in
+    let child = joined_child row.out (link_of st.links t).waits in
+    let on = stopped_counts lim later t row found enabled child after.frame after.stop u some counts in
+    record {
+      on = record { made = on.made; finished = on.finished };
+      admitted = stopped_admitted lim later t row found enabled child after.frame after.stop u ∙ omega arith;
+    }
+
+-- any legal move, where a task that is to be admitted has no parent
+pub adds : (p : Program) (lim : Bounds) (st : State) (kind : Kind) (u t : ℕ) → MayTake st kind t
+    → ((row : TaskRow) → slice_get st.tasks t ≡ Some row → row.status ≡ Made → row.parent ≡ None)
+    → 0 < length st.tasks → CountsMade lim st → Adds u kind t st (taken p lim st kind t)
+adds p lim st Admit u t may alone some counts =
+    let row = may.0 in
+    subst (λ (found : Option TaskRow). Adds u Admit t st (admitted st t found, ends.Admitted)) (sym row.1) (admission_adds st u t row.0 row.1 row.2 (alone row.0 row.1 row.2))
+adds p lim st Run u t may alone some counts =
+    let row = may.0 in
+    subst (λ (found : Option TaskRow). Adds u Run t st (ran p lim st t found)) (sym row.1) (segment_adds p lim st u t row.0 row.1 row.2 some counts)
+
+-- the journal with the entry of that move
+pub counts_more : (p : Program) (lim : Bounds) (st : State) (kind : Kind) (t : ℕ) (journal : List Entry) → Counts journal st
+    → ((u : ℕ) → Adds u kind t st (taken p lim st kind t))
+    → Counts (journal ++ record { mv = record { kind = kind; task = t }; end = (taken p lim st kind t).1 } ∷ []) (taken p lim st kind t).0
+counts_more p lim st kind t journal counts more =
+    let after = taken p lim st kind t in
+    let last : Entry = record { mv = record { kind = kind; task = t }; end = after.1 } in
+    record {
+      made = λ u. count_more (makes u) journal last ∙ (ap (λ (n : ℕ). n + cond (makes_task u after.1) 1 0) (counts.made u) ∙ sym (more u).on.made);
+      admitted = λ u. count_more (admits u) journal last ∙ (ap (λ (n : ℕ). n + cond (is_admission kind && (t == u)) 1 0) (counts.admitted u) ∙ sym (more u).admitted);
+      finished = λ u. count_more (finishes u) journal last ∙ (ap (λ (n : ℕ). n + cond (is_done after.1 && (t == u)) 1 0) (counts.finished u) ∙ sym (more u).on.finished);
+    }

@@ -1,0 +1,17 @@
+pub mod Weight
+pub mod Joining
+pub mod Giving
+pub mod Spending
+pub mod Falls
+pub mod Places
+pub mod Ends
+pub mod Counts
+pub mod Counting
+pub mod KeptCounts
+pub mod Once
+pub mod SoFar
+pub mod Faults
+pub mod Going
+pub mod Sound
+pub mod Holders
+pub mod HeldUp

@@ -1,0 +1,35 @@
+-- The tasks that keep one another from going on where a run is stuck.
+use Rattle.std.specs.Prelude.{◌≡◌, ◌<◌, ℕ, MatchBool, List, length, Option, None, Some}
+use Rattle.wait_graph.specs.declared.stuck.Edge.{Edge}
+use Rattle.wait_graph.specs.StuckCycle.{holder_of, stuck_cycle}
+use Rattle.wait_graph.specs.Waiting.{WaitsFor}
+use Rattle.twe_machine.specs.declared.state.State.{State}
+use Rattle.twe_machine.specs.declared.state.TaskStatus.TheVariants.{Made}
+use Rattle.twe_machine.specs.Legal.{IsBar}
+use Rattle.twe_machine.specs.Rows.{HasStatus}
+
+-- s is the lowest of the bars to t
+pub record IsLowestBar (st : State) (s t : ℕ) : Type 0 where
+  pub bar : IsBar st s t
+  pub lowest : (r : ℕ) → r < s → ¬ IsBar st r t
+
+-- this is the holder of t: the lowest bar to it, where it was made and not admitted and has a bar
+abbrev pub IsHolder : State → ℕ → Option ℕ → Type 0
+IsHolder st t (Some s) = HasStatus st t Made × IsLowestBar st s t
+IsHolder st t None = HasStatus st t Made → (s : ℕ) → ¬ IsBar st s t
+
+-- these are the holders of the tasks, in the order of their numbers
+pub record AreHolders (st : State) (held : List (Option ℕ)) : Type 0 where
+  pub count : length held ≡ length st.tasks
+  pub each : (t : ℕ) → t < length st.tasks → IsHolder st t (holder_of held t)
+
+-- This is the cycle in which the tasks are stuck: the walk from the lowest task that isn't done goes from a task that
+-- waits to the one that it waits for, and from one that is held to its holder, until it comes to some task again.
+pub record IsStuckCycle (st : State) (cycle : List Edge) : Type 0 where
+  pub held : List (Option ℕ)
+  pub holders : AreHolders st held
+  pub same : cycle ≡ stuck_cycle st.links held
+
+-- the edge is a wait in this state, or leads from a task that was made and not admitted to the lowest bar to it
+abbrev pub IsReason : State → Edge → Type 0
+IsReason st e = MatchBool e.held (HasStatus st e.from Made × IsLowestBar st e.to e.from) (WaitsFor st.links e.from e.to)

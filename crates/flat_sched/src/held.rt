@@ -1,0 +1,24 @@
+//! Which task holds another back from its admission.
+ghost use Rattle.std.specs.Prelude.{ℕ, IfSome, IfNone};
+ghost use Rattle.twe_program.specs.Program.{Program};
+ghost use Rattle.twe_program.specs.WellFormed.{IsWellFormed};
+ghost use Rattle.twe_machine.specs.declared.state.TaskStatus.TheVariants.{Made};
+ghost use Rattle.twe_machine.specs.Legal.{IsBar};
+ghost use Rattle.twe_machine.specs.Rows.{HasStatus};
+ghost use Rattle.twe_machine.specs.Runs.{IsReachable};
+ghost use Rattle.flat_sched.specs.Stuck.{IsLowestBar};
+
+use twe_machine::{State, bar, effects_are_filled, links_agree};
+
+/// The lowest bar to a task that was made and not admitted, if it has a bar, in a state that a run of some
+/// well-formed program has come to. It takes no memory.
+pub fn held_by(st: &State, t: u32) -> Option<u32>
+    requires reachable { (p : Program) × IsWellFormed p × IsReachable p st.now }
+    requires made { HasStatus st.now t Made }
+    ensures some { IfSome result (λ s. IsLowestBar st.now s t) }
+    ensures none { IfNone result ((s : ℕ) → ¬ IsBar st.now s t) }
+{
+    links_agree();
+    effects_are_filled();
+    bar(st, t)
+}
