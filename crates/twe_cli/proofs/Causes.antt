@@ -1,6 +1,5 @@
 -- From what the parts of a call say to the causes of its answer.
-use Rattle.std.proofs.Common.{◌≡◌, ◌↔◌, ◌+◌, ◌≤◌, ℕ, List, [], length, Option, None, Some, Result, Ok, Err, IfOk, OnOk, IfSome, IsErrOf, refl, sym, ap, subst, inl, inr}
-use Rattle.std.specs.Io.KnownBytes.{IsAtEnd}
+use Rattle.std.proofs.Common.{◌≡◌, ◌↔◌, ◌+◌, ℕ, Bool, List, [], None, Some, Result, Ok, Err, IfOk, OnOk, IfSome, IsErrOf, refl, sym, subst, inl, inr}
 use Rattle.twe_io.specs.Faults.{Rose}
 use Rattle.twe_io.specs.Told.{Gives}
 use Rattle.twe_io.specs.Runs.{ReadsWhole}
@@ -10,41 +9,41 @@ use Rattle.twe_io.specs.declared.whole.ReadFail.TheVariants as reads
 use Rattle.seg_journal.specs.declared.journal.Entry.{Entry}
 use Rattle.seg_journal.specs.Limits.{Bounds}
 use Rattle.twe_program.specs.Program.{Program}
-use Rattle.twe_front.specs.Accepted.{Accepted}
 use Rattle.twe_machine.specs.declared.ending.Outcome.{Outcome}
-use Rattle.twe_machine.specs.declared.ending.Outcome.TheVariants.{AllDone, Stuck, Unfinished}
+use Rattle.twe_machine.specs.declared.ending.Outcome.TheVariants.{AllDone, Unfinished}
 use Rattle.twe_machine.specs.declared.ending.Outcome.TheVariants as outcomes
 use Rattle.twe_machine.specs.Runs.{state_after, counted}
-use Rattle.twe_machine.specs.Sequential.{IsSequential}
-use Rattle.twe_report.specs.Texts.{prints_text, fault_text, accepted_text, refusal_text, usage_text, read_fault_text, too_long_text}
+use Rattle.twe_report.specs.Texts.{prints_text, fault_text, accepted_text, read_fault_text, too_long_text}
 use Rattle.twe_cli.specs.declared.answer.Answer.{Answer}
 use Rattle.twe_cli.specs.declared.book.Book.{Book}
 use Rattle.twe_cli.specs.declared.status.Status.{Status}
-use Rattle.twe_cli.specs.declared.status.Status.TheVariants.{Done, Refused, Usage, Fault, ReadFault, TooLong, Memory}
+use Rattle.twe_cli.specs.declared.status.Status.TheVariants.{Done, Fault, ReadFault, TooLong}
 use Rattle.twe_words.specs.declared.command.Command.{Command}
 use Rattle.twe_words.specs.declared.command.Command.TheVariants.{Check, Run}
-use Rattle.twe_cli.specs.Answers.{Due, Cause, Tells, Answers, not_of_the_form}
+use Rattle.twe_cli.specs.Answers.{Due, Cause, Answers, with_journal}
 use Rattle.twe_cli.specs.Ends.{SourceTells, SinkTells, WasRead, most_bytes}
-use Rattle.twe_cli.specs.Theorem.{HasProgram, HasRefusal, HasRun, IsNew}
-use Rattle.twe_cli.specs.inner.Given.{IsDueFor, IsAnswerOfRun, IsFinal, answer_of}
+use Rattle.twe_cli.specs.Theorem.{HasProgram, HasRun, IsNew}
+use Rattle.twe_cli.specs.inner.Given.{IsDueFor, IsAnswerOf, IsAnswerOfRun, IsFinal}
 use Rattle.twe_cli.specs.inner.Usage.{TellsUsage}
 use Rattle.twe_cli.proofs.Read.{was_read}
 
 -- what is due where a program was run
-due_as : (cmd : Command) (lim : Bounds) (p : Program) (book : Book) (outcome : Outcome) → cmd ≡ Run lim → IsSequential p → IsFinal outcome → HasRun p lim outcome book
-    → counted book.journal ≡ book.journal → IsDueFor cmd p book (answer_of p (state_after p lim book.journal) outcome)
-due_as cmd lim p book AllDone command sequential final run counts = λ text accepted. Due.ran lim p command accepted sequential run
-due_as cmd lim p book (outcomes.Fault task kind place) command sequential final run counts = λ text accepted.
-    subst (λ (journal : List Entry). Due cmd text book Fault (prints_text (state_after p lim journal).prints) (fault_text task kind place)) counts
-    (Due.faulted lim p task kind place command accepted sequential run)
-due_as cmd lim p book Stuck command sequential final run counts = absurd final
-due_as cmd lim p book Unfinished command sequential final run counts = absurd final
+module _ (cmd : Command) (lim : Bounds) (asked : Bool) (p : Program) (book : Book) (command : cmd ≡ Run lim asked) where
+  due_as : (outcome : Outcome) (plain : Answer) → IsFinal outcome → HasRun p lim outcome book → counted book.journal ≡ book.journal
+      → IsAnswerOf p (state_after p lim book.journal) outcome plain → IsDueFor cmd p book (record plain { out = with_journal asked lim book.journal plain.out })
+  due_as AllDone plain final run counts said = λ text accepted.
+      subst (λ (a : Answer). Due cmd text book a.status (with_journal asked lim book.journal a.out) a.err) (sym said) (Due.ran lim asked p command accepted run)
+  due_as (outcomes.Fault task kind place) plain final run counts said = λ text accepted.
+      subst (λ (a : Answer). Due cmd text book a.status (with_journal asked lim book.journal a.out) a.err) (sym said)
+      (subst (λ (journal : List Entry). Due cmd text book Fault (with_journal asked lim book.journal (prints_text (state_after p lim journal).prints)) (fault_text task kind place)) counts
+      (Due.faulted lim asked p task kind place command accepted run))
+  due_as outcomes.Stuck plain final run counts (cycle, is, said) = λ text accepted.
+      subst (λ (a : Answer). Due cmd text book a.status (with_journal asked lim book.journal a.out) a.err) (sym said) (Due.stuck lim asked p cycle command accepted run is)
+  due_as Unfinished plain final run counts said = absurd final
 
-pub due_ran : (cmd : Command) (lim : Bounds) (p : Program) (book : Book) (result : Result Answer out_of.Memory) → cmd ≡ Run lim → IsSequential p
-    → IfOk result (IsAnswerOfRun p lim book) → IfOk result (λ a. IsDueFor cmd p book a)
-due_ran cmd lim p book (Ok a) command sequential ran =
-    subst (IsDueFor cmd p book) (sym ran.same) (due_as cmd lim p book ran.outcome command sequential ran.final ran.run ran.counts)
-due_ran cmd lim p book (Err e) command sequential ran = tt
+  pub due_ran : (result : Result Answer out_of.Memory) → IfOk result (IsAnswerOfRun p lim asked book) → IfOk result (λ a. IsDueFor cmd p book a)
+  due_ran (Ok a) ran = subst (IsDueFor cmd p book) (sym ran.same) (due_as ran.outcome ran.plain ran.final ran.run ran.counts ran.said)
+  due_ran (Err e) ran = tt
 
 -- what is due where a program was accepted
 pub due_accepted : (cmd : Command) (p : Program) (book : Book) (result : Result Answer out_of.Memory) → cmd ≡ Check
@@ -52,13 +51,6 @@ pub due_accepted : (cmd : Command) (p : Program) (book : Book) (result : Result 
 due_accepted cmd p book (Ok a) command has same = λ text accepted.
     subst (λ (x : Answer). Due cmd text book x.status x.out x.err) (sym same) (Due.accepted p command accepted has)
 due_accepted cmd p book (Err e) command has same = tt
-
--- what is due where a program can't be run
-pub due_not_run : (cmd : Command) (lim : Bounds) (p : Program) (book : Book) (result : Result Answer out_of.Memory) → cmd ≡ Run lim → ¬ IsSequential p
-    → OnOk result (HasRefusal not_of_the_form book) → IfOk result (λ a. a ≡ record { status = Refused; out = []; err = refusal_text not_of_the_form }) → IfOk result (λ a. IsDueFor cmd p book a)
-due_not_run cmd lim p book (Ok a) command other has same = λ text accepted.
-    subst (λ (x : Answer). Due cmd text book x.status x.out x.err) (sym same) (Due.not_run lim p command accepted other has)
-due_not_run cmd lim p book (Err e) command other has same = tt
 
 -- the same of a read that gave no text, where its failure is known
 pub was_not_read : {S : Type 0} (tells : SourceTells S) (before after : S) (fail known : ReadFail) → fail ≡ known

@@ -6,7 +6,7 @@ use Rattle.twe_io.specs.Told.{Gives}
 use Rattle.twe_io.specs.Runs.{ReadsWhole}
 use Rattle.twe_io.specs.declared.whole.ReadFail.{ReadFail}
 use Rattle.twe_io.specs.declared.whole.ReadFail.TheVariants.{ReadFault, TooLong, OutOfMemory}
-use Rattle.twe_cli.specs.Ends.{SourceTells, WasRead, Told, most_bytes}
+use Rattle.twe_cli.specs.Ends.{SourceTells, WasRead, most_bytes}
 
 some_weaker : {A : Type 0} (P Q : Type 0) (o : Option A) → (P → Q) → IfSome o (λ _. P) → IfSome o (λ _. Q)
 some_weaker P Q None f h = tt

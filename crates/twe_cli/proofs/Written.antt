@@ -1,10 +1,10 @@
 -- From what a call of `write_whole` says to what is said of a sink.
-use Rattle.std.proofs.Common.{◌≡◌, ℕ, List, Result, Ok, Err, OnOk, OnErr, inl, inr}
+use Rattle.std.proofs.Common.{ℕ, List, Result, Ok, Err, OnOk, OnErr, inr}
 use Rattle.std.specs.Io.KnownBytes.{Appends}
 use Rattle.twe_io.specs.Faults.{Rose}
 use Rattle.twe_io.specs.Told.{TakesPart}
 use Rattle.twe_io.specs.Runs.{WritesWhole}
-use Rattle.twe_cli.specs.Ends.{SinkTells, Took, BrokeOff}
+use Rattle.twe_cli.specs.Ends.{SinkTells, Took}
 use Rattle.twe_cli.specs.inner.Writing.{Wrote, WroteBoth}
 
 pub wrote : {K E : Type 0} (tells : SinkTells K) (text : List ℕ) (before after : K) (result : Result Unit E)

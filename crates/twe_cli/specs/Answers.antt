@@ -1,29 +1,30 @@
 -- What the program answers, and why.
-use Rattle.std.specs.Prelude.{◌≡◌, ℕ, List, [], Option, None, Some, IsSome, Result, Ok, Err}
+use Rattle.std.specs.Prelude.{◌≡◌, ℕ, Bool, List, [], ◌++◌, Option, None, Some, IsSome, Ok, Err, if◌then◌else◌}
 use Rattle.twe_io.specs.declared.whole.ReadFail.TheVariants as reads
 use Rattle.twe_io.specs.declared.place.Place.{Place}
+use Rattle.wait_graph.specs.declared.stuck.Edge.{Edge}
+use Rattle.seg_journal.specs.declared.journal.Entry.{Entry}
 use Rattle.seg_journal.specs.declared.journal.FaultKind.{FaultKind}
 use Rattle.seg_journal.specs.Limits.{Bounds}
 use Rattle.twe_program.specs.Program.{Program}
 use Rattle.twe_front.specs.declared.refusal.Refusal.{Refusal}
-use Rattle.twe_front.specs.declared.refusal.RuleName.TheVariants.{Form}
 use Rattle.twe_front.specs.Accepted.{Accepted, IsRefusal}
 use Rattle.twe_machine.specs.declared.ending.Outcome.TheVariants.{AllDone}
 use Rattle.twe_machine.specs.declared.ending.Outcome.TheVariants as outcomes
 use Rattle.twe_machine.specs.Runs.{state_after, counted}
-use Rattle.twe_machine.specs.Sequential.{IsSequential}
-use Rattle.twe_report.specs.Texts.{result_text, prints_text, fault_text, accepted_text, refusal_text, usage_text, read_fault_text, too_long_text}
+use Rattle.flat_sched.specs.Stuck.{IsStuckCycle}
+use Rattle.twe_report.specs.Texts.{result_text, prints_text, fault_text, stuck_text, journal_part, accepted_text, refusal_text, usage_text, read_fault_text, too_long_text}
 use Rattle.twe_cli.specs.declared.book.Book.{Book}
 use Rattle.twe_cli.specs.declared.status.Status.{Status}
-use Rattle.twe_cli.specs.declared.status.Status.TheVariants.{Done, Refused, Usage, Fault, ReadFault, WriteFault, Memory, TooLong}
+use Rattle.twe_cli.specs.declared.status.Status.TheVariants.{Done, Refused, Usage, Fault, Stuck, ReadFault, WriteFault, Memory, TooLong}
 use Rattle.twe_words.specs.declared.command.Command.{Command}
 use Rattle.twe_words.specs.declared.command.Command.TheVariants.{Check, Run}
 use Rattle.twe_cli.specs.Ends.{SourceTells, SinkTells, WasRead, Took, BrokeOff}
 use Rattle.twe_cli.specs.Theorem.{HasProgram, HasRun, IsNew, HasRefusal}
 
--- what is said of a program that can't be run today
-abbrev pub not_of_the_form : Refusal
-not_of_the_form = record { rule = Form; place = record { line = 1; col = 1 } }
+-- the lines of a run, with the part for the journal after them where it is asked for
+abbrev pub with_journal : Bool → Bounds → List Entry → List ℕ → List ℕ
+with_journal asked lim journal lines = if asked then lines ++ journal_part lim journal else lines
 
 -- What is due for a text that was read: the status, and the bytes for out and err.
 pub data Due (command : Command) (text : List ℕ) (book : Book) : Status → List ℕ → List ℕ → Type 0 where
@@ -32,15 +33,16 @@ pub data Due (command : Command) (text : List ℕ) (book : Book) : Status → Li
   -- the text is accepted, and the book has its program
   accepted : (p : Program) → command ≡ Check → Accepted text p → HasProgram p book → Due command text book Done accepted_text []
   -- the run theorem: the text is accepted, and the book has a run of its program in which all was done
-  ran : (lim : Bounds) (p : Program) → command ≡ Run lim → Accepted text p → IsSequential p → HasRun p lim AllDone book
-      → Due command text book Done (result_text p (state_after p lim book.journal)) []
+  ran : (lim : Bounds) (asked : Bool) (p : Program) → command ≡ Run lim asked → Accepted text p → HasRun p lim AllDone book
+      → Due command text book Done (with_journal asked lim book.journal (result_text p (state_after p lim book.journal))) []
   -- or a run that ended in a fault: what was printed up to it stands
-  faulted : (lim : Bounds) (p : Program) (task : ℕ) (kind : FaultKind) (place : Place) → command ≡ Run lim → Accepted text p → IsSequential p
+  faulted : (lim : Bounds) (asked : Bool) (p : Program) (task : ℕ) (kind : FaultKind) (place : Place) → command ≡ Run lim asked → Accepted text p
       → HasRun p lim (outcomes.Fault task kind place) book
-      → Due command text book Fault (prints_text (state_after p lim (counted book.journal)).prints) (fault_text task kind place)
-  -- the text is accepted, and its program can't be run today
-  not_run : (lim : Bounds) (p : Program) → command ≡ Run lim → Accepted text p → ¬ IsSequential p → HasRefusal not_of_the_form book
-      → Due command text book Refused [] (refusal_text not_of_the_form)
+      → Due command text book Fault (with_journal asked lim book.journal (prints_text (state_after p lim (counted book.journal)).prints)) (fault_text task kind place)
+  -- or a run that can't go on: what was printed stands, and this is the cycle of tasks that hold one another up
+  stuck : (lim : Bounds) (asked : Bool) (p : Program) (cycle : List Edge) → command ≡ Run lim asked → Accepted text p
+      → HasRun p lim outcomes.Stuck book → IsStuckCycle (state_after p lim book.journal) cycle
+      → Due command text book Stuck (with_journal asked lim book.journal (prints_text (state_after p lim book.journal).prints)) (stuck_text cycle)
 
 -- Why the program answers with a status, before it writes anything, and which bytes it has for the two sinks.
 pub data Cause {S : Type 0} (tells : SourceTells S) (command : Option Command) (before after : S) (book : Book) : Status → List ℕ → List ℕ → Type 0 where

@@ -1,13 +1,14 @@
 -- The numbers of the statuses.
 use Rattle.std.specs.Prelude.{ℕ}
 use Rattle.twe_cli.specs.declared.status.Status.{Status}
-use Rattle.twe_cli.specs.declared.status.Status.TheVariants.{Done, Refused, Usage, Fault, ReadFault, WriteFault, Memory, TooLong}
+use Rattle.twe_cli.specs.declared.status.Status.TheVariants.{Done, Refused, Usage, Fault, Stuck, ReadFault, WriteFault, Memory, TooLong}
 
 abbrev pub code_of : Status → ℕ
 code_of Done = 0
 code_of Refused = 1
 code_of Usage = 2
 code_of Fault = 3
+code_of Stuck = 4
 code_of ReadFault = 5
 code_of WriteFault = 6
 code_of Memory = 7

@@ -1,5 +1,5 @@
 -- What the ends of a call tell: the source of its text, and the two sinks that it writes to.
-use Rattle.std.specs.Prelude.{◌≡◌, ◌+◌, ◌≤◌, ◌<◌, ℕ, List, length, drop, Option, None, Some, IfSome, Result, Ok, Err}
+use Rattle.std.specs.Prelude.{◌≡◌, ◌+◌, ◌≤◌, ◌<◌, ℕ, List, length, drop, Option, None, IfSome, Result, Ok, Err}
 use Rattle.std.specs.Io.KnownBytes.{Appends, IsAtEnd}
 use Rattle.twe_io.specs.Faults.{Rose}
 use Rattle.twe_io.specs.Told.{Gives, TakesPart}

@@ -1,5 +1,5 @@
 -- The run theorem: what a run of a program is.
-use Rattle.std.specs.Prelude.{◌≡◌, List, [], Option, None, Some}
+use Rattle.std.specs.Prelude.{◌≡◌, List, [], None, Some}
 use Rattle.seg_journal.specs.declared.journal.Entry.{Entry}
 use Rattle.seg_journal.specs.Limits.{Bounds}
 use Rattle.twe_front.specs.declared.refusal.Refusal.{Refusal}

@@ -4,6 +4,7 @@
 
 mod answer;
 mod book;
+mod running;
 mod single;
 mod status;
 #[cfg(test)]

@@ -2,25 +2,21 @@
 ghost use Rattle.std.specs.Prelude.{◌≡◌, ◌≤◌, [], length, Some, IfOk, OnOk};
 ghost use Rattle.twe_cli.specs.Answers.{Due, Cause, Answers};
 ghost use Rattle.twe_cli.specs.Ends.{most_bytes, source, sink};
-ghost use Rattle.twe_cli.specs.inner.Given.{IsDueFor, IsAnswerOfRun, answer_of};
+ghost use Rattle.twe_cli.specs.inner.Given.{IsDueFor};
 ghost use Rattle.twe_report.specs.Texts as texts;
 ghost use Rattle.twe_cli.specs.Theorem.{HasProgram, HasRefusal, IsNew};
 ghost use Rattle.twe_cli.specs.declared.status.Status.TheVariants.{Done, Refused};
-ghost use Rattle.twe_machine.specs.Sequential.{IsSequential};
+ghost use Rattle.effect_sound.specs.KeepsEffects.{KeepsEffects};
 
 use crate::answer::{Answer, tell};
 use crate::book::Book;
+use crate::running::run_program;
 use crate::status::Status;
-use seg_journal::Limits;
 use std::alloc::Global;
-use twe_front::{FrontFail, Refusal, RuleName, read_program};
-use twe_io::{Bytes, Memory, Place, ReadFail, Sink, Source, read_all};
-use twe_machine::{Outcome, State, is_sequential, outcome, run_main};
+use twe_front::{FrontFail, Refusal, read_program};
+use twe_io::{Bytes, Memory, ReadFail, Sink, Source, read_all};
 use twe_program::Prog;
-use twe_report::{
-    accepted_text, fault_text, prints_text, read_fault_text, refusal_text, result_text,
-    too_long_text,
-};
+use twe_report::{accepted_text, read_fault_text, refusal_text, too_long_text};
 use twe_words::Command;
 
 /// How many bytes a text may have.
@@ -95,13 +91,13 @@ fn answer_text(alloc: Global, cmd: &Command, text: &[u8], book: &mut Book) -> Re
 
 /// What the program has to say to a text that is accepted and has this program.
 fn answer_program(alloc: Global, cmd: &Command, p: Prog, book: &mut Book) -> Result<Answer, Memory>
-    requires { IsNew book.old }
+    requires new { IsNew book.old }
+    requires keeps { KeepsEffects p }
     ensures { IfOk result (λ answer. IsDueFor cmd.now p book.new answer) }
 {
     match *cmd {
         Command::Check => accept(alloc, p, book),
-        Command::Run { lim } if is_sequential(&p) => run_program(alloc, lim, p, book),
-        Command::Run { .. } => refuse(alloc, NOT_OF_THE_FORM, book),
+        Command::Run { lim, journal } => run_program(alloc, lim, journal, p, book),
     }
 }
 
@@ -120,40 +116,6 @@ fn accept(alloc: Global, p: Prog, book: &mut Book) -> Result<Answer, Memory>
     })
 }
 
-/// Runs a program, and says how the run ended.
-fn run_program(alloc: Global, lim: Limits, p: Prog, book: &mut Book) -> Result<Answer, Memory>
-    requires new { IsNew book.old }
-    requires sequential { IsSequential p }
-    ensures { IfOk result (IsAnswerOfRun p lim book.new) }
-{
-    let (journal, st) = run_main(alloc, &p, lim)?;
-    let ended = outcome(&p, &st);
-    let answer = answer_of(alloc, &p, &st, ended)?;
-    book.outcome = Some(ended);
-    book.journal = journal;
-    book.prog = Some(p);
-    Ok(answer)
-}
-
-/// What the program has to say to a run that ended so in this state: its result, or after a fault the numbers that were
-/// printed and the fault.
-fn answer_of(alloc: Global, p: &Prog, st: &State, ended: Outcome) -> Result<Answer, Memory>
-    ensures { IfOk result (λ answer. answer ≡ answer_of p.now st.now ended) }
-{
-    match ended {
-        Outcome::Fault { task, kind, place } => Ok(Answer {
-            status: Status::Fault,
-            out: prints_text(alloc, st.prints.as_slice())?,
-            err: fault_text(alloc, task, kind, place)?,
-        }),
-        _ => Ok(Answer {
-            status: Status::Done,
-            out: result_text(alloc, p, st)?,
-            err: Bytes::new(alloc),
-        }),
-    }
-}
-
 /// Refuses a text.
 fn refuse(alloc: Global, refusal: Refusal, book: &mut Book) -> Result<Answer, Memory>
     requires { IsNew book.old }
@@ -164,9 +126,3 @@ fn refuse(alloc: Global, refusal: Refusal, book: &mut Book) -> Result<Answer, Me
     book.refusal = Some(refusal);
     complaint(alloc, Status::Refused, err)
 }
-
-/// What is said of a program that can't be run today.
-const NOT_OF_THE_FORM: Refusal = Refusal {
-    rule: RuleName::Form,
-    place: Place { line: 1, col: 1 },
-};

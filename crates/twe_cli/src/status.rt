@@ -13,6 +13,8 @@ pub enum Status {
     Usage,
     /// The program has run, and met a fault.
     Fault,
+    /// The program has run, and its tasks hold one another up.
+    Stuck,
     /// A read of the source failed.
     ReadFault,
     /// A write to a sink failed.
@@ -33,6 +35,7 @@ impl Status {
             Status::Refused => 1,
             Status::Usage => 2,
             Status::Fault => 3,
+            Status::Stuck => 4,
             Status::ReadFault => 5,
             Status::WriteFault => 6,
             Status::Memory => 7,

@@ -1,11 +1,12 @@
 //! The top call.
-ghost use Rattle.std.specs.Prelude.{◌≡◌, [], IfOk};
+ghost use Rattle.std.specs.Prelude.{◌≡◌, [], Option, IfOk};
 ghost use Rattle.twe_cli.specs.Answers.{Answers};
 ghost use Rattle.twe_cli.specs.Ends.{source, sink};
 ghost use Rattle.twe_cli.specs.inner.Usage.{TellsUsage};
 ghost use Rattle.twe_report.specs.Texts as texts;
 ghost use Rattle.twe_cli.specs.Theorem.{IsNew};
-ghost use Rattle.twe_words.specs.Words.{command_of};
+ghost use Rattle.twe_words.specs.Words.{IsMeaning};
+ghost use Rattle.twe_words.specs.declared.command.Command.{Command};
 ghost use Rattle.twe_cli.specs.declared.status.Status.TheVariants.{Usage};
 
 use crate::answer::{Answer, tell};
@@ -30,8 +31,9 @@ pub fn twe<S: Source, O: Sink, E: Sink>(
     book: &mut Book,
 ) -> Status
     requires { IsNew book.old }
-    ensures { Answers (source S.left S.faults S.read_gives) (sink O.written O.faults O.write_gives) (sink E.written E.faults E.write_gives)
-        (command_of words.now) src.old src.new out.old out.new err.old err.new book.new result }
+    ensures { (command : Option Command) × IsMeaning words.now command
+        × Answers (source S.left S.faults S.read_gives) (sink O.written O.faults O.write_gives) (sink E.written E.faults E.write_gives)
+        command src.old src.new out.old out.new err.old err.new book.new result }
 {
     match read_words(words) {
         Some(cmd) => twe_single(alloc, &cmd, src, out, err, book),

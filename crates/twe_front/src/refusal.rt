@@ -14,8 +14,6 @@ pub enum RuleName {
     Name(NRule),
     /// A rule on effects.
     Effect(ERule),
-    /// The program is not of the form that can be run today.
-    Form,
 }
 
 /// The one refusal of a text.

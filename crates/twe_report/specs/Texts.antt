@@ -1,10 +1,14 @@
 -- The texts that are written. Each line ends with byte 10.
-use Rattle.std.specs.Prelude.{◌++◌, ◌+◌, ℕ, zero, suc, ℤ, pos, List, [], ◌∷◌, length, codes, decimal, Option, None, Some, slice_get}
+use Rattle.std.specs.Prelude.{◌++◌, ◌+◌, ℕ, zero, suc, ℤ, Bool, List, [], ◌∷◌, length, map, codes, decimal, Option, None, Some, slice_get, if◌then◌else◌}
 use Rattle.std.specs.Fmt.{signed_decimal}
 use Rattle.std.specs.List.{flat_map}
 use Rattle.twe_io.specs.declared.place.Place.{Place}
+use Rattle.seg_journal.specs.declared.journal.Entry.{Entry}
 use Rattle.seg_journal.specs.declared.journal.FaultKind.{FaultKind}
 use Rattle.seg_journal.specs.declared.journal.FaultKind.TheVariants.{DivZero, Index, Fuel, Depth, TaskLimit}
+use Rattle.seg_journal.specs.Limits.{Bounds}
+use Rattle.seg_journal.specs.Spelling.{head_line, move_line, move_of}
+use Rattle.wait_graph.specs.declared.stuck.Edge.{Edge}
 use Rattle.twe_program.specs.declared.program.Dims.{Dims}
 use Rattle.twe_program.specs.declared.program.Dims.TheVariants.{Scalar, Row, Grid}
 use Rattle.twe_program.specs.declared.program.CellDecl.{CellDecl}
@@ -17,7 +21,7 @@ use Rattle.effect_check.specs.declared.rule.ERule.{ERule}
 use Rattle.effect_check.specs.declared.rule.ERule.TheVariants.{E1, E2, E3, E4, E5, E6, E7, E8}
 use Rattle.twe_front.specs.declared.refusal.Refusal.{Refusal}
 use Rattle.twe_front.specs.declared.refusal.RuleName.{RuleName}
-use Rattle.twe_front.specs.declared.refusal.RuleName.TheVariants.{Text, Name, Effect, Form}
+use Rattle.twe_front.specs.declared.refusal.RuleName.TheVariants.{Text, Name, Effect}
 use Rattle.twe_machine.specs.declared.state.State.{State}
 
 abbrev pub line : List ℕ → List ℕ
@@ -110,7 +114,6 @@ abbrev pub rule_text : RuleName → List ℕ
 rule_text (Text rule) = text_rule rule
 rule_text (Name rule) = name_rule rule
 rule_text (Effect rule) = effect_rule rule
-rule_text Form = codes "Form"
 
 -- `3:28`
 abbrev pub place_text : Place → List ℕ
@@ -131,6 +134,31 @@ fault_name TaskLimit = codes "TaskLimit"
 abbrev pub fault_text : ℕ → FaultKind → Place → List ℕ
 fault_text task kind place =
     line (codes "fault: " ++ (fault_name kind ++ (codes " in task " ++ (decimal task ++ (codes " at " ++ place_text place)))))
+
+abbrev pub edge_word : Bool → List ℕ
+edge_word held = if held then codes " held by " else codes " waits "
+
+-- `1 waits 3`, or `3 held by 1`
+abbrev pub edge_text : Edge → List ℕ
+edge_text edge = decimal edge.from ++ (edge_word edge.held ++ decimal edge.to)
+
+-- edges, each after `, `
+abbrev pub more_edges : List Edge → List ℕ
+more_edges edges = flat_map (λ edge. codes ", " ++ edge_text edge) edges
+
+-- edges, with `, ` between them
+abbrev pub edges_text : List Edge → List ℕ
+edges_text [] = []
+edges_text (edge ∷ edges) = edge_text edge ++ more_edges edges
+
+-- `stuck: 1 waits 3, 3 held by 1`
+abbrev pub stuck_text : List Edge → List ℕ
+stuck_text edges = line (codes "stuck: " ++ edges_text edges)
+
+-- what is written of a journal after the other lines of a run: a line `%%`, the limits as a head, and a line for the
+-- move of each entry
+abbrev pub journal_part : Bounds → List Entry → List ℕ
+journal_part lim journal = line (codes "%%") ++ (head_line lim ++ flat_map move_line (map move_of journal))
 
 abbrev pub usage_text : List ℕ
 usage_text = line (codes "usage: twe check | run [--workers k] [--fuel f] [--tasks t] [--journal] | replay [--fuel f] [--tasks t] | load N [--workers k]")

@@ -137,7 +137,6 @@ fn name_of(rule: RuleName) -> &'static [u8]
         RuleName::Text(rule) => name_of_text_rule(rule),
         RuleName::Name(rule) => name_of_name_rule(rule),
         RuleName::Effect(rule) => name_of_effect_rule(rule),
-        RuleName::Form => b"Form",
     }
 }
 

@@ -1,0 +1,5 @@
+pub mod Parts
+pub mod Once
+pub mod Cuts
+pub mod Meanings
+pub mod Ranges

@@ -11,6 +11,7 @@ is_number word = nat_le 1 (length word) && (nat_le (length word) 10 && list_all 
 abbrev pub number_of : List ℕ → ℕ
 number_of digits = fold (λ value digit. value * 10 + (digit - 48)) 0 digits
 
--- the number that a word is, if it is one and no larger than this
-abbrev pub number_within : ℕ → List ℕ → Option ℕ
-number_within most word = if is_number word && nat_le (number_of word) most then Some (number_of word) else None
+-- the number that a word is, if it is one between these two, both included
+abbrev pub number_between : ℕ → ℕ → List ℕ → Option ℕ
+number_between least most word =
+    if is_number word && (nat_le least (number_of word) && nat_le (number_of word) most) then Some (number_of word) else None

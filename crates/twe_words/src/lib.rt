@@ -2,6 +2,9 @@
 #![tactic(auto)]
 
 mod command;
+mod laws;
 mod number;
+mod options;
 
 pub use command::{Command, read_words};
+pub use laws::one_command;

@@ -2,21 +2,25 @@
 ghost use Rattle.std.specs.Prelude.{◌≡◌, ◌≤◌, ◌<◌, min};
 ghost use Rattle.std.specs.List.{list_all};
 ghost use Rattle.std.specs.Char.{is_ascii_digit};
-ghost use Rattle.twe_words.specs.Numbers.{is_number, number_of, number_within};
+ghost use Rattle.twe_words.specs.Numbers.{is_number, number_of, number_between};
 
 /// What stands for every number above `most`, which no number on the command line may be.
 const TOO_LARGE: u64 = 10_000_000_000;
 
-/// The number that a word is, if it is one of 1 to 10 decimal digits and no larger than `most`.
-pub(crate) fn number_within(word: &[u8], most: u64) -> Option<u64>
+/// The number that a word is, if it is one of 1 to 10 decimal digits, from `least` to `most`.
+pub(crate) fn number_between(least: u64, most: u64, word: &[u8]) -> Option<u64>
     requires { most < 10000000000 }
-    ensures { result ≡ number_within most word.now }
+    ensures { result ≡ number_between least most word.now }
 {
     if !is_number(word) {
         return None;
     }
     let number = number_of(word);
-    if number <= most { Some(number) } else { None }
+    if least <= number && number <= most {
+        Some(number)
+    } else {
+        None
+    }
 }
 
 /// Whether the word has 1 to 10 decimal digits and nothing else.

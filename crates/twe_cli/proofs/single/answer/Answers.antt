@@ -1,4 +1,4 @@
-use Rattle.std.proofs.Common.{Ok, Err}
+use Rattle.std.proofs.Common.{Ok}
 use Rattle.twe_io.specs.declared.whole.ReadFail.TheVariants.{ReadFault, TooLong}
 use Rattle.twe_cli.specs.Ends.{source}
 use Rattle.twe_cli.proofs.Read.{was_read}

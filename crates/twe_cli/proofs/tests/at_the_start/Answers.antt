@@ -1,5 +1,4 @@
 use Rattle.std.proofs.Common.{[]}
-use Rattle.twe_machine.specs.Runs.{IsReached}
 use Rattle.twe_cli.proofs.tests.at_the_start.Goals as goal
 
 -- the state at the start is reached by no move

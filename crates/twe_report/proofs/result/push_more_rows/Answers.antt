@@ -1,5 +1,4 @@
-use Rattle.std.proofs.Common.{◌≡◌, ◌++◌, ◌∙◌, List, ℕ, ap, arith}
-use Rattle.std.specs.Prelude.{codes}
+use Rattle.std.proofs.Common.{◌++◌, ◌∙◌, List, ℕ, ap, arith}
 use Rattle.std.proofs.Math.Nat.{add-mul}
 use Rattle.twe_report.specs.Texts.{row_text}
 use Rattle.twe_report.proofs.Steps.{row_written}

@@ -1,5 +1,4 @@
-use Rattle.std.proofs.Common.{◌≡◌, ◌++◌, ◌∙◌, List, ℕ, ap, arith}
-use Rattle.std.specs.Prelude.{codes}
+use Rattle.std.proofs.Common.{◌++◌, ◌∙◌, List, ℕ, ap, arith}
 use Rattle.twe_report.specs.Texts.{value_text}
 use Rattle.twe_report.proofs.Steps.{value_written}
 use Rattle.twe_report.proofs.result.push_more_values.Goals as goal

@@ -1,0 +1,18 @@
+//! The journal after the result of a run.
+ghost use Rattle.std.specs.Prelude.{◌≡◌, IfOk};
+ghost use Rattle.twe_report.specs.Texts as texts;
+
+use seg_journal::{Journal, Limits, print_journal};
+use std::alloc::Global;
+use twe_io::{Bytes, Memory};
+
+/// What is written of a journal after the other lines of a run: a line `%%`, and the journal's text with the limits as
+/// its head.
+pub fn journal_part(alloc: Global, journal: &Journal, lim: Limits) -> Result<Bytes, Memory>
+    ensures { IfOk result (λ text. text ≡ texts.journal_part lim journal.now) }
+{
+    let mut text = Bytes::from_slice(alloc, b"%%\n")?;
+    let lines = print_journal(alloc, journal, lim)?;
+    text.push_all(lines.as_slice())?;
+    Ok(text)
+}
