@@ -7,8 +7,6 @@ mod answers;
 mod laws;
 mod mark;
 mod seen;
-#[cfg(test)]
-mod tests;
 
 pub use answers::{Points, flow};
 pub use laws::control_paths_go_step_by_step;

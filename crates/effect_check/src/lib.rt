@@ -12,8 +12,6 @@ mod first;
 mod futures;
 mod judge;
 mod rule;
-#[cfg(test)]
-mod tests;
 mod whole;
 
 pub use rule::{CheckFail, ERule};

@@ -5,8 +5,6 @@ mod cover;
 mod effects;
 mod interference;
 mod laws;
-#[cfg(test)]
-mod tests;
 
 pub use cover::covers;
 pub use effects::{Effect, Effects, Summary};

@@ -10,8 +10,6 @@ mod laws;
 mod names;
 mod over;
 mod step;
-#[cfg(test)]
-mod tests;
 mod tree;
 
 pub use laws::a_declaration_goes_over_alone;

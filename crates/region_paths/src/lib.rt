@@ -7,8 +7,6 @@ mod elements;
 mod inclusion;
 mod laws;
 mod paths;
-#[cfg(test)]
-mod tests;
 
 pub use disjointness::disjoint;
 pub use elements::{Elem, Elems};

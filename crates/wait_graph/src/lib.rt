@@ -11,8 +11,6 @@ mod graph;
 mod laws;
 mod stuck;
 mod tasks;
-#[cfg(test)]
-mod tests;
 mod walk;
 
 pub use graph::Links;
