@@ -5,10 +5,10 @@ use Rattle.std.proofs.lemmas.Bool.{ltb-true}
 use Rattle.effect_sets.specs.declared.effects.Summary.{Summary}
 use Rattle.seg_journal.specs.declared.moves.Kind.{Kind}
 use Rattle.seg_journal.specs.declared.moves.Kind.TheVariants.{Admit, Run}
-use Rattle.seg_journal.specs.declared.journal.FaultKind.TheVariants.{TaskLimit}
+use Rattle.twe_limits.specs.declared.fault.FaultKind.TheVariants.{TaskLimit}
 use Rattle.seg_journal.specs.declared.journal.End.{End}
 use Rattle.seg_journal.specs.declared.journal.End.TheVariants as end_is
-use Rattle.seg_journal.specs.Limits.{Bounds}
+use Rattle.twe_limits.specs.Limits.{Bounds}
 use Rattle.twe_io.specs.declared.place.Place.{Place}
 use Rattle.twe_program.specs.Program.{Program}
 use Rattle.wait_graph.specs.Link.{link_of}
@@ -18,7 +18,7 @@ use Rattle.seg_exec.specs.declared.frame.Next.TheVariants.{Go, Get, Join, Closin
 use Rattle.seg_exec.specs.declared.stop.Stop.{Stop}
 use Rattle.seg_exec.specs.declared.stop.Stop.TheVariants as stops
 use Rattle.seg_exec.specs.Segment.{segment}
-use Rattle.run_paths.specs.Keeps.{NextAfter, SegmentKeeps}
+use Rattle.segment_laws.specs.Keeps.{NextAfter, SegmentKeeps}
 use Rattle.twe_machine.specs.declared.state.State.{State}
 use Rattle.twe_machine.specs.declared.state.TaskRow.{TaskRow}
 use Rattle.twe_machine.specs.declared.state.TaskStatus.{TaskStatus}

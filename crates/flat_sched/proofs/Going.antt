@@ -4,12 +4,12 @@ use Rattle.std.specs.Prelude.{ℤ, slice_get}
 use Rattle.std.proofs.lemmas.Bool.{le-ltb}
 use Rattle.seg_journal.specs.declared.journal.Entry.{Entry}
 use Rattle.seg_journal.specs.declared.moves.Move.{Move}
-use Rattle.seg_journal.specs.Limits.{Bounds}
+use Rattle.twe_limits.specs.Limits.{Bounds}
 use Rattle.twe_program.specs.Program.{Program}
 use Rattle.seg_exec.specs.declared.frame.Frame.{Frame}
 use Rattle.seg_exec.specs.Entry.{entry_frame}
 use Rattle.seg_exec.specs.Segment.{segment}
-use Rattle.run_paths.specs.Keeps.{SegmentKeeps}
+use Rattle.segment_laws.specs.Keeps.{SegmentKeeps}
 use Rattle.twe_machine.specs.declared.ending.Outcome.TheVariants.{AllDone, Unfinished}
 use Rattle.twe_machine.specs.declared.state.State.{State}
 use Rattle.twe_machine.specs.declared.state.TaskRow.{TaskRow}

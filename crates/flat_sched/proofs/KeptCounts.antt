@@ -6,7 +6,7 @@ use Rattle.seg_journal.specs.declared.journal.End.{End}
 use Rattle.seg_journal.specs.declared.journal.End.TheVariants as ends
 use Rattle.seg_journal.specs.declared.moves.Kind.{Kind}
 use Rattle.seg_journal.specs.declared.moves.Kind.TheVariants.{Admit, Run}
-use Rattle.seg_journal.specs.Limits.{Bounds}
+use Rattle.twe_limits.specs.Limits.{Bounds}
 use Rattle.twe_program.specs.Program.{Program}
 use Rattle.wait_graph.specs.Link.{link_of}
 use Rattle.seg_exec.specs.Segment.{segment}

@@ -1,6 +1,6 @@
 -- What is used of the states that runs come to.
 use Rattle.std.proofs.Common.{◌≡◌, ℕ, None, ap}
-use Rattle.seg_journal.specs.Limits.{Bounds}
+use Rattle.twe_limits.specs.Limits.{Bounds}
 use Rattle.twe_program.specs.Program.{Program}
 use Rattle.twe_program.specs.WellFormed.{IsWellFormed}
 use Rattle.twe_machine.specs.declared.state.State.{State}

@@ -2,7 +2,7 @@
 -- of their unjoined children, and each task that may still be made has the weight of all its fuel.
 use Rattle.std.proofs.Common.{◌≡◌, ◌<◌, ◌+◌, ◌*◌, ◌-◌, ◌++◌, ℕ, zero, suc, List, [], ◌∷◌, length, Some, ap, arith}
 use Rattle.std.specs.Prelude.{slice_get, slice_set}
-use Rattle.seg_journal.specs.Limits.{Bounds}
+use Rattle.twe_limits.specs.Limits.{Bounds}
 use Rattle.seg_exec.specs.declared.frame.Next.{Next}
 use Rattle.seg_exec.specs.declared.frame.Next.TheVariants.{Go, Get, Join, Closing, Ended}
 use Rattle.twe_machine.specs.declared.state.State.{State}

@@ -4,7 +4,7 @@ use Rattle.std.specs.Prelude.{nat_le, nat_lt, option_map, slice_get}
 use Rattle.std.specs.List.{AllByRecursion}
 use Rattle.std.proofs.lemmas.Bool.{ltb-true}
 use Rattle.twe_io.specs.declared.place.Place.{Place}
-use Rattle.twe_program.specs.declared.expr.BinOp.{BinOp}
+use Rattle.twe_ast.specs.declared.expr.BinOp.{BinOp}
 use Rattle.twe_program.specs.declared.program.Dims.{Dims}
 use Rattle.twe_program.specs.declared.program.Dims.TheVariants.{Scalar, Row, Grid}
 use Rattle.twe_program.specs.declared.program.CellDecl.{CellDecl}

@@ -2,8 +2,8 @@
 -- numbers 0 and 1.
 use Rattle.std.specs.Prelude.{Bool, true, false, ℤ, pos, negsuc, zero, suc, ◌&&◌, Option, None, Some, int_lt, int_le, int_rem, not}
 use Rattle.std.specs.Int.{w32, int_wrapping_add, int_wrapping_sub, int_wrapping_mul, int_wrapping_div, int_wrapping_neg}
-use Rattle.twe_program.specs.declared.expr.BinOp.{BinOp}
-use Rattle.twe_program.specs.declared.expr.BinOp.TheVariants.{Or, And, Equal, NotEqual, Less, LessEqual, Greater, GreaterEqual, Add, Sub, Mul, Div, Rem}
+use Rattle.twe_ast.specs.declared.expr.BinOp.{BinOp}
+use Rattle.twe_ast.specs.declared.expr.BinOp.TheVariants.{Or, And, Equal, NotEqual, Less, LessEqual, Greater, GreaterEqual, Add, Sub, Mul, Div, Rem}
 
 -- the number of a truth value
 abbrev pub number_of : Bool → ℤ

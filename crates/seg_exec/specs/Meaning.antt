@@ -1,8 +1,8 @@
 -- What expressions and statements do. Operands and arguments are evaluated from the left.
 use Rattle.std.specs.Prelude.{ℕ, zero, suc, ◌+◌, ◌-◌, ℤ, pos, Bool, true, false, List, [], ◌∷◌, ◌++◌, length, replicate, Option, None, Some, nat_le, slice_get}
 use Rattle.twe_io.specs.declared.place.Place.{Place}
-use Rattle.seg_journal.specs.declared.journal.FaultKind.TheVariants.{DivZero, Index, Depth}
-use Rattle.twe_program.specs.declared.expr.BinOp.{BinOp}
+use Rattle.twe_limits.specs.declared.fault.FaultKind.TheVariants.{DivZero, Index, Depth}
+use Rattle.twe_ast.specs.declared.expr.BinOp.{BinOp}
 use Rattle.twe_program.specs.declared.program.Decl.{Decl}
 use Rattle.twe_program.specs.Program.{Program}
 use Rattle.twe_program.specs.Expression.{Expression, Literal, Truth, Variable, CellValue, ArrayElement, GridElement, CallValue, Negative, Negation, Binary, Arguments, argument}

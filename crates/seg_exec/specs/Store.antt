@@ -1,8 +1,8 @@
 -- What expressions and statements work on, and how they come to an end.
 use Rattle.std.specs.Prelude.{ℕ, zero, suc, ℤ, List, ◌∷◌, slice_get, slice_set}
 use Rattle.twe_io.specs.declared.place.Place.{Place}
-use Rattle.seg_journal.specs.declared.journal.FaultKind.{FaultKind}
-use Rattle.seg_journal.specs.declared.journal.FaultKind.TheVariants.{Fuel}
+use Rattle.twe_limits.specs.declared.fault.FaultKind.{FaultKind}
+use Rattle.twe_limits.specs.declared.fault.FaultKind.TheVariants.{Fuel}
 use Rattle.seg_exec.specs.declared.frame.Position.{Position}
 use Rattle.seg_exec.specs.declared.operation.Operation.{Operation}
 use Rattle.seg_exec.specs.Access.{Access, Reads, Writes, Prints, value_in}

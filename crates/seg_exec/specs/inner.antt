@@ -2,7 +2,6 @@ pub mod Finished
 pub mod Reached
 pub mod Runs
 pub mod Sizes
-pub mod Stacks
 pub mod Steps
 pub mod Tasks
 pub mod Unfolded

@@ -10,12 +10,11 @@ ghost use Rattle.seg_exec.specs.declared.work.Goal.TheVariants.{Enter};
 
 use crate::machine::{Machine, fault};
 use crate::operation::Operation;
-use crate::stack::Stack;
 use crate::work::{Asked, Goal, Work};
-use seg_journal::FaultKind;
 use std::alloc::Global;
 use std::mem;
-use twe_io::{Ints, Memory, Place};
+use twe_io::{Ints, Memory, Place, Stack};
+use twe_limits::FaultKind;
 use twe_program::{Args, Decl, Expr, Prog, Stmt};
 
 /// How many method calls a task may have active at once.

@@ -20,7 +20,6 @@ mod operation;
 mod resume;
 mod run;
 mod segment;
-mod stack;
 mod step;
 mod stop;
 mod unfold;

@@ -6,10 +6,9 @@ ghost use Rattle.seg_exec.specs.declared.work.Asked.TheVariants.{End};
 ghost use Rattle.seg_exec.specs.declared.work.Ending.TheVariants.{Faulted};
 ghost use Rattle.seg_exec.specs.inner.Views.{task_of, config_of};
 
-use crate::stack::Stack;
 use crate::work::{Asked, Ending, Work};
-use seg_journal::FaultKind;
-use twe_io::{Ints, Memory, Place};
+use twe_io::{Ints, Memory, Place, Stack};
+use twe_limits::FaultKind;
 use twe_program::Expr;
 
 /// A fault at a place of the text.

@@ -9,10 +9,9 @@ use crate::arithmetic::is_true;
 use crate::frame::Position;
 use crate::machine::{Machine, fault};
 use crate::operation::Operation;
-use crate::stack::Stack;
 use crate::work::{Asked, Ending, Left, Work};
-use seg_journal::FaultKind;
-use twe_io::{Ints, Memory, Place};
+use twe_io::{Ints, Memory, Place, Stack};
+use twe_limits::FaultKind;
 use twe_program::{Arm, Block, Stmt};
 
 impl<'a> Machine<'a> {

@@ -14,11 +14,10 @@ use crate::frame::{Call, Frame, Next};
 use crate::machine::Machine;
 use crate::operation::Operation;
 use crate::run::run;
-use crate::stack::Stack;
 use crate::stop::Stop;
 use crate::work::Ending;
 use std::alloc::Global;
-use twe_io::{Ints, List, Memory};
+use twe_io::{Ints, List, Memory, Stack};
 use twe_program::Prog;
 
 /// The task that a future stands for, and 0 where it stands for none.

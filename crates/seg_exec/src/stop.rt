@@ -2,8 +2,8 @@
 
 use crate::frame::Frame;
 use effect_sets::Summary;
-use seg_journal::FaultKind;
 use twe_io::{Ints, Place};
+use twe_limits::FaultKind;
 
 /// How a segment stops.
 #[derive(Debug, Drop)]

@@ -9,8 +9,8 @@ use crate::arithmetic::{decide, invert, is_true, negate, operate};
 use crate::elements::{element_number, grid_element_number};
 use crate::machine::{Machine, fault};
 use crate::work::{Asked, Work};
-use seg_journal::FaultKind;
 use twe_io::{Memory, Place};
+use twe_limits::FaultKind;
 use twe_program::{BinOp, Expr, Prog};
 
 impl<'a> Machine<'a> {

@@ -5,9 +5,8 @@ ghost use Rattle.seg_exec.specs.inner.Views.{task_of};
 
 use crate::frame::Position;
 use crate::operation::Operation;
-use crate::stack::Stack;
-use seg_journal::FaultKind;
-use twe_io::{Ints, Place};
+use twe_io::{Ints, Place, Stack};
+use twe_limits::FaultKind;
 use twe_program::{Arm, BinOp, Block, Expr, Stmt};
 
 /// What arguments are evaluated for.

@@ -1,4 +1,3 @@
-pub mod Limits
 pub mod Spelling
 pub mod Lines
 pub mod Fail

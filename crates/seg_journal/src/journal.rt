@@ -1,21 +1,7 @@
 //! The entries of a journal, and what a move can end in.
 use crate::Move;
 use twe_io::{List, Place};
-
-/// What stops a task for good.
-#[derive(Clone, Copy, Debug, PartialEq, Eq)]
-pub enum FaultKind {
-    /// A division by zero, or a remainder of one.
-    DivZero,
-    /// An index outside its array.
-    Index,
-    /// The end of its fuel.
-    Fuel,
-    /// Too many method calls at once.
-    Depth,
-    /// A task more than the limits allow.
-    TaskLimit,
-}
+use twe_limits::FaultKind;
 
 /// What a move ended in. An admission ends in `Admitted`, and a segment in one of the others.
 #[derive(Clone, Copy, Debug, PartialEq, Eq)]

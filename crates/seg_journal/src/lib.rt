@@ -5,18 +5,17 @@
 #![tactic(auto)]
 
 mod journal;
-mod limits;
 mod line;
 mod moves;
 mod number;
 mod text;
 
-pub use journal::{End, Entry, FaultKind, Journal};
-pub use limits::Limits;
+pub use journal::{End, Entry, Journal};
 pub use moves::{Kind, Move, Moves};
 pub use text::{
     JournalFail, JournalText, journal_or_bad_line, one_spelling, print_journal, read_journal,
 };
+pub use twe_limits::{FaultKind, Limits};
 
 #[cfg(test)]
 mod tests;

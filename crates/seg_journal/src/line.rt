@@ -1,6 +1,6 @@
 //! The lines of a journal: how each is read from the front of a text, and how it is written.
 ghost use Rattle.std.specs.Prelude.{◌≡◌, List, ℕ, ◌++◌, decimal, IfSome, IsSomeAnd, OnOk};
-ghost use Rattle.seg_journal.specs.Limits.{Bounds};
+ghost use Rattle.twe_limits.specs.Limits.{Bounds};
 ghost use Rattle.seg_journal.specs.Spelling.{kind_word, move_line, head_line, tasks_part, HasTask, AreLimits};
 ghost use Rattle.seg_journal.specs.declared.moves.Kind.{Kind};
 ghost use Rattle.seg_journal.specs.declared.moves.Move.{Move};

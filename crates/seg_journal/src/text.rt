@@ -3,7 +3,7 @@ ghost use Rattle.std.specs.Prelude.{◌≡◌, ◌≢◌, ◌⊎◌, ◌<◌, �
 ghost use Rattle.std.specs.List.{AllByRecursion, flat_map};
 ghost use Rattle.seg_journal.specs.declared.text.JournalFail.TheVariants.{OutOfMemory};
 ghost use Rattle.seg_journal.specs.declared.moves.Move.{Move};
-ghost use Rattle.seg_journal.specs.Limits.{Bounds};
+ghost use Rattle.twe_limits.specs.Limits.{Bounds};
 ghost use Rattle.seg_journal.specs.Spelling.{Spells, IsJournal, head_line, head_part, head_lines, move_line, move_of, HasTask, AreLimits};
 ghost use Rattle.seg_journal.specs.Lines.{IsFirstBadLine, HasBadLine};
 ghost use Rattle.seg_journal.specs.Fail.{IsOutOfMemory};

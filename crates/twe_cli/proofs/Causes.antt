@@ -7,7 +7,7 @@ use Rattle.twe_io.specs.declared.memory.Memory as out_of
 use Rattle.twe_io.specs.declared.whole.ReadFail.{ReadFail}
 use Rattle.twe_io.specs.declared.whole.ReadFail.TheVariants as reads
 use Rattle.seg_journal.specs.declared.journal.Entry.{Entry}
-use Rattle.seg_journal.specs.Limits.{Bounds}
+use Rattle.twe_limits.specs.Limits.{Bounds}
 use Rattle.twe_program.specs.Program.{Program}
 use Rattle.twe_machine.specs.declared.ending.Outcome.{Outcome}
 use Rattle.twe_machine.specs.declared.ending.Outcome.TheVariants.{AllDone, Unfinished}
@@ -18,8 +18,8 @@ use Rattle.twe_cli.specs.declared.answer.Answer.{Answer}
 use Rattle.twe_cli.specs.declared.book.Book.{Book}
 use Rattle.twe_cli.specs.declared.status.Status.{Status}
 use Rattle.twe_cli.specs.declared.status.Status.TheVariants.{Done, Fault, ReadFault, TooLong}
-use Rattle.twe_words.specs.declared.command.Command.{Command}
-use Rattle.twe_words.specs.declared.command.Command.TheVariants.{Check, Run}
+use Rattle.command_line.specs.declared.command.Command.{Command}
+use Rattle.command_line.specs.declared.command.Command.TheVariants.{Check, Run}
 use Rattle.twe_cli.specs.Answers.{Due, Cause, Answers, with_journal}
 use Rattle.twe_cli.specs.Ends.{SourceTells, SinkTells, WasRead, most_bytes}
 use Rattle.twe_cli.specs.Theorem.{HasProgram, HasRun, IsNew}

@@ -4,11 +4,11 @@ use Rattle.twe_io.specs.declared.whole.ReadFail.TheVariants as reads
 use Rattle.twe_io.specs.declared.place.Place.{Place}
 use Rattle.wait_graph.specs.declared.stuck.Edge.{Edge}
 use Rattle.seg_journal.specs.declared.journal.Entry.{Entry}
-use Rattle.seg_journal.specs.declared.journal.FaultKind.{FaultKind}
-use Rattle.seg_journal.specs.Limits.{Bounds}
+use Rattle.twe_limits.specs.declared.fault.FaultKind.{FaultKind}
+use Rattle.twe_limits.specs.Limits.{Bounds}
 use Rattle.twe_program.specs.Program.{Program}
-use Rattle.twe_front.specs.declared.refusal.Refusal.{Refusal}
-use Rattle.twe_front.specs.Accepted.{Accepted, IsRefusal}
+use Rattle.twe_frontend.specs.declared.refusal.Refusal.{Refusal}
+use Rattle.twe_frontend.specs.Accepted.{Accepted, IsRefusal}
 use Rattle.twe_machine.specs.declared.ending.Outcome.TheVariants.{AllDone}
 use Rattle.twe_machine.specs.declared.ending.Outcome.TheVariants as outcomes
 use Rattle.twe_machine.specs.Runs.{state_after, counted}
@@ -17,8 +17,8 @@ use Rattle.twe_report.specs.Texts.{result_text, prints_text, fault_text, stuck_t
 use Rattle.twe_cli.specs.declared.book.Book.{Book}
 use Rattle.twe_cli.specs.declared.status.Status.{Status}
 use Rattle.twe_cli.specs.declared.status.Status.TheVariants.{Done, Refused, Usage, Fault, Stuck, ReadFault, WriteFault, Memory, TooLong}
-use Rattle.twe_words.specs.declared.command.Command.{Command}
-use Rattle.twe_words.specs.declared.command.Command.TheVariants.{Check, Run}
+use Rattle.command_line.specs.declared.command.Command.{Command}
+use Rattle.command_line.specs.declared.command.Command.TheVariants.{Check, Run}
 use Rattle.twe_cli.specs.Ends.{SourceTells, SinkTells, WasRead, Took, BrokeOff}
 use Rattle.twe_cli.specs.Theorem.{HasProgram, HasRun, IsNew, HasRefusal}
 

@@ -1,8 +1,8 @@
 -- The run theorem: what a run of a program is.
 use Rattle.std.specs.Prelude.{◌≡◌, List, [], None, Some}
 use Rattle.seg_journal.specs.declared.journal.Entry.{Entry}
-use Rattle.seg_journal.specs.Limits.{Bounds}
-use Rattle.twe_front.specs.declared.refusal.Refusal.{Refusal}
+use Rattle.twe_limits.specs.Limits.{Bounds}
+use Rattle.twe_frontend.specs.declared.refusal.Refusal.{Refusal}
 use Rattle.twe_program.specs.Program.{Program}
 use Rattle.twe_machine.specs.declared.ending.Outcome.{Outcome}
 use Rattle.twe_machine.specs.declared.ending.Outcome.TheVariants.{AllDone}

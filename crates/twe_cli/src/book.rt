@@ -2,7 +2,7 @@
 
 use seg_journal::Journal;
 use std::alloc::Global;
-use twe_front::Refusal;
+use twe_frontend::Refusal;
 use twe_machine::Outcome;
 use twe_program::Prog;
 

@@ -1,6 +1,6 @@
 //! The run of a program that was accepted, and what is said of it.
 ghost use Rattle.std.specs.Prelude.{◌≡◌, [], IfOk};
-ghost use Rattle.effect_sound.specs.KeepsEffects.{KeepsEffects};
+ghost use Rattle.soundness_laws.specs.KeepsEffects.{KeepsEffects};
 ghost use Rattle.twe_machine.specs.Runs.{IsReachable, IsOutcome};
 ghost use Rattle.twe_report.specs.Texts as texts;
 ghost use Rattle.twe_cli.specs.Answers.{with_journal};
@@ -13,7 +13,7 @@ use crate::answer::Answer;
 use crate::book::Book;
 use crate::status::Status;
 use flat_sched::{run_lowest, stuck_cycle};
-use isolation::accepted_runs_are_isolated;
+use isolation_laws::accepted_runs_are_isolated;
 use seg_journal::{Journal, Limits};
 use std::alloc::Global;
 use twe_io::{Bytes, Memory};

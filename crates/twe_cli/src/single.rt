@@ -6,18 +6,18 @@ ghost use Rattle.twe_cli.specs.inner.Given.{IsDueFor};
 ghost use Rattle.twe_report.specs.Texts as texts;
 ghost use Rattle.twe_cli.specs.Theorem.{HasProgram, HasRefusal, IsNew};
 ghost use Rattle.twe_cli.specs.declared.status.Status.TheVariants.{Done, Refused};
-ghost use Rattle.effect_sound.specs.KeepsEffects.{KeepsEffects};
+ghost use Rattle.soundness_laws.specs.KeepsEffects.{KeepsEffects};
 
 use crate::answer::{Answer, tell};
 use crate::book::Book;
 use crate::running::run_program;
 use crate::status::Status;
+use command_line::Command;
 use std::alloc::Global;
-use twe_front::{FrontFail, Refusal, read_program};
+use twe_frontend::{FrontFail, Refusal, read_program};
 use twe_io::{Bytes, Memory, ReadFail, Sink, Source, read_all};
 use twe_program::Prog;
 use twe_report::{accepted_text, read_fault_text, refusal_text, too_long_text};
-use twe_words::Command;
 
 /// How many bytes a text may have.
 const MOST_BYTES: usize = 1_048_576;

@@ -4,7 +4,7 @@ use crate::top::twe;
 use seg_journal::{Kind, Limits, Move};
 use std::alloc::Global;
 use std::test::Fail;
-use twe_front::read_program;
+use twe_frontend::read_program;
 use twe_io::{
     Bytes, Calls, MemSink, MemSource, Memory, PlainSink, PlainSource, Sink, Source, Word,
 };

@@ -5,18 +5,18 @@ ghost use Rattle.twe_cli.specs.Ends.{source, sink};
 ghost use Rattle.twe_cli.specs.inner.Usage.{TellsUsage};
 ghost use Rattle.twe_report.specs.Texts as texts;
 ghost use Rattle.twe_cli.specs.Theorem.{IsNew};
-ghost use Rattle.twe_words.specs.Words.{IsMeaning};
-ghost use Rattle.twe_words.specs.declared.command.Command.{Command};
+ghost use Rattle.command_line.specs.Words.{IsMeaning};
+ghost use Rattle.command_line.specs.declared.command.Command.{Command};
 ghost use Rattle.twe_cli.specs.declared.status.Status.TheVariants.{Usage};
 
 use crate::answer::{Answer, tell};
 use crate::book::Book;
 use crate::single::twe_single;
 use crate::status::Status;
+use command_line::read_words;
 use std::alloc::Global;
 use twe_io::{Bytes, Memory, Sink, Source, Word};
 use twe_report::usage_text;
-use twe_words::read_words;
 
 /// Does what the words of the command line say: the whole program, but for where its bytes come from and go to.
 ///

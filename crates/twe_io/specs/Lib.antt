@@ -6,4 +6,5 @@ pub mod Plain
 pub mod Named
 pub mod Memory
 pub mod Standard
+pub mod Stacks
 pub mod inner

@@ -1,12 +1,12 @@
 -- The row of a task after a segment: that it goes on, is done, or has met a fault.
 use Rattle.std.proofs.Common.{◌≡◌, ◌≢◌, ℕ, ℤ, List, [], refl, ◌∙◌, subst}
-use Rattle.seg_journal.specs.Limits.{Bounds}
+use Rattle.twe_limits.specs.Limits.{Bounds}
 use Rattle.twe_program.specs.Program.{Program}
 use Rattle.seg_exec.specs.declared.frame.Frame.{Frame}
 use Rattle.seg_exec.specs.declared.frame.Next.TheVariants.{Ended}
-use Rattle.run_paths.specs.Keeps.{IsClosing}
-use Rattle.run_paths.specs.Ready.{IsReady}
-use Rattle.run_paths.proofs.BeingReady.{ready_same}
+use Rattle.segment_laws.specs.Keeps.{IsClosing}
+use Rattle.segment_laws.specs.Ready.{IsReady}
+use Rattle.segment_laws.proofs.BeingReady.{ready_same}
 use Rattle.twe_machine.specs.declared.state.TaskRow.{TaskRow}
 use Rattle.twe_machine.specs.declared.state.TaskStatus.TheVariants.{Enabled}
 use Rattle.twe_machine.specs.Moves.{emptied, going_row, done_row, faulted_row, stopped_frame}

@@ -2,7 +2,7 @@
 use Rattle.std.proofs.Common.{◌≡◌, ℕ, ℤ, Bool, true, false, List, [], Option, None, Some, inl, inr, refl, sym, ap, ◌∙◌, subst, arith}
 use Rattle.std.specs.Prelude.{slice_get}
 use Rattle.std.proofs.lemmas.Option.{slice_get_within}
-use Rattle.seg_journal.specs.Limits.{Bounds}
+use Rattle.twe_limits.specs.Limits.{Bounds}
 use Rattle.twe_program.specs.Numbering.{Declared}
 use Rattle.twe_program.specs.Program.{Program}
 use Rattle.seg_exec.specs.declared.frame.Frame.{Frame}
@@ -12,10 +12,10 @@ use Rattle.seg_exec.specs.declared.stop.Stop.{Stop}
 use Rattle.seg_exec.specs.declared.stop.Stop.TheVariants as stops
 use Rattle.seg_exec.specs.Giving.{given, given_by}
 use Rattle.seg_exec.specs.Segment.{Stopped, segment}
-use Rattle.run_paths.specs.Keeps.{SegmentKeeps, NextAfter, IsClosing}
-use Rattle.run_paths.specs.Ready.{AwaitsMade, IsDeclaredAs, futures_at}
-use Rattle.run_paths.proofs.BeingReady.{ready_given, ready_gets, ready_joins}
-use Rattle.run_paths.proofs.SegmentKept.{segment_keeps}
+use Rattle.segment_laws.specs.Keeps.{SegmentKeeps, NextAfter, IsClosing}
+use Rattle.segment_laws.specs.Ready.{AwaitsMade, IsDeclaredAs, futures_at}
+use Rattle.segment_laws.proofs.BeingReady.{ready_given, ready_gets, ready_joins}
+use Rattle.segment_laws.proofs.SegmentKept.{segment_keeps}
 use Rattle.twe_machine.specs.declared.state.TaskRow.{TaskRow}
 use Rattle.twe_machine.specs.Moves.{parent_of}
 use Rattle.twe_machine.proofs.Joining.{ChildrenAre}

@@ -4,7 +4,7 @@ use Rattle.std.proofs.Common.{◌≡◌, ◌<◌, ◌+◌, ℕ, ℤ, Bool, false
 use Rattle.std.specs.Prelude.{slice_get, slice_set}
 use Rattle.twe_io.specs.declared.place.Place.{Place}
 use Rattle.effect_sets.specs.declared.effects.Summary.{Summary}
-use Rattle.seg_journal.specs.Limits.{Bounds}
+use Rattle.twe_limits.specs.Limits.{Bounds}
 use Rattle.wait_graph.specs.Link.{link_of, new_link}
 use Rattle.wait_graph.specs.Waiting.{WaitsFor}
 use Rattle.twe_program.specs.Program.{Program, cell_count}
@@ -14,10 +14,10 @@ use Rattle.seg_exec.specs.declared.stop.Stop.{Stop}
 use Rattle.seg_exec.specs.declared.stop.Stop.TheVariants as stops
 use Rattle.seg_exec.specs.Giving.{given, given_by}
 use Rattle.seg_exec.specs.Segment.{Stopped, segment}
-use Rattle.run_paths.specs.Keeps.{NextAfter}
-use Rattle.run_paths.specs.Ready.{IsReady, MakesDeclared, futures_at}
-use Rattle.run_paths.proofs.BeingReady.{ready_same, ready_ended, ready_given, ready_later, ready_declared, ready_made}
-use Rattle.run_paths.proofs.SegmentKept.{segment_keeps}
+use Rattle.segment_laws.specs.Keeps.{NextAfter}
+use Rattle.segment_laws.specs.Ready.{IsReady, MakesDeclared, futures_at}
+use Rattle.segment_laws.proofs.BeingReady.{ready_same, ready_ended, ready_given, ready_later, ready_declared, ready_made}
+use Rattle.segment_laws.proofs.SegmentKept.{segment_keeps}
 use Rattle.twe_machine.specs.declared.state.State.{State}
 use Rattle.twe_machine.specs.declared.state.TaskRow.{TaskRow}
 use Rattle.twe_machine.specs.declared.state.TaskStatus.{TaskStatus}

@@ -6,10 +6,10 @@ use Rattle.effect_sets.specs.declared.effects.Summary.{Summary}
 use Rattle.seg_journal.specs.declared.journal.End.{End}
 use Rattle.seg_journal.specs.declared.journal.End.TheVariants as ends
 use Rattle.seg_journal.specs.declared.journal.Entry.{Entry}
-use Rattle.seg_journal.specs.declared.journal.FaultKind.TheVariants.{TaskLimit}
+use Rattle.twe_limits.specs.declared.fault.FaultKind.TheVariants.{TaskLimit}
 use Rattle.seg_journal.specs.declared.moves.Kind.{Kind}
 use Rattle.seg_journal.specs.declared.moves.Kind.TheVariants.{Admit, Run}
-use Rattle.seg_journal.specs.Limits.{Bounds}
+use Rattle.twe_limits.specs.Limits.{Bounds}
 use Rattle.wait_graph.specs.Link.{link_of}
 use Rattle.twe_program.specs.Program.{Program}
 use Rattle.seg_exec.specs.declared.frame.Frame.{Frame}

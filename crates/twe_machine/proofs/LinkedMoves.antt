@@ -8,8 +8,8 @@ use Rattle.twe_io.specs.declared.place.Place.{Place}
 use Rattle.effect_sets.specs.declared.effects.Summary.{Summary}
 use Rattle.seg_journal.specs.declared.journal.End.{End}
 use Rattle.seg_journal.specs.declared.journal.End.TheVariants as ends
-use Rattle.seg_journal.specs.declared.journal.FaultKind.TheVariants.{TaskLimit}
-use Rattle.seg_journal.specs.Limits.{Bounds}
+use Rattle.twe_limits.specs.declared.fault.FaultKind.TheVariants.{TaskLimit}
+use Rattle.twe_limits.specs.Limits.{Bounds}
 use Rattle.wait_graph.specs.declared.tasks.Link.{Link}
 use Rattle.wait_graph.specs.Link.{new_link, with_wait, with_done}
 use Rattle.seg_exec.specs.declared.frame.Frame.{Frame}

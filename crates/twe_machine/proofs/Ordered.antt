@@ -1,7 +1,7 @@
 -- The links of each reached state are in order: waits are of tasks with higher numbers, and parents have lower ones.
 use Rattle.std.proofs.Common.{◌≡◌, ◌≤◌, ◌<◌, ℕ, zero, suc, List, [], ◌∷◌, length, map, Option, None, Some, refl, sym, subst, arith}
 use Rattle.std.specs.Prelude.{slice_get}
-use Rattle.seg_journal.specs.Limits.{Bounds, IsWithin}
+use Rattle.twe_limits.specs.Limits.{Bounds, IsWithin}
 use Rattle.wait_graph.specs.declared.tasks.Link.{Link}
 use Rattle.wait_graph.specs.Link.{IsOrdered, link_of, new_link}
 use Rattle.twe_program.specs.Program.{Program}

@@ -5,7 +5,7 @@ use Rattle.std.proofs.lemmas.List.{length-replicate}
 use Rattle.seg_journal.specs.declared.journal.Entry.{Entry}
 use Rattle.seg_journal.specs.declared.moves.Kind.{Kind}
 use Rattle.seg_journal.specs.declared.moves.Kind.TheVariants.{Admit, Run}
-use Rattle.seg_journal.specs.Limits.{Bounds}
+use Rattle.twe_limits.specs.Limits.{Bounds}
 use Rattle.wait_graph.specs.Link.{link_of}
 use Rattle.wait_graph.specs.Waiting.{WaitsFor}
 use Rattle.twe_program.specs.declared.program.CellDecl.{CellDecl}

@@ -2,15 +2,15 @@
 use Rattle.std.specs.Prelude.{◌≡◌, ◌≤◌, ◌<◌, ◌+◌, ◌↔◌, ℕ, Bool, true, false, List, [], length, Option, None, Some, slice_get}
 use Rattle.std.specs.List.{Contains, count_by}
 use Rattle.std.specs.Option.{ForSome}
-use Rattle.seg_journal.specs.Limits.{Bounds}
+use Rattle.twe_limits.specs.Limits.{Bounds}
 use Rattle.twe_program.specs.Fitting.{TakesArguments}
 use Rattle.twe_program.specs.Numbering.{Declared}
 use Rattle.twe_program.specs.Program.{Program, cell_count}
 use Rattle.seg_exec.specs.declared.frame.Frame.{Frame}
 use Rattle.seg_exec.specs.declared.frame.Next.TheVariants.{Get, Join, Closing, Ended}
 use Rattle.seg_exec.specs.Entry.{effects_at, entry_frame}
-use Rattle.run_paths.specs.Keeps.{IsClosing}
-use Rattle.run_paths.specs.Ready.{IsReady, futures_at}
+use Rattle.segment_laws.specs.Keeps.{IsClosing}
+use Rattle.segment_laws.specs.Ready.{IsReady, futures_at}
 use Rattle.twe_machine.specs.declared.state.State.{State}
 use Rattle.twe_machine.specs.declared.state.TaskRow.{TaskRow}
 use Rattle.twe_machine.specs.declared.state.TaskStatus.{TaskStatus}

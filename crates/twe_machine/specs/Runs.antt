@@ -7,7 +7,7 @@ use Rattle.seg_journal.specs.declared.journal.Entry.{Entry}
 use Rattle.seg_journal.specs.declared.moves.Kind.{Kind}
 use Rattle.seg_journal.specs.declared.moves.Kind.TheVariants.{Admit, Run}
 use Rattle.seg_journal.specs.declared.moves.Move.{Move}
-use Rattle.seg_journal.specs.Limits.{Bounds}
+use Rattle.twe_limits.specs.Limits.{Bounds}
 use Rattle.twe_program.specs.Program.{Program}
 use Rattle.twe_machine.specs.declared.ending.Outcome.{Outcome}
 use Rattle.twe_machine.specs.declared.ending.Outcome.TheVariants.{AllDone, Fault, Stuck, Unfinished}

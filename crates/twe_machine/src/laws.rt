@@ -1,7 +1,7 @@
 //! Laws of the states that runs come to.
 ghost use Rattle.std.specs.Prelude.{◌≡◌, ℕ, List, Some, true};
 ghost use Rattle.seg_journal.specs.declared.journal.Entry.{Entry};
-ghost use Rattle.seg_journal.specs.Limits.{Bounds, IsWithin};
+ghost use Rattle.twe_limits.specs.Limits.{Bounds, IsWithin};
 ghost use Rattle.wait_graph.specs.Link.{IsOrdered};
 ghost use Rattle.twe_program.specs.Program.{Program};
 ghost use Rattle.twe_program.specs.WellFormed.{IsWellFormed};

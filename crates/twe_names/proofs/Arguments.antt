@@ -4,8 +4,8 @@ use Rattle.std.proofs.lemmas.List.{take_all}
 use Rattle.twe_ast.specs.Expression as ast
 use Rattle.twe_ast.specs.inner.ExpressionView as view
 use Rattle.twe_program.specs.Expression.{Expression, argument, arguments_of}
-use Rattle.name_rules.specs.declared.names.GlobalName.{GlobalName}
-use Rattle.name_rules.specs.declared.scope.LocalName.{LocalName}
+use Rattle.name_check.specs.declared.names.GlobalName.{GlobalName}
+use Rattle.name_check.specs.declared.scope.LocalName.{LocalName}
 use Rattle.twe_names.specs.BodyMeaning as meaning
 
 pub arguments_map : (globals : List GlobalName) (locals : List LocalName) (written : List ast.Expression)

@@ -9,12 +9,12 @@ use Rattle.twe_ast.specs.inner.StatementView as written
 use Rattle.twe_program.specs.Statement.{Statement, Statements, no_more, statement, statements_of, Arms, arm}
 use Rattle.twe_program.specs.declared.stmt.Arm.{Arm}
 use Rattle.twe_program.specs.inner.StatementView.{arms_of, last_of}
-use Rattle.name_rules.specs.declared.names.GlobalName.{GlobalName}
-use Rattle.name_rules.specs.declared.scope.Here.{Here}
-use Rattle.name_rules.specs.Here.{after, after_all, after_arms, after_block}
-use Rattle.name_rules.specs.Size.{statements_in, statements_in_all, statements_in_arms}
-use Rattle.name_rules.specs.inner.Room.{HasRoom}
-use Rattle.name_rules.proofs.Rooms.{room_before, room_after, room_after_block}
+use Rattle.name_check.specs.declared.names.GlobalName.{GlobalName}
+use Rattle.name_check.specs.declared.scope.Here.{Here}
+use Rattle.name_check.specs.Here.{after, after_all, after_arms, after_block}
+use Rattle.name_check.specs.Size.{statements_in, statements_in_all, statements_in_arms}
+use Rattle.name_check.specs.inner.Room.{HasRoom}
+use Rattle.name_check.proofs.Rooms.{room_before, room_after, room_after_block}
 use Rattle.twe_names.specs.BodyMeaning as meaning
 
 -- these statements, and then the others

@@ -7,9 +7,9 @@ use Rattle.twe_ast.specs.declared.item.CellShape.TheVariants as shapes
 use Rattle.twe_ast.specs.declared.path.CellElemKind.{CellElemKind}
 use Rattle.twe_program.specs.Program as program
 use Rattle.twe_program.specs.Numbering.{CellsCountUp}
-use Rattle.node_count.specs.Nodes.{size_of, cells_made, console, IsNode, of_console, of_cell, HasNodes}
-use Rattle.node_count.specs.GoesOver.{GoesOver}
-use Rattle.name_rules.specs.declared.names.GlobalName.{GlobalName}
+use Rattle.cell_limits.specs.Nodes.{size_of, cells_made, console, IsNode, of_console, of_cell, HasNodes}
+use Rattle.cell_limits.specs.GoesOver.{GoesOver}
+use Rattle.name_check.specs.declared.names.GlobalName.{GlobalName}
 use Rattle.twe_names.specs.Meaning.{dims_of, cells_from}
 
 pub cells-count : (globals : List GlobalName) (first : ℕ) (cells : List written.CellDecl) → CellsCountUp first (cells_from globals first cells)

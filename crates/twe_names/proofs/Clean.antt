@@ -8,19 +8,19 @@ use Rattle.twe_ast.specs.declared.item.ReturnType.{ReturnType}
 use Rattle.twe_ast.specs.declared.item.ReturnType.TheVariants as return_types
 use Rattle.twe_ast.specs.declared.name.Name.{Name}
 use Rattle.twe_ast.specs.declared.stmt.LocalType.{LocalType}
-use Rattle.name_rules.specs.declared.rule.NRule.{NRule}
-use Rattle.name_rules.specs.declared.seen.Asked.{Asked}
-use Rattle.name_rules.specs.declared.seen.Asked.TheVariants as asked
-use Rattle.name_rules.specs.declared.seen.Global.TheVariants as global_kinds
-use Rattle.name_rules.specs.declared.seen.Local.TheVariants as local_kinds
-use Rattle.name_rules.specs.declared.seen.Seen.{Seen}
-use Rattle.name_rules.specs.declared.seen.Seen.TheVariants as seens
-use Rattle.name_rules.specs.declared.names.GlobalName.{GlobalName}
-use Rattle.name_rules.specs.declared.scope.LocalName.{LocalName}
-use Rattle.name_rules.specs.Names.{globals_of}
-use Rattle.name_rules.specs.Asks.{Ask, uses, needs, declares, returns_value, returns_nothing}
-use Rattle.name_rules.specs.Stands.{Site, sites_at, sites_of}
-use Rattle.name_rules.specs.FailsName.{FailsName, unknown, other_kind, assigned, void_method, void_task, value_for_nothing, nothing_for_value, other_count_of_method, other_count_of_task, seen_as, fits, Asks}
+use Rattle.name_check.specs.declared.rule.NRule.{NRule}
+use Rattle.name_check.specs.declared.seen.Asked.{Asked}
+use Rattle.name_check.specs.declared.seen.Asked.TheVariants as asked
+use Rattle.name_check.specs.declared.seen.Global.TheVariants as global_kinds
+use Rattle.name_check.specs.declared.seen.Local.TheVariants as local_kinds
+use Rattle.name_check.specs.declared.seen.Seen.{Seen}
+use Rattle.name_check.specs.declared.seen.Seen.TheVariants as seens
+use Rattle.name_check.specs.declared.names.GlobalName.{GlobalName}
+use Rattle.name_check.specs.declared.scope.LocalName.{LocalName}
+use Rattle.name_check.specs.Names.{globals_of}
+use Rattle.name_check.specs.Asks.{Ask, uses, needs, declares, returns_value, returns_nothing}
+use Rattle.name_check.specs.Stands.{Site, sites_at, sites_of}
+use Rattle.name_check.specs.FailsName.{FailsName, unknown, other_kind, assigned, void_method, void_task, value_for_nothing, nothing_for_value, other_count_of_method, other_count_of_task, seen_as, fits, Asks}
 use Rattle.twe_names.proofs.Lists.{contained-all}
 
 -- what a name stands for is of the kind that its use asks for, takes so many indexes or arguments, has a value where one

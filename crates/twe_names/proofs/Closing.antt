@@ -4,12 +4,12 @@ use Rattle.twe_io.specs.declared.place.Place.{Place}
 use Rattle.twe_ast.specs.declared.item.Decl.{Decl}
 use Rattle.twe_ast.specs.Statement.{Statement, Statements}
 use Rattle.twe_ast.specs.inner.StatementView.{statements_of}
-use Rattle.name_rules.specs.declared.names.GlobalName.{GlobalName}
-use Rattle.name_rules.specs.declared.scope.Here.{Here}
-use Rattle.name_rules.specs.Ends.{close_of}
-use Rattle.name_rules.specs.Here.{after_all}
-use Rattle.name_rules.specs.Stands.{at_body}
-use Rattle.name_rules.proofs.Walks.{passes_all}
+use Rattle.name_check.specs.declared.names.GlobalName.{GlobalName}
+use Rattle.name_check.specs.declared.scope.Here.{Here}
+use Rattle.name_check.specs.Ends.{close_of}
+use Rattle.name_check.specs.Here.{after_all}
+use Rattle.name_check.specs.Stands.{at_body}
+use Rattle.name_check.proofs.Walks.{passes_all}
 use Rattle.twe_names.specs.inner.Numbers.{IsSmallDecl}
 
 close_of-statements_of : (items : List Statement) (close : Place) → close ≡ close_of (statements_of items close)

@@ -11,11 +11,11 @@ use Rattle.twe_ast.specs.Statement.{Statement, Block, Let, Set, SetArray, SetGri
 use Rattle.twe_program.specs.Program.{Program}
 use Rattle.twe_program.specs.Numbering.{Declared, futures_of_all}
 use Rattle.twe_program.specs.WellFormed.{IsNumbered, DeclFits, MethodFits}
-use Rattle.name_rules.specs.declared.names.GlobalName.{GlobalName}
-use Rattle.name_rules.specs.declared.scope.Here.{Here}
-use Rattle.name_rules.specs.Here.{counted, after, after_all, after_arms, after_block, params_from, params_of}
-use Rattle.name_rules.specs.Stands.{sites_at, sites_of_params, sites_in_all, sites_of_decl, at_body, asks_of_clause}
-use Rattle.name_rules.specs.Limits.{paths_of}
+use Rattle.name_check.specs.declared.names.GlobalName.{GlobalName}
+use Rattle.name_check.specs.declared.scope.Here.{Here}
+use Rattle.name_check.specs.Here.{counted, after, after_all, after_arms, after_block, params_from, params_of}
+use Rattle.name_check.specs.Stands.{sites_at, sites_of_params, sites_in_all, sites_of_decl, at_body, asks_of_clause}
+use Rattle.name_check.specs.Limits.{paths_of}
 use Rattle.twe_names.specs.FromText.{makes_none, all_make_none, arms_make_none}
 use Rattle.twe_names.specs.PathMeaning.{effects_of_clause}
 use Rattle.twe_names.specs.BodyMeaning.{statements_of}

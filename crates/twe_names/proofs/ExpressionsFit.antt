@@ -10,17 +10,17 @@ use Rattle.twe_program.specs.declared.program.Decl.{Decl}
 use Rattle.twe_program.specs.Program.{Program}
 use Rattle.twe_program.specs.Numbering.{Declared}
 use Rattle.twe_program.specs.Fitting.{Scope, TakesIndexes, TakesArguments, ReturnsValue, ExpressionFits, ArgumentsFit, count_of}
-use Rattle.name_rules.specs.declared.seen.Asked.TheVariants as asked
-use Rattle.name_rules.specs.declared.seen.Global.TheVariants as global_kinds
-use Rattle.name_rules.specs.declared.seen.Local.TheVariants as local_kinds
-use Rattle.name_rules.specs.declared.seen.Seen.{Seen}
-use Rattle.name_rules.specs.declared.seen.Seen.TheVariants as seens
-use Rattle.name_rules.specs.declared.names.GlobalName.{GlobalName}
-use Rattle.name_rules.specs.declared.scope.LocalName.{LocalName}
-use Rattle.name_rules.specs.Names.{seen}
-use Rattle.name_rules.specs.Types as names
-use Rattle.name_rules.specs.Types.{left_need, right_need, type_of}
-use Rattle.name_rules.specs.Asks.{need, asks_of, asks_inside, asks_of_all}
+use Rattle.name_check.specs.declared.seen.Asked.TheVariants as asked
+use Rattle.name_check.specs.declared.seen.Global.TheVariants as global_kinds
+use Rattle.name_check.specs.declared.seen.Local.TheVariants as local_kinds
+use Rattle.name_check.specs.declared.seen.Seen.{Seen}
+use Rattle.name_check.specs.declared.seen.Seen.TheVariants as seens
+use Rattle.name_check.specs.declared.names.GlobalName.{GlobalName}
+use Rattle.name_check.specs.declared.scope.LocalName.{LocalName}
+use Rattle.name_check.specs.Names.{seen}
+use Rattle.name_check.specs.Types as names
+use Rattle.name_check.specs.Types.{left_need, right_need, type_of}
+use Rattle.name_check.specs.Asks.{need, asks_of, asks_inside, asks_of_all}
 use Rattle.twe_names.specs.BodyMeaning.{cells_number, method_number, value_of, expression_of, shape_of, arguments_of}
 use Rattle.twe_names.specs.Meaning.{returns_value}
 use Rattle.twe_names.proofs.Lists.{all-front, all-back}

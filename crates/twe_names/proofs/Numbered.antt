@@ -6,13 +6,13 @@ use Rattle.twe_ast.specs.Statement.{Statement, Block, Let, Set, SetArray, SetGri
 use Rattle.twe_io.specs.declared.place.Place.{Place}
 use Rattle.twe_program.specs.Expression.{Expression}
 use Rattle.twe_program.specs.Numbering.{CountUp, Declared, points_of, points_of_all, points_of_arms, locals_of, locals_of_all, locals_of_arms, futures_of, futures_of_all, futures_of_arms}
-use Rattle.name_rules.specs.declared.names.GlobalName.{GlobalName}
-use Rattle.name_rules.specs.declared.scope.Here.{Here}
-use Rattle.name_rules.specs.declared.seen.Local.TheVariants as local_kinds
-use Rattle.name_rules.specs.declared.seen.Seen.{Seen}
-use Rattle.name_rules.specs.declared.seen.Seen.TheVariants as seens
-use Rattle.name_rules.specs.Names.{seen}
-use Rattle.name_rules.specs.Here.{counted, leaving, with_variable, after, after_all, after_arms, after_block}
+use Rattle.name_check.specs.declared.names.GlobalName.{GlobalName}
+use Rattle.name_check.specs.declared.scope.Here.{Here}
+use Rattle.name_check.specs.declared.seen.Local.TheVariants as local_kinds
+use Rattle.name_check.specs.declared.seen.Seen.{Seen}
+use Rattle.name_check.specs.declared.seen.Seen.TheVariants as seens
+use Rattle.name_check.specs.Names.{seen}
+use Rattle.name_check.specs.Here.{counted, leaving, with_variable, after, after_all, after_arms, after_block}
 use Rattle.twe_names.specs.BodyMeaning.{set_of, statement_of, statements_of, arms_of, expression_of}
 use Rattle.twe_names.proofs.Lists.{count_up-append}
 

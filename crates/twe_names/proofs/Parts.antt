@@ -7,9 +7,9 @@ use Rattle.twe_program.specs.declared.program.CellDecl.{CellDecl}
 use Rattle.twe_program.specs.declared.program.Decl.{Decl}
 use Rattle.twe_program.specs.Program.{Program, cells_made}
 use Rattle.twe_program.specs.WellFormed.{IsWellFormed}
-use Rattle.node_count.specs.GoesOver.{cells_of}
-use Rattle.name_rules.specs.declared.names.GlobalName.{GlobalName}
-use Rattle.name_rules.specs.Names.{globals_of, seen}
+use Rattle.cell_limits.specs.GoesOver.{cells_of}
+use Rattle.name_check.specs.declared.names.GlobalName.{GlobalName}
+use Rattle.name_check.specs.Names.{globals_of, seen}
 use Rattle.twe_names.specs.BodyMeaning.{task_number}
 use Rattle.twe_names.specs.FromText.{IsFromText}
 use Rattle.twe_names.specs.Meaning.{cells_from, methods_of_item, program_of, regions_of_item, tasks_of_item}

@@ -16,16 +16,16 @@ use Rattle.twe_ast.specs.declared.path.CellElemKind.{CellElemKind}
 use Rattle.twe_ast.specs.declared.path.CellElemKind.TheVariants as cell_kinds
 use Rattle.twe_program.specs.Program.{Program}
 use Rattle.twe_program.specs.WellFormed.{ElementFits, CellElementFits, PathFits}
-use Rattle.name_rules.specs.declared.seen.Asked.TheVariants as asked
-use Rattle.name_rules.specs.declared.seen.Global.{Global}
-use Rattle.name_rules.specs.declared.seen.Global.TheVariants as global_kinds
-use Rattle.name_rules.specs.declared.seen.Local.{Local}
-use Rattle.name_rules.specs.declared.seen.Local.TheVariants as local_kinds
-use Rattle.name_rules.specs.declared.names.GlobalName.{GlobalName}
-use Rattle.name_rules.specs.declared.scope.LocalName.{LocalName}
-use Rattle.name_rules.specs.Names.{first_local, global_of, either, seen_as_local, seen_as_global}
-use Rattle.name_rules.specs.Stands.{asks_of_kind, asks_of_path, asks_of_clause, asks_of_cell_kind}
-use Rattle.name_rules.specs.Limits.{is_star, is_star_kind}
+use Rattle.name_check.specs.declared.seen.Asked.TheVariants as asked
+use Rattle.name_check.specs.declared.seen.Global.{Global}
+use Rattle.name_check.specs.declared.seen.Global.TheVariants as global_kinds
+use Rattle.name_check.specs.declared.seen.Local.{Local}
+use Rattle.name_check.specs.declared.seen.Local.TheVariants as local_kinds
+use Rattle.name_check.specs.declared.names.GlobalName.{GlobalName}
+use Rattle.name_check.specs.declared.scope.LocalName.{LocalName}
+use Rattle.name_check.specs.Names.{first_local, global_of, either, seen_as_local, seen_as_global}
+use Rattle.name_check.specs.Stands.{asks_of_kind, asks_of_path, asks_of_clause, asks_of_cell_kind}
+use Rattle.name_check.specs.Limits.{is_star, is_star_kind}
 use Rattle.twe_names.specs.PathMeaning.{region_number, param_number, elem_of_kind, elems_of, before_star, after_star, path_of, effects_of_clause, elem_of_cell_kind}
 use Rattle.twe_names.proofs.Lists.{all-append, all-front, all-back}
 use Rattle.twe_names.proofs.Clean.{UseClean, AskClean, AsksClean}

@@ -2,15 +2,15 @@
 use Rattle.std.proofs.Common.{ℕ, bytes_eq, List, [], ◌∷◌, ◌++◌, Option, None, Some}
 use Rattle.std.specs.List.{AllByRecursion}
 use Rattle.twe_ast.specs.Statement.{Arms, arm, otherwise, no_else}
-use Rattle.name_rules.specs.declared.seen.Global.{Global}
-use Rattle.name_rules.specs.declared.seen.Local.{Local}
-use Rattle.name_rules.specs.declared.seen.Seen.{Seen}
-use Rattle.name_rules.specs.declared.seen.Seen.TheVariants as seens
-use Rattle.name_rules.specs.declared.names.GlobalName.{GlobalName}
-use Rattle.name_rules.specs.declared.scope.LocalName.{LocalName}
-use Rattle.name_rules.specs.declared.scope.Here.{Here}
-use Rattle.name_rules.specs.Names.{first_local, global_of, seen, either}
-use Rattle.name_rules.specs.Here.{after_arms, after_block}
+use Rattle.name_check.specs.declared.seen.Global.{Global}
+use Rattle.name_check.specs.declared.seen.Local.{Local}
+use Rattle.name_check.specs.declared.seen.Seen.{Seen}
+use Rattle.name_check.specs.declared.seen.Seen.TheVariants as seens
+use Rattle.name_check.specs.declared.names.GlobalName.{GlobalName}
+use Rattle.name_check.specs.declared.scope.LocalName.{LocalName}
+use Rattle.name_check.specs.declared.scope.Here.{Here}
+use Rattle.name_check.specs.Names.{first_local, global_of, seen, either}
+use Rattle.name_check.specs.Here.{after_arms, after_block}
 use Rattle.twe_names.proofs.Lists.{all-append}
 use Rattle.twe_names.proofs.There.{chosen}
 

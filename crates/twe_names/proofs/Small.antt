@@ -9,9 +9,9 @@ use Rattle.twe_ast.specs.declared.item.Clause.{Clause}
 use Rattle.twe_ast.specs.declared.item.Decl.{Decl}
 use Rattle.twe_ast.specs.declared.item.Item.{Item}
 use Rattle.twe_ast.specs.declared.item.Item.TheVariants as items
-use Rattle.node_count.specs.GoesOver.{cells_of_item}
-use Rattle.name_rules.specs.Limits.{decls_of, decls_of_item}
-use Rattle.name_rules.specs.Size.{size_of_decl, size_of_item}
+use Rattle.cell_limits.specs.GoesOver.{cells_of_item}
+use Rattle.name_check.specs.Limits.{decls_of, decls_of_item}
+use Rattle.name_check.specs.Size.{size_of_decl, size_of_item}
 use Rattle.twe_names.specs.FromText.{IsFromText}
 use Rattle.twe_names.specs.inner.Numbers.{IsSmallPath, IsSmallClause, IsSmallDecl, IsSmallItem}
 use Rattle.twe_names.proofs.Lists.{contains-split, contains-middle}

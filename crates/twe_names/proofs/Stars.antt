@@ -5,9 +5,9 @@ use Rattle.std.proofs.lemmas.List.Folds.{length-prefix_len}
 use Rattle.std.proofs.lemmas.List.{take_all}
 use Rattle.region_paths.specs.declared.elements.Elem.{Elem}
 use Rattle.twe_ast.specs.declared.path.PathElem.{PathElem}
-use Rattle.name_rules.specs.Limits.{is_star}
-use Rattle.name_rules.specs.declared.names.GlobalName.{GlobalName}
-use Rattle.name_rules.specs.declared.scope.LocalName.{LocalName}
+use Rattle.name_check.specs.Limits.{is_star}
+use Rattle.name_check.specs.declared.names.GlobalName.{GlobalName}
+use Rattle.name_check.specs.declared.scope.LocalName.{LocalName}
 use Rattle.twe_names.specs.PathMeaning.{before_star, elems_of}
 
 -- so many from the front as are before the first are those before the first

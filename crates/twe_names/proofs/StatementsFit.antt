@@ -12,20 +12,20 @@ use Rattle.twe_program.specs.Program.{Program}
 use Rattle.twe_program.specs.Expression.{Expression}
 use Rattle.twe_program.specs.Numbering.{Declared, futures_of, futures_of_all, futures_of_arms}
 use Rattle.twe_program.specs.Fitting.{Scope, TakesIndexes, TakesArguments, ReturnsValue, ExpressionFits, ReturnFits, IntoFits, WaitFits, StatementFits, StatementsFit, ArmsFit}
-use Rattle.name_rules.specs.declared.seen.Asked.TheVariants as asked
-use Rattle.name_rules.specs.declared.seen.Global.TheVariants as global_kinds
-use Rattle.name_rules.specs.declared.seen.Local.TheVariants as local_kinds
-use Rattle.name_rules.specs.declared.seen.Seen.{Seen}
-use Rattle.name_rules.specs.declared.seen.Seen.TheVariants as seens
-use Rattle.name_rules.specs.declared.names.GlobalName.{GlobalName}
-use Rattle.name_rules.specs.declared.scope.LocalName.{LocalName}
-use Rattle.name_rules.specs.declared.scope.Here.{Here}
-use Rattle.name_rules.specs.Names.{seen}
-use Rattle.name_rules.specs.Here.{counted, is_void, after, after_all, after_arms, after_block}
-use Rattle.name_rules.specs.Types as names
-use Rattle.name_rules.specs.Asks.{asks_of, place_of}
-use Rattle.name_rules.specs.Asks as asks
-use Rattle.name_rules.specs.Stands.{sites_at, sites_in, sites_in_all, sites_in_arms, target_type, asks_of_return}
+use Rattle.name_check.specs.declared.seen.Asked.TheVariants as asked
+use Rattle.name_check.specs.declared.seen.Global.TheVariants as global_kinds
+use Rattle.name_check.specs.declared.seen.Local.TheVariants as local_kinds
+use Rattle.name_check.specs.declared.seen.Seen.{Seen}
+use Rattle.name_check.specs.declared.seen.Seen.TheVariants as seens
+use Rattle.name_check.specs.declared.names.GlobalName.{GlobalName}
+use Rattle.name_check.specs.declared.scope.LocalName.{LocalName}
+use Rattle.name_check.specs.declared.scope.Here.{Here}
+use Rattle.name_check.specs.Names.{seen}
+use Rattle.name_check.specs.Here.{counted, is_void, after, after_all, after_arms, after_block}
+use Rattle.name_check.specs.Types as names
+use Rattle.name_check.specs.Asks.{asks_of, place_of}
+use Rattle.name_check.specs.Asks as asks
+use Rattle.name_check.specs.Stands.{sites_at, sites_in, sites_in_all, sites_in_arms, target_type, asks_of_return}
 use Rattle.twe_names.specs.BodyMeaning.{task_number, future_number, expression_of, value_if, set_of, statement_of, statements_of, arms_of}
 use Rattle.twe_names.specs.Meaning.{returns_value}
 use Rattle.twe_names.proofs.Lists.{all-append, all-front, all-back}

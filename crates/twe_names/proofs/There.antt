@@ -6,15 +6,15 @@ use Rattle.twe_program.specs.declared.program.Decl.{Decl}
 use Rattle.twe_program.specs.Program.{Program}
 use Rattle.twe_program.specs.Numbering.{Declared}
 use Rattle.twe_program.specs.Fitting.{TakesIndexes, ReturnsValue}
-use Rattle.name_rules.specs.declared.seen.Global.{Global}
-use Rattle.name_rules.specs.declared.seen.Global.TheVariants as global_kinds
-use Rattle.name_rules.specs.declared.seen.Local.{Local}
-use Rattle.name_rules.specs.declared.seen.Local.TheVariants as local_kinds
-use Rattle.name_rules.specs.declared.seen.Seen.{Seen}
-use Rattle.name_rules.specs.declared.seen.Seen.TheVariants as seens
-use Rattle.name_rules.specs.declared.names.GlobalName.{GlobalName}
-use Rattle.name_rules.specs.declared.scope.LocalName.{LocalName}
-use Rattle.name_rules.specs.Names.{first_global, first_local, global_of, seen, either, seen_as_global}
+use Rattle.name_check.specs.declared.seen.Global.{Global}
+use Rattle.name_check.specs.declared.seen.Global.TheVariants as global_kinds
+use Rattle.name_check.specs.declared.seen.Local.{Local}
+use Rattle.name_check.specs.declared.seen.Local.TheVariants as local_kinds
+use Rattle.name_check.specs.declared.seen.Seen.{Seen}
+use Rattle.name_check.specs.declared.seen.Seen.TheVariants as seens
+use Rattle.name_check.specs.declared.names.GlobalName.{GlobalName}
+use Rattle.name_check.specs.declared.scope.LocalName.{LocalName}
+use Rattle.name_check.specs.Names.{first_global, first_local, global_of, seen, either, seen_as_global}
 use Rattle.twe_names.specs.Meaning.{returns_value}
 
 -- there is such a declaration, with so many parameters, that returns this

@@ -9,18 +9,18 @@ use Rattle.twe_ast.specs.declared.stmt.LocalType.TheVariants as types
 use Rattle.twe_ast.specs.Statement.{Statement, Block, Let, Set, SetArray, SetGrid, If, While, Return, Print, Call, Make, Wait, LetWait, Statements, end_of_block, statement, Arms, arm, otherwise, no_else}
 use Rattle.twe_program.specs.Expression.{Expression}
 use Rattle.twe_program.specs.Futures.{made_after, WaitsFollow, AllWaitsFollow, ArmsWaitFollow}
-use Rattle.name_rules.specs.declared.seen.Asked.TheVariants as asked
-use Rattle.name_rules.specs.declared.seen.Local.{Local}
-use Rattle.name_rules.specs.declared.seen.Local.TheVariants as local_kinds
-use Rattle.name_rules.specs.declared.seen.Seen.{Seen}
-use Rattle.name_rules.specs.declared.seen.Seen.TheVariants as seens
-use Rattle.name_rules.specs.declared.names.GlobalName.{GlobalName}
-use Rattle.name_rules.specs.declared.scope.LocalName.{LocalName}
-use Rattle.name_rules.specs.declared.scope.Here.{Here}
-use Rattle.name_rules.specs.Names.{seen}
-use Rattle.name_rules.specs.Here.{counted, after, after_block, params_from}
-use Rattle.name_rules.specs.Asks.{asks_of}
-use Rattle.name_rules.specs.Stands.{sites_at, sites_in, sites_in_all, sites_in_arms}
+use Rattle.name_check.specs.declared.seen.Asked.TheVariants as asked
+use Rattle.name_check.specs.declared.seen.Local.{Local}
+use Rattle.name_check.specs.declared.seen.Local.TheVariants as local_kinds
+use Rattle.name_check.specs.declared.seen.Seen.{Seen}
+use Rattle.name_check.specs.declared.seen.Seen.TheVariants as seens
+use Rattle.name_check.specs.declared.names.GlobalName.{GlobalName}
+use Rattle.name_check.specs.declared.scope.LocalName.{LocalName}
+use Rattle.name_check.specs.declared.scope.Here.{Here}
+use Rattle.name_check.specs.Names.{seen}
+use Rattle.name_check.specs.Here.{counted, after, after_block, params_from}
+use Rattle.name_check.specs.Asks.{asks_of}
+use Rattle.name_check.specs.Stands.{sites_at, sites_in, sites_in_all, sites_in_arms}
 use Rattle.twe_names.specs.BodyMeaning.{future_number, expression_of, set_of, statement_of, statements_of, arms_of}
 use Rattle.twe_names.proofs.Lists.{all-front, all-back}
 use Rattle.twe_names.proofs.Clean.{UseClean, SiteClean, AllClean}

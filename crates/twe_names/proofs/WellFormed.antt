@@ -13,13 +13,13 @@ use Rattle.twe_ast.specs.declared.item.ReturnType.TheVariants as return_types
 use Rattle.twe_ast.specs.declared.path.Path.{Path}
 use Rattle.twe_program.specs.Program.{Program, size_of}
 use Rattle.twe_program.specs.WellFormed.{CellFits, DeclFits, MethodFits, IsWellFormed}
-use Rattle.node_count.specs.GoesOver.{cells_of}
-use Rattle.name_rules.specs.declared.rule.NRule.{NRule}
-use Rattle.name_rules.specs.declared.names.GlobalName.{GlobalName}
-use Rattle.name_rules.specs.Names.{globals_of}
-use Rattle.name_rules.specs.Stands.{sites_at, sites_of_item, sites_of_decl, asks_of_cell_path}
-use Rattle.name_rules.specs.Limits.{decls_of, decls_of_item, paths_of, StandsAfter}
-use Rattle.name_rules.specs.FailsName.{FailsName, declared_again, too_many_cells, long_cell_path, long_path, too_many_effects, too_many_params, no_main}
+use Rattle.cell_limits.specs.GoesOver.{cells_of}
+use Rattle.name_check.specs.declared.rule.NRule.{NRule}
+use Rattle.name_check.specs.declared.names.GlobalName.{GlobalName}
+use Rattle.name_check.specs.Names.{globals_of}
+use Rattle.name_check.specs.Stands.{sites_at, sites_of_item, sites_of_decl, asks_of_cell_path}
+use Rattle.name_check.specs.Limits.{decls_of, decls_of_item, paths_of, StandsAfter}
+use Rattle.name_check.specs.FailsName.{FailsName, declared_again, too_many_cells, long_cell_path, long_path, too_many_effects, too_many_params, no_main}
 use Rattle.twe_names.specs.FromText.{IsFromText, all_make_none}
 use Rattle.twe_names.specs.Meaning.{dims_of, cells_from, methods_of_item, tasks_of_item, program_of}
 use Rattle.twe_names.proofs.Lists.{all-front, all-back, contained-all}

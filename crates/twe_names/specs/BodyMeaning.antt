@@ -1,40 +1,21 @@
 -- What the expressions and statements of a text mean, where these names are seen.
 use Rattle.std.specs.Prelude.{ℕ, Bool, false, List, Option, None, Some}
 use Rattle.twe_io.specs.declared.place.Place.{Place}
-use Rattle.twe_ast.specs.declared.expr.BinOp as written
-use Rattle.twe_ast.specs.declared.expr.BinOp.TheVariants as written_ops
 use Rattle.twe_ast.specs.declared.stmt.LocalType.{LocalType}
 use Rattle.twe_ast.specs.declared.stmt.LocalType.TheVariants as types
 use Rattle.twe_ast.specs.Expression as ast
 use Rattle.twe_ast.specs.Statement as ast_stmt
-use Rattle.twe_program.specs.declared.expr.BinOp.{BinOp}
-use Rattle.twe_program.specs.declared.expr.BinOp.TheVariants as ops
 use Rattle.twe_program.specs.Expression.{Expression, Literal, Truth, Variable, CellValue, ArrayElement, GridElement, CallValue, Negative, Negation, Binary, Arguments, no_more, argument}
 use Rattle.twe_program.specs.Statement as stmt
-use Rattle.name_rules.specs.declared.seen.Global.TheVariants as global_kinds
-use Rattle.name_rules.specs.declared.seen.Local.TheVariants as local_kinds
-use Rattle.name_rules.specs.declared.seen.Seen.{Seen}
-use Rattle.name_rules.specs.declared.seen.Seen.TheVariants as seens
-use Rattle.name_rules.specs.declared.names.GlobalName.{GlobalName}
-use Rattle.name_rules.specs.declared.scope.LocalName.{LocalName}
-use Rattle.name_rules.specs.Names.{seen}
-use Rattle.name_rules.specs.declared.scope.Here.{Here}
-use Rattle.name_rules.specs.Here.{counted, after, after_block}
-
-abbrev pub operator_of : written.BinOp → BinOp
-operator_of written_ops.Or = ops.Or
-operator_of written_ops.And = ops.And
-operator_of written_ops.Equal = ops.Equal
-operator_of written_ops.NotEqual = ops.NotEqual
-operator_of written_ops.Less = ops.Less
-operator_of written_ops.LessEqual = ops.LessEqual
-operator_of written_ops.Greater = ops.Greater
-operator_of written_ops.GreaterEqual = ops.GreaterEqual
-operator_of written_ops.Add = ops.Add
-operator_of written_ops.Sub = ops.Sub
-operator_of written_ops.Mul = ops.Mul
-operator_of written_ops.Div = ops.Div
-operator_of written_ops.Rem = ops.Rem
+use Rattle.name_check.specs.declared.seen.Global.TheVariants as global_kinds
+use Rattle.name_check.specs.declared.seen.Local.TheVariants as local_kinds
+use Rattle.name_check.specs.declared.seen.Seen.{Seen}
+use Rattle.name_check.specs.declared.seen.Seen.TheVariants as seens
+use Rattle.name_check.specs.declared.names.GlobalName.{GlobalName}
+use Rattle.name_check.specs.declared.scope.LocalName.{LocalName}
+use Rattle.name_check.specs.Names.{seen}
+use Rattle.name_check.specs.declared.scope.Here.{Here}
+use Rattle.name_check.specs.Here.{counted, after, after_block}
 
 -- The numbers of what names stand for. Each is 0 where a rule of names fails.
 abbrev pub cells_number : Option Seen → ℕ
@@ -80,7 +61,7 @@ abbrev mutual
   shape_of globals locals (ast.Negative operand) = Negative (expression_of globals locals operand)
   shape_of globals locals (ast.Negation operand) = Negation (expression_of globals locals operand)
   shape_of globals locals (ast.Binary op left right place) =
-      Binary (operator_of op) (expression_of globals locals left) (expression_of globals locals right) place
+      Binary op (expression_of globals locals left) (expression_of globals locals right) place
 
   pub arguments_of : List GlobalName → List LocalName → ast.Arguments → Arguments
   arguments_of globals locals ast.no_more = no_more

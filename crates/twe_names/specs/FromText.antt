@@ -12,9 +12,9 @@ use Rattle.twe_ast.specs.declared.path.CellElem.{CellElem}
 use Rattle.twe_ast.specs.declared.path.CellElemKind.{CellElemKind}
 use Rattle.twe_ast.specs.declared.path.CellElemKind.TheVariants as cell_kinds
 use Rattle.twe_ast.specs.Statement.{Statement, Block, If, While, Make, Statements, end_of_block, statement, Arms, arm, otherwise, no_else}
-use Rattle.node_count.specs.GoesOver.{cells_of}
-use Rattle.name_rules.specs.Limits.{decls_of, paths_of}
-use Rattle.name_rules.specs.Size.{IsCountable}
+use Rattle.cell_limits.specs.GoesOver.{cells_of}
+use Rattle.name_check.specs.Limits.{decls_of, paths_of}
+use Rattle.name_check.specs.Size.{IsCountable}
 
 -- an index is a literal up to 2147483647
 abbrev pub IsSmall : PathElemKind → Type 0

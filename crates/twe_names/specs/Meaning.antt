@@ -16,12 +16,12 @@ use Rattle.twe_program.specs.declared.program.Decl.{Decl}
 use Rattle.twe_program.specs.declared.program.Dims.{Dims}
 use Rattle.twe_program.specs.declared.program.Dims.TheVariants.{Scalar, Row, Grid}
 use Rattle.twe_program.specs.Program.{Program, size_of}
-use Rattle.node_count.specs.GoesOver.{cells_of}
-use Rattle.name_rules.specs.declared.names.GlobalName.{GlobalName}
-use Rattle.name_rules.specs.Names.{globals_of, seen}
-use Rattle.name_rules.specs.Here.{after_all}
-use Rattle.name_rules.specs.Stands.{at_body}
-use Rattle.name_rules.specs.Ends.{close_of}
+use Rattle.cell_limits.specs.GoesOver.{cells_of}
+use Rattle.name_check.specs.declared.names.GlobalName.{GlobalName}
+use Rattle.name_check.specs.Names.{globals_of, seen}
+use Rattle.name_check.specs.Here.{after_all}
+use Rattle.name_check.specs.Stands.{at_body}
+use Rattle.name_check.specs.Ends.{close_of}
 use Rattle.twe_names.specs.BodyMeaning.{statements_of, task_number}
 use Rattle.twe_names.specs.PathMeaning.{summary_of, cell_path_of}
 

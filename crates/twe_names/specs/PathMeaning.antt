@@ -16,15 +16,15 @@ use Rattle.twe_ast.specs.declared.path.CellPath.{CellPath}
 use Rattle.twe_ast.specs.declared.path.CellElem.{CellElem}
 use Rattle.twe_ast.specs.declared.path.CellElemKind.{CellElemKind}
 use Rattle.twe_ast.specs.declared.path.CellElemKind.TheVariants as cell_kinds
-use Rattle.name_rules.specs.declared.seen.Global.{Global}
-use Rattle.name_rules.specs.declared.seen.Global.TheVariants as global_kinds
-use Rattle.name_rules.specs.declared.seen.Local.{Local}
-use Rattle.name_rules.specs.declared.seen.Local.TheVariants as local_kinds
-use Rattle.name_rules.specs.declared.names.GlobalName.{GlobalName}
-use Rattle.name_rules.specs.declared.scope.LocalName.{LocalName}
-use Rattle.name_rules.specs.Names.{first_local, global_of}
-use Rattle.name_rules.specs.Here.{params_of}
-use Rattle.name_rules.specs.Limits.{is_star}
+use Rattle.name_check.specs.declared.seen.Global.{Global}
+use Rattle.name_check.specs.declared.seen.Global.TheVariants as global_kinds
+use Rattle.name_check.specs.declared.seen.Local.{Local}
+use Rattle.name_check.specs.declared.seen.Local.TheVariants as local_kinds
+use Rattle.name_check.specs.declared.names.GlobalName.{GlobalName}
+use Rattle.name_check.specs.declared.scope.LocalName.{LocalName}
+use Rattle.name_check.specs.Names.{first_local, global_of}
+use Rattle.name_check.specs.Here.{params_of}
+use Rattle.name_check.specs.Limits.{is_star}
 
 -- the number of a region; 0 where a rule of names fails, as in the other definitions of numbers
 abbrev pub region_number : Option Global → ℕ

@@ -1,6 +1,6 @@
 -- The causes of the resolver's answers.
 use Rattle.twe_ast.specs.declared.item.Ast.{Ast}
-use Rattle.name_rules.specs.FailsName.{IsFirstFailure}
+use Rattle.name_check.specs.FailsName.{IsFirstFailure}
 use Rattle.twe_names.specs.declared.fail.NameFail.{NameFail}
 use Rattle.twe_names.specs.declared.fail.NameFail.TheVariants.{Names, OutOfMemory}
 

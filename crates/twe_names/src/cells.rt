@@ -1,12 +1,12 @@
 //! What the declarations of cells mean.
 ghost use Rattle.std.specs.Prelude.{◌≡◌, ◌≤◌, All, IfOk};
-ghost use Rattle.node_count.specs.GoesOver.{cells_of};
+ghost use Rattle.cell_limits.specs.GoesOver.{cells_of};
 ghost use Rattle.twe_program.specs.Program.{cells_made};
 ghost use Rattle.twe_names.specs.Meaning.{cell_of, cells_from, dims_of, initial_of};
 ghost use Rattle.twe_names.specs.inner.Numbers.{IsSmallCellPath, IsSmallItem};
 
 use crate::paths::cell_path;
-use name_rules::Globals;
+use name_check::Globals;
 use std::alloc::Global;
 use twe_ast::{CellDecl as Written, CellShape, Item};
 use twe_io::{List, Memory};

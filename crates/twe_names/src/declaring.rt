@@ -1,14 +1,14 @@
 //! What the statements mean that declare a local or a future.
 ghost use Rattle.std.specs.Prelude.{◌≡◌, true, IfOk, OnOk};
-ghost use Rattle.name_rules.specs.Here.{after};
-ghost use Rattle.name_rules.specs.inner.Room.{HasRoom};
+ghost use Rattle.name_check.specs.Here.{after};
+ghost use Rattle.name_check.specs.inner.Room.{HasRoom};
 ghost use Rattle.twe_names.specs.BodyMeaning.{statement_of};
 ghost use Rattle.twe_names.specs.inner.Kinds.{declares};
 
 use crate::expressions::{arguments, expression};
 use crate::numbers::task_number;
 use crate::simple::waiting;
-use name_rules::{Globals, Here, look_up};
+use name_check::{Globals, Here, look_up};
 use std::alloc::Global;
 use twe_ast::{LocalType, Stmt as Written, StmtKind as Kind};
 use twe_io::Memory;

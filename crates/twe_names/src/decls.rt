@@ -1,7 +1,7 @@
 //! What the declarations of methods and tasks mean.
 ghost use Rattle.std.specs.Prelude.{◌≡◌, ◌++◌, All, IfOk, OnOk};
 ghost use Rattle.std.specs.List.{flat_map};
-ghost use Rattle.name_rules.specs.Stands.{at_body};
+ghost use Rattle.name_check.specs.Stands.{at_body};
 ghost use Rattle.twe_names.specs.Meaning.{body_of, decl_of, returns_value};
 ghost use Rattle.twe_names.specs.PathMeaning.{effects_of_clause};
 ghost use Rattle.twe_names.specs.inner.Numbers.{IsSmallClause, IsSmallDecl};
@@ -9,7 +9,7 @@ ghost use Rattle.twe_names.specs.inner.Numbers.{IsSmallClause, IsSmallDecl};
 use crate::paths::effect_path;
 use crate::statements::statements;
 use effect_sets::{Effect, Effects, Summary};
-use name_rules::{Globals, Here, Locals};
+use name_check::{Globals, Here, Locals};
 use std::alloc::Global;
 use twe_ast::{Clause, Decl as Written, ReturnType};
 use twe_io::Memory;

@@ -4,8 +4,7 @@ ghost use Rattle.twe_names.specs.BodyMeaning.{arguments_of, expression_of};
 
 use crate::nodes::{array_element, call, grid_element, negation, negative, truth};
 use crate::numbers::{cells_number, method_number, named_value};
-use crate::operator::operator;
-use name_rules::{Globals, Locals, look_up};
+use name_check::{Globals, Locals, look_up};
 use std::alloc::Global;
 use twe_ast::{Args as WrittenArgs, Expr as Written, ExprKind as Kind};
 use twe_io::Memory;
@@ -59,7 +58,7 @@ pub fn expression(
         } => {
             let left = expression(left, alloc, globals, locals)?;
             let right = expression(right, alloc, globals, locals)?;
-            Expr::binary(alloc, operator(*op), left, right, *place)
+            Expr::binary(alloc, *op, left, right, *place)
         }
     }
 }

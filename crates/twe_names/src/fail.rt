@@ -1,6 +1,6 @@
 //! Why a tree has no program.
 
-use name_rules::NRule;
+use name_check::NRule;
 use thiserror::Error;
 use twe_io::{Memory, Place};
 

@@ -2,8 +2,8 @@
 ghost use Rattle.twe_io.specs.declared.place.Place.{Place};
 ghost use Rattle.twe_ast.specs.declared.item.Ast.{Ast};
 ghost use Rattle.twe_program.specs.WellFormed.{IsWellFormed};
-ghost use Rattle.name_rules.specs.declared.rule.NRule.{NRule};
-ghost use Rattle.name_rules.specs.FailsName.{FailsName};
+ghost use Rattle.name_check.specs.declared.rule.NRule.{NRule};
+ghost use Rattle.name_check.specs.FailsName.{FailsName};
 ghost use Rattle.twe_names.specs.FromText.{IsFromText};
 ghost use Rattle.twe_names.specs.Meaning.{program_of};
 

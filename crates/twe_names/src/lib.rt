@@ -9,7 +9,6 @@ mod fail;
 mod laws;
 mod nodes;
 mod numbers;
-mod operator;
 mod paths;
 mod program;
 mod resolver;

@@ -2,7 +2,7 @@
 ghost use Rattle.std.specs.Prelude.{◌≡◌};
 ghost use Rattle.twe_names.specs.BodyMeaning.{cells_number, future_number, is_fixed, method_number, task_number, value_of};
 
-use name_rules::{Global, Local, Seen};
+use name_check::{Global, Local, Seen};
 use twe_ast::LocalType;
 use twe_io::Place;
 use twe_program::{Expr, ExprKind};

@@ -2,13 +2,13 @@
 ghost use Rattle.std.specs.Prelude.{◌≡◌, ◌++◌, length, All, IfOk, OnOk};
 ghost use Rattle.std.specs.List.{list_any};
 ghost use Rattle.twe_ast.specs.declared.path.PathElem.{PathElem as Written};
-ghost use Rattle.name_rules.specs.Limits.{is_star};
-ghost use Rattle.name_rules.specs.Names.{first_local, global_of};
+ghost use Rattle.name_check.specs.Limits.{is_star};
+ghost use Rattle.name_check.specs.Names.{first_local, global_of};
 ghost use Rattle.twe_names.specs.FromText.{IsSmall, IsSmallInCell};
 ghost use Rattle.twe_names.specs.inner.Numbers.{IsSmallCellPath, IsSmallPath};
 ghost use Rattle.twe_names.specs.PathMeaning.{before_star, cell_path_of, elem_of_cell_kind, elem_of_kind, elems_of, param_number, path_of, region_number};
 
-use name_rules::{Global, Globals, Local, Locals};
+use name_check::{Global, Globals, Local, Locals};
 use region_paths::{Elem, Elems};
 use std::alloc;
 use twe_ast::{CellElem, CellElemKind, CellPath, Path, PathElem, PathElemKind};

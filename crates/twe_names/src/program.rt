@@ -2,7 +2,7 @@
 ghost use Rattle.std.specs.Prelude.{◌≡◌, ◌++◌, [], ◌∷◌, All, IfOk, OnOk, codes};
 ghost use Rattle.std.specs.List.{flat_map};
 ghost use Rattle.twe_program.specs.WellFormed.{IsWellFormed};
-ghost use Rattle.name_rules.specs.Names.{globals_of, seen};
+ghost use Rattle.name_check.specs.Names.{globals_of, seen};
 ghost use Rattle.twe_names.specs.BodyMeaning.{task_number};
 ghost use Rattle.twe_names.specs.FromText.{IsFromText};
 ghost use Rattle.twe_names.specs.Meaning.{methods_of_item, program_of, regions_of_item, tasks_of_item};
@@ -11,7 +11,7 @@ ghost use Rattle.twe_names.specs.inner.Numbers.{IsSmallItem};
 use crate::cells::cells;
 use crate::decls::declaration;
 use crate::numbers::task_number;
-use name_rules::{Globals, Locals, look_up};
+use name_check::{Globals, Locals, look_up};
 use std::alloc::Global;
 use twe_ast::{Ast, Item};
 use twe_io::{List, Memory, Word};

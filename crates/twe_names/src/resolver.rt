@@ -1,15 +1,15 @@
 //! From a tree to its program, or to the first failure of a rule of names.
 ghost use Rattle.std.specs.Prelude.{◌≡◌, IfErr, IfOk, OnOk};
 ghost use Rattle.twe_io.specs.declared.place.Place.{Place};
-ghost use Rattle.name_rules.specs.declared.rule.NRule.{NRule as Named};
-ghost use Rattle.name_rules.specs.FailsName.{FailsName};
+ghost use Rattle.name_check.specs.declared.rule.NRule.{NRule as Named};
+ghost use Rattle.name_check.specs.FailsName.{FailsName};
 ghost use Rattle.twe_names.specs.FromText.{IsFromText};
 ghost use Rattle.twe_names.specs.Meaning.{program_of};
 ghost use Rattle.twe_names.specs.Resolves.{HasCause};
 
 use crate::fail::NameFail;
 use crate::program::program;
-use name_rules::{Failure, Globals, first_failure};
+use name_check::{Failure, Globals, first_failure};
 use std::alloc::Global;
 use twe_ast::Ast;
 use twe_program::Prog;

@@ -1,13 +1,13 @@
 //! What the statements mean that have no others inside them and declare nothing.
 ghost use Rattle.std.specs.Prelude.{◌≡◌, true, IfOk, Option};
 ghost use Rattle.twe_program.specs.Statement.{SetArray, SetGrid, Wait};
-ghost use Rattle.name_rules.specs.Names.{seen};
+ghost use Rattle.name_check.specs.Names.{seen};
 ghost use Rattle.twe_names.specs.BodyMeaning.{cells_number, expression_of, future_number, set_of, statement_of, value_if};
 ghost use Rattle.twe_names.specs.inner.Kinds.{is_simple};
 
 use crate::expressions::{arguments, expression};
 use crate::numbers::{cells_number, future_number, method_number};
-use name_rules::{Globals, Here, Local, Locals, Seen, look_up};
+use name_check::{Globals, Here, Local, Locals, Seen, look_up};
 use std::alloc::Global;
 use twe_ast::{Expr as WrittenExpr, Name, Stmt as Written, StmtKind as Kind, WaitCall};
 use twe_io::{Memory, Place};

@@ -1,14 +1,14 @@
 //! What statements, blocks and the arms of an `if` mean. Each call leaves the place as it is after the part.
 ghost use Rattle.std.specs.Prelude.{◌≡◌, IfOk, OnOk};
-ghost use Rattle.name_rules.specs.Here.{after, after_all, after_arms, after_block};
-ghost use Rattle.name_rules.specs.Size.{statements_in, statements_in_all, statements_in_arms};
-ghost use Rattle.name_rules.specs.inner.Room.{HasRoom};
+ghost use Rattle.name_check.specs.Here.{after, after_all, after_arms, after_block};
+ghost use Rattle.name_check.specs.Size.{statements_in, statements_in_all, statements_in_arms};
+ghost use Rattle.name_check.specs.inner.Room.{HasRoom};
 ghost use Rattle.twe_names.specs.BodyMeaning.{arms_of, statement_of, statements_of};
 
 use crate::declaring::declaring_statement;
 use crate::expressions::expression;
 use crate::simple::simple_statement;
-use name_rules::{Globals, Here};
+use name_check::{Globals, Here};
 use std::alloc::Global;
 use twe_ast::{Arms as WrittenArms, Block as WrittenBlock, Stmt as Written, StmtKind as Kind};
 use twe_io::Memory;
@@ -66,7 +66,7 @@ fn statement(
 
 /// What a block means. Afterwards what it declares is seen no more.
 #[cycle(body)]
-#[tactic(auto, using(name_rules::proofs::Rooms::seen_outside))]
+#[tactic(auto, using(name_check::proofs::Rooms::seen_outside))]
 fn block(
     written: &WrittenBlock,
     alloc: Global,

@@ -1,7 +1,7 @@
 -- An expression, as contracts see it: a tree.
 use Rattle.std.specs.Prelude.{ℕ, ℤ, Bool, List, [], ◌∷◌}
 use Rattle.twe_io.specs.declared.place.Place.{Place}
-use Rattle.twe_program.specs.declared.expr.BinOp.{BinOp}
+use Rattle.twe_ast.specs.declared.expr.BinOp.{BinOp}
 
 mutual
   pub data Expression : Type 0 where

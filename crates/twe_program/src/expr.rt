@@ -4,38 +4,8 @@ ghost use Rattle.twe_program.specs.Expression.{Literal, CellValue, Binary};
 
 use std::alloc::Global;
 use std::marker::Model;
+use twe_ast::BinOp;
 use twe_io::{Memory, Place};
-
-/// An operator with two operands.
-#[derive(Clone, Copy, Debug, PartialEq, Eq)]
-pub enum BinOp {
-    /// Whether one of the two is true; the right one is evaluated only where the left one is false.
-    Or,
-    /// Whether both are true; the right one is evaluated only where the left one is true.
-    And,
-    /// Whether the two are equal.
-    Equal,
-    /// Whether the two differ.
-    NotEqual,
-    /// Whether the left one is less.
-    Less,
-    /// Whether the left one is less or equal.
-    LessEqual,
-    /// Whether the left one is greater.
-    Greater,
-    /// Whether the left one is greater or equal.
-    GreaterEqual,
-    /// The sum, which wraps in 32 bits.
-    Add,
-    /// The difference, which wraps in 32 bits.
-    Sub,
-    /// The product, which wraps in 32 bits.
-    Mul,
-    /// The quotient, rounded toward zero.
-    Div,
-    /// The remainder, with the sign of the dividend.
-    Rem,
-}
 
 /// An expression.
 #[cycle(expr)]

@@ -8,6 +8,7 @@ mod expr;
 mod program;
 mod stmt;
 
-pub use expr::{Args, BinOp, Expr, ExprKind};
+pub use expr::{Args, Expr, ExprKind};
 pub use program::{Body, CellDecl, Decl, Dims, Prog};
 pub use stmt::{Arm, Arms, Block, Stmt, StmtKind};
+pub use twe_ast::BinOp;

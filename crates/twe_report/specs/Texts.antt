@@ -4,24 +4,24 @@ use Rattle.std.specs.Fmt.{signed_decimal}
 use Rattle.std.specs.List.{flat_map}
 use Rattle.twe_io.specs.declared.place.Place.{Place}
 use Rattle.seg_journal.specs.declared.journal.Entry.{Entry}
-use Rattle.seg_journal.specs.declared.journal.FaultKind.{FaultKind}
-use Rattle.seg_journal.specs.declared.journal.FaultKind.TheVariants.{DivZero, Index, Fuel, Depth, TaskLimit}
-use Rattle.seg_journal.specs.Limits.{Bounds}
+use Rattle.twe_limits.specs.declared.fault.FaultKind.{FaultKind}
+use Rattle.twe_limits.specs.declared.fault.FaultKind.TheVariants.{DivZero, Index, Fuel, Depth, TaskLimit}
+use Rattle.twe_limits.specs.Limits.{Bounds}
 use Rattle.seg_journal.specs.Spelling.{head_line, move_line, move_of}
 use Rattle.wait_graph.specs.declared.stuck.Edge.{Edge}
 use Rattle.twe_program.specs.declared.program.Dims.{Dims}
 use Rattle.twe_program.specs.declared.program.Dims.TheVariants.{Scalar, Row, Grid}
 use Rattle.twe_program.specs.declared.program.CellDecl.{CellDecl}
 use Rattle.twe_program.specs.Program.{Program}
-use Rattle.twe_parse.specs.declared.fail.SRule.{SRule}
-use Rattle.twe_parse.specs.declared.fail.SRule.TheVariants.{S1, S2, S3, S4, S5, S6}
-use Rattle.name_rules.specs.declared.rule.NRule.{NRule}
-use Rattle.name_rules.specs.declared.rule.NRule.TheVariants.{N1, N2, N3, N4, N5, N6, N7, N8, N9}
+use Rattle.twe_parser.specs.declared.fail.SRule.{SRule}
+use Rattle.twe_parser.specs.declared.fail.SRule.TheVariants.{S1, S2, S3, S4, S5, S6}
+use Rattle.name_check.specs.declared.rule.NRule.{NRule}
+use Rattle.name_check.specs.declared.rule.NRule.TheVariants.{N1, N2, N3, N4, N5, N6, N7, N8, N9}
 use Rattle.effect_check.specs.declared.rule.ERule.{ERule}
 use Rattle.effect_check.specs.declared.rule.ERule.TheVariants.{E1, E2, E3, E4, E5, E6, E7, E8}
-use Rattle.twe_front.specs.declared.refusal.Refusal.{Refusal}
-use Rattle.twe_front.specs.declared.refusal.RuleName.{RuleName}
-use Rattle.twe_front.specs.declared.refusal.RuleName.TheVariants.{Text, Name, Effect}
+use Rattle.twe_frontend.specs.declared.refusal.Refusal.{Refusal}
+use Rattle.twe_frontend.specs.declared.refusal.RuleName.{RuleName}
+use Rattle.twe_frontend.specs.declared.refusal.RuleName.TheVariants.{Text, Name, Effect}
 use Rattle.twe_machine.specs.declared.state.State.{State}
 
 abbrev pub line : List ℕ → List ℕ

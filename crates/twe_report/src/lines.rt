@@ -5,12 +5,12 @@ ghost use Rattle.twe_report.specs.Texts as texts;
 
 use effect_check::ERule;
 use itoa::Buffer;
-use name_rules::NRule;
+use name_check::NRule;
 use seg_journal::FaultKind;
 use std::alloc::Global;
-use twe_front::{Refusal, RuleName};
+use twe_frontend::{Refusal, RuleName};
 use twe_io::{Bytes, Memory, Place};
-use twe_parse::SRule;
+use twe_parser::SRule;
 
 /// The usage line.
 pub fn usage_text(alloc: Global) -> Result<Bytes, Memory>

@@ -1,9 +1,9 @@
 -- One step of the evaluator.
 use Rattle.std.specs.Prelude.{ℕ, ◌+◌, ◌-◌, ℤ, pos, Bool, true, false, List, [], ◌∷◌, ◌++◌, Option, None, Some, nat_eq, nat_le, slice_get, slice_set}
 use Rattle.twe_io.specs.declared.place.Place.{Place}
-use Rattle.seg_journal.specs.declared.journal.FaultKind.{FaultKind}
-use Rattle.seg_journal.specs.declared.journal.FaultKind.TheVariants.{DivZero, Index, Fuel, Depth}
-use Rattle.twe_program.specs.declared.expr.BinOp.{BinOp}
+use Rattle.twe_limits.specs.declared.fault.FaultKind.{FaultKind}
+use Rattle.twe_limits.specs.declared.fault.FaultKind.TheVariants.{DivZero, Index, Fuel, Depth}
+use Rattle.twe_ast.specs.declared.expr.BinOp.{BinOp}
 use Rattle.twe_program.specs.declared.program.Decl.{Decl}
 use Rattle.twe_program.specs.Program.{Program}
 use Rattle.twe_program.specs.Expression.{Expression, Literal, Truth, Variable, CellValue, ArrayElement, GridElement, CallValue, Negative, Negation, Binary, Arguments, argument}
@@ -22,7 +22,7 @@ use Rattle.seg_exec.specs.declared.work.Left.TheVariants as lefts
 use Rattle.seg_exec.specs.Arithmetic.{number_of, is_true, operated, decided, negative, negation}
 use Rattle.seg_exec.specs.Cells.{cell_number, element_number, grid_element_number}
 use Rattle.seg_exec.specs.Meaning.{body_of, vars_at_start}
-use Rattle.seg_exec.specs.inner.Stacks.{below}
+use Rattle.twe_io.specs.Stacks.{below}
 use Rattle.seg_exec.specs.inner.Tasks.{Task, Evaluate, Execute, Rest, Choose, Chosen, Turn, Gather, Take, Negate, Invert, Right, Apply, ReadElement, ReadGridElement, GiveVar, GiveCell, GiveElement, GiveGridElement, PrintValue, Discard, Unwind, Suspend, Leave, Config, top, to_do, with_value, without_value, var_value}
 
 -- a step asks for something, and comes to a configuration

@@ -1,15 +1,15 @@
 -- The evaluator's stack of work, and one step of it.
 use Rattle.std.specs.Prelude.{ℕ, ℤ, pos, List, ◌∷◌, slice_get}
 use Rattle.twe_io.specs.declared.place.Place.{Place}
-use Rattle.twe_program.specs.declared.expr.BinOp.{BinOp}
+use Rattle.twe_ast.specs.declared.expr.BinOp.{BinOp}
 use Rattle.twe_program.specs.Expression.{Expression, Arguments}
 use Rattle.twe_program.specs.Statement.{Statement, Statements, Arms}
 use Rattle.seg_exec.specs.declared.frame.Position.{Position}
 use Rattle.seg_exec.specs.declared.operation.Operation.{Operation}
 use Rattle.seg_exec.specs.declared.work.Goal.{Goal}
 use Rattle.seg_exec.specs.Access.{value_in}
-use Rattle.seg_exec.specs.inner.Stacks as stacks
-use Rattle.seg_exec.specs.inner.Stacks.{below}
+use Rattle.twe_io.specs.Stacks as stacks
+use Rattle.twe_io.specs.Stacks.{below}
 
 -- one thing to do
 pub data Task : Type 0 where

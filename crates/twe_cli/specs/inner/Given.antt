@@ -1,9 +1,9 @@
 -- What is due for a text that is accepted.
 use Rattle.std.specs.Prelude.{◌≡◌, ℕ, Bool, List, []}
 use Rattle.wait_graph.specs.declared.stuck.Edge.{Edge}
-use Rattle.seg_journal.specs.Limits.{Bounds}
+use Rattle.twe_limits.specs.Limits.{Bounds}
 use Rattle.twe_program.specs.Program.{Program}
-use Rattle.twe_front.specs.Accepted.{Accepted}
+use Rattle.twe_frontend.specs.Accepted.{Accepted}
 use Rattle.twe_machine.specs.declared.ending.Outcome.{Outcome}
 use Rattle.twe_machine.specs.declared.ending.Outcome.TheVariants as outcomes
 use Rattle.twe_machine.specs.declared.state.State.{State}
@@ -12,7 +12,7 @@ use Rattle.flat_sched.specs.Stuck.{IsStuckCycle}
 use Rattle.twe_report.specs.Texts.{result_text, prints_text, fault_text, stuck_text}
 use Rattle.twe_cli.specs.declared.answer.Answer.{Answer}
 use Rattle.twe_cli.specs.declared.book.Book.{Book}
-use Rattle.twe_words.specs.declared.command.Command.{Command}
+use Rattle.command_line.specs.declared.command.Command.{Command}
 use Rattle.twe_cli.specs.declared.status.Status.TheVariants.{Done, Fault, Stuck}
 use Rattle.twe_cli.specs.Answers.{Due, with_journal}
 use Rattle.twe_cli.specs.Theorem.{HasRun}

@@ -1,6 +1,6 @@
 -- A run of one segment whose frame is out of its row meanwhile.
 use Rattle.std.specs.Prelude.{ℕ, pos, []}
-use Rattle.seg_journal.specs.Limits.{Bounds}
+use Rattle.twe_limits.specs.Limits.{Bounds}
 use Rattle.twe_program.specs.Program.{Program}
 use Rattle.seg_exec.specs.declared.frame.Frame.{Frame}
 use Rattle.seg_exec.specs.declared.frame.Next.TheVariants.{Ended}

@@ -8,7 +8,7 @@ use Rattle.twe_ast.specs.declared.path.Path.{Path}
 use Rattle.twe_ast.specs.declared.path.PathElem.{PathElem}
 use Rattle.twe_ast.specs.declared.path.CellElem.{CellElem}
 use Rattle.twe_ast.specs.declared.path.CellPath.{CellPath}
-use Rattle.name_rules.specs.Size.{size_of_decl}
+use Rattle.name_check.specs.Size.{size_of_decl}
 use Rattle.twe_names.specs.FromText.{IsSmall, IsSmallInCell}
 
 abbrev pub IsSmallPath : Path → Type 0

@@ -3,8 +3,8 @@ use Rattle.std.specs.Prelude.{◌≡◌, ℕ, zero, suc, pos, refl}
 use Rattle.std.proofs.Common.{ap}
 use Rattle.std.specs.Coded.{Coded}
 use Rattle.twe_io.specs.inner.Codec.{Codec, coded_of, codec_ℤ, codec_bool, codec_place, number_in, first_in, second_in}
-use Rattle.twe_program.specs.declared.expr.BinOp.{BinOp}
-use Rattle.twe_program.specs.declared.expr.BinOp.TheVariants.{Or, And, Equal, NotEqual, Less, LessEqual, Greater, GreaterEqual, Add, Sub, Mul, Div, Rem}
+use Rattle.twe_ast.specs.declared.expr.BinOp.{BinOp}
+use Rattle.twe_ast.specs.declared.expr.BinOp.TheVariants.{Or, And, Equal, NotEqual, Less, LessEqual, Greater, GreaterEqual, Add, Sub, Mul, Div, Rem}
 use Rattle.twe_program.specs.Expression.{Expression, Literal, Truth, Variable, CellValue, ArrayElement, GridElement, CallValue, Negative, Negation, Binary, Arguments, no_more, argument}
 use base.Stored.{Gv, gnil, gnum, gcons}
 

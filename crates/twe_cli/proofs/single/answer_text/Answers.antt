@@ -1,5 +1,5 @@
 use Rattle.std.proofs.Common.{sym, subst}
-use Rattle.twe_front.specs.Reads.{HasCause}
+use Rattle.twe_frontend.specs.Reads.{HasCause}
 use Rattle.twe_cli.specs.declared.answer.Answer.{Answer}
 use Rattle.twe_cli.specs.Answers.{Due}
 use Rattle.twe_cli.proofs.single.answer_text.Goals as goal

@@ -1,5 +1,5 @@
 use Rattle.std.proofs.Common.{◌≡◌, ◌≤◌, ◌+◌, ◌++◌, drop}
-use Rattle.node_count.specs.GoesOver.{cells_of}
+use Rattle.cell_limits.specs.GoesOver.{cells_of}
 use Rattle.twe_program.specs.Program.{cells_made}
 use Rattle.twe_names.specs.Meaning.{cells_from}
 use Rattle.twe_names.proofs.cells.cells.Given as goal

@@ -1,0 +1,57 @@
+-- The printed text of an accepted text's tree is accepted, and its tree is the same but for places.
+use Rattle.std.proofs.Common.{◌≡◌, ℕ, false, List, [], refl, sym, ap, ◌∙◌, subst, arith}
+use Rattle.twe_ast.specs.declared.item.Ast.{Ast}
+use Rattle.twe_lexer.specs.declared.token.Token.{Token}
+use Rattle.twe_lexer.specs.declared.token.TokenKind.{TokenKind}
+use Rattle.twe_lexer.specs.Places.{place_after}
+use Rattle.twe_lexer.specs.Tokens.{tokens_from, BeginsWith}
+use Rattle.twe_parser.specs.Limits.{at_start}
+use Rattle.twe_parser.specs.Writes.{WritesItems}
+use Rattle.ast_printer.specs.ItemWords.{items_words, printed}
+use Rattle.ast_printer.specs.ParsesAgain.{IsTextOf, ParsesAgain}
+use Rattle.ast_printer.proofs.Supply.{tokens_at, kinds_in, places_in, tokens_again}
+use Rattle.ast_printer.proofs.Passing.{AllPass, Beside}
+use Rattle.ast_printer.proofs.PassesItem.{items_pass}
+use Rattle.ast_printer.proofs.PlacedItem.{placed_items, same_items}
+use Rattle.ast_printer.proofs.AgainItem.{items_again}
+use Rattle.ast_printer.proofs.Cutting.{AllAlone, all_alone, lexemes_of, text_cut, words_again, text_allowed, lexemes_closed}
+use Rattle.ast_printer.proofs.Accepted.{tokens_pass, is_accepted}
+
+both_start : Beside 0 0 false false at_start at_start
+both_start = record {
+  brackets = refl;
+  printed = refl;
+  fewer = omega arith;
+  count = omega arith;
+  text_ended = refl;
+  print_ended = refl;
+  text_minus = refl;
+  print_minus = λ h. h;
+}
+
+pub parses_again : (source : List ℕ) (tree : Ast) → IsTextOf source tree → ParsesAgain (printed tree) tree
+parses_again source tree is = from_words words_pass (all_alone (items_words tree.items) at_start words_pass)
+  where
+    words_pass : AllPass at_start (items_words tree.items)
+    words_pass = (items_pass is.writes false false).pass at_start at_start both_start (tokens_pass source is.tokens is.accepted is.cut)
+
+    from_words : AllPass at_start (items_words tree.items) → AllAlone (items_words tree.items) → ParsesAgain (printed tree) tree
+    from_words pass alone =
+        let tokens : List Token = tokens_from [] (lexemes_of (items_words tree.items)) in
+        let begins : BeginsWith (printed tree) tokens [] = record { lexemes = lexemes_of (items_words tree.items); cut = text_cut (items_words tree.items) alone; same = refl } in
+        let kinds : kinds_in tokens ≡ items_words tree.items = words_again [] (items_words tree.items) alone in
+        let placed : tokens_at (places_in tokens) (items_words tree.items) ≡ tokens = ap (tokens_at (places_in tokens)) (sym kinds) ∙ tokens_again tokens in
+        let again : Ast = record { items = placed_items tree.items (places_in tokens); end = place_after (printed tree) } in
+        let writes : WritesItems again.items tokens = subst (λ (all : List Token). WritesItems again.items all) placed (items_again is.writes (places_in tokens)) in
+        record {
+          again = again;
+          parsed = record {
+            tokens = tokens;
+            cut = begins;
+            writes = writes;
+            accepted = is_accepted (printed tree) again tokens begins writes (subst (λ (words : List TokenKind). AllPass at_start words) (sym kinds) pass) (text_allowed (items_words tree.items) alone)
+                (lexemes_closed (items_words tree.items) alone);
+          };
+          end = refl;
+          same = same_items tree.items (places_in tokens);
+        }

@@ -1,0 +1,13 @@
+-- Which declaration of a text goes over a limit, as a place.
+use Rattle.std.specs.Prelude.{◌≡◌, List, Option, None, Some}
+use Rattle.twe_io.specs.declared.place.Place.{Place}
+use Rattle.twe_ast.specs.declared.item.Item.{Item}
+use Rattle.twe_ast.specs.declared.item.CellDecl.{CellDecl}
+use Rattle.cell_limits.specs.GoesOver.{cells_of, GoesOver}
+
+-- the place of the name of a declaration that goes over, which is that of each such declaration; or None where there is none
+abbrev pub IsFirstOver : List Item → Option Place → Type 0
+IsFirstOver items None = (cell : CellDecl) → ¬ GoesOver (cells_of items) cell
+IsFirstOver items (Some place) =
+    ((cell : CellDecl) × GoesOver (cells_of items) cell × (place ≡ cell.name.place))
+    × ((cell : CellDecl) → GoesOver (cells_of items) cell → cell.name.place ≡ place)

@@ -1,0 +1,23 @@
+-- The limits on cells and nodes, and the declaration that goes over one.
+use Rattle.std.specs.Prelude.{◌≡◌, ◌<◌, ◌≤◌, ◌⊎◌, List, [], ◌∷◌, ◌++◌, flat_map}
+use Rattle.twe_ast.specs.declared.item.Item.{Item}
+use Rattle.twe_ast.specs.declared.item.Item.TheVariants as items
+use Rattle.twe_ast.specs.declared.item.CellDecl.{CellDecl}
+use Rattle.cell_limits.specs.Nodes.{cells_made, HasNodes}
+
+-- the declarations of cells, in the order of the text
+abbrev pub cells_of_item : Item → List CellDecl
+cells_of_item (items.Cell cell) = cell ∷ []
+cells_of_item _ = []
+
+abbrev pub cells_of : List Item → List CellDecl
+cells_of items = flat_map cells_of_item items
+
+-- the declaration is the first, in the order of the text, that brings the number of cells or that of nodes over its limit
+pub record GoesOver (cells : List CellDecl) (cell : CellDecl) : Type 0 where
+  pub before : List CellDecl
+  pub after : List CellDecl
+  pub list : cells ≡ before ++ cell ∷ after
+  pub few_cells : cells_made before ≤ 65536
+  pub few_nodes : ¬ HasNodes before 131073
+  pub over : (65536 < cells_made (before ++ cell ∷ [])) ⊎ HasNodes (before ++ cell ∷ []) 131073

@@ -1,0 +1,54 @@
+//! The first declaration of a text that brings the number of cells, or that of nodes, over its limit.
+ghost use Rattle.std.specs.Prelude.{◌≡◌, [], ◌∷◌, codes, Contains, IfOk, MatchOption};
+ghost use Rattle.std.specs.List.{All};
+ghost use Rattle.cell_limits.specs.GoesOver.{cells_of_item, cells_of};
+ghost use Rattle.cell_limits.specs.Nodes.{written_path};
+ghost use Rattle.cell_limits.specs.FirstOver.{IsFirstOver};
+ghost use Rattle.cell_limits.specs.inner.Parts.{IsKnown};
+ghost use Rattle.cell_limits.specs.inner.Counting.{HasCounted};
+
+use crate::count::Count;
+use crate::names::Names;
+use std::alloc::Global;
+use twe_ast::{CellDecl, Item};
+use twe_io::{Memory, Place};
+
+/// The place of the name of the first declaration that brings the number of cells over 65,536, or that of nodes over
+/// 131,072; or `None`, where none does.
+///
+/// Cells are counted before nodes, and no node is counted of a declaration whose cells go over their limit. The time is
+/// near linear in the length of the text, and in the limits.
+pub fn first_over(alloc: Global, items: &[Item]) -> Result<Option<Place>, Memory>
+    ensures { IfOk result (IsFirstOver items.now) }
+{
+    let names = Names::of_items(alloc, items)?;
+    let count = Count::new(alloc, &names)?;
+    first_counted(&names, count, items)
+}
+
+/// The same, where all names are known and nothing was counted yet.
+fn first_counted(names: &Names, mut count: Count, items: &[Item]) -> Result<Option<Place>, Memory>
+    requires none { HasCounted names.now [] count }
+    requires console { Contains names.now (codes "Console") }
+    requires cells { All (λ cell. All (IsKnown names.now) (written_path cell)) (cells_of items.now) }
+    ensures { IfOk result (IsFirstOver items.now) }
+{
+    for item in items {
+        if let Some(cell) = cell_of(item) {
+            if !count.add(names, cell)? {
+                return Ok(Some(cell.name.place));
+            }
+        }
+    }
+    Ok(None)
+}
+
+/// The declaration of cells that an item is, if it is one.
+fn cell_of(item: &Item) -> Option<&CellDecl>
+    ensures { MatchOption result (cells_of_item item.now ≡ []) (λ cell. cells_of_item item.now ≡ cell.now ∷ []) }
+{
+    match item {
+        Item::Cell(cell) => Some(cell),
+        _ => None,
+    }
+}

@@ -1,5 +1,0 @@
-use Rattle.effect_sound.proofs.Segments.{entry_runs, segment_later, segment_makes}
-use Rattle.effect_sound.proofs.laws.arguments_stay.Goals as goal
-
-pub returns : goal.returns
-returns c = record { entry = entry_runs; later = segment_later; made = segment_makes }

@@ -1,5 +1,0 @@
-use Rattle.effect_sound.proofs.Segments.{main_declared}
-use Rattle.effect_sound.proofs.laws.main_keeps_to_its_summary.Goals as goal
-
-pub returns : goal.returns
-returns c = main_declared

@@ -1,5 +1,0 @@
-use Rattle.isolation.proofs.Journals.{runs_isolated, runs_within}
-use Rattle.isolation.proofs.laws.accepted_runs_are_isolated.Goals as goal
-
-pub returns : goal.returns
-returns c = record { isolated = runs_isolated; within = runs_within }

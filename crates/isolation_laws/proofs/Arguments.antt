@@ -1,0 +1,43 @@
+-- A task keeps its arguments while it takes the value that it waits for, and where its frame is cut off.
+use Rattle.std.proofs.Common.{◌≡◌, ℕ, ℤ, List, [], ◌∷◌, length, take, Option, None, Some, sym, ◌∙◌, subst}
+use Rattle.std.specs.Prelude.{slice_get}
+use Rattle.std.proofs.lemmas.List.{take-set-le}
+use Rattle.twe_program.specs.Fitting.{TakesArguments}
+use Rattle.twe_program.specs.Program.{Program}
+use Rattle.seg_exec.specs.declared.frame.Call.{Call}
+use Rattle.seg_exec.specs.declared.frame.Frame.{Frame}
+use Rattle.seg_exec.specs.declared.frame.Next.{Next}
+use Rattle.seg_exec.specs.declared.frame.Next.TheVariants.{Go, Get, Join, Closing, Ended}
+use Rattle.seg_exec.specs.Giving.{calls_with, given, given_by, vars_with}
+use Rattle.soundness_laws.specs.RunsWith.{BeginWith, IntoFrom, NextFrom, RunsWith}
+use Rattle.isolation_laws.proofs.Frames.{given_decl}
+
+module _ (args : List ℤ) (value : ℤ) where
+  vars_begin : (into : Option ℕ) (vars : List ℤ) → IntoFrom (length args) into → take (length args) vars ≡ args → take (length args) (vars_with into value vars) ≡ args
+  vars_begin None vars after e = e
+  vars_begin (Some var) vars after e = take-set-le (length args) vars var value after ∙ e
+
+  calls_begin : (into : Option ℕ) (calls : List Call) → IntoFrom (length args) into → BeginWith args calls → BeginWith args (calls_with into value calls)
+  calls_begin into [] after begins = tt
+  calls_begin into (call ∷ callers) after begins = vars_begin into call.vars after begins
+
+  given_begins : (next : Next) (frame : Frame) → NextFrom (length args) next → BeginWith args frame.calls → BeginWith args (given_by next frame value).calls
+  given_begins Go frame after begins = begins
+  given_begins (Get on into) frame after begins = calls_begin into frame.calls after begins
+  given_begins (Join on into) frame after begins = calls_begin into frame.calls after begins
+  given_begins (Closing on) frame after begins = begins
+  given_begins Ended frame after begins = begins
+
+  given_next : (next : Next) (frame : Frame) → NextFrom (length args) frame.next → NextFrom (length args) (given_by next frame value).next
+  given_next Go frame after = after
+  given_next (Get on into) frame after = tt
+  given_next (Join on into) frame after = tt
+  given_next (Closing on) frame after = tt
+  given_next Ended frame after = after
+
+  pub given_runs : (p : Program) (frame : Frame) → RunsWith p args frame → RunsWith p args (given frame value)
+  given_runs p frame runs = record {
+    count = subst (λ (n : ℕ). TakesArguments (slice_get p.tasks n) (length args)) (sym (given_decl frame value)) runs.count;
+    params = given_begins frame.next frame runs.next runs.params;
+    next = given_next frame.next frame runs.next;
+  }

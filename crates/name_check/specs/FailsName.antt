@@ -1,0 +1,157 @@
+-- The rules of names: where a tree fails them, and which failure is the first.
+use Rattle.std.specs.Prelude.{◌≡◌, ◌⊎◌, ℕ, ◌<◌, ◌≤◌, ◌==◌, Bool, true, false, not, List, [], ◌∷◌, ◌++◌, Option, None, Some, codes, Contains}
+use Rattle.twe_io.specs.declared.place.Place.{Place}
+use Rattle.twe_ast.specs.declared.item.Ast.{Ast}
+use Rattle.twe_ast.specs.declared.item.CellDecl.{CellDecl}
+use Rattle.twe_ast.specs.declared.item.Decl.{Decl}
+use Rattle.twe_ast.specs.declared.item.Item.TheVariants as items
+use Rattle.twe_ast.specs.declared.item.ReturnType.{ReturnType}
+use Rattle.twe_ast.specs.declared.item.ReturnType.TheVariants as return_types
+use Rattle.twe_ast.specs.declared.name.Name.{Name}
+use Rattle.twe_ast.specs.declared.path.Path.{Path}
+use Rattle.twe_ast.specs.declared.path.PathElem.{PathElem}
+use Rattle.twe_ast.specs.declared.path.CellElem.{CellElem}
+use Rattle.twe_ast.specs.declared.stmt.LocalType.{LocalType}
+use Rattle.twe_ast.specs.Expression.{Expression}
+use Rattle.name_check.specs.declared.rule.NRule.{NRule}
+use Rattle.name_check.specs.declared.rule.NRule.TheVariants.{N1, N2, N3, N4, N5, N6, N7, N8, N9}
+use Rattle.name_check.specs.declared.seen.Asked.{Asked}
+use Rattle.name_check.specs.declared.seen.Asked.TheVariants as asked
+use Rattle.name_check.specs.declared.seen.Global.TheVariants as global_kinds
+use Rattle.name_check.specs.declared.seen.Local.TheVariants as local_kinds
+use Rattle.name_check.specs.declared.seen.Seen.{Seen}
+use Rattle.name_check.specs.declared.seen.Seen.TheVariants as seens
+use Rattle.name_check.specs.declared.names.GlobalName.{GlobalName}
+use Rattle.name_check.specs.declared.scope.LocalName.{LocalName}
+use Rattle.name_check.specs.Names.{globals_of, first_local, seen, seen_as_local}
+use Rattle.name_check.specs.Types.{type_of}
+use Rattle.name_check.specs.Asks.{Ask, uses, needs, declares, returns_value, returns_nothing, place_of}
+use Rattle.name_check.specs.Stands.{sites_of}
+use Rattle.name_check.specs.Ends.{one_ends, close_of}
+use Rattle.cell_limits.specs.GoesOver.{cells_of, GoesOver}
+use Rattle.name_check.specs.Limits.{decls_of, paths_of, StandsAfter, IsSecondStar}
+
+-- the text asks for this, where these names are seen, in a declaration that returns this
+abbrev pub Asks : Ast → List LocalName → ReturnType → Ask → Type 0
+Asks ast locals returns ask = Contains (sites_of ast) (record { locals = locals; returns = returns; ask = ask })
+
+-- What a name stands for where it is used. As an index in the path of an effect only a parameter is seen.
+abbrev pub seen_as : List GlobalName → List LocalName → Asked → List ℕ → Option Seen
+seen_as globals locals asked.Parameter text = seen_as_local (first_local text locals)
+seen_as globals locals _ text = seen globals locals text
+
+-- what a name stands for is of the kind that its use asks for, an array with so many indexes
+abbrev pub fits : Asked → Seen → Bool
+fits asked.Region (seens.Global (global_kinds.Region number)) = true
+fits asked.Parameter (seens.Local (local_kinds.Variable number local_type constant)) = true
+fits asked.Value (seens.Local (local_kinds.Variable number local_type constant)) = true
+fits asked.Value (seens.Global (global_kinds.Cells number indexes)) = indexes == 0
+fits asked.Target (seens.Local (local_kinds.Variable number local_type constant)) = true
+fits asked.Target (seens.Global (global_kinds.Cells number indexes)) = indexes == 0
+fits (asked.Array given) (seens.Global (global_kinds.Cells number indexes)) = indexes == given
+fits (asked.Method args valued) (seens.Global (global_kinds.Method number params returns)) = true
+fits (asked.Task args) (seens.Global (global_kinds.Task number params returns)) = true
+fits (asked.Future true valued) (seens.Local (local_kinds.Future number spawned void)) = spawned
+fits (asked.Future false valued) (seens.Local (local_kinds.Future number spawned void)) = not spawned
+fits _ _ = false
+
+-- the tree declares this name for the whole program after one of the same text, or it is `Console`
+pub record IsDeclaredAgain (ast : Ast) (this : GlobalName) : Type 0 where
+  pub before : List GlobalName
+  pub after : List GlobalName
+  pub list : globals_of ast ≡ before ++ this ∷ after
+  pub again : (this.text ≡ codes "Console") ⊎ ((earlier : GlobalName) × Contains before earlier × (earlier.text ≡ this.text))
+
+-- there is a task `main` that has no parameters and returns nothing
+pub record HasMain (ast : Ast) : Type 0 where
+  pub deterministic : Bool
+  pub decl : Decl
+  pub there : Contains ast.items (items.Task deterministic decl)
+  pub named : decl.name.text ≡ codes "main"
+  pub plain : decl.params ≡ []
+  pub void : decl.returns ≡ return_types.Void
+
+-- The tree fails this rule at this place.
+pub data FailsName (ast : Ast) : NRule → Place → Type 0 where
+  -- a name is used that is not seen there
+  unknown : (locals : List LocalName) (returns : ReturnType) (name : Name) (asks : Asked)
+      → Asks ast locals returns (uses name asks) → seen_as (globals_of ast) locals asks name.text ≡ None → FailsName ast N1 name.place
+  -- a name of the whole program is declared a second time, or is `Console`
+  declared_again : (name : GlobalName) → IsDeclaredAgain ast name → FailsName ast N2 name.place
+  -- a parameter, local or future gets a name that is seen there
+  hides : (locals : List LocalName) (returns : ReturnType) (name : Name) (other : Seen)
+      → Asks ast locals returns (declares name) → seen (globals_of ast) locals name.text ≡ Some other → FailsName ast N2 name.place
+  -- a name that is seen has another kind than its use asks for, or an array another number of indexes
+  other_kind : (locals : List LocalName) (returns : ReturnType) (name : Name) (asks : Asked) (other : Seen)
+      → Asks ast locals returns (uses name asks) → seen_as (globals_of ast) locals asks name.text ≡ Some other → fits asks other ≡ false → FailsName ast N3 name.place
+  -- an expression has another type than is needed
+  other_type : (locals : List LocalName) (returns : ReturnType) (type other : LocalType) (value : Expression)
+      → Asks ast locals returns (needs type value) → type_of (globals_of ast) locals value ≡ Some other → ¬ (type ≡ other) → FailsName ast N3 (place_of value)
+  -- a method that returns nothing stands in an expression
+  void_method : (locals : List LocalName) (returns : ReturnType) (name : Name) (args number params : ℕ)
+      → Asks ast locals returns (uses name (asked.Method args true))
+      → seen (globals_of ast) locals name.text ≡ Some (seens.Global (global_kinds.Method number params return_types.Void)) → FailsName ast N3 name.place
+  -- a value is taken from a task that returns nothing
+  void_task : (locals : List LocalName) (returns : ReturnType) (name : Name) (join spawned : Bool) (number : ℕ)
+      → Asks ast locals returns (uses name (asked.Future join true))
+      → seen (globals_of ast) locals name.text ≡ Some (seens.Local (local_kinds.Future number spawned true)) → FailsName ast N3 name.place
+  -- a body that returns nothing has a `return` with a value
+  value_for_nothing : (locals : List LocalName) (place : Place) → Asks ast locals return_types.Void (returns_value place) → FailsName ast N3 place
+  -- a body that returns a value has a `return` without one
+  nothing_for_value : (locals : List LocalName) (place : Place) → Asks ast locals return_types.Int (returns_nothing place) → FailsName ast N3 place
+  -- a method is called, or a task made, with another number of arguments than it has parameters
+  other_count_of_method : (locals : List LocalName) (returns its : ReturnType) (name : Name) (args number params : ℕ) (valued : Bool)
+      → Asks ast locals returns (uses name (asked.Method args valued))
+      → seen (globals_of ast) locals name.text ≡ Some (seens.Global (global_kinds.Method number params its)) → ¬ (params ≡ args) → FailsName ast N4 name.place
+  other_count_of_task : (locals : List LocalName) (returns its : ReturnType) (name : Name) (args number params : ℕ)
+      → Asks ast locals returns (uses name (asked.Task args))
+      → seen (globals_of ast) locals name.text ≡ Some (seens.Global (global_kinds.Task number params its)) → ¬ (params ≡ args) → FailsName ast N4 name.place
+  -- a body that returns a value can end without a `return`
+  no_return : (decl : Decl) → Contains (decls_of ast) decl → decl.returns ≡ return_types.Int → one_ends decl.body ≡ false → FailsName ast N5 (close_of decl.body)
+  -- a parameter or a `final` local is assigned
+  assigned : (locals : List LocalName) (returns : ReturnType) (name : Name) (number : ℕ) (type : LocalType)
+      → Asks ast locals returns (uses name asked.Target)
+      → seen (globals_of ast) locals name.text ≡ Some (seens.Local (local_kinds.Variable number type true)) → FailsName ast N6 name.place
+  -- a declaration brings the number of cells, or that of nodes, over its limit
+  too_many_cells : (cell : CellDecl) → GoesOver (cells_of ast.items) cell → FailsName ast N7 cell.name.place
+  -- the 33rd element of the path of a cell or of an effect
+  long_cell_path : (cell : CellDecl) (elem : CellElem)
+      → Contains (cells_of ast.items) cell → StandsAfter 32 cell.path.elems elem → FailsName ast N7 elem.place
+  long_path : (decl : Decl) (path : Path) (elem : PathElem)
+      → Contains (decls_of ast) decl → Contains (paths_of decl) path → StandsAfter 32 path.elems elem → FailsName ast N7 elem.place
+  -- the 9th effect of a declaration
+  too_many_effects : (decl : Decl) (path : Path)
+      → Contains (decls_of ast) decl → StandsAfter 8 (paths_of decl) path → FailsName ast N7 path.place
+  -- the 5th parameter
+  too_many_params : (decl : Decl) (name : Name)
+      → Contains (decls_of ast) decl → StandsAfter 4 decl.params name → FailsName ast N7 name.place
+  -- there is no `task void main()`
+  no_main : ¬ HasMain ast → FailsName ast N8 ast.end
+  -- a path has a second `*`
+  second_star : (decl : Decl) (path : Path) (elem : PathElem)
+      → Contains (decls_of ast) decl → Contains (paths_of decl) path → IsSecondStar path.elems elem → FailsName ast N9 elem.place
+
+abbrev pub number_of : NRule → ℕ
+number_of N1 = 1
+number_of N2 = 2
+number_of N3 = 3
+number_of N4 = 4
+number_of N5 = 5
+number_of N6 = 6
+number_of N7 = 7
+number_of N8 = 8
+number_of N9 = 9
+
+-- the first place is earlier in the text
+abbrev pub IsEarlier : Place → Place → Type 0
+IsEarlier a b = (a.line < b.line) ⊎ ((a.line ≡ b.line) × (a.col < b.col))
+
+-- the first failure does not come after the second: its place is earlier, or the same and its number not higher
+abbrev pub NotAfter : NRule → Place → NRule → Place → Type 0
+NotAfter rule place other elsewhere =
+    IsEarlier place elsewhere ⊎ ((place ≡ elsewhere) × (number_of rule ≤ number_of other))
+
+-- the failure comes before all others
+pub record IsFirstFailure (ast : Ast) (rule : NRule) (place : Place) : Type 0 where
+  pub fails : FailsName ast rule place
+  pub first : (other : NRule) (elsewhere : Place) → FailsName ast other elsewhere → NotAfter rule place other elsewhere

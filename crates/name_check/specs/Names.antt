@@ -1,0 +1,89 @@
+-- What names stand for: those of the whole program, which are seen everywhere, and those inside a declaration.
+use Rattle.std.specs.Prelude.{ℕ, ◌+◌, bytes_eq, if◌then◌else◌, List, [], ◌∷◌, ◌++◌, Option, None, Some, length, codes}
+use Rattle.twe_ast.specs.declared.name.Name.{Name}
+use Rattle.twe_ast.specs.declared.item.Ast.{Ast}
+use Rattle.twe_ast.specs.declared.item.Item.{Item}
+use Rattle.twe_ast.specs.declared.item.Item.TheVariants as items
+use Rattle.twe_ast.specs.declared.item.CellShape.{CellShape}
+use Rattle.twe_ast.specs.declared.item.CellShape.TheVariants as shapes
+use Rattle.name_check.specs.declared.names.GlobalName.{GlobalName}
+use Rattle.name_check.specs.declared.scope.LocalName.{LocalName}
+use Rattle.name_check.specs.declared.seen.Global.{Global}
+use Rattle.name_check.specs.declared.seen.Global.TheVariants as global_kinds
+use Rattle.name_check.specs.declared.seen.Local.{Local}
+use Rattle.name_check.specs.declared.seen.Seen.{Seen}
+use Rattle.name_check.specs.declared.seen.Seen.TheVariants as seens
+
+-- how many regions, declarations of cells, methods and tasks there are before an item
+pub record Before : Type 0 where
+  pub regions : ℕ
+  pub cells : ℕ
+  pub methods : ℕ
+  pub tasks : ℕ
+
+-- at the start of a text `Console` is there
+abbrev pub at_start : Before
+at_start = record { regions = 1; cells = 0; methods = 0; tasks = 0 }
+
+abbrev pub indexes_of : CellShape → ℕ
+indexes_of (shapes.Scalar initial) = 0
+indexes_of (shapes.Array elements) = 1
+indexes_of (shapes.Grid rows columns) = 2
+
+-- regions are numbered on
+abbrev pub regions_from : ℕ → List Name → List GlobalName
+regions_from number [] = []
+regions_from number (name ∷ names) = record { text = name.text; place = name.place; global = global_kinds.Region number } ∷ regions_from (number + 1) names
+
+-- what an item declares, where so many are before it
+abbrev pub declared_by : Before → Item → List GlobalName
+declared_by before (items.Regions names) = regions_from before.regions names
+declared_by before (items.Cell cell) =
+    record { text = cell.name.text; place = cell.name.place; global = global_kinds.Cells before.cells (indexes_of cell.shape) } ∷ []
+declared_by before (items.Method decl) =
+    record { text = decl.name.text; place = decl.name.place; global = global_kinds.Method before.methods (length decl.params) decl.returns } ∷ []
+declared_by before (items.Task deterministic decl) =
+    record { text = decl.name.text; place = decl.name.place; global = global_kinds.Task before.tasks (length decl.params) decl.returns } ∷ []
+
+abbrev pub past : Before → Item → Before
+past before (items.Regions names) = record before { regions = before.regions + length names }
+past before (items.Cell cell) = record before { cells = before.cells + 1 }
+past before (items.Method decl) = record before { methods = before.methods + 1 }
+past before (items.Task deterministic decl) = record before { tasks = before.tasks + 1 }
+
+abbrev pub globals_from : Before → List Item → List GlobalName
+globals_from before [] = []
+globals_from before (item ∷ others) = declared_by before item ++ globals_from (past before item) others
+
+-- the names that a text declares for the whole program, in the order of the text
+abbrev pub globals_of : Ast → List GlobalName
+globals_of ast = globals_from at_start ast.items
+
+-- what the first of these of that name stands for
+abbrev pub first_global : List ℕ → List GlobalName → Option Global
+first_global text [] = None
+first_global text (first ∷ others) = if bytes_eq text first.text then Some first.global else first_global text others
+
+abbrev pub first_local : List ℕ → List LocalName → Option Local
+first_local text [] = None
+first_local text (first ∷ others) = if bytes_eq text first.text then Some first.local else first_local text others
+
+-- what a name stands for in the whole program: `Console` is a region beforehand, and of declarations the first counts
+abbrev pub global_of : List GlobalName → List ℕ → Option Global
+global_of globals text = if bytes_eq text (codes "Console") then Some (global_kinds.Region 0) else first_global text globals
+
+abbrev pub seen_as_local : Option Local → Option Seen
+seen_as_local None = None
+seen_as_local (Some local) = Some (seens.Local local)
+
+abbrev pub seen_as_global : Option Global → Option Seen
+seen_as_global None = None
+seen_as_global (Some global) = Some (seens.Global global)
+
+abbrev pub either : Option Local → Option Global → Option Seen
+either None global = seen_as_global global
+either (Some local) global = Some (seens.Local local)
+
+-- what a name stands for where these names are seen
+abbrev pub seen : List GlobalName → List LocalName → List ℕ → Option Seen
+seen globals locals text = either (first_local text locals) (global_of globals text)

@@ -1,0 +1,69 @@
+-- The failures that are no use of a name: limits, ends of bodies and second stars.
+use Rattle.std.specs.Prelude.{Bool, true, false, not, ◌&&◌, if◌then◌else◌, List, [], ◌∷◌, ◌++◌, Option, None, Some, slice_get}
+use Rattle.std.specs.Option.{option_map}
+use Rattle.twe_io.specs.declared.place.Place.{Place}
+use Rattle.twe_ast.specs.declared.item.Clause.{Clause}
+use Rattle.twe_ast.specs.declared.item.Decl.{Decl}
+use Rattle.twe_ast.specs.declared.item.Item.{Item}
+use Rattle.twe_ast.specs.declared.item.Item.TheVariants as items
+use Rattle.twe_ast.specs.declared.name.Name.{Name}
+use Rattle.twe_ast.specs.declared.path.CellElem.{CellElem}
+use Rattle.twe_ast.specs.declared.path.Path.{Path}
+use Rattle.twe_ast.specs.declared.path.PathElem.{PathElem}
+use Rattle.name_check.specs.declared.rule.NRule.{NRule}
+use Rattle.name_check.specs.declared.rule.NRule.TheVariants.{N5, N7, N9}
+use Rattle.name_check.specs.declared.rule.Failure.{Failure}
+use Rattle.name_check.specs.Ends.{one_ends, close_of}
+use Rattle.name_check.specs.Limits.{is_star, paths_of}
+use Rattle.name_check.specs.inner.Failures.{is_void}
+use Rattle.name_check.specs.inner.Least.{failure_if}
+
+abbrev pub failures_of_place : NRule → Option Place → List Failure
+failures_of_place rule None = []
+failures_of_place rule (Some place) = record { rule = rule; place = place } ∷ []
+
+-- the places of the 5th parameter, the 9th path, and the 33rd element of a path of an effect or of a cell
+abbrev pub fifth_name : List Name → Option Place
+fifth_name names = option_map (λ (name : Name). name.place) (slice_get names 4)
+
+abbrev pub ninth_path : List Path → Option Place
+ninth_path paths = option_map (λ (path : Path). path.place) (slice_get paths 8)
+
+abbrev pub long_elem : List PathElem → Option Place
+long_elem elems = option_map (λ (elem : PathElem). elem.place) (slice_get elems 32)
+
+abbrev pub long_cell_elem : List CellElem → Option Place
+long_cell_elem elems = option_map (λ (elem : CellElem). elem.place) (slice_get elems 32)
+
+-- the place of the second `*`, or of the first, where one was there before
+abbrev pub second_star : Bool → List PathElem → Option Place
+second_star before [] = None
+second_star false (elem ∷ elems) = second_star (is_star elem) elems
+second_star true (elem ∷ elems) = if is_star elem then Some elem.place else second_star true elems
+
+abbrev pub path_failures : Path → List Failure
+path_failures path = failures_of_place N7 (long_elem path.elems) ++ failures_of_place N9 (second_star false path.elems)
+
+abbrev pub paths_failures : List Path → List Failure
+paths_failures [] = []
+paths_failures (path ∷ paths) = path_failures path ++ paths_failures paths
+
+abbrev pub clauses_failures : List Clause → List Failure
+clauses_failures [] = []
+clauses_failures (clause ∷ clauses) = paths_failures clause.paths ++ clauses_failures clauses
+
+-- a body that returns a value can end without a `return`
+abbrev pub lacks_return : Decl → Bool
+lacks_return decl = not (is_void decl.returns) && not (one_ends decl.body)
+
+abbrev pub decl_failures : Decl → List Failure
+decl_failures decl =
+    failures_of_place N7 (fifth_name decl.params)
+    ++ (failures_of_place N7 (ninth_path (paths_of decl))
+    ++ (clauses_failures decl.effects ++ failure_if (lacks_return decl) N5 (close_of decl.body)))
+
+abbrev pub item_failures : Item → List Failure
+item_failures (items.Regions names) = []
+item_failures (items.Cell cell) = failures_of_place N7 (long_cell_elem cell.path.elems)
+item_failures (items.Method decl) = decl_failures decl
+item_failures (items.Task deterministic decl) = decl_failures decl

@@ -1,0 +1,45 @@
+//! Where names stand first in a list: a map from a name to its first place.
+ghost use Rattle.std.specs.Prelude.{◌≡◌, OnOk, OnErr};
+ghost use Rattle.std.specs.BTreeMap.{get_by_text};
+ghost use Rattle.name_check.specs.inner.Firsts.{AddsFirst, DropsFirst, HaveSameFirsts};
+
+use std::alloc::Global;
+use std::collections::BTreeMap;
+use twe_io::{Memory, Word};
+
+/// The first place of a name, if it is there. It takes no memory.
+pub fn first_place(firsts: &BTreeMap<String, u32>, text: &Word) -> Option<usize>
+    ensures { result ≡ get_by_text firsts.now text.now }
+{
+    match firsts.get(text.as_str()) {
+        Some(place) => Some(*place as usize),
+        None => None,
+    }
+}
+
+/// Puts in a name that stands at this place, after all others. After `Memory` the map is as before.
+pub fn add_first(
+    firsts: &mut BTreeMap<String, u32>,
+    alloc: Global,
+    text: &Word,
+    place: u32,
+) -> Result<(), Memory>
+    ensures ok { OnOk result (AddsFirst text.now place firsts.old firsts.new) }
+    ensures err { OnErr result (HaveSameFirsts firsts.old firsts.new) }
+{
+    if first_place(firsts, text).is_some() {
+        return Ok(());
+    }
+    let key = text.copy(alloc)?.into_string();
+    firsts.insert(key, place)?;
+    Ok(())
+}
+
+/// Takes out a name that stands at this place, if it is the first place of that name. It takes no memory.
+pub fn drop_first(firsts: &mut BTreeMap<String, u32>, text: &Word, place: usize)
+    ensures { DropsFirst text.now place firsts.old firsts.new }
+{
+    if first_place(firsts, text) == Some(place) {
+        let _ = firsts.remove(text.as_str());
+    }
+}

@@ -1,0 +1,141 @@
+//! The rules on how much is declared, on second stars, and on bodies that can end without a `return`.
+ghost use Rattle.std.specs.Prelude.{◌≡◌, false};
+ghost use Rattle.std.specs.List.{flat_map};
+ghost use Rattle.twe_ast.specs.declared.item.Clause.{Clause as EffectClause};
+ghost use Rattle.name_check.specs.Limits.{is_star};
+ghost use Rattle.name_check.specs.declared.rule.NRule.TheVariants.{N7 as N7_};
+ghost use Rattle.name_check.specs.inner.Least.{first_from};
+ghost use Rattle.name_check.specs.inner.OtherFailures as failures;
+
+use crate::ends::{block_ends, close_of};
+use crate::first::note;
+use crate::judge_simple::is_void;
+use crate::rule::{Failure, NRule};
+use twe_ast::{CellElem, Clause, Decl, Name, Path, PathElem, PathElemKind};
+use twe_io::{List, Place};
+
+/// Notes the failure of the rule at the place, if there is one.
+pub fn note_place(first: &mut Option<Failure>, rule: NRule, place: Option<Place>)
+    ensures { first.new ≡ first_from first.old (failures.failures_of_place rule place) }
+{
+    if let Some(place) = place {
+        note(first, true, rule, place);
+    }
+}
+
+/// The place of the 5th of these names, if there is one.
+fn fifth_name(names: &List<Name>) -> Option<Place>
+    ensures { result ≡ failures.fifth_name names.now }
+{
+    match names.get(4) {
+        Some(name) => Some(name.place),
+        None => None,
+    }
+}
+
+/// The place of the 33rd element of the path of an effect, if there is one.
+fn long_elem(elems: &List<PathElem>) -> Option<Place>
+    ensures { result ≡ failures.long_elem elems.now }
+{
+    match elems.get(32) {
+        Some(elem) => Some(elem.place),
+        None => None,
+    }
+}
+
+/// The place of the 33rd element of the path of a cell, if there is one.
+fn long_cell_elem(elems: &List<CellElem>) -> Option<Place>
+    ensures { result ≡ failures.long_cell_elem elems.now }
+{
+    match elems.get(32) {
+        Some(elem) => Some(elem.place),
+        None => None,
+    }
+}
+
+/// The place of the 9th path of the clauses, if there is one.
+fn ninth_path(clauses: &[Clause]) -> Option<Place>
+    ensures { result ≡ failures.ninth_path (flat_map (λ (clause : EffectClause). clause.paths) clauses.now) }
+{
+    let mut left = 8;
+    for clause in clauses {
+        match clause.paths.get(left) {
+            Some(path) => return Some(path.place),
+            None => left -= clause.paths.len(),
+        }
+    }
+    None
+}
+
+/// Whether an element is a `*`.
+fn is_star(elem: &PathElem) -> bool
+    ensures { result ≡ is_star elem.now }
+{
+    match elem.kind {
+        PathElemKind::Star => true,
+        _ => false,
+    }
+}
+
+/// The place of the second `*` among the elements, if there is one.
+fn second_star(elems: &[PathElem]) -> Option<Place>
+    ensures { result ≡ failures.second_star false elems.now }
+{
+    let mut before = false;
+    for elem in elems {
+        if is_star(elem) {
+            if before {
+                return Some(elem.place);
+            }
+            before = true;
+        }
+    }
+    None
+}
+
+/// Notes the failures of the lengths and the stars of paths.
+#[tactic(auto, using(crate::proofs::FirstFailures::firsts))]
+fn judge_paths(paths: &[Path], first: &mut Option<Failure>)
+    ensures { first.new ≡ first_from first.old (failures.paths_failures paths.now) }
+{
+    for path in paths {
+        note_place(first, NRule::N7, long_elem(&path.elems));
+        note_place(first, NRule::N9, second_star(path.elems.as_slice()));
+    }
+}
+
+/// The same for the paths of clauses.
+#[tactic(auto, using(crate::proofs::FirstFailures::firsts))]
+fn judge_clauses(clauses: &[Clause], first: &mut Option<Failure>)
+    ensures { first.new ≡ first_from first.old (failures.clauses_failures clauses.now) }
+{
+    for clause in clauses {
+        judge_paths(clause.paths.as_slice(), first);
+    }
+}
+
+/// Whether a value is returned and the body can end without a `return`.
+fn lacks_return(decl: &Decl) -> bool
+    ensures { result ≡ failures.lacks_return decl.now }
+{
+    !is_void(decl.returns) && !block_ends(&decl.body)
+}
+
+/// Notes the failures of how much a method or a task declares, of the stars in its effects, and of a body that can end
+/// without a `return` where a value is returned.
+#[tactic(auto, using(crate::proofs::FirstFailures::firsts))]
+pub fn judge_limits(decl: &Decl, first: &mut Option<Failure>)
+    ensures { first.new ≡ first_from first.old (failures.decl_failures decl.now) }
+{
+    note_place(first, NRule::N7, fifth_name(&decl.params));
+    note_place(first, NRule::N7, ninth_path(decl.effects.as_slice()));
+    judge_clauses(decl.effects.as_slice(), first);
+    note(first, lacks_return(decl), NRule::N5, close_of(&decl.body));
+}
+
+/// Notes the failure of the length of the path of a cell.
+pub fn judge_cell_limit(elems: &List<CellElem>, first: &mut Option<Failure>)
+    ensures { first.new ≡ first_from first.old (failures.failures_of_place N7_ (failures.long_cell_elem elems.now)) }
+{
+    note_place(first, NRule::N7, long_cell_elem(elems));
+}

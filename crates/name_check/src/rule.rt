@@ -1,0 +1,57 @@
+//! The rules, and a failure of one.
+
+use twe_io::Place;
+
+/// A rule of names.
+#[derive(Clone, Copy, Debug, PartialEq, Eq)]
+pub enum NRule {
+    /// A name is not declared where it is used.
+    N1,
+    /// A name is declared twice.
+    N2,
+    /// A wrong type or kind.
+    N3,
+    /// A wrong count of arguments.
+    N4,
+    /// A body that returns an `int` can end without a return.
+    N5,
+    /// An assignment to a parameter or to a `final` local.
+    N6,
+    /// A limit on cells, nodes, elements, effects or parameters.
+    N7,
+    /// There is no `task void main()`.
+    N8,
+    /// A path has a second `*`.
+    N9,
+}
+
+/// A rule that fails, and where.
+#[derive(Clone, Copy, Debug, PartialEq, Eq)]
+pub struct Failure {
+    /// The rule.
+    pub rule: NRule,
+    /// The place that the rule names.
+    pub place: Place,
+}
+
+impl NRule {
+    ghost use Rattle.std.specs.Prelude.{◌≡◌};
+    ghost use Rattle.name_check.specs.FailsName.{number_of};
+
+    /// The number in the rule's name.
+    pub fn number(self) -> u8
+        ensures { result ≡ number_of self }
+    {
+        match self {
+            NRule::N1 => 1,
+            NRule::N2 => 2,
+            NRule::N3 => 3,
+            NRule::N4 => 4,
+            NRule::N5 => 5,
+            NRule::N6 => 6,
+            NRule::N7 => 7,
+            NRule::N8 => 8,
+            NRule::N9 => 9,
+        }
+    }
+}

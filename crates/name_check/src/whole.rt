@@ -1,0 +1,96 @@
+//! The first failure of a text.
+ghost use Rattle.std.specs.Prelude.{◌≡◌, ◌<◌, ◌^◌, IfOk, MatchOption, OnOk};
+ghost use Rattle.std.specs.List.{list_any, sum_by};
+ghost use Rattle.twe_io.specs.declared.place.Place.{Place as Somewhere};
+ghost use Rattle.name_check.specs.declared.rule.NRule.{NRule as Named};
+ghost use Rattle.name_check.specs.FailsName.{FailsName, IsFirstFailure};
+ghost use Rattle.name_check.specs.Size.{IsCountable, size_of_item};
+ghost use Rattle.name_check.specs.inner.Whole.{first_but_nodes, first_in_items, is_main, is_main_item};
+
+use crate::first::note;
+use crate::judge_decl::judge_item;
+use crate::judge_simple::is_void;
+use crate::limits::note_place;
+use crate::names::Globals;
+use crate::rule::{Failure, NRule};
+use cell_limits::first_over;
+use std::alloc::Global;
+use twe_ast::{Ast, Decl, Item};
+use twe_io::Memory;
+
+/// Whether a task is `main`, has no parameters and returns nothing.
+fn is_main(decl: &Decl) -> bool
+    ensures { result ≡ is_main decl.now }
+{
+    decl.name.text.as_str() == "main" && decl.params.len() == 0 && is_void(decl.returns)
+}
+
+/// Whether an item is such a task.
+fn is_main_item(item: &Item) -> bool
+    ensures { result ≡ is_main_item item.now }
+{
+    match item {
+        Item::Task { decl, .. } => is_main(decl),
+        _ => false,
+    }
+}
+
+/// Whether one of the items is such a task.
+fn has_main(items: &[Item]) -> bool
+    ensures { result ≡ list_any is_main_item items.now }
+{
+    for item in items {
+        if is_main_item(item) {
+            return true;
+        }
+    }
+    false
+}
+
+/// Notes the failures inside items.
+fn judge_items(
+    items: &[Item],
+    alloc: Global,
+    globals: &Globals,
+    first: &mut Option<Failure>,
+) -> Result<(), Memory>
+    requires { sum_by size_of_item items.now < 2 ^ 32 }
+    ensures { OnOk result (first.new ≡ first_in_items globals.now first.old items.now) }
+{
+    for item in items {
+        judge_item(item, alloc, globals, first)?;
+    }
+    Ok(())
+}
+
+/// The first failure of a text, but for that of how many cells and nodes there are.
+fn first_but_nodes(alloc: Global, ast: &Ast) -> Result<Option<Failure>, Memory>
+    requires { IsCountable ast.now }
+    ensures { IfOk result (λ found. found ≡ first_but_nodes ast.now) }
+{
+    let globals = Globals::of(alloc, ast)?;
+    let mut first = None;
+    judge_items(ast.items.as_slice(), alloc, &globals, &mut first)?;
+    globals.judge_again(&mut first);
+    note(
+        &mut first,
+        !has_main(ast.items.as_slice()),
+        NRule::N8,
+        ast.end,
+    );
+    Ok(first)
+}
+
+/// The failure of a rule of names that comes first in a text, and at one place the one with the lowest number; nothing
+/// where the text keeps all of them.
+pub fn first_failure(alloc: Global, ast: &Ast) -> Result<Option<Failure>, Memory>
+    requires { IsCountable ast.now }
+    ensures { IfOk result (λ found. MatchOption found
+        ((rule : Named) (place : Somewhere) → ¬ FailsName ast.now rule place)
+        (λ failure. IsFirstFailure ast.now failure.rule failure.place)) }
+{
+    let mut first = first_but_nodes(alloc, ast)?;
+    let over = first_over(alloc, ast.items.as_slice())?;
+    note_place(&mut first, NRule::N7, over);
+    Ok(first)
+}

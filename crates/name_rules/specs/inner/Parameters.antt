@@ -1,8 +1,0 @@
--- What is seen of a parameter.
-use Rattle.std.specs.Prelude.{ℕ, List, true}
-use Rattle.twe_ast.specs.declared.stmt.LocalType.TheVariants as types
-use Rattle.name_rules.specs.declared.seen.Local.TheVariants as local_kinds
-use Rattle.name_rules.specs.declared.scope.LocalName.{LocalName}
-
-abbrev pub parameter : List ℕ → ℕ → LocalName
-parameter text number = record { text = text; local = local_kinds.Variable number types.Int true }

@@ -1,0 +1,75 @@
+//! Laws of what a segment goes through.
+ghost use Rattle.std.specs.Prelude.{◌≡◌, ℕ, ℤ, Bool, true, false, List, [], Option, Some, slice_get, slice_set};
+ghost use Rattle.twe_io.specs.declared.place.Place.{Place};
+ghost use Rattle.effect_sets.specs.declared.effects.Summary.{Summary};
+ghost use Rattle.twe_program.specs.Program.{Program};
+ghost use Rattle.twe_program.specs.WellFormed.{IsWellFormed};
+ghost use Rattle.cover_flow.specs.ControlPath.{Path};
+ghost use Rattle.seg_exec.specs.declared.frame.Frame.{Frame};
+ghost use Rattle.seg_exec.specs.declared.frame.Next.TheVariants.{Ended, Get, Join};
+ghost use Rattle.seg_exec.specs.declared.stop.Stop.TheVariants.{Make, Waits};
+ghost use Rattle.seg_exec.specs.Entry.{entry_frame};
+ghost use Rattle.seg_exec.specs.Giving.{given};
+ghost use Rattle.seg_exec.specs.Meaning.{body_of};
+ghost use Rattle.seg_exec.specs.Segment.{segment};
+ghost use Rattle.segment_laws.specs.Keeps.{SegmentKeeps};
+ghost use Rattle.segment_laws.specs.Left.{left_of};
+ghost use Rattle.segment_laws.specs.Operations.{ComesToMake, ComesToWait};
+ghost use Rattle.segment_laws.specs.Ready.{AwaitsMade, IsReady, MakesDeclared};
+
+/// A segment keeps the number, the declaration, the futures and the unjoined children of its frame, and as many cells as
+/// there were. It takes fuel, at least a unit where it comes to a task operation; and what comes next is as it has
+/// stopped.
+pub fn segments_keep()
+    ensures { (p : Program) (frame : Frame) (cells : List ℤ) → SegmentKeeps frame cells (segment p frame cells) }
+{}
+
+/// What a segment carries out is a stretch of a control path, whatever the cells have: it leads from what is left of the
+/// body before the segment to the task operation at which it stops, passes no other operation, and leaves what is left
+/// after the segment. Before a task's first segment its whole body is left, and the taking of a value leaves what was
+/// left.
+pub fn segments_follow_control_paths()
+    ensures entry { (p : Program) (task : ℕ) (args : List ℤ) → left_of p (entry_frame p task args) ≡ body_of (slice_get p.tasks task) }
+    ensures given { (p : Program) (frame : Frame) (value : ℤ) → left_of p (given frame value) ≡ left_of p frame }
+    ensures makes { (p : Program) (frame : Frame) (cells : List ℤ) (path : Path)
+        → (child : Frame) (args : List ℤ) (effects : Summary) (spawned : Bool) (future : ℕ) (place : Place)
+        → (segment p frame cells).stop ≡ Make child args effects spawned future place
+        → ComesToMake p frame (segment p frame cells).frame path child args effects spawned future place }
+    ensures gets { (p : Program) (frame : Frame) (cells : List ℤ) (path : Path) (on : ℕ) (into : Option ℕ)
+        → (segment p frame cells).frame.next ≡ Get on into
+        → ComesToWait p frame (segment p frame cells).frame path false on into }
+    ensures joins { (p : Program) (frame : Frame) (cells : List ℤ) (path : Path) (on : ℕ) (into : Option ℕ)
+        → (segment p frame cells).frame.next ≡ Join on into
+        → ComesToWait p frame (segment p frame cells).frame path true on into }
+{}
+
+/// A task of a well-formed program waits only for tasks that it has made. Each wait that is left of its body is of a
+/// future that stands for a task by then: so it is before the first segment; the taking of a value keeps it; and a
+/// segment keeps it, once the future of a task that was made stands for that task, whatever its number is. A task is
+/// made as the body declares it; a `join` waits for one that was spawned, and a `getValue` for one that was not.
+pub fn waits_are_of_made_tasks()
+    ensures entry { (p : Program) → IsWellFormed p → (task : ℕ) (args : List ℤ) → IsReady p (entry_frame p task args) }
+    ensures same { (p : Program) (frame other : Frame) → other.decl ≡ frame.decl → other.calls ≡ frame.calls → other.futures ≡ frame.futures
+        → IsReady p frame → IsReady p other }
+    ensures ended { (p : Program) (frame : Frame) → IsReady p frame → IsReady p (record frame { calls = []; next = Ended }) }
+    ensures given { (p : Program) (frame : Frame) (value : ℤ) → IsReady p frame → IsReady p (given frame value) }
+    ensures waits { (p : Program) (frame : Frame) (cells : List ℤ) (on : ℕ) → IsReady p frame
+        → (segment p frame cells).stop ≡ Waits on → AwaitsMade p frame false on }
+    ensures gets { (p : Program) (frame : Frame) (cells : List ℤ) (on : ℕ) (into : Option ℕ) → IsReady p frame
+        → (segment p frame cells).frame.next ≡ Get on into → AwaitsMade p frame false on }
+    ensures joins { (p : Program) (frame : Frame) (cells : List ℤ) (on : ℕ) (into : Option ℕ) → IsReady p frame
+        → (segment p frame cells).frame.next ≡ Join on into → AwaitsMade p frame true on }
+    ensures later { (p : Program) (frame : Frame) (cells : List ℤ) → IsReady p frame
+        → ((child : Frame) (args : List ℤ) (effects : Summary) (spawned : Bool) (future : ℕ) (place : Place)
+        → ¬ ((segment p frame cells).stop ≡ Make child args effects spawned future place))
+        → IsReady p (segment p frame cells).frame }
+    ensures declared { (p : Program) (frame : Frame) (cells : List ℤ) → IsReady p frame
+        → (child : Frame) (args : List ℤ) (effects : Summary) (spawned : Bool) (future : ℕ) (place : Place)
+        → (segment p frame cells).stop ≡ Make child args effects spawned future place
+        → MakesDeclared p frame child args effects spawned future }
+    ensures made { (p : Program) (frame : Frame) (cells : List ℤ) → IsReady p frame
+        → (child : Frame) (args : List ℤ) (effects : Summary) (spawned : Bool) (future : ℕ) (place : Place)
+        → (segment p frame cells).stop ≡ Make child args effects spawned future place
+        → (task : ℕ) (out : List ℕ)
+        → IsReady p (record (segment p frame cells).frame { futures = slice_set (segment p frame cells).frame.futures future (Some task); out = out }) }
+{}

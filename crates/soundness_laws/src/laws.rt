@@ -1,0 +1,61 @@
+//! Laws: the accesses of a segment are among the effects that its task declared.
+ghost use Rattle.std.specs.Prelude.{◌≡◌, ℕ, ℤ, Any, Bool, true, Contains, List, Some, length, slice_get};
+ghost use Rattle.twe_io.specs.declared.place.Place.{Place};
+ghost use Rattle.effect_sets.specs.declared.effects.Effect.{Effect};
+ghost use Rattle.effect_sets.specs.declared.effects.Summary.{Summary};
+ghost use Rattle.effect_sets.specs.Access.{SomeCoversAccess};
+ghost use Rattle.effect_sets.specs.Covers.{EffectWithin};
+ghost use Rattle.twe_program.specs.declared.program.Decl.{Decl};
+ghost use Rattle.twe_program.specs.Fitting.{TakesArguments};
+ghost use Rattle.twe_program.specs.Program.{Program};
+ghost use Rattle.twe_program.specs.WellFormed.{IsWellFormed};
+ghost use Rattle.seg_exec.specs.declared.frame.Frame.{Frame};
+ghost use Rattle.seg_exec.specs.declared.stop.Stop.TheVariants.{Make};
+ghost use Rattle.seg_exec.specs.Access.{Access};
+ghost use Rattle.seg_exec.specs.Entry.{effects_at, entry_frame};
+ghost use Rattle.seg_exec.specs.Segment.{segment};
+ghost use Rattle.soundness_laws.specs.DeclaredNow.{DeclaredNow, access_of};
+ghost use Rattle.soundness_laws.specs.KeepsEffects.{KeepsEffects};
+ghost use Rattle.soundness_laws.specs.RunsWith.{RunsWith};
+
+/// A task of a program that fails no rule on effects keeps to the effects that it declares: each access of its segment,
+/// whatever the cells have, lies in the set of one effect of its summary, filled with its arguments, which writes if the
+/// access does. A segment leaves the arguments as they are, so this holds of the task's later segments too.
+pub fn accepted_programs_keep_their_effects()
+    ensures { (p : Program) → IsWellFormed p → KeepsEffects p
+        → (args : List ℤ) (frame : Frame) → RunsWith p args frame → (cells : List ℤ)
+        → (access : Access) → Contains (segment p frame cells).accesses access → DeclaredNow p frame.decl args access }
+{}
+
+/// What the law above asks of a frame is so from the first: a task before its first segment runs with its arguments, as
+/// many as its declaration has parameters, and a segment leaves that as it is, and makes tasks of which it is so too.
+pub fn arguments_stay()
+    ensures entry { (p : Program) (task : ℕ) (args : List ℤ) → TakesArguments (slice_get p.tasks task) (length args)
+        → RunsWith p args (entry_frame p task args) }
+    ensures later { (p : Program) → IsWellFormed p → KeepsEffects p
+        → (args : List ℤ) (frame : Frame) → RunsWith p args frame → (cells : List ℤ)
+        → RunsWith p args (segment p frame cells).frame }
+    ensures made { (p : Program) → IsWellFormed p → KeepsEffects p
+        → (args : List ℤ) (frame : Frame) → RunsWith p args frame → (cells : List ℤ)
+        → (child : Frame) (given : List ℤ) (effects : Summary) (spawned : Bool) (future : ℕ) (place : Place)
+        → (segment p frame cells).stop ≡ Make child given effects spawned future place
+        → RunsWith p given child × (effects ≡ effects_at p child.decl given) }
+{}
+
+/// Each effect of a task that is spawned lies within one that its maker declares, which writes if it writes.
+pub fn spawned_effects_lie_within()
+    ensures { (p : Program) → IsWellFormed p → KeepsEffects p
+        → (args : List ℤ) (frame : Frame) → RunsWith p args frame → (cells : List ℤ)
+        → (child : Frame) (given : List ℤ) (effects : Summary) (future : ℕ) (place : Place)
+        → (segment p frame cells).stop ≡ Make child given effects true future place
+        → (e : Effect) → Contains effects.effects e → Any (λ d. EffectWithin d e) (effects_at p frame.decl args).effects }
+{}
+
+/// The first task of such a program keeps to the effects that `main` declares, as they are written.
+pub fn main_keeps_to_its_summary()
+    ensures { (p : Program) → IsWellFormed p → KeepsEffects p
+        → (main : Decl) → slice_get p.tasks p.main ≡ Some main
+        → (frame : Frame) → frame.decl ≡ p.main → (cells : List ℤ)
+        → (access : Access) → Contains (segment p frame cells).accesses access
+        → SomeCoversAccess main.summary.effects (access_of p access) }
+{}

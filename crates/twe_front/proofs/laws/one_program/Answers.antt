@@ -1,5 +1,0 @@
-use Rattle.twe_front.proofs.OneAnswer.{same_program}
-use Rattle.twe_front.proofs.laws.one_program.Goals as goal
-
-pub returns : goal.returns
-returns c text p other accepted again = same_program c.one_tree.ensures text p other accepted.meant again.meant

@@ -1,5 +1,0 @@
-use Rattle.twe_front.proofs.OneAnswer.{not_refused}
-use Rattle.twe_front.proofs.laws.refused_or_accepted.Goals as goal
-
-pub returns : goal.returns
-returns c text p refusal accepted refused = not_refused c.one_tree.ensures text p refusal accepted refused

@@ -1,0 +1,99 @@
+//! From a text to its program.
+ghost use Rattle.std.specs.Prelude.{◌≡◌, ◌≤◌, length, IfOk, IfErr};
+ghost use Rattle.twe_frontend.specs.Accepted.{Accepted, IsMeaningOf, IsTreeOf};
+ghost use Rattle.twe_frontend.specs.Reads.{HasCause};
+
+use crate::refusal::{Refusal, RuleName};
+use effect_check::{CheckFail, check};
+use std::alloc::Global;
+use std::fmt;
+use twe_ast::Ast;
+use twe_io::Memory;
+use twe_names::{NameFail, resolve};
+use twe_parser::{ParseFail, parse};
+use twe_program::Prog;
+
+/// Why a text has no program.
+#[derive(Clone, Copy, Debug, PartialEq, Eq)]
+pub enum FrontFail {
+    /// The text is refused.
+    Refused(Refusal),
+    /// There was not enough memory.
+    OutOfMemory(Memory),
+}
+
+impl fmt::Display for FrontFail {
+    fn fmt<W: fmt::Write>(&self, f: &mut fmt::Formatter<W>) -> fmt::Result {
+        match self {
+            FrontFail::Refused(refusal) => {
+                let place = refusal.place;
+                let (line, col) = (place.line, place.col);
+                write!(f, "refused at {line}:{col}")
+            }
+            FrontFail::OutOfMemory(memory) => write!(f, "{memory}"),
+        }
+    }
+}
+
+impl std::error::Error for FrontFail {}
+
+impl From<Memory> for FrontFail {
+    ghost use Rattle.std.specs.Prelude.{◌≡◌};
+    ghost use Rattle.twe_frontend.specs.declared.read.FrontFail.TheVariants.{OutOfMemory};
+
+    ghost from_gives = { λ memory fail. fail ≡ OutOfMemory memory };
+
+    fn from(memory: Memory) -> Self {
+        FrontFail::OutOfMemory(memory)
+    }
+}
+
+/// The tree of a text that keeps the rules of the text.
+fn tree_of(alloc: Global, text: &[u8]) -> Result<Ast, FrontFail>
+    ensures tree { IfOk result (IsTreeOf text.now) }
+    ensures refused { IfErr result (HasCause text.now) }
+{
+    match parse(alloc, text) {
+        Ok(tree) => Ok(tree),
+        Err(ParseFail::Syntax { rule, place }) => Err(FrontFail::Refused(Refusal {
+            rule: RuleName::Text(rule),
+            place,
+        })),
+        Err(ParseFail::OutOfMemory(memory)) => Err(FrontFail::OutOfMemory(memory)),
+    }
+}
+
+/// What a text means that keeps the rules of the text and those of names.
+fn meaning_of(alloc: Global, text: &[u8]) -> Result<Prog, FrontFail>
+    requires { length text.now ≤ 1048576 }
+    ensures meaning { IfOk result (IsMeaningOf text.now) }
+    ensures refused { IfErr result (HasCause text.now) }
+{
+    let tree = tree_of(alloc, text)?;
+    match resolve(alloc, &tree) {
+        Ok(p) => Ok(p),
+        Err(NameFail::Names { rule, place }) => Err(FrontFail::Refused(Refusal {
+            rule: RuleName::Name(rule),
+            place,
+        })),
+        Err(NameFail::OutOfMemory(memory)) => Err(FrontFail::OutOfMemory(memory)),
+    }
+}
+
+/// The program of a text of at most 1,048,576 bytes, or the one refusal of the text: of all rules that fail, a rule of
+/// the text before every rule of names, and that before every rule on effects, and of one class the first in the text.
+pub fn read_program(alloc: Global, text: &[u8]) -> Result<Prog, FrontFail>
+    requires { length text.now ≤ 1048576 }
+    ensures accepted { IfOk result (Accepted text.now) }
+    ensures refused { IfErr result (HasCause text.now) }
+{
+    let p = meaning_of(alloc, text)?;
+    match check(alloc, &p) {
+        Ok(()) => Ok(p),
+        Err(CheckFail::Rule { rule, place }) => Err(FrontFail::Refused(Refusal {
+            rule: RuleName::Effect(rule),
+            place,
+        })),
+        Err(CheckFail::OutOfMemory(memory)) => Err(FrontFail::OutOfMemory(memory)),
+    }
+}

@@ -1,0 +1,25 @@
+-- What a lexeme is as a token.
+use Rattle.std.specs.Prelude.{ℕ, ◌+◌, ◌-◌, ◌*◌, min, List, Option, None, Some, fold, if◌then◌else◌}
+use Rattle.twe_lexer.specs.declared.fixed.Fixed.{Fixed}
+use Rattle.twe_lexer.specs.declared.token.TokenKind.{TokenKind}
+use Rattle.twe_lexer.specs.declared.token.TokenKind.TheVariants as kinds
+use Rattle.twe_lexer.specs.Lexeme.{is_word, is_number}
+use Rattle.twe_lexer.specs.Places.{is_gap}
+use Rattle.twe_lexer.specs.Spelling.{spelled}
+
+-- the number that the digits write
+abbrev pub number_of : List ℕ → ℕ
+number_of digits = fold (λ value digit. value * 10 + (digit - 48)) 0 digits
+
+-- a keyword or a symbol, if it is one; else a word is a name, and anything else has no place in a program
+abbrev pub kind_unless : Option Fixed → List ℕ → TokenKind
+kind_unless (Some f) bytes = kinds.Fixed f
+kind_unless None bytes = if is_word bytes then kinds.Name bytes else kinds.Stray
+
+-- A literal has its value; those above 2147483648 are too large for every use, and are not told apart.
+abbrev pub kind_of : List ℕ → TokenKind
+kind_of bytes = if is_number bytes then kinds.Literal (min (number_of bytes) 2147483649) else kind_unless (spelled bytes) bytes
+
+-- the token that a lexeme is, if it is one
+abbrev pub token_kind : List ℕ → Option TokenKind
+token_kind bytes = if is_gap bytes then None else Some (kind_of bytes)

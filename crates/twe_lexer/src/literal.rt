@@ -1,0 +1,20 @@
+//! The values of integer literals.
+ghost use Rattle.std.specs.Prelude.{◌≡◌, IsTrue, min};
+ghost use Rattle.twe_lexer.specs.Lexeme.{is_number};
+ghost use Rattle.twe_lexer.specs.Kinds.{number_of};
+
+/// What stands for every value above 2147483648.
+const TOO_LARGE: u32 = 2_147_483_649;
+
+/// The number that the digits write, or 2147483649 where it is greater.
+pub(crate) fn literal_value(digits: &[u8]) -> u32
+    requires { IsTrue (is_number digits.now) }
+    ensures { result ≡ min (number_of digits.now) 2147483649 }
+{
+    let mut value: u32 = 0;
+    for digit in digits {
+        let more = u64::from(value) * 10 + u64::from(*digit - b'0');
+        value = more.min(u64::from(TOO_LARGE)) as u32;
+    }
+    value
+}

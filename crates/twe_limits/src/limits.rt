@@ -1,0 +1,63 @@
+//! The limits of a run.
+ghost use Rattle.std.specs.Prelude.{◌≡◌, SomeIff};
+ghost use Rattle.twe_limits.specs.Limits.{IsWithin};
+
+use std::marker::Model;
+
+/// The limits of a run: the fuel of each task, 0 to 100,000,000, and how many tasks may be made, 1 to 100,000.
+#[derive(Clone, Copy, Debug, PartialEq, Eq)]
+pub struct Limits {
+    pub fuel: u64,
+    pub tasks: u32,
+}
+
+impl Model for Limits {
+    ghost use Rattle.twe_limits.specs.Limits.{Bounds, IsWithin};
+
+    ghost Value = { Bounds };
+
+    ghost view = { λ limits. record { fuel = limits.fuel; tasks = limits.tasks } };
+
+    ghost invariant = { λ limits. IsWithin limits.fuel limits.tasks };
+
+    ghost inverse = { λ bounds. record { fuel = bounds.fuel; tasks = bounds.tasks } };
+}
+
+impl Limits {
+    /// The most fuel that a task may have.
+    pub const MAX_FUEL: u64 = 100_000_000;
+
+    /// The most tasks that a run may make.
+    pub const MAX_TASKS: u32 = 100_000;
+
+    /// These limits.
+    pub fn new(fuel: u64, tasks: u32) -> Self
+        requires { IsWithin fuel tasks }
+        ensures { result ≡ record { fuel = fuel; tasks = tasks } }
+    {
+        Limits { fuel, tasks }
+    }
+
+    /// These limits, if both numbers are within their ranges.
+    pub fn checked(fuel: u64, tasks: u32) -> Option<Self>
+        ensures { SomeIff result (IsWithin fuel tasks) (record { fuel = fuel; tasks = tasks }) }
+    {
+        if fuel <= Self::MAX_FUEL && 1 <= tasks && tasks <= Self::MAX_TASKS {
+            Some(Limits { fuel, tasks })
+        } else {
+            None
+        }
+    }
+}
+
+impl Default for Limits {
+    ghost is_default = { λ limits. limits ≡ record { fuel = 1000000; tasks = 10000 } };
+
+    /// A million of fuel and ten thousand tasks.
+    fn default() -> Self {
+        Limits {
+            fuel: 1_000_000,
+            tasks: 10_000,
+        }
+    }
+}

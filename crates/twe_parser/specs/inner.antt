@@ -1,0 +1,13 @@
+pub mod Acts
+pub mod ExprActs
+pub mod Fine
+pub mod ItemActs
+pub mod Machine
+pub mod Operators
+pub mod Parsing
+pub mod Reading
+pub mod Rows
+pub mod StmtActs
+pub mod Taking
+pub mod Terminals
+pub mod Works

@@ -1,0 +1,80 @@
+-- The making of declarations.
+use Rattle.std.specs.Prelude.{ℕ, List, [], ◌∷◌, ◌++◌, Bool, true, false, None, Some}
+use Rattle.twe_ast.specs.declared.item.CellShape.{CellShape}
+use Rattle.twe_ast.specs.declared.item.CellShape.TheVariants as shapes
+use Rattle.twe_ast.specs.declared.item.Decl.{Decl}
+use Rattle.twe_ast.specs.declared.item.Initial.{Initial}
+use Rattle.twe_ast.specs.declared.item.Item.{Item}
+use Rattle.twe_ast.specs.declared.item.Item.TheVariants as items
+use Rattle.twe_ast.specs.declared.item.ReturnType.{ReturnType}
+use Rattle.twe_ast.specs.declared.path.CellElem.{CellElem}
+use Rattle.twe_ast.specs.declared.path.CellElemKind.TheVariants as cell_elem_kinds
+use Rattle.twe_ast.specs.declared.path.PathElem.{PathElem}
+use Rattle.twe_ast.specs.declared.path.PathElemKind.TheVariants as elem_kinds
+use Rattle.twe_parser.specs.declared.symbol.CellKind.{CellKind}
+use Rattle.twe_parser.specs.declared.symbol.CellKind.TheVariants as cells
+use Rattle.twe_parser.specs.declared.symbol.ItemAct.{ItemAct}
+use Rattle.twe_parser.specs.declared.symbol.ItemAct.TheVariants as acts
+use Rattle.twe_parser.specs.declared.work.Work.{Work}
+use Rattle.twe_io.specs.Stacks.{top, below}
+use Rattle.twe_parser.specs.Values.{value_of, negative_of}
+use Rattle.twe_parser.specs.inner.Works.{nowhere, nameless, no_block}
+
+-- one more declaration
+abbrev pub with_item : Item → Work → Work
+with_item item w = record w { items = w.items ++ item ∷ [] }
+
+-- what is declared with these numbers, and the numbers that are left
+abbrev pub shape_from : CellKind → List ℕ → CellShape
+shape_from cells.Scalar numbers = shapes.Scalar None
+shape_from cells.Array numbers = shapes.Array (top numbers 0)
+shape_from cells.Grid numbers = shapes.Grid (top (below numbers) 0) (top numbers 0)
+
+abbrev pub left_from : CellKind → List ℕ → List ℕ
+left_from cells.Scalar numbers = numbers
+left_from cells.Array numbers = below numbers
+left_from cells.Grid numbers = below (below numbers)
+
+abbrev pub initial_of : Bool → ℕ → Initial
+initial_of true n = record { minus = true; value = negative_of n }
+initial_of false n = record { minus = false; value = value_of n }
+
+-- the declaration of cells of this shape, whose name and path are in work
+abbrev pub with_cell : CellShape → Work → Work
+with_cell shape w = with_item (items.Cell (record { name = top w.names nameless; shape = shape; path = record { elems = w.cell_elems; place = top w.places nowhere } }))
+    (record w { names = below w.names; places = below w.places; cell_elems = [] })
+
+-- the declaration of a method or a task that is in work
+abbrev pub decl_from : ReturnType → Work → Decl
+decl_from returns w = record { returns = returns; name = top w.names nameless; params = w.listed; effects = w.clauses; body = top w.blocks no_block }
+
+abbrev pub without_decl : Work → Work
+without_decl w = record w { names = below w.names; listed = []; clauses = []; blocks = below w.blocks }
+
+abbrev pub with_elem : PathElem → Work → Work
+with_elem elem w = record w { elems = w.elems ++ elem ∷ [] }
+
+abbrev pub with_cell_elem : CellElem → Work → Work
+with_cell_elem elem w = record w { cell_elems = w.cell_elems ++ elem ∷ [] }
+
+abbrev pub act_item : ItemAct → Work → Work
+act_item acts.KeepName w = record w { listed = w.listed ++ top w.names nameless ∷ []; names = below w.names }
+act_item acts.Regions w = with_item (items.Regions w.listed) (record w { listed = [] })
+act_item acts.CellElemName w =
+    let name = top w.names nameless in with_cell_elem (record { kind = cell_elem_kinds.Name name.text; place = name.place }) (record w { names = below w.names })
+act_item acts.CellElemIndex w =
+    with_cell_elem (record { kind = cell_elem_kinds.Index (top w.numbers 0); place = top w.places nowhere }) (record w { numbers = below w.numbers; places = below w.places })
+act_item (acts.Cell kind) w = with_cell (shape_from kind w.numbers) (record w { numbers = left_from kind w.numbers })
+act_item (acts.CellInitial minus) w = with_cell (shapes.Scalar (Some (initial_of minus (top w.numbers 0)))) (record w { numbers = below w.numbers })
+act_item acts.ElemName w =
+    let name = top w.names nameless in with_elem (record { kind = elem_kinds.Name name.text; place = name.place }) (record w { names = below w.names })
+act_item acts.ElemIndex w =
+    with_elem (record { kind = elem_kinds.Index (top w.numbers 0); place = top w.places nowhere }) (record w { numbers = below w.numbers; places = below w.places })
+act_item acts.ElemVariable w =
+    with_elem (record { kind = elem_kinds.Variable (top w.names nameless); place = top w.places nowhere }) (record w { names = below w.names; places = below w.places })
+act_item acts.ElemAny w = with_elem (record { kind = elem_kinds.AnyIndex; place = top w.places nowhere }) (record w { places = below w.places })
+act_item acts.ElemStar w = with_elem (record { kind = elem_kinds.Star; place = top w.places nowhere }) (record w { places = below w.places })
+act_item acts.KeepPath w = record w { paths = w.paths ++ (record { elems = w.elems; place = top w.places nowhere }) ∷ []; elems = []; places = below w.places }
+act_item (acts.KeepClause write) w = record w { clauses = w.clauses ++ (record { write = write; paths = w.paths }) ∷ []; paths = [] }
+act_item (acts.Method returns) w = with_item (items.Method (decl_from returns w)) (without_decl w)
+act_item (acts.Task deterministic returns) w = with_item (items.Task deterministic (decl_from returns w)) (without_decl w)

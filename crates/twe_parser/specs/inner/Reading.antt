@@ -1,0 +1,59 @@
+-- What the parser knows of the part of a text that it has read.
+use Rattle.std.specs.Prelude.{◌≡◌, ℕ, ◌≤◌, true, false, List, [], ◌∷◌, ◌++◌, Some, None}
+use Rattle.std.specs.List.{AllByRecursion, list_all}
+use Rattle.twe_io.specs.declared.place.Place.{Place}
+use Rattle.twe_ast.specs.declared.item.Ast.{Ast}
+use Rattle.twe_lexer.specs.declared.token.Token.{Token}
+use Rattle.twe_lexer.specs.Lexeme.{is_allowed, IsUnclosedComment}
+use Rattle.twe_lexer.specs.Places.{place_after}
+use Rattle.twe_lexer.specs.Tokens.{AreFirstLexemes, tokens_from}
+use Rattle.twe_parser.specs.declared.fail.ParseFail.{ParseFail}
+use Rattle.twe_parser.specs.declared.fail.ParseFail.TheVariants as fails
+use Rattle.twe_parser.specs.declared.fail.SRule.{SRule}
+use Rattle.twe_parser.specs.declared.fail.SRule.TheVariants.{S3}
+use Rattle.twe_parser.specs.declared.parser.Parser.{Parser}
+use Rattle.twe_parser.specs.declared.symbol.Symbol.{Symbol}
+use Rattle.twe_parser.specs.declared.work.Work.{Work}
+use Rattle.twe_parser.specs.Limits.{sofar_of, is_too_large, is_too_deep}
+use Rattle.twe_parser.specs.inner.Fine.{fine}
+use Rattle.twe_parser.specs.inner.Machine.{start, finished, result_from}
+
+-- all bytes of some lexemes
+abbrev pub concat : List (List ℕ) → List ℕ
+concat [] = []
+concat (first ∷ others) = first ++ concat others
+
+-- a machine that has taken these tokens: from here the result is as from the start, and the rest can be completed
+pub record HasTaken (tokens : List Token) (todo : List Symbol) (work : Work) : Type 0 where
+  pub takes : (more : List Token) → result_from (tokens ++ more) start.0 start.1 ≡ result_from more todo work
+  pub can_end : fine todo ≡ true
+
+-- the part of the text that was read
+pub record HasRead (text : List ℕ) (place : Place) (rest : List ℕ) (parser : Parser) : Type 0 where
+  pub lexemes : List (List ℕ)
+  pub cut : AreFirstLexemes lexemes text rest
+  pub place_is : place ≡ place_after (concat lexemes)
+  pub allowed : list_all is_allowed (concat lexemes) ≡ true
+  pub closed : AllByRecursion (λ lexeme. ¬ IsUnclosedComment lexeme) lexemes
+  pub taken : HasTaken (tokens_from [] lexemes) parser.machine.todo parser.machine.work
+  pub limits : parser.sofar ≡ sofar_of (tokens_from [] lexemes)
+  pub brackets : parser.sofar.open_brackets ≤ 200
+  pub operators : parser.sofar.operators ≤ 200
+  pub passes : (before : List Token) (token : Token) (others : List Token) → tokens_from [] lexemes ≡ before ++ token ∷ others
+      → (is_too_large (sofar_of before) token.kind ≡ false) × (is_too_deep (sofar_of before) token.kind ≡ false)
+
+-- the end of the text, where the program is not whole
+abbrev pub EndsBy : SRule → Place → Place → Parser → Type 0
+EndsBy S3 place end parser = (place ≡ end) × (finished parser.machine.todo parser.machine.work ≡ None)
+EndsBy _ place end parser = ⊥
+
+abbrev pub EndsEarly : ParseFail → Place → Parser → Type 0
+EndsEarly (fails.Syntax rule place) end parser = EndsBy rule place end parser
+EndsEarly (fails.OutOfMemory memory) end parser = Unit {0}
+
+-- the end of the text, where the program is whole
+pub record EndsWhole (tree : Ast) (end : Place) (parser : Parser) : Type 0 where
+  pub place : tree.end ≡ end
+  pub work : Work
+  pub whole : finished parser.machine.todo parser.machine.work ≡ Some work
+  pub items : tree.items ≡ work.items

@@ -1,0 +1,53 @@
+-- The making of statements.
+use Rattle.std.specs.Prelude.{[], ◌∷◌, ◌++◌, None, Some}
+use Rattle.twe_ast.specs.Statement.{Block, Let, Set, SetArray, SetGrid, If, While, Return, Print, Call, Make, Wait, LetWait}
+use Rattle.twe_ast.specs.inner.ExpressionView.{arguments_of}
+use Rattle.twe_ast.specs.inner.StatementView.{statements_of, arms_of}
+use Rattle.twe_parser.specs.declared.symbol.StmtAct.{StmtAct}
+use Rattle.twe_parser.specs.declared.symbol.StmtAct.TheVariants as acts
+use Rattle.twe_parser.specs.declared.work.Work.{Work}
+use Rattle.twe_io.specs.Stacks.{top, below}
+use Rattle.twe_parser.specs.inner.Works.{nowhere, nothing, nameless, no_block, with_statement}
+
+abbrev pub act_stmt : StmtAct → Work → Work
+act_stmt acts.NewBlock w = record w { lists = [] ∷ w.lists }
+act_stmt acts.CloseBlock w = record w {
+  blocks = statements_of (top w.lists []) (top w.places nowhere) ∷ w.blocks;
+  lists = below w.lists;
+  places = below w.places;
+}
+act_stmt acts.BlockStatement w = with_statement (Block (top w.blocks no_block)) (record w { blocks = below w.blocks })
+act_stmt (acts.Let is_final local_type) w =
+    with_statement (Let is_final local_type (top w.names nameless) (top w.exprs nothing)) (record w { names = below w.names; exprs = below w.exprs })
+act_stmt acts.Set w =
+    with_statement (Set (top w.names nameless) (top w.exprs nothing)) (record w { names = below w.names; exprs = below w.exprs })
+act_stmt acts.SetArray w =
+    with_statement (SetArray (top w.names nameless) (top (below w.exprs) nothing) (top w.exprs nothing)) (record w { names = below w.names; exprs = below (below w.exprs) })
+act_stmt acts.SetGrid w =
+    with_statement (SetGrid (top w.names nameless) (top (below (below w.exprs)) nothing) (top (below w.exprs) nothing) (top w.exprs nothing))
+    (record w { names = below w.names; exprs = below (below (below w.exprs)) })
+act_stmt acts.NewArms w = record w { arms = [] ∷ w.arms }
+act_stmt acts.KeepArm w = record w {
+  arms = (top w.arms [] ++ (record { condition = top w.exprs nothing; body = top w.blocks no_block }) ∷ []) ∷ below w.arms;
+  exprs = below w.exprs;
+  blocks = below w.blocks;
+}
+act_stmt acts.CloseIf w = with_statement (If (arms_of (top w.arms []) None)) (record w { arms = below w.arms })
+act_stmt acts.CloseIfElse w =
+    with_statement (If (arms_of (top w.arms []) (Some (top w.blocks no_block)))) (record w { arms = below w.arms; blocks = below w.blocks })
+act_stmt acts.While w =
+    with_statement (While (top w.places nowhere) (top w.exprs nothing) (top w.blocks no_block)) (record w { places = below w.places; exprs = below w.exprs; blocks = below w.blocks })
+act_stmt acts.Return w =
+    with_statement (Return (top w.places nowhere) (Some (top w.exprs nothing))) (record w { places = below w.places; exprs = below w.exprs })
+act_stmt acts.ReturnNothing w = with_statement (Return (top w.places nowhere) None) (record w { places = below w.places })
+act_stmt acts.Print w =
+    with_statement (Print (top w.places nowhere) (top w.exprs nothing)) (record w { places = below w.places; exprs = below w.exprs })
+act_stmt acts.CallStatement w =
+    with_statement (Call (top w.names nameless) (arguments_of (top w.args []))) (record w { names = below w.names; args = below w.args })
+act_stmt (acts.Make spawned) w =
+    with_statement (Make (top (below w.names) nameless) (top w.names nameless) spawned (arguments_of (top w.args [])))
+    (record w { names = below (below w.names); args = below w.args })
+act_stmt (acts.Wait join) w =
+    with_statement (Wait (record { future = top w.names nameless; join = join })) (record w { names = below w.names })
+act_stmt (acts.LetWait is_final join) w =
+    with_statement (LetWait is_final (top (below w.names) nameless) (record { future = top w.names nameless; join = join })) (record w { names = below (below w.names) })

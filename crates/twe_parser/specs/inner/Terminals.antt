@@ -1,0 +1,26 @@
+-- What a token is, but for its value.
+use Rattle.std.specs.Prelude.{Bool, true, false, bytes_eq}
+use Rattle.twe_lexer.specs.declared.fixed.Fixed.{Fixed}
+use Rattle.twe_lexer.specs.declared.token.TokenKind.{TokenKind}
+use Rattle.twe_lexer.specs.declared.token.TokenKind.TheVariants as kinds
+use Rattle.twe_lexer.specs.Spelling.{spelling}
+use Rattle.twe_parser.specs.declared.symbol.Symbol.{Symbol}
+use Rattle.twe_parser.specs.declared.symbol.Symbol.TheVariants as symbols
+use Rattle.twe_parser.specs.declared.symbol.Terminal.{Terminal}
+use Rattle.twe_parser.specs.declared.symbol.Terminal.TheVariants as next
+
+abbrev pub terminal_of : TokenKind → Terminal
+terminal_of (kinds.Name text) = next.Name
+terminal_of (kinds.Literal value) = next.Literal
+terminal_of (kinds.Fixed f) = next.Fixed f
+terminal_of kinds.Stray = next.Stray
+
+abbrev pub same_fixed : Fixed → Fixed → Bool
+same_fixed f g = bytes_eq (spelling f) (spelling g)
+
+-- a token is the one that has to come
+abbrev pub meets : Symbol → Terminal → Bool
+meets symbols.Name next.Name = true
+meets symbols.Literal next.Literal = true
+meets (symbols.Token f) (next.Fixed g) = same_fixed f g
+meets _ _ = false

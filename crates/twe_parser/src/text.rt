@@ -1,0 +1,31 @@
+//! From the text of a program to its tree.
+ghost use Rattle.std.specs.Prelude.{◌≡◌, ℕ, List, [], IfOk, IfErr};
+ghost use Rattle.twe_io.specs.declared.place.Place.{Place};
+ghost use Rattle.twe_lexer.specs.declared.token.Token.{Token};
+ghost use Rattle.twe_lexer.specs.Places.{place_after};
+ghost use Rattle.twe_lexer.specs.Tokens.{BeginsWith};
+ghost use Rattle.twe_parser.specs.declared.fail.SRule.{SRule};
+ghost use Rattle.twe_parser.specs.Fails.{Fails, Refuses};
+ghost use Rattle.twe_parser.specs.Writes.{Writes};
+
+use crate::fail::ParseFail;
+use crate::parser::Parser;
+use std::alloc::Global;
+use twe_ast::Ast;
+use twe_io::Memory;
+
+/// The tree of a text, or the first failure of a rule of the text in the order of its bytes. It takes time and memory
+/// linear in the text. `OutOfMemory` also stands for a text of 2^32 - 1 bytes or more, whose places can't be counted.
+pub fn parse(alloc: Global, text: &[u8]) -> Result<Ast, ParseFail>
+    ensures tree { IfOk result (λ tree. (tokens : List Token) × BeginsWith text.now tokens [] × Writes tree tokens) }
+    ensures end { IfOk result (λ tree. tree.end ≡ place_after text.now) }
+    ensures accepted { IfOk result (λ tree. (rule : SRule) (place : Place) → ¬ Fails text.now rule place) }
+    ensures refused { IfErr result (λ fail. Refuses fail text.now) }
+{
+    if text.len() >= u32::MAX as usize {
+        return Err(ParseFail::OutOfMemory(Memory::of_uncountable(text)));
+    }
+    let mut parser = Parser::new(alloc)?;
+    let end = parser.read(alloc, text)?;
+    parser.finish(alloc, end)
+}

@@ -1,7 +1,0 @@
-use Rattle.std.proofs.Common.{rules}
-use Rattle.twe_print.proofs.expr.+expr.Goals as goal
-
-pub push_expr-returns-in-Bin : goal.push_expr-returns-in-Bin
-push_expr-returns-in-Bin t c =
-    let written = c.push_operands.ensures c.in-Bin.place in
-    search (rules, written)

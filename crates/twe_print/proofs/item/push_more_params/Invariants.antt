@@ -1,9 +1,0 @@
-use Rattle.std.proofs.Common.{◌≡◌, ◌++◌, drop}
-use Rattle.std.specs.Prelude.{false}
-use Rattle.twe_print.specs.Text.{text_of}
-use Rattle.twe_print.specs.ItemWords.{params_words}
-use Rattle.twe_print.proofs.item.push_more_params.Given as goal
-
--- what is written, and what is left, are all
-abbrev pub invariant-loop-param : goal.invariant-loop-param
-invariant-loop-param l = l.text ++ text_of (params_words l.later (drop l.param-index l.params)) ≡ l.fn.text ++ text_of (params_words false l.params)

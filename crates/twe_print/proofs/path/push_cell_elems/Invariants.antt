@@ -1,8 +1,0 @@
-use Rattle.std.proofs.Common.{◌≡◌, ◌++◌, drop}
-use Rattle.twe_print.specs.Text.{text_of}
-use Rattle.twe_print.specs.PathWords.{cell_elems_words}
-use Rattle.twe_print.proofs.path.push_cell_elems.Given as goal
-
--- what is written, and what is left, are all
-abbrev pub invariant-loop-elem : goal.invariant-loop-elem
-invariant-loop-elem l = l.text ++ text_of (cell_elems_words l.later (drop l.elem-index l.elems)) ≡ l.fn.text ++ text_of (cell_elems_words l.rooted l.elems)

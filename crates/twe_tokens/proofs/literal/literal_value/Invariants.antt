@@ -1,6 +1,0 @@
-use Rattle.std.proofs.Common.{◌≡◌, min, take}
-use Rattle.twe_tokens.specs.Kinds.{number_of}
-use Rattle.twe_tokens.proofs.literal.literal_value.Given as goal
-
-abbrev pub invariant-loop-digit : goal.invariant-loop-digit
-invariant-loop-digit l = l.value ≡ min (number_of (take l.digit-index l.digits)) 2147483649

@@ -1,5 +1,0 @@
-use Rattle.twe_words.proofs.Meanings.{is_meaning}
-use Rattle.twe_words.proofs.command.read_words.Goals as goal
-
-pub returns : goal.returns
-returns c = is_meaning c.args.words.now c.read_command.result c.read_command.ensures
