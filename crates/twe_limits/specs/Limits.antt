@@ -1,5 +1,6 @@
 -- The limits that a run is made under.
 use Rattle.std.specs.Prelude.{ℕ, ◌≤◌}
+use Rattle.twe_limits.specs.Language.{max_fuel, max_tasks}
 
 -- how much fuel a task has, and how many tasks may be made
 pub record Bounds : Type 0 where
@@ -8,6 +9,6 @@ pub record Bounds : Type 0 where
 
 -- limits may be no larger than these, and leave room for the first task
 pub record IsWithin (fuel tasks : ℕ) : Type 0 where
-  pub fuel_most : fuel ≤ 100000000
+  pub fuel_most : fuel ≤ max_fuel
   pub tasks_least : 1 ≤ tasks
-  pub tasks_most : tasks ≤ 100000
+  pub tasks_most : tasks ≤ max_tasks

@@ -1,8 +1,13 @@
-//! The limits of a run, and the faults that its tasks can meet.
+//! The limits of the language and of a run, and the faults that a task can meet.
 #![tactic(auto)]
 
 mod fault;
+mod language;
 mod limits;
 
 pub use fault::FaultKind;
+pub use language::{
+    MAX_ACTIVE_CALLS, MAX_CELLS, MAX_EFFECTS, MAX_NODES, MAX_OPEN_BRACKETS, MAX_OPERATORS,
+    MAX_PARAMETERS, MAX_PATH_ELEMENTS, MAX_TEXT_BYTES,
+};
 pub use limits::Limits;

@@ -30,6 +30,12 @@ impl Limits {
     /// The most tasks that a run may make.
     pub const MAX_TASKS: u32 = 100_000;
 
+    /// The fuel of a task unless the command line says otherwise.
+    pub const DEFAULT_FUEL: u64 = 1_000_000;
+
+    /// How many tasks a run may make unless the command line says otherwise.
+    pub const DEFAULT_TASKS: u32 = 10_000;
+
     /// These limits.
     pub fn new(fuel: u64, tasks: u32) -> Self
         requires { IsWithin fuel tasks }
@@ -51,13 +57,15 @@ impl Limits {
 }
 
 impl Default for Limits {
-    ghost is_default = { λ limits. limits ≡ record { fuel = 1000000; tasks = 10000 } };
+    ghost use Rattle.twe_limits.specs.Language.{default_fuel, default_tasks};
+
+    ghost is_default = { λ limits. limits ≡ record { fuel = default_fuel; tasks = default_tasks } };
 
     /// A million of fuel and ten thousand tasks.
     fn default() -> Self {
         Limits {
-            fuel: 1_000_000,
-            tasks: 10_000,
+            fuel: Self::DEFAULT_FUEL,
+            tasks: Self::DEFAULT_TASKS,
         }
     }
 }

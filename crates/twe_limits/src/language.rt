@@ -1,0 +1,28 @@
+//! The limits of the language: how large a text and its parts may be.
+
+/// The largest size of a program text, in bytes.
+pub const MAX_TEXT_BYTES: usize = 1_048_576;
+
+/// The largest number of brackets of all kinds that are open at once.
+pub const MAX_OPEN_BRACKETS: usize = 200;
+
+/// The largest number of operators in a statement.
+pub const MAX_OPERATORS: usize = 200;
+
+/// The largest number of cells, the elements of arrays and grids counted.
+pub const MAX_CELLS: u32 = 65_536;
+
+/// The largest number of nodes of the tree of regions: `Root`, `Console`, and each prefix of a path of a cell.
+pub const MAX_NODES: u32 = 131_072;
+
+/// The largest number of elements of a written path, `*` counted.
+pub const MAX_PATH_ELEMENTS: usize = 32;
+
+/// The largest number of effects of a declaration.
+pub const MAX_EFFECTS: usize = 8;
+
+/// The largest number of parameters of a declaration.
+pub const MAX_PARAMETERS: usize = 4;
+
+/// The largest number of calls of methods that are active in a task at once.
+pub const MAX_ACTIVE_CALLS: u32 = 1_000;
