@@ -1,4 +1,4 @@
--- Accesses: which effects cover one, which interfere with it, and when two of them conflict.
+-- Accesses: which effects cover an access, which effects interfere with it, and when two accesses conflict.
 use Rattle.std.specs.Prelude.{◌≡◌, Bool, ◌||◌, IsTrue, List, Any}
 use Rattle.region_paths.specs.Concrete.{ConcretePath, InSet}
 use Rattle.effect_sets.specs.declared.effects.Effect.{Effect}
@@ -8,11 +8,11 @@ pub record Access : Type 0 where
   pub write : Bool
   pub path : ConcretePath
 
--- the access is covered by the effect: its path is in the effect's set, and the effect writes if it does
+-- the effect covers the access: the access's path is in the effect's set, and the effect writes if the access does
 abbrev pub CoversAccess : Effect → Access → Type 0
 CoversAccess e a = (IsTrue a.write → IsTrue e.write) × InSet e.path a.path
 
--- the access is covered by one of the effects
+-- one of the effects covers the access
 abbrev pub SomeCoversAccess : List Effect → Access → Type 0
 SomeCoversAccess es a = Any (λ e. CoversAccess e a) es
 
@@ -24,6 +24,6 @@ AccessInterferes a e = IsTrue (a.write || e.write) × InSet e.path a.path
 abbrev pub AccessInterferesWithSome : Access → List Effect → Type 0
 AccessInterferesWithSome a es = Any (λ e. AccessInterferes a e) es
 
--- the accesses conflict: they are of one concrete path, and one of them writes
+-- the accesses conflict: they have the same concrete path, and one of them writes
 abbrev pub Conflict : Access → Access → Type 0
 Conflict a b = IsTrue (a.write || b.write) × (a.path ≡ b.path)

@@ -7,7 +7,7 @@ ghost use Rattle.effect_sets.specs.Filled.{all_filled};
 use crate::effects::{Effect, Summary};
 use region_paths::includes;
 
-/// Whether an effect includes the path of another, and writes if that one does.
+/// Whether the declared effect covers the other: it includes its path, and writes if the other does.
 fn covers_one(declared: &Effect, effect: &Effect) -> bool
     ensures { result ≡ effect_covers declared.now effect.now }
 {
@@ -24,8 +24,9 @@ fn some_covers(s: &Summary, e: &Effect) -> bool
         .any(|declared| covers_one(declared, e))
 }
 
-/// Whether some effect of the summary includes the path of the effect, and writes if it does. Of effects without
-/// variables that is so exactly where each region of the effect is one of that effect of the summary.
+/// Whether some effect of the summary covers the effect: it includes its path, and writes if the effect does. For
+/// effects without variables the test is exact: it returns `true` if and only if each concrete path of the effect is
+/// one of a single effect of the summary, which writes if the effect does.
 pub fn covers(s: &Summary, e: &Effect) -> bool
     ensures exact { result ≡ covers s.now e.now }
     ensures sets { IsTrue (all_filled s.now.effects) → IsTrue (filled e.now.path)

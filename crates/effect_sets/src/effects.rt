@@ -1,4 +1,4 @@
-//! An effect, lists of effects, and the summary of a declaration.
+//! Effects, and the summary of a declaration.
 ghost use Rattle.std.specs.Prelude.{◌≡◌, IfOk, IsTrue};
 ghost use Rattle.region_paths.specs.Filled.{filled, has_args, no_var};
 ghost use Rattle.effect_sets.specs.Filled.{all_filled, all_have_args, fill_effect, fill_summary};
@@ -7,7 +7,7 @@ use region_paths::{Elem, Path};
 use std::alloc::Global;
 use twe_io::{List, Memory};
 
-/// A read of the regions of a path, or a write, which covers reads too.
+/// A read or a write of the regions of a path. A write covers reads too.
 #[derive(Debug, Drop)]
 pub struct Effect {
     /// Whether the regions are written.
@@ -16,10 +16,10 @@ pub struct Effect {
     pub path: Path,
 }
 
-/// Effects in their order.
+/// Effects in order.
 pub type Effects = List<Effect>;
 
-/// The effects that a declaration names, in the order of its text. A pure one has none.
+/// The effects that a task or a method declares, in the order of its text. A pure one has none.
 #[derive(Debug, Drop)]
 pub struct Summary {
     /// The effects.
@@ -27,7 +27,7 @@ pub struct Summary {
 }
 
 impl Effect {
-    /// The effect in whose path each variable is the argument of its number. A path without variables stays.
+    /// The effect with each variable replaced by the argument of its number. An effect without variables stays.
     pub fn fill(&self, alloc: Global, args: &[Elem]) -> Result<Effect, Memory>
         ensures exact { IfOk result (λ effect. effect ≡ fill_effect args.now self.now) }
         ensures complete { IsTrue (has_args args.now self.now.path) → IsTrue (no_var args.now)
@@ -41,7 +41,7 @@ impl Effect {
         })
     }
 
-    /// An equal effect in memory of its own.
+    /// An equal effect in its own memory.
     pub fn copy(&self, alloc: Global) -> Result<Effect, Memory>
         ensures { IfOk result (λ effect. effect ≡ self.now) }
     {
@@ -54,8 +54,7 @@ impl Effect {
 }
 
 impl Summary {
-    /// The summary in each of whose effects each variable is the argument of its number. A summary without variables
-    /// stays.
+    /// The summary with each variable replaced by the argument of its number. A summary without variables stays.
     pub fn fill(&self, alloc: Global, args: &[Elem]) -> Result<Summary, Memory>
         ensures exact { IfOk result (λ summary. summary ≡ fill_summary args.now self.now) }
         ensures complete { IsTrue (all_have_args args.now self.now.effects) → IsTrue (no_var args.now)
@@ -69,7 +68,7 @@ impl Summary {
         Ok(Summary { effects })
     }
 
-    /// An equal summary in memory of its own.
+    /// An equal summary in its own memory.
     pub fn copy(&self, alloc: Global) -> Result<Summary, Memory>
         ensures { IfOk result (λ summary. summary ≡ self.now) }
     {

@@ -8,15 +8,15 @@ ghost use Rattle.effect_sets.specs.Filled.{all_filled};
 use crate::effects::{Effect, Summary};
 use region_paths::disjoint;
 
-/// Whether one of the effects writes and their paths do not lie apart.
+/// Whether one of the effects writes, and their paths are not apart.
 fn may_interfere(a: &Effect, b: &Effect) -> bool
     ensures { result ≡ statically_interferes a.now b.now }
 {
     (a.write || b.write) && !disjoint(&a.path, &b.path)
 }
 
-/// Whether one of the effects writes and their paths do not lie apart. Of effects without variables that is so
-/// exactly where one writes and some region is in both.
+/// Whether one of the effects writes, and their paths are not apart. For effects without variables the test is exact:
+/// it returns `true` if and only if one writes and they have a concrete path in common.
 pub fn interferes(a: &Effect, b: &Effect) -> bool
     ensures exact { result ≡ statically_interferes a.now b.now }
     ensures sets { IsTrue (filled a.now.path) → IsTrue (filled b.now.path)
@@ -32,7 +32,7 @@ fn interferes_with_some(a: &Effect, t: &Summary) -> bool
     t.effects.as_slice().iter().any(|b| may_interfere(a, b))
 }
 
-/// Whether some effect of the one summary interferes with some effect of the other.
+/// Whether some effect of one summary interferes with some effect of the other.
 fn some_interfere(a: &Summary, b: &Summary) -> bool
     ensures { result ≡ statically_interfere a.now b.now }
 {
@@ -42,8 +42,9 @@ fn some_interfere(a: &Summary, b: &Summary) -> bool
         .any(|effect| interferes_with_some(effect, b))
 }
 
-/// Whether some effects of the two summaries interfere. Of summaries without variables that is so exactly where
-/// one effect writes, and some region is in both it and an effect of the other summary.
+/// Whether some effect of one summary interferes with some effect of the other. For summaries without variables the
+/// test is exact: it returns `true` if and only if two such effects have a concrete path in common, and one of them
+/// writes.
 pub fn summaries_interfere(a: &Summary, b: &Summary) -> bool
     ensures exact { result ≡ statically_interfere a.now b.now }
     ensures sets { IsTrue (all_filled a.now.effects) → IsTrue (all_filled b.now.effects)

@@ -1,4 +1,4 @@
-//! The laws that tie cover and interference of effects to single accesses, and written effects to filled ones.
+//! Laws that relate cover and interference of effects to single accesses, and written effects to filled ones.
 ghost use Rattle.std.specs.Prelude.{◌≡◌, ◌↔◌, ℤ, All, Any, IsTrue, List};
 ghost use Rattle.region_paths.specs.declared.elements.Elem.{Elem};
 ghost use Rattle.region_paths.specs.Arguments.{ArgumentsStand, Gives, literals};
@@ -9,9 +9,9 @@ ghost use Rattle.effect_sets.specs.Covers.{EffectWithin, effect_covers};
 ghost use Rattle.effect_sets.specs.Filled.{effect_under, fill_effect};
 ghost use Rattle.effect_sets.specs.Interference.{Interferes, SomeInterfere, statically_interferes};
 
-/// What an effect covers, each effect that it is within covers too, and of a filled effect that is all that it means to
-/// be within. What one effect of a list covers is covered by one of the other list, where each of the first is within
-/// one of the second.
+/// If one effect is within another, the other covers each access that the first covers. For a filled effect the
+/// converse holds too. If each effect of one list is within some effect of another list, each access that the first
+/// list covers is covered by the other list.
 pub fn cover_is_of_accesses()
     ensures within { (d e : Effect) → EffectWithin d e
         → (a : Access) → CoversAccess e a → CoversAccess d a }
@@ -21,9 +21,9 @@ pub fn cover_is_of_accesses()
         → (a : Access) → SomeCoversAccess es a → SomeCoversAccess ds a }
 {}
 
-/// Effects interfere exactly where some accesses that they cover conflict, and an access interferes with an effect
-/// exactly where it conflicts with one that the effect covers. So where effects, or lists of them, do not interfere, no
-/// access that the one covers interferes with the other, and accesses that they cover do not conflict.
+/// Two effects interfere if and only if they cover two accesses that conflict. An access interferes with an effect if
+/// and only if it conflicts with an access that the effect covers. So if two effects, or two lists of effects, do not
+/// interfere, then no access that one covers interferes with the other, and no accesses that they cover conflict.
 pub fn interference_is_of_accesses()
     ensures effects { (d e : Effect) → Interferes d e
         ↔ ((a : Access) × (b : Access) × CoversAccess d a × CoversAccess e b × Conflict a b) }
@@ -39,7 +39,7 @@ pub fn interference_is_of_accesses()
         → (a b : Access) → SomeCoversAccess ds a → SomeCoversAccess es b → ¬ Conflict a b }
 {}
 
-/// What the tests say of written effects holds of the effects that they are under each valuation.
+/// The tests on written effects are sound: what they find holds under every valuation of the variables.
 pub fn written_tests_are_sound()
     ensures covered { (d e : Effect) → IsTrue (effect_covers d e)
         → (v : Valuation) → EffectWithin (effect_under v d) (effect_under v e) }
@@ -47,9 +47,9 @@ pub fn written_tests_are_sound()
         → (v : Valuation) → ¬ Interferes (effect_under v d) (effect_under v e) }
 {}
 
-/// Filled with numbers, an effect is what it is under a valuation that gives its variables these numbers. Where each
-/// written argument stands against its number, the effect filled with the numbers is within the effect filled with the
-/// written arguments.
+/// Filling an effect with numbers gives the same effect as a valuation that gives its variables these numbers. If each
+/// written argument matches its number, the effect filled with the numbers is within the effect filled with the written
+/// arguments.
 pub fn filling_of_effects_is_sound()
     ensures numbers { (v : Valuation) (numbers : List ℤ) (e : Effect) → Gives v numbers
         → IsTrue (has_args (literals numbers) e.path)

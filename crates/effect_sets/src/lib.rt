@@ -1,4 +1,4 @@
-//! Effects of tasks: reads and writes of regions, and summaries of them.
+//! Effects of tasks and methods: reads and writes of regions, and the summary of a declaration.
 #![tactic(auto)]
 
 mod cover;

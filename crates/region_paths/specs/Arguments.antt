@@ -1,4 +1,4 @@
--- Arguments that are whole numbers, and what they say of the arguments as they are written.
+-- Arguments as integers, and how they relate to the arguments as written.
 use Rattle.std.specs.Prelude.{◌≡◌, ◌<◌, ℕ, ℤ, List, IsTrue, Some, length, map, slice_get}
 use Rattle.region_paths.specs.declared.elements.Elem.{Elem}
 use Rattle.region_paths.specs.declared.elements.Elem.TheVariants.{Index}
@@ -9,11 +9,11 @@ use Rattle.region_paths.specs.Filled.{Valuation, elem_under}
 abbrev pub literals : List ℤ → List Elem
 literals numbers = map (λ z. Index z) numbers
 
--- the valuation gives each variable that has an argument this argument
+-- the valuation gives each variable that has a number in the list this number
 abbrev pub Gives : Valuation → List ℤ → Type 0
 Gives v numbers = (k : ℕ) → k < length numbers → slice_get numbers k ≡ Some (v k)
 
--- there is a written argument for each number, and it stands against the number: it is any index, or a literal or a
--- variable that is this number under the valuation
+-- there is one written argument for each number, and it matches the number: it is any index, or it is a literal or a
+-- variable with this value under the valuation
 abbrev pub ArgumentsStand : Valuation → List Elem → List ℤ → Type 0
 ArgumentsStand v args numbers = IsTrue (each_stands (map (elem_under v) args) (map (λ z. number z) numbers))

@@ -1,4 +1,4 @@
--- Variables of a written path: whether it has any, what it is under a valuation, and filling them.
+-- Variables of a written path: whether it has any, their values under a valuation, and replacing them by arguments.
 use Rattle.std.specs.Prelude.{ℕ, ℤ, Bool, true, false, ◌&&◌, List, [], ◌∷◌, length, map, nat_lt, slice_index_or, take_while}
 use Rattle.region_paths.specs.declared.elements.Elem.{Elem}
 use Rattle.region_paths.specs.declared.elements.Elem.TheVariants.{Name, Index, Var, AnyIndex}
@@ -10,33 +10,33 @@ no_var [] = true
 no_var (Var k ∷ es) = false
 no_var (_ ∷ es) = no_var es
 
--- a path without variables
+-- the path has no variables
 abbrev pub filled : WrittenPath → Bool
 filled p = no_var p.elems && no_var p.tail
 
--- a whole number for each variable
+-- an integer for each variable
 abbrev pub Valuation : Type 0
 Valuation = ℕ → ℤ
 
--- a variable is the index that it has, and everything else is itself
+-- a variable becomes the index that is its value; everything else stays
 abbrev pub elem_under : Valuation → Elem → Elem
 elem_under v (Name n) = Name n
 elem_under v (Index i) = Index i
 elem_under v (Var k) = Index (v k)
 elem_under v AnyIndex = AnyIndex
 
--- the path in which each variable is the index that it has
+-- the path with each variable replaced by its value
 abbrev pub under : Valuation → WrittenPath → WrittenPath
 under v p = record { elems = map (elem_under v) p.elems; star = p.star; tail = map (elem_under v) p.tail }
 
--- a variable is its argument, where it has one, and everything else is itself
+-- a variable that has an argument becomes this argument; everything else stays
 abbrev pub fill_elem : List Elem → Elem → Elem
 fill_elem args (Name n) = Name n
 fill_elem args (Index i) = Index i
 fill_elem args (Var k) = slice_index_or args k (Var k)
 fill_elem args AnyIndex = AnyIndex
 
--- each variable is below the number
+-- each variable's number is below n
 abbrev pub vars_below : ℕ → List Elem → Bool
 vars_below n [] = true
 vars_below n (Var k ∷ es) = nat_lt k n && vars_below n es
@@ -46,7 +46,7 @@ vars_below n (_ ∷ es) = vars_below n es
 abbrev pub has_args : List Elem → WrittenPath → Bool
 has_args args p = vars_below (length args) p.elems && vars_below (length args) p.tail
 
--- the path in which each variable is its argument, before the star and after it
+-- the path with each variable replaced by its argument, before the star and after it
 abbrev pub fill : List Elem → WrittenPath → WrittenPath
 fill args p = record { elems = map (fill_elem args) p.elems; star = p.star; tail = map (fill_elem args) p.tail }
 
@@ -57,6 +57,6 @@ is_solid (Index i) = true
 is_solid (Var k) = false
 is_solid AnyIndex = false
 
--- the elements before the first that is neither a name nor a literal index, none of them after the star
+-- the elements before the star and before the first that is neither a name nor a literal index
 abbrev pub solid_prefix : WrittenPath → List Elem
 solid_prefix p = take_while is_solid p.elems

@@ -1,11 +1,11 @@
--- The rule by which one written path lies inside another.
+-- When one written path is inside another.
 use Rattle.std.specs.Prelude.{◌+◌, ◌==◌, nat_le, Bool, true, false, not, ◌&&◌, if◌then◌else◌, List, [], ◌∷◌, length, reverse}
 use Rattle.std.specs.Ordering.{int_eq}
 use Rattle.region_paths.specs.declared.elements.Elem.{Elem}
 use Rattle.region_paths.specs.declared.elements.Elem.TheVariants.{Name, Index, Var, AnyIndex}
 use Rattle.region_paths.specs.Written.{WrittenPath}
 
--- an element is within its equal, and each index is within `AnyIndex`
+-- an element is within its equal, and every kind of index is within `AnyIndex`
 abbrev pub within : Elem → Elem → Bool
 within (Name n) (Name m) = n == m
 within (Index i) (Index j) = int_eq i j
@@ -21,20 +21,20 @@ starts_within xs [] = true
 starts_within [] (y ∷ ys) = false
 starts_within (x ∷ xs) (y ∷ ys) = within x y && starts_within xs ys
 
--- the same of its last elements, counted from the end
+-- the same for the last elements, counted from the end
 abbrev pub ends_within : List Elem → List Elem → Bool
 ends_within xs ys = starts_within (reverse xs) (reverse ys)
 
--- the lists are equally long, and each element is within the one of its place
+-- the lists are equally long, and each element is within the one at its position
 abbrev pub each_within : List Elem → List Elem → Bool
 each_within xs ys = (length xs == length ys) && starts_within xs ys
 
--- a list without a star lies inside the path of these elements round a star
+-- a list without a star is inside the path with these elements around a star
 abbrev pub inside_ends : List Elem → List Elem → List Elem → Bool
 inside_ends xs elems tail =
     nat_le (length elems + length tail) (length xs) && (starts_within xs elems && ends_within xs tail)
 
--- the first path lies inside the second
+-- the first path is inside the second
 abbrev pub inside : WrittenPath → WrittenPath → Bool
 inside p q =
     if q.star

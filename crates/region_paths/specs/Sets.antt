@@ -1,4 +1,4 @@
--- How the sets of two written paths lie to one another.
+-- How the sets of two written paths relate to each other.
 use Rattle.region_paths.specs.Written.{WrittenPath}
 use Rattle.region_paths.specs.Concrete.{ConcretePath, InSet}
 

@@ -8,6 +8,6 @@ pub record WrittenPath : Type 0 where
   pub star : Bool
   pub tail : List Elem
 
--- nothing stands after a star that is not there
+-- without a star there are no elements after it
 abbrev pub IsWellFormed : WrittenPath → Type 0
 IsWellFormed p = ¬ IsTrue p.star → p.tail ≡ []

@@ -1,4 +1,4 @@
-//! Whether two written paths lie apart.
+//! Whether two written paths are apart.
 ghost use Rattle.std.specs.Prelude.{◌≡◌, ◌↔◌, IsFalse, IsTrue};
 ghost use Rattle.region_paths.specs.Apart.{apart, clash, clash_from_front, clash_from_end, apart_from_ends};
 ghost use Rattle.region_paths.specs.Filled.{filled};
@@ -7,8 +7,8 @@ ghost use Rattle.region_paths.specs.Sets.{SetsApart, SetsMeet};
 use crate::elements::Elem;
 use crate::paths::Path;
 
-/// Whether two elements have no concrete element in common, whatever their variables are: a name and another
-/// name or an index of any kind, or two different literals. Two variables never clash.
+/// Whether two elements have no concrete element in common, whatever the values of their variables: two different
+/// names, a name and an index of any kind, or two different literals. Two variables never clash.
 fn clashes(first: Elem, second: Elem) -> bool
     ensures { result ≡ clash first second }
 {
@@ -21,14 +21,14 @@ fn clashes(first: Elem, second: Elem) -> bool
     }
 }
 
-/// Whether the lists clash at a place, counted from the front, that both have.
+/// Whether the lists clash at a position, counted from the front, that both have.
 fn fronts_clash(first: &[Elem], second: &[Elem]) -> bool
     ensures { result ≡ clash_from_front first.now second.now }
 {
     first.iter().zip(second).any(|(x, y)| clashes(*x, *y))
 }
 
-/// Whether the lists clash at a place, counted from the end, that both have.
+/// Whether the lists clash at a position, counted from the end, that both have.
 fn ends_clash(first: &[Elem], second: &[Elem]) -> bool
     ensures { result ≡ clash_from_end first.now second.now }
 {
@@ -39,14 +39,14 @@ fn ends_clash(first: &[Elem], second: &[Elem]) -> bool
         .any(|(x, y)| clashes(*x, *y))
 }
 
-/// Whether a list without a star is too short for the elements round a star, or clashes with them.
+/// Whether a list without a star is too short for the elements around a star, or clashes with them.
 fn is_apart_from_ends(plain: &[Elem], front: &[Elem], back: &[Elem]) -> bool
     ensures { result ≡ apart_from_ends plain.now front.now back.now }
 {
     plain.len() < front.len() + back.len() || fronts_clash(plain, front) || ends_clash(plain, back)
 }
 
-/// The rule of disjointness, by which of the two paths have a star.
+/// The rule of disjointness, with one case for each combination of stars.
 fn are_apart(p: &Path, q: &Path) -> bool
     ensures { result ≡ apart p.now q.now }
 {
@@ -62,8 +62,8 @@ fn are_apart(p: &Path, q: &Path) -> bool
     }
 }
 
-/// Whether the paths lie apart: then no region of the one is a region of the other, whatever the variables of both
-/// are. For paths without variables that is so exactly where the answer is yes.
+/// Whether the paths are apart. If so, they have no concrete path in common, whatever the values of their variables.
+/// For paths without variables the test is exact: it returns `true` if and only if they have none in common.
 pub fn disjoint(p: &Path, q: &Path) -> bool
     ensures exact { result ≡ apart p.now q.now }
     ensures sets { IsTrue (filled p.now) → IsTrue (filled q.now) → IsTrue result ↔ SetsApart p.now q.now }

@@ -1,10 +1,10 @@
-//! One element of a written path, and lists of them.
+//! The elements of a written path.
 use twe_io::List;
 
 /// One element of a written path below the root.
 #[derive(Clone, Copy, Debug, PartialEq, Eq)]
 pub enum Elem {
-    /// A region, by the number of its name.
+    /// A region, by its number.
     Name(u32),
     /// A literal index, which may be negative.
     Index(i32),
@@ -14,5 +14,5 @@ pub enum Elem {
     AnyIndex,
 }
 
-/// Elements in their order.
+/// Elements in order.
 pub type Elems = List<Elem>;

@@ -1,4 +1,4 @@
-//! Whether a written path lies inside another one.
+//! Whether one written path is inside another.
 ghost use Rattle.std.specs.Prelude.{◌≡◌, ◌↔◌, IsTrue, reverse, zip};
 ghost use Rattle.std.specs.List.{list_all};
 ghost use Rattle.region_paths.specs.Inside.{inside, within, starts_within, ends_within, inside_ends};
@@ -8,7 +8,7 @@ ghost use Rattle.region_paths.specs.Sets.{SetWithin};
 use crate::elements::Elem;
 use crate::paths::Path;
 
-/// Whether an element is within another: equal to it, or an index of some kind within any index.
+/// Whether an element is within another: the two are equal, or the inner is any kind of index and the outer `AnyIndex`.
 fn is_within(inner: Elem, outer: Elem) -> bool
     ensures { result ≡ within inner outer }
 {
@@ -22,14 +22,14 @@ fn is_within(inner: Elem, outer: Elem) -> bool
     }
 }
 
-/// Whether the elements are within each other place by place, as far as both lists go.
+/// Whether each element of `inner` is within the one at its position in `outer`, up to the length of the shorter list.
 fn front_pairs_are_within(inner: &[Elem], outer: &[Elem]) -> bool
     ensures { result ≡ list_all (λ pair. within pair.0 pair.1) (zip inner.now outer.now) }
 {
     inner.iter().zip(outer).all(|(i, o)| is_within(*i, *o))
 }
 
-/// The same with the places counted from the end.
+/// The same with positions counted from the end.
 fn end_pairs_are_within(inner: &[Elem], outer: &[Elem]) -> bool
     ensures { result ≡ list_all (λ pair. within pair.0 pair.1) (zip (reverse inner.now) (reverse outer.now)) }
 {
@@ -56,8 +56,8 @@ fn end_is_within(inner: &[Elem], outer: &[Elem]) -> bool
     inner.len() >= outer.len() && end_pairs_are_within(inner, outer)
 }
 
-/// Whether a list without a star has room for the elements before a star and those after it, and its ends are
-/// within them.
+/// Whether a list without a star is long enough for the elements before a star and those after it, and its two ends
+/// are within them.
 fn ends_are_within(inner: &[Elem], front: &[Elem], back: &[Elem]) -> bool
     ensures { result ≡ inside_ends inner.now front.now back.now }
 {
@@ -66,7 +66,7 @@ fn ends_are_within(inner: &[Elem], front: &[Elem], back: &[Elem]) -> bool
         && end_is_within(inner, back)
 }
 
-/// The rule of inclusion, by which of the two paths have a star.
+/// The rule of inclusion, with one case for each combination of stars.
 fn is_inside(inner: &Path, outer: &Path) -> bool
     ensures { result ≡ inside inner.now outer.now }
 {
@@ -83,8 +83,8 @@ fn is_inside(inner: &Path, outer: &Path) -> bool
     }
 }
 
-/// Whether `inner` lies inside `outer`: then each region of `inner` is one of `outer`, whatever the variables of
-/// both are. For paths without variables that is so exactly where the answer is yes.
+/// Whether `inner` is inside `outer`. If so, each concrete path of `inner` is one of `outer`, whatever the values of
+/// their variables. For paths without variables the test is exact: it returns `true` if and only if that holds.
 pub fn includes(outer: &Path, inner: &Path) -> bool
     ensures exact { result ≡ inside inner.now outer.now }
     ensures sets { IsTrue (filled inner.now) → IsTrue (filled outer.now)

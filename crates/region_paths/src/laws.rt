@@ -1,4 +1,4 @@
-//! The laws that tie the two tests on written paths to the sets of concrete paths that they stand for.
+//! Laws that relate the two tests on written paths to the sets of concrete paths.
 ghost use Rattle.std.specs.Prelude.{◌≡◌, ℤ, IsFalse, IsTrue, List};
 ghost use Rattle.region_paths.specs.declared.elements.Elem.{Elem};
 ghost use Rattle.region_paths.specs.Written.{WrittenPath};
@@ -8,18 +8,19 @@ ghost use Rattle.region_paths.specs.Filled.{Valuation, fill, filled, has_args, u
 ghost use Rattle.region_paths.specs.Arguments.{ArgumentsStand, Gives, literals};
 ghost use Rattle.region_paths.specs.Sets.{SetWithin, SetsApart, SetsMeet};
 
-/// A path inside another has no concrete path that the other lacks, whatever their variables are.
+/// If a path is inside another, each concrete path of the first is one of the second, whatever the values of their
+/// variables.
 pub fn inside_is_sound()
     ensures { (p q : WrittenPath) → IsTrue (inside p q) → (v : Valuation) → SetWithin (under v p) (under v q) }
 {}
 
-/// Two paths apart have no concrete path in common, whatever their variables are.
+/// If two paths are apart, they have no concrete path in common, whatever the values of their variables.
 pub fn apart_is_sound()
     ensures { (p q : WrittenPath) → IsTrue (apart p q) → (v : Valuation) → SetsApart (under v p) (under v q) }
 {}
 
-/// For filled paths both tests are exact: a path whose set is within another's lies inside it, paths whose sets
-/// have nothing in common lie apart, and paths that do not lie apart have a concrete path in common.
+/// For paths without variables both tests are exact. A path whose set is within the set of another is inside it. Paths
+/// whose sets have nothing in common are apart, and paths that are not apart have a concrete path in common.
 pub fn filled_tests_are_exact()
     ensures within { (p q : WrittenPath) → IsTrue (filled p) → IsTrue (filled q)
         → SetWithin p q → IsTrue (inside p q) }
@@ -29,15 +30,15 @@ pub fn filled_tests_are_exact()
         → IsFalse (apart p q) → SetsMeet p q }
 {}
 
-/// Filled with numbers, a path is what it is under each valuation that gives its variables these numbers, where each
-/// of its variables has one.
+/// Filling a path with numbers gives the same path as a valuation that gives its variables these numbers, if there is a
+/// number for each of its variables.
 pub fn filling_with_numbers_is_a_valuation()
     ensures { (v : Valuation) (numbers : List ℤ) (p : WrittenPath) → Gives v numbers
         → IsTrue (has_args (literals numbers) p) → fill (literals numbers) p ≡ under v p }
 {}
 
-/// Where each written argument stands against the number that it really is, the path filled with the numbers has no
-/// concrete path that the path filled with the written arguments lacks.
+/// If each written argument matches the number that it evaluates to, then each concrete path of the path filled with
+/// the numbers is one of the path filled with the written arguments.
 pub fn filling_is_sound()
     ensures { (v : Valuation) (args : List Elem) (numbers : List ℤ) (p : WrittenPath)
         → ArgumentsStand v args numbers → SetWithin (fill (literals numbers) p) (under v (fill args p)) }

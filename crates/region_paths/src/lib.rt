@@ -1,5 +1,5 @@
-//! Paths of regions as programs write them: which regions a path stands for is in `specs/`, and here are the
-//! two tests on written paths, whether one lies inside another and whether two lie apart.
+//! Paths of regions as programs write them. `specs/` defines the set of concrete paths of a written path. The code has
+//! the two tests on written paths: whether one is inside another, and whether two are apart.
 #![tactic(auto)]
 
 mod disjointness;

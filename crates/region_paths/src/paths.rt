@@ -1,4 +1,4 @@
-//! The written path: elements, at most one star, and the elements after the star.
+//! The written path: elements, then at most one star, and the elements after the star.
 ghost use Rattle.std.specs.Prelude.{◌≡◌, IfOk, IsTrue, length, map};
 ghost use Rattle.region_paths.specs.Written.{IsWellFormed};
 ghost use Rattle.region_paths.specs.Filled.{fill, fill_elem, filled, has_args, is_solid, no_var, solid_prefix};
@@ -8,8 +8,8 @@ use std::alloc::{AllocError, Global};
 use std::marker::Model;
 use twe_io::Memory;
 
-/// A path as programs write it. `elems` stand before the star and `tail` after it. Without a star `tail` is
-/// empty, which the type keeps. Contracts see a `WrittenPath`.
+/// A path as programs write it: `elems` before the star and `tail` after it. Without a star `tail` is empty; the type
+/// keeps this invariant. Contracts see a `WrittenPath`.
 #[derive(Debug, Drop)]
 pub struct Path {
     elems: Elems,
@@ -28,7 +28,7 @@ impl Model for Path {
 }
 
 impl Path {
-    /// The path of these elements, star and tail. It takes no memory.
+    /// The path with these elements, star and tail. It takes no memory.
     pub fn new(elems: Elems, star: bool, tail: Elems) -> Path
         requires { IsWellFormed (record { elems = elems; star = star; tail = tail }) }
         ensures parts { result ≡ record { elems = elems; star = star; tail = tail } }
@@ -36,7 +36,7 @@ impl Path {
         Path { elems, star, tail }
     }
 
-    /// The elements before the star, which are all of them where there is no star.
+    /// The elements before the star, or all elements if there is no star.
     pub fn elems(&self) -> &Elems
         ensures part { result.now ≡ self.now.elems }
     {
@@ -51,7 +51,7 @@ impl Path {
         self.star
     }
 
-    /// The elements after the star: none where there is no star.
+    /// The elements after the star. There are none if there is no star.
     pub fn tail(&self) -> &Elems
         ensures part { result.now ≡ self.now.tail }
         ensures well_formed { IsWellFormed self.now }
@@ -59,8 +59,7 @@ impl Path {
         &self.tail
     }
 
-    /// How many elements stand before the first that is neither a name nor a literal index, none of them after
-    /// the star.
+    /// The number of elements before the star and before the first element that is neither a name nor a literal index.
     pub fn solid_prefix(&self) -> usize
         ensures { result ≡ length (solid_prefix self.now) }
     {
@@ -68,8 +67,8 @@ impl Path {
         elems.iter().take_while(|e| elem_is_solid(**e)).count()
     }
 
-    /// The path in which each variable is the argument of its number, before the star and after it. A variable
-    /// that has no argument stays, and so does a path without variables.
+    /// The path with each variable replaced by the argument of its number, before the star and after it. A variable
+    /// without an argument stays. A path without variables is returned as it is.
     pub fn fill(&self, alloc: Global, args: &[Elem]) -> Result<Path, Memory>
         ensures exact { IfOk result (λ path. path ≡ fill args.now self.now) }
         ensures complete { IsTrue (has_args args.now self.now) → IsTrue (no_var args.now)
@@ -85,7 +84,7 @@ impl Path {
         })
     }
 
-    /// An equal path in memory of its own.
+    /// An equal path in its own memory.
     pub fn copy(&self, alloc: Global) -> Result<Path, Memory>
         ensures { IfOk result (λ path. path ≡ self.now) }
     {
@@ -111,7 +110,7 @@ fn elem_is_solid(elem: Elem) -> bool
     }
 }
 
-/// The element, or the argument of its number where it is a variable that has one.
+/// The argument of the variable's number, if the element is a variable that has one; otherwise the element itself.
 fn fill_one(elem: Elem, args: &[Elem]) -> Elem
     ensures { result ≡ fill_elem args.now elem }
 {

@@ -1,14 +1,15 @@
--- What contracts see of a `Deck`: the ends that its worker has of all decks.
+-- What contracts see of a `Deck`: its worker's view of all decks.
 use Rattle.std.specs.Prelude.{◌≡◌, ℕ, ◌-◌, ◌<◌, List, [], ◌∷◌, length, replicate, Some, slice_get, slice_set, slice_index_or}
 use Rattle.steal_pool.specs.declared.law.Hand.{Hand}
 use Rattle.steal_pool.specs.Hand.{owner_of, guest_of, pushing, taking}
 use Rattle.steal_pool.specs.Stands.{Joins, Leaves, WasEmpty}
 
--- which deck it is
+-- the identity of a deck
 abbrev pub DeckId : Type 0
 DeckId = ℕ × ℕ
 
--- the worker's number, which is the number of its own deck, and how often it may still push; the bound of all numbers; and for each deck, by its number, which one it is and what this worker's pass of it knows
+-- the worker's number, which is also the number of its own deck; how many pushes are left to it; the bound of all
+-- numbers; and for each deck, by its number, its identity and what this worker's pass of it knows
 pub record Ends : Type 0 where
   pub number : ℕ
   pub spare : ℕ
@@ -20,27 +21,28 @@ pub record Ends : Type 0 where
 abbrev pub hand_at : Ends → ℕ → Hand
 hand_at ends deck = slice_index_or ends.hands deck (guest_of ends.bound)
 
--- the ends once the pass of this deck knows something else
+-- the same ends, except that the pass of this deck now knows `known`
 abbrev pub with_hand : Ends → ℕ → Hand → Ends
 with_hand ends deck known = record ends { hands = slice_set ends.hands deck known }
 
--- at one step the number joined the worker's own deck at the back; one push fewer is left
+-- in one step the number joined the worker's own deck at the back; one push fewer is left
 abbrev pub Pushed : Ends → Ends → ℕ → Type 0
 Pushed old new number =
     let known = pushing (hand_at old old.number) (number ∷ []) in
     (new ≡ record (with_hand old old.number known) { spare = old.spare - 1 }) × Joins (hand_at old old.number) (number ∷ []) known
 
--- at one step the number was the first of this deck and left it, and the worker's pass of it remembers it; the number is below the bound
+-- in one step the number was the first of this deck and left it, and the worker's pass of the deck records it; the
+-- number is below the bound
 abbrev pub Taken : Ends → Ends → ℕ → ℕ → Type 0
 Taken old new deck number =
     let known = taking (hand_at old deck) (number ∷ []) in
     (new ≡ with_hand old deck known) × Leaves (hand_at old deck) (number ∷ []) known × (number < old.bound)
 
--- at one moment this deck was empty; nothing changed
+-- nothing changed, and what the worker's pass of this deck knows does not rule out that the deck is empty
 abbrev pub FoundEmpty : Ends → Ends → ℕ → Type 0
 FoundEmpty old new deck = (new ≡ old) × WasEmpty (hand_at old deck)
 
--- the ends of the worker of this number in new decks
+-- the ends of the worker with this number, when the decks are new
 abbrev pub new_ends : ℕ → ℕ → List DeckId → ℕ → Ends
 new_ends capacity bound decks number = record {
   number = number;
@@ -50,7 +52,7 @@ new_ends capacity bound decks number = record {
   hands = slice_set (replicate (length decks) (guest_of bound)) number (owner_of bound (length decks));
 }
 
--- the decks of so many workers, all new. Each worker reaches the same decks, and from each as many passes may take as there are workers
+-- The decks of this many workers, all new. All workers see the same decks, and every worker may take from every deck.
 pub record AreNew (workers capacity bound : ℕ) (all : List Ends) : Type 0 where
   pub decks : List DeckId
   pub count : length decks ≡ workers

@@ -2,19 +2,19 @@
 use Rattle.std.specs.Prelude.{ℕ, ◌+◌, Bool, true, false, List, [], ◌++◌}
 use Rattle.steal_pool.specs.declared.law.Hand.{Hand}
 
--- a pass that pushed and took nothing
+-- a pass that has pushed nothing and taken nothing
 abbrev pub idle : ℕ → ℕ → Bool → Hand
 idle bound takers takes = record { bound = bound; takers = takers; takes = takes; pushed = []; took = [] }
 
--- the owner's pass of an empty deck from which so many passes may take
+-- the owner's pass of a new deck from which `takers` passes may take
 abbrev pub owner_of : ℕ → ℕ → Hand
 owner_of bound takers = idle bound takers true
 
--- another worker's pass that took nothing
+-- a thief's pass that has taken nothing
 abbrev pub guest_of : ℕ → Hand
 guest_of bound = idle bound 0 true
 
--- a pass that was given up when the deck was made
+-- the pass that was given up when the deck was made
 abbrev pub spent : ℕ → Hand
 spent bound = idle bound 0 false
 

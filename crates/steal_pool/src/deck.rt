@@ -1,4 +1,4 @@
-//! A worker's deck and its ends of the others'.
+//! A worker's access to the decks: to its own as the owner, and to the others' as a thief.
 ghost use Rattle.std.specs.Prelude.{◌≢◌, ◌≡◌, ◌<◌, length, IfSome, IfNone, IfOk, OnOk};
 ghost use Rattle.steal_pool.specs.Ends.{Pushed, Taken, FoundEmpty};
 ghost use Rattle.steal_pool.specs.inner.Single.{ends_of, AgreeOnBound, IsAt};
@@ -11,15 +11,15 @@ use std::marker::Model;
 use std::sync::Wait;
 use twe_io::Memory;
 
-/// A worker's own end of its deck, and its ends of the other workers' decks.
+/// One worker's access to all decks: it owns one of them and can steal from the others.
 ///
-/// A deck is first in, first out. This worker alone pushes to its own, and every worker takes from every deck, each
-/// number once. It is made by [`make_decks`](crate::make_decks), and one thread at a time has it.
+/// A deck is first in, first out. Only its owner pushes to it; every worker can take from it, and each number is taken
+/// at most once. [`make_decks`](crate::make_decks) makes these values, and each belongs to one thread at a time.
 #[derive(Drop)]
 pub struct Deck {
     number: u32,
     own: Own,
-    // By the decks' numbers, with this worker's own left out.
+    // In the order of the decks' numbers, without this worker's own.
     others: Vec<Other>,
 }
 
@@ -35,7 +35,7 @@ impl Model for Deck {
 }
 
 impl Deck {
-    // The deck of the worker of this number, with its ends of the others' in order.
+    // The access of the worker with this number: its own deck, and its ends of the others' in order.
     pub(crate) fn new(number: u32, own: Own, others: Vec<Other>) -> Self
         requires { AgreeOnBound number own others.items }
         ensures { result ≡ ends_of number own others.items }
@@ -47,7 +47,7 @@ impl Deck {
         }
     }
 
-    // Gives this worker an end of a new deck, which comes after all others, and gives an end of its own deck away.
+    // Adds an end of a new deck after all others, and returns an end of this worker's own deck for the new worker.
     pub(crate) fn meet(&mut self, own: &mut Own) -> Result<Other, Memory>
         requires { own.old.hand.bound ≡ self.old.bound }
         ensures own { (own.new.deck ≡ own.old.deck) × (own.new.spare ≡ own.old.spare) }
@@ -61,28 +61,29 @@ impl Deck {
         Ok(mine)
     }
 
-    /// The worker's number, which is the number of its own deck.
+    /// The worker's number, which is also the number of its own deck.
     pub fn number(&self) -> u32
         ensures { result ≡ self.now.number }
     {
         self.number
     }
 
-    /// How often this worker may still push.
+    /// The number of pushes that are left to this worker.
     pub fn spare(&self) -> u32
         ensures { result ≡ self.now.spare }
     {
         self.own.spare()
     }
 
-    /// How many decks there are, this worker's own among them.
+    /// The number of decks, including this worker's own.
     pub fn count(&self) -> usize
         ensures { result ≡ length self.now.hands }
     {
         self.others.len() + 1
     }
 
-    /// Pushes a number below the bound at the back of the worker's own deck, with a spare push. It takes no memory.
+    /// Pushes a number below the bound at the back of the worker's own deck. It uses one of the pushes that are left,
+    /// and takes no memory.
     pub fn push(&mut self, number: u32)
         requires below { number < self.old.bound }
         requires room { 0 < self.old.spare }
@@ -91,8 +92,10 @@ impl Deck {
         self.own.push(number);
     }
 
-    /// Takes the number at the front of the worker's own deck. `None` only where the deck was empty at a moment of
-    /// this call. It takes no memory.
+    /// Takes the number at the front of the worker's own deck. It takes no memory.
+    ///
+    /// It returns `None` if it finds the deck empty. What is proved of `None` is weaker: this worker knows nothing that
+    /// rules out an empty deck (`FoundEmpty`).
     pub fn pop(&mut self) -> Option<u32>
         ensures some { IfSome result (Taken self.old self.new self.old.number) }
         ensures none { IfNone result (FoundEmpty self.old self.new self.old.number) }
@@ -100,8 +103,11 @@ impl Deck {
         self.own.pop()
     }
 
-    /// Takes the number at the front of the deck of the number `from`. `None` only where that deck was empty at a
-    /// moment of this call. It tries again for as long as other workers come first, and takes no memory.
+    /// Takes the number at the front of the deck with the number `from`. It tries again for as long as other workers
+    /// are faster, and takes no memory.
+    ///
+    /// It returns `None` if it finds that deck empty. What is proved of `None` is weaker: this worker knows nothing
+    /// that rules out that the deck is empty (`FoundEmpty`).
     pub fn steal(&mut self, rt: &impl Wait, from: u32) -> Option<u32>
         requires { from < length self.old.hands }
         ensures some { IfSome result (Taken self.old self.new from) }
@@ -115,7 +121,7 @@ impl Deck {
     }
 }
 
-// Where the end of this deck stands, among those of a worker of another number.
+// The index of a deck's end among those of a worker that does not own it.
 fn place_of(number: u32, deck: u32) -> usize
     requires { deck ≢ number }
     ensures { IsAt number deck result }

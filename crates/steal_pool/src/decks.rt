@@ -1,4 +1,4 @@
-//! The decks of all workers, made together.
+//! Making the decks of all workers.
 ghost use Rattle.std.specs.Prelude.{◌≡◌, ◌+◌, length, map, All, IfOk, OnOk};
 ghost use Rattle.steal_pool.specs.Ends.{AreNew};
 ghost use Rattle.steal_pool.specs.inner.Making.{met, end_on};
@@ -9,10 +9,11 @@ use crate::own::Own;
 use std::alloc::Global;
 use twe_io::{List, Memory};
 
-/// The decks of all workers, by the workers' numbers. Each goes to the thread of its worker.
+/// The decks of all workers, in the order of the workers' numbers. Each is moved to the thread of its worker.
 pub type Decks = List<Deck>;
 
-/// Empty decks for so many workers, whose numbers are below the bound. Each worker may push as often as `capacity` says.
+/// Empty decks for `workers` workers. Only numbers below `bound` can be pushed, and each worker can push `capacity`
+/// times.
 pub fn make_decks(alloc: Global, workers: u32, capacity: u32, bound: u32) -> Result<Decks, Memory>
     ensures new { IfOk result (AreNew workers capacity bound) }
     ensures each { IfOk result (All (λ ends. (ends.bound ≡ bound) × (ends.spare ≡ capacity) × (length ends.hands ≡ workers))) }
@@ -26,7 +27,7 @@ pub fn make_decks(alloc: Global, workers: u32, capacity: u32, bound: u32) -> Res
     Ok(Decks::from(decks))
 }
 
-// Gives each worker an end of a new deck, and the new worker an end of each deck.
+// Gives each worker an end of the new deck, and returns an end of each deck for the new worker.
 fn meet_all(alloc: Global, decks: &mut [Deck], own: &mut Own) -> Result<Vec<Other>, Memory>
     requires { All (λ ends. ends.bound ≡ own.old.hand.bound) decks.old }
     ensures own { (own.new.deck ≡ own.old.deck) × (own.new.spare ≡ own.old.spare) }

@@ -1,15 +1,17 @@
-//! The rule that every deck keeps, and what a step tells the pass that made it.
+//! The invariant of a deck, and what a pass knows after each kind of step.
+//!
+//! A pass is the right of one worker to use one deck. It records what its worker did there.
 ghost use Rattle.std.specs.Prelude.{ℕ};
 
 use crossbeam_deque::protocol::{Outcome, Protocol, Split};
 use std::collections::LinkedList;
 use std::marker::{Brand, PhantomData};
 
-/// What one pass of a deck knows. It is there for contracts; no value of it is made.
+/// What one pass of a deck knows. Only contracts speak of it; no value of this type exists when the program runs.
 pub struct Hand {
-    /// All numbers of the deck are below it.
+    /// All numbers in the deck are below this bound.
     pub bound: u64,
-    /// From the owner's pass: how many passes may take numbers out. From another's: 0.
+    /// In the owner's pass, how many passes may take numbers out. In any other pass, 0.
     pub takers: u64,
     /// Whether this pass may take numbers out.
     pub takes: bool,
@@ -19,7 +21,7 @@ pub struct Hand {
     pub took: LinkedList<u32>,
 }
 
-/// The rule of a deck, `Stands`.
+/// The invariant of a deck: `Stands`.
 pub struct Law;
 
 impl Protocol<u32, Hand> for Law {
@@ -34,7 +36,7 @@ impl Protocol<u32, Hand> for Law {
     ghost guest = { spent (2 ^ 32) };
 }
 
-/// The number joined the deck at the back.
+/// A push: the number joined the deck at the back.
 pub struct Joined;
 
 impl Outcome<u32, Hand> for Joined {
@@ -43,7 +45,7 @@ impl Outcome<u32, Hand> for Joined {
     ghost then = { Joins };
 }
 
-/// The number was the first of the deck and left it, or the deck was empty.
+/// A take: the number was the first of the deck and left it, or the deck was found empty.
 pub struct Left;
 
 impl Outcome<u32, Hand> for Left {
@@ -63,7 +65,7 @@ impl Bound for Brand {
     ghost bound = { 0 };
 }
 
-/// Sets the bound of a deck on which nothing was pushed. The pass that comes of it may not take.
+/// Sets the bound of a new deck, to which nothing was pushed. It leaves a second pass, which may not take.
 pub struct Bounding<B: Bound>(PhantomData<B>);
 
 impl<B: Bound> Split<Hand> for Bounding<B> {
@@ -74,7 +76,7 @@ impl<B: Bound> Split<Hand> for Bounding<B> {
     ghost right = { λ _. spent B.bound };
 }
 
-/// Gives another worker a pass.
+/// Makes a pass for another worker.
 pub struct Sharing;
 
 impl Split<Hand> for Sharing {

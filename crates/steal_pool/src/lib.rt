@@ -1,8 +1,8 @@
-//! The decks of the workers: each worker has a deck of numbers of its own, and takes from the others' where it is empty.
+//! Decks for work stealing: each worker owns a deck of numbers, and can steal from the others' if its own is empty.
 //!
-//! A deck is first in, first out. Its owner pushes at the back, and the owner and every other worker take at the front,
-//! each taking in one atomic step. What a number stands for, who starts the workers, and when they are done is left to
-//! the crates above.
+//! A deck is first in, first out. Its owner pushes at the back. The owner and every other worker take at the front,
+//! each in one atomic step. The crates above decide what a number stands for, start the workers, and know when they are
+//! done.
 #![tactic(auto)]
 
 mod deck;

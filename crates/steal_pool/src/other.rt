@@ -1,4 +1,4 @@
-//! Another worker's end of a deck, at which numbers are stolen at the front.
+//! A thief's end of a deck: it steals numbers at the front.
 ghost use Rattle.std.specs.Prelude.{◌≡◌, true, min, [], ◌∷◌, IfSome, IfNone};
 ghost use Rattle.crossbeam_deque.specs.Handles.{view, IsPassOf, stealer_deque, stealer_flavor};
 ghost use Rattle.crossbeam_deque.specs.Tasks.{Takes, FindsFew};
@@ -14,7 +14,7 @@ use std::sync::Wait;
 
 pub type Thief = Stealer<u32, Global, Hand, Law>;
 
-/// Another worker's end of a deck.
+/// A thief's end of a deck.
 #[derive(Drop)]
 pub struct Other {
     stealer: Thief,
@@ -34,7 +34,7 @@ impl Model for Other {
 }
 
 impl Other {
-    /// The end that a stealer makes with a pass of its deck.
+    /// The end that consists of a stealer and a pass of its deck.
     pub fn new(stealer: Thief, pass: Pass<u32, Hand>) -> Self
         requires fifo { stealer_flavor stealer ≡ 0 }
         requires pass { IsPassOf (stealer_deque stealer) pass × ((view pass).takes ≡ true) }
@@ -43,7 +43,8 @@ impl Other {
         Other { stealer, pass }
     }
 
-    /// Steals the number at the front. `None` only where the deck was empty at a moment of this call.
+    /// Steals the number at the front. It returns `None` if it finds the deck empty; what is proved of `None` is that
+    /// the pass knows nothing that rules out an empty deck.
     pub fn steal(&mut self, rt: &impl Wait) -> Option<u32>
         ensures deck { self.new.deck ≡ self.old.deck }
         ensures some { IfSome result (λ number. Leaves self.old.hand (number ∷ []) self.new.hand) }
@@ -53,8 +54,8 @@ impl Other {
     }
 }
 
-// Takes the number at the front, and tries again for as long as other workers come first. What the caller learns is
-// its own choice, so `None` comes of a look at the empty deck and of nothing else.
+// Takes the number at the front, and tries again for as long as other workers are faster. It is generic in what the
+// caller learns. So the body can return `None` only after the stealer itself found the deck empty.
 fn take_first<M: Outcome<u32, Hand>, R: Wait>(
     rt: &R,
     stealer: &Thief,

@@ -1,4 +1,4 @@
-//! The owner's end of a deck, at which numbers are pushed at the back and taken at the front.
+//! The owner's end of a deck: it pushes numbers at the back and takes them at the front.
 ghost use Rattle.std.specs.Prelude.{◌≡◌, ◌+◌, ◌-◌, ◌^◌, ◌<◌, ◌≤◌, [], ◌∷◌, IfOk, IfSome, IfNone, OnOk, OnErr};
 ghost use Rattle.crossbeam_deque.specs.Handles.{worker_view, worker_port, worker_index, SameWorker};
 ghost use Rattle.steal_pool.specs.Hand.{owner_of, guest_of, sharing};
@@ -13,7 +13,7 @@ use twe_io::Memory;
 
 type Owner = Worker<u32, Global, Hand, Law>;
 
-/// The owner's end of a deck, with how many pushes there is room for.
+/// The owner's end of a deck, and the number of pushes that are left.
 #[derive(Drop)]
 pub struct Own {
     worker: Owner,
@@ -33,7 +33,7 @@ impl Model for Own {
 }
 
 impl Own {
-    /// An empty deck with room for so many pushes, whose numbers are below the bound.
+    /// An empty deck with room for `capacity` pushes of numbers below `bound`.
     #[tactic(auto, using(crate::proofs::CallLemmas::begins))]
     pub fn open(alloc: Global, capacity: u32, bound: u32) -> Result<Self, Memory>
         ensures { IfOk result (λ own. (own.hand ≡ owner_of bound 1) × (own.spare ≡ capacity)) }
@@ -46,7 +46,7 @@ impl Own {
         })
     }
 
-    /// How many pushes there is room for.
+    /// The number of pushes that are left.
     pub fn spare(&self) -> u32
         ensures { result ≡ self.now.spare }
     {
@@ -68,7 +68,8 @@ impl Own {
         }
     }
 
-    /// Takes the number at the front. `None` only where the deck was empty at a moment of this call.
+    /// Takes the number at the front. It returns `None` if it finds the deck empty; what is proved of `None` is that
+    /// the pass knows nothing that rules out an empty deck.
     pub fn pop(&mut self) -> Option<u32>
         ensures deck { self.new.deck ≡ self.old.deck }
         ensures spare { self.new.spare ≡ self.old.spare }
@@ -78,7 +79,7 @@ impl Own {
         self.worker.pop_as::<Left>()
     }
 
-    /// Gives another worker an end of this deck. After `Memory` the deck is as before.
+    /// A thief's end of this deck, for another worker. If memory runs out, the deck is unchanged.
     pub fn share(&mut self) -> Result<Other, Memory>
         ensures other { IfOk result (λ other. (other.deck ≡ self.old.deck) × (other.hand ≡ guest_of self.old.hand.bound)) }
         ensures deck { (self.new.deck ≡ self.old.deck) × (self.new.spare ≡ self.old.spare) }

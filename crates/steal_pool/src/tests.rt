@@ -1,4 +1,4 @@
-//! What no clause says: that numbers move between threads, each once, and that decks are made where there is memory.
+//! What no clause says: numbers move between threads, each once, and `make_decks` succeeds if there is memory.
 ghost use Rattle.std.specs.Prelude.{◌≡◌, ◌<◌, All};
 
 use crate::{Deck, Decks, make_decks};
@@ -51,7 +51,7 @@ fn two_threads_empty_four_decks(rt: HostRuntime) -> Result<(), Fail> {
     Ok(())
 }
 
-// A worker with its deck, and the numbers that it took.
+// A worker with its deck and the numbers that it took.
 #[derive(Drop)]
 struct Mover {
     deck: Deck,
@@ -72,7 +72,7 @@ fn next_mover(alloc: Global, decks: &mut Decks) -> Option<Mover>
 }
 
 impl Mover {
-    // Pushes a thousand numbers of its own, and takes until it finds every deck empty.
+    // Pushes a thousand numbers of its own, and then takes numbers until it finds every deck empty.
     fn run<R: Wait>(&mut self, rt: &R) {
         let first = self.deck.number().min(3) * EACH;
         for number in first..first + EACH {
@@ -89,7 +89,7 @@ impl Mover {
     }
 }
 
-// Pushes a number where a push is left.
+// Pushes a number if a push is left.
 fn push_spare(deck: &mut Deck, number: u32)
     requires { number < deck.old.bound }
     ensures { deck.new.bound ≡ deck.old.bound }
@@ -99,7 +99,7 @@ fn push_spare(deck: &mut Deck, number: u32)
     }
 }
 
-// Steals from each deck in turn, its own among them.
+// Steals from the first deck that is not empty, its own included.
 fn steal_any<R: Wait>(rt: &R, deck: &mut Deck) -> Option<u32>
     ensures { deck.new.bound ≡ deck.old.bound }
 {

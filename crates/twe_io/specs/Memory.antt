@@ -1,10 +1,10 @@
--- The ends in memory, whose calls give or take a few bytes each, and fail where they are told to.
+-- The source and the sink in memory, whose calls move a few bytes each, and which fail in listed calls.
 use Rattle.std.specs.Prelude.{◌≡◌, ◌⊎◌, ◌≤◌, ◌+◌, ◌-◌, ℕ, List, ◌++◌, length, take, drop, min, Option, None, Some}
 use Rattle.twe_io.specs.Faults.{one_more}
 use Rattle.twe_io.specs.Named.{NextIsNamed, IsFirstNamed}
 
--- The bytes of a source and how many of them were given; how many a call gives at most; how many calls were made,
--- which numbers of calls fail, and how many have failed.
+-- A source: its bytes, and how many of them were read; how many a call gives at most; how many calls were made, the
+-- numbers of the calls that fail, and how many calls failed.
 pub record MemReading : Type 0 where
   pub bytes : List ℕ
   pub at : ℕ
@@ -13,11 +13,11 @@ pub record MemReading : Type 0 where
   pub fails : List ℕ
   pub faults : ℕ
 
--- what is left of it
+-- the bytes left to read
 abbrev pub left_of : MemReading → List ℕ
 left_of source = drop source.at source.bytes
 
--- One read into a buffer of some room. One that fails changes the counts of calls and faults alone.
+-- One read into a buffer of this size. A read that fails changes only the counts of calls and faults.
 abbrev pub ReadsMem : MemReading → ℕ → Option ℕ → MemReading → Type 0
 ReadsMem before room None after =
     NextIsNamed before.fails before.calls
@@ -27,8 +27,8 @@ ReadsMem before room (Some n) after =
     × (n ≡ min room (min before.step (length (left_of before))))
     × (after ≡ record before { at = before.at + n; calls = one_more before.calls })
 
--- The bytes that a sink took, and how many it has room for; how many a call takes at most; how many calls were made,
--- which numbers of calls fail, and how many have failed.
+-- A sink: the bytes written so far, and its size; how many bytes a call takes at most; how many calls were made, the
+-- numbers of the calls that fail, and how many calls failed.
 pub record MemWriting : Type 0 where
   pub bytes : List ℕ
   pub room : ℕ
@@ -37,11 +37,11 @@ pub record MemWriting : Type 0 where
   pub fails : List ℕ
   pub faults : ℕ
 
--- the next write fails: it is named, or the room is filled
+-- the next write fails: it is listed to fail, or the sink is full
 abbrev pub FailsNext : MemWriting → Type 0
 FailsNext sink = (sink.room ≤ length sink.bytes) ⊎ NextIsNamed sink.fails sink.calls
 
--- One write of a piece. One that fails changes the counts of calls and faults alone.
+-- One write of a piece. A write that fails changes only the counts of calls and faults.
 abbrev pub WritesMem : MemWriting → List ℕ → Option ℕ → MemWriting → Type 0
 WritesMem before piece None after =
     FailsNext before
@@ -51,8 +51,8 @@ WritesMem before piece (Some n) after =
     × (n ≡ min (length piece) (min before.step (before.room - length before.bytes)))
     × (after ≡ record before { bytes = before.bytes ++ take n piece; calls = one_more before.calls })
 
--- A text is written to a sink as its first use: no call was made yet, there is room for all of it, and the call of
--- this number is the first that fails.
+-- A text is about to be written to a new sink: no call was made yet, there is room for the whole text, and the call of
+-- number `first` is the first that fails.
 pub record IsFirstUse (sink : MemWriting) (text : List ℕ) (first : ℕ) : Type 0 where
   pub unused : sink.calls ≡ 0
   pub roomy : length sink.bytes + length text ≤ sink.room

@@ -1,29 +1,29 @@
--- The plain ends: a source that never fails, and a sink that fails only where its room is filled.
+-- The simplest source and sink: the source never fails, and the sink fails only if it is full.
 use Rattle.std.specs.Prelude.{◌≡◌, ◌<◌, ◌+◌, ◌-◌, ℕ, List, ◌++◌, length, take, drop, min, Option, None, Some}
 use Rattle.twe_io.specs.Faults.{one_more}
 
--- the bytes of a source, and how many of them were given
+-- the bytes of a source, and how many of them were read
 pub record Reading : Type 0 where
   pub bytes : List ℕ
   pub at : ℕ
 
--- what is left of it
+-- the bytes left to read
 abbrev pub left_of : Reading → List ℕ
 left_of source = drop source.at source.bytes
 
--- one read into a buffer of some room never fails, and gives as many of the bytes left as fit
+-- one read into a buffer of this size never fails, and gives as many of the bytes left as fit
 abbrev pub ReadsPlain : Reading → ℕ → Option ℕ → Reading → Type 0
 ReadsPlain before room answer after =
     let given = min room (length (left_of before)) in
     (answer ≡ Some given) × (after ≡ record before { at = before.at + given })
 
--- the bytes that a sink took, how many it has room for, and how many of its writes failed
+-- the bytes written to a sink so far, its size, and how many of its writes failed
 pub record Writing : Type 0 where
   pub bytes : List ℕ
   pub room : ℕ
   pub faults : ℕ
 
--- one write fails exactly where the room is filled, and else takes as much of the piece as fits
+-- one write fails exactly if the sink is full, and otherwise takes as much of the piece as fits
 abbrev pub WritesPlain : Writing → List ℕ → Option ℕ → Writing → Type 0
 WritesPlain before piece None after =
     (length before.bytes ≡ before.room) × (after ≡ record before { faults = one_more before.faults })

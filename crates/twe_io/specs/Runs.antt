@@ -1,38 +1,39 @@
--- Runs of calls. An end may tell what one call does: `gives` relates the end before the call, what the call was
--- handed, how many bytes it answered (`None` where it failed), and the end after it.
+-- Sequences of calls. A source or a sink may describe one call by a relation `gives` of four things: its state before
+-- the call, what was passed to the call, how many bytes the call returned (`None` if it failed), and its state after.
 use Rattle.std.specs.Prelude.{◌≡◌, ◌<◌, ◌-◌, ℕ, ◌+◌, List, length, drop, Option, None, Some, Result, Ok, Err, MatchResult}
 use Rattle.twe_io.specs.declared.whole.ReadFail.{ReadFail}
 use Rattle.twe_io.specs.declared.whole.ReadFail.TheVariants.{ReadFault, TooLong, OutOfMemory}
 
--- Reads of a source, one after another, each of which gave at least one byte, and all together n bytes. Each is
--- handed what those before it left of the room.
+-- Reads of a source, one after another. Each gave at least one byte, and together they gave n bytes. Each is passed
+-- the part of the buffer that the reads before it left empty.
 pub data Reads {S : Type 0} (gives : S → ℕ → Option ℕ → S → Type 0) (room : ℕ) (first : S) : ℕ → S → Type 0 where
   none : Reads gives room first 0 first
   read : {n : ℕ} {before after : S} (taken more : ℕ) → Reads gives room first taken before → taken < room → 0 < more
       → gives before (room - taken) (Some more) after → taken + more ≡ n → Reads gives room first n after
 
--- reads that gave n bytes, and then one that gave nothing or failed
+-- reads that gave n bytes, and then one more read with this answer
 pub record ReadsThen {S : Type 0} (gives : S → ℕ → Option ℕ → S → Type 0) (room : ℕ) (first : S) (n : ℕ) (answer : Option ℕ) (last : S) : Type 0 where
   pub before : S
   pub less : n < room
   pub reads : Reads gives room first n before
   pub ends : gives before (room - n) answer last
 
--- The reads of a whole source, in which a byte more than the limit is asked for. They end with one that gives
--- nothing, with one that fails, or as soon as there is a byte too many. Where there was no memory, there are none.
+-- The reads of `read_all`, into a buffer one byte larger than the limit. They end with a read that gives nothing, with
+-- a read that fails, or once the buffer is full. Without memory for the buffer there are no reads.
 abbrev pub ReadsWhole : {S : Type 0} → (S → ℕ → Option ℕ → S → Type 0) → ℕ → S → Result (List ℕ) ReadFail → S → Type 0
 ReadsWhole gives limit first (Ok text) last = ReadsThen gives (limit + 1) first (length text) (Some 0) last
 ReadsWhole gives limit first (Err ReadFault) last = (n : ℕ) × ReadsThen gives (limit + 1) first n None last
 ReadsWhole gives limit first (Err TooLong) last = Reads gives (limit + 1) first (limit + 1) last
 ReadsWhole gives limit first (Err (OutOfMemory memory)) last = last ≡ first
 
--- Writes of a text to a sink, all of which succeeded. Each is handed what those before left, and n bytes are taken.
+-- Writes of a text to a sink, all of which succeeded. Each is passed the text that is left, and together they took n
+-- bytes.
 pub data Writes {S : Type 0} (gives : S → List ℕ → Option ℕ → S → Type 0) (text : List ℕ) (first : S) : ℕ → S → Type 0 where
   none : Writes gives text first 0 first
   write : {n : ℕ} {before after : S} (taken more : ℕ) → Writes gives text first taken before → taken < length text → 0 < more
       → gives before (drop taken text) (Some more) after → taken + more ≡ n → Writes gives text first n after
 
--- The text is written: all of it, or up to a write that failed.
+-- The writes of `write_whole`: of the whole text, or up to a write that failed.
 abbrev pub WritesWhole : {S E : Type 0} → (S → List ℕ → Option ℕ → S → Type 0) → List ℕ → S → Result Unit E → S → Type 0
 WritesWhole {S} gives text first result last = MatchResult result
     (λ _. Writes gives text first (length text) last)

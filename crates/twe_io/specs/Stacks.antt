@@ -1,7 +1,7 @@
 -- Stacks, seen as lists whose first item is the top.
 use Rattle.std.specs.Prelude.{List, [], ◌∷◌}
 
--- the first item, or another where there is none
+-- the first item, or `other` if there is none
 abbrev pub top : {T : Type 0} → List T → T → T
 top [] other = other
 top (first ∷ others) other = first

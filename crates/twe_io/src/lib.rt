@@ -1,8 +1,8 @@
-//! The outside of `twe`, and the small types that every other crate shares.
+//! Input and output of `twe`, and the small types that every other crate shares.
 //!
-//! A program text comes in through a [`Source`] and the answer goes out through a [`Sink`]. This crate has
-//! both traits with the ends that meet them, the two calls that use them, and the lists, places and the one
-//! answer for running out of memory. What a text means is left to the crates above.
+//! A program text is read from a [`Source`], and the answer is written to a [`Sink`]. This crate has both traits, the
+//! types that implement them, the two calls that read and write a whole text, and the types for lists, stacks, places
+//! and the error for running out of memory. The crates above decide what a text means.
 #![tactic(auto)]
 
 mod list;

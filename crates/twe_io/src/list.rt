@@ -1,4 +1,4 @@
-//! Lists: the one list type of all crates, which contracts see as the list of its items.
+//! The list type of all crates. Contracts see it as the list of its items.
 ghost use Rattle.std.specs.Prelude.{◌≡◌, ◌↔◌, ◌<◌, ◌-◌, [], ◌∷◌, ◌++◌, length, take, slice_get, slice_set, option_copied, option_to_list, IsTrue, IsSome, IfOk, OnOk, OnErr};
 ghost use Rattle.std.specs.Borrow.{sem};
 
@@ -6,16 +6,16 @@ use crate::Memory;
 use std::alloc::Global;
 use std::marker::Model;
 
-/// Items in their order. Contracts see the list of them.
+/// Items in order. Contracts see the list of its items.
 #[derive(Debug, Drop)]
 pub struct List<T> {
     items: Vec<T>,
 }
 
-/// Bytes in their order.
+/// Bytes in order.
 pub type Bytes = List<u8>;
 
-/// Numbers of 32 bits in their order.
+/// 32-bit integers in order.
 pub type Ints = List<i32>;
 
 /// The numbers of calls, counted from 1.
@@ -39,7 +39,7 @@ impl<T> List<T> {
         }
     }
 
-    /// The empty list, with memory for `room` items.
+    /// The empty list, with memory for `room` items already allocated.
     pub fn with_capacity(alloc: Global, room: usize) -> Result<Self, Memory>
         ensures { IfOk result (λ list. list ≡ []) }
     {
@@ -48,7 +48,7 @@ impl<T> List<T> {
         })
     }
 
-    /// The items as the vector that holds them. It takes no memory.
+    /// The vector that holds the items. It takes no memory.
     pub fn into_vec(self) -> Vec<T>
         ensures { result.items ≡ self }
     {
@@ -56,14 +56,14 @@ impl<T> List<T> {
         items
     }
 
-    /// How many items there are.
+    /// The number of items.
     pub fn len(&self) -> usize
         ensures { result ≡ length self.now }
     {
         self.items.len()
     }
 
-    /// Whether there is no item.
+    /// Whether the list is empty.
     pub fn is_empty(&self) -> bool
         ensures { IsTrue result ↔ (self.now ≡ []) }
     {
@@ -77,7 +77,7 @@ impl<T> List<T> {
         self.items.as_slice()
     }
 
-    /// The item at a place counted from 0, or nothing after the last.
+    /// The item at index `at`, counted from 0, or `None` if there is no such item.
     pub fn get(&self, at: usize) -> Option<&T>
         ensures { option_copied result ≡ slice_get self.now at }
     {
@@ -89,7 +89,7 @@ impl<T: Drop> List<T> {
     ghost use Rattle.std.specs.Prelude.{Some};
     ghost use Rattle.twe_io.specs.Lending.{LendsItem, LendsItems};
 
-    /// The item at a place counted from 0, to be changed.
+    /// The item at index `at`, counted from 0, as a mutable reference.
     pub fn item_mut(&mut self, at: usize) -> &mut T
         requires { at < length self.old }
         ensures* writes_back { sem 𝓛 (LendsItem T.row self.entry at result) }
@@ -98,7 +98,7 @@ impl<T: Drop> List<T> {
         &mut self.items[at]
     }
 
-    /// The items as a slice, to be changed.
+    /// The items as a mutable slice.
     pub fn as_mut_slice(&mut self) -> &mut [T]
         ensures* writes_back { sem 𝓛 (LendsItems T.row self.entry result) }
         ensures value { result.now ≡ self.old }
@@ -106,7 +106,7 @@ impl<T: Drop> List<T> {
         self.items.as_mut_slice()
     }
 
-    /// Puts an item in the place of the one at `at`, which is dropped. It takes no memory.
+    /// Replaces the item at index `at`, and drops the old one. It takes no memory.
     pub fn set(&mut self, at: usize, item: T)
         requires { at < length self.old }
         ensures { self.new ≡ slice_set self.old at item }
@@ -114,7 +114,7 @@ impl<T: Drop> List<T> {
         self.items[at] = item;
     }
 
-    /// Puts an item after the others. After `Memory` the list is as before, and the item is dropped.
+    /// Appends an item. If memory runs out, the list is unchanged and the item is dropped.
     pub fn push(&mut self, item: T) -> Result<(), Memory>
         ensures ok { OnOk result (self.new ≡ self.old ++ item ∷ []) }
         ensures err { OnErr result (self.new ≡ self.old) }
@@ -123,7 +123,7 @@ impl<T: Drop> List<T> {
         Ok(())
     }
 
-    /// Takes out the last item, if there is one. It takes no memory.
+    /// Removes and returns the last item, if there is one. It takes no memory.
     pub fn pop(&mut self) -> Option<T>
         ensures split { self.old ≡ self.new ++ option_to_list result }
         ensures some { IsSome result ↔ (0 < length self.old) }
@@ -140,7 +140,7 @@ impl<T: Drop> List<T> {
 }
 
 impl<T: Copy + Drop> List<T> {
-    /// A list of the same items as a slice.
+    /// A new list with the items of a slice.
     pub fn from_slice(alloc: Global, items: &[T]) -> Result<Self, Memory>
         ensures { IfOk result (λ list. list ≡ items.now) }
     {
@@ -149,7 +149,7 @@ impl<T: Copy + Drop> List<T> {
         })
     }
 
-    /// Puts all items of a slice after the others, in their order. After `Memory` the list is as before.
+    /// Appends all items of a slice, in order. If memory runs out, the list is unchanged.
     pub fn push_all(&mut self, items: &[T]) -> Result<(), Memory>
         ensures ok { OnOk result (self.new ≡ self.old ++ items.now) }
         ensures err { OnErr result (self.new ≡ self.old) }
@@ -158,7 +158,7 @@ impl<T: Copy + Drop> List<T> {
         Ok(())
     }
 
-    /// An equal list in memory of its own.
+    /// A new list with the same items, in its own memory.
     pub fn copy(&self, alloc: Global) -> Result<Self, Memory>
         ensures { IfOk result (λ list. list ≡ self.now) }
     {
@@ -169,7 +169,7 @@ impl<T: Copy + Drop> List<T> {
 impl<T> From<Vec<T>> for List<T> {
     ghost from_gives = { λ items list. list ≡ items.items };
 
-    /// The vector's items. It takes no memory.
+    /// A list that holds the vector. It takes no memory.
     fn from(items: Vec<T>) -> Self {
         List { items }
     }

@@ -1,7 +1,7 @@
-//! The ends in memory that fail on purpose, for whoever wants to see what a fault leaves.
+//! A source and a sink in memory that fail on purpose, to show what a fault leaves behind.
 //!
-//! Both give or take a few bytes a call and fail in the calls that they are told to, by number. What one call leaves
-//! is said by `ReadsMem` and `WritesMem`.
+//! Both move a few bytes a call, and fail in the calls whose numbers they were given. `ReadsMem` and `WritesMem` say
+//! what each call does.
 ghost use Rattle.std.specs.Prelude.{◌≡◌, ◌≤◌, ◌↔◌, ℕ, [], length, take, min, IsTrue, IfOk};
 ghost use Rattle.twe_io.specs.Named.{NextIsNamed};
 
@@ -11,7 +11,7 @@ use crate::{Bytes, Calls, Failed, Memory, Sink, Source};
 use std::alloc::Global;
 use std::marker::Model;
 
-/// A source of bytes in memory that gives at most `step` bytes a call, and fails in the calls named in `fails`.
+/// A source of bytes in memory that gives at most `step` bytes a call, and fails in the calls listed in `fails`.
 #[derive(Debug, Drop)]
 pub struct MemSource {
     bytes: Bytes,
@@ -41,7 +41,7 @@ impl Model for MemSource {
 }
 
 impl MemSource {
-    /// A source of which all of the bytes are left, and no call was made. It takes no memory.
+    /// A source from which nothing was read yet. It takes no memory.
     pub fn new(bytes: Bytes, step: usize, fails: Calls) -> Self
         requires { 1 ≤ step }
         ensures { result ≡ record { bytes = bytes; at = 0; step = step; calls = 0; fails = fails; faults = 0 } }
@@ -56,14 +56,14 @@ impl MemSource {
         }
     }
 
-    /// How many reads were made.
+    /// The number of reads so far.
     pub fn calls(&self) -> u64
         ensures { result ≡ self.now.calls }
     {
         self.calls
     }
 
-    /// How many reads have failed.
+    /// The number of reads that failed.
     pub fn faults(&self) -> u64
         ensures { result ≡ self.now.faults }
     {
@@ -94,8 +94,8 @@ impl Source for MemSource {
     }
 }
 
-/// A sink into memory of a fixed size that takes at most `step` bytes a call, and fails in the calls named in `fails`
-/// and where its room is filled.
+/// A sink into memory of a fixed size that takes at most `step` bytes a call. It fails in the calls listed in `fails`,
+/// and if it is full.
 #[derive(Debug, Drop)]
 pub struct MemSink {
     bytes: Vec<u8>,
@@ -126,8 +126,7 @@ impl Model for MemSink {
 }
 
 impl MemSink {
-    /// An empty sink with room for so many bytes, of which no call was made. It takes the memory for them, so that its
-    /// writes take none.
+    /// An empty sink with room for `room` bytes. It allocates all of its memory here, so its writes allocate none.
     pub fn new(alloc: Global, room: usize, step: usize, fails: Calls) -> Result<Self, Memory>
         requires { 1 ≤ step }
         ensures { IfOk result (λ sink.
@@ -143,21 +142,21 @@ impl MemSink {
         })
     }
 
-    /// The bytes that were written.
+    /// The bytes written so far.
     pub fn bytes(&self) -> &[u8]
         ensures { result.now ≡ self.now.bytes }
     {
         self.bytes.as_slice()
     }
 
-    /// How many writes were made.
+    /// The number of writes so far.
     pub fn calls(&self) -> u64
         ensures { result ≡ self.now.calls }
     {
         self.calls
     }
 
-    /// How many writes have failed.
+    /// The number of writes that failed.
     pub fn faults(&self) -> u64
         ensures { result ≡ self.now.faults }
     {
@@ -190,7 +189,7 @@ impl Sink for MemSink {
 }
 
 /// Copies bytes from the front of one slice to the front of another, as many as there are and fit, but no more than
-/// `most`, and says how many.
+/// `most`. Returns how many it copied.
 fn copy_front(from: &[u8], to: &mut [u8], most: usize) -> usize
     ensures count { result ≡ min (length to.old) (min most (length from.now)) }
     ensures copied { take result to.new ≡ take result from.now }
@@ -200,7 +199,7 @@ fn copy_front(from: &[u8], to: &mut [u8], most: usize) -> usize
     count
 }
 
-/// Whether, after so many calls, the next is among the named ones. Calls that can no longer be counted have no number.
+/// Whether the call after the first `calls` calls is listed to fail. A call that 64 bits cannot count has no number.
 fn is_next_named(fails: &Calls, calls: u64) -> bool
     ensures { IsTrue result ↔ NextIsNamed fails.now calls }
 {

@@ -1,29 +1,29 @@
-//! The answers that carry nothing but their cause: out of memory, and a call of the outside that failed.
+//! Two errors without details: out of memory, and a failed read or write.
 ghost use Rattle.std.specs.Prelude.{◌≤◌, ◌-◌, ◌^◌, length};
 
 use std::alloc::{AllocError, AllocFailed};
 use std::error::Error;
 use std::fmt;
 
-/// There was not enough memory. The one answer for it in every crate.
+/// There was not enough memory. Every crate uses this error for it.
 ///
-/// Outside this crate one is made only from an allocation that failed, or of items too many to be counted in 32 bits.
+/// Outside this crate only a failed allocation can construct it, or a text too long for 32 bits to count its bytes.
 #[derive(Clone, Copy, Debug, PartialEq, Eq)]
 pub struct Memory {
     shortage: Shortage,
 }
 
-/// What there was not enough of.
+/// What ran short.
 #[derive(Clone, Copy, Debug, PartialEq, Eq)]
 enum Shortage {
-    /// Memory that was asked for.
+    /// An allocation failed.
     Room,
-    /// Numbers of the type that has to count something.
+    /// A count does not fit its integer type.
     Numbers,
 }
 
 impl Memory {
-    /// These items are too many, as the bytes of a text: 32 bits can't count them and the place after the last.
+    /// The error for a text of so many bytes that 32 bits cannot count them and the place after the last.
     pub fn of_uncountable<T>(items: &[T]) -> Self
         requires { 2 ^ 32 - 1 ≤ length items.now }
     {
@@ -31,7 +31,7 @@ impl Memory {
         Self::of_numbers()
     }
 
-    /// A number doesn't fit the type that has to hold it.
+    /// The error for a count that does not fit its integer type.
     pub(crate) fn of_numbers() -> Self {
         Memory {
             shortage: Shortage::Numbers,
@@ -63,7 +63,7 @@ impl<T: Drop> From<AllocFailed<T>> for Memory {
     }
 }
 
-/// A read or a write of the outside failed.
+/// A read or a write failed.
 #[derive(Clone, Copy, Debug, PartialEq, Eq)]
 pub struct Failed;
 

@@ -1,11 +1,11 @@
-//! The plain ends in memory: a source that never fails, and a sink that fails only where its room is filled.
+//! The simplest source and sink, both in memory: the source never fails, and the sink fails only if it is full.
 ghost use Rattle.std.specs.Prelude.{◌≡◌, ◌+◌, [], Some, IfOk};
 
 use crate::{Bytes, Failed, Memory, Sink, Source};
 use std::alloc::Global;
 use std::marker::Model;
 
-/// A source of bytes in memory. It never fails. Contracts see its bytes, and how many of them were given.
+/// A source of bytes in memory. It never fails. Contracts see its bytes, and how many of them were read.
 #[derive(Debug, Drop)]
 pub struct PlainSource {
     bytes: Bytes,
@@ -24,7 +24,7 @@ impl Model for PlainSource {
 }
 
 impl PlainSource {
-    /// A source of which all of the bytes are left. It takes no memory.
+    /// A source from which nothing was read yet. It takes no memory.
     pub fn new(bytes: Bytes) -> Self
         ensures { result ≡ record { bytes = bytes; at = 0 } }
     {
@@ -51,8 +51,8 @@ impl Source for PlainSource {
     }
 }
 
-/// A sink into memory of a fixed size. Contracts see the bytes that it took, how many it has room for, and how many
-/// of its writes failed.
+/// A sink into memory of a fixed size. Contracts see the bytes written to it, its size, and how many of its writes
+/// failed.
 #[derive(Debug, Drop)]
 pub struct PlainSink {
     bytes: Vec<u8>,
@@ -72,7 +72,7 @@ impl Model for PlainSink {
 }
 
 impl PlainSink {
-    /// An empty sink with room for so many bytes. It takes the memory for them, so that its writes take none.
+    /// An empty sink with room for `room` bytes. It allocates all of its memory here, so its writes allocate none.
     pub fn new(alloc: Global, room: usize) -> Result<Self, Memory>
         ensures { IfOk result (λ sink. sink ≡ record { bytes = []; room = room; faults = 0 }) }
     {
@@ -83,14 +83,14 @@ impl PlainSink {
         })
     }
 
-    /// The bytes that were written.
+    /// The bytes written so far.
     pub fn bytes(&self) -> &[u8]
         ensures { result.now ≡ self.now.bytes }
     {
         self.bytes.as_slice()
     }
 
-    /// How many writes have failed.
+    /// The number of writes that failed.
     pub fn faults(&self) -> u64
         ensures { result ≡ self.now.faults }
     {

@@ -6,23 +6,23 @@ ghost use Rattle.twe_io.specs.Faults.{Rose};
 
 use crate::Failed;
 
-/// Where bytes go.
+/// A place to write bytes to.
 ///
-/// A sink means a count of faults, which never falls, and, where it tells them, the bytes that were written. It
-/// may tell more: what one write does to it.
+/// Contracts see a count of its faults, which never falls. They also see the bytes written so far, if the sink makes
+/// them known, and what a single write does, if the sink describes it.
 pub trait Sink {
-    /// How many writes have failed.
+    /// The number of writes that failed.
     ghost faults: { Self → ℕ };
 
-    /// The bytes that were written, where the sink tells them.
+    /// The bytes written so far, or `None` if the sink does not make them known.
     ghost written: { Self → Option (List ℕ) };
 
-    /// What one write does, where the sink tells it: the sink before, the piece, how many of its bytes were taken
-    /// (`None` where the write failed), and the sink after.
+    /// What one write does: a relation of the sink before, the piece, how many of its bytes were taken (`None` if the
+    /// write failed), and the sink after. Without a definition it says nothing.
     ghost write_gives: { Self → List ℕ → Option ℕ → Self → Type 0 } = { λ _ _ _ _. Unit {0} };
 
-    /// Takes bytes from the front of the piece, at least one where there is one, and says how many. A write that
-    /// fails takes nothing.
+    /// Takes bytes from the front of the piece, and returns how many: at least one, unless the piece is empty. A write
+    /// that fails takes nothing.
     fn write(&mut self, piece: &[u8]) -> Result<usize, Failed>
         ensures some { IfOk result (λ n. 0 < length piece.now → 0 < n) }
         ensures within { IfOk result (λ n. n ≤ length piece.now) }

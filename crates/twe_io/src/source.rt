@@ -6,23 +6,23 @@ ghost use Rattle.twe_io.specs.Faults.{Rose};
 
 use crate::Failed;
 
-/// Where bytes come from.
+/// A place to read bytes from.
 ///
-/// A source means a count of faults, which never falls, and, where it tells them, the bytes that are left. It may
-/// tell more: what one read does to it.
+/// Contracts see a count of its faults, which never falls. They also see the bytes left to read, if the source makes
+/// them known, and what a single read does, if the source describes it.
 pub trait Source {
-    /// How many reads have failed.
+    /// The number of reads that failed.
     ghost faults: { Self → ℕ };
 
-    /// The bytes that are left, where the source tells them.
+    /// The bytes left to read, or `None` if the source does not make them known.
     ghost left: { Self → Option (List ℕ) };
 
-    /// What one read does, where the source tells it: the source before, the room of the buffer, how many bytes
-    /// were given (`None` where the read failed), and the source after.
+    /// What one read does: a relation of the source before, the size of the buffer, how many bytes were given (`None`
+    /// if the read failed), and the source after. Without a definition it says nothing.
     ghost read_gives: { Self → ℕ → Option ℕ → Self → Type 0 } = { λ _ _ _ _. Unit {0} };
 
-    /// Puts bytes at the front of the buffer, and says how many. Where the buffer has room and none are given,
-    /// nothing is left. A read that fails takes nothing.
+    /// Puts bytes at the front of the buffer, and returns how many. If it returns 0 and the buffer is not empty, the
+    /// source is at its end. A read that fails takes nothing.
     fn read(&mut self, buffer: &mut [u8]) -> Result<usize, Failed>
         ensures within { IfOk result (λ n. n ≤ length buffer.old) }
         ensures given { IfOk result (λ n. Consumes (left self.old) (left self.new) (take n buffer.new)) }

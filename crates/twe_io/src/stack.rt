@@ -1,4 +1,4 @@
-//! Stacks, which contracts see as lists whose first item is the top.
+//! Stacks. Contracts see a stack as a list whose first item is the top.
 ghost use Rattle.std.specs.Prelude.{◌≡◌, [], ◌∷◌, ◌++◌, OnOk, MatchOption};
 ghost use Rattle.twe_io.specs.Stacks.{top, below};
 
@@ -6,7 +6,7 @@ use crate::{List, Memory};
 use std::alloc::Global;
 use std::marker::Model;
 
-/// Items, of which the last that was put is the first to be taken.
+/// A stack: the item pushed last is popped first.
 #[derive(Debug, Drop)]
 pub struct Stack<T> {
     items: Vec<T>,
@@ -21,7 +21,7 @@ impl<T> Model for Stack<T> {
 }
 
 impl<T: Drop> Stack<T> {
-    /// No items. It takes no memory.
+    /// The empty stack. It takes no memory.
     pub fn new(alloc: Global) -> Self
         ensures { result ≡ [] }
     {
@@ -30,7 +30,7 @@ impl<T: Drop> Stack<T> {
         }
     }
 
-    /// Puts an item on top.
+    /// Pushes an item on top.
     pub fn push(&mut self, item: T) -> Result<(), Memory>
         ensures ok { OnOk result (self.new ≡ item ∷ self.old) }
     {
@@ -38,7 +38,7 @@ impl<T: Drop> Stack<T> {
         Ok(())
     }
 
-    /// Puts all items on top, the first of them above the others.
+    /// Pushes all items, so that the first of them is on top.
     pub fn push_all(&mut self, mut items: List<T>) -> Result<(), Memory>
         ensures ok { OnOk result (self.new ≡ items ++ self.old) }
     {
@@ -48,14 +48,14 @@ impl<T: Drop> Stack<T> {
         Ok(())
     }
 
-    /// Takes the top item, if there is one.
+    /// Removes and returns the top item, if there is one.
     pub fn pop(&mut self) -> Option<T>
         ensures { MatchOption result ((self.old ≡ []) × (self.new ≡ [])) (λ item. self.old ≡ item ∷ self.new) }
     {
         self.items.pop()
     }
 
-    /// Takes the top item, or gives the other one where there is none.
+    /// Removes and returns the top item. If the stack is empty, it returns `other`.
     pub fn pop_or(&mut self, other: T) -> T
         ensures item { result ≡ top self.old other }
         ensures rest { self.new ≡ below self.old }

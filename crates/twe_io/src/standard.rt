@@ -1,12 +1,11 @@
-//! The streams of the outside as ends. They tell the bytes that their streams tell. A file, a pipe and a terminal tell
-//! none: what these give and take is trusted.
+//! Standard streams as a source and a sink. They make known the bytes that their streams make known. A file, a pipe and
+//! a terminal make none known: nothing is proved of what they give and take.
 ghost use Rattle.std.specs.Prelude.{◌≡◌};
 
 use crate::{Failed, Sink, Source};
 use std::io::{Read, Write};
 
-/// A stream that is read. It counts the bytes given and the reads that failed, and tells the bytes that are left
-/// where the stream tells them.
+/// A source that reads a stream. It counts the bytes read and the reads that failed.
 #[derive(Drop)]
 pub struct StdSource<R: Read> {
     stream: R,
@@ -15,7 +14,7 @@ pub struct StdSource<R: Read> {
 }
 
 impl<R: Read> StdSource<R> {
-    /// A source over a stream, which has given nothing, with no faults. It takes no memory.
+    /// A source over a stream, with both counts at 0. It takes no memory.
     pub fn new(stream: R) -> Self
         ensures left { ⟦<StdSource<R> as Source>⟧.left result ≡ R.remaining stream }
         ensures faults { ⟦<StdSource<R> as Source>⟧.faults result ≡ 0 }
@@ -54,8 +53,8 @@ impl<R: Read> Source for StdSource<R> {
     }
 }
 
-/// A stream that is written to. It counts the bytes taken and the writes that failed or took nothing, and tells the
-/// bytes that were written where the stream tells them.
+/// A sink that writes to a stream. It counts the bytes written and the writes that failed. A write that takes no byte
+/// counts as failed.
 #[derive(Drop)]
 pub struct StdSink<W: Write> {
     stream: W,
@@ -64,7 +63,7 @@ pub struct StdSink<W: Write> {
 }
 
 impl<W: Write> StdSink<W> {
-    /// A sink over a stream, which has taken nothing, with no faults. It takes no memory.
+    /// A sink over a stream, with both counts at 0. It takes no memory.
     pub fn new(stream: W) -> Self
         ensures written { ⟦<StdSink<W> as Sink>⟧.written result ≡ W.contents stream }
         ensures faults { ⟦<StdSink<W> as Sink>⟧.faults result ≡ 0 }

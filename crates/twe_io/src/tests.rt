@@ -1,4 +1,4 @@
-//! The ends on small texts, with a fault at each call in turn, and each call that may find no memory.
+//! Sources and sinks on small texts, with a fault at each call in turn, and each call that can run out of memory.
 use crate::{
     Bytes, Calls, Ints, MemSink, MemSource, PlainSink, PlainSource, ReadFail, StdSink, StdSource,
     Word, read_all, write_whole,

@@ -1,4 +1,4 @@
-//! A whole text from a source, and a whole text to a sink.
+//! Reading a whole text from a source, and writing a whole text to a sink.
 ghost use Rattle.std.specs.Prelude.{◌≡◌, ◌↔◌, ◌+◌, ◌<◌, ◌≤◌, length, take, OnOk, OnErr, IfOk, IfSome, IsErrOf, vec_len};
 ghost use Rattle.std.specs.Io.KnownBytes.{Appends, Consumes, IsAtEnd};
 ghost use Rattle.twe_io.specs.Faults.{Rose};
@@ -17,7 +17,7 @@ pub enum ReadFail {
     ReadFault,
     /// There are more bytes than the limit.
     TooLong,
-    /// There was not enough memory for a byte more than the limit.
+    /// There was not enough memory for `limit + 1` bytes.
     OutOfMemory(Memory),
 }
 
@@ -47,11 +47,11 @@ impl From<Failed> for WriteFault {
     }
 }
 
-/// All bytes that are left of a source, if there are no more than `limit`.
+/// Reads a source to its end, and returns all of its bytes, at most `limit`.
 ///
-/// It takes its memory, `limit + 1` bytes, before the first read, so after `OutOfMemory` nothing was taken; a limit of
-/// `usize::MAX` is `OutOfMemory` too. Each read but the last gives a byte at least. `TooLong` comes exactly where
-/// `limit + 1` bytes were taken, and after `ReadFault` those taken before the fault are lost.
+/// It allocates its memory, `limit + 1` bytes, before the first read. So after `OutOfMemory` nothing was read; with a
+/// limit of `usize::MAX` it returns `OutOfMemory` too. It returns `TooLong` exactly if it read `limit + 1` bytes. After
+/// `ReadFault` the bytes read before the fault are lost.
 pub fn read_all<S: Source>(alloc: Global, source: &mut S, limit: usize) -> Result<Bytes, ReadFail>
     ensures whole { IfOk result (λ text. IfSome (S.left source.old) (λ left. text ≡ left)) }
     ensures ended { OnOk result (IsAtEnd (S.left source.new)) }
@@ -63,7 +63,7 @@ pub fn read_all<S: Source>(alloc: Global, source: &mut S, limit: usize) -> Resul
 
     ensures taken { GivesAtMost (S.left source.old) (S.left source.new) (limit + 1) }
     ensures counts { S.faults source.old ≤ S.faults source.new }
-    // Which reads were made, and how they ended.
+    // The sequence of reads, and how it ended.
     ensures reads { ReadsWhole S.read_gives limit source.old result source.new }
 {
     let mut buffer = buffer_for(alloc, limit)?;
@@ -75,7 +75,7 @@ pub fn read_all<S: Source>(alloc: Global, source: &mut S, limit: usize) -> Resul
     Ok(Bytes::from(buffer))
 }
 
-/// A buffer for a byte more than the limit.
+/// A buffer of `limit + 1` bytes.
 fn buffer_for(alloc: Global, limit: usize) -> Result<Vec<u8>, Memory>
     ensures { IfOk result (λ buffer. vec_len buffer ≡ limit + 1) }
 {
@@ -85,7 +85,7 @@ fn buffer_for(alloc: Global, limit: usize) -> Result<Vec<u8>, Memory>
     Ok(vec![in alloc; 0; size]?)
 }
 
-/// Fills a buffer from its front, up to the end of the source, and says how many bytes were given.
+/// Fills a buffer from its front until it is full or the source is at its end. Returns how many bytes were read.
 fn fill<S: Source>(source: &mut S, buffer: &mut [u8]) -> Result<usize, Failed>
     ensures within { IfOk result (λ n. n ≤ length buffer.old) }
     ensures given { IfOk result (λ n. Consumes (S.left source.old) (S.left source.new) (take n buffer.new)) }
@@ -110,7 +110,7 @@ fn fill<S: Source>(source: &mut S, buffer: &mut [u8]) -> Result<usize, Failed>
 
 /// Writes all of a text. It takes no memory.
 ///
-/// Each write takes a byte at least. After `WriteFault` a first part of the text was written.
+/// After `WriteFault` a prefix of the text was written, and not all of it.
 pub fn write_whole<K: Sink>(sink: &mut K, text: &[u8]) -> Result<(), WriteFault>
     ensures whole { OnOk result (Appends (K.written sink.old) (K.written sink.new) text.now) }
     ensures part { OnErr result (TakesPart (K.written sink.old) (K.written sink.new) text.now) }

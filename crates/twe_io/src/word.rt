@@ -1,4 +1,4 @@
-//! Texts that name things and stand for words of a command.
+//! Short texts: names in a program, and words of a command.
 ghost use Rattle.std.specs.Prelude.{◌≡◌, ◌↔◌, [], ◌++◌, length, string_bytes, IsTrue, IfOk, OnOk, OnErr};
 
 use crate::Memory;
@@ -30,7 +30,7 @@ impl Word {
         }
     }
 
-    /// A word of the same bytes as a text.
+    /// A new word with the bytes of `text`.
     pub fn from_text(alloc: Global, text: &str) -> Result<Self, Memory>
         ensures { IfOk result (λ word. word ≡ text.now) }
     {
@@ -39,7 +39,7 @@ impl Word {
         })
     }
 
-    /// The text as the string that holds it. It takes no memory.
+    /// The string that holds the text. It takes no memory.
     pub fn into_string(self) -> String
         ensures { string_bytes result ≡ self }
     {
@@ -47,32 +47,35 @@ impl Word {
         text
     }
 
-    /// How many bytes there are.
+    /// The length in bytes.
     pub fn len(&self) -> usize
         ensures { result ≡ length self.now }
     {
         self.text.len()
     }
 
+    /// Whether the word has no byte.
     pub fn is_empty(&self) -> bool
         ensures { IsTrue result ↔ (self.now ≡ []) }
     {
         self.text.is_empty()
     }
 
+    /// The text as a string slice.
     pub fn as_str(&self) -> &str
         ensures { result.now ≡ self.now }
     {
         self.text.as_str()
     }
 
+    /// The bytes of the text.
     pub fn as_bytes(&self) -> &[u8]
         ensures { result.now ≡ self.now }
     {
         self.text.as_bytes()
     }
 
-    /// Puts a text after this one. After `Memory` the word is as before.
+    /// Appends a text. If memory runs out, the word is unchanged.
     pub fn push_text(&mut self, text: &str) -> Result<(), Memory>
         ensures ok { OnOk result (self.new ≡ self.old ++ text.now) }
         ensures err { OnErr result (self.new ≡ self.old) }
@@ -81,7 +84,7 @@ impl Word {
         Ok(())
     }
 
-    /// An equal word in memory of its own.
+    /// A new word with the same bytes, in its own memory.
     pub fn copy(&self, alloc: Global) -> Result<Self, Memory>
         ensures { IfOk result (λ word. word ≡ self.now) }
     {
@@ -100,7 +103,7 @@ impl AsStr for Word {
 impl From<String> for Word {
     ghost from_gives = { λ text word. word ≡ string_bytes text };
 
-    /// The string's text. It takes no memory.
+    /// A word that holds the string. It takes no memory.
     fn from(text: String) -> Self {
         Word { text }
     }

@@ -1,50 +1,50 @@
 -- The limits of the language, and those of a run, as numbers.
 use Rattle.std.specs.Prelude.{ℕ}
 
--- the bytes of a program text
+-- the largest numbers that the language allows: of bytes in a program text
 abbrev pub max_text_bytes : ℕ
 max_text_bytes = 1048576
 
--- the brackets that are open at once
+-- of brackets that are open at once
 abbrev pub max_open_brackets : ℕ
 max_open_brackets = 200
 
--- the operators of a statement
+-- of operators in a statement
 abbrev pub max_operators : ℕ
 max_operators = 200
 
--- the cells of a program, the elements of arrays and grids counted
+-- of cells in a program, including the elements of arrays and grids
 abbrev pub max_cells : ℕ
 max_cells = 65536
 
--- the nodes of the tree of regions
+-- of nodes of the tree of regions
 abbrev pub max_nodes : ℕ
 max_nodes = 131072
 
--- the elements of a written path, `*` counted
+-- of elements of a written path, including `*`
 abbrev pub max_path_elements : ℕ
 max_path_elements = 32
 
--- the effects of a declaration
+-- of effects in a declaration
 abbrev pub max_effects : ℕ
 max_effects = 8
 
--- the parameters of a declaration
+-- of parameters of a declaration
 abbrev pub max_parameters : ℕ
 max_parameters = 4
 
--- the calls of methods that are active in a task at once
+-- of method calls that are active in one task at once
 abbrev pub max_active_calls : ℕ
 max_active_calls = 1000
 
--- the fuel of a task: the most that it may have, and what it has unless the command line says otherwise
+-- the fuel of a task: the largest, and what it is unless the command line says otherwise
 abbrev pub max_fuel : ℕ
 max_fuel = 100000000
 
 abbrev pub default_fuel : ℕ
 default_fuel = 1000000
 
--- the tasks of a run: the most that it may make, and how many it may make unless the command line says otherwise
+-- the tasks that a run may make: the largest number, and what it is unless the command line says otherwise
 abbrev pub max_tasks : ℕ
 max_tasks = 100000
 

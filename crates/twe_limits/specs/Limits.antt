@@ -1,13 +1,13 @@
--- The limits that a run is made under.
+-- The limits of a run.
 use Rattle.std.specs.Prelude.{ℕ, ◌≤◌}
 use Rattle.twe_limits.specs.Language.{max_fuel, max_tasks}
 
--- how much fuel a task has, and how many tasks may be made
+-- how much fuel each task has, and how many tasks may be made
 pub record Bounds : Type 0 where
   pub fuel : ℕ
   pub tasks : ℕ
 
--- limits may be no larger than these, and leave room for the first task
+-- the limits are in range; at least one task is allowed, the first one
 pub record IsWithin (fuel tasks : ℕ) : Type 0 where
   pub fuel_most : fuel ≤ max_fuel
   pub tasks_least : 1 ≤ tasks

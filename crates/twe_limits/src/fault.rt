@@ -1,16 +1,16 @@
-//! The faults that a task can meet.
+//! The faults that can stop a task.
 
-/// What stops a task for good.
+/// A fault: it stops the task for good.
 #[derive(Clone, Copy, Debug, PartialEq, Eq)]
 pub enum FaultKind {
     /// A division by zero, or a remainder of one.
     DivZero,
     /// An index outside its array.
     Index,
-    /// The end of its fuel.
+    /// The task has used up its fuel.
     Fuel,
-    /// Too many method calls at once.
+    /// Too many method calls are active at once.
     Depth,
-    /// A task more than the limits allow.
+    /// The task makes one task more than the limits allow.
     TaskLimit,
 }

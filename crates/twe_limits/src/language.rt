@@ -9,20 +9,20 @@ pub const MAX_OPEN_BRACKETS: usize = 200;
 /// The largest number of operators in a statement.
 pub const MAX_OPERATORS: usize = 200;
 
-/// The largest number of cells, the elements of arrays and grids counted.
+/// The largest number of cells, including the elements of arrays and grids.
 pub const MAX_CELLS: u32 = 65_536;
 
-/// The largest number of nodes of the tree of regions: `Root`, `Console`, and each prefix of a path of a cell.
+/// The largest number of nodes of the tree of regions: `Root`, `Console`, and each prefix of a cell's path.
 pub const MAX_NODES: u32 = 131_072;
 
-/// The largest number of elements of a written path, `*` counted.
+/// The largest number of elements of a written path, including `*`.
 pub const MAX_PATH_ELEMENTS: usize = 32;
 
-/// The largest number of effects of a declaration.
+/// The largest number of effects in a declaration.
 pub const MAX_EFFECTS: usize = 8;
 
 /// The largest number of parameters of a declaration.
 pub const MAX_PARAMETERS: usize = 4;
 
-/// The largest number of calls of methods that are active in a task at once.
+/// The largest number of method calls that are active in one task at once.
 pub const MAX_ACTIVE_CALLS: u32 = 1_000;

@@ -1,4 +1,4 @@
-//! The limits of the language and of a run, and the faults that a task can meet.
+//! The limits of the language and of a run, and the faults that can stop a task.
 #![tactic(auto)]
 
 mod fault;

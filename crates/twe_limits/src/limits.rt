@@ -24,19 +24,19 @@ impl Model for Limits {
 }
 
 impl Limits {
-    /// The most fuel that a task may have.
+    /// The largest fuel of a task.
     pub const MAX_FUEL: u64 = 100_000_000;
 
-    /// The most tasks that a run may make.
+    /// The largest number of tasks that a run may be allowed to make.
     pub const MAX_TASKS: u32 = 100_000;
 
-    /// The fuel of a task unless the command line says otherwise.
+    /// The fuel of a task, unless the command line says otherwise.
     pub const DEFAULT_FUEL: u64 = 1_000_000;
 
-    /// How many tasks a run may make unless the command line says otherwise.
+    /// How many tasks a run may make, unless the command line says otherwise.
     pub const DEFAULT_TASKS: u32 = 10_000;
 
-    /// These limits.
+    /// The limits with this fuel and this number of tasks.
     pub fn new(fuel: u64, tasks: u32) -> Self
         requires { IsWithin fuel tasks }
         ensures { result ≡ record { fuel = fuel; tasks = tasks } }
@@ -44,7 +44,7 @@ impl Limits {
         Limits { fuel, tasks }
     }
 
-    /// These limits, if both numbers are within their ranges.
+    /// The limits with this fuel and this number of tasks, or `None` if one of them is out of its range.
     pub fn checked(fuel: u64, tasks: u32) -> Option<Self>
         ensures { SomeIff result (IsWithin fuel tasks) (record { fuel = fuel; tasks = tasks }) }
     {

@@ -5,22 +5,22 @@ use Rattle.twe_ast.specs.declared.expr.BinOp.{BinOp}
 
 mutual
   pub data Expression : Type 0 where
-    -- a literal, or one of the two truth values
+    -- an integer literal; `true` or `false`
     Literal : (value : ℤ) → Expression
     Truth : (value : Bool) → Expression
-    -- the value of a parameter or a local; it is fixed where it is a parameter or a `final int` local
+    -- the value of a parameter or a local; it is fixed if it is a parameter or a `final int` local
     Variable : (var : ℕ) (fixed : Bool) → Expression
     -- the value of a cell, of an element of an array, or of an element of a grid
     CellValue : (cell : ℕ) (place : Place) → Expression
     ArrayElement : (array : ℕ) (index : Expression) (place : Place) → Expression
     GridElement : (array : ℕ) (row column : Expression) (place : Place) → Expression
-    -- what a method returns
+    -- the value that a method returns
     CallValue : (method : ℕ) (args : Arguments) (place : Place) → Expression
     Negative : (operand : Expression) → Expression
     Negation : (operand : Expression) → Expression
     Binary : (op : BinOp) (left right : Expression) (place : Place) → Expression
 
-  -- the arguments of a call, from the left
+  -- the arguments of a call, from left to right
   pub data Arguments : Type 0 where
     no_more : Arguments
     argument : (first : Expression) (others : Arguments) → Arguments

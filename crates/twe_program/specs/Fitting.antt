@@ -1,4 +1,4 @@
--- When the numbers in a body name what is there, and of the kind that is asked for.
+-- When each number in a body refers to an existing declaration or variable, of the kind that is needed there.
 use Rattle.std.specs.Prelude.{◌≡◌, ◌<◌, ℕ, ◌+◌, Bool, true, false, List, Option, None, Some, slice_get}
 use Rattle.twe_program.specs.declared.program.Dims.{Dims}
 use Rattle.twe_program.specs.declared.program.Dims.TheVariants.{Scalar, Row, Grid}
@@ -9,8 +9,8 @@ use Rattle.twe_program.specs.Expression as args
 use Rattle.twe_program.specs.Statement.{Statement, Block, Let, Set, SetCell, SetArray, SetGrid, If, While, Return, Print, Call, Make, Wait, Statements, no_more, statement, Arms, arm, otherwise, no_else}
 use Rattle.twe_program.specs.Numbering.{Declared}
 
--- what a body stands in: the declarations of the program, how many parameters and locals it has, the futures that it
--- declares by their numbers, and whether it returns a value
+-- the scope of a body: the declarations of the program, how many parameters and locals the body has, the futures that
+-- it declares, by their numbers, and whether it returns a value
 pub record Scope : Type 0 where
   pub cells : List CellDecl
   pub methods : List Decl
@@ -19,18 +19,18 @@ pub record Scope : Type 0 where
   pub futures : List Declared
   pub int : Bool
 
--- a cell by itself, an array with one index, a grid with two
+-- a single cell takes no index, an array takes one, and a grid takes two
 pub data HasShape : Dims → ℕ → Type 0 where
   no_index : HasShape Scalar 0
   one_index : {count : ℕ} → HasShape (Row count) 1
   two_indexes : {rows columns : ℕ} → HasShape (Grid rows columns) 2
 
--- there is such a declaration of cells, and it takes so many indexes
+-- there is such a declaration of cells, and it takes `count` indexes
 abbrev pub TakesIndexes : Option CellDecl → ℕ → Type 0
 TakesIndexes None count = ⊥
 TakesIndexes (Some cell) count = HasShape cell.dims count
 
--- there is such a declaration, with so many parameters
+-- there is such a declaration, and it has `count` parameters
 abbrev pub TakesArguments : Option Decl → ℕ → Type 0
 TakesArguments None count = ⊥
 TakesArguments (Some decl) count = decl.params ≡ count
@@ -63,17 +63,17 @@ abbrev mutual
   ArgumentsFit scope args.no_more = Unit {0}
   ArgumentsFit scope (argument first others) = ExpressionFits scope first × ArgumentsFit scope others
 
--- a body that returns a value has one at each `return`, and another body has none
+-- each `return` has a value if the body returns one, and has none if the body returns nothing
 abbrev pub ReturnFits : Scope → Option Expression → Type 0
 ReturnFits scope None = scope.int ≡ false
 ReturnFits scope (Some value) = (scope.int ≡ true) × ExpressionFits scope value
 
--- the local that takes a value is there, and there is a value
+-- the local that takes the value exists, and the task returns a value
 abbrev pub IntoFits : Scope → ℕ → Option ℕ → Type 0
 IntoFits scope task None = Unit {0}
 IntoFits scope task (Some var) = (var < scope.vars) × ReturnsValue (slice_get scope.tasks task)
 
--- the future is declared: a `join` is of a future of `spawn`, and a `getValue` of one of `executeLater`
+-- the future is declared; a `join` waits for a task made by `spawn`, and a `getValue` for one made by `executeLater`
 abbrev pub WaitFits : Scope → Option Declared → Bool → Option ℕ → Type 0
 WaitFits scope None join into = ⊥
 WaitFits scope (Some future) join into = (future.spawned ≡ join) × IntoFits scope future.task into

@@ -1,14 +1,14 @@
--- Futures: a wait is of one for which a task was made before.
+-- Futures: each wait is for a task that was made before.
 use Rattle.std.specs.Prelude.{ℕ, Bool, false, ◌||◌, nat_eq, IsTrue}
 use Rattle.twe_program.specs.Statement.{Statement, Block, Let, Set, SetCell, SetArray, SetGrid, If, While, Return, Print, Call, Make, Wait, Statements, no_more, statement, Arms, arm, otherwise, no_else}
 
--- the futures for which a task was made, after a statement
+-- the futures whose task is made, after a statement
 abbrev pub made_after : (ℕ → Bool) → Statement → ℕ → Bool
 made_after made (Make point future task args spawned future_place place) f = nat_eq f future || made f
 made_after made _ f = made f
 
--- each wait is of a future for which a task was made before: one of these, or one that stands before the wait in its
--- block or in a block around it
+-- each wait is for a future whose task was made before: one of these, or one made before the wait in the same block or
+-- in a block around it
 abbrev mutual
   pub WaitsFollow : (ℕ → Bool) → Statement → Type 0
   WaitsFollow made (Block point body) = AllWaitsFollow made body
@@ -34,6 +34,6 @@ abbrev mutual
   ArmsWaitFollow made (otherwise body) = AllWaitsFollow made body
   ArmsWaitFollow made (arm condition body others) = AllWaitsFollow made body × ArmsWaitFollow made others
 
--- in a whole body, which begins with no task made
+-- the same in a whole body, at whose beginning no task is made
 abbrev pub WaitsFollowMakes : Statements → Type 0
 WaitsFollowMakes body = AllWaitsFollow (λ f. false) body

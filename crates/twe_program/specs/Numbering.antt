@@ -1,10 +1,10 @@
--- What is numbered in the order of the text: points, locals and futures of a body, and the cells of a program.
+-- The numbering, in the order of the text, of the points, locals and futures of a body, and of the cells of a program.
 use Rattle.std.specs.Prelude.{◌≡◌, ℕ, ◌+◌, Bool, List, [], ◌∷◌, ◌++◌, option_to_list}
 use Rattle.twe_program.specs.declared.program.CellDecl.{CellDecl}
 use Rattle.twe_program.specs.Program.{size_of}
 use Rattle.twe_program.specs.Statement.{Statement, Block, Let, Set, SetCell, SetArray, SetGrid, If, While, Return, Print, Call, Make, Wait, Statements, no_more, statement, Arms, arm, otherwise, no_else}
 
--- the numbers count up from this one
+-- the numbers are n, n + 1, and so on
 abbrev pub CountUp : ℕ → List ℕ → Type 0
 CountUp n [] = Unit {0}
 CountUp n (first ∷ others) = (first ≡ n) × CountUp (n + 1) others
@@ -66,7 +66,7 @@ abbrev mutual
   locals_of_arms (otherwise body) = locals_of_all body
   locals_of_arms (arm condition body others) = locals_of_all body ++ locals_of_arms others
 
--- a future that a statement declares: its number, the task that it stands for, and whether that one is spawned
+-- a future that a statement declares: its number, the declaration of its task, and whether the task is spawned
 pub record Declared : Type 0 where
   pub future : ℕ
   pub task : ℕ

@@ -1,8 +1,8 @@
--- Parameters keep their values: a body assigns to its locals alone, whose numbers come after those of the parameters.
+-- Parameters keep their values: a body assigns only to its locals, whose numbers come after those of the parameters.
 use Rattle.std.specs.Prelude.{ℕ, ◌≤◌}
 use Rattle.twe_program.specs.Statement.{Statement, Block, Let, Set, SetCell, SetArray, SetGrid, If, While, Return, Print, Call, Make, Wait, Statements, no_more, statement, Arms, arm, otherwise, no_else}
 
--- each assignment to a variable is to one of this number or a higher one
+-- each assignment is to a variable whose number is at least n
 abbrev mutual
   pub SetsFrom : ℕ → Statement → Type 0
   SetsFrom n (Block point body) = AllSetFrom n body

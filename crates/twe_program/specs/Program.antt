@@ -13,13 +13,13 @@ pub record Program : Type 0 where
   pub tasks : List Decl
   pub main : ℕ
 
--- how many cells a declaration makes: an array one for each element, and a grid for each element of each row
+-- how many cells a declaration makes: one by itself, one for each element of an array, or one for each of a grid
 abbrev pub size_of : Dims → ℕ
 size_of Scalar = 1
 size_of (Row count) = count
 size_of (Grid rows columns) = rows * columns
 
--- how many cells the declarations make together
+-- how many cells the declarations make in total
 abbrev pub cells_made : List CellDecl → ℕ
 cells_made [] = 0
 cells_made (cell ∷ cells) = size_of cell.dims + cells_made cells

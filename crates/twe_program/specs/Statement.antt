@@ -1,5 +1,5 @@
--- A statement, as contracts see it: a tree. `point` is the number of the point just before it; that of a `while` is
--- just before each test of its condition.
+-- A statement, as contracts see it: a tree. `point` is the number of the point just before the statement. The point of
+-- a `while` is just before each test of its condition.
 use Rattle.std.specs.Prelude.{ℕ, Bool, Option, List, [], ◌∷◌}
 use Rattle.twe_io.specs.declared.place.Place.{Place}
 use Rattle.twe_program.specs.Expression.{Expression, Arguments}
@@ -7,7 +7,7 @@ use Rattle.twe_program.specs.Expression.{Expression, Arguments}
 mutual
   pub data Statement : Type 0 where
     Block : (point : ℕ) (body : Statements) → Statement
-    -- the declaration of a local, and an assignment to one
+    -- the declaration of a local with its value, and an assignment to a local
     Let : (point var : ℕ) (value : Expression) → Statement
     Set : (point var : ℕ) (value : Expression) → Statement
     -- the assignment to a cell, to an element of an array, or to an element of a grid
@@ -20,9 +20,9 @@ mutual
     Print : (point : ℕ) (value : Expression) (place : Place) → Statement
     -- the call of a method whose value, if it has one, is dropped
     Call : (point method : ℕ) (args : Arguments) (place : Place) → Statement
-    -- the making of a task by `spawn` or by `executeLater`
+    -- a `spawn` or an `executeLater`: it makes a task
     Make : (point future task : ℕ) (args : Arguments) (spawned : Bool) (future_place place : Place) → Statement
-    -- the waiting for a task by `join` or by `getValue`, and the local that takes its value
+    -- a `join` or a `getValue`: it waits for a task, and a local may take the task's value
     Wait : (point future : ℕ) (join : Bool) (into : Option ℕ) (place : Place) → Statement
 
   -- the statements of a block, in order
@@ -36,7 +36,7 @@ mutual
     otherwise : (body : Statements) → Arms
     no_else : Arms
 
--- these statements, as those of a block
+-- these statements, as a block
 abbrev pub statements_of : List Statement → Statements
 statements_of [] = no_more
 statements_of (first ∷ others) = statement first (statements_of others)

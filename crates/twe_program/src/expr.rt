@@ -1,4 +1,4 @@
-//! Expressions. Contracts see one as an `Expression`, a tree without its places in memory.
+//! Expressions. Contracts see an expression as an `Expression`, a plain tree.
 ghost use Rattle.std.specs.Prelude.{◌≡◌, IfOk};
 ghost use Rattle.twe_program.specs.Expression.{Literal, CellValue, Binary};
 
@@ -15,7 +15,7 @@ pub struct Expr {
     pub kind: ExprKind,
 }
 
-/// The arguments of a call, from the left.
+/// The arguments of a call, from left to right.
 #[cycle(expr)]
 #[derive(Debug, Drop)]
 pub struct Args {
@@ -27,27 +27,27 @@ pub struct Args {
 #[cycle(expr)]
 #[derive(Debug, Drop)]
 pub enum ExprKind {
-    /// A literal.
+    /// An integer literal.
     Lit(i32),
-    /// A truth value.
+    /// `true` or `false`.
     Truth(bool),
     /// The value of a parameter or a local.
     Var {
-        /// Its number.
+        /// The number of the variable.
         var: u32,
         /// Whether it is a parameter or a `final int` local.
         fixed: bool,
     },
     /// The value of a cell.
     Cell {
-        /// The number of its declaration among those of the cells.
+        /// The number of the cell's declaration.
         cell: u32,
-        /// The place of its name.
+        /// The place of the cell's name.
         place: Place,
     },
-    /// The value of an element of an array or of a grid.
+    /// The value of an element of an array or a grid.
     At {
-        /// The number of its declaration among those of the cells.
+        /// The number of the declaration of the array or the grid.
         array: u32,
         /// The index, or the row.
         index: Box<Expr>,
@@ -56,7 +56,7 @@ pub enum ExprKind {
         /// The place of the array's name.
         place: Place,
     },
-    /// What a method returns.
+    /// The value that a method returns.
     Call {
         /// The number of the method.
         method: u32,
@@ -65,17 +65,17 @@ pub enum ExprKind {
         /// The place of the method's name.
         place: Place,
     },
-    /// The negative of a number, which wraps in 32 bits.
+    /// The negative of a number. It wraps in 32 bits.
     Neg(Box<Expr>),
     /// The negation of a truth value.
     Not(Box<Expr>),
-    /// An operator and its operands.
+    /// A binary operator and its operands.
     Bin {
         /// The operator.
         op: BinOp,
-        /// The operand before it.
+        /// The left operand.
         left: Box<Expr>,
-        /// The operand after it.
+        /// The right operand.
         right: Box<Expr>,
         /// The place of the operator.
         place: Place,
@@ -118,7 +118,7 @@ impl Model for Args {
 }
 
 impl Expr {
-    /// A literal.
+    /// An integer literal.
     pub fn literal(value: i32) -> Expr
         ensures { result ≡ Literal value }
     {
@@ -136,7 +136,7 @@ impl Expr {
         }
     }
 
-    /// An operator with its operands.
+    /// A binary operator with its operands.
     pub fn binary(
         alloc: Global,
         op: BinOp,

@@ -1,7 +1,7 @@
-//! The resolved program: what a text means once its names have become numbers.
+//! The resolved program: the syntax tree with each name replaced by a number.
 //!
-//! The checker and the machine stand on these types, and the resolver of names makes them. How a text is read is left
-//! to the crates of the text.
+//! The resolver of names makes it; the checker of effects and the evaluator read it. Reading a text is left to the
+//! crates below the resolver.
 #![tactic(auto)]
 
 mod expr;

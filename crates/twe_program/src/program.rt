@@ -1,4 +1,4 @@
-//! The resolved program: names have become numbers, and each declaration has its summary and body.
+//! A resolved program and its declarations.
 
 use crate::stmt::Block;
 use effect_sets::Summary;
@@ -6,18 +6,18 @@ use region_paths::Path;
 use std::marker::Model;
 use twe_io::{List, Place, Word};
 
-/// How many cells a declaration makes, and how they are indexed.
+/// How many cells a declaration makes, and how many indexes they take.
 #[derive(Clone, Copy, Debug, PartialEq, Eq)]
 pub enum Dims {
-    /// One cell, without an index.
+    /// One cell, which takes no index.
     Scalar,
-    /// An array of so many elements.
+    /// An array with this many elements.
     Row(u32),
-    /// A grid, whose elements are numbered row by row.
+    /// A grid. Its elements are numbered row by row.
     Grid {
-        /// How many rows there are.
+        /// The number of rows.
         rows: u32,
-        /// How many elements a row has.
+        /// The number of elements in a row.
         cols: u32,
     },
 }
@@ -26,7 +26,7 @@ impl Dims {
     ghost use Rattle.std.specs.Prelude.{◌≡◌};
     ghost use Rattle.twe_program.specs.Program.{size_of};
 
-    /// How many cells a declaration makes.
+    /// The number of cells that the declaration makes.
     pub fn size(self) -> u64
         ensures { result ≡ size_of self }
     {
@@ -38,17 +38,17 @@ impl Dims {
     }
 }
 
-/// A cell, an array or a grid, with its region.
+/// The declaration of a cell, an array or a grid.
 #[derive(Debug, Drop)]
 pub struct CellDecl {
     /// The name.
     pub name: Word,
-    /// The path that the cell lies in. Element i of an array lies in this path and then `[i]`, and element (i, j) of
-    /// a grid in this path and then `[i]:[j]`.
+    /// The path of the cell. The path of element i of an array is this path followed by `[i]`, and that of element
+    /// (i, j) of a grid is this path followed by `[i]:[j]`.
     pub path: Path,
-    /// How many cells there are, and how they are indexed.
+    /// How many cells it makes, and how many indexes they take.
     pub dims: Dims,
-    /// The number of the declaration's first cell. Cells are numbered from 0 in the order of their declaration.
+    /// The number of its first cell. Cells are numbered from 0 in the order of their declarations.
     pub first: u32,
     /// The initial value of each of its cells.
     pub init: i32,
@@ -61,11 +61,11 @@ pub struct CellDecl {
 pub struct Body {
     /// The statements.
     pub block: Block,
-    /// How many variables there are, parameters and locals together.
+    /// The number of variables: parameters and locals together.
     pub vars: u32,
-    /// How many futures there are.
+    /// The number of futures.
     pub futures: u32,
-    /// How many points there are: one before each statement, and one at the end.
+    /// The number of points: one before each statement, and one at the end.
     pub points: u32,
     /// The place of the closing brace.
     pub close: Place,
@@ -74,25 +74,25 @@ pub struct Body {
 /// A task or a method.
 #[derive(Debug, Drop)]
 pub struct Decl {
-    /// Its name.
+    /// The name.
     pub name: Word,
-    /// How many parameters it has.
+    /// The number of parameters.
     pub params: u32,
-    /// Whether it returns an `int`, and not nothing.
+    /// Whether it returns an `int`. If not, it returns nothing.
     pub int: bool,
-    /// Whether it was declared deterministic.
+    /// Whether it is declared `deterministic`.
     pub deterministic: bool,
     /// The effects that it declares.
     pub summary: Summary,
-    /// Its body.
+    /// The body.
     pub body: Body,
-    /// The place of its name.
+    /// The place of the name.
     pub place: Place,
 }
 
-/// A program. Regions are numbered in the order of their declaration after `Console`, which is 0; the declarations of
-/// cells, methods and tasks from 0 in the order of the text. Contracts see a `Program`, which is well formed: see
-/// `IsWellFormed`.
+/// A program. `Console` is region 0, and the declared regions follow in the order of the text. The declarations of
+/// cells, of methods and of tasks are each numbered from 0 in the order of the text. Contracts see a `Program`. The
+/// type keeps the invariant `IsWellFormed`.
 #[derive(Debug, Drop)]
 pub struct Prog {
     /// The names of the regions, `Console` first.

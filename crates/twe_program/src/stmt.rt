@@ -1,4 +1,4 @@
-//! Statements. Contracts see one as a `Statement`, a tree without its places in memory.
+//! Statements. Contracts see a statement as a `Statement`, a plain tree.
 
 use crate::expr::{Args, Expr};
 use std::marker::Model;
@@ -8,7 +8,7 @@ use twe_io::Place;
 #[cycle(stmt)]
 #[derive(Debug, Drop)]
 pub struct Stmt {
-    /// The number of the point just before it.
+    /// The number of the point just before the statement.
     pub point: u32,
     /// What the statement is.
     pub kind: StmtKind,
@@ -28,7 +28,7 @@ pub struct Block {
 pub struct Arm {
     /// The condition.
     pub condition: Expr,
-    /// What is carried out where it is the first condition that is true.
+    /// The statements that run if this is the first condition that is true.
     pub body: Block,
 }
 
@@ -36,7 +36,7 @@ pub struct Arm {
 #[cycle(stmt)]
 #[derive(Debug, Drop)]
 pub struct Arms {
-    /// The arms that have a condition.
+    /// The arms with a condition.
     pub arms: Vec<Arm>,
     /// The last `else`, if there is one.
     pub last: Option<Block>,
@@ -48,7 +48,7 @@ pub struct Arms {
 pub enum StmtKind {
     /// A block.
     Block(Block),
-    /// The declaration of a local, with its initial value.
+    /// The declaration of a local with its initial value.
     Let {
         /// The number of the local.
         var: u32,
@@ -64,16 +64,16 @@ pub enum StmtKind {
     },
     /// The assignment of a value to a cell.
     SetCell {
-        /// The number of its declaration among those of the cells.
+        /// The number of the cell's declaration.
         cell: u32,
         /// The value.
         value: Expr,
         /// The place of the cell's name.
         place: Place,
     },
-    /// The assignment of a value to an element of an array or of a grid.
+    /// The assignment of a value to an element of an array or a grid.
     SetAt {
-        /// The number of its declaration among those of the cells.
+        /// The number of the declaration of the array or the grid.
         array: u32,
         /// The index, or the row.
         index: Expr,
@@ -88,14 +88,14 @@ pub enum StmtKind {
     If(Arms),
     /// A loop.
     While {
-        /// The condition, which is tested before each turn.
+        /// The condition, which is tested before each iteration.
         condition: Expr,
-        /// What a turn carries out.
+        /// The body of the loop.
         body: Block,
         /// The place of the word `while`.
         place: Place,
     },
-    /// The end of the body, with the value that it returns.
+    /// A `return`, with its value if it has one.
     Return(Option<Expr>),
     /// The printing of a number.
     Print {
@@ -104,7 +104,7 @@ pub enum StmtKind {
         /// The place of the word `print`.
         place: Place,
     },
-    /// The call of a method, whose value is dropped.
+    /// The call of a method. Its value, if it has one, is dropped.
     Call {
         /// The number of the method.
         method: u32,
@@ -115,26 +115,26 @@ pub enum StmtKind {
     },
     /// The making of a task.
     Make {
-        /// The number of the future that stands for it.
+        /// The number of the future that holds the task.
         future: u32,
         /// The number of the task's declaration.
         task: u32,
         /// The arguments.
         args: Args,
-        /// Whether it is made by `spawn`, and not by `executeLater`.
+        /// Whether it is a `spawn`. If not, it is an `executeLater`.
         spawned: bool,
         /// The place of the future's name.
         future_place: Place,
         /// The place of the task's name.
         place: Place,
     },
-    /// The waiting for a task.
+    /// The wait for a task.
     Wait {
-        /// The number of the future that stands for it.
+        /// The number of the future that holds the task.
         future: u32,
-        /// Whether it is a `join`, and not a `getValue`.
+        /// Whether it is a `join`. If not, it is a `getValue`.
         join: bool,
-        /// The local that takes its value, if one does.
+        /// The local that takes the task's value, if there is one.
         into: Option<u32>,
         /// The place of the future's name.
         place: Place,

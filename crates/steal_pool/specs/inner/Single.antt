@@ -1,21 +1,21 @@
--- What contracts inside the crate see of one end of one deck, and how a worker's ends are made of them.
+-- What contracts inside the crate see of one end of a deck, and how a worker's view consists of such ends.
 use Rattle.std.specs.Prelude.{◌≡◌, ℕ, ◌+◌, ◌<◌, ◌≤◌, ◌⊎◌, List, All, length, map}
 use Rattle.std.specs.List.{insert}
 use Rattle.steal_pool.specs.declared.law.Hand.{Hand}
 use Rattle.steal_pool.specs.Ends.{DeckId, Ends}
 
--- the end of the deck's owner, who may push so often
+-- the end of the deck's owner, and how many pushes are left
 pub record OwnEnd : Type 0 where
   pub deck : DeckId
   pub hand : Hand
   pub spare : ℕ
 
--- the end of another worker
+-- the end of a thief
 pub record OtherEnd : Type 0 where
   pub deck : DeckId
   pub hand : Hand
 
--- the worker's own end stands at its number, among those of the others' decks
+-- the worker's own end is inserted at its number, among its ends of the others' decks
 abbrev pub ends_of : ℕ → OwnEnd → List OtherEnd → Ends
 ends_of number own others = record {
   number = number;
@@ -25,10 +25,10 @@ ends_of number own others = record {
   hands = insert (map (λ other. other.hand) others) number own.hand;
 }
 
--- the worker's number is one of a deck, and all its passes know one bound
+-- the worker's number is the number of a deck, and all its passes know the same bound
 abbrev pub AgreeOnBound : ℕ → OwnEnd → List OtherEnd → Type 0
 AgreeOnBound number own others = (number ≤ length others) × All (λ other. other.hand.bound ≡ own.hand.bound) others
 
--- the end of the deck of this number stands at this place among the others, where the worker's own is left out
+-- the end of the deck with this number has this index among the ends without the worker's own
 abbrev pub IsAt : ℕ → ℕ → ℕ → Type 0
 IsAt number deck place = ((deck < number) × (deck ≡ place)) ⊎ ((number < deck) × (deck ≡ place + 1))

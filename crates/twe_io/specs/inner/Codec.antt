@@ -1,17 +1,17 @@
--- How the logic stores the values of trees, and that each can be told from how it is stored: a decoder gives it back.
+-- How the logic stores the values of trees. A decoder reads each value back from what is stored.
 use Rattle.std.specs.Prelude.{◌≡◌, ◌==◌, ℕ, ℤ, pos, negsuc, Bool, true, false, Option, None, Some, if◌then◌else◌, refl}
 use Rattle.std.proofs.Common.{sym, ap, ◌∙◌}
 use Rattle.std.specs.Coded.{Coded}
 use Rattle.twe_io.specs.declared.place.Place.{Place}
 use base.Stored.{Gv, gnil, gnum, gcons}
 
--- how values are stored, and how they are read back
+-- an encoder, a decoder, and the fact that decoding undoes encoding
 pub record Codec (A : Type 0) : Type 0 where
   pub encode : A → Gv
   pub decode : Gv → A
   pub again : (x : A) → decode (encode x) ≡ x
 
--- so no two values are stored alike
+-- so different values are stored differently
 abbrev pub coded_of : {A : Type 0} → Codec A → Coded A
 coded_of codec = record { code = codec.encode; inj = λ x y p. sym (codec.again x) ∙ (ap codec.decode p ∙ codec.again y) }
 

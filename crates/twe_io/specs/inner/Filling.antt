@@ -1,9 +1,9 @@
--- How the filling of a buffer went.
+-- How a buffer was filled from a source.
 use Rattle.std.specs.Prelude.{◌≡◌, ◌⊎◌, ◌<◌, ℕ, List, length, Option, None, Some}
 use Rattle.std.specs.Io.KnownBytes.{Consumes}
 use Rattle.twe_io.specs.Runs.{Reads, ReadsThen}
 
--- n bytes were given, until the buffer was full or a read gave nothing
+-- n bytes were read, until the buffer was full or a read gave nothing
 abbrev pub FillsUp : {S : Type 0} → (S → ℕ → Option ℕ → S → Type 0) → ℕ → S → ℕ → S → Type 0
 FillsUp gives room first n last = ((n ≡ room) × Reads gives room first n last) ⊎ ReadsThen gives room first n (Some 0) last
 

@@ -1,4 +1,4 @@
--- Each argument is less deep than all together.
+-- Each argument is less deep than the whole list of arguments.
 use Rattle.std.specs.Prelude.{◌+◌, ◌≤◌, List, [], ◌∷◌}
 use Rattle.std.proofs.Common.{arith}
 use Rattle.twe_program.specs.Expression.{Expression, arguments_of}

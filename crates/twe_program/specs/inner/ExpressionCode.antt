@@ -1,4 +1,4 @@
--- How the logic stores expressions: as a tag, the parts that are no expressions, and the parts that are.
+-- How the logic stores expressions: a tag, the parts that are not expressions, and the parts that are.
 use Rattle.std.specs.Prelude.{◌≡◌, ℕ, zero, suc, pos, refl}
 use Rattle.std.proofs.Common.{ap}
 use Rattle.std.specs.Coded.{Coded}
@@ -74,7 +74,7 @@ abbrev mutual
   encode_all no_more = gnil
   encode_all (argument first others) = gcons (encode first) (encode_all others)
 
--- the expression of this tag and these parts
+-- the expression with this tag and these parts
 abbrev made_of : ℕ → Gv → Expression → Expression → Arguments → Expression
 made_of zero plain a b args = Literal (codec_ℤ.decode plain)
 made_of (suc zero) plain a b args = Truth (codec_bool.decode plain)

@@ -1,4 +1,4 @@
--- How deep an expression is, so that each of its parts is less deep.
+-- The depth of an expression. Each of its parts is less deep.
 use Rattle.std.specs.Prelude.{ℕ, ◌+◌, max}
 use Rattle.twe_program.specs.Expression.{Expression, Literal, Truth, Variable, CellValue, ArrayElement, GridElement, CallValue, Negative, Negation, Binary, Arguments, no_more, argument}
 

@@ -1,4 +1,4 @@
--- The expression that a node of the program stands for.
+-- The tree that contracts see of an expression in memory.
 use Rattle.std.specs.Prelude.{None, Some}
 use Rattle.twe_program.specs.Expression.{Expression, Literal, Truth, Variable, CellValue, ArrayElement, GridElement, CallValue, Negative, Negation, Binary}
 use Rattle.twe_program.specs.declared.expr.ExprKind.{ExprKind}

@@ -1,4 +1,4 @@
--- How the logic stores statements: as a tag, the parts that are no statements, and one part that is.
+-- How the logic stores statements: a tag, the parts that are not statements, and one part that is.
 use Rattle.std.specs.Prelude.{◌≡◌, ℕ, zero, suc, None, refl}
 use Rattle.std.proofs.Common.{ap}
 use Rattle.std.specs.Coded.{Coded}
@@ -7,7 +7,7 @@ use Rattle.twe_program.specs.Statement.{Statement, Block, Let, Set, SetCell, Set
 use Rattle.twe_program.specs.inner.ExpressionCode.{codec_expression, codec_arguments}
 use base.Stored.{Gv, gnil, gnum, gcons}
 
--- a tag, the point, two parts that are stored already, and a part with statements
+-- a tag, the point, two parts in their stored form, and a part with statements
 abbrev node : ℕ → ℕ → Gv → Gv → Gv → Gv
 node tag point a b inside = gcons (gnum tag) (gcons (gnum point) (gcons a (gcons b inside)))
 
@@ -40,7 +40,7 @@ abbrev mutual
   encode_arms (otherwise body) = gcons gnil (encode_all body)
   encode_arms (arm condition body others) = gcons (gcons gnil (codec_expression.encode condition)) (gcons (encode_all body) (encode_arms others))
 
--- the statement of this tag and these parts
+-- the statement with this tag and these parts
 abbrev made_of : ℕ → ℕ → Gv → Gv → Statements → Arms → Statement
 made_of zero point a b body arms = Block point body
 made_of (suc zero) point a b body arms = Let point (number_in a) (codec_expression.decode b)

@@ -1,4 +1,4 @@
--- How deep statements stand in one another, so that each part of one is less deep.
+-- The depth of a statement. Each of its parts is less deep.
 use Rattle.std.specs.Prelude.{ℕ, ◌+◌, max}
 use Rattle.twe_program.specs.Statement.{Statement, Block, Let, Set, SetCell, SetArray, SetGrid, If, While, Return, Print, Call, Make, Wait, Statements, no_more, statement, Arms, arm, otherwise, no_else}
 

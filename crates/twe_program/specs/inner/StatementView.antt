@@ -1,4 +1,4 @@
--- The statement that a node of the program stands for.
+-- The tree that contracts see of a statement in memory.
 use Rattle.std.specs.Prelude.{ℕ, List, [], ◌∷◌, Option, None, Some}
 use Rattle.twe_program.specs.Statement as seen
 use Rattle.twe_program.specs.Statement.{Statement, Statements, Arms, arm, otherwise, no_else}

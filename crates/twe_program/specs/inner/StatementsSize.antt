@@ -1,4 +1,4 @@
--- Each statement is less deep than the block that it stands in.
+-- Each statement is less deep than its block.
 use Rattle.std.specs.Prelude.{◌+◌, ◌≤◌, List, [], ◌∷◌}
 use Rattle.std.proofs.Common.{arith}
 use Rattle.twe_program.specs.Statement.{Statement, statements_of}
