@@ -11,7 +11,8 @@ use Rattle.twe_lexer.specs.declared.token.Token.{Token}
 use Rattle.twe_lexer.specs.declared.token.TokenKind.{TokenKind}
 use Rattle.twe_lexer.specs.declared.token.TokenKind.TheVariants as kinds
 use Rattle.twe_parser.specs.declared.limits.Sofar.{Sofar}
-use Rattle.twe_parser.specs.Levels.{operator, level_of}
+use Rattle.twe_ast.specs.Precedence.{level_of}
+use Rattle.twe_parser.specs.OperatorTokens.{operator}
 use Rattle.twe_parser.specs.Limits.{is_too_large}
 use Rattle.twe_parser.specs.Written.{word, number}
 use Rattle.twe_parser.specs.WritesExpression.{is_smallest, WritesExpression, written, WritesShape, binary, negative, smallest, negation, literal, yes, no, variable, call, array, grid, parentheses, WritesArguments, no_arguments, arguments, MoreArguments, no_more_arguments, more_arguments}

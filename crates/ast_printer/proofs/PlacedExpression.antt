@@ -4,7 +4,7 @@ use Rattle.twe_io.specs.declared.place.Place.{Place}
 use Rattle.twe_ast.specs.declared.expr.BinOp.{BinOp}
 use Rattle.twe_ast.specs.Expression.{Expression, expression, Shape, Literal, Truth, Variable, ArrayElement, GridElement, CallValue, Negative, Negation, Binary, Arguments, no_more, argument}
 use Rattle.twe_lexer.specs.declared.fixed.Fixed.TheVariants as fixed
-use Rattle.twe_parser.specs.Levels.{level_of}
+use Rattle.twe_ast.specs.Precedence.{level_of}
 use Rattle.ast_printer.specs.Text.{when}
 use Rattle.ast_printer.specs.ExpressionWords.{needs_parentheses, expression_words}
 use Rattle.ast_printer.specs.BareExpression.{bare_name, bare_expression, bare_shape, bare_arguments, nowhere}

@@ -7,7 +7,7 @@ ghost use Rattle.ast_printer.specs.ExpressionWords.{arguments_words, expression_
 ghost use Rattle.twe_ast.specs.Expression.{ArrayElement, Binary, GridElement};
 ghost use Rattle.twe_io.specs.declared.place.Place.{Place};
 
-use crate::operator::{level_of, operator_word};
+use crate::operator::operator_word;
 use crate::word::{push_fixed, push_literal, push_name, push_two, push_when};
 use twe_ast::{Args, BinOp, Expr, ExprKind, Name};
 use twe_io::{Bytes, Memory};
@@ -60,7 +60,7 @@ fn push_operands(
 ) -> Result<(), Memory>
     ensures { (place : Place) → OnOk result (text.new ≡ text.old ++ text_of (shape_words level (Binary op left.now right.now place))) }
 {
-    let own = level_of(op);
+    let own = op.level();
     push_when(text, own < level, Fixed::OpenParen)?;
     push_expr(left, text, own)?;
     push_fixed(text, operator_word(op))?;

@@ -1,3 +1,4 @@
 pub mod Expression
+pub mod Precedence
 pub mod Statement
 pub mod inner

@@ -1,5 +1,8 @@
 //! Expressions. Contracts see one as an `Expression`: a place, and what the expression is.
 
+ghost use Rattle.std.specs.Prelude.{◌≡◌, ◌≤◌};
+ghost use Rattle.twe_ast.specs.Precedence.{level_of};
+
 use crate::name::Name;
 use std::marker::Model;
 use twe_io::Place;
@@ -33,6 +36,23 @@ pub enum BinOp {
     Div,
     /// `%`
     Rem,
+}
+
+impl BinOp {
+    /// The precedence of the operator, from 0 for `||` to 5 for `*`: a higher level binds more tightly.
+    pub fn level(self) -> u8
+        ensures level { result ≡ level_of self }
+        ensures small { result ≤ 5 }
+    {
+        match self {
+            BinOp::Or => 0,
+            BinOp::And => 1,
+            BinOp::Equal | BinOp::NotEqual => 2,
+            BinOp::Less | BinOp::LessEqual | BinOp::Greater | BinOp::GreaterEqual => 3,
+            BinOp::Add | BinOp::Sub => 4,
+            BinOp::Mul | BinOp::Div | BinOp::Rem => 5,
+        }
+    }
 }
 
 /// An expression.

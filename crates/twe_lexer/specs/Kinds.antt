@@ -1,5 +1,6 @@
 -- What a lexeme is as a token.
 use Rattle.std.specs.Prelude.{ℕ, ◌+◌, ◌-◌, ◌*◌, min, List, Option, None, Some, fold, if◌then◌else◌}
+use Rattle.twe_limits.specs.Language.{max_literal}
 use Rattle.twe_lexer.specs.declared.fixed.Fixed.{Fixed}
 use Rattle.twe_lexer.specs.declared.token.TokenKind.{TokenKind}
 use Rattle.twe_lexer.specs.declared.token.TokenKind.TheVariants as kinds
@@ -16,9 +17,13 @@ abbrev pub kind_unless : Option Fixed → List ℕ → TokenKind
 kind_unless (Some f) bytes = kinds.Fixed f
 kind_unless None bytes = if is_word bytes then kinds.Name bytes else kinds.Stray
 
--- A literal has its value; those above 2147483648 are too large for every use, and are not told apart.
+-- the value that stands for every number that is too large in every position
+abbrev pub too_large : ℕ
+too_large = max_literal + 2
+
+-- A literal has its value. All numbers above `max_literal + 1` have the same one.
 abbrev pub kind_of : List ℕ → TokenKind
-kind_of bytes = if is_number bytes then kinds.Literal (min (number_of bytes) 2147483649) else kind_unless (spelled bytes) bytes
+kind_of bytes = if is_number bytes then kinds.Literal (min (number_of bytes) too_large) else kind_unless (spelled bytes) bytes
 
 -- the token that a lexeme is, if it is one
 abbrev pub token_kind : List ℕ → Option TokenKind

@@ -1,15 +1,17 @@
 //! The values of integer literals.
 ghost use Rattle.std.specs.Prelude.{◌≡◌, IsTrue, min};
 ghost use Rattle.twe_lexer.specs.Lexeme.{is_number};
-ghost use Rattle.twe_lexer.specs.Kinds.{number_of};
+ghost use Rattle.twe_lexer.specs.Kinds.{number_of, too_large};
 
-/// What stands for every value above 2147483648.
-const TOO_LARGE: u32 = 2_147_483_649;
+use twe_limits::MAX_LITERAL;
 
-/// The number that the digits write, or 2147483649 where it is greater.
+/// The value that stands for every number that is too large in every position.
+const TOO_LARGE: u32 = MAX_LITERAL + 2;
+
+/// The number that the digits write, or `TOO_LARGE` if it is greater.
 pub(crate) fn literal_value(digits: &[u8]) -> u32
     requires { IsTrue (is_number digits.now) }
-    ensures { result ≡ min (number_of digits.now) 2147483649 }
+    ensures { result ≡ min (number_of digits.now) too_large }
 {
     let mut value: u32 = 0;
     for digit in digits {

@@ -23,11 +23,11 @@ pub struct Token {
 pub enum TokenKind {
     /// A name: a letter or `_`, then letters, digits and `_`, and no keyword.
     Name(Word),
-    /// An integer literal: its value, or 2147483649 where it is above 2147483648.
+    /// An integer literal: its value, or 2147483649 if it is above 2147483648.
     Literal(u32),
     /// A keyword or a symbol.
     Fixed(Fixed),
-    /// A byte, or two, that have no place in a program.
+    /// One byte that begins no token of the language.
     Stray,
 }
 

@@ -5,6 +5,10 @@ use Rattle.std.specs.Prelude.{ℕ}
 abbrev pub max_text_bytes : ℕ
 max_text_bytes = 1048576
 
+-- of an integer literal; the number after it may stand only directly after a unary minus
+abbrev pub max_literal : ℕ
+max_literal = 2147483647
+
 -- of brackets that are open at once
 abbrev pub max_open_brackets : ℕ
 max_open_brackets = 200

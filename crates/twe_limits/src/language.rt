@@ -3,6 +3,9 @@
 /// The largest size of a program text, in bytes.
 pub const MAX_TEXT_BYTES: usize = 1_048_576;
 
+/// The largest integer literal. The number after it may stand only directly after a unary minus.
+pub const MAX_LITERAL: u32 = 2_147_483_647;
+
 /// The largest number of brackets of all kinds that are open at once.
 pub const MAX_OPEN_BRACKETS: usize = 200;
 

@@ -14,7 +14,8 @@ use Rattle.twe_parser.specs.declared.symbol.Symbol.{Symbol}
 use Rattle.twe_parser.specs.declared.symbol.Symbol.TheVariants as symbols
 use Rattle.twe_parser.specs.declared.symbol.Symbol.TheVariants.{Rule, Do}
 use Rattle.twe_parser.specs.declared.work.Work.{Work}
-use Rattle.twe_parser.specs.Levels.{operator, level_of}
+use Rattle.twe_ast.specs.Precedence.{level_of}
+use Rattle.twe_parser.specs.OperatorTokens.{operator}
 use Rattle.twe_parser.specs.Values.{value_of}
 use Rattle.twe_parser.specs.Written.{word, named}
 use Rattle.twe_parser.specs.WritesExpression.{is_smallest, WritesExpression, written, WritesShape, binary, negative, smallest, negation, literal, yes, no, variable, call, array, grid, parentheses, WritesArguments, no_arguments, arguments, MoreArguments, no_more_arguments, more_arguments}

@@ -21,7 +21,7 @@ use Rattle.twe_parser.specs.inner.Acts.{acted}
 use Rattle.twe_parser.specs.inner.Fine.{calm, is_last, need, fine}
 use Rattle.twe_parser.specs.inner.Machine.{Machine, expected, by_row, after}
 use Rattle.twe_parser.specs.inner.Operators.{operator_of}
-use Rattle.twe_parser.specs.Levels.{level_of}
+use Rattle.twe_ast.specs.Precedence.{level_of}
 use Rattle.twe_parser.specs.inner.Rows.{row_of, otherwise, climb_from, items_row, more_regions_row, after_int_row, after_length_row, cell_path_row, cell_rest_row, cell_elem_row, initial_row, task_returns_row, params_row, more_params_row, effects_row, path_row, path_rest_row, elem_row, index_row, statements_row, local_type_row, int_value_row, after_value_name_row, after_name_row, after_index_row, awaited_row, awaited_value_row, make_row, after_arm_row, else_body_row, return_value_row, args_row, more_args_row, unary_row, after_minus_row, suffix_row, second_index_row}
 use Rattle.twe_parser.specs.inner.Terminals.{terminal_of, meets}
 use Rattle.twe_parser.proofs.Steps.{operator_row}

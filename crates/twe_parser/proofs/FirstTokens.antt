@@ -14,7 +14,7 @@ use Rattle.twe_parser.specs.declared.symbol.Symbol.TheVariants as symbols
 use Rattle.twe_parser.specs.declared.symbol.Terminal.{Terminal}
 use Rattle.twe_parser.specs.declared.symbol.Terminal.TheVariants as next
 use Rattle.twe_ast.specs.declared.stmt.LocalType.TheVariants as locals
-use Rattle.twe_parser.specs.Levels.{operator}
+use Rattle.twe_parser.specs.OperatorTokens.{operator}
 use Rattle.twe_parser.specs.WritesExpression.{WritesExpression, written, WritesShape, binary, negative, smallest, negation, literal, yes, no, variable, call, array, grid, parentheses}
 use Rattle.twe_parser.specs.inner.Rows.{followed, unary_row, args_row, return_value_row, int_value_row}
 use Rattle.twe_io.specs.Stacks.{below}

@@ -16,7 +16,8 @@ use Rattle.twe_parser.specs.declared.symbol.ExprAct.TheVariants as exprs
 use Rattle.twe_parser.specs.declared.symbol.Part.TheVariants as parts
 use Rattle.twe_parser.specs.declared.symbol.Symbol.{Symbol}
 use Rattle.twe_parser.specs.declared.symbol.Symbol.TheVariants.{Rule, Do}
-use Rattle.twe_parser.specs.Levels.{operator, level_of}
+use Rattle.twe_ast.specs.Precedence.{level_of}
+use Rattle.twe_parser.specs.OperatorTokens.{operator}
 use Rattle.twe_parser.specs.Written.{word, number}
 use Rattle.twe_parser.specs.WritesExpression.{is_smallest, WritesExpression, written, binary, negative, smallest, negation, literal, yes, no, variable, call, array, grid, parentheses, no_arguments, arguments, no_more_arguments, more_arguments}
 use Rattle.twe_parser.specs.inner.Operators.{operator_of}

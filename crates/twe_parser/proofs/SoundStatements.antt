@@ -15,7 +15,8 @@ use Rattle.twe_parser.specs.declared.symbol.Part.TheVariants as parts
 use Rattle.twe_parser.specs.declared.symbol.StmtAct.TheVariants as stmts
 use Rattle.twe_parser.specs.declared.symbol.Symbol.TheVariants as symbols
 use Rattle.twe_parser.specs.declared.symbol.Symbol.TheVariants.{Rule, Do}
-use Rattle.twe_parser.specs.Levels.{operator, level_of}
+use Rattle.twe_ast.specs.Precedence.{level_of}
+use Rattle.twe_parser.specs.OperatorTokens.{operator}
 use Rattle.twe_parser.specs.Written.{word, named}
 use Rattle.twe_parser.specs.WritesExpression.{written, variable, call as call_shape}
 use Rattle.twe_parser.specs.WritesStatement.{wait, block, let_local, let_final, set, set_array, set_grid, if_arms, while, return_nothing, return_value, print, call, make, wait_for, let_wait, final_wait, closed, one_more, if_arm, else_block, else_if}

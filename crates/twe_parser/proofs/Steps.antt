@@ -17,7 +17,8 @@ use Rattle.twe_parser.specs.declared.symbol.Symbol.TheVariants.{Rule, Do}
 use Rattle.twe_parser.specs.declared.symbol.Terminal.{Terminal}
 use Rattle.twe_parser.specs.declared.symbol.Terminal.TheVariants as next
 use Rattle.twe_parser.specs.declared.work.Work.{Work}
-use Rattle.twe_parser.specs.Levels.{operator, level_of}
+use Rattle.twe_ast.specs.Precedence.{level_of}
+use Rattle.twe_parser.specs.OperatorTokens.{operator}
 use Rattle.twe_parser.specs.Written.{word}
 use Rattle.twe_parser.specs.inner.Acts.{acted}
 use Rattle.twe_parser.specs.inner.Machine.{Machine, by_row, after, result_from}

@@ -1,6 +1,6 @@
 pub mod Fails
-pub mod Levels
 pub mod Limits
+pub mod OperatorTokens
 pub mod Values
 pub mod Viable
 pub mod Writes

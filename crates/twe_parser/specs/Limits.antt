@@ -1,6 +1,7 @@
 -- The limits on the tokens of a text: how large a literal may be, how many brackets may be open, and how many operators
 -- a statement may have.
 use Rattle.std.specs.Prelude.{◌+◌, ◌-◌, Bool, true, false, ◌&&◌, ◌||◌, not, List, fold, ◌==◌, nat_le, nat_lt, if◌then◌else◌}
+use Rattle.twe_limits.specs.Language.{max_literal, max_open_brackets, max_operators}
 use Rattle.twe_lexer.specs.declared.fixed.Fixed.TheVariants as fixed
 use Rattle.twe_lexer.specs.declared.token.Token.{Token}
 use Rattle.twe_lexer.specs.declared.token.TokenKind.{TokenKind}
@@ -75,11 +76,11 @@ at_start = record { open_brackets = 0; operators = 0; operand_ended = false; una
 abbrev pub sofar_of : List Token → Sofar
 sofar_of tokens = fold (λ sofar token. sofar_after sofar token.kind) at_start tokens
 
--- a literal above 2147483647 that is not 2147483648 directly after a unary minus
+-- a literal above the largest one, unless it is the number after that directly after a unary minus
 abbrev pub is_too_large : Sofar → TokenKind → Bool
-is_too_large sofar (kinds.Literal value) = nat_lt 2147483647 value && not ((value == 2147483648) && sofar.unary_minus)
+is_too_large sofar (kinds.Literal value) = nat_lt max_literal value && not ((value == max_literal + 1) && sofar.unary_minus)
 is_too_large sofar _ = false
 
--- a bracket that opens while 200 are open, or the 201st operator of a statement
+-- a bracket that opens while the largest number are open, or one operator more than a statement may have
 abbrev pub is_too_deep : Sofar → TokenKind → Bool
-is_too_deep sofar kind = (opens kind && nat_le 200 sofar.open_brackets) || (is_operator kind && nat_lt 0 sofar.open_brackets && nat_le 200 sofar.operators)
+is_too_deep sofar kind = (opens kind && nat_le max_open_brackets sofar.open_brackets) || (is_operator kind && nat_lt 0 sofar.open_brackets && nat_le max_operators sofar.operators)

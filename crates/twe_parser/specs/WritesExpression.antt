@@ -5,6 +5,7 @@
 -- level n. So the left operand of an operator of level n stands at level n and the right one at the next, which makes
 -- operators of one level associate to the left.
 use Rattle.std.specs.Prelude.{◌≡◌, ℕ, ◌+◌, ◌≤◌, negsuc, Bool, true, false, List, ◌∷◌, ◌==◌}
+use Rattle.twe_limits.specs.Language.{max_literal}
 use Rattle.twe_io.specs.declared.place.Place.{Place}
 use Rattle.twe_ast.specs.declared.expr.BinOp.{BinOp}
 use Rattle.twe_ast.specs.declared.name.Name.{Name}
@@ -13,13 +14,14 @@ use Rattle.twe_lexer.specs.declared.fixed.Fixed.TheVariants as fixed
 use Rattle.twe_lexer.specs.declared.token.Token.{Token}
 use Rattle.twe_lexer.specs.declared.token.TokenKind.{TokenKind}
 use Rattle.twe_lexer.specs.declared.token.TokenKind.TheVariants as kinds
-use Rattle.twe_parser.specs.Levels.{operator, level_of}
+use Rattle.twe_ast.specs.Precedence.{level_of}
+use Rattle.twe_parser.specs.OperatorTokens.{operator}
 use Rattle.twe_parser.specs.Values.{value_of}
 use Rattle.twe_parser.specs.Written.{word, named, number}
 
--- the literal 2147483648, which after `-` is a part of one literal
+-- the number after the largest literal, which after `-` is a part of one literal
 abbrev pub is_smallest : TokenKind → Bool
-is_smallest (kinds.Literal value) = value == 2147483648
+is_smallest (kinds.Literal value) = value == max_literal + 1
 is_smallest _ = false
 
 mutual
@@ -33,11 +35,11 @@ mutual
     binary : {level : ℕ} {op : BinOp} {place : Place} {left right : Expression} {tokens others rest : List Token} → level ≤ level_of op
         → WritesExpression (level_of op) left tokens (word (operator op) place ∷ others) → WritesExpression (level_of op + 1) right others rest
         → WritesShape level (Binary op left right place) tokens rest
-    -- "-" Unary, and "-" int-literal where the literal is 2147483648
+    -- "-" Unary, and "-" int-literal if the literal is the number after the largest one
     negative : {level : ℕ} {place : Place} {operand : Expression} {first : Token} {others rest : List Token} → is_smallest first.kind ≡ false
         → WritesExpression 6 operand (first ∷ others) rest → WritesShape level (Negative operand) (word fixed.Minus place ∷ first ∷ others) rest
     smallest : {level : ℕ} {place inside : Place} {rest : List Token}
-        → WritesShape level (Literal (negsuc 2147483647)) (word fixed.Minus place ∷ number 2147483648 inside ∷ rest) rest
+        → WritesShape level (Literal (negsuc max_literal)) (word fixed.Minus place ∷ number (max_literal + 1) inside ∷ rest) rest
     -- "!" Unary
     negation : {level : ℕ} {place : Place} {operand : Expression} {others rest : List Token}
         → WritesExpression 6 operand others rest → WritesShape level (Negation operand) (word fixed.Not place ∷ others) rest

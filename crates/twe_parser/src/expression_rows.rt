@@ -3,7 +3,7 @@ ghost use Rattle.std.specs.Prelude.{◌≡◌, IfOk};
 ghost use Rattle.twe_parser.specs.inner.Rows.{after_minus_row, args_row, climb_row, more_args_row, second_index_row, suffix_row, unary_row, followed};
 ghost use Rattle.twe_parser.specs.inner.Operators.{operator_of};
 
-use crate::operator::{level_of, operator_of};
+use crate::operator::operator_of;
 use crate::row::{Row, marked, operand_then, plain};
 use crate::symbol::Act::Expr;
 use crate::symbol::Symbol::{Do, Rule, Token};
@@ -128,11 +128,11 @@ pub(crate) fn climb(alloc: Global, level: u8, next: Terminal) -> Result<Option<R
     ensures { IfOk result (λ row. row ≡ climb_row level next) }
 {
     match operator_of(next) {
-        Some(op) if level <= level_of(op) => marked(
+        Some(op) if level <= op.level() => marked(
             alloc,
             &[
                 Rule(Part::Unary),
-                Rule(Part::Climb(level_of(op) + 1)),
+                Rule(Part::Climb(op.level() + 1)),
                 Do(Expr(ExprAct::Binary(op))),
                 Rule(Part::Climb(level)),
             ],

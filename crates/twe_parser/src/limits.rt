@@ -1,8 +1,10 @@
 //! The limits on the tokens of a text.
 ghost use Rattle.std.specs.Prelude.{◌≡◌, ◌≤◌, false};
+ghost use Rattle.twe_limits.specs.Language.{max_open_brackets, max_operators};
 ghost use Rattle.twe_parser.specs.Limits.{opens, closes, is_operator, ends_statement, ends_operand, is_minus, sofar_after, at_start, is_too_large, is_too_deep};
 
 use twe_lexer::{Fixed, TokenKind};
+use twe_limits::{MAX_LITERAL, MAX_OPEN_BRACKETS, MAX_OPERATORS};
 
 /// What the limits need to know of the tokens so far.
 #[derive(Clone, Copy, Debug, PartialEq, Eq)]
@@ -113,7 +115,7 @@ impl Sofar {
     {
         match kind {
             TokenKind::Literal(value) => {
-                *value > 2_147_483_647 && !(*value == 2_147_483_648 && self.unary_minus)
+                *value > MAX_LITERAL && !(*value == MAX_LITERAL + 1 && self.unary_minus)
             }
             _ => false,
         }
@@ -123,13 +125,15 @@ impl Sofar {
     pub(crate) fn is_too_deep(self, kind: &TokenKind) -> bool
         ensures { result ≡ is_too_deep self kind.now }
     {
-        (opens(kind) && self.open_brackets >= 200)
-            || (is_operator(kind) && self.open_brackets > 0 && self.operators >= 200)
+        (opens(kind) && self.open_brackets >= MAX_OPEN_BRACKETS as u32)
+            || (is_operator(kind)
+                && self.open_brackets > 0
+                && self.operators >= MAX_OPERATORS as u32)
     }
 
     /// How many brackets are open after the token.
     fn brackets_after(self, kind: &TokenKind) -> u32
-        requires { self.open_brackets ≤ 200 }
+        requires { self.open_brackets ≤ max_open_brackets }
         ensures { result ≡ (sofar_after self kind.now).open_brackets }
     {
         if opens(kind) {
@@ -143,7 +147,7 @@ impl Sofar {
 
     /// How many operators the statement has after the token.
     fn operators_after(self, kind: &TokenKind) -> u32
-        requires { self.operators ≤ 200 }
+        requires { self.operators ≤ max_operators }
         ensures { result ≡ (sofar_after self kind.now).operators }
     {
         if ends_statement(kind) {
@@ -157,8 +161,8 @@ impl Sofar {
 
     /// After one more token, which is not too deep.
     pub(crate) fn after(self, kind: &TokenKind) -> Self
-        requires brackets { self.open_brackets ≤ 200 }
-        requires operators { self.operators ≤ 200 }
+        requires brackets { self.open_brackets ≤ max_open_brackets }
+        requires operators { self.operators ≤ max_operators }
         ensures { result ≡ sofar_after self kind.now }
     {
         Sofar {

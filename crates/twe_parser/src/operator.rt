@@ -1,26 +1,10 @@
-//! Operators with two operands, and how tightly they bind.
-ghost use Rattle.std.specs.Prelude.{◌≡◌, ◌≤◌};
-ghost use Rattle.twe_parser.specs.Levels.{level_of};
+//! Operators with two operands, by their tokens.
+ghost use Rattle.std.specs.Prelude.{◌≡◌};
 ghost use Rattle.twe_parser.specs.inner.Operators.{operator_of};
 
 use crate::symbol::Terminal;
 use twe_ast::BinOp;
 use twe_lexer::Fixed;
-
-/// How tightly an operator binds: from 0 for `||` to 5 for `*`.
-pub(crate) fn level_of(op: BinOp) -> u8
-    ensures level { result ≡ level_of op }
-    ensures small { result ≤ 5 }
-{
-    match op {
-        BinOp::Or => 0,
-        BinOp::And => 1,
-        BinOp::Equal | BinOp::NotEqual => 2,
-        BinOp::Less | BinOp::LessEqual | BinOp::Greater | BinOp::GreaterEqual => 3,
-        BinOp::Add | BinOp::Sub => 4,
-        BinOp::Mul | BinOp::Div | BinOp::Rem => 5,
-    }
-}
 
 /// The operator that a token is between two operands, if it is one.
 pub(crate) fn operator_of(next: Terminal) -> Option<BinOp>

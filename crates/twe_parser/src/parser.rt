@@ -43,6 +43,7 @@ pub(crate) struct Parser {
 
 impl Parser {
     ghost use Rattle.std.specs.Prelude.{◌≡◌, ◌≤◌, IfOk, IfErr};
+    ghost use Rattle.twe_limits.specs.Language.{max_open_brackets, max_operators};
     ghost use Rattle.twe_parser.specs.inner.Machine.{start};
     ghost use Rattle.twe_parser.specs.inner.Taking.{Takes, RefusesToken};
     ghost use Rattle.twe_parser.specs.Limits.{at_start};
@@ -65,8 +66,8 @@ impl Parser {
         kind: TokenKind,
         place: Place,
     ) -> Result<(), ParseFail>
-        requires brackets { self.old.sofar.open_brackets ≤ 200 }
-        requires operators { self.old.sofar.operators ≤ 200 }
+        requires brackets { self.old.sofar.open_brackets ≤ max_open_brackets }
+        requires operators { self.old.sofar.operators ≤ max_operators }
         ensures taken { IfOk result (λ _. Takes (record { kind = kind; place = place }) self.old self.new) }
         ensures refused { IfErr result (λ fail. RefusesToken fail (record { kind = kind; place = place }) self.old) }
     {

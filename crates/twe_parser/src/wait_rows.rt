@@ -8,7 +8,7 @@ ghost use Rattle.twe_parser.specs.declared.symbol.Symbol.TheVariants as symbols;
 ghost use Rattle.twe_parser.specs.inner.Rows.{after_value_name_row, awaited_row, awaited_value_row, make_row, operator_after_name_row};
 ghost use Rattle.twe_parser.specs.inner.Operators.{operator_of};
 
-use crate::operator::{level_of, operator_of};
+use crate::operator::operator_of;
 use crate::row::{Row, marked, operand_then, plain};
 use crate::symbol::Act::{Expr, Stmt};
 use crate::symbol::Symbol::{Do, Rule, Token};
@@ -65,7 +65,7 @@ fn operator_after_name(alloc: Global, next: Terminal, take: Symbol) -> Result<Op
             &[
                 Do(Expr(ExprAct::Variable)),
                 Rule(Part::Unary),
-                Rule(Part::Climb(level_of(op) + 1)),
+                Rule(Part::Climb(op.level() + 1)),
                 Do(Expr(ExprAct::Binary(op))),
                 Rule(Part::Climb(0)),
                 Token(Fixed::Semicolon),

@@ -1,5 +1,6 @@
 -- The making of expressions.
-use Rattle.std.specs.Prelude.{ℕ, negsuc, [], ◌∷◌, ◌++◌, ◌==◌, if◌then◌else◌}
+use Rattle.std.specs.Prelude.{ℕ, ◌+◌, negsuc, [], ◌∷◌, ◌++◌, ◌==◌, if◌then◌else◌}
+use Rattle.twe_limits.specs.Language.{max_literal}
 use Rattle.twe_io.specs.declared.place.Place.{Place}
 use Rattle.twe_ast.specs.Expression.{Expression, expression, Shape, Literal, Truth, Variable, ArrayElement, GridElement, CallValue, Negative, Negation, Binary}
 use Rattle.twe_ast.specs.inner.ExpressionView.{arguments_of}
@@ -18,7 +19,7 @@ moved place (expression old shape) = expression place shape
 
 -- `-` and then a literal that stands here
 abbrev pub after_minus : Place → ℕ → Shape
-after_minus place n = if n == 2147483648 then Literal (negsuc 2147483647) else Negative (expression place (Literal (value_of n)))
+after_minus place n = if n == max_literal + 1 then Literal (negsuc max_literal) else Negative (expression place (Literal (value_of n)))
 
 abbrev pub act_expr : ExprAct → Work → Work
 act_expr acts.Literal w = record w {

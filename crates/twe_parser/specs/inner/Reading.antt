@@ -1,6 +1,7 @@
 -- What the parser knows of the part of a text that it has read.
 use Rattle.std.specs.Prelude.{◌≡◌, ℕ, ◌≤◌, true, false, List, [], ◌∷◌, ◌++◌, Some, None}
 use Rattle.std.specs.List.{AllByRecursion, list_all}
+use Rattle.twe_limits.specs.Language.{max_open_brackets, max_operators}
 use Rattle.twe_io.specs.declared.place.Place.{Place}
 use Rattle.twe_ast.specs.declared.item.Ast.{Ast}
 use Rattle.twe_lexer.specs.declared.token.Token.{Token}
@@ -37,8 +38,8 @@ pub record HasRead (text : List ℕ) (place : Place) (rest : List ℕ) (parser :
   pub closed : AllByRecursion (λ lexeme. ¬ IsUnclosedComment lexeme) lexemes
   pub taken : HasTaken (tokens_from [] lexemes) parser.machine.todo parser.machine.work
   pub limits : parser.sofar ≡ sofar_of (tokens_from [] lexemes)
-  pub brackets : parser.sofar.open_brackets ≤ 200
-  pub operators : parser.sofar.operators ≤ 200
+  pub brackets : parser.sofar.open_brackets ≤ max_open_brackets
+  pub operators : parser.sofar.operators ≤ max_operators
   pub passes : (before : List Token) (token : Token) (others : List Token) → tokens_from [] lexemes ≡ before ++ token ∷ others
       → (is_too_large (sofar_of before) token.kind ≡ false) × (is_too_deep (sofar_of before) token.kind ≡ false)
 

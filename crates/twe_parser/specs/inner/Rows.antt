@@ -20,7 +20,7 @@ use Rattle.twe_parser.specs.declared.symbol.Symbol.TheVariants.{Name, Literal, T
 use Rattle.twe_parser.specs.declared.symbol.Terminal.{Terminal}
 use Rattle.twe_parser.specs.declared.symbol.Terminal.TheVariants as next
 use Rattle.twe_parser.specs.inner.Operators.{operator_of}
-use Rattle.twe_parser.specs.Levels.{level_of}
+use Rattle.twe_ast.specs.Precedence.{level_of}
 
 -- a row, with more to do after it
 abbrev pub followed : Option Row → List Symbol → Option Row

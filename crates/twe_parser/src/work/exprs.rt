@@ -12,6 +12,7 @@ use crate::work::{Work, nameless, nothing, nowhere};
 use std::alloc::Global;
 use twe_ast::{Args, BinOp, Expr, ExprKind};
 use twe_io::{List, Memory, Place};
+use twe_limits::MAX_LITERAL;
 
 /// The value of a literal that stands alone; -2147483648 for one that is too large.
 pub(crate) fn value_of(number: u32) -> i32
@@ -24,7 +25,7 @@ pub(crate) fn value_of(number: u32) -> i32
 fn after_minus(alloc: Global, place: Place, number: u32) -> Result<ExprKind, Memory>
     ensures { IfOk result (λ kind. shape_of kind ≡ after_minus place number) }
 {
-    if number == 2_147_483_648 {
+    if number == MAX_LITERAL + 1 {
         return Ok(ExprKind::Lit(i32::MIN));
     }
     let literal = Expr {

@@ -16,12 +16,13 @@ use twe_ast::{
     PathElem, PathElemKind, ReturnType,
 };
 use twe_io::{List, Memory};
+use twe_limits::MAX_LITERAL;
 
 /// The value of a literal after `-`; -2147483648 for one that is too large.
 fn negative_of(number: u32) -> i32
     ensures { result ≡ negative_of number }
 {
-    if number > 2_147_483_647 {
+    if number > MAX_LITERAL {
         i32::MIN
     } else {
         -(number as i32)

@@ -4,7 +4,7 @@ use Rattle.twe_io.specs.declared.place.Place.{Place}
 use Rattle.twe_ast.specs.declared.expr.BinOp.{BinOp}
 use Rattle.twe_ast.specs.Expression.{Expression, Binary}
 use Rattle.twe_lexer.specs.declared.token.Token.{Token}
-use Rattle.twe_parser.specs.Levels.{level_of}
+use Rattle.twe_ast.specs.Precedence.{level_of}
 use Rattle.twe_parser.specs.WritesExpression.{WritesShape, binary, parentheses}
 use Rattle.ast_printer.specs.Enclosed.{BeginsEnclosed}
 use Rattle.ast_printer.specs.ExpressionWords.{needs_parentheses}
