@@ -20,12 +20,15 @@ use Rattle.twe_machine.specs.Legal.{MayTake}
 use Rattle.twe_machine.specs.Moves.{admitted, moved, new_row, ran, start_of, taken}
 use Rattle.twe_machine.specs.Rows.{HasStatus, IsRow}
 use Rattle.twe_machine.specs.Runs.{AlwaysIsolated, IsReached, Legal, LegalFrom, replayed, state_after}
-use Rattle.twe_machine.proofs.ReachedStands.{start_stands, taken_stands}
+use Rattle.twe_machine.proofs.ReachedStands.{reached_stands, start_stands, taken_stands}
 use Rattle.twe_machine.proofs.Standing.{Stands}
-use Rattle.isolation_laws.specs.Within.{SpawnedWithin}
+use Rattle.isolation_laws.specs.Rows.{ChildrenApart}
+use Rattle.isolation_laws.specs.Within.{AlwaysWithin, SpawnedWithin}
 use Rattle.isolation_laws.proofs.Admissions.{admission_kept}
 use Rattle.isolation_laws.proofs.Frames.{OnPath}
+use Rattle.isolation_laws.proofs.Gets.{one_there}
 use Rattle.isolation_laws.proofs.Known.{Kept}
+use Rattle.isolation_laws.proofs.Linking.{spawned_row}
 use Rattle.isolation_laws.proofs.MakersPaths.{on_path_entry}
 use Rattle.isolation_laws.proofs.Segments.{segment_kept}
 
@@ -96,12 +99,30 @@ module _ (p : Program) (wf : IsWellFormed p) (keeps : KeepsEffects p) (lim : Bou
     isolated = λ s t differ may_s may_t i. absurd (not_enabled s may_s);
   }
 
+  -- in each state that a beginning of a legal journal leads to
+  beginning_kept : (journal : List Entry) → Legal p lim journal → (n : ℕ) → Kept p (state_after p lim (take n journal))
+  beginning_kept journal legal n = prefix_kept journal n (start_of p lim) legal (start_stands p lim wf) start_kept
+
   pub runs_isolated : (journal : List Entry) → Legal p lim journal → AlwaysIsolated p lim journal
-  runs_isolated journal legal n within = (prefix_kept journal n (start_of p lim) legal (start_stands p lim wf) start_kept).isolated
+  runs_isolated journal legal n within = (beginning_kept journal legal n).isolated
+
+  pub runs_within : (journal : List Entry) → Legal p lim journal → AlwaysWithin p lim journal
+  runs_within journal legal n within = (beginning_kept journal legal n).within
 
   pub reached_kept : (st : State) → IsReached p lim st → Kept p st
   reached_kept st reached =
       subst (Kept p) (sym reached.same) (whole_kept reached.journal (start_of p lim) reached.legal (start_stands p lim wf) start_kept)
 
-  pub runs_within : (journal : List Entry) → Legal p lim journal → SpawnedWithin (state_after p lim journal)
-  runs_within journal legal = (reached_kept (state_after p lim journal) (record { journal = journal; legal = legal; same = refl })).within
+  pub reached_within : (st : State) → IsReached p lim st → SpawnedWithin st
+  reached_within st reached = (reached_kept st reached).within
+
+  pub children_apart : (st : State) → IsReached p lim st → ChildrenApart st
+  children_apart st reached c d t a b differ is_a is_b of_a of_b =
+      let agree = (reached_stands p lim st wf reached).links in
+      let first = spawned_row st agree c t of_a in
+      let second = spawned_row st agree d t of_b in
+      let same : first.0 ≡ a = one_there st.tasks c first.0 a first.1 is_a in
+      let other : second.0 ≡ b = one_there st.tasks d second.0 b second.1 is_b in
+      (reached_kept st reached).siblings c d t a b differ is_a is_b
+      (sym (ap (λ (r : TaskRow). r.parent) same) ∙ first.2) (sym (ap (λ (r : TaskRow). r.parent) other) ∙ second.2)
+      (sym (ap (λ (r : TaskRow). r.joined) same) ∙ first.3) (sym (ap (λ (r : TaskRow). r.joined) other) ∙ second.3)

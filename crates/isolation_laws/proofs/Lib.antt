@@ -37,4 +37,5 @@ pub mod Expressions
 pub mod Statements
 pub mod Remainders
 pub mod Sheltered
+pub mod Covered
 pub mod Movers

@@ -1,2 +1,4 @@
 pub mod Conflicts
+pub mod CoveredNow
+pub mod Rows
 pub mod Within

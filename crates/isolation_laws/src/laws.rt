@@ -1,4 +1,7 @@
-//! Laws: how the tasks of an accepted program stand to one another in each state of a run.
+//! Laws: how the tasks of a program that keeps the rules on effects relate to one another in each state of a run.
+//!
+//! A reached state is one that a legal journal leads to. Each beginning of a legal journal is legal too, so what holds in
+//! every reached state holds at every moment of every run.
 ghost use Rattle.std.specs.Prelude.{List};
 ghost use Rattle.seg_journal.specs.declared.journal.Entry.{Entry};
 ghost use Rattle.twe_limits.specs.Limits.{Bounds};
@@ -6,25 +9,42 @@ ghost use Rattle.twe_program.specs.Program.{Program};
 ghost use Rattle.twe_program.specs.WellFormed.{IsWellFormed};
 ghost use Rattle.soundness_laws.specs.KeepsEffects.{KeepsEffects};
 ghost use Rattle.twe_machine.specs.declared.state.State.{State};
-ghost use Rattle.twe_machine.specs.Runs.{AlwaysIsolated, IsReached, Legal, state_after};
-ghost use Rattle.isolation_laws.specs.Conflicts.{ChildrenAreSpared, MoversApart};
-ghost use Rattle.isolation_laws.specs.Within.{SpawnedWithin};
+ghost use Rattle.twe_machine.specs.Runs.{AlwaysIsolated, IsReached, Legal};
+ghost use Rattle.isolation_laws.specs.Conflicts.{AccessesAreCovered, MoversApart};
+ghost use Rattle.isolation_laws.specs.Rows.{ChildrenApart, RowsKeepToDeclarations};
+ghost use Rattle.isolation_laws.specs.Within.{AlwaysWithin, SpawnedWithin};
 
-/// In each state of a run of a program that fails no rule on effects, of two tasks that may run and interfere one yields
-/// to the other, and a spawned task's effects lie within those of the task that spawned it.
+/// After each beginning of a legal journal, of two enabled tasks that interfere one yields to the other, and a spawned
+/// task's effects lie within those of the task that spawned it.
 pub fn accepted_runs_are_isolated()
     ensures isolated { (p : Program) → IsWellFormed p → KeepsEffects p
         → (lim : Bounds) (journal : List Entry) → Legal p lim journal → AlwaysIsolated p lim journal }
     ensures within { (p : Program) → IsWellFormed p → KeepsEffects p
-        → (lim : Bounds) (journal : List Entry) → Legal p lim journal → SpawnedWithin (state_after p lim journal) }
+        → (lim : Bounds) (journal : List Entry) → Legal p lim journal → AlwaysWithin p lim journal }
 {}
 
-/// So, in each state that a run of such a program comes to, no access that a task makes while it may run interferes with
-/// an effect of a child that it has spawned and not joined and that is not done; and no accesses of two tasks that may
-/// both run conflict, whatever the cells have.
+/// In each reached state, each task runs its declaration with its arguments, and its effects are those of the
+/// declaration's summary, filled with these arguments.
+pub fn tasks_keep_to_their_declarations()
+    ensures { (p : Program) → IsWellFormed p → KeepsEffects p
+        → (lim : Bounds) (st : State) → IsReached p lim st → RowsKeepToDeclarations p st }
+{}
+
+/// In each reached state, a spawned task's effects lie within those of the task that spawned it, and the effects of two
+/// different unjoined children of one task do not interfere.
+pub fn children_stay_within_and_apart()
+    ensures within { (p : Program) → IsWellFormed p → KeepsEffects p
+        → (lim : Bounds) (st : State) → IsReached p lim st → SpawnedWithin st }
+    ensures apart { (p : Program) → IsWellFormed p → KeepsEffects p
+        → (lim : Bounds) (st : State) → IsReached p lim st → ChildrenApart st }
+{}
+
+/// In each reached state, each access that a task makes in its next segment while it may run is covered for it, whatever
+/// values the cells have: it lies within one effect of the task, and interferes with no effect of an unjoined child but
+/// the one that this segment joins. So no accesses of two tasks that may both run conflict.
 pub fn tasks_that_may_run_do_not_conflict()
-    ensures children { (p : Program) → IsWellFormed p → KeepsEffects p
-        → (lim : Bounds) (st : State) → IsReached p lim st → ChildrenAreSpared p st }
+    ensures covered { (p : Program) → IsWellFormed p → KeepsEffects p
+        → (lim : Bounds) (st : State) → IsReached p lim st → AccessesAreCovered p st }
     ensures movers { (p : Program) → IsWellFormed p → KeepsEffects p
         → (lim : Bounds) (st : State) → IsReached p lim st → MoversApart p st }
 {}

@@ -1,9 +1,12 @@
 //! What makes runs safe: tasks of an accepted program that may run at the same time make no conflicting accesses.
 //!
-//! A run is any journal that the machine of `twe_machine` allows, and the rules on effects are `effect_check`'s. The laws
-//! here tie the two together.
+//! A run is any journal that the machine of `twe_machine` allows, and the rules on effects are those of `effect_check`.
+//! The laws here connect the two.
 #![tactic(auto)]
 
 mod laws;
 
-pub use laws::{accepted_runs_are_isolated, tasks_that_may_run_do_not_conflict};
+pub use laws::{
+    accepted_runs_are_isolated, children_stay_within_and_apart, tasks_keep_to_their_declarations,
+    tasks_that_may_run_do_not_conflict,
+};
