@@ -78,6 +78,6 @@ module _ (p : Program) (st : State) (kept : Kept p st) (t : ℕ) (row : TaskRow)
     paths = λ s b is some.
         let a = frame_before s b is in
         subst (λ (f : Frame). OnPath p new.tasks f) (sym a.2)
-        (on_path_later p st new a.0.frame continues (kept.paths s a.0 a.1 (λ none. some (ap (λ (f : Frame). f.calls) a.2 ∙ none))));
+        (on_path_later p st new a.0.frame continues (kept.paths s a.0 a.1 (λ none. some (ap (λ (f : Frame). f.body) a.2 ∙ none))));
     isolated = isolated_new;
   }

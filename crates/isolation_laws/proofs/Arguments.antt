@@ -1,14 +1,14 @@
 -- A task keeps its arguments while it takes the value that it waits for, and where its frame is cut off.
-use Rattle.std.proofs.Common.{◌≡◌, ℕ, ℤ, List, [], ◌∷◌, length, take, Option, None, Some, sym, ◌∙◌, subst}
+use Rattle.std.proofs.Common.{◌≡◌, ℕ, ℤ, List, length, take, Option, None, Some, sym, ◌∙◌, subst}
 use Rattle.std.specs.Prelude.{slice_get}
 use Rattle.std.proofs.lemmas.List.{take-set-le}
 use Rattle.twe_program.specs.Fitting.{TakesArguments}
 use Rattle.twe_program.specs.Program.{Program}
-use Rattle.seg_exec.specs.declared.frame.Call.{Call}
+use Rattle.seg_exec.specs.declared.frame.OpenBody.{OpenBody}
 use Rattle.seg_exec.specs.declared.frame.Frame.{Frame}
 use Rattle.seg_exec.specs.declared.frame.Next.{Next}
 use Rattle.seg_exec.specs.declared.frame.Next.TheVariants.{Go, Get, Join, Closing, Ended}
-use Rattle.seg_exec.specs.Giving.{calls_with, given, given_by, vars_with}
+use Rattle.seg_exec.specs.Giving.{body_with, given, given_by, vars_with}
 use Rattle.soundness_laws.specs.RunsWith.{BeginWith, IntoFrom, NextFrom, RunsWith}
 use Rattle.isolation_laws.proofs.Frames.{given_decl}
 
@@ -17,14 +17,14 @@ module _ (args : List ℤ) (value : ℤ) where
   vars_begin None vars after e = e
   vars_begin (Some var) vars after e = take-set-le (length args) vars var value after ∙ e
 
-  calls_begin : (into : Option ℕ) (calls : List Call) → IntoFrom (length args) into → BeginWith args calls → BeginWith args (calls_with into value calls)
-  calls_begin into [] after begins = tt
-  calls_begin into (call ∷ callers) after begins = vars_begin into call.vars after begins
+  body_begins : (into : Option ℕ) (body : Option OpenBody) → IntoFrom (length args) into → BeginWith args body → BeginWith args (body_with into value body)
+  body_begins into None after begins = tt
+  body_begins into (Some body) after begins = vars_begin into body.vars after begins
 
-  given_begins : (next : Next) (frame : Frame) → NextFrom (length args) next → BeginWith args frame.calls → BeginWith args (given_by next frame value).calls
+  given_begins : (next : Next) (frame : Frame) → NextFrom (length args) next → BeginWith args frame.body → BeginWith args (given_by next frame value).body
   given_begins Go frame after begins = begins
-  given_begins (Get on into) frame after begins = calls_begin into frame.calls after begins
-  given_begins (Join on into) frame after begins = calls_begin into frame.calls after begins
+  given_begins (Get on into) frame after begins = body_begins into frame.body after begins
+  given_begins (Join on into) frame after begins = body_begins into frame.body after begins
   given_begins (Closing on) frame after begins = begins
   given_begins Ended frame after begins = begins
 

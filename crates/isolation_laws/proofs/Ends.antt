@@ -1,5 +1,5 @@
 -- What is kept where a segment ends without making a task.
-use Rattle.std.proofs.Common.{◌≡◌, ℕ, ℤ, List, [], Option, None, Some, refl}
+use Rattle.std.proofs.Common.{◌≡◌, ℕ, ℤ, List, Option, None, Some, refl}
 use Rattle.twe_io.specs.declared.place.Place.{Place}
 use Rattle.twe_limits.specs.declared.fault.FaultKind.{FaultKind}
 use Rattle.twe_program.specs.Program.{Program}
@@ -42,7 +42,7 @@ module _ (p : Program) (st : State) (kept : Kept p st) (agree : LinksAgree st) (
     (done : (child : ℕ) → o ≡ Some child → IsDone st.links child) (t : ℕ) (row : TaskRow) (is_t : IsRow st t row) (nobody : WaitsForNobody st.links t)
     (frame : Frame) (runs : RunsWith p row.args frame) where
   -- the task goes on
-  pub kept_going : ((new : State) → Continues st new → ¬ (frame.calls ≡ []) → OnPath p new.tasks frame) → Kept p (home (joined st o) t frame (going_row row frame))
+  pub kept_going : ((new : State) → Continues st new → ¬ (frame.body ≡ None) → OnPath p new.tasks frame) → Kept p (home (joined st o) t frame (going_row row frame))
   kept_going path =
       let new = going_row row frame in
       let became = going_became row frame in
@@ -51,7 +51,7 @@ module _ (p : Program) (st : State) (kept : Kept p st) (agree : LinksAgree st) (
       (isolated_home st o t row is_t agree childless done nobody frame new became (λ e. e) kept.isolated)
 
   -- it has met a fault
-  pub kept_faulted : frame.calls ≡ [] → (kind : FaultKind) (place : Place) → Kept p (faulted (joined st o) t row frame kind place)
+  pub kept_faulted : frame.body ≡ None → (kind : FaultKind) (place : Place) → Kept p (faulted (joined st o) t row frame kind place)
   kept_faulted none kind place =
       let new = faulted_row row frame in
       let became = faulted_became row frame in
@@ -70,7 +70,7 @@ module _ (p : Program) (st : State) (kept : Kept p st) (agree : LinksAgree st) (
       record { runs = k.runs; within = k.within; siblings = k.siblings; paths = k.paths; isolated = k.isolated }
 
   -- it is done
-  pub kept_finished : (value : ℤ) → frame.calls ≡ [] → awaited frame.next ≡ None
+  pub kept_finished : (value : ℤ) → frame.body ≡ None → awaited frame.next ≡ None
       → ((x : ℕ) → ¬ SpawnedBy (with_done (home (joined st o) t frame (done_row row frame value)).links t) x t)
       → Kept p (finished (joined st o) t row frame value)
   kept_finished value none no_wait alone =

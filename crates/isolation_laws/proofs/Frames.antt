@@ -1,5 +1,5 @@
 -- Frames on a control path of their body, and the children that are out after it.
-use Rattle.std.proofs.Common.{◌≡◌, ℕ, ℤ, true, IsTrue, List, [], ◌∷◌, Option, Some, refl}
+use Rattle.std.proofs.Common.{◌≡◌, ℕ, ℤ, true, IsTrue, List, Option, Some, refl, None}
 use Rattle.std.specs.Prelude.{slice_get}
 use Rattle.twe_io.specs.declared.place.Place.{Place}
 use Rattle.effect_sets.specs.declared.effects.Summary.{Summary}
@@ -7,13 +7,13 @@ use Rattle.twe_program.specs.Expression.{Arguments}
 use Rattle.twe_program.specs.Program.{Program}
 use Rattle.cover_flow.specs.ControlPath.{Path}
 use Rattle.cover_flow.specs.Out.{out_after}
-use Rattle.seg_exec.specs.declared.frame.Call.{Call}
+use Rattle.seg_exec.specs.declared.frame.OpenBody.{OpenBody}
 use Rattle.seg_exec.specs.declared.frame.Frame.{Frame}
 use Rattle.seg_exec.specs.declared.frame.Next.{Next}
 use Rattle.seg_exec.specs.declared.frame.Next.TheVariants.{Go, Get, Join, Closing, Ended}
 use Rattle.seg_exec.specs.Entry.{effects_at}
 use Rattle.seg_exec.specs.Meaning.{body_of}
-use Rattle.seg_exec.specs.Giving.{calls_with, given, given_by, without}
+use Rattle.seg_exec.specs.Giving.{body_with, given, given_by, without}
 use Rattle.effect_check.specs.Acts.{acts_in_all, make}
 use Rattle.effect_check.proofs.Members.{IsIn}
 use Rattle.segment_laws.specs.Left.{left_of}
@@ -57,7 +57,7 @@ pub record OnPath (p : Program) (rows : List TaskRow) (frame : Frame) : Type 0 w
 
 -- each frame that has something left of its body is on a path
 abbrev pub FramesOnPaths : Program → State → Type 0
-FramesOnPaths p st = (t : ℕ) (row : TaskRow) → IsRow st t row → ¬ (row.frame.calls ≡ []) → OnPath p st.tasks row.frame
+FramesOnPaths p st = (t : ℕ) (row : TaskRow) → IsRow st t row → ¬ (row.frame.body ≡ None) → OnPath p st.tasks row.frame
 
 -- What a frame is once it has taken the value.
 
@@ -92,17 +92,17 @@ module _ (frame : Frame) (value : ℤ) where
   pub given_decl : (given frame value).decl ≡ frame.decl
   given_decl = decl_by frame.next
 
-  no_calls : (into : Option ℕ) (calls : List Call) → calls ≡ [] → calls_with into value calls ≡ []
-  no_calls into [] e = refl
-  no_calls into (call ∷ callers) e = absurd (cc)
+  no_body : (into : Option ℕ) (body : Option OpenBody) → body ≡ None → body_with into value body ≡ None
+  no_body into None e = refl
+  no_body into (Some body) e = absurd (cc)
 
-  none_by : (next : Next) → frame.calls ≡ [] → (given_by next frame value).calls ≡ []
+  none_by : (next : Next) → frame.body ≡ None → (given_by next frame value).body ≡ None
   none_by Go e = e
-  none_by (Get on into) e = no_calls into frame.calls e
-  none_by (Join on into) e = no_calls into frame.calls e
+  none_by (Get on into) e = no_body into frame.body e
+  none_by (Join on into) e = no_body into frame.body e
   none_by (Closing on) e = e
   none_by Ended e = e
 
   -- where nothing of the body is left, nothing is left then
-  pub given_none : frame.calls ≡ [] → (given frame value).calls ≡ []
+  pub given_none : frame.body ≡ None → (given frame value).body ≡ None
   given_none e = none_by frame.next e

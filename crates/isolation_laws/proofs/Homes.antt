@@ -1,5 +1,5 @@
 -- What is kept of the tasks where a frame goes home and no task is made.
-use Rattle.std.proofs.Common.{◌≡◌, ℕ, ℤ, List, [], Option, inl, inr, sym, ap, ◌∙◌, subst}
+use Rattle.std.proofs.Common.{◌≡◌, ℕ, ℤ, List, Option, inl, inr, sym, ap, ◌∙◌, subst, None}
 use Rattle.effect_sets.specs.declared.effects.Summary.{Summary}
 use Rattle.twe_program.specs.Program.{Program}
 use Rattle.seg_exec.specs.declared.frame.Frame.{Frame}
@@ -39,18 +39,18 @@ module _ (p : Program) (st : State) (kept : Kept p st) (o : Option ℕ) (t : ℕ
 
 module _ (p : Program) (st : State) (kept : Kept p st) (o : Option ℕ) (t : ℕ) (row : TaskRow) (is_t : IsRow st t row) (frame : Frame) (new : TaskRow) (became : Became row new)
     (runs : RunsWith p new.args new.frame)
-    (path : ¬ (new.frame.calls ≡ []) → OnPath p (home (joined st o) t frame new).tasks new.frame) where
-  paths_home : (s : ℕ) (b : TaskRow) → IsRow (home (joined st o) t frame new) s b → ¬ (b.frame.calls ≡ []) → OnPath p (home (joined st o) t frame new).tasks b.frame
+    (path : ¬ (new.frame.body ≡ None) → OnPath p (home (joined st o) t frame new).tasks new.frame) where
+  paths_home : (s : ℕ) (b : TaskRow) → IsRow (home (joined st o) t frame new) s b → ¬ (b.frame.body ≡ None) → OnPath p (home (joined st o) t frame new).tasks b.frame
   paths_home s b is some =
       let after = home (joined st o) t frame new in
       elim (rows_home st o t row is_t frame new s b is) [
         | inl here ↦
-            subst (λ (r : TaskRow). OnPath p after.tasks r.frame) (sym here.1) (path (λ none. some (ap (λ (r : TaskRow). r.frame.calls) here.1 ∙ none)))
+            subst (λ (r : TaskRow). OnPath p after.tasks r.frame) (sym here.1) (path (λ none. some (ap (λ (r : TaskRow). r.frame.body) here.1 ∙ none)))
         | inr other ↦
             let same = other.1.2.frame in
             subst (λ (f : Frame). OnPath p after.tasks f) (sym same)
             (on_path_later p st after other.1.0.frame (continues_home st o t row is_t frame new became)
-            (kept.paths s other.1.0 other.1.1 (λ none. some (ap (λ (f : Frame). f.calls) same ∙ none))))
+            (kept.paths s other.1.0 other.1.1 (λ none. some (ap (λ (f : Frame). f.body) same ∙ none))))
       ]
 
   -- so all is kept, where the state is isolated

@@ -1,5 +1,5 @@
 -- Each frame is on its control path where a segment has made a task.
-use Rattle.std.proofs.Common.{◌≡◌, ℕ, ℤ, Bool, List, [], length, Option, Some, inl, inr, sym, ap, ◌∙◌, subst, arith}
+use Rattle.std.proofs.Common.{◌≡◌, ℕ, ℤ, Bool, List, [], length, Option, Some, inl, inr, sym, ap, ◌∙◌, subst, arith, None}
 use Rattle.std.specs.Prelude.{slice_get}
 use Rattle.twe_io.specs.declared.place.Place.{Place}
 use Rattle.twe_limits.specs.Limits.{Bounds}
@@ -99,7 +99,7 @@ module _ (p : Program) (keeps : KeepsEffects p) (lim : Bounds) (st : State) (sta
       subst (λ (f : Frame). OnPath p (with_row (mid st o t row frame) added).tasks (record f { task = number; fuel = lim.fuel })) (sym comes.child_is)
       (on_path_entry p (with_row (mid st o t row frame) added).tasks comes.task args number lim.fuel)
 
-  pub paths_made : (s : ℕ) (b : TaskRow) → IsRow (with_row (mid st o t row frame) added) s b → ¬ (b.frame.calls ≡ []) → OnPath p (with_row (mid st o t row frame) added).tasks b.frame
+  pub paths_made : (s : ℕ) (b : TaskRow) → IsRow (with_row (mid st o t row frame) added) s b → ¬ (b.frame.body ≡ None) → OnPath p (with_row (mid st o t row frame) added).tasks b.frame
   paths_made s b is some =
       let new = with_row (mid st o t row frame) added in
       elim (row_added (mid st o t row frame) added s b is) [
@@ -111,6 +111,6 @@ module _ (p : Program) (keeps : KeepsEffects p) (lim : Bounds) (st : State) (sta
               let same = other.1.2.frame in
               subst (λ (f : Frame). OnPath p new.tasks f) (sym same)
               (on_path_added p st (mid st o t row frame) added a.frame continues same_length (child_there p lim st stands s a other.1.1)
-              (kept.paths s a other.1.1 (λ none. some (ap (λ (f : Frame). f.calls) same ∙ none))))
+              (kept.paths s a other.1.1 (λ none. some (ap (λ (f : Frame). f.body) same ∙ none))))
         ]
       ]

@@ -7,7 +7,7 @@ use Rattle.twe_program.specs.Program.{Program}
 use Rattle.twe_program.specs.Statement.{Statement, Block, Let, Set, SetCell, SetArray, SetGrid, If, While, Return, Print, Call, Make, Wait, Statements, no_more, statement}
 use Rattle.twe_program.specs.WellFormed.{IsWellFormed}
 use Rattle.cover_flow.specs.Steps.{followed_by}
-use Rattle.seg_exec.specs.declared.frame.Call.{Call as OpenCall}
+use Rattle.seg_exec.specs.declared.frame.OpenBody.{OpenBody}
 use Rattle.seg_exec.specs.declared.frame.Frame.{Frame}
 use Rattle.seg_exec.specs.declared.frame.Position.{Position}
 use Rattle.seg_exec.specs.Meaning.{Below, body_of, done_within}
@@ -18,7 +18,7 @@ use Rattle.soundness_laws.specs.KeepsEffects.{KeepsEffects}
 use Rattle.soundness_laws.proofs.Expressions.{BelowKeeps}
 use Rattle.soundness_laws.proofs.Sound.{method_sound}
 use Rattle.soundness_laws.proofs.Statements.{within_keeps}
-use Rattle.segment_laws.specs.Left.{again, calls_left, left_in, left_of}
+use Rattle.segment_laws.specs.Left.{again, body_left, left_in, left_of}
 use Rattle.segment_laws.proofs.Leading.{BelowLeads, left_after}
 use Rattle.segment_laws.proofs.LeftLeading.{inside_leads, resumed_leads, within_leads}
 use Rattle.segment_laws.proofs.Quiet.{followed_assoc, followed_none}
@@ -93,15 +93,15 @@ module _ (p : Program) (wf : IsWellFormed p) (effects : KeepsEffects p) (es : Li
   accesses_by frame (fails kind place s) h = h
   accesses_by frame (stops operation positions s) h = h
 
-  flow_spares : (frame : Frame) (calls : List OpenCall) (cells : List ℤ) → (¬ (calls ≡ []) → IsFine p es decl (calls_left p frame.decl calls)) → FlowSpares p es (flow_of p frame calls cells)
-  flow_spares frame [] cells fine = tt
-  flow_spares frame (call ∷ callers) cells fine =
+  flow_spares : (frame : Frame) (body : Option OpenBody) (cells : List ℤ) → (¬ (body ≡ None) → IsFine p es decl (body_left p frame.decl body)) → FlowSpares p es (flow_of p frame body cells)
+  flow_spares frame None cells fine = tt
+  flow_spares frame (Some opened) cells fine =
       let body = body_of (slice_get p.tasks frame.decl) in
       let n = frame.fuel + 1 in
-      let some : ¬ (call ∷ callers ≡ []) = λ e. absurd (cc) in
-      let here : IsFine p es decl (followed_by (left_in body call.stack) no_more) = subst (IsFine p es decl) (sym (followed_none (left_in body call.stack))) (fine some) in
-      resumed_spares p wf effects (done_within p n) (within_keeps p wf (method_sound p wf effects) n) (within_leads p n) es decl (within_spares n) call.stack body (store_at frame call.vars cells) no_more here tt
+      let some : ¬ (Some opened ≡ None) = λ e. absurd (cc) in
+      let here : IsFine p es decl (followed_by (left_in body opened.open_blocks) no_more) = subst (IsFine p es decl) (sym (followed_none (left_in body opened.open_blocks))) (fine some) in
+      resumed_spares p wf effects (done_within p n) (within_keeps p wf (method_sound p wf effects) n) (within_leads p n) es decl (within_spares n) opened.open_blocks body (store_at frame opened.vars cells) no_more here tt
 
   -- a segment spares them, where what is left of its frame, if anything is, is fine
-  pub segment_spares : (frame : Frame) (cells : List ℤ) → (¬ (frame.calls ≡ []) → IsFine p es decl (left_of p frame)) → EachSpares p es (segment p frame cells).accesses
-  segment_spares frame cells fine = accesses_by frame (flow_of p frame frame.calls cells) (flow_spares frame frame.calls cells fine)
+  pub segment_spares : (frame : Frame) (cells : List ℤ) → (¬ (frame.body ≡ None) → IsFine p es decl (left_of p frame)) → EachSpares p es (segment p frame cells).accesses
+  segment_spares frame cells fine = accesses_by frame (flow_of p frame frame.body cells) (flow_spares frame frame.body cells fine)

@@ -1,5 +1,5 @@
 -- All is kept where a task that may run has run one segment.
-use Rattle.std.proofs.Common.{◌≡◌, ◌<◌, ◌+◌, ℕ, ℤ, Bool, true, false, List, [], length, Option, None, Some, inl, inr, nat_lt, refl, sym, ap, ◌∙◌, subst, arith, if◌then◌else◌}
+use Rattle.std.proofs.Common.{◌≡◌, ◌<◌, ◌+◌, ℕ, ℤ, Bool, true, false, List, length, Option, None, Some, inl, inr, nat_lt, refl, sym, ap, ◌∙◌, subst, arith, if◌then◌else◌}
 use Rattle.std.proofs.lemmas.Bool.{ltb-true}
 use Rattle.std.proofs.lemmas.Option.{slice_get_within}
 use Rattle.twe_io.specs.declared.place.Place.{Place}
@@ -123,7 +123,7 @@ module _ (p : Program) (wf : IsWellFormed p) (keeps : KeepsEffects p) (lim : Bou
   next_is s is = subst (λ (x : Stop). NextAfter x frame) is keeping.next
 
   -- it waits for a value, or to join a child
-  go_on : ((new : State) → Continues st new → ¬ (frame.calls ≡ []) → OnPath p new.tasks frame) → Kept p (home (joined st o) t frame (going_row row frame))
+  go_on : ((new : State) → Continues st new → ¬ (frame.body ≡ None) → OnPath p new.tasks frame) → Kept p (home (joined st o) t frame (going_row row frame))
   go_on path = kept_going p st kept stands.links (done_childless p lim st stands) o done t row is_t may.1 frame runs path
 
   waits : (on : ℕ) → stop ≡ ends.Waits on → Kept p (home (joined st o) t frame (going_row row frame))
@@ -139,7 +139,7 @@ module _ (p : Program) (wf : IsWellFormed p) (keeps : KeepsEffects p) (lim : Bou
         go_on
         (λ new continues some.
         joined_one p st row.frame value old.cells (kept.paths t row is_t (some_at_join p row.frame value old.cells on next.0 next.1)) new continues on next.0 once next.1)
-    | inr closing ↦ go_on (λ new continues some. absurd (some closing.calls))
+    | inr closing ↦ go_on (λ new continues some. absurd (some closing.body))
   ]
 
   -- the row of t is the one that was set

@@ -17,7 +17,7 @@ use Rattle.twe_program.specs.Fitting.{Scope, HasShape, TakesIndexes, ExpressionF
 use Rattle.twe_program.specs.WellFormed.{IsWellFormed, MethodFits, DeclFits, scope_of}
 use Rattle.seg_exec.specs.declared.frame.Position.{Position}
 use Rattle.seg_exec.specs.declared.frame.Frame.{Frame}
-use Rattle.seg_exec.specs.declared.frame.Call.{Call as Opened}
+use Rattle.seg_exec.specs.declared.frame.OpenBody.{OpenBody}
 use Rattle.seg_exec.specs.Access.{MayAll}
 use Rattle.seg_exec.specs.Arithmetic.{is_true, operated, decided}
 use Rattle.seg_exec.specs.Cells.{cell_number, element_number, grid_element_number, element_of, grid_element_of, first_of, in_row, in_grid, index_below, at_column}
@@ -300,11 +300,11 @@ module _ (p : Program) (well : IsWellFormed p) (cells : List ℤ) (enough : leng
   task_fits (decl ∷ tasks) zero fits = (scope_of p decl, refl, fits.0.body)
   task_fits (decl ∷ tasks) (suc task) fits = task_fits tasks task fits.1
 
-  flow_fine : (frame : Frame) (calls : List Opened) (list : List ℤ) → FlowFine (flow_of p frame calls list)
-  flow_fine frame [] list = tt
-  flow_fine frame (call ∷ callers) list =
+  flow_fine : (frame : Frame) (body : Option OpenBody) (list : List ℤ) → FlowFine (flow_of p frame body list)
+  flow_fine frame None list = tt
+  flow_fine frame (Some body) list =
       let t = task_fits p.tasks frame.decl well.tasks in
-      resumed_fine (done_within p (frame.fuel + 1)) (within_fine (frame.fuel + 1)) t.0 t.1 call.stack (body_of (slice_get p.tasks frame.decl)) t.2 _ tt
+      resumed_fine (done_within p (frame.fuel + 1)) (within_fine (frame.fuel + 1)) t.0 t.1 body.open_blocks (body_of (slice_get p.tasks frame.decl)) t.2 _ tt
 
   stopped_may : (frame : Frame) (f : Flow) → FlowFine f → MayAll list_ways cells (stopped_by p frame f).accesses
   stopped_may frame (goes s) h = h
@@ -313,4 +313,4 @@ module _ (p : Program) (well : IsWellFormed p) (cells : List ℤ) (enough : leng
   stopped_may frame (stops operation positions s) h = h
 
   pub may_carry_out : (frame : Frame) → MayCarryOut p list_ways frame cells
-  may_carry_out frame list = stopped_may frame (flow_of p frame frame.calls list) (flow_fine frame frame.calls list)
+  may_carry_out frame list = stopped_may frame (flow_of p frame frame.body list) (flow_fine frame frame.body list)

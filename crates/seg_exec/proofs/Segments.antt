@@ -1,8 +1,8 @@
 -- A run of the evaluator that begins with what remains in a frame is the segment of that frame.
-use Rattle.std.proofs.Common.{◌≡◌, ℕ, ◌+◌, ℤ, pos, List, [], ◌∷◌, ◌++◌, Some, Result, Ok, Err, IfOk, sym, ap, ◌∙◌, subst, arith}
+use Rattle.std.proofs.Common.{◌≡◌, ℕ, ◌+◌, ℤ, pos, List, [], ◌++◌, Some, Result, Ok, Err, IfOk, sym, ap, ◌∙◌, subst, arith, Option, None}
 use Rattle.std.specs.Prelude.{slice_get}
 use Rattle.twe_program.specs.Program.{Program}
-use Rattle.seg_exec.specs.declared.frame.Call.{Call}
+use Rattle.seg_exec.specs.declared.frame.OpenBody.{OpenBody}
 use Rattle.seg_exec.specs.declared.frame.Frame.{Frame}
 use Rattle.seg_exec.specs.declared.machine.Machine.{Machine}
 use Rattle.seg_exec.specs.declared.stop.Stop.{Stop}
@@ -54,29 +54,29 @@ module _ (p : Program) where
       ap (λ (x : Store). left frame (Suspended operation positions) x) b ∙ ap (λ (x : Ending). left frame x s) a
 
   -- over a list of cells
-  flow_so : (frame : Frame) (calls : List Call) (start : Config) (cells : List ℤ) → config_at p frame calls ≡ Some start
-      → (n : ℕ) × (run p n (over start cells []) ≡ outcome_of p (flow_of p frame calls cells))
-  flow_so frame [] start cells is = absurd (cc)
-  flow_so frame (call ∷ callers) start cells is =
+  flow_so : (frame : Frame) (opened : Option OpenBody) (start : Config) (cells : List ℤ) → config_at p frame opened ≡ Some start
+      → (n : ℕ) × (run p n (over start cells []) ≡ outcome_of p (flow_of p frame opened cells))
+  flow_so frame None start cells is = absurd (cc)
+  flow_so frame (Some opened) start cells is =
       let n = frame.fuel + 1 in
       let body = body_of (slice_get p.tasks frame.decl) in
-      let store = store_at frame call.vars cells in
-      let begun : Config = (moment (unfolded body call.stack []) [] store).config in
+      let store = store_at frame opened.vars cells in
+      let begun : Config = (moment (unfolded body opened.open_blocks []) [] store).config in
       let same : begun ≡ start = cc in
-      let flow = resumed (done_within p n) p body call.stack store in
-      let meets = resumed_meets p n (done_within p n) (within_meets p n) call.stack body frame.fuel (omega arith) store (omega arith) [] [] in
+      let flow = resumed (done_within p n) p body opened.open_blocks store in
+      let meets = resumed_meets p n (done_within p n) (within_meets p n) opened.open_blocks body frame.fuel (omega arith) store (omega arith) [] [] in
       subst (λ (c : Config). (k : ℕ) × (run p k (over c cells []) ≡ outcome_of p flow)) same (ends_so p frame.fuel (over begun cells []) flow meets)
 
-  segment_so : (frame : Frame) (calls : List Call) (start : Config) (cells : List ℤ) (ending : Ending) (s : Store) → config_at p frame calls ≡ Some start
-      → (n : ℕ) × (run p n (over start cells []) ≡ Over ending s) → stopped_by p frame (flow_of p frame calls cells) ≡ left frame ending s
-  segment_so frame calls start cells ending s is ends =
-      let flow = flow_of p frame calls cells in
-      let other = flow_so frame calls start cells is in
+  segment_so : (frame : Frame) (opened : Option OpenBody) (start : Config) (cells : List ℤ) (ending : Ending) (s : Store) → config_at p frame opened ≡ Some start
+      → (n : ℕ) × (run p n (over start cells []) ≡ Over ending s) → stopped_by p frame (flow_of p frame opened cells) ≡ left frame ending s
+  segment_so frame opened start cells ending s is ends =
+      let flow = flow_of p frame opened cells in
+      let other = flow_so frame opened start cells is in
       stopped_so frame flow ending s (once p other.0 ends.0 (over start cells []) (outcome_of p flow) (Over ending s) (is_over flow) tt other.1 ends.1)
 
   module _ {C : Type 0} (ways : Ways C) where
     pub carries_out : (frame : Frame) (from to : Machine) (old_cells new_cells : C) (prints : List ℤ) (ending : Ending) (new_frame : Frame) (stop : Stop)
-        → config_at p frame frame.calls ≡ Some (config_of from)
+        → config_at p frame frame.body ≡ Some (config_of from)
         → Finishes p ways (standing from old_cells frame.prints) ending (standing to new_cells prints)
         → (new_frame, stop) ≡ finished p (ran frame prints to.fuel) to.vars ending
         → CarriesOut p ways.rule frame old_cells stop new_frame new_cells
@@ -84,7 +84,7 @@ module _ (p : Program) where
       accesses = f.accesses;
       follows = f.follows;
       means = λ cells agrees.
-          segment_so frame frame.calls (config_of from) cells ending (store_of (over (config_of to) cells f.accesses)) is (f.ends cells agrees)
+          segment_so frame frame.body (config_of from) cells ending (store_of (over (config_of to) cells f.accesses)) is (f.ends cells agrees)
           ∙ ap (λ (all : List ℤ). let d = finished p (ran frame all to.fuel) to.vars ending in record { frame = d.0; cells = after cells f.accesses; accesses = f.accesses; stop = d.1 }) (sym f.prints)
           ∙ ap (λ (d : Frame × Stop). record { frame = d.0; cells = after cells f.accesses; accesses = f.accesses; stop = d.1 }) (sym done);
     }
@@ -96,10 +96,10 @@ module _ (p : Program) where
     may_end frame cells from (fails kind place s) may x = (x.0, Faulted kind place, s, x.1, may)
     may_end frame cells from (stops operation positions s) may x = (x.0, Suspended operation positions, s, x.1, may)
 
-    pub may_run : (frame : Frame) (from : Machine) (cells : C) (prints : List ℤ) → MayCarryOut p ways frame cells → config_at p frame frame.calls ≡ Some (config_of from)
+    pub may_run : (frame : Frame) (from : Machine) (cells : C) (prints : List ℤ) → MayCarryOut p ways frame cells → config_at p frame frame.body ≡ Some (config_of from)
         → MayRun p ways (standing from cells prints)
     may_run frame from cells prints may is list =
-        may_end frame cells (over (config_of from) list []) (flow_of p frame frame.calls list) (may list) (flow_so frame frame.calls (config_of from) list is)
+        may_end frame cells (over (config_of from) list []) (flow_of p frame frame.body list) (may list) (flow_so frame frame.body (config_of from) list is)
 
 pub if_ok_map : {T E : Type 0} {P Q : T → Type 0} (r : Result T E) → ((x : T) → P x → Q x) → IfOk r P → IfOk r Q
 if_ok_map (Ok x) so holds = so x holds

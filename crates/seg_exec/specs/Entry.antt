@@ -5,7 +5,7 @@ use Rattle.effect_sets.specs.declared.effects.Summary.{Summary}
 use Rattle.effect_sets.specs.Filled.{fill_summary}
 use Rattle.twe_program.specs.declared.program.Decl.{Decl}
 use Rattle.twe_program.specs.Program.{Program}
-use Rattle.seg_exec.specs.declared.frame.Call.{Call}
+use Rattle.seg_exec.specs.declared.frame.OpenBody.{OpenBody}
 use Rattle.seg_exec.specs.declared.frame.Frame.{Frame}
 use Rattle.seg_exec.specs.declared.frame.Next.TheVariants.{Go}
 use Rattle.seg_exec.specs.Meaning.{vars_at_start}
@@ -15,15 +15,15 @@ future_count_of None = 0
 future_count_of (Some decl) = decl.body.futures
 
 -- the body before its first statement
-abbrev pub entry_call : Option Decl → List ℤ → Call
-entry_call decl args = record { method = None; vars = vars_at_start decl args; stack = record { block = 0; after = 0 } ∷ [] }
+abbrev pub entry_body : Option Decl → List ℤ → OpenBody
+entry_body decl args = record { vars = vars_at_start decl args; open_blocks = record { block = 0; after = 0 } ∷ [] }
 
 -- the frame of a task of a declaration with these arguments; its number and its fuel are still to be put in
 abbrev pub frame_of : Option Decl → ℕ → List ℤ → Frame
 frame_of decl task args = record {
   task = 0;
   decl = task;
-  calls = entry_call decl args ∷ [];
+  body = Some (entry_body decl args);
   fuel = 0;
   futures = replicate (future_count_of decl) None;
   out = [];

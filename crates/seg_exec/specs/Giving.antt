@@ -1,6 +1,6 @@
 -- What a frame that waits becomes once the awaited value is there.
 use Rattle.std.specs.Prelude.{ℕ, ℤ, ◌==◌, List, [], ◌∷◌, Option, None, Some, if◌then◌else◌, slice_set}
-use Rattle.seg_exec.specs.declared.frame.Call.{Call}
+use Rattle.seg_exec.specs.declared.frame.OpenBody.{OpenBody}
 use Rattle.seg_exec.specs.declared.frame.Frame.{Frame}
 use Rattle.seg_exec.specs.declared.frame.Next.{Next}
 use Rattle.seg_exec.specs.declared.frame.Next.TheVariants.{Go, Get, Join, Closing, Ended}
@@ -15,15 +15,15 @@ abbrev pub vars_with : Option ℕ → ℤ → List ℤ → List ℤ
 vars_with None value vars = vars
 vars_with (Some var) value vars = slice_set vars var value
 
-abbrev pub calls_with : Option ℕ → ℤ → List Call → List Call
-calls_with into value [] = []
-calls_with into value (call ∷ callers) = record call { vars = vars_with into value call.vars } ∷ callers
+abbrev pub body_with : Option ℕ → ℤ → Option OpenBody → Option OpenBody
+body_with into value None = None
+body_with into value (Some body) = Some (record body { vars = vars_with into value body.vars })
 
 -- the frame goes on, and a child that was joined is not out any more; a frame that does not wait stays as it is
 abbrev pub given_by : Next → Frame → ℤ → Frame
 given_by Go frame value = frame
-given_by (Get on into) frame value = record frame { calls = calls_with into value frame.calls; next = Go }
-given_by (Join on into) frame value = record frame { calls = calls_with into value frame.calls; out = without on frame.out; next = Go }
+given_by (Get on into) frame value = record frame { body = body_with into value frame.body; next = Go }
+given_by (Join on into) frame value = record frame { body = body_with into value frame.body; out = without on frame.out; next = Go }
 given_by (Closing on) frame value = record frame { out = without on frame.out; next = Go }
 given_by Ended frame value = frame
 

@@ -1,7 +1,7 @@
 -- The meaning of a segment: of what a task has still to carry out, up to its next task operation or its end.
 use Rattle.std.specs.Prelude.{◌≡◌, ℕ, ◌+◌, ℤ, pos, Bool, true, false, List, [], ◌∷◌, ◌++◌, Option, None, Some, slice_get}
 use Rattle.twe_program.specs.Program.{Program}
-use Rattle.seg_exec.specs.declared.frame.Call.{Call}
+use Rattle.seg_exec.specs.declared.frame.OpenBody.{OpenBody}
 use Rattle.seg_exec.specs.declared.frame.Frame.{Frame}
 use Rattle.seg_exec.specs.declared.frame.Position.{Position}
 use Rattle.seg_exec.specs.declared.frame.Next.{Next}
@@ -24,12 +24,12 @@ pub record Stopped : Type 0 where
   pub stop : Stop
 
 -- the frame as the store leaves it, with what was printed
-abbrev pub with_store : Frame → List Call → Store → Frame
-with_store frame calls s = record frame { calls = calls; fuel = s.fuel; prints = frame.prints ++ printed s.accesses }
+abbrev pub with_store : Frame → Option OpenBody → Store → Frame
+with_store frame body s = record frame { body = body; fuel = s.fuel; prints = frame.prints ++ printed s.accesses }
 
 -- the task's body with what remains of it
-abbrev pub open_body : List Position → Store → List Call
-open_body positions s = record { method = None; vars = s.vars; stack = positions } ∷ []
+abbrev pub open_body : List Position → Store → OpenBody
+open_body open_blocks s = record { vars = s.vars; open_blocks = open_blocks }
 
 -- the end of the body: the unjoined children are joined one by one, and then the task is done
 abbrev pub closing : List ℕ → Next
@@ -42,7 +42,7 @@ closing_stop (child ∷ others) value = ends.Joins child
 
 abbrev pub at_end : Frame → ℤ → Store → Stopped
 at_end frame value s = record {
-  frame = record (with_store frame [] s) { next = closing frame.out; value = value };
+  frame = record (with_store frame None s) { next = closing frame.out; value = value };
   cells = s.cells;
   accesses = s.accesses;
   stop = closing_stop frame.out value;
@@ -76,13 +76,13 @@ abbrev pub stopped_by : Program → Frame → Flow → Stopped
 stopped_by p frame (goes s) = at_end frame (pos 0) s
 stopped_by p frame (returns value s) = at_end frame value s
 stopped_by p frame (fails kind place s) = record {
-  frame = record (with_store frame [] s) { next = Ended };
+  frame = record (with_store frame None s) { next = Ended };
   cells = s.cells;
   accesses = s.accesses;
   stop = ends.Fault kind place;
 }
 stopped_by p frame (stops operation positions s) = record {
-  frame = record (with_store frame (open_body positions s) s) { next = operation_next frame operation };
+  frame = record (with_store frame (Some (open_body positions s)) s) { next = operation_next frame operation };
   cells = s.cells;
   accesses = s.accesses;
   stop = operation_stop p frame operation;
@@ -93,13 +93,13 @@ abbrev pub store_at : Frame → List ℤ → List ℤ → Store
 store_at frame vars cells = record { cells = cells; vars = vars; fuel = frame.fuel; calls = 0; accesses = [] }
 
 -- what remains of a frame: of the task's own body, or, where it is at its end, the joining of its children
-abbrev pub flow_of : Program → Frame → List Call → List ℤ → Flow
-flow_of p frame [] cells = returns frame.value (store_at frame [] cells)
-flow_of p frame (call ∷ callers) cells =
-    resumed (done_within p (frame.fuel + 1)) p (body_of (slice_get p.tasks frame.decl)) call.stack (store_at frame call.vars cells)
+abbrev pub flow_of : Program → Frame → Option OpenBody → List ℤ → Flow
+flow_of p frame None cells = returns frame.value (store_at frame [] cells)
+flow_of p frame (Some body) cells =
+    resumed (done_within p (frame.fuel + 1)) p (body_of (slice_get p.tasks frame.decl)) body.open_blocks (store_at frame body.vars cells)
 
 abbrev pub segment : Program → Frame → List ℤ → Stopped
-segment p frame cells = stopped_by p frame (flow_of p frame frame.calls cells)
+segment p frame cells = stopped_by p frame (flow_of p frame frame.body cells)
 
 -- these are what the segment leaves over this list of cells
 abbrev pub IsSegment : Program → Frame → List ℤ → Stop → Frame → List ℤ → Type 0

@@ -1,10 +1,10 @@
 //! A task before its first segment.
 ghost use Rattle.std.specs.Prelude.{◌≡◌, IfOk, map, option_copied};
 ghost use Rattle.region_paths.specs.declared.elements.Elem.TheVariants.{Index};
-ghost use Rattle.seg_exec.specs.Entry.{effects_at, entry_call, entry_frame, frame_of, future_count_of};
+ghost use Rattle.seg_exec.specs.Entry.{effects_at, entry_body, entry_frame, frame_of, future_count_of};
 
 use crate::call::vars_at_start;
-use crate::frame::{Call, Frame, Next, Position};
+use crate::frame::{Frame, Next, OpenBody, Position};
 use effect_sets::{Effects, Summary};
 use region_paths::Elem;
 use std::alloc::{AllocError, Global};
@@ -22,15 +22,14 @@ fn future_count(decl: Option<&Decl>) -> usize
 }
 
 /// A body before its first statement.
-fn entry_call(alloc: Global, decl: Option<&Decl>, args: Ints) -> Result<Call, Memory>
-    ensures { IfOk result (λ call. call ≡ entry_call (option_copied decl.entry) args) }
+fn entry_body(alloc: Global, decl: Option<&Decl>, args: Ints) -> Result<OpenBody, Memory>
+    ensures { IfOk result (λ body. body ≡ entry_body (option_copied decl.entry) args) }
 {
-    let mut stack = List::new(alloc);
-    stack.push(Position { block: 0, after: 0 })?;
-    Ok(Call {
-        method: None,
+    let mut open_blocks = List::new(alloc);
+    open_blocks.push(Position { block: 0, after: 0 })?;
+    Ok(OpenBody {
         vars: vars_at_start(alloc, decl, args)?,
-        stack,
+        open_blocks,
     })
 }
 
@@ -38,13 +37,12 @@ fn entry_call(alloc: Global, decl: Option<&Decl>, args: Ints) -> Result<Call, Me
 fn frame_of(alloc: Global, decl: Option<&Decl>, task: u32, args: Ints) -> Result<Frame, Memory>
     ensures { IfOk result (λ frame. frame ≡ frame_of (option_copied decl.entry) task args) }
 {
-    let mut calls = List::new(alloc);
-    calls.push(entry_call(alloc, decl, args)?)?;
+    let body = entry_body(alloc, decl, args)?;
     let futures = vec![in alloc; None; future_count(decl)]?;
     Ok(Frame {
         task: 0,
         decl: task,
-        calls,
+        body: Some(body),
         fuel: 0,
         futures: List::from(futures),
         out: List::new(alloc),

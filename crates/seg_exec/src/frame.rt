@@ -12,16 +12,14 @@ pub struct Position {
     pub after: usize,
 }
 
-/// A body that is being carried out.
+/// The body of a task whose execution has begun and not ended.
 #[derive(Debug, Drop)]
-pub struct Call {
-    /// The method, or none for the task's own body.
-    pub method: Option<u32>,
+pub struct OpenBody {
     /// The values of the variables.
     pub vars: Ints,
     /// The open blocks, the outermost first. Each but the last has the next one within the last statement that was
     /// begun.
-    pub stack: List<Position>,
+    pub open_blocks: List<Position>,
 }
 
 /// What a task does next.
@@ -59,8 +57,9 @@ pub struct Frame {
     pub task: u32,
     /// The number of its declaration.
     pub decl: u32,
-    /// The task's own body with what remains of it, or none where the task is at its end.
-    pub calls: List<Call>,
+    /// The task's own body, with what remains of it; none if the task is at its end. Between two segments no method is
+    /// under way.
+    pub body: Option<OpenBody>,
     /// How many units of fuel are left.
     pub fuel: u64,
     /// The task that each future stands for.

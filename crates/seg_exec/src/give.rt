@@ -1,9 +1,9 @@
 //! The awaited value, which is put into a frame that waits.
 ghost use Rattle.std.specs.Prelude.{◌≡◌, ◌==◌};
 ghost use Rattle.std.specs.List.{position};
-ghost use Rattle.seg_exec.specs.Giving.{calls_with, given, without};
+ghost use Rattle.seg_exec.specs.Giving.{body_with, given, without};
 
-use crate::frame::{Call, Frame, Next};
+use crate::frame::{Frame, Next, OpenBody};
 use std::alloc::Global;
 use std::mem;
 use twe_io::List;
@@ -35,19 +35,18 @@ fn take_out(alloc: Global, children: &mut List<u32>, child: u32)
 }
 
 /// Gives the value to the variable that takes it, if one does.
-fn put(calls: &mut List<Call>, into: Option<u32>, value: i32)
-    ensures { calls.new ≡ calls_with into value calls.old }
+fn put(body: &mut Option<OpenBody>, into: Option<u32>, value: i32)
+    ensures { body.new ≡ body_with into value body.old }
 {
     let Some(var) = into else {
         return;
     };
-    if calls.is_empty() {
+    let Some(body) = body else {
         return;
-    }
-    let call = calls.item_mut(0);
+    };
     let at = var as usize;
-    if at < call.vars.len() {
-        call.vars.set(at, value);
+    if at < body.vars.len() {
+        body.vars.set(at, value);
     }
 }
 
@@ -62,11 +61,11 @@ impl Frame {
             Next::Go => {}
             Next::Ended => {}
             Next::Get { into, .. } => {
-                put(&mut self.calls, into, value);
+                put(&mut self.body, into, value);
                 self.next = Next::Go;
             }
             Next::Join { on, into } => {
-                put(&mut self.calls, into, value);
+                put(&mut self.body, into, value);
                 take_out(alloc, &mut self.out, on);
                 self.next = Next::Go;
             }

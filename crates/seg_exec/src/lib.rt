@@ -28,7 +28,7 @@ mod work;
 
 pub use cells::Cells;
 pub use entry::{effects_at, entry_frame};
-pub use frame::{Call, Frame, Next, Position};
+pub use frame::{Frame, Next, OpenBody, Position};
 pub use laws::{
     accesses_are_of_the_program, larger_bounds_change_nothing, over_a_list_it_is_the_segment,
 };

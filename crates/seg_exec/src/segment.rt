@@ -10,7 +10,7 @@ ghost use Rattle.seg_exec.specs.inner.Views.{config_of};
 use crate::call::statements;
 use crate::cells::Cells;
 use crate::entry::{effects_at, entry_frame};
-use crate::frame::{Call, Frame, Next};
+use crate::frame::{Frame, Next, OpenBody};
 use crate::machine::Machine;
 use crate::operation::Operation;
 use crate::run::run;
@@ -83,7 +83,7 @@ fn end(alloc: Global, frame: &mut Frame, value: i32) -> Stop
     ensures frame { frame.new ≡ ended_with frame.old value }
     ensures stop { result ≡ closing_stop frame.old.out value }
 {
-    frame.calls = List::new(alloc);
+    frame.body = None;
     frame.value = value;
     match frame.out.get(0) {
         None => {
@@ -111,7 +111,7 @@ fn finish(
     match ending {
         Ending::Returned(value) => Ok(end(alloc, frame, value)),
         Ending::Faulted { kind, place } => {
-            frame.calls = List::new(alloc);
+            frame.body = None;
             frame.next = Next::Ended;
             Ok(Stop::Fault { kind, place })
         }
@@ -119,13 +119,10 @@ fn finish(
             operation,
             positions,
         } => {
-            let mut calls = List::new(alloc);
-            calls.push(Call {
-                method: None,
+            frame.body = Some(OpenBody {
                 vars,
-                stack: positions.into_list(),
-            })?;
-            frame.calls = calls;
+                open_blocks: positions.into_list(),
+            });
             frame.next = next_of(frame, &operation);
             stop_of(alloc, p, frame, operation)
         }
@@ -134,20 +131,20 @@ fn finish(
 
 /// The evaluator at what remains of a frame, or none where the frame is at its end.
 fn machine_at<'a>(alloc: Global, p: &'a Prog, frame: &Frame) -> Result<Option<Machine<'a>>, Memory>
-    ensures { IfOk result (λ machine. option_map config_of machine ≡ config_at p.now frame.now frame.now.calls) }
+    ensures { IfOk result (λ machine. option_map config_of machine ≡ config_at p.now frame.now frame.now.body) }
 {
-    let Some(call) = frame.calls.get(0) else {
+    let Some(body) = &frame.body else {
         return Ok(None);
     };
     let mut machine = Machine {
         work: Stack::new(alloc),
         values: Stack::new(alloc),
-        vars: call.vars.copy(alloc)?,
+        vars: body.vars.copy(alloc)?,
         fuel: frame.fuel,
         calls: 0,
     };
     let decl = p.tasks.get(frame.decl as usize);
-    machine.unfold(statements(decl), call.stack.as_slice())?;
+    machine.unfold(statements(decl), body.open_blocks.as_slice())?;
     Ok(Some(machine))
 }
 

@@ -26,7 +26,7 @@ use Rattle.seg_exec.specs.Giving.{given, given_by}
 use Rattle.seg_exec.specs.Meaning.{body_of}
 use Rattle.seg_exec.specs.Segment.{segment, task_of}
 use Rattle.segment_laws.specs.Keeps.{NextAfter, SegmentKeeps}
-use Rattle.segment_laws.specs.Left.{calls_left, left_of}
+use Rattle.segment_laws.specs.Left.{body_left, left_of}
 use Rattle.segment_laws.specs.Operations.{AllMayHave, ComesToMake, ComesToWait}
 use Rattle.segment_laws.specs.Ready.{AllOperationsFit, AwaitsMade, IsReady, MakesDeclared, futures_at, is_set, stands_for_one}
 use Rattle.segment_laws.proofs.EntryFutures.{body_operations_fit}
@@ -84,19 +84,19 @@ module _ (p : Program) where
       (subst (AllOperationsFit p (futures_at p frame.decl)) (sym left) ready.operations)
 
   -- with nothing left
-  ready_none_left : (frame after : Frame) → after.decl ≡ frame.decl → after.futures ≡ frame.futures → after.calls ≡ [] → IsReady p frame → IsReady p after
-  ready_none_left frame after decl futures calls ready =
-      let left : left_of p after ≡ no_more = ap (calls_left p after.decl) calls in
+  ready_none_left : (frame after : Frame) → after.decl ≡ frame.decl → after.futures ≡ frame.futures → after.body ≡ None → IsReady p frame → IsReady p after
+  ready_none_left frame after decl futures body ready =
+      let left : left_of p after ≡ no_more = ap (body_left p after.decl) body in
       ready_by frame after decl futures ready
       (subst (AllWaitsFollow (is_set frame.futures)) (sym left) tt)
       (subst (AllOperationsFit p (futures_at p frame.decl)) (sym left) tt)
 
-  pub ready_same : (frame other : Frame) → other.decl ≡ frame.decl → other.calls ≡ frame.calls → other.futures ≡ frame.futures → IsReady p frame → IsReady p other
-  ready_same frame other decl calls futures ready =
-      ready_same_left frame other decl futures (ap (λ (d : ℕ). calls_left p d other.calls) decl ∙ ap (calls_left p frame.decl) calls) ready
+  pub ready_same : (frame other : Frame) → other.decl ≡ frame.decl → other.body ≡ frame.body → other.futures ≡ frame.futures → IsReady p frame → IsReady p other
+  ready_same frame other decl body futures ready =
+      ready_same_left frame other decl futures (ap (λ (d : ℕ). body_left p d other.body) decl ∙ ap (body_left p frame.decl) body) ready
 
-  pub ready_ended : (frame : Frame) → IsReady p frame → IsReady p (record frame { calls = []; next = Ended })
-  ready_ended frame ready = ready_none_left frame (record frame { calls = []; next = Ended }) refl refl refl ready
+  pub ready_ended : (frame : Frame) → IsReady p frame → IsReady p (record frame { body = None; next = Ended })
+  ready_ended frame ready = ready_none_left frame (record frame { body = None; next = Ended }) refl refl refl ready
 
   given_keeps : (next : Next) (frame : Frame) (value : ℤ) → ((given_by next frame value).decl ≡ frame.decl) × ((given_by next frame value).futures ≡ frame.futures)
   given_keeps Go frame value = (refl, refl)
@@ -156,7 +156,7 @@ module _ (p : Program) (frame : Frame) (cells : List ℤ) (ready : IsReady p fra
   ready_by_stop (ends.Joins on) next none =
       elim next [
         | inl join ↦ after_wait true on join.0 (joins_follow p frame cells [] on join.0 join.1)
-        | inr closing ↦ ready_none_left p frame after kept.decl kept.futures closing.calls ready
+        | inr closing ↦ ready_none_left p frame after kept.decl kept.futures closing.body ready
       ]
   ready_by_stop (ends.Done value) next none = ready_none_left p frame after kept.decl kept.futures next.1 ready
   ready_by_stop (ends.Fault kind place) next none = ready_none_left p frame after kept.decl kept.futures next.1 ready

@@ -1,12 +1,12 @@
 -- A segment leads along a control path of what is left of the body to the operation at which it stops.
-use Rattle.std.proofs.Common.{◌≡◌, ◌+◌, ℕ, ℤ, Bool, true, false, List, [], ◌∷◌, Option, refl, subst}
+use Rattle.std.proofs.Common.{◌≡◌, ◌+◌, ℕ, ℤ, Bool, true, false, List, [], ◌∷◌, Option, refl, subst, None, Some}
 use Rattle.std.specs.Prelude.{pos, slice_get}
 use Rattle.twe_io.specs.declared.place.Place.{Place}
 use Rattle.effect_sets.specs.declared.effects.Summary.{Summary}
 use Rattle.twe_program.specs.Program.{Program}
 use Rattle.twe_program.specs.Statement.{Statements, no_more}
 use Rattle.cover_flow.specs.ControlPath.{Path}
-use Rattle.seg_exec.specs.declared.frame.Call.{Call}
+use Rattle.seg_exec.specs.declared.frame.OpenBody.{OpenBody}
 use Rattle.seg_exec.specs.declared.frame.Frame.{Frame}
 use Rattle.seg_exec.specs.declared.frame.Next.{Next}
 use Rattle.seg_exec.specs.declared.frame.Next.TheVariants.{Go, Get, Join, Closing, Ended}
@@ -15,11 +15,11 @@ use Rattle.seg_exec.specs.declared.operation.Operation.TheVariants as operations
 use Rattle.seg_exec.specs.declared.stop.Stop.{Stop}
 use Rattle.seg_exec.specs.declared.stop.Stop.TheVariants as ends
 use Rattle.seg_exec.specs.Entry.{entry_frame}
-use Rattle.seg_exec.specs.Giving.{calls_with, given, given_by}
+use Rattle.seg_exec.specs.Giving.{body_with, given, given_by}
 use Rattle.seg_exec.specs.Meaning.{body_of}
 use Rattle.seg_exec.specs.Segment.{Stopped, closing, closing_stop, flow_of, segment, stopped_by, store_at}
 use Rattle.seg_exec.specs.Store.{Flow, goes, returns, fails, stops}
-use Rattle.segment_laws.specs.Left.{calls_left, left_in, left_of}
+use Rattle.segment_laws.specs.Left.{body_left, left_in, left_of}
 use Rattle.segment_laws.specs.Operations.{ComesToMake, ComesToWait}
 use Rattle.segment_laws.proofs.Quiet.{leads_nowhere}
 use Rattle.segment_laws.proofs.Leading.{FlowLeads}
@@ -30,9 +30,9 @@ module _ (p : Program) (frame : Frame) where
   abbrev then_left : List Position → Statements
   then_left positions = left_in (body_of (slice_get p.tasks frame.decl)) positions
 
-  flow_leads : (calls : List Call) (cells : List ℤ) → FlowLeads (calls_left p frame.decl calls) no_more then_left (flow_of p frame calls cells)
-  flow_leads [] cells = leads_nowhere no_more
-  flow_leads (call ∷ callers) cells = body_leads p (frame.fuel + 1) (body_of (slice_get p.tasks frame.decl)) call.stack (store_at frame call.vars cells)
+  flow_leads : (body : Option OpenBody) (cells : List ℤ) → FlowLeads (body_left p frame.decl body) no_more then_left (flow_of p frame body cells)
+  flow_leads None cells = leads_nowhere no_more
+  flow_leads (Some body) cells = body_leads p (frame.fuel + 1) (body_of (slice_get p.tasks frame.decl)) body.open_blocks (store_at frame body.vars cells)
 
   -- a make and a wait are come to
   abbrev StopFrom : Frame → Path → Stop → Type 0
@@ -85,7 +85,7 @@ module _ (p : Program) (frame : Frame) where
       record { stop = tt; next = record { point = h.0; future = future; place = h.1; later = passes.0; passes = passes.1; on_is = refl } }
 
   follows : (cells : List ℤ) (path : Path) → Follows path (segment p frame cells)
-  follows cells path = stopped_follows path (flow_of p frame frame.calls cells) (flow_leads frame.calls cells)
+  follows cells path = stopped_follows path (flow_of p frame frame.body cells) (flow_leads frame.body cells)
 
   pub makes_follow : (cells : List ℤ) (path : Path) (child : Frame) (args : List ℤ) (effects : Summary) (spawned : Bool) (future : ℕ) (place : Place)
       → (segment p frame cells).stop ≡ ends.Make child args effects spawned future place
@@ -105,14 +105,14 @@ pub entry_left : (p : Program) (task : ℕ) (args : List ℤ) → left_of p (ent
 entry_left p task args = refl
 
 -- the taking of a value leaves what was left
-calls_with_left : (p : Program) (decl : ℕ) (into : Option ℕ) (value : ℤ) (calls : List Call) → calls_left p decl (calls_with into value calls) ≡ calls_left p decl calls
-calls_with_left p decl into value [] = refl
-calls_with_left p decl into value (call ∷ callers) = refl
+body_with_left : (p : Program) (decl : ℕ) (into : Option ℕ) (value : ℤ) (body : Option OpenBody) → body_left p decl (body_with into value body) ≡ body_left p decl body
+body_with_left p decl into value None = refl
+body_with_left p decl into value (Some body) = refl
 
 given_by_left : (p : Program) (next : Next) (frame : Frame) (value : ℤ) → left_of p (given_by next frame value) ≡ left_of p frame
 given_by_left p Go frame value = refl
-given_by_left p (Get on into) frame value = calls_with_left p frame.decl into value frame.calls
-given_by_left p (Join on into) frame value = calls_with_left p frame.decl into value frame.calls
+given_by_left p (Get on into) frame value = body_with_left p frame.decl into value frame.body
+given_by_left p (Join on into) frame value = body_with_left p frame.decl into value frame.body
 given_by_left p (Closing on) frame value = refl
 given_by_left p Ended frame value = refl
 

@@ -1,10 +1,10 @@
 -- What a segment leaves as it is.
-use Rattle.std.proofs.Common.{◌≡◌, ◌+◌, ℕ, ℤ, Bool, true, false, List, [], ◌∷◌, length, Option, inl, inr, refl, arith}
+use Rattle.std.proofs.Common.{◌≡◌, ◌+◌, ℕ, ℤ, Bool, true, false, List, [], ◌∷◌, length, Option, inl, inr, refl, arith, None, Some}
 use Rattle.std.specs.Prelude.{pos, slice_get}
 use Rattle.twe_io.specs.declared.place.Place.{Place}
 use Rattle.effect_sets.specs.declared.effects.Summary.{Summary}
 use Rattle.twe_program.specs.Program.{Program}
-use Rattle.seg_exec.specs.declared.frame.Call.{Call}
+use Rattle.seg_exec.specs.declared.frame.OpenBody.{OpenBody}
 use Rattle.seg_exec.specs.declared.frame.Frame.{Frame}
 use Rattle.seg_exec.specs.declared.frame.Next.TheVariants.{Get, Join}
 use Rattle.seg_exec.specs.declared.operation.Operation.{Operation}
@@ -18,9 +18,9 @@ use Rattle.segment_laws.specs.Keeps.{NextAfter, SegmentKeeps, StopBefore}
 use Rattle.segment_laws.proofs.Keeping.{FlowKept, resumed_kept, within_kept}
 
 -- at the end of the body
-end_next : (out : List ℕ) (value : ℤ) (after : Frame) → after.next ≡ closing out → after.calls ≡ [] → after.out ≡ out → after.value ≡ value → NextAfter (closing_stop out value) after
+end_next : (out : List ℕ) (value : ℤ) (after : Frame) → after.next ≡ closing out → after.body ≡ None → after.out ≡ out → after.value ≡ value → NextAfter (closing_stop out value) after
 end_next [] value after n c o v = (n, c, o, v)
-end_next (child ∷ others) value after n c o v = inr (record { next = n; calls = c; others = others; out = o })
+end_next (child ∷ others) value after n c o v = inr (record { next = n; body = c; others = others; out = o })
 
 end_stop : (out : List ℕ) (value : ℤ) → StopBefore (closing out) (closing_stop out value)
 end_stop [] value = tt
@@ -108,12 +108,12 @@ module _ (p : Program) (frame : Frame) (cells : List ℤ) where
     stop = operation_stop_is p frame operation;
   }
 
-  flow_kept : (calls : List Call) → Kept (flow_of p frame calls cells)
-  flow_kept [] = (refl, omega arith)
-  flow_kept (call ∷ callers) =
+  flow_kept : (body : Option OpenBody) → Kept (flow_of p frame body cells)
+  flow_kept None = (refl, omega arith)
+  flow_kept (Some body) =
       let n = frame.fuel + 1 in
-      resumed_kept p (length cells) frame.fuel (done_within p n) (within_kept p (length cells) frame.fuel n) call.stack (body_of (slice_get p.tasks frame.decl))
-      (store_at frame call.vars cells) (refl, omega arith)
+      resumed_kept p (length cells) frame.fuel (done_within p n) (within_kept p (length cells) frame.fuel n) body.open_blocks (body_of (slice_get p.tasks frame.decl))
+      (store_at frame body.vars cells) (refl, omega arith)
 
   pub segment_keeps : SegmentKeeps frame cells (segment p frame cells)
-  segment_keeps = stopped_keeps (flow_of p frame frame.calls cells) (flow_kept frame.calls)
+  segment_keeps = stopped_keeps (flow_of p frame frame.body cells) (flow_kept frame.body)

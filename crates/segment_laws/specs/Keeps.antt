@@ -1,5 +1,5 @@
 -- What a segment leaves as it is, and what comes next by how it stops.
-use Rattle.std.specs.Prelude.{◌≡◌, ◌⊎◌, ◌<◌, ◌≤◌, ℕ, ℤ, Bool, List, [], ◌∷◌, length, Option}
+use Rattle.std.specs.Prelude.{◌≡◌, ◌⊎◌, ◌<◌, ◌≤◌, ℕ, ℤ, Bool, List, [], ◌∷◌, length, Option, None}
 use Rattle.twe_io.specs.declared.place.Place.{Place}
 use Rattle.effect_sets.specs.declared.effects.Summary.{Summary}
 use Rattle.seg_exec.specs.declared.frame.Frame.{Frame}
@@ -12,7 +12,7 @@ use Rattle.seg_exec.specs.Segment.{Stopped}
 -- the frame is at the end of its body, and waits to join the first of its unjoined children
 pub record IsClosing (after : Frame) (on : ℕ) : Type 0 where
   pub next : after.next ≡ Closing on
-  pub calls : after.calls ≡ []
+  pub body : after.body ≡ None
   pub others : List ℕ
   pub out : after.out ≡ on ∷ others
 
@@ -22,8 +22,8 @@ abbrev pub NextAfter : Stop → Frame → Type 0
 NextAfter (ends.Make child args effects spawned future place) after = after.next ≡ Go
 NextAfter (ends.Waits on) after = (into : Option ℕ) × (after.next ≡ Get on into)
 NextAfter (ends.Joins on) after = ((into : Option ℕ) × (after.next ≡ Join on into)) ⊎ IsClosing after on
-NextAfter (ends.Done value) after = (after.next ≡ Ended) × (after.calls ≡ []) × (after.out ≡ []) × (after.value ≡ value)
-NextAfter (ends.Fault kind place) after = (after.next ≡ Ended) × (after.calls ≡ [])
+NextAfter (ends.Done value) after = (after.next ≡ Ended) × (after.body ≡ None) × (after.out ≡ []) × (after.value ≡ value)
+NextAfter (ends.Fault kind place) after = (after.next ≡ Ended) × (after.body ≡ None)
 
 -- how a segment has stopped after which this comes next, for the numbers of what is waited for
 abbrev pub StopBefore : Next → Stop → Type 0

@@ -1,9 +1,9 @@
 -- What is left of a body to be carried out, as statements.
-use Rattle.std.specs.Prelude.{ℕ, List, [], ◌∷◌, Option, Some, slice_get}
+use Rattle.std.specs.Prelude.{ℕ, List, [], ◌∷◌, Option, Some, slice_get, None}
 use Rattle.twe_program.specs.Program.{Program}
 use Rattle.twe_program.specs.Statement.{Statement, While, Statements, no_more, statement}
 use Rattle.cover_flow.specs.Steps.{followed_by}
-use Rattle.seg_exec.specs.declared.frame.Call.{Call}
+use Rattle.seg_exec.specs.declared.frame.OpenBody.{OpenBody}
 use Rattle.seg_exec.specs.declared.frame.Frame.{Frame}
 use Rattle.seg_exec.specs.declared.frame.Position.{Position}
 use Rattle.seg_exec.specs.Meaning.{body_of}
@@ -24,9 +24,9 @@ left_in stmts (position ∷ inner) =
     followed_by (again inner stmt (left_in (block_of (block_at inner) stmt) inner)) (after_first position.after stmts)
 
 -- what is left of a task's own body, or nothing where the task is at its end
-abbrev pub calls_left : Program → ℕ → List Call → Statements
-calls_left p decl [] = no_more
-calls_left p decl (call ∷ callers) = left_in (body_of (slice_get p.tasks decl)) call.stack
+abbrev pub body_left : Program → ℕ → Option OpenBody → Statements
+body_left p decl None = no_more
+body_left p decl (Some body) = left_in (body_of (slice_get p.tasks decl)) body.open_blocks
 
 abbrev pub left_of : Program → Frame → Statements
-left_of p frame = calls_left p frame.decl frame.calls
+left_of p frame = body_left p frame.decl frame.body

@@ -49,9 +49,9 @@ pub fn segments_follow_control_paths()
 /// made as the body declares it; a `join` waits for one that was spawned, and a `getValue` for one that was not.
 pub fn waits_are_of_made_tasks()
     ensures entry { (p : Program) → IsWellFormed p → (task : ℕ) (args : List ℤ) → IsReady p (entry_frame p task args) }
-    ensures same { (p : Program) (frame other : Frame) → other.decl ≡ frame.decl → other.calls ≡ frame.calls → other.futures ≡ frame.futures
+    ensures same { (p : Program) (frame other : Frame) → other.decl ≡ frame.decl → other.body ≡ frame.body → other.futures ≡ frame.futures
         → IsReady p frame → IsReady p other }
-    ensures ended { (p : Program) (frame : Frame) → IsReady p frame → IsReady p (record frame { calls = []; next = Ended }) }
+    ensures ended { (p : Program) (frame : Frame) → IsReady p frame → IsReady p (record frame { body = None; next = Ended }) }
     ensures given { (p : Program) (frame : Frame) (value : ℤ) → IsReady p frame → IsReady p (given frame value) }
     ensures waits { (p : Program) (frame : Frame) (cells : List ℤ) (on : ℕ) → IsReady p frame
         → (segment p frame cells).stop ≡ Waits on → AwaitsMade p frame false on }

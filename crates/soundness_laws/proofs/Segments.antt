@@ -21,7 +21,7 @@ use Rattle.twe_program.specs.declared.program.Decl.{Decl}
 use Rattle.twe_program.specs.Program.{Program}
 use Rattle.twe_program.specs.Fitting.{TakesArguments}
 use Rattle.twe_program.specs.WellFormed.{IsWellFormed, IsMain, DeclFits, PathFits, ElementFits}
-use Rattle.seg_exec.specs.declared.frame.Call.{Call}
+use Rattle.seg_exec.specs.declared.frame.OpenBody.{OpenBody}
 use Rattle.seg_exec.specs.declared.frame.Frame.{Frame}
 use Rattle.seg_exec.specs.declared.frame.Next.{Next}
 use Rattle.seg_exec.specs.declared.frame.Next.TheVariants as nexts
@@ -58,7 +58,7 @@ module _ (p : Program) (args : List ℤ) (es : List Effect) where
   -- what a segment leaves keeps to the effects and the arguments
   record Left (decl : ℕ) (stopped : Stopped) : Type 0 where
     each : Each p es stopped.accesses
-    begins : BeginWith args stopped.frame.calls
+    begins : BeginWith args stopped.frame.body
     next : NextFrom (length args) stopped.frame.next
     same : stopped.frame.decl ≡ decl
     stop : StopKeeps stopped.stop
@@ -101,26 +101,26 @@ module _ (p : Program) (args : List ℤ) (es : List Effect) where
 
 module _ (p : Program) (wf : IsWellFormed p) (effects : KeepsEffects p) where
   -- what remains of a frame of this declaration
-  calls_left_of : (args : List ℤ) (frame : Frame) (o : Option Decl) → slice_get p.tasks frame.decl ≡ o → TakesArguments o (length args)
-      → (calls : List Call) → BeginWith args calls → (cells : List ℤ) → Left p args (effects_of o args).effects frame.decl (stopped_by p frame (flow_of p frame calls cells))
-  calls_left_of args frame None found takes calls begins cells = absurd takes
-  calls_left_of args frame (Some decl) found takes [] begins cells =
+  body_left_of : (args : List ℤ) (frame : Frame) (o : Option Decl) → slice_get p.tasks frame.decl ≡ o → TakesArguments o (length args)
+      → (body : Option OpenBody) → BeginWith args body → (cells : List ℤ) → Left p args (effects_of o args).effects frame.decl (stopped_by p frame (flow_of p frame body cells))
+  body_left_of args frame None found takes body begins cells = absurd takes
+  body_left_of args frame (Some decl) found takes None begins cells =
       let es = (effects_of (Some decl) args).effects in
       record { each = tt; begins = tt; next = closing_from p args es frame.out; same = refl; stop = closing_keeps p args es frame.out frame.value }
-  calls_left_of args frame (Some decl) found takes (call ∷ callers) begins cells =
+  body_left_of args frame (Some decl) found takes (Some body) begins cells =
       let sound : Sound p decl = task_sound p wf effects frame.decl decl found in
       let is_task = in-contains p.tasks decl (got-in p.tasks frame.decl decl found) in
       let n = frame.fuel + 1 in
       let es = (effects_of (Some decl) args).effects in
-      let start : Store = store_at frame call.vars cells in
+      let start : Store = store_at frame body.vars cells in
       let kept : Kept p es args start = record { each = tt; begins = begins } in
       let all : AllFine p decl (body_of (slice_get p.tasks frame.decl)) = subst (λ (x : Option Decl). AllFine p decl (body_of x)) (sym found) sound.body in
-      left_by p args es decl is_task frame (flow_of p frame (call ∷ callers) cells)
+      left_by p args es decl is_task frame (flow_of p frame (Some body) cells)
       (resumed_kept p wf (method_sound p wf effects) (done_within p n) (within_keeps p wf (method_sound p wf effects) n)
-      decl sound args takes es (within_itself es) (body_of (slice_get p.tasks frame.decl)) all call.stack start kept)
+      decl sound args takes es (within_itself es) (body_of (slice_get p.tasks frame.decl)) all body.open_blocks start kept)
 
   left : (args : List ℤ) (frame : Frame) → RunsWith p args frame → (cells : List ℤ) → Left p args (effects_at p frame.decl args).effects frame.decl (segment p frame cells)
-  left args frame runs cells = calls_left_of args frame (slice_get p.tasks frame.decl) refl runs.count frame.calls runs.params cells
+  left args frame runs cells = body_left_of args frame (slice_get p.tasks frame.decl) refl runs.count frame.body runs.params cells
 
   pub segment_declared : (args : List ℤ) (frame : Frame) → RunsWith p args frame → (cells : List ℤ)
       → (access : Access) → Contains (segment p frame cells).accesses access → DeclaredNow p frame.decl args access
@@ -162,13 +162,13 @@ module _ (p : Program) (wf : IsWellFormed p) (effects : KeepsEffects p) where
   main_runs : (main : Decl) → slice_get p.tasks p.main ≡ Some main → (frame : Frame) → frame.decl ≡ p.main → RunsWith p [] frame
   main_runs main found frame same = record {
     count = subst (λ (o : Option Decl). TakesArguments o 0) (sym (ap (slice_get p.tasks) same ∙ found)) (no_params (slice_get p.tasks p.main) main wf.main found);
-    params = begin_with_none frame.calls;
+    params = begin_with_none frame.body;
     next = next_from_none frame.next;
   }
     where
-      begin_with_none : (calls : List Call) → BeginWith [] calls
-      begin_with_none [] = tt
-      begin_with_none (call ∷ callers) = refl
+      begin_with_none : (body : Option OpenBody) → BeginWith [] body
+      begin_with_none None = tt
+      begin_with_none (Some body) = refl
 
       into_from_none : (into : Option ℕ) → IntoFrom 0 into
       into_from_none None = tt

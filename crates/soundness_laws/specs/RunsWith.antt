@@ -1,16 +1,16 @@
 -- Frames of tasks that run with given arguments.
-use Rattle.std.specs.Prelude.{◌≡◌, ◌≤◌, ℕ, ℤ, List, [], ◌∷◌, length, take, Option, None, Some, slice_get}
+use Rattle.std.specs.Prelude.{◌≡◌, ◌≤◌, ℕ, ℤ, List, length, take, Option, None, Some, slice_get}
 use Rattle.twe_program.specs.Fitting.{TakesArguments}
 use Rattle.twe_program.specs.Program.{Program}
-use Rattle.seg_exec.specs.declared.frame.Call.{Call}
+use Rattle.seg_exec.specs.declared.frame.OpenBody.{OpenBody}
 use Rattle.seg_exec.specs.declared.frame.Frame.{Frame}
 use Rattle.seg_exec.specs.declared.frame.Next.{Next}
 use Rattle.seg_exec.specs.declared.frame.Next.TheVariants.{Go, Get, Join, Closing, Ended}
 
 -- the variables of the task's own body, where it is not at its end, begin with the arguments
-abbrev pub BeginWith : List ℤ → List Call → Type 0
-BeginWith args [] = Unit {0}
-BeginWith args (call ∷ callers) = take (length args) call.vars ≡ args
+abbrev pub BeginWith : List ℤ → Option OpenBody → Type 0
+BeginWith args None = Unit {0}
+BeginWith args (Some body) = take (length args) body.vars ≡ args
 
 -- the local that takes a value, if there is one, comes after the parameters
 abbrev pub IntoFrom : ℕ → Option ℕ → Type 0
@@ -28,5 +28,5 @@ NextFrom params Ended = Unit {0}
 -- these values, and the value that it waits for is taken by a local
 pub record RunsWith (p : Program) (args : List ℤ) (frame : Frame) : Type 0 where
   pub count : TakesArguments (slice_get p.tasks frame.decl) (length args)
-  pub params : BeginWith args frame.calls
+  pub params : BeginWith args frame.body
   pub next : NextFrom (length args) frame.next

@@ -15,7 +15,7 @@ use Rattle.twe_machine.proofs.Standing.{FrameStands, IsOver, RowStands}
 module _ (p : Program) (lim : Bounds) (rows : List TaskRow) (t : ℕ) where
   -- what was printed may be taken out
   emptied_closing : (frame : Frame) (on : ℕ) → IsClosing frame on → IsClosing (emptied frame) on
-  emptied_closing frame on closing = record { next = closing.next; calls = closing.calls; others = closing.others; out = closing.out }
+  emptied_closing frame on closing = record { next = closing.next; body = closing.body; others = closing.others; out = closing.out }
 
   emptied_stands : (frame : Frame) → FrameStands p lim rows t frame → FrameStands p lim rows t (emptied frame)
   emptied_stands frame stands = record {

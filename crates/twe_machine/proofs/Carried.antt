@@ -1,5 +1,5 @@
 -- The frame that a segment leaves.
-use Rattle.std.proofs.Common.{◌≡◌, ℕ, ℤ, Bool, true, false, List, [], Option, None, Some, inl, inr, refl, sym, ap, ◌∙◌, subst, arith}
+use Rattle.std.proofs.Common.{◌≡◌, ℕ, ℤ, Bool, true, false, List, Option, None, Some, inl, inr, refl, sym, ap, ◌∙◌, subst, arith}
 use Rattle.std.specs.Prelude.{slice_get}
 use Rattle.std.proofs.lemmas.Option.{slice_get_within}
 use Rattle.twe_limits.specs.Limits.{Bounds}
@@ -60,7 +60,7 @@ closing_after (stops.Joins other) frame on h is =
 closing_after (stops.Done value) frame on h is = absurd (cc (h.0, is))
 closing_after (stops.Fault kind place) frame on h is = absurd (cc (h.0, is))
 
-ended_after : (stop : Stop) (frame : Frame) → NextAfter stop frame → frame.next ≡ Ended → frame.calls ≡ []
+ended_after : (stop : Stop) (frame : Frame) → NextAfter stop frame → frame.next ≡ Ended → frame.body ≡ None
 ended_after (stops.Make child args effects spawned future place) frame h is = absurd (cc (h, is))
 ended_after (stops.Waits other) frame h is = absurd (cc (h.1, is))
 ended_after (stops.Joins other) frame h is = elim h [ inl join ↦ absurd (cc (join.1, is)) | inr closing ↦ absurd (cc (closing.next, is)) ]

@@ -1,6 +1,6 @@
 -- What is known between the two parts of a segment's end: the join that it took is taken, and the frame that it left is
 -- to go home.
-use Rattle.std.proofs.Common.{◌≡◌, ◌<◌, ◌+◌, ℕ, ℤ, Bool, false, List, [], length, Option, None, Some, refl, sym, ap, ◌∙◌, subst}
+use Rattle.std.proofs.Common.{◌≡◌, ◌<◌, ◌+◌, ℕ, ℤ, Bool, false, List, length, Option, None, Some, refl, sym, ap, ◌∙◌, subst}
 use Rattle.std.specs.Prelude.{slice_get, slice_set}
 use Rattle.twe_io.specs.declared.place.Place.{Place}
 use Rattle.effect_sets.specs.declared.effects.Summary.{Summary}
@@ -55,7 +55,7 @@ carries p row ready value cells =
     record {
       decl = keeps.decl ∙ (given_keeps row.frame.next row.frame value).decl;
       next = keeps.next;
-      ended = ready_same p (record before { calls = []; next = Ended }) (stopped_frame after.frame) keeps.decl refl keeps.futures (ready_ended p before ready_before);
+      ended = ready_same p (record before { body = None; next = Ended }) (stopped_frame after.frame) keeps.decl refl keeps.futures (ready_ended p before ready_before);
       later = ready_later p before cells ready_before;
       declared = λ child args effects spawned future place is.
           let makes = ready_declared p before cells ready_before child args effects spawned future place is in record {

@@ -54,7 +54,7 @@ pub record FrameStands (p : Program) (lim : Bounds) (rows : List TaskRow) (t : �
   pub joining : (on : ℕ) (into : Option ℕ) → frame.next ≡ Join on into → IsMadeAfter rows t (Some t) on
   pub closing : (on : ℕ) → frame.next ≡ Closing on → IsClosing frame on
   pub awaited_child : (on : ℕ) → frame.next ≡ Closing on → IsMadeAfter rows t (Some t) on
-  pub ended : frame.next ≡ Ended → frame.calls ≡ []
+  pub ended : frame.next ≡ Ended → frame.body ≡ None
 
 -- the task has ended, with a value or with a fault
 abbrev pub IsOver : TaskStatus → Type 0

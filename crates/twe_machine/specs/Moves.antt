@@ -85,7 +85,7 @@ emptied frame = record frame { prints = [] }
 
 -- the frame of a task that has met a fault where it was to make a task: nothing of it is left
 abbrev pub stopped_frame : Frame → Frame
-stopped_frame frame = record frame { calls = []; next = Ended }
+stopped_frame frame = record frame { body = None; next = Ended }
 
 -- the row of a task that goes on, that is done with a value, and that has met a fault
 abbrev pub going_row : TaskRow → Frame → TaskRow

@@ -28,6 +28,6 @@ pub use legal::{Why, may};
 pub use lowest_move::{lowest, lowest_from};
 pub use one_move::step;
 pub use outcomes::outcome;
-pub use seg_exec::{Call, Frame, Next, Position, Stop};
+pub use seg_exec::{Frame, Next, OpenBody, Position, Stop};
 pub use settling::settle;
 pub use state::{FirstFault, State, TaskRow, TaskStatus};

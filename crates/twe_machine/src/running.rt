@@ -53,7 +53,7 @@ fn no_frame(alloc: Global) -> Frame
     Frame {
         task: 0,
         decl: 0,
-        calls: List::new(alloc),
+        body: None,
         fuel: 0,
         futures: List::new(alloc),
         out: List::new(alloc),

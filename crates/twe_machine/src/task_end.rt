@@ -68,7 +68,7 @@ pub(crate) fn without_rest(alloc: Global, frame: Frame) -> Frame
     ensures { result ≡ stopped_frame frame }
 {
     let mut frame = frame;
-    frame.calls = List::new(alloc);
+    frame.body = None;
     frame.next = Next::Ended;
     frame
 }

@@ -1,5 +1,5 @@
 -- What the end of the evaluator's run makes of a frame.
-use Rattle.std.specs.Prelude.{ℤ, List, [], ◌∷◌, None}
+use Rattle.std.specs.Prelude.{ℤ, List, None, Some}
 use Rattle.twe_program.specs.Program.{Program}
 use Rattle.seg_exec.specs.declared.frame.Frame.{Frame}
 use Rattle.seg_exec.specs.declared.frame.Next.TheVariants.{Ended}
@@ -10,10 +10,10 @@ use Rattle.seg_exec.specs.declared.work.Ending.TheVariants.{Returned, Faulted, S
 use Rattle.seg_exec.specs.Segment.{closing, closing_stop, operation_next, operation_stop}
 
 abbrev pub ended_with : Frame → ℤ → Frame
-ended_with frame value = record frame { calls = []; next = closing frame.out; value = value }
+ended_with frame value = record frame { body = None; next = closing frame.out; value = value }
 
 abbrev pub finished : Program → Frame → List ℤ → Ending → Frame × Stop
 finished p frame vars (Returned value) = (ended_with frame value, closing_stop frame.out value)
-finished p frame vars (Faulted kind place) = (record frame { calls = []; next = Ended }, Fault kind place)
+finished p frame vars (Faulted kind place) = (record frame { body = None; next = Ended }, Fault kind place)
 finished p frame vars (Suspended operation positions) =
-    (record frame { calls = record { method = None; vars = vars; stack = positions } ∷ []; next = operation_next frame operation }, operation_stop p frame operation)
+    (record frame { body = Some (record { vars = vars; open_blocks = positions }); next = operation_next frame operation }, operation_stop p frame operation)

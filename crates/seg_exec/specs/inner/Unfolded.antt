@@ -2,7 +2,7 @@
 use Rattle.std.specs.Prelude.{List, [], ◌∷◌, Option, None, Some, slice_get}
 use Rattle.twe_program.specs.Statement.{Statement, While, Statements}
 use Rattle.twe_program.specs.Program.{Program}
-use Rattle.seg_exec.specs.declared.frame.Call.{Call}
+use Rattle.seg_exec.specs.declared.frame.OpenBody.{OpenBody}
 use Rattle.seg_exec.specs.declared.frame.Frame.{Frame}
 use Rattle.seg_exec.specs.declared.frame.Position.{Position}
 use Rattle.seg_exec.specs.Meaning.{body_of}
@@ -29,7 +29,7 @@ abbrev pub with_unfolded : Statements → List Position → Config → Config
 with_unfolded stmts positions c = record c { work = unfolded stmts positions c.work }
 
 -- the evaluator at what remains of a frame, if the frame is not at its end
-abbrev pub config_at : Program → Frame → List Call → Option Config
-config_at p frame [] = None
-config_at p frame (call ∷ callers) =
-    Some (with_unfolded (body_of (slice_get p.tasks frame.decl)) call.stack (record { work = []; values = []; vars = call.vars; fuel = frame.fuel; calls = 0 }))
+abbrev pub config_at : Program → Frame → Option OpenBody → Option Config
+config_at p frame None = None
+config_at p frame (Some body) =
+    Some (with_unfolded (body_of (slice_get p.tasks frame.decl)) body.open_blocks (record { work = []; values = []; vars = body.vars; fuel = frame.fuel; calls = 0 }))

@@ -1,5 +1,5 @@
 -- A run of one segment whose frame is out of its row meanwhile.
-use Rattle.std.specs.Prelude.{ℕ, pos, []}
+use Rattle.std.specs.Prelude.{ℕ, pos, [], None}
 use Rattle.twe_limits.specs.Limits.{Bounds}
 use Rattle.twe_program.specs.Program.{Program}
 use Rattle.seg_exec.specs.declared.frame.Frame.{Frame}
@@ -15,7 +15,7 @@ abbrev pub no_frame : Frame
 no_frame = record {
   task = 0;
   decl = 0;
-  calls = [];
+  body = None;
   fuel = 0;
   futures = [];
   out = [];

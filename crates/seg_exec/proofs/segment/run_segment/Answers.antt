@@ -8,13 +8,13 @@ use Rattle.seg_exec.proofs.segment.run_segment.Goals as goal
 
 pub returns-in_ok-ending-in-Some : goal.returns-in_ok-ending-in-Some
 returns-in_ok-ending-in-Some g c =
-    let is : config_at c.args.p.now c.args.frame.now c.args.frame.now.calls ≡ Some (config_of c.in-Some.machine) =
+    let is : config_at c.args.p.now c.args.frame.now c.args.frame.now.body ≡ Some (config_of c.in-Some.machine) =
     sym c.in_ok-machine_at.ensures ∙ ap (option_map config_of) c.in-Some.is in
     if_ok_map c.finish.result (λ stop done. carries_out c.args.p.now (ways_of g.C.Cells.known g.C.Cells.may_read g.C.Cells.may_write g.C.Cells.rule) c.args.frame.now c.in-Some.machine c.run.new.machine c.args.cells.now c.run.new.cells c.run.new.prints
     c.in_ok-ending-in-Some.ending c.finish.new.frame stop is c.in_ok-ending-in-Some.ensures done) c.finish.ensures
 
 pub run-requires : goal.run-requires
 run-requires g c =
-    let is : config_at c.args.p.now c.args.frame.now c.args.frame.now.calls ≡ Some (config_of c.in-Some.machine) =
+    let is : config_at c.args.p.now c.args.frame.now c.args.frame.now.body ≡ Some (config_of c.in-Some.machine) =
     sym c.in_ok-machine_at.ensures ∙ ap (option_map config_of) c.in-Some.is in
     may_run c.args.p.now (ways_of g.C.Cells.known g.C.Cells.may_read g.C.Cells.may_write g.C.Cells.rule) c.args.frame.now c.in-Some.machine c.args.cells.now c.args.frame.now.prints c.requires is
