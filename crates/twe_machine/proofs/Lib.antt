@@ -24,6 +24,7 @@ pub mod Ordered
 pub mod Places
 pub mod ReachedStands
 pub mod Ready
+pub mod Replayed
 pub mod Settled
 pub mod SettlesNext
 pub mod Standing

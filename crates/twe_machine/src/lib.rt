@@ -12,6 +12,7 @@ mod making;
 mod new_task;
 mod one_move;
 mod outcomes;
+mod replaying;
 mod running;
 mod settling;
 mod state;
@@ -28,6 +29,9 @@ pub use legal::{Why, may};
 pub use lowest_move::{lowest, lowest_from};
 pub use one_move::step;
 pub use outcomes::outcome;
+pub use replaying::{
+    ReplayFail, moves_make_the_journal, one_first_illegal, replay, replay_journal,
+};
 pub use seg_exec::{Frame, Next, OpenBody, Position, Stop};
 pub use settling::settle;
 pub use state::{FirstFault, State, TaskRow, TaskStatus};

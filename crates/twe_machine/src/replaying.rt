@@ -1,0 +1,114 @@
+//! Replay: the journal and the state that a list of moves leads to, or the first of the moves that is not legal.
+ghost use Rattle.std.specs.Prelude.{◌≡◌, ◌<◌, ◌+◌, ◌^◌, ◌∷◌, ◌++◌, ◌⊎◌, [], ℕ, List, length, map, IfOk, OnOk, IsErrOf, MatchResult};
+ghost use Rattle.seg_journal.specs.declared.journal.Entry.{Entry};
+ghost use Rattle.seg_journal.specs.declared.moves.Move.{Move};
+ghost use Rattle.seg_journal.specs.Spelling.{move_of};
+ghost use Rattle.twe_limits.specs.Limits.{Bounds};
+ghost use Rattle.twe_program.specs.Program.{Program};
+ghost use Rattle.twe_machine.specs.declared.legal.Why.{Why};
+ghost use Rattle.twe_machine.specs.declared.replaying.ReplayFail.TheVariants.{Illegal, OutOfMemory};
+ghost use Rattle.twe_machine.specs.Legal.{Forbids};
+ghost use Rattle.twe_machine.specs.Replays.{AreLegal, IsFirstIllegal, IsOutOfMemory, IsReplay};
+ghost use Rattle.twe_machine.specs.Runs.{IsRun, Legal};
+
+use crate::first_state::start;
+use crate::legal::{Why, may};
+use crate::one_move::step;
+use crate::state::State;
+use seg_journal::{Entry, Journal, Move};
+use std::alloc::Global;
+use twe_io::Memory;
+use twe_limits::Limits;
+use twe_program::Prog;
+
+/// Why a list of moves has no replay.
+#[derive(Clone, Copy, Debug, PartialEq, Eq)]
+pub enum ReplayFail {
+    /// Move `n`, counted from 1, is the first that is not legal.
+    Illegal { n: u64, why: Why },
+    /// There was not enough memory.
+    OutOfMemory(Memory),
+}
+
+impl From<Memory> for ReplayFail {
+    ghost from_gives = { λ memory fail. fail ≡ OutOfMemory memory };
+
+    fn from(memory: Memory) -> Self {
+        ReplayFail::OutOfMemory(memory)
+    }
+}
+
+/// The state after the moves, taken one after another from the start of a run of the program under these limits. If they
+/// are not all legal, it returns the number of the first that is not, counted from 1, and why it is not.
+pub fn replay(alloc: Global, p: &Prog, lim: Limits, moves: &[Move]) -> Result<State, ReplayFail>
+    // What it returns is the state that the moves lead to, and they are legal.
+    ensures replayed { IfOk result (λ st. (journal : List Entry) × IsReplay p.now lim moves.now journal st) }
+    ensures illegal { (n : ℕ) (why : Why) → IsErrOf result (Illegal n why) → IsFirstIllegal p.now lim moves.now n why }
+
+    // Legal moves are replayed, and a first illegal move is named, unless memory runs out.
+    ensures only_legal { AreLegal p.now lim moves.now → MatchResult result (λ _. Unit {0}) IsOutOfMemory }
+    ensures first_illegal { (n : ℕ) (why : Why) → IsFirstIllegal p.now lim moves.now n why
+        → MatchResult result (λ _. ⊥) (λ fail. (fail ≡ Illegal n why) ⊎ IsOutOfMemory fail) }
+{
+    match replay_journal(alloc, p, lim, moves) {
+        Ok((_, st)) => Ok(st),
+        Err(fail) => Err(fail),
+    }
+}
+
+/// The journal that has these moves, each with the end that it gives, and the state that the journal leads to. If the moves
+/// are not all legal, it returns the number of the first that is not, counted from 1, and why it is not.
+pub fn replay_journal(
+    alloc: Global,
+    p: &Prog,
+    lim: Limits,
+    moves: &[Move],
+) -> Result<(Journal, State), ReplayFail>
+    ensures replayed { IfOk result (λ run. IsReplay p.now lim moves.now run.0 run.1) }
+    ensures illegal { (n : ℕ) (why : Why) → IsErrOf result (Illegal n why) → IsFirstIllegal p.now lim moves.now n why }
+{
+    let mut st = start(alloc, p, lim)?;
+    let mut journal = Journal::new(alloc);
+    for (i, mv) in moves.iter().enumerate() {
+        take_move(alloc, p, lim, &mut st, &mut journal, *mv, i as u64 + 1)?;
+    }
+    Ok((journal, st))
+}
+
+/// Takes the move with the number `n` of a replay and enters it into the journal, if it is legal.
+fn take_move(
+    alloc: Global,
+    p: &Prog,
+    lim: Limits,
+    st: &mut State,
+    journal: &mut Journal,
+    mv: Move,
+    n: u64,
+) -> Result<(), ReplayFail>
+    requires { IsRun p.now lim journal.old st.old }
+    ensures run { OnOk result (IsRun p.now lim journal.new st.new) }
+    ensures moves { OnOk result (map move_of journal.new ≡ map move_of journal.old ++ mv ∷ []) }
+    ensures count { OnOk result (length journal.new ≡ length journal.old + 1) }
+    ensures number { (m : ℕ) (why : Why) → IsErrOf result (Illegal m why) → m ≡ n }
+    ensures forbids { (m : ℕ) (why : Why) → IsErrOf result (Illegal m why) → Forbids st.old mv.kind mv.task why }
+{
+    if let Err(why) = may(p, st, mv) {
+        return Err(ReplayFail::Illegal { n, why });
+    }
+    let end = step(alloc, p, lim, st, mv)?;
+    journal.push(Entry { mv, end })?;
+    Ok(())
+}
+
+/// Legal moves have no first illegal one. A list of moves has one first illegal move at most, and one reason for it.
+pub fn one_first_illegal()
+    ensures never_both { (p : Program) (lim : Bounds) (moves : List Move) (n : ℕ) (why : Why) → AreLegal p lim moves → ¬ IsFirstIllegal p lim moves n why }
+    ensures one { (p : Program) (lim : Bounds) (moves : List Move) (n m : ℕ) (why other : Why)
+        → IsFirstIllegal p lim moves n why → IsFirstIllegal p lim moves m other → (n ≡ m) × (why ≡ other) }
+{}
+
+/// The moves of a legal journal determine it, with the end of each entry.
+pub fn moves_make_the_journal()
+    ensures { (p : Program) (lim : Bounds) (journal other : List Entry) → Legal p lim journal → Legal p lim other
+        → map move_of journal ≡ map move_of other → journal ≡ other }
+{}
