@@ -1,5 +1,5 @@
 -- What the rows of tasks keep to while a program runs.
-use Rattle.std.specs.Prelude.{◌≡◌, ◌≢◌, ℕ, Some}
+use Rattle.std.specs.Prelude.{◌≡◌, ◌≢◌, ℕ}
 use Rattle.effect_sets.specs.Interference.{SomeInterfere}
 use Rattle.twe_program.specs.Program.{Program}
 use Rattle.seg_exec.specs.Entry.{effects_at}

@@ -1,4 +1,4 @@
--- Bodies that assign to no parameter: what they assign, declare or wait for comes after the parameters.
+-- Bodies that assign to no parameter: each variable that they set comes after the parameters.
 use Rattle.std.proofs.Common.{ℕ, ◌+◌, ◌≤◌, List, [], ◌∷◌, Option, None, Some, arith}
 use Rattle.std.specs.Prelude.{option_to_list}
 use Rattle.std.specs.List.{AllByRecursion}
@@ -8,7 +8,7 @@ use Rattle.twe_program.specs.Params.{SetsFrom, AllSetFrom, ArmsSetFrom}
 use Rattle.effect_check.proofs.Members.{all-front, all-back}
 use Rattle.soundness_laws.specs.RunsWith.{IntoFrom}
 
--- each variable that a statement changes is this one or a later one
+-- each variable that the statement sets is this one or a later one
 abbrev mutual
   pub AssignsFrom : ℕ → Statement → Type 0
   AssignsFrom n (Block point body) = AllAssignFrom n body

@@ -1,5 +1,5 @@
--- The path that the rules have for a cell has the cell's concrete path in its set, where its indexes stand against
--- those of the cell.
+-- The rules have a written path for an access of a cell. The cell's concrete path is in its set, if the written indexes
+-- stand for those of the cell.
 use Rattle.std.proofs.Common.{◌≡◌, ℕ, zero, suc, ◌+◌, ◌-◌, ◌*◌, ◌/◌, ◌%◌, ◌<◌, ◌≤◌, ℤ, pos, negsuc, Bool, true, false, List, [], ◌∷◌, ◌++◌, map, Option, None, Some, refl, sym, ap, ap₂, ◌∙◌, subst, arith, ltb-true}
 use Rattle.std.specs.Prelude.{nat_lt, slice_get, option_map, if◌then◌else◌}
 use Rattle.std.specs.List.{AllByRecursion}
@@ -39,7 +39,7 @@ comes_after [] n i decl up found = absurd (cc)
 comes_after (c ∷ cells) n zero decl up found = let same : c.first ≡ decl.first = cc in omega (arith, up.0, same)
 comes_after (c ∷ cells) n (suc i) decl up found = omega (arith, comes_after cells (n + size_of c.dims) i decl up.1 found)
 
--- the path of a cell is that within its own declaration
+-- the path of a cell is its path within its own declaration
 path_found : (cells : List CellDecl) (n i : ℕ) (decl : CellDecl) (place : ℕ) → CellsCountUp n cells → slice_get cells i ≡ Some decl → place < size_of decl.dims
     → path_among cells (decl.first + place) ≡ path_within decl (decl.first + place)
 path_found [] n i decl place up found within = absurd (cc)
@@ -60,7 +60,7 @@ fits_at P [] i decl all found = absurd (cc)
 fits_at P (c ∷ cells) zero decl all found = let same : c ≡ decl = cc in subst P same all.0
 fits_at P (c ∷ cells) (suc i) decl all found = fits_at P cells i decl all.1 found
 
--- what holds of the number of an element, if there is one
+-- this holds for the number of an element, if there is one
 abbrev pub AtSome : (ℕ → Type 0) → Option ℕ → Type 0
 AtSome P None = Unit {0}
 AtSome P (Some n) = P n
@@ -95,7 +95,7 @@ module _ (p : Program) (wf : IsWellFormed p) (v : Valuation) where
       let same : decl.first + 0 ≡ cell_number p cell = omega (arith, number) in
       subst (Touches cell []) same (touches cell decl [] 0 found shape.0 (ap (λ (l : ConcretePath). each_stands [] l) shape.1))
 
-  -- an index within its bound is the place
+  -- an index within its bound is the place of the element
   below : (bound n : ℕ) (within : Bool) → nat_lt n bound ≡ within → AtSome (λ place. (place < bound) × (pos n ≡ pos place)) (if within then Some n else None)
   below bound n true e = (ltb-true n bound e, refl)
   below bound n false e = tt

@@ -1,4 +1,4 @@
--- What a summary covers as it is written, it covers when it runs: under the values of the variables.
+-- What a written summary covers, its instance covers when the task runs, with the values of the variables.
 use Rattle.std.proofs.Common.{◌≡◌, ℕ, zero, suc, ◌<◌, ℤ, true, IsTrue, List, [], ◌∷◌, map, length, take, inl, inr, Some, refl, sym, ap, ◌∙◌, subst, arith}
 use Rattle.std.specs.Prelude.{slice_get}
 use Rattle.std.specs.List.{AllByRecursion}
@@ -29,7 +29,7 @@ map-in f [] y h = absurd h
 map-in f (x ∷ xs) y (inl e) = (x, inl refl, e)
 map-in f (x ∷ xs) y (inr h) = let found = map-in f xs y h in (found.0, inr found.1, found.2)
 
--- the effect is within one of these
+-- the effect lies within one of these
 abbrev pub SomeWithin : List Effect → Effect → Type 0
 SomeWithin es e = (d : Effect) × IsIn d es × EffectWithin d e
 
@@ -52,7 +52,7 @@ vars_below-fits regions n (Index i ∷ es) fit = vars_below-fits regions n es fi
 vars_below-fits regions n (Var k ∷ es) fit = and_from _ _ (lt-ltb k n fit.0) (vars_below-fits regions n es fit.1)
 vars_below-fits regions n (AnyIndex ∷ es) fit = vars_below-fits regions n es fit.1
 
--- variables that begin with the arguments have them as their values
+-- if the variables begin with the arguments, the parameters have these values
 abbrev pub values_now : List ℤ → Valuation
 values_now vars = λ var. value_in (slice_get vars var)
 
@@ -73,7 +73,7 @@ module _ (summary : Summary) (regions : ℕ) (args : List ℤ) (fits : SummaryFi
       let back : vars_below (length (literals args)) e.path.tail ≡ true = ap (λ n. vars_below n e.path.tail) same ∙ vars_below-fits regions (length args) e.path.tail fit.tail in
       fill_effect-literals v args e gives (and_from _ _ front back)
 
-  -- an effect that the summary covers is within one of it now
+  -- an effect that the summary covers lies within an effect of its instance
   pub covered_now : (e : Effect) → IsTrue (covers summary e) → SomeWithin (fill_summary (literals args) summary).effects (effect_under v e)
   covered_now e covered =
       let found = list_any-in (λ d. effect_covers d e) summary.effects covered in
@@ -82,8 +82,8 @@ module _ (summary : Summary) (regions : ℕ) (args : List ℤ) (fits : SummaryFi
       let now : EffectWithin (fill_effect (literals args) d) (effect_under v e) = subst (λ (x : Effect). EffectWithin x (effect_under v e)) (sym (under_is_filled d fit)) (covers-under d e found.2 v) in
       (fill_effect (literals args) d, in-map (fill_effect (literals args)) summary.effects d found.1, now)
 
-  -- where the summary covers each effect of another as it is filled with the written arguments, each effect of that one
-  -- as it is filled with their values is within one of the summary now
+  -- if the summary covers each effect of another summary, filled with the written arguments, then each effect of the
+  -- other one, filled with their values, lies within an effect of the summary's instance
   pub filled_now : (other : Summary) (written : List Elem) (values : List ℤ) → ArgumentsStand v written values
       → ((e : Effect) → IsIn e (fill_summary written other).effects → IsTrue (covers summary e))
       → (e : Effect) → IsIn e (fill_summary (literals values) other).effects → SomeWithin (fill_summary (literals args) summary).effects e

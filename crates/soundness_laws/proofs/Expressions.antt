@@ -1,4 +1,4 @@
--- Expressions keep to what their declaration declares, and leave its variables as they are.
+-- Expressions access only what their declaration declares, and leave its variables as they are.
 use Rattle.seg_exec.specs.Entry.{effects_at}
 use Rattle.effect_sets.specs.declared.effects.Summary.{Summary}
 use Rattle.std.proofs.Common.{◌≡◌, ℕ, zero, suc, ◌+◌, ℤ, Bool, true, false, IsTrue, List, [], ◌∷◌, length, take, Option, None, Some, refl, sym, ap, subst, arith, Contains}
@@ -43,11 +43,11 @@ use Rattle.soundness_laws.proofs.Declared.{SomeWithin, within_more, some_covers,
 use Rattle.soundness_laws.proofs.Static.{AllDeclared}
 use Rattle.soundness_laws.proofs.Sound.{Sound, Fine, declared_front, declared_back}
 
--- nothing more is said of a value
+-- a value about which nothing more is said
 abbrev pub AnyValue : {A : Type 0} → A → Type 0
 AnyValue value = true ≡ true
 
--- the element that the rules have for an expression stands against its value, where the variables have these values
+-- the element that the rules have for an expression stands for its value, if the variables have these values
 abbrev pub StandsFor : List ℤ → Expression → ℤ → Type 0
 StandsFor vars e value = elem_stands (elem_under (values_now vars) (element_of e)) (number value) ≡ true
 
@@ -64,31 +64,31 @@ module _ (p : Program) where
     pub each : Each es s.accesses
     pub begins : take (length args) s.vars ≡ args
 
-  -- an expression is done: its accesses are covered, the variables are as they were, and this holds of its value
+  -- an expression is evaluated: its accesses are covered, the variables are as they were, and this holds for its value
   abbrev pub GivenKeeps : {A : Type 0} → List Effect → List ℤ → (A → Type 0) → Given A → Type 0
   GivenKeeps es vars Q (gives value s) = (s.vars ≡ vars) × Each es s.accesses × Q value
   GivenKeeps es vars Q (faults kind place s) = Each es s.accesses
 
-  -- a task is made with as many arguments as it has parameters, and where a task spawns it, each of its effects is within
-  -- one of these; and a value is taken by a local
+  -- a task is made with as many arguments as it has parameters; if a task spawns it, each of its effects lies within
+  -- one of these; and an awaited value goes to a local
   abbrev pub OperationKeeps : Decl → List Effect → ℕ → Operation → Type 0
   OperationKeeps decl es params (operations.Make future task args spawned place) =
       TakesArguments (slice_get p.tasks task) (length args)
       × (Contains p.tasks decl → spawned ≡ true → (e : Effect) → IsIn e (effects_at p task args).effects → SomeWithin es e)
   OperationKeeps decl es params (operations.Wait future join into) = IntoFrom params into
 
-  -- a statement is done: its accesses are covered, and the variables begin with the arguments
+  -- a statement is carried out: its accesses are covered, and the variables begin with the arguments
   abbrev pub FlowKeeps : Decl → List Effect → List ℤ → Flow → Type 0
   FlowKeeps decl es args (goes s) = Kept es args s
   FlowKeeps decl es args (returns value s) = Kept es args s
   FlowKeeps decl es args (fails kind place s) = Each es s.accesses
   FlowKeeps decl es args (stops operation positions s) = Kept es args s × OperationKeeps decl es (length args) operation
 
-  -- each effect that a declaration declares for these arguments is within one of these
+  -- each effect that a declaration declares for these arguments lies within one of these
   abbrev pub DeclaredIn : Decl → List ℤ → List Effect → Type 0
   DeclaredIn decl args es = (e : Effect) → IsIn e (fill_summary (literals args) decl.summary).effects → SomeWithin es e
 
-  -- each statement of a declaration keeps to what it declares
+  -- each statement of a declaration accesses only what is declared
   abbrev pub BelowKeeps : Below → Type 0
   BelowKeeps below = (decl : Decl) → Sound p decl → (args : List ℤ) → decl.params ≡ length args → (es : List Effect) → DeclaredIn decl args es
       → (stmt : Statement) → Fine p decl stmt → (s : Store) → Kept es args s → FlowKeeps decl es args (below stmt s)
@@ -146,8 +146,8 @@ module _ (p : Program) (wf : IsWellFormed p) (methods : (i : ℕ) (decl : Decl) 
       let inside = within_more es declared.0 (effect_under now effect) (within declared.0 declared.1) declared.2 in
       some_covers es (effect_under now effect) _ inside ((λ w. w), there)
 
-  -- where the summary covers each effect of another as it is filled with the written arguments, each effect of that one
-  -- as it is filled with their values is within one of these
+  -- if the summary covers each effect of another summary, filled with the written arguments, then each effect of the
+  -- other one, filled with their values, lies within one of these
   pub filled_within : (other : Summary) (written : List Elem) (values : List ℤ) → ArgumentsStand now written values
       → ((e : Effect) → IsIn e (fill_summary written other).effects → IsTrue (covers decl.summary e))
       → (e : Effect) → IsIn e (fill_summary (literals values) other).effects → SomeWithin es e
@@ -161,7 +161,7 @@ module _ (p : Program) (wf : IsWellFormed p) (methods : (i : ℕ) (decl : Decl) 
   element_kept path covered None there place s same each = each
   element_kept path covered (Some cell) there place s same each = (same, (path_covered false path _ covered there, each), refl)
 
-  -- a method keeps to what it declares for its arguments, which the caller declares for its own
+  -- a method accesses only what it declares for its arguments, and the caller declares that too
   entered_kept : (method : ℕ) (written : List Elem) (values : List ℤ) → ArgumentsStand now written values
       → (full : Bool) (o : Option Decl) → slice_get p.methods method ≡ o → TakesArguments o (length values)
       → ((e : Effect) → IsIn e (filled_summary o written).effects → IsTrue (covers decl.summary e))

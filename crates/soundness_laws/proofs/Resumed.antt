@@ -1,4 +1,4 @@
--- What remains of a body keeps to what its declaration declares: each of its statements is one of the body.
+-- The rest of a body accesses only what its declaration declares, since each of its statements is one of the body.
 use Rattle.std.proofs.Common.{◌≡◌, ℕ, zero, suc, ℤ, List, [], ◌∷◌, ◌++◌, length, Option, None, Some}
 use Rattle.std.specs.Prelude.{slice_get}
 use Rattle.effect_sets.specs.declared.effects.Effect.{Effect}

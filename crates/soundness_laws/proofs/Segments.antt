@@ -1,4 +1,4 @@
--- A segment keeps to the effects that its task declared, and leaves the arguments as they are.
+-- A segment accesses only what its task declares, and leaves the arguments as they are.
 use Rattle.soundness_laws.proofs.Declared.{SomeWithin, within_itself}
 use Rattle.seg_exec.specs.declared.stop.Stop.{Stop}
 use Rattle.seg_exec.specs.declared.stop.Stop.TheVariants as ends
@@ -41,12 +41,13 @@ use Rattle.soundness_laws.proofs.Expressions.{Each, Kept, FlowKeeps, OperationKe
 use Rattle.soundness_laws.proofs.Statements.{within_keeps}
 use Rattle.soundness_laws.proofs.Resumed.{resumed_kept}
 
--- a task that has carried out nothing runs with its arguments
+-- a task before its first segment runs with its arguments
 pub entry_runs : (p : Program) (task : ℕ) (args : List ℤ) → TakesArguments (slice_get p.tasks task) (length args) → RunsWith p args (entry_frame p task args)
 entry_runs p task args takes = record { count = takes; params = take-append_seam args _; next = tt }
 
 module _ (p : Program) (args : List ℤ) (es : List Effect) where
-  -- a task that is made runs with its arguments, and has its effects; those of a spawned one are within these
+  -- a made task runs with its arguments and has the effects of its filled summary; those of a spawned task lie within
+  -- these
   abbrev StopKeeps : Stop → Type 0
   StopKeeps (ends.Make child given effects spawned future place) =
       RunsWith p given child × (effects ≡ effects_at p child.decl given) × (spawned ≡ true → (e : Effect) → IsIn e effects.effects → SomeWithin es e)
@@ -55,7 +56,7 @@ module _ (p : Program) (args : List ℤ) (es : List Effect) where
   StopKeeps (ends.Done value) = Unit {0}
   StopKeeps (ends.Fault kind place) = Unit {0}
 
-  -- what a segment leaves keeps to the effects and the arguments
+  -- what a segment leaves: its accesses are covered, and its frame still runs with the arguments
   record Left (decl : ℕ) (stopped : Stopped) : Type 0 where
     each : Each p es stopped.accesses
     begins : BeginWith args stopped.frame.body
@@ -100,7 +101,7 @@ module _ (p : Program) (args : List ℤ) (es : List Effect) where
   }
 
 module _ (p : Program) (wf : IsWellFormed p) (effects : KeepsEffects p) where
-  -- what remains of a frame of this declaration
+  -- what a segment leaves of a frame of this declaration
   body_left_of : (args : List ℤ) (frame : Frame) (o : Option Decl) → slice_get p.tasks frame.decl ≡ o → TakesArguments o (length args)
       → (body : Option OpenBody) → BeginWith args body → (cells : List ℤ) → Left p args (effects_of o args).effects frame.decl (stopped_by p frame (flow_of p frame body cells))
   body_left_of args frame None found takes body begins cells = absurd takes
@@ -181,7 +182,7 @@ module _ (p : Program) (wf : IsWellFormed p) (effects : KeepsEffects p) where
       next_from_none (nexts.Closing on) = tt
       next_from_none nexts.Ended = tt
 
-  -- a summary without parameters is filled as it stands
+  -- filling a summary without parameters changes nothing
   no_var-fits : (regions : ℕ) (elems : List Elem) → AllByRecursion (ElementFits regions 0) elems → no_var elems ≡ true
   no_var-fits regions [] fit = refl
   no_var-fits regions (Name n ∷ elems) fit = no_var-fits regions elems fit.1

@@ -1,4 +1,4 @@
--- What is known of a declaration of an accepted program, and of the parts of its body.
+-- What holds for a declaration of an accepted program, and for the parts of its body.
 use Rattle.std.proofs.Common.{◌≡◌, ℕ, zero, suc, List, [], ◌∷◌, ◌++◌, Some, inl, inr, arith}
 use Rattle.std.specs.Prelude.{slice_get}
 use Rattle.twe_program.specs.declared.program.Decl.{Decl}
@@ -13,7 +13,7 @@ use Rattle.soundness_laws.specs.KeepsEffects.{KeepsEffects}
 use Rattle.soundness_laws.proofs.Assigned.{AssignsFrom, AllAssignFrom, ArmsAssignFrom, counted_from, all_assign}
 use Rattle.soundness_laws.proofs.Static.{ActDeclared, AllDeclared, task_declares, method_declares}
 
--- a statement, statements and arms of the body of a declaration
+-- what holds for a statement, for statements and for arms of a declaration's body
 pub record Fine (p : Program) (decl : Decl) (stmt : Statement) : Type 0 where
   pub declares : AllDeclared p decl (acts_in p stmt)
   pub fits : StatementFits (scope_of p decl) stmt
@@ -39,7 +39,7 @@ declared_front p decl xs ys h = all-front (λ (act : Act). ActDeclared p decl ac
 pub declared_back : (p : Program) (decl : Decl) (xs ys : List Act) → AllDeclared p decl (xs ++ ys) → AllDeclared p decl ys
 declared_back p decl xs ys h = all-back (λ (act : Act). ActDeclared p decl act.kind) xs ys h
 
--- what is at a place of a list is in it
+-- an element at a place of a list is a member of the list
 pub got-in : {X : Type 0} (xs : List X) (i : ℕ) (x : X) → slice_get xs i ≡ Some x → IsIn x xs
 got-in [] i x e = absurd (cc)
 got-in (y ∷ ys) zero x e = inl (cc)

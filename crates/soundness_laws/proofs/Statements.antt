@@ -1,4 +1,4 @@
--- Statements keep to what their declaration declares, and leave its parameters as they are.
+-- Statements access only what their declaration declares, and leave its parameters as they are.
 use Rattle.effect_check.proofs.Members.{IsIn}
 use Rattle.seg_exec.specs.Entry.{effects_of}
 use Rattle.region_paths.specs.Arguments.{ArgumentsStand}
@@ -121,7 +121,7 @@ module _ (p : Program) (wf : IsWellFormed p) (methods : (i : ℕ) (decl : Decl) 
     begins = ap (take (length args)) same ∙ begins;
   }
 
-  -- the effects of a spawned task are within those that its maker declares
+  -- the effects of a spawned task lie within those that its maker declares
   spawn_kept : (vars : List ℤ) → take (length args) vars ≡ args → (task : ℕ) (written : List Elem) (values : List ℤ) → ArgumentsStand (values_now vars) written values
       → (spawned : Bool) (o : Option Decl) → slice_get p.tasks task ≡ o
       → (Contains p.tasks decl → spawned ≡ true → (e : Effect) → IsIn e (filled_summary o written).effects → IsTrue (covers decl.summary e))
@@ -219,7 +219,7 @@ module _ (p : Program) (wf : IsWellFormed p) (methods : (i : ℕ) (decl : Decl) 
     arms_kept block point (otherwise body) fine s kept = all_kept block 0 body (record { declares = fine.declares; fits = fine.fits; assigns = fine.assigns }) s kept
     arms_kept block point no_else fine s kept = kept
 
--- whatever the bound, each statement keeps to what its declaration declares
+-- each statement accesses only what its declaration declares, whatever the bound
 pub within_keeps : (p : Program) → IsWellFormed p → ((i : ℕ) (decl : Decl) → slice_get p.methods i ≡ Some decl → Sound p decl) → (n : ℕ) → BelowKeeps p (done_within p n)
 within_keeps p wf methods zero decl sound args count es within stmt fine s kept = kept
 within_keeps p wf methods (suc n) decl sound args count es within stmt fine s kept =

@@ -1,4 +1,4 @@
--- What the rules say of a body that fails none of them: each effect of what it does is covered by its summary.
+-- What the rules on effects say of a body that keeps them: its summary covers each effect of its acts.
 use Rattle.twe_io.specs.declared.place.Place.{Place}
 use Rattle.std.proofs.Common.{ℕ, IsTrue, List, [], ◌∷◌, inl, inr, Contains, refl, sym, ◌∙◌, ◌≡◌, Bool, true, false}
 use Rattle.std.specs.List.{AllByRecursion}
@@ -18,7 +18,7 @@ use Rattle.effect_check.specs.FailsEffect as rules
 use Rattle.effect_check.proofs.Members.{IsIn, in-contains}
 use Rattle.soundness_laws.specs.KeepsEffects.{KeepsEffects}
 
--- the effects of an act are covered by the summary; those of a task that is made need be only where a task spawns it
+-- the summary covers the effects of the act; those of a made task only if a task spawns it
 abbrev pub ActDeclared : Program → Decl → ActKind → Type 0
 ActDeclared p decl (kinds.Touch effect place) = IsTrue (covers decl.summary effect)
 ActDeclared p decl (kinds.Call effects place) = (e : Effect) → IsIn e effects.effects → IsTrue (covers decl.summary e)
@@ -29,7 +29,7 @@ ActDeclared p decl (kinds.Wait future join place) = Unit {0}
 abbrev pub AllDeclared : Program → Decl → List Act → Type 0
 AllDeclared p decl acts = AllByRecursion (λ (act : Act). ActDeclared p decl act.kind) acts
 
--- what holds of each element holds of all
+-- what holds for each element holds for all
 each-all : {X : Type 0} (P : X → Type 0) (xs : List X) → ((x : X) → IsIn x xs → P x) → AllByRecursion P xs
 each-all P [] h = tt
 each-all P (x ∷ xs) h = (h x (inl refl), each-all P xs (λ y i. h y (inr i)))

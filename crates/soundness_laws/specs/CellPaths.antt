@@ -1,4 +1,5 @@
--- The concrete path of each cell of a program: that of its declaration, and in an array or a grid its indexes.
+-- The concrete path of each cell of a program: the path of its declaration, followed by its indexes in an array or a
+-- grid.
 use Rattle.std.specs.Prelude.{ℕ, ◌+◌, ◌-◌, ◌/◌, ◌%◌, pos, List, [], ◌∷◌, ◌++◌, map, nat_lt, if◌then◌else◌}
 use Rattle.region_paths.specs.declared.elements.Elem.{Elem}
 use Rattle.region_paths.specs.declared.elements.Elem.TheVariants.{Name, Index, Var, AnyIndex}
@@ -8,7 +9,7 @@ use Rattle.twe_program.specs.declared.program.Dims.TheVariants.{Scalar, Row, Gri
 use Rattle.twe_program.specs.declared.program.CellDecl.{CellDecl}
 use Rattle.twe_program.specs.Program.{Program, size_of}
 
--- a region and a literal index stand for themselves; the path of a declaration of cells has no other elements
+-- a region and a literal index are themselves; the path of a declaration of cells has no other elements
 abbrev pub concrete : Elem → ConcreteElem
 concrete (Name name) = region name
 concrete (Index index) = number index
@@ -25,7 +26,7 @@ indexes_at (Grid rows columns) place = number (pos (place / columns)) ∷ number
 abbrev pub path_within : CellDecl → ℕ → ConcretePath
 path_within decl cell = map concrete decl.path.elems ++ indexes_at decl.dims (cell - decl.first)
 
--- the path of a cell of one of the declarations: the first that ends after it
+-- the path of a cell of one of these declarations: the first one that ends after the cell
 abbrev pub path_among : List CellDecl → ℕ → ConcretePath
 path_among [] cell = []
 path_among (decl ∷ others) cell = if nat_lt cell (decl.first + size_of decl.dims) then path_within decl cell else path_among others cell

@@ -1,4 +1,4 @@
--- When an access of a running task is one that the task declared.
+-- When a running task has declared an access.
 use Rattle.std.specs.Prelude.{ℕ, ℤ, true, false, List, [], ◌∷◌}
 use Rattle.region_paths.specs.Concrete.{region}
 use Rattle.effect_sets.specs.Access.{Access as PathAccess, SomeCoversAccess}
@@ -7,7 +7,7 @@ use Rattle.seg_exec.specs.Access.{Access, Reads, Writes, Prints}
 use Rattle.seg_exec.specs.Entry.{effects_at}
 use Rattle.soundness_laws.specs.CellPaths.{path_of_cell}
 
--- a read or a write of a cell is one of the cell's concrete path, and a print is a write of `Console`, the first region
+-- a read or a write of a cell has the cell's concrete path; a print is a write of `Console`, which is the first region
 abbrev pub access_of : Program → Access → PathAccess
 access_of p (Reads cell value) = record { write = false; path = path_of_cell p cell }
 access_of p (Writes cell value) = record { write = true; path = path_of_cell p cell }

@@ -4,6 +4,6 @@ use Rattle.twe_program.specs.Program.{Program}
 use Rattle.effect_check.specs.declared.rule.ERule.{ERule}
 use Rattle.effect_check.specs.FailsEffect.{FailsEffect}
 
--- the program fails no rule on effects at any place
+-- the program does not fail any rule on effects at any place
 abbrev pub KeepsEffects : Program → Type 0
 KeepsEffects p = (rule : ERule) (place : Place) → ¬ FailsEffect p rule place

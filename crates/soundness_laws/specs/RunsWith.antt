@@ -7,12 +7,12 @@ use Rattle.seg_exec.specs.declared.frame.Frame.{Frame}
 use Rattle.seg_exec.specs.declared.frame.Next.{Next}
 use Rattle.seg_exec.specs.declared.frame.Next.TheVariants.{Go, Get, Join, Closing, Ended}
 
--- the variables of the task's own body, where it is not at its end, begin with the arguments
+-- the variables of the task's own body begin with the arguments; a body that has ended has none
 abbrev pub BeginWith : List ℤ → Option OpenBody → Type 0
 BeginWith args None = Unit {0}
 BeginWith args (Some body) = take (length args) body.vars ≡ args
 
--- the local that takes a value, if there is one, comes after the parameters
+-- the local that takes an awaited value, if there is one, comes after the parameters
 abbrev pub IntoFrom : ℕ → Option ℕ → Type 0
 IntoFrom params None = Unit {0}
 IntoFrom params (Some var) = params ≤ var
@@ -24,8 +24,8 @@ NextFrom params (Join on into) = IntoFrom params into
 NextFrom params (Closing on) = Unit {0}
 NextFrom params Ended = Unit {0}
 
--- the frame is that of a task with these arguments, as many as its declaration has parameters: its parameters have
--- these values, and the value that it waits for is taken by a local
+-- The frame belongs to a task with these arguments. There are as many as its declaration has parameters, the parameters
+-- have these values, and the local that takes an awaited value is not a parameter.
 pub record RunsWith (p : Program) (args : List ℤ) (frame : Frame) : Type 0 where
   pub count : TakesArguments (slice_get p.tasks frame.decl) (length args)
   pub params : BeginWith args frame.body

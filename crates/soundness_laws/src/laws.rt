@@ -1,4 +1,4 @@
-//! Laws: the accesses of a segment are among the effects that its task declared.
+//! Laws: the accesses of a segment lie within the effects that its task declares.
 ghost use Rattle.std.specs.Prelude.{◌≡◌, ℕ, ℤ, Any, Bool, true, Contains, List, Some, length, slice_get};
 ghost use Rattle.twe_io.specs.declared.place.Place.{Place};
 ghost use Rattle.effect_sets.specs.declared.effects.Effect.{Effect};
@@ -13,25 +13,30 @@ ghost use Rattle.seg_exec.specs.declared.frame.Frame.{Frame};
 ghost use Rattle.seg_exec.specs.declared.stop.Stop.TheVariants.{Make};
 ghost use Rattle.seg_exec.specs.Access.{Access};
 ghost use Rattle.seg_exec.specs.Entry.{effects_at, entry_frame};
+ghost use Rattle.seg_exec.specs.Giving.{given};
 ghost use Rattle.seg_exec.specs.Segment.{segment};
 ghost use Rattle.soundness_laws.specs.DeclaredNow.{DeclaredNow, access_of};
 ghost use Rattle.soundness_laws.specs.KeepsEffects.{KeepsEffects};
 ghost use Rattle.soundness_laws.specs.RunsWith.{RunsWith};
 
-/// A task of a program that fails no rule on effects keeps to the effects that it declares: each access of its segment,
-/// whatever the cells have, lies in the set of one effect of its summary, filled with its arguments, which writes if the
-/// access does. A segment leaves the arguments as they are, so this holds of the task's later segments too.
+/// A task of a program that keeps the rules on effects does no more than it declares. Each access of its segment lies in
+/// the set of one effect of its summary, filled with its arguments, and that effect writes if the access writes. This
+/// holds whatever values the cells have.
 pub fn accepted_programs_keep_their_effects()
     ensures { (p : Program) → IsWellFormed p → KeepsEffects p
         → (args : List ℤ) (frame : Frame) → RunsWith p args frame → (cells : List ℤ)
         → (access : Access) → Contains (segment p frame cells).accesses access → DeclaredNow p frame.decl args access }
 {}
 
-/// What the law above asks of a frame is so from the first: a task before its first segment runs with its arguments, as
-/// many as its declaration has parameters, and a segment leaves that as it is, and makes tasks of which it is so too.
+/// A task runs with its arguments from its first segment to its last. Before the first segment its frame runs with the
+/// arguments, if there are as many as its declaration has parameters. It still does once it has taken a value that it
+/// waited for, and after each segment. A task that a segment makes runs with the arguments that it is given, and its
+/// effects are those of its declaration's summary, filled with them.
 pub fn arguments_stay()
     ensures entry { (p : Program) (task : ℕ) (args : List ℤ) → TakesArguments (slice_get p.tasks task) (length args)
         → RunsWith p args (entry_frame p task args) }
+    ensures given { (p : Program) (args : List ℤ) (frame : Frame) → RunsWith p args frame → (value : ℤ)
+        → RunsWith p args (given frame value) }
     ensures later { (p : Program) → IsWellFormed p → KeepsEffects p
         → (args : List ℤ) (frame : Frame) → RunsWith p args frame → (cells : List ℤ)
         → RunsWith p args (segment p frame cells).frame }
@@ -42,7 +47,7 @@ pub fn arguments_stay()
         → RunsWith p given child × (effects ≡ effects_at p child.decl given) }
 {}
 
-/// Each effect of a task that is spawned lies within one that its maker declares, which writes if it writes.
+/// Each effect of a spawned task lies within one effect of its maker, which writes if that effect writes.
 pub fn spawned_effects_lie_within()
     ensures { (p : Program) → IsWellFormed p → KeepsEffects p
         → (args : List ℤ) (frame : Frame) → RunsWith p args frame → (cells : List ℤ)
@@ -51,7 +56,7 @@ pub fn spawned_effects_lie_within()
         → (e : Effect) → Contains effects.effects e → Any (λ d. EffectWithin d e) (effects_at p frame.decl args).effects }
 {}
 
-/// The first task of such a program keeps to the effects that `main` declares, as they are written.
+/// The first task of such a program does no more than `main` declares, as its summary is written.
 pub fn main_keeps_to_its_summary()
     ensures { (p : Program) → IsWellFormed p → KeepsEffects p
         → (main : Decl) → slice_get p.tasks p.main ≡ Some main

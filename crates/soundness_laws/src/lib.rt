@@ -1,7 +1,7 @@
-//! What an accepted program may rely on when it runs: it keeps to the effects that it declares.
+//! What an accepted program keeps to when it runs: each task does no more than it declares.
 //!
-//! The rules on effects are `effect_check`'s, and what a program does when it runs is `seg_exec`'s. The laws here tie the
-//! two together. They speak of what one task declared; that no other task's effects interfere is left to others.
+//! The rules on effects are those of `effect_check`, and `seg_exec` defines what a segment does. The laws here connect
+//! the two. They are about one task and its declaration; `isolation_laws` relates tasks to one another.
 #![tactic(auto)]
 
 mod laws;

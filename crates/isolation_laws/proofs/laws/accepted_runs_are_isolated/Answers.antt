@@ -1,4 +1,4 @@
-use Rattle.isolation_laws.proofs.Journals.{runs_isolated, runs_within}
+use Rattle.isolation_laws.proofs.journals.Journals.{runs_isolated, runs_within}
 use Rattle.isolation_laws.proofs.laws.accepted_runs_are_isolated.Goals as goal
 
 pub returns : goal.returns

@@ -1,4 +1,4 @@
-use Rattle.isolation_laws.proofs.Journals.{children_apart, reached_within}
+use Rattle.isolation_laws.proofs.journals.Journals.{children_apart, reached_within}
 use Rattle.isolation_laws.proofs.laws.children_stay_within_and_apart.Goals as goal
 
 pub returns : goal.returns

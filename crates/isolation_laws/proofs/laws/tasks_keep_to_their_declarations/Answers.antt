@@ -1,4 +1,4 @@
-use Rattle.isolation_laws.proofs.Covered.{reached_declarations}
+use Rattle.isolation_laws.proofs.running.Covered.{reached_declarations}
 use Rattle.isolation_laws.proofs.laws.tasks_keep_to_their_declarations.Goals as goal
 
 pub returns : goal.returns

@@ -1,5 +1,5 @@
-use Rattle.isolation_laws.proofs.Covered.{reached_covered}
-use Rattle.isolation_laws.proofs.Movers.{movers_apart}
+use Rattle.isolation_laws.proofs.running.Covered.{reached_covered}
+use Rattle.isolation_laws.proofs.running.Movers.{movers_apart}
 use Rattle.isolation_laws.proofs.laws.tasks_that_may_run_do_not_conflict.Goals as goal
 
 pub returns : goal.returns

@@ -1,0 +1,81 @@
+-- The maker's row and the new row after a segment that makes a task.
+use Rattle.std.proofs.Common.{◌≡◌, ℕ, ℤ, Bool, List, length, Option, None, Some, inl, inr, refl, sym, ◌∙◌, subst}
+use Rattle.std.specs.Prelude.{slice_get}
+use Rattle.twe_io.specs.declared.place.Place.{Place}
+use Rattle.twe_limits.specs.Limits.{Bounds}
+use Rattle.effect_sets.specs.declared.effects.Summary.{Summary}
+use Rattle.twe_program.specs.Program.{Program}
+use Rattle.twe_program.specs.WellFormed.{IsWellFormed}
+use Rattle.seg_exec.specs.declared.frame.Frame.{Frame}
+use Rattle.seg_exec.specs.declared.frame.Next.TheVariants.{Go}
+use Rattle.seg_exec.specs.declared.stop.Stop.{Stop}
+use Rattle.seg_exec.specs.declared.stop.Stop.TheVariants as ends
+use Rattle.seg_exec.specs.Giving.{given}
+use Rattle.seg_exec.specs.Segment.{segment}
+use Rattle.soundness_laws.specs.KeepsEffects.{KeepsEffects}
+use Rattle.soundness_laws.specs.RunsWith.{RunsWith}
+use Rattle.soundness_laws.proofs.Given.{given_runs}
+use Rattle.soundness_laws.proofs.Segments.{segment_later, segment_makes}
+use Rattle.segment_laws.specs.Keeps.{NextAfter}
+use Rattle.segment_laws.proofs.SegmentKept.{segment_keeps}
+use Rattle.twe_machine.specs.declared.state.State.{State}
+use Rattle.twe_machine.specs.declared.state.TaskRow.{TaskRow}
+use Rattle.twe_machine.specs.Moves.{emptied, going_row, home, joined, joined_rows, making_frame, new_row, parent_of}
+use Rattle.twe_machine.specs.Rows.{IsRow}
+use Rattle.isolation_laws.proofs.rows.Adding.{row_added, with_row}
+use Rattle.isolation_laws.proofs.frames.Afterwards.{after}
+use Rattle.isolation_laws.proofs.rows.Gets.{length_set}
+use Rattle.isolation_laws.proofs.journals.Homes.{runs_home}
+use Rattle.isolation_laws.proofs.journals.Known.{Kept}
+
+length_joined_by : (rows : List TaskRow) (child : ℕ) (r : Option TaskRow) → length (joined_rows rows child r) ≡ length rows
+length_joined_by rows child None = refl
+length_joined_by rows child (Some row) = length_set rows child _
+
+pub length_joined : (st : State) (o : Option ℕ) → length (joined st o).tasks ≡ length st.tasks
+length_joined st None = refl
+length_joined st (Some child) = length_joined_by st.tasks child (slice_get st.tasks child)
+
+pub length_home : (st : State) (o : Option ℕ) (t : ℕ) (frame : Frame) (row : TaskRow) → length (home (joined st o) t frame row).tasks ≡ length st.tasks
+length_home st o t frame row = length_set (joined st o).tasks t row ∙ length_joined st o
+
+-- the frame of a task that has made a task of this number, and the state without the new task
+abbrev pub maker : Program → TaskRow → ℤ → List ℤ → Bool → ℕ → ℕ → Frame
+maker p row value cells spawned future number = making_frame future spawned number (after p row.frame value cells)
+
+abbrev pub mid : State → Option ℕ → ℕ → TaskRow → Frame → State
+mid st o t row frame = home (joined st o) t frame (going_row row frame)
+
+-- the segment of t stops at a make
+abbrev pub StopsAtMake : Program → TaskRow → ℤ → List ℤ → Frame → List ℤ → Summary → Bool → ℕ → Place → Type 0
+StopsAtMake p row value cells child args effects spawned future place =
+    (segment p (given row.frame value) cells).stop ≡ ends.Make child args effects spawned future place
+
+-- a segment of t, which runs with its arguments, has made a task
+module _ (p : Program) (wf : IsWellFormed p) (keeps : KeepsEffects p) (lim : Bounds) (st : State) (kept : Kept p st) (o : Option ℕ) (t : ℕ) (row : TaskRow) (is_t : IsRow st t row)
+    (value : ℤ) (cells : List ℤ) (child : Frame) (args : List ℤ) (effects : Summary) (spawned : Bool) (future : ℕ) (place : Place)
+    (stop : StopsAtMake p row value cells child args effects spawned future place) (number : ℕ) where
+  before_runs : RunsWith p row.args (given row.frame value)
+  before_runs = given_runs p row.args row.frame (kept.runs t row is_t) value
+
+  maker_runs : RunsWith p row.args (emptied (maker p row value cells spawned future number))
+  maker_runs =
+      let r = segment_later p wf keeps row.args (given row.frame value) before_runs cells in
+      record { count = r.count; params = r.params; next = r.next }
+
+  added_runs : RunsWith p args (new_row lim number (parent_of t spawned) child args effects).frame
+  added_runs =
+      let r = (segment_makes p wf keeps row.args (given row.frame value) before_runs cells child args effects spawned future place stop).0 in
+      record { count = r.count; params = r.params; next = r.next }
+
+  pub runs_made : (s : ℕ) (b : TaskRow)
+      → IsRow (with_row (mid st o t row (maker p row value cells spawned future number)) (new_row lim number (parent_of t spawned) child args effects)) s b → RunsWith p b.args b.frame
+  runs_made s b is =
+      let frame = maker p row value cells spawned future number in
+      elim (row_added (mid st o t row frame) (new_row lim number (parent_of t spawned) child args effects) s b is) [
+        | inl new ↦ subst (λ (r : TaskRow). RunsWith p r.args r.frame) (sym new.1) added_runs
+        | inr old ↦ runs_home p st kept o t row is_t frame (going_row row frame) maker_runs s b old
+      ]
+
+  pub goes_on : (after p row.frame value cells).next ≡ Go
+  goes_on = subst (λ (s : Stop). NextAfter s (after p row.frame value cells)) stop (segment_keeps p (given row.frame value) cells).next
