@@ -1,4 +1,4 @@
-//! Which task holds another back from its admission.
+//! Which task holds back the admission of another.
 ghost use Rattle.std.specs.Prelude.{ℕ, IfSome, IfNone};
 ghost use Rattle.twe_program.specs.Program.{Program};
 ghost use Rattle.twe_program.specs.WellFormed.{IsWellFormed};
@@ -10,8 +10,8 @@ ghost use Rattle.flat_sched.specs.Stuck.{IsLowestBar};
 
 use twe_machine::{State, bar, effects_are_filled, links_agree};
 
-/// The lowest bar to a task that was made and not admitted, if it has a bar, in a state that a run of some
-/// well-formed program has come to. It takes no memory.
+/// The lowest bar to a task that was made and not admitted, if it has a bar, in a reached state of some well-formed
+/// program. It takes no memory.
 pub fn held_by(st: &State, t: u32) -> Option<u32>
     requires reachable { (p : Program) × IsWellFormed p × IsReachable p st.now }
     requires made { HasStatus st.now t Made }

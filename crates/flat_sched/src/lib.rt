@@ -1,5 +1,5 @@
-//! The run of a program that takes at each step the move of the lowest-numbered task that has one, and the cycle in
-//! which the tasks of such a run can be stuck.
+//! The sequential scheduler: at each step it takes the move of the lowest-numbered task that has a legal move. If a
+//! run is stuck, the cycle of tasks that keep one another from going on says why.
 #![tactic(auto)]
 
 mod held;
@@ -10,7 +10,7 @@ mod stuck;
 mod tests;
 
 pub use held::held_by;
-pub use laws::one_stuck_cycle;
+pub use laws::{one_stuck_cycle, stuck_cycles_have_true_edges};
 pub use lowest_run::run_lowest;
 pub use stuck::stuck_cycle;
 pub use twe_machine::lowest;

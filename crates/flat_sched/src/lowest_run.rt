@@ -1,4 +1,4 @@
-//! The run of a program that takes at each step the move of the lowest-numbered task that has one.
+//! The lowest-first run of a program: at each step the move of the lowest-numbered task that has one.
 ghost use Rattle.std.specs.Prelude.{◌≡◌, ◌≤◌, ◌<◌, ◌↔◌, ◌+◌, ◌*◌, ℕ, [], ◌∷◌, ◌++◌, length, IfOk, IfSome, IfNone, IsTrue, OnOk};
 ghost use Rattle.twe_machine.specs.declared.ending.Outcome.TheVariants.{AllDone, Unfinished};
 ghost use Rattle.twe_machine.specs.declared.state.TaskStatus.TheVariants.{Done};
@@ -11,13 +11,16 @@ ghost use Rattle.twe_machine.specs.Runs.{IsReachable, IsReached, Legal, state_af
 use seg_journal::{Entry, Journal, Limits, Move};
 use std::alloc::Global;
 use twe_io::Memory;
-use twe_machine::{State, TaskStatus, lowest_from, start, step};
+use twe_machine::{
+    State, TaskStatus, each_thing_happens_once, journals_are_short, lowest_from, start, step,
+};
 use twe_program::Prog;
 
-/// The journal of a whole run of the program under these limits, and the state that it leads to. At each step the run
-/// takes the move of the lowest-numbered task that has one, up to a fault or until no task has one. Where all is done
-/// each thing happened once, and otherwise at most once; nothing comes after a fault. The run has at most two moves for
-/// each unit of fuel of each task that the limits allow, and two for each such task.
+/// Runs the program under these limits to its end. Returns the journal of the run and the state that it leads to. At
+/// each step the run takes the move of the lowest-numbered task that has one, up to a fault or until no task has one.
+/// Nothing comes after a fault. Like every legal journal, that of the run has each task made, enabled and finished at
+/// most once, and exactly once if all tasks are done, and it has at most two entries for each unit of fuel of each task
+/// that the limits allow, and two for each such task.
 pub fn run_lowest(alloc: Global, p: &Prog, lim: Limits) -> Result<(Journal, State), Memory>
     ensures legal { IfOk result (λ run. Legal p.now lim run.0) }
     ensures state { IfOk result (λ run. run.1 ≡ state_after p.now lim run.0) }
@@ -28,6 +31,8 @@ pub fn run_lowest(alloc: Global, p: &Prog, lim: Limits) -> Result<(Journal, Stat
     ensures counted { IfOk result (λ run. counted run.0 ≡ run.0) }
     ensures short { IfOk result (λ run. length run.0 ≤ lim.tasks * (2 * lim.fuel + 2)) }
 {
+    each_thing_happens_once();
+    journals_are_short();
     let (_main, _fuel) = (p.main, lim.fuel);
     let mut st = start(alloc, p, lim)?;
     let mut journal = Journal::new(alloc);
@@ -39,8 +44,8 @@ pub fn run_lowest(alloc: Global, p: &Prog, lim: Limits) -> Result<(Journal, Stat
     Ok((journal, st))
 }
 
-/// How many tasks from task 0 on are done, up to the first one that isn't. All tasks below `known` are done, and it looks
-/// at none of them.
+/// How many tasks from task 0 on are done, up to the first one that isn't. All tasks below `known` are done, so it
+/// skips them.
 fn count_done(st: &State, known: u32) -> u32
     requires { (t : ℕ) → t < known → HasStatus st.now t Done }
     ensures done { (t : ℕ) → t < result → HasStatus st.now t Done }
@@ -64,7 +69,8 @@ fn is_done(st: &State, t: u32) -> bool
     }
 }
 
-/// The move of the lowest-numbered task that has one, as long as there was no fault. The tasks below `done` are done.
+/// The move of the lowest-numbered task that has one, and `None` after a fault or if no move is legal. All tasks
+/// below `done` are done.
 fn next_move(p: &Prog, st: &State, done: u32) -> Option<Move>
     requires reachable { IsReachable p.now st.now }
     requires done { (t : ℕ) → t < done → HasStatus st.now t Done }
@@ -78,7 +84,7 @@ fn next_move(p: &Prog, st: &State, done: u32) -> Option<Move>
     lowest_from(p, st, done)
 }
 
-/// Takes a legal move in a state that a run has come to, and enters it into the run's journal.
+/// Takes a legal move in a reached state, and appends its entry to the run's journal.
 fn take(
     alloc: Global,
     p: &Prog,

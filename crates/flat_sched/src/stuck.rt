@@ -15,9 +15,9 @@ use twe_machine::{State, TaskStatus, links_agree};
 use twe_program::Prog;
 use wait_graph::Cycle;
 
-/// The cycle in which the tasks are stuck, in a state that a run of the program has come to and in which it can't go
-/// on: each task of it waits for the next one or is held by it, and the last one so the first. It begins with the
-/// lowest of its tasks.
+/// The cycle in which the tasks are stuck, in a reached state in which the run of the program is stuck. Each task of
+/// the cycle waits for the next one or is held by it, and the last one waits for the first or is held by it. The
+/// cycle begins with the lowest of its tasks.
 pub fn stuck_cycle(alloc: Global, p: &Prog, st: &State) -> Result<Cycle, Memory>
     requires reachable { IsReachable p.now st.now }
     requires stuck { IsOutcome st.now Stuck }

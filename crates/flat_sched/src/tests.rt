@@ -1,5 +1,5 @@
-//! A run in which two tasks hold up what the other waits for: that the calls which may answer out of memory answer
-//! otherwise.
+//! A run in which each of two tasks holds up what the other waits for. It shows that the calls that may fail for want
+//! of memory succeed.
 ghost use Rattle.std.specs.Prelude.{◌≡◌, ◌<◌, false, length, slice_get, None, IfOk};
 ghost use Rattle.twe_program.specs.Expression.{no_more};
 ghost use Rattle.twe_program.specs.Fitting.{TakesArguments};

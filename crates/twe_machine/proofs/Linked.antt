@@ -80,7 +80,7 @@ joined_linked lim st (Some c) linked = record {
   outs = joined_outs st.tasks c (slice_get st.tasks c) refl linked.outs;
 }
 
-joined_other : (rows : List TaskRow) (c t : ℕ) (found : Option TaskRow) → t ≢ c → slice_get (joined_rows rows c found) t ≡ slice_get rows t
+pub joined_other : (rows : List TaskRow) (c t : ℕ) (found : Option TaskRow) → t ≢ c → slice_get (joined_rows rows c found) t ≡ slice_get rows t
 joined_other rows c t None ne = refl
 joined_other rows c t (Some row) ne = set_other rows c t (joined_row row) ne
 

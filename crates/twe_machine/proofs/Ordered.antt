@@ -15,14 +15,14 @@ use Rattle.twe_machine.proofs.SettlesNext.{as_many_links, awaited_above}
 use Rattle.twe_machine.proofs.Standing.{Stands}
 
 -- the links of a task are those of its row, or those of a new task with no parent where it has none
-link_from : (rows : List TaskRow) (t : ℕ) (found : Option TaskRow) → slice_get rows t ≡ found
+pub link_from : (rows : List TaskRow) (t : ℕ) (found : Option TaskRow) → slice_get rows t ≡ found
     → (P : Link → Type 0) → (found ≡ None → P (new_link None)) → ((row : TaskRow) → found ≡ Some row → P (link_of_row row)) → P (link_of (map link_of_row rows) t)
 link_from [] t found e P none some = none (sym e)
 link_from (r ∷ rows) zero found e P none some = some r (sym e)
 link_from (r ∷ rows) (suc t) found e P none some = link_from rows t found e P none some
 
 module _ (p : Program) (lim : Bounds) (st : State) (stands : Stands p lim st) where
-  waits_up : (t u : ℕ) → (link_of st.links t).waits ≡ Some u → (t < u) × (u < length st.links)
+  pub waits_up : (t u : ℕ) → (link_of st.links t).waits ≡ Some u → (t < u) × (u < length st.links)
   waits_up t u waits =
       let as_many : length st.links ≡ length st.tasks = as_many_links p lim st stands in
       let up : (t < u) × (u < length st.tasks) =
@@ -32,7 +32,7 @@ module _ (p : Program) (lim : Bounds) (st : State) (stands : Stands p lim st) wh
       (subst (λ (links : List Link). (link_of links t).waits ≡ Some u) stands.links waits) in
       (up.0, omega (arith, as_many, up.1))
 
-  parent_down : (t q : ℕ) → (link_of st.links t).parent ≡ Some q → q < t
+  pub parent_down : (t q : ℕ) → (link_of st.links t).parent ≡ Some q → q < t
   parent_down t q parent =
       link_from st.tasks t (slice_get st.tasks t) refl (λ (l : Link). l.parent ≡ Some q → q < t)
       (λ none is. absurd (cc (is)))

@@ -1,4 +1,4 @@
--- Which moves may be taken in a state, and what keeps a move from it.
+-- Which moves are legal in a state, and why another one is not.
 use Rattle.std.specs.Prelude.{◌≢◌, ◌≤◌, ◌<◌, ◌⊎◌, ℕ, length}
 use Rattle.effect_sets.specs.Interference.{SomeInterfere}
 use Rattle.seg_journal.specs.declared.moves.Kind.{Kind}
@@ -17,11 +17,12 @@ use Rattle.twe_machine.specs.Rows.{IsRow, HasStatus}
 abbrev pub Interfere : State → ℕ → ℕ → Type 0
 Interfere st s t = (a : TaskRow) × (b : TaskRow) × IsRow st s a × IsRow st t b × SomeInterfere a.effects.effects b.effects.effects
 
--- s is a bar to t: it is another task, it may run, its effects interfere with those of t, and it doesn't yield to t
+-- s is a bar to t: it is another task, it is enabled, its effects interfere with those of t, and it doesn't yield to
+-- t
 abbrev pub IsBar : State → ℕ → ℕ → Type 0
 IsBar st s t = (s ≢ t) × HasStatus st s Enabled × Interfere st s t × ¬ YieldsTo st.links s t
 
--- t may be admitted: it was made, and each other task that may run and interferes with it yields to it
+-- t may be admitted: it was made, and each other enabled task that interferes with it yields to it
 abbrev pub MayAdmit : State → ℕ → Type 0
 MayAdmit st t = HasStatus st t Made × ((s : ℕ) → s ≢ t → HasStatus st s Enabled → Interfere st s t → YieldsTo st.links s t)
 
@@ -37,7 +38,7 @@ MayTake st Run t = MayRun st t
 abbrev pub MayMove : State → Move → Type 0
 MayMove st mv = MayTake st mv.kind mv.task
 
--- this is why the task may not be moved so
+-- this is the reason why a move of this kind of the task is not legal
 abbrev pub Forbids : State → Kind → ℕ → Why → Type 0
 Forbids st kind t NoTask = length st.tasks ≤ t
 Forbids st Admit t NotMade = (t < length st.tasks) × ¬ HasStatus st t Made
@@ -50,6 +51,6 @@ Forbids st Admit t (WaitsFor u) = ⊥
 Forbids st Run t NotMade = ⊥
 Forbids st Run t (HeldBy s) = ⊥
 
--- of each two tasks that may run and interfere, one yields to the other
+-- of each two enabled tasks that interfere, one yields to the other
 abbrev pub Isolated : State → Type 0
 Isolated st = (s t : ℕ) → s ≢ t → HasStatus st s Enabled → HasStatus st t Enabled → Interfere st s t → YieldsTo st.links s t ⊎ YieldsTo st.links t s

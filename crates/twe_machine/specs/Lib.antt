@@ -1,3 +1,4 @@
+pub mod Changes
 pub mod Legal
 pub mod LowestFirst
 pub mod Moves

@@ -1,5 +1,5 @@
--- The lowest-first journal: at each step it takes the move of the lowest-numbered task that has one, as long as the
--- run is unfinished.
+-- The lowest-first journal: while the run is unfinished, each entry is the move of the lowest-numbered task that has
+-- a legal move.
 use Rattle.std.specs.Prelude.{◌≡◌, ◌≢◌, ◌≤◌, List, [], ◌∷◌}
 use Rattle.seg_journal.specs.declared.journal.Entry.{Entry}
 use Rattle.seg_journal.specs.declared.moves.Move.{Move}
@@ -17,7 +17,7 @@ pub record IsLowest (st : State) (mv : Move) : Type 0 where
   pub legal : MayMove st mv
   pub lowest : (other : Move) → MayMove st other → mv.task ≤ other.task
 
--- the run has come to its end: it is finished or stuck, or a task has met a fault
+-- the run has ended: all tasks are done, or it is stuck, or some task has met a fault
 abbrev pub IsOver : State → Type 0
 IsOver st = (outcome : Outcome) → IsOutcome st outcome → outcome ≢ Unfinished
 

@@ -1,4 +1,4 @@
--- What a move makes of a state, and the state that a run starts from.
+-- The state after a move, and the state that a run starts in.
 use Rattle.std.specs.Prelude.{◌++◌, ◌+◌, ◌==◌, ◌<◌, ◌≡◌, ◌^◌, ℕ, ℤ, pos, Bool, true, false, List, [], ◌∷◌, length, replicate, Option, None, Some, nat_lt, if◌then◌else◌, slice_get, slice_set}
 use Rattle.std.specs.List.{list_any}
 use Rattle.std.specs.Option.{ForSome}
@@ -42,10 +42,10 @@ abbrev pub admitted : State → ℕ → Option TaskRow → State
 admitted st t None = st
 admitted st t (Some row) = record st { tasks = slice_set st.tasks t (admitted_row row) }
 
--- The making of a task.
+-- Making a task.
 
--- a task of `spawn` has the task that spawned it as its parent and is enabled at once; one of `executeLater` has no
--- parent, and is to be admitted
+-- a spawned task has its maker as its parent and is enabled at once; a task of `executeLater` has no parent and waits
+-- for its admission
 abbrev pub parent_of : ℕ → Bool → Option ℕ
 parent_of t true = Some t
 parent_of t false = None
@@ -54,7 +54,7 @@ abbrev pub status_at_start : Option ℕ → TaskStatus
 status_at_start None = Made
 status_at_start (Some parent) = Enabled
 
--- the row of a new task of this number: its frame has the number, and all of the fuel
+-- the row of a new task of this number: its frame has the number and all of the fuel
 abbrev pub new_row : Bounds → ℕ → Option ℕ → Frame → List ℤ → Summary → TaskRow
 new_row lim number parent frame args effects = record {
   decl = frame.decl;
@@ -73,21 +73,21 @@ abbrev pub out_with : Bool → ℕ → List ℕ → List ℕ
 out_with true child out = out ++ child ∷ []
 out_with false child out = out
 
--- the frame of a task that has made this one: the future stands for it
+-- the frame of a task after it has made this one: the future stands for the new task
 abbrev pub making_frame : ℕ → Bool → ℕ → Frame → Frame
 making_frame future spawned child frame = record frame { futures = slice_set frame.futures future (Some child); out = out_with spawned child frame.out }
 
 -- The end of a segment.
 
--- a frame between segments: what the segment has printed is taken out of it
+-- a frame between segments: the numbers that the segment printed are taken out of it
 abbrev pub emptied : Frame → Frame
 emptied frame = record frame { prints = [] }
 
--- the frame of a task that has met a fault where it was to make a task: nothing of it is left
+-- the frame of a task that has met a fault at a make: nothing is left to run
 abbrev pub stopped_frame : Frame → Frame
 stopped_frame frame = record frame { body = None; next = Ended }
 
--- the row of a task that goes on, that is done with a value, and that has met a fault
+-- the row of a task that is unfinished, that is done with a value, and that has met a fault
 abbrev pub going_row : TaskRow → Frame → TaskRow
 going_row row frame = record row { frame = emptied frame; out = frame.out }
 
@@ -102,8 +102,8 @@ abbrev pub first_fault_of : Option FirstFault → ℕ → FaultKind → Place �
 first_fault_of (Some earlier) t kind place = Some earlier
 first_fault_of None t kind place = Some (record { task = t; kind = kind; place = place })
 
--- the state once the frame of t has gone home and t has this row: what was printed joins the numbers of the run, and
--- the links say what t waits for
+-- the state after the frame of t was stored and t has this row: the numbers that the segment printed join those of
+-- the run, and the links say what t waits for
 abbrev pub home : State → ℕ → Frame → TaskRow → State
 home st t frame row = record st {
   prints = st.prints ++ frame.prints;
@@ -134,8 +134,9 @@ having_made lim st t row frame future spawned child args effects =
       links = after.links ++ new_link (parent_of t spawned) ∷ [];
     }
 
--- the state after a segment of t that left this frame and stopped so, and what the move ended in. What a task wrote and
--- printed before a fault stands. A make whose number is not below the limit is a fault of its maker, and makes no task.
+-- the state after a segment of t that left this frame and stopped in this way, and the end of the move. What a task
+-- wrote and printed before a fault remains. A make whose number is not below the limit is a fault of its maker, and
+-- makes no task.
 abbrev pub stopped : Bounds → State → ℕ → TaskRow → Frame → Stop → State × End
 stopped lim st t row frame (stops.Make child args effects spawned future place) =
     if nat_lt (st.asked + 1) lim.tasks
@@ -148,7 +149,7 @@ stopped lim st t row frame (stops.Fault kind place) = (faulted st t row frame ki
 
 -- The start of a segment.
 
--- the child whose join the segment took: the task that was waited for, where it is one of the unjoined children
+-- the child that the segment joined: the awaited task, if it is one of the unjoined children
 abbrev pub joined_child : List ℕ → Option ℕ → Option ℕ
 joined_child out None = None
 joined_child out (Some on) = if list_any (λ child. child == on) out then Some on else None
@@ -160,18 +161,19 @@ abbrev pub joined_rows : List TaskRow → ℕ → Option TaskRow → List TaskRo
 joined_rows rows child None = rows
 joined_rows rows child (Some row) = slice_set rows child (joined_row row)
 
--- the child, if there is one, is joined
+-- the state after the child, if there is one, was marked as joined
 abbrev pub joined : State → Option ℕ → State
 joined st None = st
 joined st (Some child) = record st { tasks = joined_rows st.tasks child (slice_get st.tasks child); links = with_joined st.links child }
 
--- the state after a segment of t that left this frame and stopped so, and what the move ended in; the cells are those
--- after the segment, and all else but the frame of t is as before it. The join that the segment took is taken here.
+-- the state after a segment of t that left this frame and stopped in this way, and the end of the move. The cells are
+-- already those after the segment; all else but the frame of t is as before it. A child that the segment joined is
+-- marked here.
 abbrev pub settled : Bounds → State → ℕ → Option TaskRow → Frame → Stop → State × End
 settled lim st t None frame stop = (st, Admitted)
 settled lim st t (Some row) frame stop = stopped lim (joined st (joined_child row.out (link_of st.links t).waits)) t row frame stop
 
--- the value of the task that was waited for
+-- the value of the awaited task
 abbrev pub value_of : Option TaskRow → ℤ
 value_of None = pos 0
 value_of (Some row) = row.value
@@ -180,7 +182,7 @@ abbrev pub awaited_value : List TaskRow → Option ℕ → ℤ
 awaited_value rows None = pos 0
 awaited_value rows (Some on) = value_of (slice_get rows on)
 
--- the frame that the next segment of a task starts from: where the task has waited, it takes the value
+-- the frame that the next segment of a task starts from: if the task has waited, it takes the value
 abbrev pub ready : List TaskRow → Frame → Frame
 ready rows frame = given frame (awaited_value rows (awaited frame.next))
 
@@ -195,7 +197,7 @@ abbrev pub taken : Program → Bounds → State → Kind → ℕ → State × En
 taken p lim st Admit t = (admitted st t (slice_get st.tasks t), Admitted)
 taken p lim st Run t = ran p lim st t (slice_get st.tasks t)
 
--- the state after a legal move, and what the move ended in
+-- the state after a legal move, and the end of the move
 abbrev pub moved : Program → Bounds → State → Move → State × End
 moved p lim st mv = taken p lim st mv.kind mv.task
 
@@ -215,9 +217,8 @@ start_of p lim = record {
   first_fault = None;
 }
 
--- What the settling of a segment of t rests on, where `next` is what comes next in its frame: there is a link for each
--- row; the number of a task that may be made is that of the next row; and a task that is to be waited for is there and
--- has a higher number.
+-- A segment of t may be settled if `next` comes next in its frame: there is a link for each row; a task that may
+-- still be made gets the number of the next row; and a task that t will wait for is there and has a higher number.
 pub record MaySettle (lim : Bounds) (st : State) (t : ℕ) (next : Next) : Type 0 where
   pub there : t < length st.tasks
   pub linked : length st.links ≡ length st.tasks

@@ -1,4 +1,4 @@
--- The rows of tasks, and the links that stand beside them.
+-- The rows of tasks, and the links beside them.
 use Rattle.std.specs.Prelude.{◌≡◌, ℕ, Bool, true, false, map, Option, None, Some, slice_get, IsTrue}
 use Rattle.wait_graph.specs.declared.tasks.Link.{Link}
 use Rattle.effect_sets.specs.Filled.{all_filled}
@@ -13,11 +13,11 @@ use Rattle.twe_machine.specs.declared.state.TaskStatus.TheVariants.{Made, Enable
 abbrev pub IsRow : State → ℕ → TaskRow → Type 0
 IsRow st t row = slice_get st.tasks t ≡ Some row
 
--- task t was made, and has come this far
+-- task t was made and has this status
 abbrev pub HasStatus : State → ℕ → TaskStatus → Type 0
 HasStatus st t status = (row : TaskRow) × IsRow st t row × (row.status ≡ status)
 
--- the task of which a task's next operation is a wait
+-- the task that the next operation waits for, if it is a wait
 abbrev pub awaited : Next → Option ℕ
 awaited Go = None
 awaited (Get on into) = Some on
@@ -35,11 +35,11 @@ is_done_status Faulted = false
 abbrev pub is_done_row : TaskRow → Bool
 is_done_row row = is_done_status row.status
 
--- what a row says of its task's links
+-- the links that a row says its task has
 abbrev pub link_of_row : TaskRow → Link
 link_of_row row = record { waits = awaited row.frame.next; parent = row.parent; joined = row.joined; done = is_done_row row }
 
--- the links of a state are those that its rows say
+-- the links of a state agree with its rows
 abbrev pub LinksAgree : State → Type 0
 LinksAgree st = st.links ≡ map link_of_row st.tasks
 

@@ -1,4 +1,4 @@
--- Runs: the journals that the machine allows, the states that they lead to, and how a run ends.
+-- Runs: the legal journals, the states that they lead to, and the outcome of a run.
 use Rattle.std.specs.Prelude.{◌≡◌, ◌⊎◌, ◌<◌, ◌≤◌, ◌==◌, ◌&&◌, ℕ, List, [], ◌∷◌, length, take, Bool, true, false, None, Some, count_by, if◌then◌else◌, is_some}
 use Rattle.seg_journal.specs.declared.journal.End.{End}
 use Rattle.seg_journal.specs.declared.journal.End.TheVariants.{Admitted, Made, Waits, Joins}
@@ -11,7 +11,6 @@ use Rattle.twe_limits.specs.Limits.{Bounds}
 use Rattle.twe_program.specs.Program.{Program}
 use Rattle.twe_machine.specs.declared.ending.Outcome.{Outcome}
 use Rattle.twe_machine.specs.declared.ending.Outcome.TheVariants.{AllDone, Fault, Stuck, Unfinished}
-use Rattle.twe_machine.specs.declared.state.FirstFault.{FirstFault}
 use Rattle.twe_machine.specs.declared.state.State.{State}
 use Rattle.twe_machine.specs.declared.state.TaskRow.{TaskRow}
 use Rattle.twe_machine.specs.declared.state.TaskStatus.TheVariants.{Done}
@@ -19,7 +18,7 @@ use Rattle.twe_machine.specs.Legal.{MayMove, Isolated}
 use Rattle.twe_machine.specs.Moves.{moved, start_of}
 use Rattle.twe_machine.specs.Rows.{IsRow}
 
--- the state after these entries' moves
+-- the state after the moves of these entries
 abbrev pub replayed : Program → Bounds → State → List Entry → State
 replayed p lim st [] = st
 replayed p lim st (entry ∷ entries) = replayed p lim (moved p lim st entry.mv).0 entries
@@ -43,7 +42,7 @@ pub record IsRun (p : Program) (lim : Bounds) (journal : List Entry) (st : State
   pub legal : Legal p lim journal
   pub same : st ≡ state_after p lim journal
 
--- the entry of a move that is taken in this state
+-- the entry for a move in this state
 abbrev pub entry_of : Program → Bounds → State → Move → Entry
 entry_of p lim st mv = record { mv = mv; end = (moved p lim st mv).1 }
 
@@ -61,28 +60,24 @@ IsReachable p st = (lim : Bounds) × IsReached p lim st
 abbrev pub AllTasksDone : State → Type 0
 AllTasksDone st = (t : ℕ) (row : TaskRow) → IsRow st t row → row.status ≡ Done
 
--- this is how a run that has come to this state stands: it has its first fault, or all of its tasks are done, or
--- no move is legal, or some move is
+-- this is the outcome of a run that has come to this state: its first fault; or else all tasks are done; or else no
+-- move is legal, or some move is
 abbrev pub IsOutcome : State → Outcome → Type 0
 IsOutcome st (Fault task kind place) = st.first_fault ≡ Some (record { task = task; kind = kind; place = place })
 IsOutcome st AllDone = (st.first_fault ≡ None) × AllTasksDone st
 IsOutcome st Stuck = (st.first_fault ≡ None) × ¬ AllTasksDone st × ((mv : Move) → ¬ MayMove st mv)
 IsOutcome st Unfinished = (st.first_fault ≡ None) × ¬ AllTasksDone st × ((mv : Move) × MayMove st mv)
 
--- there was a fault
-abbrev pub HasFault : State → Type 0
-HasFault st = (fault : FirstFault) × (st.first_fault ≡ Some fault)
-
 abbrev pub is_fault : End → Bool
 is_fault (ends.Fault kind place) = true
 is_fault _ = false
 
--- the part of a journal that counts: up to its first fault, or all of it where there is none
+-- the part of a journal that counts: up to its first fault, or all of it if there is none
 abbrev pub counted : List Entry → List Entry
 counted [] = []
 counted (entry ∷ entries) = entry ∷ (if is_fault entry.end then [] else counted entries)
 
--- after each beginning of the journal, of two tasks that may run and interfere one yields to the other
+-- after each beginning of the journal, of two enabled tasks that interfere one yields to the other
 abbrev pub AlwaysIsolated : Program → Bounds → List Entry → Type 0
 AlwaysIsolated p lim journal = (n : ℕ) → n ≤ length journal → Isolated (state_after p lim (take n journal))
 
@@ -98,7 +93,7 @@ abbrev pub is_admission : Kind → Bool
 is_admission Admit = true
 is_admission Run = false
 
--- the entry made task t, admitted it, or ended it
+-- the entry made task t, admitted it, or finished it
 abbrev pub makes : ℕ → Entry → Bool
 makes t entry = makes_task t entry.end
 
@@ -108,15 +103,15 @@ admits t entry = is_admission entry.mv.kind && (entry.mv.task == t)
 abbrev pub finishes : ℕ → Entry → Bool
 finishes t entry = is_done entry.end && (entry.mv.task == t)
 
--- Each task of a state was made, enabled and ended exactly once in the journal that led to it. Task 0 is there from
--- the start. The entry that made a spawned task enabled it too.
+-- Each task of a state was made, enabled and finished exactly once in the journal that led to it. Task 0 is there
+-- from the start, so no entry made it. The entry that made a spawned task enabled it too, so no entry admitted it.
 pub record EachOnce (journal : List Entry) (st : State) : Type 0 where
   pub made : (t : ℕ) → 0 < t → t < length st.tasks → count_by (makes t) journal ≡ 1
   pub no_other : (t : ℕ) → (t ≡ 0) ⊎ (length st.tasks ≤ t) → count_by (makes t) journal ≡ 0
   pub enabled : (t : ℕ) (row : TaskRow) → IsRow st t row → count_by (admits t) journal ≡ (if is_some row.parent then 0 else 1)
   pub done : (t : ℕ) → t < length st.tasks → count_by (finishes t) journal ≡ 1
 
--- Each task was made, enabled and ended at most once.
+-- Each task was made, enabled and finished at most once.
 pub record EachAtMostOnce (journal : List Entry) : Type 0 where
   pub made : (t : ℕ) → count_by (makes t) journal ≤ 1
   pub enabled : (t : ℕ) → count_by (admits t) journal ≤ 1

@@ -8,8 +8,8 @@ ghost use Rattle.twe_machine.specs.Rows.{EffectsAreFilled, HasStatus};
 use crate::state::{State, TaskStatus};
 use effect_sets::summaries_interfere;
 
-/// The lowest task that is a bar to the admission of `t`, if there is one. Where there is none, `t` may be admitted if
-/// it was made. It takes no memory.
+/// The lowest task that is a bar to the admission of `t`, if there is one. If there is none and `t` was made, `t` may
+/// be admitted. It takes no memory.
 pub fn bar(st: &State, t: u32) -> Option<u32>
     requires there { t < length st.now.tasks }
     requires linked { length st.now.links ≡ length st.now.tasks }
@@ -39,7 +39,7 @@ fn is_bar(st: &State, s: u32, t: u32) -> bool
     s != t && is_enabled(st, s) && interfere(st, s, t) && !st.links.yields(s, t)
 }
 
-/// Whether a task may run, apart from what it waits for.
+/// Whether a task is enabled.
 fn is_enabled(st: &State, t: u32) -> bool
     ensures { IsTrue result ↔ HasStatus st.now t Enabled }
 {

@@ -1,4 +1,4 @@
-//! How the frame of a segment that has stopped comes back into the row of its task.
+//! Storing the frame of a segment that has stopped in the row of its task.
 ghost use Rattle.std.specs.Prelude.{◌≡◌, ◌<◌, ◌++◌, length, OnOk};
 ghost use Rattle.std.specs.Option.{ForSome};
 ghost use Rattle.twe_machine.specs.declared.state.TaskRow.{TaskRow};
@@ -10,7 +10,7 @@ use seg_exec::{Frame, Next};
 use std::alloc::Global;
 use twe_io::{Ints, Memory};
 
-/// The task of which the next operation is a wait, where it is one.
+/// The task that the next operation waits for, if it is a wait.
 pub(crate) fn awaited(next: Next) -> Option<u32>
     ensures { result ≡ awaited next }
 {
@@ -23,7 +23,7 @@ pub(crate) fn awaited(next: Next) -> Option<u32>
     }
 }
 
-/// Takes the printed numbers out of a frame.
+/// Moves the printed numbers of a frame to the end of those of the run.
 fn take_prints(alloc: Global, prints: &mut Ints, frame: &mut Frame) -> Result<(), Memory>
     ensures prints { OnOk result (prints.new ≡ prints.old ++ frame.old.prints) }
     ensures frame { OnOk result (frame.new ≡ emptied frame.old) }
@@ -33,8 +33,8 @@ fn take_prints(alloc: Global, prints: &mut Ints, frame: &mut Frame) -> Result<()
     Ok(())
 }
 
-/// Puts the frame of a segment into the row of its task, which goes on: the numbers that it has printed go to those of
-/// the run, and the links say what the task waits for.
+/// Stores the frame of an unfinished task in its row. The numbers that the segment printed join those of the run, and
+/// the links say what the task waits for.
 pub(crate) fn come_home(alloc: Global, st: &mut State, t: u32, frame: Frame) -> Result<(), Memory>
     requires there { t < length st.old.tasks }
     requires linked { length st.old.links ≡ length st.old.tasks }

@@ -1,14 +1,14 @@
-//! How a run can stand.
+//! The outcome of a run.
 
 use seg_journal::FaultKind;
 use twe_io::Place;
 
-/// How a run stands.
+/// The outcome of a run in its present state.
 #[derive(Clone, Copy, Debug, PartialEq, Eq)]
 pub enum Outcome {
-    /// Each task is done.
+    /// Every task is done.
     AllDone,
-    /// There was a fault; this is the first.
+    /// Some task met a fault; this is the first fault.
     Fault {
         /// The task that met it.
         task: u32,

@@ -1,4 +1,4 @@
-//! The state that a run starts from.
+//! The state that a run starts in.
 ghost use Rattle.std.specs.Prelude.{◌≡◌, [], IfOk};
 ghost use Rattle.seg_exec.specs.Entry.{effects_at, entry_frame};
 ghost use Rattle.twe_machine.specs.Moves.{start_of, initial_values};
@@ -12,8 +12,8 @@ use twe_io::{Ints, List, Memory};
 use twe_program::{CellDecl, Prog};
 use wait_graph::Links;
 
-/// The state that a run of the program starts from: task 0 is a `main` that was made, and the cells have their
-/// initial values.
+/// The state that a run of the program starts in: task 0 is a `main` that waits for its admission, and the cells have
+/// their initial values.
 pub fn start(alloc: Global, p: &Prog, lim: Limits) -> Result<State, Memory>
     ensures { IfOk result (λ st. st ≡ start_of p.now lim) }
 {
@@ -44,7 +44,7 @@ fn initial_values(alloc: Global, cells: &[CellDecl]) -> Result<Ints, Memory>
     Ok(values)
 }
 
-/// What task 0 is made of: a `main`, which has no argument.
+/// The parts of task 0: a `main`, which has no argument.
 fn main_task(alloc: Global, p: &Prog) -> Result<NewTask, Memory>
     ensures frame { IfOk result (λ task. task.frame ≡ entry_frame p.now p.now.main []) }
     ensures args { IfOk result (λ task. task.args ≡ []) }

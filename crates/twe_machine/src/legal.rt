@@ -1,4 +1,4 @@
-//! Which moves may be taken.
+//! Which moves are legal.
 ghost use Rattle.std.specs.Prelude.{◌≡◌, ◌↔◌, length, IsOk, IfErr};
 ghost use Rattle.seg_journal.specs.declared.moves.Kind.TheVariants.{Admit, Run};
 ghost use Rattle.twe_machine.specs.declared.state.TaskStatus.TheVariants.{Made, Enabled};
@@ -16,9 +16,9 @@ use twe_program::Prog;
 pub enum Why {
     /// There is no such task.
     NoTask,
-    /// It is to be admitted, and is not waiting for its admission.
+    /// It is to be admitted, and does not wait for its admission.
     NotMade,
-    /// It is to be admitted, and this task is a bar to it, the lowest one.
+    /// It is to be admitted, and this task is the lowest bar to it.
     HeldBy(u32),
     /// It is to run, and is not enabled.
     NotEnabled,
@@ -26,7 +26,7 @@ pub enum Why {
     WaitsFor(u32),
 }
 
-/// Whether the move is legal in a state that a run of the program has come to, and if not, why.
+/// Checks that the move is legal in a reached state of the program, and returns the reason if it is not.
 pub fn may(p: &Prog, st: &State, mv: Move) -> Result<(), Why>
     requires { IsReachable p.now st.now }
     ensures legal { IsOk result ↔ MayMove st.now mv }
@@ -44,7 +44,7 @@ pub fn may(p: &Prog, st: &State, mv: Move) -> Result<(), Why>
     }
 }
 
-/// Whether a task that was made may be admitted, and if not, which task is the lowest bar.
+/// Checks that a made task may be admitted, and returns the lowest bar to it if it may not.
 fn may_admit(st: &State, t: u32) -> Result<(), Why>
     requires made { HasStatus st.now t Made }
     requires linked { length st.now.links ≡ length st.now.tasks }
@@ -58,7 +58,7 @@ fn may_admit(st: &State, t: u32) -> Result<(), Why>
     }
 }
 
-/// Whether an enabled task may run, and if not, for which it waits.
+/// Checks that an enabled task may run, and returns the task that it waits for if it may not.
 fn may_run(st: &State, t: u32) -> Result<(), Why>
     requires enabled { HasStatus st.now t Enabled }
     requires linked { length st.now.links ≡ length st.now.tasks }

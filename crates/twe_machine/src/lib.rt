@@ -1,4 +1,5 @@
-//! The sequential machine: a state, the moves that may be taken in it, what a move makes of it, and how a run ends.
+//! The sequential machine: the state of a run, the legal moves in it, the state after a move, and the outcome of a
+//! run. Which move is taken next is left to the schedulers above.
 #![tactic(auto)]
 
 mod bars;
@@ -23,7 +24,9 @@ pub use bars::bar;
 pub use ending::Outcome;
 pub use first_state::start;
 pub use laws::{
-    children_are_done_first, effects_are_filled, links_agree, links_are_in_order, one_lowest_first,
+    a_move_leaves_the_rest_alone, chains_of_waits_stay, children_are_done_first,
+    done_tasks_stay_done, each_thing_happens_once, effects_are_filled, journals_are_short,
+    links_agree, links_are_in_order, one_lowest_first, segments_may_be_settled,
 };
 pub use legal::{Why, may};
 pub use lowest_move::{lowest, lowest_from};

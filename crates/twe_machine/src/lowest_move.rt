@@ -13,8 +13,8 @@ use crate::state::State;
 use seg_journal::{Kind, Move};
 use twe_program::Prog;
 
-/// The legal move of the lowest task that has one, if there is a legal move, in a state that a run of the program has
-/// come to. It takes no memory.
+/// The legal move of the lowest task that has one, in a reached state of the program, and `None` if no move is legal.
+/// It takes no memory.
 pub fn lowest(p: &Prog, st: &State) -> Option<Move>
     requires { IsReachable p.now st.now }
     ensures some { IfSome result (IsLowest st.now) }
@@ -23,8 +23,8 @@ pub fn lowest(p: &Prog, st: &State) -> Option<Move>
     lowest_from(p, st, 0)
 }
 
-/// The same, where all tasks below `from` are done: it looks at none of them, since a task that is done has no legal
-/// move. It takes no memory.
+/// The same if all tasks below `from` are done. It skips them, since a done task has no legal move. It takes no
+/// memory.
 pub fn lowest_from(p: &Prog, st: &State, from: u32) -> Option<Move>
     requires reachable { IsReachable p.now st.now }
     requires done { (t : ℕ) → t < from → HasStatus st.now t Done }

@@ -1,4 +1,4 @@
-//! The making of a task.
+//! Making a task.
 ghost use Rattle.std.specs.Prelude.{◌≡◌, ◌+◌, ◌-◌, ◌^◌, ◌<◌, ◌++◌, ◌∷◌, [], length, Some, IfOk, OnOk, slice_set};
 ghost use Rattle.std.specs.Option.{ForSome};
 ghost use Rattle.wait_graph.specs.Link.{new_link};
@@ -15,18 +15,18 @@ use seg_journal::{End, FaultKind, Limits};
 use std::alloc::Global;
 use twe_io::{List, Memory, Place};
 
-/// How a task is asked for.
+/// How a task is made.
 #[derive(Clone, Copy)]
 pub(crate) struct Asking {
     /// Whether it is spawned.
     pub spawned: bool,
-    /// The future that is to stand for it.
+    /// The future that will stand for it.
     pub future: u32,
     /// The place of its name.
     pub place: Place,
 }
 
-/// Lets a future stand for a task, where the frame has the future.
+/// Lets a future stand for a task, if the frame has that future.
 fn set_future(futures: &mut List<Option<u32>>, future: u32, task: u32)
     ensures { futures.new ≡ slice_set futures.old future (Some task) }
 {
@@ -36,7 +36,7 @@ fn set_future(futures: &mut List<Option<u32>>, future: u32, task: u32)
     }
 }
 
-/// Puts a spawned child after the other children.
+/// Adds a spawned child after the other children.
 fn add_child(out: &mut List<u32>, child: u32, spawned: bool) -> Result<(), Memory>
     ensures { OnOk result (out.new ≡ out_with spawned child out.old) }
 {
@@ -46,7 +46,7 @@ fn add_child(out: &mut List<u32>, child: u32, spawned: bool) -> Result<(), Memor
     Ok(())
 }
 
-/// Enters a task into the frame of its maker.
+/// Records a new task in the frame of its maker.
 fn note(frame: &mut Frame, child: u32, future: u32, spawned: bool) -> Result<(), Memory>
     ensures { OnOk result (frame.new ≡ making_frame future spawned child frame.old) }
 {
@@ -74,7 +74,7 @@ fn add_task(
     st.tasks.push(new_row(alloc, lim, number, parent, task))
 }
 
-/// Makes a task for `t`, and answers its number: the future stands for it in the frame of `t`.
+/// Makes a task for `t` and returns its number. The future in the frame of `t` stands for it.
 fn make(
     alloc: Global,
     lim: Limits,
@@ -102,8 +102,8 @@ fn make(
     Ok(child)
 }
 
-/// Makes a task for `t`, which has stopped so to make it. Where its number is not below the limit, `t` ends with a fault
-/// instead.
+/// Makes a task for `t`, whose segment stopped at a make. If the task's number is not below the limit, `t` ends with
+/// a fault instead.
 pub(crate) fn ask(
     alloc: Global,
     lim: Limits,

@@ -1,4 +1,4 @@
-//! A task that is made.
+//! The row of a new task.
 ghost use Rattle.std.specs.Prelude.{◌≡◌};
 ghost use Rattle.twe_machine.specs.Moves.{new_row, parent_of, status_at_start};
 
@@ -9,10 +9,10 @@ use seg_journal::Limits;
 use std::alloc::Global;
 use twe_io::{Ints, List};
 
-/// What a new task is made of.
+/// The parts of a new task.
 #[derive(Drop)]
 pub(crate) struct NewTask {
-    /// Its frame before its first segment, in which its number and its fuel are still to be put.
+    /// Its frame before its first segment, without its number and its fuel.
     pub frame: Frame,
     /// Its arguments.
     pub args: Ints,
@@ -27,7 +27,7 @@ pub(crate) fn parent_of(t: u32, spawned: bool) -> Option<u32>
     if spawned { Some(t) } else { None }
 }
 
-/// How far a new task has come: one that has a parent may run at once.
+/// The status of a new task: a task with a parent is enabled at once, and another one waits for its admission.
 fn status_at_start(parent: Option<u32>) -> TaskStatus
     ensures { result ≡ status_at_start parent }
 {

@@ -1,4 +1,4 @@
-//! One move.
+//! Taking one move.
 ghost use Rattle.std.specs.Prelude.{◌≡◌, ◌<◌, length, IfOk, slice_get};
 ghost use Rattle.twe_machine.specs.Legal.{MayMove};
 ghost use Rattle.twe_machine.specs.Moves.{admitted, moved};
@@ -11,8 +11,8 @@ use std::alloc::Global;
 use twe_io::Memory;
 use twe_program::Prog;
 
-/// Takes a legal move in a state that a run of the program has come to under these limits, and tells what the move
-/// ended in. After `Memory` nothing is known of the state, which can only be dropped.
+/// Takes a legal move in a reached state of the program under these limits, and returns the end of the move. After
+/// `Memory` nothing is known of the state, which can only be dropped.
 pub fn step(alloc: Global, p: &Prog, lim: Limits, st: &mut State, mv: Move) -> Result<End, Memory>
     requires reached { IsReached p.now lim st.old }
     requires legal { MayMove st.old mv }

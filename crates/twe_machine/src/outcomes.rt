@@ -1,4 +1,4 @@
-//! How a run stands that has come to a state.
+//! The outcome of a run in a state.
 ghost use Rattle.std.specs.Prelude.{◌≡◌};
 ghost use Rattle.std.specs.List.{list_all};
 ghost use Rattle.twe_machine.specs.Rows.{is_done_row};
@@ -9,7 +9,7 @@ use crate::lowest_move::lowest;
 use crate::state::{State, TaskRow, TaskStatus};
 use twe_program::Prog;
 
-/// How a run of the program stands that has come to this state. It takes no memory.
+/// The outcome of a run of the program that has come to this state. It takes no memory.
 pub fn outcome(p: &Prog, st: &State) -> Outcome
     requires { IsReachable p.now st.now }
     ensures { IsOutcome st.now result }

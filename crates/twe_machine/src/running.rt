@@ -1,4 +1,4 @@
-//! One segment of a task.
+//! Running one segment of a task.
 ghost use Rattle.std.specs.Prelude.{◌≡◌, ◌<◌, length, IfOk, Some, slice_get, slice_set, option_copied};
 ghost use Rattle.twe_program.specs.Program.{cell_count};
 ghost use Rattle.twe_machine.specs.declared.state.TaskRow.{TaskRow};
@@ -16,7 +16,7 @@ use std::mem;
 use twe_io::{Ints, List, Memory};
 use twe_program::Prog;
 
-/// Runs a task from where it stands, with the value that it has waited for, up to its next stop.
+/// Runs a task from its present position, with the value that it has waited for, up to its next stop.
 pub(crate) fn run(
     alloc: Global,
     p: &Prog,
@@ -46,7 +46,7 @@ fn take_ready(alloc: Global, rows: &mut List<TaskRow>, t: u32) -> Frame
     frame
 }
 
-/// A frame of which nothing is left.
+/// A frame with nothing left to run.
 fn no_frame(alloc: Global) -> Frame
     ensures { result ≡ no_frame }
 {
@@ -63,7 +63,7 @@ fn no_frame(alloc: Global) -> Frame
     }
 }
 
-/// The value of the task that is waited for, and 0 where there is none.
+/// The value of the awaited task, and 0 if there is none.
 fn awaited_value(rows: &List<TaskRow>, on: Option<u32>) -> i32
     ensures { result ≡ awaited_value rows.now on }
 {
@@ -73,7 +73,7 @@ fn awaited_value(rows: &List<TaskRow>, on: Option<u32>) -> i32
     }
 }
 
-/// The value of a task, and 0 where there is no such task.
+/// The value of a task, and 0 if there is no such task.
 fn value_of(row: Option<&TaskRow>) -> i32
     ensures { result ≡ value_of (option_copied row.entry) }
 {

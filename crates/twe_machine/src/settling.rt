@@ -1,4 +1,4 @@
-//! What a segment that has stopped makes of the state.
+//! Settling a segment that has stopped: the state after it.
 ghost use Rattle.std.specs.Prelude.{◌≡◌, ◌<◌, length, IfOk, OnOk, slice_get};
 ghost use Rattle.std.specs.Option.{ForSome};
 ghost use Rattle.twe_machine.specs.declared.state.TaskRow.{TaskRow};
@@ -16,10 +16,10 @@ use seg_journal::{End, Limits};
 use std::alloc::Global;
 use twe_io::Memory;
 
-/// The state after a segment of this task that left this frame and stopped so, and what the move ended in: the frame
-/// goes home, the join that the segment has taken is taken, a task that it makes is added, and the numbers that it has
-/// printed go to those of the run. The cells of the state have to be those after the segment. After `Memory` nothing is
-/// known of the state, which can only be dropped.
+/// Settles a segment of this task that left this frame and stopped in this way, and returns the end of the move. It
+/// marks the child as joined whose join the segment began with, stores the frame, adds a task that the segment makes,
+/// and appends the numbers that it printed to those of the run. The cells of the state have to be those after the
+/// segment. After `Memory` nothing is known of the state, which can only be dropped.
 pub fn settle(
     alloc: Global,
     lim: Limits,
@@ -35,7 +35,7 @@ pub fn settle(
     stop_task(alloc, lim, st, t, frame, stop)
 }
 
-/// The same, once the join is taken.
+/// The same after the child was marked as joined.
 fn stop_task(
     alloc: Global,
     lim: Limits,
@@ -76,7 +76,7 @@ fn stop_task(
     }
 }
 
-/// Lets a task come home that goes on, where its segment has ended in this.
+/// Stores the frame of an unfinished task, and returns the given end of its segment.
 fn go_on(alloc: Global, st: &mut State, t: u32, frame: Frame, end: End) -> Result<End, Memory>
     requires there { t < length st.old.tasks }
     requires linked { length st.old.links ≡ length st.old.tasks }

@@ -6,10 +6,10 @@ use seg_journal::FaultKind;
 use twe_io::{Ints, List, Place};
 use wait_graph::Links;
 
-/// How far a task has come.
+/// The status of a task.
 #[derive(Clone, Copy, Debug, PartialEq, Eq)]
 pub enum TaskStatus {
-    /// It was made, and waits for its admission.
+    /// It was made and waits for its admission.
     Made,
     /// It may run.
     Enabled,
@@ -28,7 +28,7 @@ pub struct TaskRow {
     pub args: Ints,
     /// Its effects.
     pub effects: Summary,
-    /// What it keeps between its segments.
+    /// Its frame, which it keeps between its segments.
     pub frame: Frame,
     /// The task that spawned it, if it was spawned.
     pub parent: Option<u32>,
@@ -36,7 +36,7 @@ pub struct TaskRow {
     pub joined: bool,
     /// The children that it has spawned and not joined yet, in the order in which they were spawned.
     pub out: List<u32>,
-    /// How far it has come.
+    /// Its status.
     pub status: TaskStatus,
     /// Its value, once it is done.
     pub value: i32,
@@ -58,14 +58,14 @@ pub struct FirstFault {
 pub struct State {
     /// The values of the cells.
     pub cells: Ints,
-    /// The tasks.
+    /// The tasks, by number.
     pub tasks: List<TaskRow>,
-    /// What links the tasks to one another: what each waits for, its spawn parent, and whether it was joined and is
-    /// done. They agree with the rows.
+    /// The links between the tasks: what each waits for, its spawn parent, and whether it is joined or done. They
+    /// agree with the rows.
     pub links: Links,
-    /// The numbers that have been printed.
+    /// The printed numbers, the first one first.
     pub prints: Ints,
-    /// How many times a task was asked for, task 0 left out.
+    /// How many makes were asked for. Task 0 does not count.
     pub asked: u32,
     /// The first fault.
     pub first_fault: Option<FirstFault>,

@@ -1,4 +1,4 @@
-//! The join that a segment begins with.
+//! The join that a segment begins with, if its task has waited for a join.
 ghost use Rattle.std.specs.Prelude.{◌≡◌, ◌<◌, ◌==◌, length, IfSome};
 ghost use Rattle.std.specs.List.{list_any};
 ghost use Rattle.wait_graph.specs.Link.{link_of};
@@ -15,7 +15,7 @@ fn has_child(children: &[u32], child: u32) -> bool
     children.iter().any(|c| *c == child)
 }
 
-/// The child whose join the segment of `t` has taken, if it has taken one: the task that `t` waited for, where it is an
+/// The child that the segment of `t` has joined, if it has joined one: the task that `t` waited for, if that is an
 /// unjoined child of `t`.
 fn joined_child(st: &State, t: u32) -> Option<u32>
     requires there { t < length st.now.tasks }
@@ -33,7 +33,7 @@ fn joined_child(st: &State, t: u32) -> Option<u32>
     }
 }
 
-/// Takes the join that the segment of `t` has taken, if it has taken one: the child is joined.
+/// Marks the child as joined that the segment of `t` has joined, if it has joined one.
 pub(crate) fn take_join(st: &mut State, t: u32)
     requires there { t < length st.old.tasks }
     requires linked { length st.old.links ≡ length st.old.tasks }

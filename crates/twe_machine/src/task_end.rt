@@ -1,4 +1,4 @@
-//! The end of a task, with a value or with a fault.
+//! Ending a task, with a value or with a fault.
 ghost use Rattle.std.specs.Prelude.{◌≡◌, ◌<◌, length, IfOk, OnOk};
 ghost use Rattle.std.specs.Option.{ForSome};
 ghost use Rattle.seg_journal.specs.declared.journal.End.TheVariants as ends;
@@ -34,7 +34,7 @@ pub(crate) fn finish(
     Ok(End::Done { value })
 }
 
-/// Notes in a row that the task has ended with a value.
+/// Records in a row that the task has ended with a value.
 fn end_row(row: &mut TaskRow, value: i32)
     ensures { row.new ≡ record row.old { status = Done; value = value } }
 {
@@ -63,7 +63,7 @@ pub(crate) fn fail(
     Ok(End::Fault { kind, place })
 }
 
-/// The frame of a task that has met a fault, of which nothing is left to be carried out.
+/// The frame of a task that has met a fault, with nothing left to run.
 pub(crate) fn without_rest(alloc: Global, frame: Frame) -> Frame
     ensures { result ≡ stopped_frame frame }
 {
@@ -73,7 +73,7 @@ pub(crate) fn without_rest(alloc: Global, frame: Frame) -> Frame
     frame
 }
 
-/// Notes a fault, unless there was one before.
+/// Records a fault, unless there was one before.
 fn note_fault(first: &mut Option<FirstFault>, task: u32, kind: FaultKind, place: Place)
     ensures { first.new ≡ first_fault_of first.old task kind place }
 {

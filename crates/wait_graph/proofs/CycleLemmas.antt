@@ -9,8 +9,7 @@ use Rattle.wait_graph.specs.declared.stuck.Edge.{Edge}
 use Rattle.wait_graph.specs.Link.{IsOrdered}
 use Rattle.wait_graph.specs.Walk.{walk}
 use Rattle.wait_graph.specs.inner.Again.{after}
-use Rattle.wait_graph.specs.StuckCycle.{IsUndone, AllAreHeldUp, IsTrueEdge, IsClosed, HasEachOnce, BeginsLowest, edge_from, next_of}
-use Rattle.wait_graph.specs.inner.Cycle.{IsCycle}
+use Rattle.wait_graph.specs.StuckCycle.{IsCycle, IsUndone, AllAreHeldUp, IsTrueEdge, IsClosed, HasEachOnce, BeginsLowest, edge_from, next_of}
 use Rattle.wait_graph.proofs.WalkLemmas.{walk-push, length-walk, get_or-walk}
 use Rattle.wait_graph.proofs.RoundLemmas.{IsRound, IsRound-distinct}
 use Rattle.wait_graph.proofs.EdgeLemmas.{from-edge_from, GoesOn-undone}

@@ -5,8 +5,7 @@ use Rattle.wait_graph.specs.declared.stuck.Edge.{Edge}
 use Rattle.wait_graph.specs.Link.{IsOrdered}
 use Rattle.wait_graph.specs.Walk.{walk, first_round, turned, lowest_place}
 use Rattle.wait_graph.specs.inner.Again.{after, ComesAgain}
-use Rattle.wait_graph.specs.StuckCycle.{IsUndone, AllAreHeldUp, edge_from, next_of, lowest_undone, stuck_cycle}
-use Rattle.wait_graph.specs.inner.Cycle.{IsCycle}
+use Rattle.wait_graph.specs.StuckCycle.{IsCycle, IsUndone, AllAreHeldUp, edge_from, next_of, lowest_undone, stuck_cycle}
 use Rattle.wait_graph.proofs.WalkLemmas.{drop-walk}
 use Rattle.wait_graph.proofs.RoundLemmas.{IsRound, IsRound-again}
 use Rattle.wait_graph.proofs.FirstRoundLemmas.{first_round-walk}

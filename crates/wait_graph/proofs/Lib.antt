@@ -12,3 +12,4 @@ pub mod TurnedLemmas
 pub mod EdgeLemmas
 pub mod CycleLemmas
 pub mod FoundLemmas
+pub mod SomeRoundLemmas

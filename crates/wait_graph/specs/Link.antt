@@ -6,19 +6,19 @@ use Rattle.wait_graph.specs.declared.tasks.Link.{Link}
 abbrev pub new_link : Option ℕ → Link
 new_link parent = record { waits = None; parent = parent; joined = false; done = false }
 
--- the links of task t, which has none where it isn't there
+-- the links of task t, which are those of a new task if t isn't there
 abbrev pub link_of : List Link → ℕ → Link
 link_of links t = slice_index_or links t (new_link None)
 
--- the links once the next operation of t is a wait of this task, or is no wait
+-- the links after the next operation of t was set to await this task, or to be no wait
 abbrev pub with_wait : List Link → ℕ → Option ℕ → List Link
 with_wait links t on = slice_set links t (record (link_of links t) { waits = on })
 
--- the links once t was joined
+-- the links after t was marked as joined
 abbrev pub with_joined : List Link → ℕ → List Link
 with_joined links t = slice_set links t (record (link_of links t) { joined = true })
 
--- the links once t is done
+-- the links after t was marked as done
 abbrev pub with_done : List Link → ℕ → List Link
 with_done links t = slice_set links t (record (link_of links t) { done = true })
 

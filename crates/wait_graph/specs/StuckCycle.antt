@@ -1,4 +1,4 @@
--- The cycle of tasks none of which can go on: each waits for the next or is held by it.
+-- The cycle of tasks that can't go on: each waits for the next one or is held by it.
 use Rattle.std.specs.Prelude.{◌≡◌, ◌≢◌, ℕ, suc, ◌<◌, ◌++◌, ◌⊎◌, true, false, not, MatchBool, List, [], ◌∷◌, length, map, take, drop, Option, Some, None, unwrap_or, slice_index_or}
 use Rattle.std.specs.List.{position, All, AllPairs}
 use Rattle.wait_graph.specs.declared.tasks.Link.{Link}
@@ -24,7 +24,7 @@ IsHeldUp links held t = ((u : ℕ) × WaitsFor links t u) ⊎ ((h : ℕ) × (hol
 abbrev pub AllAreHeldUp : List Link → List (Option ℕ) → Type 0
 AllAreHeldUp links held = (t : ℕ) → IsUndone links t → IsHeldUp links held t
 
--- the edge from t to the task that it waits for, or else to its holder. Where there is neither it leads back to t.
+-- the edge from t to the task that it waits for, or else to its holder. If there is neither, it leads back to t.
 abbrev pub edge_to : ℕ → Option ℕ → Option ℕ → Edge
 edge_to t (Some u) holder = record { from = t; held = false; to = u }
 edge_to t None holder = record { from = t; held = true; to = unwrap_or holder t }
@@ -55,7 +55,7 @@ abbrev pub IsTrueEdge : List Link → List (Option ℕ) → Edge → Type 0
 IsTrueEdge links held e =
     MatchBool e.held (WaitsForNobody links e.from × (holder_of held e.from ≡ Some e.to)) (WaitsFor links e.from e.to)
 
--- each edge ends where the next begins, and the last one where the first begins
+-- each edge ends at the task at which the next one begins, and the last one at the task at which the first begins
 abbrev pub IsClosed : List Edge → Type 0
 IsClosed edges =
     map (λ (e : Edge). e.to) edges ≡ drop 1 (map (λ (e : Edge). e.from) edges) ++ take 1 (map (λ (e : Edge). e.from) edges)
@@ -68,3 +68,11 @@ HasEachOnce edges = AllPairs (λ (d e : Edge). d.from ≢ e.from) edges
 abbrev pub BeginsLowest : List Edge → Type 0
 BeginsLowest [] = Unit {0}
 BeginsLowest (first ∷ others) = All (λ (e : Edge). first.from < e.from) others
+
+-- the edges are true and go round once, from the lowest of their tasks on
+pub record IsCycle (links : List Link) (held : List (Option ℕ)) (edges : List Edge) : Type 0 where
+  pub some : 0 < length edges
+  pub true_edges : All (IsTrueEdge links held) edges
+  pub closed : IsClosed edges
+  pub once : HasEachOnce edges
+  pub begins_lowest : BeginsLowest edges

@@ -4,7 +4,7 @@ use Rattle.wait_graph.specs.declared.tasks.Link.{Link}
 use Rattle.wait_graph.specs.Link.{link_of}
 use Rattle.wait_graph.specs.Chain.{Chain}
 
--- s waits for u: the next operation of s is a wait of u, and u isn't done
+-- s waits for u: the next operation of s awaits u, and u isn't done
 pub record WaitsFor (links : List Link) (s u : ℕ) : Type 0 where
   pub waits : (link_of links s).waits ≡ Some u
   pub undone : (link_of links u).done ≡ false
@@ -34,11 +34,11 @@ DescendsFrom links = Chain (SpawnedBy links)
 abbrev pub YieldsTo : List Link → ℕ → ℕ → Type 0
 YieldsTo links s t = (u : ℕ) × WaitsOn links s u × DescendsFrom links t u
 
--- nobody is waited for by s
+-- s waits for nobody
 abbrev pub WaitsForNobody : List Link → ℕ → Type 0
 WaitsForNobody links s = (u : ℕ) → ¬ WaitsFor links s u
 
--- this task, where it isn't done
+-- this task, if it isn't done
 abbrev pub undone_task : List Link → Option ℕ → Option ℕ
 undone_task links None = None
 undone_task links (Some u) = if (link_of links u).done then None else Some u

@@ -6,7 +6,7 @@ ghost use Rattle.wait_graph.specs.Waiting.{awaited, WaitsFor, WaitsForNobody, Wa
 
 use crate::tasks::Link;
 
-/// The task that `t` waits for: the one of which its next operation is a wait, where that one isn't done.
+/// The task that `t` waits for: the task that its next operation awaits, if that task isn't done.
 pub(crate) fn awaited(links: &[Link], t: u32) -> Option<u32>
     requires there { t < length links.now }
     requires ordered { IsOrdered links.now }
@@ -38,7 +38,7 @@ pub(crate) fn end_of_waits(links: &[Link], t: u32) -> u32
     end
 }
 
-/// The task that spawned `t`, where `t` isn't joined.
+/// The task that spawned `t`, if `t` isn't joined.
 fn unjoined_parent(links: &[Link], t: u32) -> Option<u32>
     requires there { t < length links.now }
     requires ordered { IsOrdered links.now }
@@ -50,8 +50,8 @@ fn unjoined_parent(links: &[Link], t: u32) -> Option<u32>
     if link.joined { None } else { link.parent }
 }
 
-/// Whether `u` is `t` or a spawn ancestor of `t` over unjoined children. The walk to the ancestors ends where their
-/// numbers come down to `u`: it takes as many turns as `t` has ancestors above `u`, and none where `u` is above `t`.
+/// Whether `u` is `t` or a spawn ancestor of `t` over unjoined children. The walk to the ancestors ends when their
+/// numbers come down to `u`. It takes one turn for each ancestor of `t` above `u`, and none if `u` is above `t`.
 fn descends_from(links: &[Link], t: u32, u: u32) -> bool
     requires there { t < length links.now }
     requires ordered { IsOrdered links.now }
@@ -67,7 +67,7 @@ fn descends_from(links: &[Link], t: u32, u: u32) -> bool
     at == u
 }
 
-/// Whether `s` yields to `t`: for each task of the chain of waits from `s` it walks to those ancestors of `t` that
+/// Whether `s` yields to `t`. For each task of the chain of waits from `s`, it walks to those ancestors of `t` that
 /// are above that task.
 pub(crate) fn yields(links: &[Link], s: u32, t: u32) -> bool
     requires waiter { s < length links.now }

@@ -10,8 +10,8 @@ use std::alloc::Global;
 use std::marker::Model;
 use twe_io::Memory;
 
-/// What links the tasks to one another. The tasks are numbered from 0 in the order in which they were added.
-/// Contracts see it as the list of their links.
+/// The links between the tasks. The tasks are numbered from 0 in the order in which they were added. Contracts see it
+/// as the list of their links.
 ///
 /// A task waits only for a task with a higher number, and the parent of a task has a lower one.
 #[derive(Debug, Drop)]
@@ -36,7 +36,7 @@ impl Links {
     ghost use Rattle.wait_graph.specs.Waiting.{WaitsFor, WaitsForNobody, WaitsOn, YieldsTo};
     ghost use Rattle.wait_graph.specs.StuckCycle.{IsUndone, AllAreHeldUp, stuck_cycle, IsTrueEdge, IsClosed, HasEachOnce, BeginsLowest};
 
-    /// No task. It takes no memory.
+    /// The links of no tasks. It takes no memory.
     pub fn new(alloc: Global) -> Self
         ensures { result ≡ [] }
     {
@@ -61,8 +61,8 @@ impl Links {
         self.tasks[t as usize]
     }
 
-    /// Adds a task with this parent and answers its number, the lowest that no task has. It waits for nobody, and is
-    /// neither joined nor done. After `Memory` nothing was added.
+    /// Adds a task with this parent and returns its number, which is the number of tasks before. The new task waits
+    /// for nobody, and is neither joined nor done. After `Memory` nothing was added.
     pub fn add(&mut self, parent: Option<u32>) -> Result<u32, Memory>
         requires parent_there { ForSome parent (λ p. p < length self.old) }
         requires room { length self.old < 2 ^ 32 - 1 }
@@ -75,7 +75,7 @@ impl Links {
         Ok(number)
     }
 
-    /// From now on the next operation of `t` is a wait of this task, or is no wait. It takes no memory.
+    /// Sets the task that the next operation of `t` awaits, or that it is no wait. It takes no memory.
     pub fn set_wait(&mut self, t: u32, on: Option<u32>)
         requires there { t < length self.old }
         requires on_above { ForSome on (λ u. t < u) }
@@ -85,7 +85,7 @@ impl Links {
         self.tasks[t as usize].waits = on;
     }
 
-    /// From now on `t` is joined. It takes no memory.
+    /// Marks `t` as joined. It takes no memory.
     pub fn set_joined(&mut self, t: u32)
         requires { t < length self.old }
         ensures { self.new ≡ with_joined self.old t }
@@ -93,7 +93,7 @@ impl Links {
         self.tasks[t as usize].joined = true;
     }
 
-    /// From now on `t` is done. It takes no memory.
+    /// Marks `t` as done. It takes no memory.
     pub fn set_done(&mut self, t: u32)
         requires { t < length self.old }
         ensures { self.new ≡ with_done self.old t }
@@ -101,8 +101,8 @@ impl Links {
         self.tasks[t as usize].done = true;
     }
 
-    /// The task that `t` waits for, if it waits: the one of which its next operation is a wait, where that one isn't
-    /// done. It takes no memory.
+    /// The task that `t` waits for, if it waits: the task that its next operation awaits, if that task isn't done. It
+    /// takes no memory.
     pub fn awaited(&self, t: u32) -> Option<u32>
         requires { t < length self.now }
         ensures some { IfSome result (λ u. WaitsFor self.now t u) }
@@ -111,8 +111,8 @@ impl Links {
         chains::awaited(&self.tasks, t)
     }
 
-    /// The last task of the chain of waits from `t`: `t` itself where it waits for nobody. It takes no memory, and
-    /// time linear in the chain.
+    /// The last task of the chain of waits from `t`, which is `t` itself if it waits for nobody. It takes no memory,
+    /// and time linear in the chain.
     pub fn end_of_waits(&self, t: u32) -> u32
         requires { t < length self.now }
         ensures chain { WaitsOn self.now t result }
@@ -124,9 +124,9 @@ impl Links {
     /// Whether `s` yields to `t`: it waits, directly or through others, for `t` or for a spawn ancestor of `t` over
     /// unjoined children, or is one of these itself. It takes no memory.
     ///
-    /// It goes along the chain of waits from `s`, and from each task of it that is below `t` it looks at those
-    /// ancestors of `t` that are above that task. So where `s` waits for nobody, or `t` has no parent, it takes time
-    /// linear in the one chain, and at most the length of the one times the length of the other.
+    /// It goes along the chain of waits from `s`, and at each task of it that is below `t` it looks at those
+    /// ancestors of `t` that are above that task. If `s` waits for nobody or `t` has no parent, it takes time linear
+    /// in the one chain. Else it takes at most the product of the lengths of the two chains.
     pub fn yields(&self, s: u32, t: u32) -> bool
         requires waiter { s < length self.now }
         requires passing { t < length self.now }
@@ -135,7 +135,7 @@ impl Links {
         chains::yields(&self.tasks, s, t)
     }
 
-    /// The cycle in which the tasks are stuck, where each task of `held` is the holder of the task of that number.
+    /// The cycle in which the tasks are stuck. The entry of `held` at a task's number is the holder of that task.
     ///
     /// The walk starts at the lowest task that isn't done. From a task that waits it goes to the task waited for, and
     /// from another one to its holder. The tasks from the first one that it comes to again on are the cycle, which

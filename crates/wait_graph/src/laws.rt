@@ -4,6 +4,7 @@ ghost use Rattle.std.specs.Prelude.{◌≡◌, ◌≢◌, ℕ, ◌<◌, ◌≤�
 ghost use Rattle.std.specs.Option.{ForSome};
 ghost use Rattle.wait_graph.specs.declared.tasks.Link.{Link};
 ghost use Rattle.wait_graph.specs.Link.{IsOrdered, link_of, new_link, with_wait, with_joined, with_done};
+ghost use Rattle.wait_graph.specs.StuckCycle.{AllAreHeldUp, IsCycle, IsUndone, stuck_cycle};
 ghost use Rattle.wait_graph.specs.Waiting.{WaitsFor, WaitsForNobody, WaitsOn, IsDone, WaitsOnUnlessDone, SpawnedBy, DescendsFrom, YieldsTo};
 
 /// A chain goes on by another that begins where it ends.
@@ -27,7 +28,7 @@ pub fn chains_are_ordered()
     ensures descents_down { (links : List Link) (t u : ℕ) → IsOrdered links → DescendsFrom links t u → u ≤ t }
 {}
 
-/// A chain of waits that leads to `u` unless `u` is done goes on in the same way to the task that `u` has a wait of.
+/// A chain of waits that leads to `u` unless `u` is done goes on in the same way to the task that `u` awaits.
 pub fn a_chain_goes_on_by_a_wait()
     ensures { (links : List Link) (s u v : ℕ) → WaitsOnUnlessDone links s u → ¬ IsDone links u
         → (link_of links u).waits ≡ Option.Some v → WaitsOnUnlessDone links s v }
@@ -45,13 +46,13 @@ pub fn a_task_without_children_is_no_ancestor()
         → (DescendsFrom links c t ↔ (c ≡ t)) }
 {}
 
-/// A task waits for nobody exactly where it has no wait, or one of a task that is done.
+/// A task waits for nobody if and only if its next operation is no wait, or awaits a task that is done.
 pub fn waiting_for_nobody()
     ensures { (links : List Link) (t : ℕ)
         → (WaitsForNobody links t ↔ ForSome (link_of links t).waits (IsDone links)) }
 {}
 
-/// How yielding goes along chains, and what it is where one of the two chains has no step.
+/// How yielding goes along chains, and what it is if one of the two chains has no step.
 pub fn yielding_follows_chains()
     // Who waits on a task yields to whomever that task yields to.
     ensures along_waits { (links : List Link) (s u t : ℕ) → WaitsOn links s u → YieldsTo links u t
@@ -81,7 +82,8 @@ pub fn setting_a_wait()
         → (DescendsFrom (with_wait links t on) c u ↔ DescendsFrom links c u) }
 {}
 
-/// Setting what a task waits for that waited for nobody, having no wait or one of a done task, ends no chain.
+/// If a task waits for nobody, since its next operation is no wait or awaits a done task, then setting what it waits
+/// for ends no chain.
 pub fn a_wait_set_where_none_was_keeps_chains()
     ensures waits { (links : List Link) (t s u : ℕ) (on : Option ℕ) → WaitsForNobody links t
         → WaitsOn links s u → WaitsOn (with_wait links t on) s u }
@@ -106,7 +108,7 @@ pub fn setting_a_task_done()
         → (DescendsFrom (with_done links t) c u ↔ DescendsFrom links c u) }
 {}
 
-/// Where the task that is done waits for nobody, only the chains of waits that lead to it itself end.
+/// If a task waits for nobody when it is done, only the chains of waits that lead to it itself end.
 pub fn a_done_task_that_waited_for_nobody_ends_no_other_chain()
     ensures waits { (links : List Link) (t s u : ℕ) → WaitsForNobody links t → u ≢ t
         → (WaitsOn (with_done links t) s u ↔ WaitsOn links s u) }
@@ -173,4 +175,11 @@ pub fn an_added_task()
         → ForSome parent (λ p. p < length links)
         → (YieldsTo (links ++ new_link parent ∷ []) s (length links)
         ↔ ((s ≡ length links) ⊎ ((p : ℕ) × (parent ≡ Option.Some p) × YieldsTo links s p))) }
+{}
+
+/// If each task that isn't done is held up and some task isn't done, the edges of the stuck cycle are true and go round
+/// once, from the lowest of their tasks on.
+pub fn a_stuck_cycle_goes_round()
+    ensures { (links : List Link) (held : List (Option ℕ)) (t : ℕ) → IsOrdered links → AllAreHeldUp links held
+        → IsUndone links t → IsCycle links held (stuck_cycle links held) }
 {}

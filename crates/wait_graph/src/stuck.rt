@@ -3,7 +3,7 @@ ghost use Rattle.std.specs.Prelude.{◌≡◌, ◌↔◌, [], length, IsTrue, sl
 
 use std::marker::Model;
 
-/// One reason why a task can't go on: it waits for another, or is held by another.
+/// One reason why a task can't go on: it waits for another task, or another task holds it.
 #[derive(Clone, Copy, Debug, PartialEq, Eq)]
 pub struct Edge {
     /// The task that can't go on.

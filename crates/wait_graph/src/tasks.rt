@@ -2,10 +2,10 @@
 ghost use Rattle.std.specs.Prelude.{◌≡◌};
 ghost use Rattle.wait_graph.specs.Link.{new_link};
 
-/// What links a task to others.
+/// The links of a task to others.
 #[derive(Clone, Copy, Debug, PartialEq, Eq)]
 pub struct Link {
-    /// The task of which the next operation is a wait, where it is one, whether that task is done or not.
+    /// The task that the next operation awaits, if it is a wait, whether that task is done or not.
     pub waits: Option<u32>,
     /// The task that spawned this one, if one did.
     pub parent: Option<u32>,

@@ -4,8 +4,7 @@ ghost use Rattle.std.specs.List.{All, position};
 ghost use Rattle.wait_graph.specs.Link.{IsOrdered};
 ghost use Rattle.wait_graph.specs.Walk.{walk, lowest_place, turned};
 ghost use Rattle.wait_graph.specs.inner.Again.{ComesAgain};
-ghost use Rattle.wait_graph.specs.StuckCycle.{IsUndone, AllAreHeldUp, edge_from, next_of, lowest_undone, stuck_cycle};
-ghost use Rattle.wait_graph.specs.inner.Cycle.{IsCycle};
+ghost use Rattle.wait_graph.specs.StuckCycle.{IsCycle, IsUndone, AllAreHeldUp, edge_from, next_of, lowest_undone, stuck_cycle};
 
 use crate::chains;
 use crate::stuck::Edge;
@@ -13,7 +12,7 @@ use crate::tasks::Link;
 use std::alloc::Global;
 use twe_io::Memory;
 
-/// The edge by which the walk leaves `t`: to the task that it waits for, and where it waits for nobody, to its holder.
+/// The edge by which the walk leaves `t`: to the task that it waits for, or to its holder if it waits for nobody.
 fn edge_from(links: &[Link], held: &[Option<u32>], t: u32) -> Edge
     requires ordered { IsOrdered links.now }
     requires holders { length held.now ≡ length links.now }
@@ -53,12 +52,12 @@ fn lowest_undone(links: &[Link]) -> u32
     first_undone(links).unwrap_or(0) as u32
 }
 
-/// The tasks that a walk met before it came to one of them again.
+/// The tasks that a walk meets before it comes to one of them again.
 #[derive(Drop)]
 struct Walk {
     /// Each task once, in the order in which the walk met them.
     tasks: Vec<u32>,
-    /// The place of the one that the walk came to again.
+    /// The place of the task that the walk comes to again.
     again: usize,
 }
 
@@ -108,7 +107,7 @@ fn lowest_place(tasks: &[u32]) -> usize
     lowest
 }
 
-/// Puts the edges by which the walk leaves these tasks after the others.
+/// Appends the edges by which the walk leaves these tasks.
 fn push_edges(
     links: &[Link],
     held: &[Option<u32>],

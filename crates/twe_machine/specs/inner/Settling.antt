@@ -1,4 +1,4 @@
--- A run of one segment whose frame is out of its row meanwhile.
+-- A segment that runs while its frame is out of its row.
 use Rattle.std.specs.Prelude.{ℕ, pos, [], None}
 use Rattle.twe_limits.specs.Limits.{Bounds}
 use Rattle.twe_program.specs.Program.{Program}
@@ -10,7 +10,7 @@ use Rattle.twe_machine.specs.declared.state.TaskRow.{TaskRow}
 use Rattle.twe_machine.specs.Moves.{MaySettle, ready}
 use Rattle.twe_machine.specs.Rows.{IsRow}
 
--- a frame of which nothing is left
+-- a frame with nothing left to run
 abbrev pub no_frame : Frame
 no_frame = record {
   task = 0;
@@ -28,7 +28,7 @@ no_frame = record {
 abbrev pub without_frame : TaskRow → TaskRow
 without_frame row = record row { frame = no_frame }
 
--- what the next segment of t leaves may be settled
+-- the frame that the next segment of t leaves may be settled
 abbrev pub SettlesAfter : Program → Bounds → State → ℕ → Type 0
 SettlesAfter p lim st t =
     (row : TaskRow) → IsRow st t row → MaySettle lim st t (segment p (ready st.tasks row.frame) st.cells).frame.next

@@ -1,4 +1,4 @@
--- Where a walk along a function is, and where it comes to a number again.
+-- Where a walk along a function is, and when it comes to a number again.
 use Rattle.std.specs.Prelude.{◌≡◌, ◌≢◌, ℕ, zero, suc, ◌<◌}
 
 -- where the walk from t is after n steps

@@ -4,8 +4,7 @@ use Rattle.std.proofs.lemmas.List.{take_rest}
 use Rattle.std.proofs.lemmas.List.Elements.{All-same, All-drop}
 use Rattle.std.proofs.lemmas.Result.{IfOk-weaker}
 use Rattle.wait_graph.specs.declared.stuck.Edge.{Edge}
-use Rattle.wait_graph.specs.StuckCycle.{IsUndone, next_of}
-use Rattle.wait_graph.specs.inner.Cycle.{IsCycle}
+use Rattle.wait_graph.specs.StuckCycle.{IsCycle, IsUndone, next_of}
 use Rattle.wait_graph.proofs.CycleLemmas.{IsUndone-walk}
 use Rattle.wait_graph.proofs.FoundLemmas.{IsFound-from, IsRoundOf, IsRoundOf-found, stuck_cycle-round, IsCycle-round}
 use Rattle.wait_graph.proofs.walk.find_cycle.Goals as goal

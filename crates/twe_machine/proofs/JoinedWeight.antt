@@ -4,8 +4,8 @@ use Rattle.std.specs.Prelude.{slice_get, slice_set}
 use Rattle.twe_machine.specs.declared.state.State.{State}
 use Rattle.twe_machine.specs.declared.state.TaskRow.{TaskRow}
 use Rattle.twe_machine.specs.Moves.{joined, joined_row, joined_rows}
-use Rattle.flat_sched.proofs.Places.{joined_there}
-use Rattle.flat_sched.proofs.Weight.{row_weight, rows_weight, set_weight}
+use Rattle.twe_machine.proofs.RowNumbers.{joined_there}
+use Rattle.twe_machine.proofs.Weight.{row_weight, rows_weight, set_weight}
 
 -- a row takes the place of one that was there before the join
 after_join : (rows : List TaskRow) (c t : ℕ) (child : Option TaskRow) (row new : TaskRow) → slice_get rows c ≡ child → slice_get rows t ≡ Some row

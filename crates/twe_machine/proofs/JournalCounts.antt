@@ -12,15 +12,15 @@ use Rattle.twe_machine.specs.declared.state.TaskStatus.{TaskStatus}
 use Rattle.twe_machine.specs.declared.state.TaskStatus.TheVariants.{Made, Enabled, Done, Faulted}
 use Rattle.twe_machine.specs.Moves.{new_row, parent_of}
 use Rattle.twe_machine.specs.Runs.{makes, admits, finishes}
-use Rattle.flat_sched.proofs.Ends.{Tells}
-use Rattle.flat_sched.proofs.Places.{told}
+use Rattle.twe_machine.proofs.StoppedNumbers.{ChangesWhenDone}
+use Rattle.twe_machine.proofs.RowNumbers.{number_at}
 
--- each task but the first was made once, where there are so many
+-- of so many tasks each but the first was made once
 abbrev pub times_made : ℕ → ℕ → ℕ
 times_made zero count = 0
 times_made (suc t) count = cond (nat_lt (suc t) count) 1 0
 
--- a task that no other spawned was admitted, unless it still waits for that
+-- a task without a parent was admitted once, unless it still waits for its admission; a spawned task never was
 abbrev pub times_admitted_at : Option ℕ → TaskStatus → ℕ
 times_admitted_at (Some parent) status = 0
 times_admitted_at None Made = 0
@@ -41,17 +41,17 @@ times_finished_at Faulted = 0
 abbrev pub times_finished : TaskRow → ℕ
 times_finished row = times_finished_at row.status
 
--- the counts of a journal are what the state says that it leads to
+-- the counts of a journal are those that the state it leads to gives
 pub record Counts (journal : List Entry) (st : State) : Type 0 where
   pub made : (t : ℕ) → count_by (makes t) journal ≡ times_made t (length st.tasks)
-  pub admitted : (t : ℕ) → count_by (admits t) journal ≡ told times_admitted (slice_get st.tasks t)
-  pub finished : (t : ℕ) → count_by (finishes t) journal ≡ told times_finished (slice_get st.tasks t)
+  pub admitted : (t : ℕ) → count_by (admits t) journal ≡ number_at times_admitted (slice_get st.tasks t)
+  pub finished : (t : ℕ) → count_by (finishes t) journal ≡ number_at times_finished (slice_get st.tasks t)
 
 -- a journal that goes on by an entry
 pub count_more : (test : Entry → Bool) (journal : List Entry) (last : Entry) → count_by test (journal ++ last ∷ []) ≡ count_by test journal + cond (test last) 1 0
 count_more test journal last = sum_by-append (λ (e : Entry). cond (test e) 1 0) journal (last ∷ []) ∙ omega arith
 
--- what segments of an enabled task do to the two numbers
+-- how segments of an enabled task change the two numbers
 done_admitted : (parent : Option ℕ) → times_admitted_at parent Done ≡ times_admitted_at parent Enabled
 done_admitted (Some q) = refl
 done_admitted None = refl
@@ -70,8 +70,8 @@ fresh_finished : (lim : Bounds) (number t : ℕ) (spawned : Bool) (child : Frame
 fresh_finished lim number t true child args effects = refl
 fresh_finished lim number t false child args effects = refl
 
-pub admitted_tells : (row : TaskRow) → row.status ≡ Enabled → Tells times_admitted 0 row
-admitted_tells row enabled =
+pub admitted_changes : (row : TaskRow) → row.status ≡ Enabled → ChangesWhenDone times_admitted 0 row
+admitted_changes row enabled =
     let was : times_admitted_at row.parent Enabled ≡ times_admitted row = ap (times_admitted_at row.parent) (sym enabled) in
     record {
       joins = λ r. refl;
@@ -81,8 +81,8 @@ admitted_tells row enabled =
       fresh = fresh_admitted;
     }
 
-pub finished_tells : (row : TaskRow) → row.status ≡ Enabled → Tells times_finished 1 row
-finished_tells row enabled =
+pub finished_changes : (row : TaskRow) → row.status ≡ Enabled → ChangesWhenDone times_finished 1 row
+finished_changes row enabled =
     let none : times_finished row ≡ 0 = ap times_finished_at enabled in
     record {
       joins = λ r. refl;

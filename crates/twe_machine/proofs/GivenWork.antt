@@ -6,7 +6,7 @@ use Rattle.seg_exec.specs.declared.frame.Frame.{Frame}
 use Rattle.seg_exec.specs.declared.frame.Next.{Next}
 use Rattle.seg_exec.specs.declared.frame.Next.TheVariants.{Go, Get, Join, Closing, Ended}
 use Rattle.seg_exec.specs.Giving.{given, given_by, without}
-use Rattle.flat_sched.proofs.Weight.{children_left}
+use Rattle.twe_machine.proofs.Weight.{children_left}
 
 -- a frame that waits to join a child at its end has that child as the first of those that are out
 abbrev pub ClosesFirst : Frame → Type 0

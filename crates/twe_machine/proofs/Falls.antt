@@ -26,11 +26,11 @@ use Rattle.twe_machine.specs.declared.state.TaskStatus.TheVariants.{Made, Enable
 use Rattle.twe_machine.specs.Legal.{MayTake}
 use Rattle.twe_machine.specs.Moves.{admitted, admitted_row, done_row, faulted_row, going_row, making_frame, new_row, parent_of, stopped_frame, joined, joined_child, stopped, ran, taken, ready, asking, having_made, faulted}
 use Rattle.twe_machine.specs.Rows.{HasStatus}
-use Rattle.flat_sched.proofs.Weight.{weight, rows_weight, row_weight, room_weight, weight_at, work_of, children_left, added_weight, set_weight, less_room}
-use Rattle.flat_sched.proofs.Joining.{joined_weight, length_joined, asked_joined}
-use Rattle.flat_sched.proofs.Giving.{ClosesFirst}
-use Rattle.flat_sched.proofs.Giving as giving
-use Rattle.flat_sched.proofs.Spending.{IsLeft, got_weight, join_weight, closing_weight, made_weight}
+use Rattle.twe_machine.proofs.Weight.{weight, rows_weight, row_weight, room_weight, weight_at, work_of, children_left, added_weight, set_weight, less_room}
+use Rattle.twe_machine.proofs.JoinedWeight.{joined_weight, length_joined, asked_joined}
+use Rattle.twe_machine.proofs.GivenWork.{ClosesFirst}
+use Rattle.twe_machine.proofs.GivenWork as giving
+use Rattle.twe_machine.proofs.Spending.{IsLeft, got_weight, join_weight, closing_weight, made_weight}
 
 pub childless : (next : Next) → children_left next 0 ≡ 0
 childless Go = refl

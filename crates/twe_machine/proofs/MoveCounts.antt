@@ -17,21 +17,21 @@ use Rattle.twe_machine.specs.declared.state.TaskRow.{TaskRow}
 use Rattle.twe_machine.specs.declared.state.TaskStatus.TheVariants.{Enabled}
 use Rattle.twe_machine.specs.Moves.{done_row, faulted_row, going_row, making_frame, stopped_frame, new_row, parent_of, joined, stopped, asking, having_made, faulted}
 use Rattle.twe_machine.specs.Runs.{makes_task, is_done}
-use Rattle.flat_sched.proofs.Counts.{times_made, times_admitted, times_finished, admitted_tells, finished_tells}
-use Rattle.flat_sched.proofs.Ends.{if_done, stopped_told}
-use Rattle.flat_sched.proofs.Falls.{CountsMade}
-use Rattle.flat_sched.proofs.Joining.{asked_joined, length_joined}
-use Rattle.flat_sched.proofs.Places.{told, hits, hits_is, hits_none}
+use Rattle.twe_machine.proofs.JournalCounts.{times_made, times_admitted, times_finished, admitted_changes, finished_changes}
+use Rattle.twe_machine.proofs.StoppedNumbers.{if_done, stopped_number}
+use Rattle.twe_machine.proofs.Falls.{CountsMade}
+use Rattle.twe_machine.proofs.JoinedWeight.{asked_joined, length_joined}
+use Rattle.twe_machine.proofs.RowNumbers.{number_at, hits, hits_is, hits_none}
 
 -- one more task was made
 made_once : (u n : ℕ) → 0 < n → times_made u (n + 1) ≡ times_made u n + cond (n == u) 1 0
 made_once zero n some = grind (arith, nat_tests)
 made_once (suc u) n some = grind (arith, nat_tests)
 
--- what holds of a state and of the end of the move that led to it, for task u
+-- how a move of t changes how often u was made and finished
 pub record CountsOn (u : ℕ) (t : ℕ) (before : State) (after : State × End) : Type 0 where
   pub made : times_made u (length after.0.tasks) ≡ times_made u (length before.tasks) + cond (makes_task u after.1) 1 0
-  pub finished : told times_finished (slice_get after.0.tasks u) ≡ told times_finished (slice_get before.tasks u) + cond (is_done after.1 && (t == u)) 1 0
+  pub finished : number_at times_finished (slice_get after.0.tasks u) ≡ number_at times_finished (slice_get before.tasks u) + cond (is_done after.1 && (t == u)) 1 0
 
 module _ (lim : Bounds) (st : State) (t : ℕ) (row : TaskRow) (found : slice_get st.tasks t ≡ Some row) (enabled : row.status ≡ Enabled) (child : Option ℕ) where
   -- as many tasks, or one more
@@ -50,17 +50,17 @@ module _ (lim : Bounds) (st : State) (t : ℕ) (row : TaskRow) (found : slice_ge
       length-append (slice_set (joined st child).tasks t new) (other ∷ []) ∙ ap (λ (n : ℕ). n + 1) (length_placed new) in
       ap (times_made u) more ∙ (made_once u (length st.tasks) some ∙ ap (λ (n : ℕ). times_made u (length st.tasks) + cond (n == u) 1 0) (sym number))
 
-  -- where the task is not done
+  -- the task is not done
   not_done : (u : ℕ) (later : State) (end : End) → is_done end ≡ false
-      → told times_finished (slice_get later.tasks u) ≡ told times_finished (slice_get st.tasks u) + hits t u 0
-      → told times_finished (slice_get later.tasks u) ≡ told times_finished (slice_get st.tasks u) + cond (is_done end && (t == u)) 1 0
-  not_done u later end going same = same ∙ ap (λ (n : ℕ). told times_finished (slice_get st.tasks u) + n) (hits_none t u ∙ ap (λ (b : Bool). cond (b && (t == u)) 1 0) (sym going))
+      → number_at times_finished (slice_get later.tasks u) ≡ number_at times_finished (slice_get st.tasks u) + hits t u 0
+      → number_at times_finished (slice_get later.tasks u) ≡ number_at times_finished (slice_get st.tasks u) + cond (is_done end && (t == u)) 1 0
+  not_done u later end going same = same ∙ ap (λ (n : ℕ). number_at times_finished (slice_get st.tasks u) + n) (hits_none t u ∙ ap (λ (b : Bool). cond (b && (t == u)) 1 0) (sym going))
 
   made_counts : (frame : Frame) (into : ℕ) (spawned : Bool) (task : Frame) (args : List ℤ) (effects : Summary) (place : Place) (u : ℕ) (fits : Bool)
       → 0 < length st.tasks → CountsMade lim st → nat_lt ((joined st child).asked + 1) lim.tasks ≡ fits
       → let after = if◌then◌else◌ {A = State × End} fits (having_made lim (joined st child) t row frame into spawned task args effects, ends.Made ((joined st child).asked + 1))
       (faulted (asking (joined st child)) t row (stopped_frame frame) TaskLimit place, ends.Fault TaskLimit place) in
-      told times_finished (slice_get after.0.tasks u) ≡ told times_finished (slice_get st.tasks u) + hits t u 0 → CountsOn u t st after
+      number_at times_finished (slice_get after.0.tasks u) ≡ number_at times_finished (slice_get st.tasks u) + hits t u 0 → CountsOn u t st after
   made_counts frame into spawned task args effects place u true some counts e same =
       let number = (joined st child).asked + 1 in
       let maker = making_frame into spawned number frame in
@@ -76,26 +76,26 @@ module _ (lim : Bounds) (st : State) (t : ℕ) (row : TaskRow) (found : slice_ge
   pub stopped_counts : (frame : Frame) (stop : Stop) (u : ℕ) → 0 < length st.tasks → CountsMade lim st → CountsOn u t st (stopped lim (joined st child) t row frame stop)
   stopped_counts frame (stops.Make task args effects spawned into place) u some counts =
       made_counts frame into spawned task args effects place u _ some counts refl
-      (stopped_told lim st t row found child times_finished 1 (finished_tells row enabled) frame (stops.Make task args effects spawned into place) u)
+      (stopped_number lim st t row found child times_finished 1 (finished_changes row enabled) frame (stops.Make task args effects spawned into place) u)
   stopped_counts frame (stops.Waits on) u some counts = record {
     made = same_made u (going_row row frame);
     finished = not_done u (stopped lim (joined st child) t row frame (stops.Waits on)).0 (ends.Waits on) refl
-        (stopped_told lim st t row found child times_finished 1 (finished_tells row enabled) frame (stops.Waits on) u);
+        (stopped_number lim st t row found child times_finished 1 (finished_changes row enabled) frame (stops.Waits on) u);
   }
   stopped_counts frame (stops.Joins on) u some counts = record {
     made = same_made u (going_row row frame);
     finished = not_done u (stopped lim (joined st child) t row frame (stops.Joins on)).0 (ends.Joins on) refl
-        (stopped_told lim st t row found child times_finished 1 (finished_tells row enabled) frame (stops.Joins on) u);
+        (stopped_number lim st t row found child times_finished 1 (finished_changes row enabled) frame (stops.Joins on) u);
   }
   stopped_counts frame (stops.Done value) u some counts = record {
     made = same_made u (done_row row frame value);
-    finished = stopped_told lim st t row found child times_finished 1 (finished_tells row enabled) frame (stops.Done value) u
-        ∙ ap (λ (n : ℕ). told times_finished (slice_get st.tasks u) + n) (hits_is t u 1);
+    finished = stopped_number lim st t row found child times_finished 1 (finished_changes row enabled) frame (stops.Done value) u
+        ∙ ap (λ (n : ℕ). number_at times_finished (slice_get st.tasks u) + n) (hits_is t u 1);
   }
   stopped_counts frame (stops.Fault kind place) u some counts = record {
     made = same_made u (faulted_row row frame);
     finished = not_done u (stopped lim (joined st child) t row frame (stops.Fault kind place)).0 (ends.Fault kind place) refl
-        (stopped_told lim st t row found child times_finished 1 (finished_tells row enabled) frame (stops.Fault kind place) u);
+        (stopped_number lim st t row found child times_finished 1 (finished_changes row enabled) frame (stops.Fault kind place) u);
   }
 
   none_done : (stop : Stop) → if_done 0 stop ≡ 0
@@ -105,8 +105,8 @@ module _ (lim : Bounds) (st : State) (t : ℕ) (row : TaskRow) (found : slice_ge
   none_done (stops.Done value) = refl
   none_done (stops.Fault kind place) = refl
 
-  pub stopped_admitted : (frame : Frame) (stop : Stop) (u : ℕ) → told times_admitted (slice_get (stopped lim (joined st child) t row frame stop).0.tasks u) ≡ told times_admitted (slice_get st.tasks u)
+  pub stopped_admitted : (frame : Frame) (stop : Stop) (u : ℕ) → number_at times_admitted (slice_get (stopped lim (joined st child) t row frame stop).0.tasks u) ≡ number_at times_admitted (slice_get st.tasks u)
   stopped_admitted frame stop u =
-      let same = stopped_told lim st t row found child times_admitted 0 (admitted_tells row enabled) frame stop u in
+      let same = stopped_number lim st t row found child times_admitted 0 (admitted_changes row enabled) frame stop u in
       let no : hits t u (if_done 0 stop) ≡ 0 = ap (λ (n : ℕ). hits t u n) (none_done stop) ∙ hits_none t u in
       omega (arith, same, no)

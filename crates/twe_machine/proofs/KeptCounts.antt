@@ -16,15 +16,15 @@ use Rattle.twe_machine.specs.declared.state.TaskStatus.TheVariants.{Made, Enable
 use Rattle.twe_machine.specs.Legal.{MayTake}
 use Rattle.twe_machine.specs.Moves.{admitted, admitted_row, joined_child, ran, taken, ready}
 use Rattle.twe_machine.specs.Runs.{makes, admits, finishes, makes_task, is_admission, is_done}
-use Rattle.flat_sched.proofs.Counts.{Counts, count_more, times_made, times_admitted, times_admitted_at, times_finished, times_finished_at}
-use Rattle.flat_sched.proofs.Counting.{CountsOn, stopped_counts, stopped_admitted}
-use Rattle.flat_sched.proofs.Falls.{CountsMade}
-use Rattle.flat_sched.proofs.Places.{told, hits_is, hits_none, told_set}
+use Rattle.twe_machine.proofs.JournalCounts.{Counts, count_more, times_made, times_admitted, times_admitted_at, times_finished, times_finished_at}
+use Rattle.twe_machine.proofs.MoveCounts.{CountsOn, stopped_counts, stopped_admitted}
+use Rattle.twe_machine.proofs.Falls.{CountsMade}
+use Rattle.twe_machine.proofs.RowNumbers.{number_at, hits_is, hits_none, number_set}
 
--- what a move of t does to the three numbers of task u
+-- how a move of t changes the three counts of task u
 pub record Adds (u : ℕ) (kind : Kind) (t : ℕ) (before : State) (after : State × End) : Type 0 where
   pub on : CountsOn u t before after
-  pub admitted : told times_admitted (slice_get after.0.tasks u) ≡ told times_admitted (slice_get before.tasks u) + cond (is_admission kind && (t == u)) 1 0
+  pub admitted : number_at times_admitted (slice_get after.0.tasks u) ≡ number_at times_admitted (slice_get before.tasks u) + cond (is_admission kind && (t == u)) 1 0
 
 -- an admission
 admission_adds : (st : State) (u t : ℕ) (row : TaskRow) → slice_get st.tasks t ≡ Some row → row.status ≡ Made → row.parent ≡ None
@@ -37,10 +37,10 @@ admission_adds st u t row found made alone =
     record {
       on = record {
         made = ap (times_made u) (length-set st.tasks t (admitted_row row)) ∙ omega arith;
-        finished = told_set times_finished st.tasks t u 0 row (admitted_row row) found never ∙ omega (arith, hits_none t u);
+        finished = number_set times_finished st.tasks t u 0 row (admitted_row row) found never ∙ omega (arith, hits_none t u);
       };
-      admitted = told_set times_admitted st.tasks t u 1 row (admitted_row row) found once
-          ∙ ap (λ (n : ℕ). told times_admitted (slice_get st.tasks u) + n) (hits_is t u 1);
+      admitted = number_set times_admitted st.tasks t u 1 row (admitted_row row) found once
+          ∙ ap (λ (n : ℕ). number_at times_admitted (slice_get st.tasks u) + n) (hits_is t u 1);
     }
 
 -- a segment
@@ -56,7 +56,7 @@ segment_adds p lim st u t row found enabled some counts =
       admitted = stopped_admitted lim later t row found enabled child after.frame after.stop u ∙ omega arith;
     }
 
--- any legal move, where a task that is to be admitted has no parent
+-- any legal move, if a task that is to be admitted has no parent
 pub adds : (p : Program) (lim : Bounds) (st : State) (kind : Kind) (u t : ℕ) → MayTake st kind t
     → ((row : TaskRow) → slice_get st.tasks t ≡ Some row → row.status ≡ Made → row.parent ≡ None)
     → 0 < length st.tasks → CountsMade lim st → Adds u kind t st (taken p lim st kind t)
@@ -67,15 +67,18 @@ adds p lim st Run u t may alone some counts =
     let row = may.0 in
     subst (λ (found : Option TaskRow). Adds u Run t st (ran p lim st t found)) (sym row.1) (segment_adds p lim st u t row.0 row.1 row.2 some counts)
 
--- the journal with the entry of that move
-pub counts_more : (p : Program) (lim : Bounds) (st : State) (kind : Kind) (t : ℕ) (journal : List Entry) → Counts journal st
-    → ((u : ℕ) → Adds u kind t st (taken p lim st kind t))
-    → Counts (journal ++ record { mv = record { kind = kind; task = t }; end = (taken p lim st kind t).1 } ∷ []) (taken p lim st kind t).0
-counts_more p lim st kind t journal counts more =
-    let after = taken p lim st kind t in
-    let last : Entry = record { mv = record { kind = kind; task = t }; end = after.1 } in
+-- the journal with the entry of that move, which has the end that the move gives
+pub counts_more : (p : Program) (lim : Bounds) (st : State) (entry : Entry) (journal : List Entry) → Counts journal st
+    → (taken p lim st entry.mv.kind entry.mv.task).1 ≡ entry.end
+    → ((u : ℕ) → Adds u entry.mv.kind entry.mv.task st (taken p lim st entry.mv.kind entry.mv.task))
+    → Counts (journal ++ entry ∷ []) (taken p lim st entry.mv.kind entry.mv.task).0
+counts_more p lim st entry journal counts is more =
+    let kind = entry.mv.kind in
+    let t = entry.mv.task in
     record {
-      made = λ u. count_more (makes u) journal last ∙ (ap (λ (n : ℕ). n + cond (makes_task u after.1) 1 0) (counts.made u) ∙ sym (more u).on.made);
-      admitted = λ u. count_more (admits u) journal last ∙ (ap (λ (n : ℕ). n + cond (is_admission kind && (t == u)) 1 0) (counts.admitted u) ∙ sym (more u).admitted);
-      finished = λ u. count_more (finishes u) journal last ∙ (ap (λ (n : ℕ). n + cond (is_done after.1 && (t == u)) 1 0) (counts.finished u) ∙ sym (more u).on.finished);
+      made = λ u. count_more (makes u) journal entry ∙ (ap (λ (n : ℕ). n + cond (makes_task u entry.end) 1 0) (counts.made u)
+          ∙ (ap (λ (e : End). times_made u (length st.tasks) + cond (makes_task u e) 1 0) (sym is) ∙ sym (more u).on.made));
+      admitted = λ u. count_more (admits u) journal entry ∙ (ap (λ (n : ℕ). n + cond (is_admission kind && (t == u)) 1 0) (counts.admitted u) ∙ sym (more u).admitted);
+      finished = λ u. count_more (finishes u) journal entry ∙ (ap (λ (n : ℕ). n + cond (is_done entry.end && (t == u)) 1 0) (counts.finished u)
+          ∙ (ap (λ (e : End). number_at times_finished (slice_get st.tasks u) + cond (is_done e && (t == u)) 1 0) (sym is) ∙ sym (more u).on.finished));
     }

@@ -1,5 +1,5 @@
--- How much a run can still do at most: a number that each move lowers. The rows of tasks have the weight of their fuel and
--- of their unjoined children, and each task that may still be made has the weight of all its fuel.
+-- The weight of a state, which bounds how many moves a run still takes: each move lowers it. A row weighs as much as its fuel
+-- and its unjoined children allow, and each task that may still be made weighs as much as all of its fuel.
 use Rattle.std.proofs.Common.{◌≡◌, ◌<◌, ◌+◌, ◌*◌, ◌-◌, ◌++◌, ℕ, zero, suc, List, [], ◌∷◌, length, Some, ap, arith}
 use Rattle.std.specs.Prelude.{slice_get, slice_set}
 use Rattle.twe_limits.specs.Limits.{Bounds}
@@ -35,7 +35,7 @@ abbrev pub rows_weight : List TaskRow → ℕ
 rows_weight [] = 0
 rows_weight (row ∷ rows) = row_weight row + rows_weight rows
 
--- the weight of so many tasks that may still be made
+-- the weight of this number of tasks that may still be made
 abbrev pub room_weight : Bounds → ℕ → ℕ
 room_weight lim room = room * (2 * lim.fuel + 2)
 

@@ -8,7 +8,7 @@ use Rattle.twe_machine.specs.declared.state.TaskRow.{TaskRow}
 use Rattle.twe_machine.specs.declared.state.TaskStatus.{TaskStatus}
 use Rattle.twe_machine.specs.declared.state.TaskStatus.TheVariants.{Enabled}
 use Rattle.twe_machine.specs.Moves.{going_row, making_frame, out_with}
-use Rattle.flat_sched.proofs.Weight.{children_left, weight_at, work_of, row_weight}
+use Rattle.twe_machine.proofs.Weight.{children_left, weight_at, work_of, row_weight}
 
 -- what is left of a row's work in a frame that a segment of it has left
 pub record IsLeft (row : TaskRow) (frame : Frame) : Type 0 where

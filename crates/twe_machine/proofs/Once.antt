@@ -1,15 +1,15 @@
--- From the counts of a journal: each thing happened at most once, and exactly once where all is done.
+-- From the counts of a journal: each thing happened at most once, and exactly once if all tasks are done.
 use Rattle.std.proofs.Common.{◌≡◌, ◌<◌, ◌≤◌, ◌⊎◌, inl, inr, ℕ, zero, suc, Bool, List, [], ◌∷◌, length, Option, Some, None, true, false, cond, refl, ap, ◌∙◌, arith}
-use Rattle.std.specs.Prelude.{if◌then◌else◌, is_some, nat_lt, slice_get}
+use Rattle.std.specs.Prelude.{count_by, if◌then◌else◌, is_some, nat_lt, slice_get}
 use Rattle.std.proofs.lemmas.Bool.{lt-ltb, le-ltb}
 use Rattle.seg_journal.specs.declared.journal.Entry.{Entry}
 use Rattle.twe_machine.specs.declared.state.State.{State}
 use Rattle.twe_machine.specs.declared.state.TaskRow.{TaskRow}
 use Rattle.twe_machine.specs.declared.state.TaskStatus.{TaskStatus}
 use Rattle.twe_machine.specs.declared.state.TaskStatus.TheVariants.{Made, Enabled, Done, Faulted}
-use Rattle.twe_machine.specs.Runs.{AllTasksDone, EachAtMostOnce, EachOnce}
-use Rattle.flat_sched.proofs.Counts.{Counts, times_made, times_admitted, times_admitted_at, times_finished, times_finished_at}
-use Rattle.flat_sched.proofs.Places.{told}
+use Rattle.twe_machine.specs.Runs.{AllTasksDone, EachAtMostOnce, EachOnce, admits, makes}
+use Rattle.twe_machine.proofs.JournalCounts.{Counts, times_made, times_admitted, times_admitted_at, times_finished, times_finished_at}
+use Rattle.twe_machine.proofs.RowNumbers.{number_at}
 
 cond_le : (b : Bool) → cond b 1 0 ≤ 1
 cond_le true = omega arith
@@ -32,15 +32,15 @@ finished_le Enabled = omega arith
 finished_le Done = omega arith
 finished_le Faulted = omega arith
 
-told_le : (f : TaskRow → ℕ) (found : Option TaskRow) → ((row : TaskRow) → f row ≤ 1) → told f found ≤ 1
-told_le f None le = omega arith
-told_le f (Some row) le = le row
+number_le : (f : TaskRow → ℕ) (found : Option TaskRow) → ((row : TaskRow) → f row ≤ 1) → number_at f found ≤ 1
+number_le f None le = omega arith
+number_le f (Some row) le = le row
 
 pub at_most_once : (journal : List Entry) (st : State) → Counts journal st → EachAtMostOnce journal
 at_most_once journal st counts = record {
   made = λ t. rw (counts.made t) (made_le t (length st.tasks));
-  enabled = λ t. rw (counts.admitted t) (told_le times_admitted (slice_get st.tasks t) (λ row. admitted_le row.parent row.status));
-  done = λ t. rw (counts.finished t) (told_le times_finished (slice_get st.tasks t) (λ row. finished_le row.status));
+  enabled = λ t. rw (counts.admitted t) (number_le times_admitted (slice_get st.tasks t) (λ row. admitted_le row.parent row.status));
+  done = λ t. rw (counts.finished t) (number_le times_finished (slice_get st.tasks t) (λ row. finished_le row.status));
 }
 
 made_once : (t n : ℕ) → 0 < t → t < n → times_made t n ≡ 1
@@ -63,7 +63,7 @@ not_past (row ∷ rows) zero none below = cc
 not_past (row ∷ rows) (suc t) none below = not_past rows t none (omega arith)
 
 finished_once : (rows : List TaskRow) (t : ℕ) → ((u : ℕ) (row : TaskRow) → slice_get rows u ≡ Some row → row.status ≡ Done) → t < length rows
-    → (found : Option TaskRow) → slice_get rows t ≡ found → told times_finished found ≡ 1
+    → (found : Option TaskRow) → slice_get rows t ≡ found → number_at times_finished found ≡ 1
 finished_once rows t all below None there = absurd (not_past rows t there below)
 finished_once rows t all below (Some row) there = ap times_finished_at (all t row there)
 
@@ -72,7 +72,17 @@ once journal st counts all = record {
   made = λ t some below. counts.made t ∙ made_once t (length st.tasks) some below;
   no_other = λ t other. counts.made t ∙ made_never t (length st.tasks) other;
   enabled = λ t row there.
-      counts.admitted t ∙ (ap (told times_admitted) there
+      counts.admitted t ∙ (ap (number_at times_admitted) there
       ∙ (ap (times_admitted_at row.parent) (all t row there) ∙ admitted_once row.parent));
   done = λ t below. counts.finished t ∙ finished_once st.tasks t all below (slice_get st.tasks t) refl;
 }
+
+-- a task that was spawned was never admitted
+pub never_admitted : (journal : List Entry) (st : State) → Counts journal st → (t parent : ℕ) (row : TaskRow) → slice_get st.tasks t ≡ Some row → row.parent ≡ Some parent
+    → count_by (admits t) journal ≡ 0
+never_admitted journal st counts t parent row there spawned =
+    counts.admitted t ∙ (ap (number_at times_admitted) there ∙ ap (λ (q : Option ℕ). times_admitted_at q row.status) spawned)
+
+-- and task 0 was never made
+pub first_never_made : (journal : List Entry) (st : State) → Counts journal st → count_by (makes 0) journal ≡ 0
+first_never_made journal st counts = counts.made 0

@@ -1,0 +1,5 @@
+use Rattle.twe_machine.proofs.SettlesNext.{may_settle}
+use Rattle.twe_machine.proofs.laws.segments_may_be_settled.Goals as goal
+
+pub returns : goal.returns
+returns c = may_settle

@@ -1,0 +1,85 @@
+-- What a legal move changes, and what it leaves alone.
+use Rattle.std.specs.Prelude.{◌≡◌, ◌≢◌, ◌+◌, ◌++◌, ◌<◌, ℕ, ℤ, List, true, Some, length, Option}
+use Rattle.seg_journal.specs.declared.journal.End.{End}
+use Rattle.seg_journal.specs.declared.journal.End.TheVariants as ends
+use Rattle.seg_journal.specs.declared.moves.Kind.{Kind}
+use Rattle.seg_journal.specs.declared.moves.Kind.TheVariants.{Admit, Run}
+use Rattle.seg_journal.specs.declared.moves.Move.{Move}
+use Rattle.wait_graph.specs.Link.{link_of}
+use Rattle.wait_graph.specs.Waiting.{SpawnedBy}
+use Rattle.twe_program.specs.Program.{Program}
+use Rattle.seg_exec.specs.declared.stop.Stop.{Stop}
+use Rattle.seg_exec.specs.declared.stop.Stop.TheVariants as stops
+use Rattle.seg_exec.specs.Segment.{Stopped, segment}
+use Rattle.twe_machine.specs.declared.state.FirstFault.{FirstFault}
+use Rattle.twe_machine.specs.declared.state.State.{State}
+use Rattle.twe_machine.specs.declared.state.TaskRow.{TaskRow}
+use Rattle.twe_machine.specs.declared.state.TaskStatus.TheVariants.{Done}
+use Rattle.twe_machine.specs.Moves.{first_fault_of, ready}
+use Rattle.twe_machine.specs.Rows.{IsRow}
+
+-- The move takes the join of c: it runs a task that has waited for c, and c is an unjoined child of that task.
+pub record TakesJoin (st : State) (mv : Move) (c : ℕ) : Type 0 where
+  pub runs : mv.kind ≡ Run
+  pub waited : (link_of st.links mv.task).waits ≡ Some c
+  pub child : SpawnedBy st.links c mv.task
+
+-- the segment that the task of this row runs next
+abbrev pub next_segment : Program → State → TaskRow → Stopped
+next_segment p st row = segment p (ready st.tasks row.frame) st.cells
+
+-- how many tasks a segment that stopped so has asked for
+abbrev pub asked_by : Stop → ℕ
+asked_by (stops.Make child args effects spawned future place) = 1
+asked_by _ = 0
+
+-- how many tasks a move that ended so has made
+abbrev pub made_by : End → ℕ
+made_by (ends.Made child) = 1
+made_by _ = 0
+
+-- the first fault of a run after a move of t that ended so
+abbrev pub fault_after : Option FirstFault → ℕ → End → Option FirstFault
+fault_after first t (ends.Fault kind place) = first_fault_of first t kind place
+fault_after first t _ = first
+
+-- How a segment changes the cells, the printed numbers and the count of makes: the cells are those that it leaves,
+-- the numbers that it prints come after the others, and one more task is asked for if it stops at a make.
+pub record ChangesAsSegment (st after : State) (left : Stopped) : Type 0 where
+  pub cells : after.cells ≡ left.cells
+  pub prints : after.prints ≡ st.prints ++ left.frame.prints
+  pub asked : after.asked ≡ st.asked + asked_by left.stop
+
+-- an admission changes none of them
+pub record ChangesNoResult (st after : State) : Type 0 where
+  pub cells : after.cells ≡ st.cells
+  pub prints : after.prints ≡ st.prints
+  pub asked : after.asked ≡ st.asked
+
+abbrev pub ResultsAfter : Program → State → State → Kind → ℕ → Type 0
+ResultsAfter p st after Admit t = ChangesNoResult st after
+ResultsAfter p st after Run t = (row : TaskRow) → IsRow st t row → ChangesAsSegment st after (next_segment p st row)
+
+-- What a legal move with this end leaves alone. It changes the row and the links of its own task. Of the others it
+-- marks a child as joined if it takes its join, and it adds the row and the links of a task that it makes. The rest
+-- of the state changes as its segment and its end say.
+pub record LeavesAlone (p : Program) (st after : State) (mv : Move) (end : End) : Type 0 where
+  -- each other task keeps its row and its links, unless the move takes its join
+  pub rows : (u : ℕ) (row : TaskRow) → u ≢ mv.task → ¬ TakesJoin st mv u → IsRow st u row → IsRow after u row
+  pub links : (u : ℕ) → u < length st.tasks → u ≢ mv.task → ¬ TakesJoin st mv u → link_of after.links u ≡ link_of st.links u
+  -- a child whose join it takes is marked as joined, and keeps all else
+  pub joined_row : (c : ℕ) (row : TaskRow) → TakesJoin st mv c → IsRow st c row → IsRow after c (record row { joined = true })
+  pub joined_link : (c : ℕ) → TakesJoin st mv c → link_of after.links c ≡ record (link_of st.links c) { joined = true }
+  -- a task that it makes comes after the others
+  pub tasks : length after.tasks ≡ length st.tasks + made_by end
+  pub made : (child : ℕ) → end ≡ ends.Made child → child ≡ length st.tasks
+  pub as_many_links : length after.links ≡ length after.tasks
+  pub results : ResultsAfter p st after mv.kind mv.task
+  pub first_fault : after.first_fault ≡ fault_after st.first_fault mv.task end
+
+-- task u is done with this value
+pub record IsDoneWith (st : State) (u : ℕ) (value : ℤ) : Type 0 where
+  pub row : TaskRow
+  pub there : IsRow st u row
+  pub done : row.status ≡ Done
+  pub value_is : row.value ≡ value
