@@ -1,5 +1,5 @@
 //! From the text of a program to its tree.
-ghost use Rattle.std.specs.Prelude.{◌≡◌, ℕ, List, [], IfOk, IfErr};
+ghost use Rattle.std.specs.Prelude.{◌≡◌, ◌+◌, ◌<◌, ◌^◌, ℕ, List, [], length, IfOk, IfErr};
 ghost use Rattle.twe_io.specs.declared.place.Place.{Place};
 ghost use Rattle.twe_lexer.specs.declared.token.Token.{Token};
 ghost use Rattle.twe_lexer.specs.Places.{place_after};
@@ -20,6 +20,7 @@ pub fn parse(alloc: Global, text: &[u8]) -> Result<Ast, ParseFail>
     ensures tree { IfOk result (λ tree. (tokens : List Token) × BeginsWith text.now tokens [] × Writes tree tokens) }
     ensures end { IfOk result (λ tree. tree.end ≡ place_after text.now) }
     ensures accepted { IfOk result (λ tree. (rule : SRule) (place : Place) → ¬ Fails text.now rule place) }
+    ensures countable { IfOk result (λ _. length text.now + 1 < 2 ^ 32) }
     ensures refused { IfErr result (λ fail. Refuses fail text.now) }
 {
     if text.len() >= u32::MAX as usize {
