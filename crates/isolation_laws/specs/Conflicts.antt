@@ -1,6 +1,8 @@
 -- The accesses that tasks that may run make in their next segments.
-use Rattle.std.specs.Prelude.{◌≢◌, ℕ, ℤ, List, Contains}
+use Rattle.std.specs.Prelude.{◌≢◌, ◌≤◌, ℕ, ℤ, List, Contains, length, take}
 use Rattle.effect_sets.specs.Access.{Conflict}
+use Rattle.seg_journal.specs.declared.journal.Entry.{Entry}
+use Rattle.twe_limits.specs.Limits.{Bounds}
 use Rattle.twe_program.specs.Program.{Program}
 use Rattle.seg_exec.specs.Access.{Access}
 use Rattle.seg_exec.specs.Segment.{segment}
@@ -10,6 +12,7 @@ use Rattle.twe_machine.specs.declared.state.TaskRow.{TaskRow}
 use Rattle.twe_machine.specs.Legal.{MayRun}
 use Rattle.twe_machine.specs.Moves.{ready}
 use Rattle.twe_machine.specs.Rows.{IsRow}
+use Rattle.twe_machine.specs.Runs.{state_after}
 use Rattle.isolation_laws.specs.CoveredNow.{CoveredNow}
 
 -- the task of this row makes the access in its next segment over these cells
@@ -22,6 +25,10 @@ abbrev pub AccessesAreCovered : Program → State → Type 0
 AccessesAreCovered p st =
     (t : ℕ) (row : TaskRow) → IsRow st t row → MayRun st t
     → (cells : List ℤ) (access : Access) → Makes p st row cells access → CoveredNow st t (access_of p access)
+
+-- so it is after each beginning of the journal
+abbrev pub AlwaysCovered : Program → Bounds → List Entry → Type 0
+AlwaysCovered p lim journal = (n : ℕ) → n ≤ length journal → AccessesAreCovered p (state_after p lim (take n journal))
 
 -- no accesses of two tasks that may run conflict, whatever values the cells have
 abbrev pub MoversApart : Program → State → Type 0

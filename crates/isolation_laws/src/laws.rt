@@ -1,8 +1,8 @@
 //! Laws: how the tasks of a program that keeps the rules on effects relate to one another in each state of a run.
 //!
-//! A reached state is one that a legal journal leads to. Each beginning of a legal journal is legal too, so what holds in
+//! A reached state is one that a legal journal leads to. Each beginning of a legal journal is legal, so what holds in
 //! every reached state holds at every moment of every run.
-ghost use Rattle.std.specs.Prelude.{List};
+ghost use Rattle.std.specs.Prelude.{ℕ, List, take};
 ghost use Rattle.seg_journal.specs.declared.journal.Entry.{Entry};
 ghost use Rattle.twe_limits.specs.Limits.{Bounds};
 ghost use Rattle.twe_program.specs.Program.{Program};
@@ -10,17 +10,25 @@ ghost use Rattle.twe_program.specs.WellFormed.{IsWellFormed};
 ghost use Rattle.soundness_laws.specs.KeepsEffects.{KeepsEffects};
 ghost use Rattle.twe_machine.specs.declared.state.State.{State};
 ghost use Rattle.twe_machine.specs.Runs.{AlwaysIsolated, IsReached, Legal};
-ghost use Rattle.isolation_laws.specs.Conflicts.{AccessesAreCovered, MoversApart};
+ghost use Rattle.isolation_laws.specs.Conflicts.{AccessesAreCovered, AlwaysCovered, MoversApart};
 ghost use Rattle.isolation_laws.specs.Rows.{ChildrenApart, RowsKeepToDeclarations};
 ghost use Rattle.isolation_laws.specs.Within.{AlwaysWithin, SpawnedWithin};
 
-/// After each beginning of a legal journal, of two enabled tasks that interfere one yields to the other, and a spawned
-/// task's effects lie within those of the task that spawned it.
+/// Each beginning of a legal journal is a legal journal.
+pub fn beginnings_of_legal_journals_are_legal()
+    ensures { (p : Program) (lim : Bounds) (journal : List Entry) (n : ℕ)
+        → Legal p lim journal → Legal p lim (take n journal) }
+{}
+
+/// After each beginning of a legal journal, of two enabled tasks that interfere one yields to the other, a spawned
+/// task's effects lie within those of the task that spawned it, and each access that a task may make next is covered.
 pub fn accepted_runs_are_isolated()
     ensures isolated { (p : Program) → IsWellFormed p → KeepsEffects p
         → (lim : Bounds) (journal : List Entry) → Legal p lim journal → AlwaysIsolated p lim journal }
     ensures within { (p : Program) → IsWellFormed p → KeepsEffects p
         → (lim : Bounds) (journal : List Entry) → Legal p lim journal → AlwaysWithin p lim journal }
+    ensures covered { (p : Program) → IsWellFormed p → KeepsEffects p
+        → (lim : Bounds) (journal : List Entry) → Legal p lim journal → AlwaysCovered p lim journal }
 {}
 
 /// In each reached state, each task runs its declaration with its arguments, and its effects are those of the

@@ -1,4 +1,5 @@
--- The invariant holds after each beginning of a legal journal of an accepted program.
+-- The invariant holds in each state that a legal journal of an accepted program reaches, and so after each beginning of
+-- such a journal.
 use Rattle.std.proofs.Common.{◌≡◌, ℕ, zero, suc, List, [], ◌∷◌, take, Option, None, Some, refl, sym, ap, ◌∙◌, subst}
 use Rattle.std.specs.Prelude.{slice_get}
 use Rattle.seg_journal.specs.declared.journal.Entry.{Entry}
@@ -32,6 +33,20 @@ use Rattle.isolation_laws.proofs.rows.Linking.{spawned_row}
 use Rattle.isolation_laws.proofs.journals.MakersPaths.{on_path_entry}
 use Rattle.isolation_laws.proofs.journals.Segments.{segment_kept}
 
+-- each beginning of a legal journal is legal
+legal_take : (p : Program) (lim : Bounds) (journal : List Entry) (n : ℕ) (st : State) → LegalFrom p lim st journal → LegalFrom p lim st (take n journal)
+legal_take p lim [] zero st legal = tt
+legal_take p lim [] (suc n) st legal = tt
+legal_take p lim (entry ∷ journal) zero st legal = tt
+legal_take p lim (entry ∷ journal) (suc n) st legal = (legal.0, legal.1, legal_take p lim journal n (moved p lim st entry.mv).0 legal.2)
+
+pub beginnings_legal : (p : Program) (lim : Bounds) (journal : List Entry) (n : ℕ) → Legal p lim journal → Legal p lim (take n journal)
+beginnings_legal p lim journal n legal = legal_take p lim journal n (start_of p lim) legal
+
+-- so it leads to a reached state
+pub beginning_reached : (p : Program) (lim : Bounds) (journal : List Entry) → Legal p lim journal → (n : ℕ) → IsReached p lim (state_after p lim (take n journal))
+beginning_reached p lim journal legal n = record { journal = take n journal; legal = beginnings_legal p lim journal n legal; same = refl }
+
 takes_none : (o : Option Decl) → IsMain o → TakesArguments o 0
 takes_none None main = main
 takes_none (Some decl) main = main.0
@@ -51,15 +66,7 @@ module _ (p : Program) (wf : IsWellFormed p) (keeps : KeepsEffects p) (lim : Bou
   move_kept st Admit t stands kept may later = admit_by st t (slice_get st.tasks t) refl kept may
   move_kept st Run t stands kept may later = run_by st t (slice_get st.tasks t) refl stands kept may later
 
-  -- a journal keeps it, and so does each beginning of the journal
-  prefix_kept : (journal : List Entry) (n : ℕ) (st : State) → LegalFrom p lim st journal → Stands p lim st → Kept p st → Kept p (replayed p lim st (take n journal))
-  prefix_kept [] zero st legal stands kept = kept
-  prefix_kept [] (suc n) st legal stands kept = kept
-  prefix_kept (entry ∷ journal) zero st legal stands kept = kept
-  prefix_kept (entry ∷ journal) (suc n) st legal stands kept =
-      let later = taken_stands p lim wf st entry.mv.kind entry.mv.task legal.0 stands in
-      prefix_kept journal n (moved p lim st entry.mv).0 legal.2 later (move_kept st entry.mv.kind entry.mv.task stands kept legal.0 later)
-
+  -- a journal keeps it
   whole_kept : (journal : List Entry) (st : State) → LegalFrom p lim st journal → Stands p lim st → Kept p st → Kept p (replayed p lim st journal)
   whole_kept [] st legal stands kept = kept
   whole_kept (entry ∷ journal) st legal stands kept =
@@ -99,22 +106,18 @@ module _ (p : Program) (wf : IsWellFormed p) (keeps : KeepsEffects p) (lim : Bou
     isolated = λ s t differ may_s may_t i. absurd (not_enabled s may_s);
   }
 
-  -- so each state that a beginning of a legal journal leads to has it
-  beginning_kept : (journal : List Entry) → Legal p lim journal → (n : ℕ) → Kept p (state_after p lim (take n journal))
-  beginning_kept journal legal n = prefix_kept journal n (start_of p lim) legal (start_stands p lim wf) start_kept
-
-  pub runs_isolated : (journal : List Entry) → Legal p lim journal → AlwaysIsolated p lim journal
-  runs_isolated journal legal n within = (beginning_kept journal legal n).isolated
-
-  pub runs_within : (journal : List Entry) → Legal p lim journal → AlwaysWithin p lim journal
-  runs_within journal legal n within = (beginning_kept journal legal n).within
-
   pub reached_kept : (st : State) → IsReached p lim st → Kept p st
   reached_kept st reached =
       subst (Kept p) (sym reached.same) (whole_kept reached.journal (start_of p lim) reached.legal (start_stands p lim wf) start_kept)
 
+  pub runs_isolated : (journal : List Entry) → Legal p lim journal → AlwaysIsolated p lim journal
+  runs_isolated journal legal n within = (reached_kept _ (beginning_reached p lim journal legal n)).isolated
+
   pub reached_within : (st : State) → IsReached p lim st → SpawnedWithin st
   reached_within st reached = (reached_kept st reached).within
+
+  pub runs_within : (journal : List Entry) → Legal p lim journal → AlwaysWithin p lim journal
+  runs_within journal legal n within = reached_within _ (beginning_reached p lim journal legal n)
 
   pub children_apart : (st : State) → IsReached p lim st → ChildrenApart st
   children_apart st reached c d t a b differ is_a is_b of_a of_b =

@@ -2,6 +2,7 @@
 -- spares the effects of each unjoined child but the one that the task's next segment joins.
 use Rattle.std.proofs.Common.{◌≡◌, ◌≢◌, ℕ, ℤ, List, length, Contains, Option, Some, sym, ap, ◌∙◌, subst}
 use Rattle.std.specs.Prelude.{slice_get}
+use Rattle.seg_journal.specs.declared.journal.Entry.{Entry}
 use Rattle.twe_limits.specs.Limits.{Bounds}
 use Rattle.effect_sets.specs.declared.effects.Summary.{Summary}
 use Rattle.effect_sets.specs.Access.{SomeCoversAccess}
@@ -30,15 +31,15 @@ use Rattle.twe_machine.specs.declared.state.TaskRow.{TaskRow}
 use Rattle.twe_machine.specs.Legal.{MayRun}
 use Rattle.twe_machine.specs.Moves.{awaited_value, ready}
 use Rattle.twe_machine.specs.Rows.{IsRow, awaited}
-use Rattle.twe_machine.specs.Runs.{IsReached}
+use Rattle.twe_machine.specs.Runs.{IsReached, Legal}
 use Rattle.twe_machine.proofs.Members.{contains_in, in_contains, in_without}
 use Rattle.twe_machine.proofs.ReachedStands.{reached_stands}
 use Rattle.twe_machine.proofs.Standing.{IsChild, Stands}
-use Rattle.isolation_laws.specs.Conflicts.{AccessesAreCovered, Makes}
+use Rattle.isolation_laws.specs.Conflicts.{AccessesAreCovered, AlwaysCovered, Makes}
 use Rattle.isolation_laws.specs.CoveredNow.{WillJoin, child_to_join}
 use Rattle.isolation_laws.specs.Rows.{RowsKeepToDeclarations}
 use Rattle.isolation_laws.proofs.frames.Frames.{given_none, still_out}
-use Rattle.isolation_laws.proofs.journals.Journals.{reached_kept}
+use Rattle.isolation_laws.proofs.journals.Journals.{beginning_reached, reached_kept}
 use Rattle.isolation_laws.proofs.journals.Known.{Kept, taker}
 use Rattle.isolation_laws.proofs.rows.Linking.{link_there, spawned_row}
 use Rattle.isolation_laws.proofs.paths.Outs.{Reached}
@@ -125,3 +126,6 @@ module _ (p : Program) (wf : IsWellFormed p) (keeps : KeepsEffects p) (lim : Bou
 
   pub reached_declarations : RowsKeepToDeclarations p st
   reached_declarations = keeps_declaration p wf keeps lim st (reached_stands p lim st wf reached) (reached_kept p wf keeps lim st reached)
+
+pub runs_covered : (p : Program) → IsWellFormed p → KeepsEffects p → (lim : Bounds) (journal : List Entry) → Legal p lim journal → AlwaysCovered p lim journal
+runs_covered p wf keeps lim journal legal n within = reached_covered p wf keeps lim _ (beginning_reached p lim journal legal n)
