@@ -1,5 +1,6 @@
 -- The limits on cells and nodes, and the declaration that goes over one.
-use Rattle.std.specs.Prelude.{◌≡◌, ◌<◌, ◌≤◌, ◌⊎◌, List, [], ◌∷◌, ◌++◌, flat_map}
+use Rattle.std.specs.Prelude.{◌≡◌, ◌+◌, ◌<◌, ◌≤◌, ◌⊎◌, List, [], ◌∷◌, ◌++◌, flat_map}
+use Rattle.twe_limits.specs.Language.{max_cells, max_nodes}
 use Rattle.twe_ast.specs.declared.item.Item.{Item}
 use Rattle.twe_ast.specs.declared.item.Item.TheVariants as items
 use Rattle.twe_ast.specs.declared.item.CellDecl.{CellDecl}
@@ -18,6 +19,6 @@ pub record GoesOver (cells : List CellDecl) (cell : CellDecl) : Type 0 where
   pub before : List CellDecl
   pub after : List CellDecl
   pub list : cells ≡ before ++ cell ∷ after
-  pub few_cells : cells_made before ≤ 65536
-  pub few_nodes : ¬ HasNodes before 131073
-  pub over : (65536 < cells_made (before ++ cell ∷ [])) ⊎ HasNodes (before ++ cell ∷ []) 131073
+  pub few_cells : cells_made before ≤ max_cells
+  pub few_nodes : ¬ HasNodes before (max_nodes + 1)
+  pub over : (max_cells < cells_made (before ++ cell ∷ [])) ⊎ HasNodes (before ++ cell ∷ []) (max_nodes + 1)

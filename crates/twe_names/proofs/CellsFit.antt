@@ -1,6 +1,7 @@
 -- The cells of a program are numbered on, and not too many.
 use Rattle.std.proofs.Common.{◌≡◌, ◌⊎◌, ◌<◌, ◌≤◌, ℕ, ◌+◌, List, [], ◌∷◌, ◌++◌, length, Contains, AllPairs, inl, inr, refl, sym, ap₂, ◌∙◌, subst, arith, append_assoc, append-nil}
 use Rattle.std.proofs.lemmas.Bool.{cases_lt}
+use Rattle.twe_limits.specs.Language.{max_cells, max_nodes}
 use Rattle.twe_ast.specs.declared.item.CellDecl as written
 use Rattle.twe_ast.specs.declared.item.CellShape.{CellShape}
 use Rattle.twe_ast.specs.declared.item.CellShape.TheVariants as shapes
@@ -56,15 +57,17 @@ few_without_cells count big h = go h.nodes h.many h.distinct h.each where
       (d 0 1 a (omega arith) (omega arith)) (d 0 2 a (omega arith) (omega arith)) (d 1 2 a (omega arith) (omega arith))
 
 module _ (cells : List written.CellDecl) (none : (cell : written.CellDecl) → ¬ GoesOver cells cell) where
-  few-from : (before rest : List written.CellDecl) → cells ≡ before ++ rest → cells_made before ≤ 65536 → ¬ HasNodes before 131073 → cells_made cells ≤ 65536
-  few-from before [] e few nodes = subst (λ (xs : List written.CellDecl). cells_made xs ≤ 65536) (sym (e ∙ append-nil before)) few
-  few-from before (cell ∷ rest) e few nodes = elim (cases_lt 65536 (cells_made (before ++ cell ∷ []))) [
+  within-from : (before rest : List written.CellDecl) → cells ≡ before ++ rest → cells_made before ≤ max_cells → ¬ HasNodes before (max_nodes + 1)
+      → (cells_made cells ≤ max_cells) × ¬ HasNodes cells (max_nodes + 1)
+  within-from before [] e few nodes =
+      subst (λ (xs : List written.CellDecl). (cells_made xs ≤ max_cells) × ¬ HasNodes xs (max_nodes + 1)) (sym (e ∙ append-nil before)) (few, nodes)
+  within-from before (cell ∷ rest) e few nodes = elim (cases_lt max_cells (cells_made (before ++ cell ∷ []))) [
     | inl over ↦ absurd (none cell (record { before = before; after = rest; list = e; few_cells = few; few_nodes = nodes; over = inl over }))
     | inr within ↦
-        few-from (before ++ cell ∷ []) rest (e ∙ sym (append_assoc before (cell ∷ []) rest)) within
+        within-from (before ++ cell ∷ []) rest (e ∙ sym (append_assoc before (cell ∷ []) rest)) within
         (λ h. none cell (record { before = before; after = rest; list = e; few_cells = few; few_nodes = nodes; over = inr h }))
   ]
 
-  -- where no declaration goes over a limit
-  pub few-cells : cells_made cells ≤ 65536
-  few-cells = few-from [] cells refl (omega arith) (few_without_cells 131073 (omega arith))
+  -- if no declaration goes over a limit, both numbers stay within their limits
+  pub within-limits : (cells_made cells ≤ max_cells) × ¬ HasNodes cells (max_nodes + 1)
+  within-limits = within-from [] cells refl (omega arith) (few_without_cells (max_nodes + 1) (omega arith))

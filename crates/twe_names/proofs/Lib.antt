@@ -13,6 +13,7 @@ pub mod Assigned
 pub mod Waits
 pub mod Globals
 pub mod CellsFit
+pub mod NodesFit
 pub mod PathsFit
 pub mod DeclsFit
 pub mod Main

@@ -6,6 +6,7 @@ use Rattle.twe_ast.specs.declared.item.Item.{Item}
 use Rattle.twe_program.specs.declared.program.CellDecl.{CellDecl}
 use Rattle.twe_program.specs.declared.program.Decl.{Decl}
 use Rattle.twe_program.specs.Program.{Program, cells_made}
+use Rattle.twe_limits.specs.Language.{max_cells}
 use Rattle.twe_program.specs.WellFormed.{IsWellFormed}
 use Rattle.cell_limits.specs.GoesOver.{cells_of}
 use Rattle.name_check.specs.declared.names.GlobalName.{GlobalName}
@@ -24,8 +25,8 @@ module _ (ast : Ast) (items : List Item) (globals : List GlobalName) (items-are 
     cells-same : cells_from globals 0 (cells_of items) ≡ (program_of ast).cells
     cells-same = ap (λ gs. cells_from gs 0 (cells_of items)) globals-are ∙ ap (λ xs. cells_from (globals_of ast) 0 (cells_of xs)) items-are
 
-    pub few-cells : IsWellFormed (program_of ast) → cells_made (cells_from globals 0 (cells_of items)) ≤ 65536
-    few-cells wf = subst (λ cells. cells_made cells ≤ 65536) (sym cells-same) wf.few_cells
+    pub few-cells : IsWellFormed (program_of ast) → cells_made (cells_from globals 0 (cells_of items)) ≤ max_cells
+    few-cells wf = subst (λ cells. cells_made cells ≤ max_cells) (sym cells-same) wf.few_cells
 
     module _ (regions : List (List ℕ)) (cells : List CellDecl) (methods tasks : List Decl) (main : ℕ)
         (regions-are : regions ≡ codes "Console" ∷ flat_map regions_of_item items)

@@ -4,6 +4,7 @@ use Rattle.std.specs.List.{AllByRecursion, flat_map}
 use Rattle.std.proofs.lemmas.List.{length-map}
 use Rattle.std.proofs.lemmas.Bool.{cases_lt}
 use Rattle.twe_io.specs.declared.place.Place.{Place}
+use Rattle.twe_limits.specs.Language.{max_cells}
 use Rattle.twe_ast.specs.declared.item.Ast.{Ast}
 use Rattle.twe_ast.specs.declared.item.CellDecl.{CellDecl}
 use Rattle.twe_ast.specs.declared.item.Decl.{Decl}
@@ -26,7 +27,8 @@ use Rattle.twe_names.proofs.Lists.{all-front, all-back, contained-all}
 use Rattle.twe_names.proofs.Clean.{SiteClean, AllClean, FailsSome, asks-clean, sites-clean}
 use Rattle.twe_names.proofs.There.{GlobalsThere}
 use Rattle.twe_names.proofs.Globals.{globals-there}
-use Rattle.twe_names.proofs.CellsFit.{cells-count, made-same, few-cells}
+use Rattle.twe_names.proofs.CellsFit.{cells-count, made-same, within-limits}
+use Rattle.twe_names.proofs.NodesFit.{few-nodes}
 use Rattle.twe_names.proofs.PathsFit.{cell-elems-fit}
 use Rattle.twe_names.proofs.DeclsFit.{KeepsLimits, decl-fits, method-fits}
 use Rattle.twe_names.proofs.Main.{main-fits}
@@ -141,15 +143,15 @@ well_formed ast from_text keeps =
     let clean = sites-clean ast none in
     let limits = contained-all KeepsLimits (decls_of ast) (limits-kept ast none) in
     let cells = cells_of ast.items in
+    let within = within-limits cells (λ cell over. none (_, _, too_many_cells cell over)) in
     record {
       console = refl;
       cells =
           cells-fit p globals there 0 cells (contained-all (λ (cell : CellDecl). length cell.path.elems ≤ 32) cells (cell-short ast none))
           (cells-clean globals ast.items clean);
       numbered = cells-count globals 0 cells;
-      few_cells =
-          subst (λ (n : ℕ). n ≤ 65536) (sym (made-same globals 0 cells))
-          (few-cells cells (λ cell over. none (_, _, too_many_cells cell over)));
+      few_cells = subst (λ (n : ℕ). n ≤ max_cells) (sym (made-same globals 0 cells)) within.0;
+      few_nodes = few-nodes ast within.1;
       methods = methods-fit p globals there ast.items limits (contained-all MakesNone ast.items (makes-none ast from_text)) clean;
       tasks = tasks-fit p globals there ast.items limits clean;
       main = main-fits ast (λ this again. none (_, _, declared_again this again)) (λ n. none (_, _, no_main n));

@@ -1,5 +1,6 @@
 //! What the declarations of cells mean.
 ghost use Rattle.std.specs.Prelude.{◌≡◌, ◌≤◌, All, IfOk};
+ghost use Rattle.twe_limits.specs.Language.{max_cells};
 ghost use Rattle.cell_limits.specs.GoesOver.{cells_of};
 ghost use Rattle.twe_program.specs.Program.{cells_made};
 ghost use Rattle.twe_names.specs.Meaning.{cell_of, cells_from, dims_of, initial_of};
@@ -54,7 +55,7 @@ fn cell(alloc: Global, globals: &Globals, first: u32, written: &Written) -> Resu
 /// What the declarations of cells among the items mean.
 pub fn cells(alloc: Global, globals: &Globals, items: &[Item]) -> Result<List<CellDecl>, Memory>
     requires small { All IsSmallItem items.now }
-    requires few { cells_made (cells_from globals.now 0 (cells_of items.now)) ≤ 65536 }
+    requires few { cells_made (cells_from globals.now 0 (cells_of items.now)) ≤ max_cells }
     ensures { IfOk result (λ cells. cells ≡ cells_from globals.now 0 (cells_of items.now)) }
 {
     let mut cells = List::new(alloc);

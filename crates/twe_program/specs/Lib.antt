@@ -1,6 +1,7 @@
 pub mod Expression
 pub mod Statement
 pub mod Program
+pub mod Nodes
 pub mod Numbering
 pub mod Fitting
 pub mod Futures

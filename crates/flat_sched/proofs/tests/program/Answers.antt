@@ -1,6 +1,7 @@
 use Rattle.std.proofs.Common.{◌≡◌, ◌∙◌, [], ◌∷◌, Some, ap, refl, sym, subst, arith}
 use Rattle.twe_program.specs.Program.{Program}
 use Rattle.twe_program.specs.WellFormed.{IsWellFormed}
+use Rattle.twe_program.proofs.NoCells.{few-without-cells}
 use Rattle.flat_sched.proofs.tests.program.Goals as goal
 
 pub invariant_of-result : goal.invariant_of-result
@@ -16,6 +17,7 @@ invariant_of-result c =
       cells = tt;
       numbered = tt;
       few_cells = omega arith;
+      few_nodes = few-without-cells p refl 131072 (omega arith);
       methods = tt;
       tasks = (c.in_ok-waiter.ensures.fits p refl c.in_ok-waiter-2.ensures.params, (c.in_ok-waiter-2.ensures.fits p refl c.in_ok-waiter.ensures.params, tt));
       main = (c.in_ok-waiter.ensures.params, c.in_ok-waiter.ensures.value);

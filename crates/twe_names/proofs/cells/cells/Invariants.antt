@@ -1,4 +1,5 @@
 use Rattle.std.proofs.Common.{◌≡◌, ◌≤◌, ◌+◌, ◌++◌, drop}
+use Rattle.twe_limits.specs.Language.{max_cells}
 use Rattle.cell_limits.specs.GoesOver.{cells_of}
 use Rattle.twe_program.specs.Program.{cells_made}
 use Rattle.twe_names.specs.Meaning.{cells_from}
@@ -10,5 +11,5 @@ invariant-loop-item l =
     let rest = cells_from l.globals l.first (cells_of (drop l.item-index l.items)) in
     record {
       made : l.cells ++ rest ≡ cells_from l.globals 0 (cells_of l.items);
-      few : l.first + cells_made rest ≤ 65536;
+      few : l.first + cells_made rest ≤ max_cells;
     }
