@@ -8,7 +8,7 @@ use Rattle.twe_machine.specs.declared.ending.Outcome.TheVariants.{Unfinished}
 use Rattle.twe_machine.specs.declared.state.State.{State}
 use Rattle.twe_machine.specs.Legal.{MayMove}
 use Rattle.twe_machine.specs.LowestFirst.{IsLowest, IsOver, LowestFirst}
-use Rattle.twe_machine.specs.Moves.{moved, start_of}
+use Rattle.twe_machine.specs.Moves.{move_result, start_of}
 use Rattle.twe_machine.specs.Runs.{counted, IsOutcome, IsRun, entry_of}
 use Rattle.flat_sched.proofs.Faults.{taken_well}
 use Rattle.flat_sched.proofs.SoFar.{LowestSoFar, NoFaults, counted_more, legal_more, lowest_more, lowest_whole, none_more, replayed_more}
@@ -27,20 +27,20 @@ module _ (p : Program) (lim : Bounds) where
 
   -- one move more
   module _ (journal : List Entry) (st : State) (mv : Move) (going : IsGoing p lim journal st) (unfinished : IsOutcome st Unfinished) (low : IsLowest st mv) where
-    pub run_goes_on : IsRun p lim (journal ++ entry_of p lim st mv ∷ []) (moved p lim st mv).0
+    pub run_goes_on : IsRun p lim (journal ++ entry_of p lim st mv ∷ []) (move_result p lim st mv).0
     run_goes_on = record {
       legal = legal_more p lim (start_of p lim) journal (entry_of p lim st mv) going.run.legal (subst (λ (s : State). MayMove s mv) going.run.same low.legal)
-          (ap (λ (s : State). (moved p lim s mv).1) (sym going.run.same));
-      same = ap (λ (s : State). (moved p lim s mv).0) going.run.same ∙ sym (replayed_more p lim (start_of p lim) journal (entry_of p lim st mv));
+          (ap (λ (s : State). (move_result p lim s mv).1) (sym going.run.same));
+      same = ap (λ (s : State). (move_result p lim s mv).0) going.run.same ∙ sym (replayed_more p lim (start_of p lim) journal (entry_of p lim st mv));
     }
 
-    pub goes_on : IsGoing p lim (journal ++ entry_of p lim st mv ∷ []) (moved p lim st mv).0
+    pub goes_on : IsGoing p lim (journal ++ entry_of p lim st mv ∷ []) (move_result p lim st mv).0
     goes_on =
         let none = going.clear unfinished.0 in record {
           run = run_goes_on;
           lowest = lowest_more p lim (start_of p lim) journal (entry_of p lim st mv) going.lowest
               (subst (λ (s : State). IsOutcome s Unfinished) going.run.same unfinished) (subst (λ (s : State). IsLowest s mv) going.run.same low)
-              (ap (λ (s : State). (moved p lim s mv).1) (sym going.run.same));
+              (ap (λ (s : State). (move_result p lim s mv).1) (sym going.run.same));
           clear = λ well. none_more journal (entry_of p lim st mv) none (taken_well p lim st mv.kind mv.task well);
           counted = counted_more journal (entry_of p lim st mv) none;
         }

@@ -4,7 +4,7 @@ ghost use Rattle.twe_machine.specs.declared.ending.Outcome.TheVariants.{AllDone,
 ghost use Rattle.twe_machine.specs.declared.state.TaskStatus.TheVariants.{Done};
 ghost use Rattle.twe_machine.specs.Legal.{MayMove};
 ghost use Rattle.twe_machine.specs.LowestFirst.{IsLowest, IsOver, LowestFirst};
-ghost use Rattle.twe_machine.specs.Moves.{moved};
+ghost use Rattle.twe_machine.specs.Moves.{move_result};
 ghost use Rattle.twe_machine.specs.Rows.{HasStatus};
 ghost use Rattle.twe_machine.specs.Runs.{IsReachable, IsReached, Legal, state_after, IsOutcome, EachOnce, EachAtMostOnce, counted, entry_of};
 
@@ -96,7 +96,7 @@ fn take(
     requires reached { IsReached p.now lim st.old }
     requires legal { MayMove st.old mv }
     ensures entered { OnOk result (journal.new ≡ journal.old ++ entry_of p.now lim st.old mv ∷ []) }
-    ensures state { OnOk result (st.new ≡ (moved p.now lim st.old mv).0) }
+    ensures state { OnOk result (st.new ≡ (move_result p.now lim st.old mv).0) }
 {
     let end = step(alloc, p, lim, st, mv)?;
     journal.push(Entry { mv, end })?;

@@ -10,14 +10,14 @@ use Rattle.soundness_laws.specs.DeclaredNow.{access_of}
 use Rattle.twe_machine.specs.declared.state.State.{State}
 use Rattle.twe_machine.specs.declared.state.TaskRow.{TaskRow}
 use Rattle.twe_machine.specs.Legal.{MayRun}
-use Rattle.twe_machine.specs.Moves.{ready}
+use Rattle.twe_machine.specs.Moves.{ready_frame}
 use Rattle.twe_machine.specs.Rows.{IsRow}
 use Rattle.twe_machine.specs.Runs.{state_after}
 use Rattle.isolation_laws.specs.CoveredNow.{CoveredNow}
 
 -- the task of this row makes the access in its next segment over these cells
 abbrev pub Makes : Program → State → TaskRow → List ℤ → Access → Type 0
-Makes p st row cells access = Contains (segment p (ready st.tasks row.frame) cells).accesses access
+Makes p st row cells access = Contains (segment p (ready_frame st.tasks row.frame) cells).accesses access
 
 -- each access that a task that may run makes in its next segment is covered for that task, whatever values the cells
 -- have; a print counts as a write of `Console`

@@ -9,15 +9,15 @@ use Rattle.segment_laws.specs.Ready.{IsReady}
 use Rattle.segment_laws.proofs.BeingReady.{ready_same}
 use Rattle.twe_machine.specs.declared.state.TaskRow.{TaskRow}
 use Rattle.twe_machine.specs.declared.state.TaskStatus.TheVariants.{Enabled}
-use Rattle.twe_machine.specs.Moves.{emptied, going_row, done_row, faulted_row, stopped_frame}
+use Rattle.twe_machine.specs.Moves.{frame_without_prints, going_row, done_row, faulted_row, stopped_frame}
 use Rattle.twe_machine.proofs.Standing.{FrameStands, IsOver, RowStands}
 
 module _ (p : Program) (lim : Bounds) (rows : List TaskRow) (t : ℕ) where
   -- what was printed may be taken out
-  emptied_closing : (frame : Frame) (on : ℕ) → IsClosing frame on → IsClosing (emptied frame) on
+  emptied_closing : (frame : Frame) (on : ℕ) → IsClosing frame on → IsClosing (frame_without_prints frame) on
   emptied_closing frame on closing = record { next = closing.next; body = closing.body; others = closing.others; out = closing.out }
 
-  emptied_stands : (frame : Frame) → FrameStands p lim rows t frame → FrameStands p lim rows t (emptied frame)
+  emptied_stands : (frame : Frame) → FrameStands p lim rows t frame → FrameStands p lim rows t (frame_without_prints frame)
   emptied_stands frame stands = record {
     number = stands.number;
     fuel = stands.fuel;
@@ -48,8 +48,8 @@ module _ (p : Program) (lim : Bounds) (rows : List TaskRow) (t : ℕ) where
 
   module _ (row : TaskRow) (was : RowStands p lim rows t row) (enabled : row.status ≡ Enabled) (frame : Frame) (stands : FrameStands p lim rows t frame)
       (ready : IsReady p frame) (decl : frame.decl ≡ row.frame.decl) where
-    ready_emptied : IsReady p (emptied frame)
-    ready_emptied = ready_same p frame (emptied frame) refl refl refl ready
+    ready_emptied : IsReady p (frame_without_prints frame)
+    ready_emptied = ready_same p frame (frame_without_prints frame) refl refl refl ready
 
     not_over : ¬ IsOver row.status
     not_over over = subst IsOver enabled over

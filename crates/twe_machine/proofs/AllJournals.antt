@@ -11,7 +11,7 @@ use Rattle.seg_exec.specs.Entry.{entry_frame}
 use Rattle.segment_laws.proofs.SegmentKept.{segment_keeps}
 use Rattle.twe_machine.specs.declared.state.State.{State}
 use Rattle.twe_machine.specs.declared.state.TaskRow.{TaskRow}
-use Rattle.twe_machine.specs.Moves.{start_of, taken}
+use Rattle.twe_machine.specs.Moves.{start_of, result_by_kind}
 use Rattle.twe_machine.specs.Runs.{Legal, LegalFrom, replayed, state_after}
 use Rattle.twe_machine.proofs.Falls.{childless, falls}
 use Rattle.twe_machine.proofs.GivenWork.{ClosesFirst}
@@ -27,7 +27,7 @@ module _ (p : Program) (lim : Bounds) (well : IsWellFormed p) where
 
   -- one move more
   counted_move : (st : State) (entry : Entry) (entries before : List Entry) → Stands p lim st → LegalFrom p lim st (entry ∷ entries) → Counts before st
-      → Counts (before ++ entry ∷ []) (taken p lim st entry.mv.kind entry.mv.task).0
+      → Counts (before ++ entry ∷ []) (result_by_kind p lim st entry.mv.kind entry.mv.task).0
   counted_move st entry entries before stands legal counts =
       counts_more p lim st entry before counts legal.1
       (λ u. adds p lim st entry.mv.kind u entry.mv.task legal.0 (λ row found made. ap (λ (r : TaskRow). r.parent) ((stands.rows entry.mv.task row found).made made)) stands.some stands.number)
@@ -36,7 +36,7 @@ module _ (p : Program) (lim : Bounds) (well : IsWellFormed p) where
   counted_run : (st : State) (entries before : List Entry) → Stands p lim st → LegalFrom p lim st entries → Counts before st → Counts (before ++ entries) (replayed p lim st entries)
   counted_run st [] before stands legal counts = subst (λ (journal : List Entry). Counts journal st) (sym (append-nil before)) counts
   counted_run st (entry ∷ entries) before stands legal counts =
-      let next : State = (taken p lim st entry.mv.kind entry.mv.task).0 in
+      let next : State = (result_by_kind p lim st entry.mv.kind entry.mv.task).0 in
       subst (λ (journal : List Entry). Counts journal (replayed p lim next entries)) (append_assoc before (entry ∷ []) entries)
       (counted_run next entries (before ++ entry ∷ []) (taken_stands p lim well st entry.mv.kind entry.mv.task legal.0 stands) legal.2
       (counted_move st entry entries before stands legal counts))
@@ -65,7 +65,7 @@ module _ (p : Program) (lim : Bounds) (well : IsWellFormed p) where
   weighed_run : (st : State) (entries : List Entry) → Stands p lim st → LegalFrom p lim st entries → length entries + weight lim (replayed p lim st entries) ≤ weight lim st
   weighed_run st [] stands legal = omega arith
   weighed_run st (entry ∷ entries) stands legal =
-      let next : State = (taken p lim st entry.mv.kind entry.mv.task).0 in
+      let next : State = (result_by_kind p lim st entry.mv.kind entry.mv.task).0 in
       let lighter : weight lim next < weight lim st =
       falls p lim st entry.mv.task (segment_keeps p) stands.number entry.mv.kind legal.0
       (λ row found. let stand = stands.rows entry.mv.task row found in (stand.out, λ on is. let closing = stand.frame.closing on is in (closing.others, closing.out))) in

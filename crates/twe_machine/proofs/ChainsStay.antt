@@ -16,7 +16,7 @@ use Rattle.twe_program.specs.WellFormed.{IsWellFormed}
 use Rattle.twe_machine.specs.declared.state.State.{State}
 use Rattle.twe_machine.specs.declared.state.TaskRow.{TaskRow}
 use Rattle.twe_machine.specs.Legal.{MayTake}
-use Rattle.twe_machine.specs.Moves.{admitted, joined_row, taken}
+use Rattle.twe_machine.specs.Moves.{admitted, joined_row, result_by_kind}
 use Rattle.twe_machine.specs.Rows.{IsRow, is_done_status, link_of_row}
 use Rattle.twe_machine.specs.Runs.{LegalFrom, replayed}
 use Rattle.twe_machine.proofs.Ordered.{link_from, waits_up}
@@ -37,7 +37,7 @@ admitted_links st t (Some row) = refl
 
 module _ (p : Program) (lim : Bounds) (well : IsWellFormed p) (st : State) (t : ℕ) (may : MayTake st Run t) (stands : Stands p lim st) where
   abbrev after : State
-  after = (taken p lim st Run t).0
+  after = (result_by_kind p lim st Run t).0
 
   after_stands : Stands p lim after
   after_stands = taken_stands p lim well st Run t may stands
@@ -117,7 +117,7 @@ module _ (p : Program) (lim : Bounds) (well : IsWellFormed p) (st : State) (t : 
 module _ (p : Program) (lim : Bounds) (well : IsWellFormed p) where
   -- over one move
   pub chain_stays : (st : State) (kind : Kind) (t s u : ℕ) → MayTake st kind t → Stands p lim st → WaitsOnUnlessDone st.links s u
-      → WaitsOnUnlessDone (taken p lim st kind t).0.links s u
+      → WaitsOnUnlessDone (result_by_kind p lim st kind t).0.links s u
   chain_stays st Admit t s u may stands waits =
       subst (λ (links : List Link). WaitsOnUnlessDone links s u) (sym (admitted_links st t (slice_get st.tasks t))) waits
   chain_stays st Run t s u may stands waits = segment_on p lim well st t may stands s u waits
@@ -129,4 +129,4 @@ module _ (p : Program) (lim : Bounds) (well : IsWellFormed p) where
   chain_stays_on st (entry ∷ entries) s u legal stands waits =
       let kind = entry.mv.kind in
       let t = entry.mv.task in
-      chain_stays_on (taken p lim st kind t).0 entries s u legal.2 (taken_stands p lim well st kind t legal.0 stands) (chain_stays st kind t s u legal.0 stands waits)
+      chain_stays_on (result_by_kind p lim st kind t).0 entries s u legal.2 (taken_stands p lim well st kind t legal.0 stands) (chain_stays st kind t s u legal.0 stands waits)

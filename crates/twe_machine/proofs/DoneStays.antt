@@ -8,7 +8,7 @@ use Rattle.twe_machine.specs.declared.state.State.{State}
 use Rattle.twe_machine.specs.declared.state.TaskStatus.TheVariants.{Done}
 use Rattle.twe_machine.specs.Changes.{IsDoneWith}
 use Rattle.twe_machine.specs.Legal.{MayTake}
-use Rattle.twe_machine.specs.Moves.{joined_row, taken}
+use Rattle.twe_machine.specs.Moves.{joined_row, result_by_kind}
 use Rattle.twe_machine.specs.Rows.{HasStatus}
 use Rattle.twe_machine.specs.Runs.{LegalFrom, replayed}
 use Rattle.twe_machine.proofs.Movers.{mover_undone}
@@ -16,7 +16,7 @@ use Rattle.twe_machine.proofs.OtherRows.{row_after}
 
 -- over one
 pub value_stays : (p : Program) (lim : Bounds) (st : State) (kind : Kind) (t u : ℕ) (value : ℤ) → MayTake st kind t → IsDoneWith st u value
-    → IsDoneWith (taken p lim st kind t).0 u value
+    → IsDoneWith (result_by_kind p lim st kind t).0 u value
 value_stays p lim st kind t u value may done =
     let other : u ≢ t = λ is. mover_undone st kind t may (subst (λ (n : ℕ). HasStatus st n Done) is (done.row, done.there, done.done)) in
     elim (row_after p lim st t u other done.row done.there kind) [
@@ -29,10 +29,10 @@ pub value_stays_on : (p : Program) (lim : Bounds) (st : State) (entries : List E
     → IsDoneWith (replayed p lim st entries) u value
 value_stays_on p lim st [] u value legal done = done
 value_stays_on p lim st (entry ∷ entries) u value legal done =
-    value_stays_on p lim (taken p lim st entry.mv.kind entry.mv.task).0 entries u value legal.2 (value_stays p lim st entry.mv.kind entry.mv.task u value legal.0 done)
+    value_stays_on p lim (result_by_kind p lim st entry.mv.kind entry.mv.task).0 entries u value legal.2 (value_stays p lim st entry.mv.kind entry.mv.task u value legal.0 done)
 
 -- whatever the value
-pub done_stays : (p : Program) (lim : Bounds) (st : State) (kind : Kind) (t u : ℕ) → MayTake st kind t → HasStatus st u Done → HasStatus (taken p lim st kind t).0 u Done
+pub done_stays : (p : Program) (lim : Bounds) (st : State) (kind : Kind) (t u : ℕ) → MayTake st kind t → HasStatus st u Done → HasStatus (result_by_kind p lim st kind t).0 u Done
 done_stays p lim st kind t u may done =
     let later = value_stays p lim st kind t u done.0.value may (record { row = done.0; there = done.1; done = done.2; value_is = refl }) in
     (later.row, later.there, later.done)

@@ -10,7 +10,7 @@ use Rattle.twe_machine.specs.declared.state.FirstFault.{FirstFault}
 use Rattle.twe_machine.specs.declared.state.State.{State}
 use Rattle.twe_machine.specs.declared.state.TaskRow.{TaskRow}
 use Rattle.twe_machine.specs.declared.state.TaskStatus.TheVariants.{Done, Faulted}
-use Rattle.twe_machine.specs.Moves.{done_row, faulted, faulted_row, finished, first_fault_of, going_row, home}
+use Rattle.twe_machine.specs.Moves.{done_row, state_after_fault, faulted_row, state_after_finish, first_fault_of, going_row, state_after_storing}
 use Rattle.twe_machine.proofs.Places.{set_same}
 
 -- what is put in a place twice is there as the second time
@@ -21,33 +21,33 @@ set_again (z ∷ xs) (suc t) x y = ap (λ (l : List _). z ∷ l) (set_again xs t
 
 -- the row that stands in its place once the frame has come home
 row_is : (st came : State) (t : ℕ) (row item : TaskRow) (frame : Frame) → slice_get st.tasks t ≡ Some row
-    → came ≡ home st t frame (going_row row frame) → slice_get came.tasks t ≡ Some item → item ≡ going_row row frame
+    → came ≡ state_after_storing st t frame (going_row row frame) → slice_get came.tasks t ≡ Some item → item ≡ going_row row frame
 row_is st came t row item frame here comes found =
     let again = set_same st.tasks t row (going_row row frame) here in
-    let same : slice_get came.tasks t ≡ slice_get (home st t frame (going_row row frame)).tasks t = ap (λ (s : State). slice_get s.tasks t) comes in
+    let same : slice_get came.tasks t ≡ slice_get (state_after_storing st t frame (going_row row frame)).tasks t = ap (λ (s : State). slice_get s.tasks t) comes in
     cc
 
 -- the task is done with a value
 pub finished_is : (st came : State) (t : ℕ) (row item new : TaskRow) (frame : Frame) (value : ℤ) (links : List Link)
-    → slice_get st.tasks t ≡ Some row → came ≡ home st t frame (going_row row frame) → slice_get came.tasks t ≡ Some item
+    → slice_get st.tasks t ≡ Some row → came ≡ state_after_storing st t frame (going_row row frame) → slice_get came.tasks t ≡ Some item
     → new ≡ record item { status = Done; value = value } → links ≡ with_done came.links t
-    → record came { tasks = slice_set came.tasks t new; links = links } ≡ finished st t row frame value
+    → record came { tasks = slice_set came.tasks t new; links = links } ≡ state_after_finish st t row frame value
 finished_is st came t row item new frame value links here comes found ends done =
     let item_is = row_is st came t row item frame here comes found in
     let new_is : new ≡ done_row row frame value = ends ∙ ap (λ (r : TaskRow). record r { status = Done; value = value }) item_is in
-    let after : State = home st t frame (going_row row frame) in
+    let after : State = state_after_storing st t frame (going_row row frame) in
     let links_are : links ≡ with_done after.links t = done ∙ ap (λ (s : State). with_done s.links t) comes in
     (λ i. record (comes i) { tasks = slice_set (comes i).tasks t (new_is i); links = links_are i })
     ∙ (λ i. record after { tasks = set_again st.tasks t (going_row row frame) (done_row row frame value) i; links = with_done after.links t })
 
 -- the task has met a fault
 pub faulted_is : (st came : State) (t : ℕ) (row item : TaskRow) (frame : Frame) (kind : FaultKind) (place : Place) (first : Option FirstFault)
-    → slice_get st.tasks t ≡ Some row → came ≡ home st t frame (going_row row frame) → slice_get came.tasks t ≡ Some item
+    → slice_get st.tasks t ≡ Some row → came ≡ state_after_storing st t frame (going_row row frame) → slice_get came.tasks t ≡ Some item
     → first ≡ first_fault_of came.first_fault t kind place
-    → record came { tasks = slice_set came.tasks t (record item { status = Faulted }); first_fault = first } ≡ faulted st t row frame kind place
+    → record came { tasks = slice_set came.tasks t (record item { status = Faulted }); first_fault = first } ≡ state_after_fault st t row frame kind place
 faulted_is st came t row item frame kind place first here comes found notes =
     let item_is = row_is st came t row item frame here comes found in
-    let after : State = home st t frame (going_row row frame) in
+    let after : State = state_after_storing st t frame (going_row row frame) in
     let first_is : first ≡ first_fault_of after.first_fault t kind place = notes ∙ ap (λ (s : State). first_fault_of s.first_fault t kind place) comes in
     (λ i. record (comes i) { tasks = slice_set (comes i).tasks t (record (item_is i) { status = Faulted }); first_fault = first_is i })
     ∙ (λ i. record after { tasks = set_again st.tasks t (going_row row frame) (faulted_row row frame) i; first_fault = first_fault_of st.first_fault t kind place })

@@ -24,7 +24,7 @@ use Rattle.twe_machine.specs.declared.state.TaskRow.{TaskRow}
 use Rattle.twe_machine.specs.declared.state.TaskStatus.{TaskStatus}
 use Rattle.twe_machine.specs.declared.state.TaskStatus.TheVariants.{Made, Enabled}
 use Rattle.twe_machine.specs.Legal.{MayTake}
-use Rattle.twe_machine.specs.Moves.{admitted, admitted_row, done_row, faulted_row, going_row, making_frame, new_row, parent_of, stopped_frame, joined, joined_child, stopped, ran, taken, ready, asking, having_made, faulted}
+use Rattle.twe_machine.specs.Moves.{admitted, admitted_row, done_row, faulted_row, going_row, making_frame, new_row, parent_of, stopped_frame, state_after_join, joined_child, stop_result, ran, result_by_kind, ready_frame, state_after_asking, state_after_make, state_after_fault}
 use Rattle.twe_machine.specs.Rows.{HasStatus}
 use Rattle.twe_machine.proofs.Weight.{weight, rows_weight, row_weight, room_weight, weight_at, work_of, children_left, added_weight, set_weight, less_room}
 use Rattle.twe_machine.proofs.JoinedWeight.{joined_weight, length_joined, asked_joined}
@@ -61,21 +61,21 @@ CountsMade lim st = st.asked + 1 < lim.tasks → st.asked + 1 ≡ length st.task
 module _ (lim : Bounds) (st : State) (t : ℕ) (row : TaskRow) (found : slice_get st.tasks t ≡ Some row) (child : Option ℕ) where
   -- a lighter row in the place of the one that was there
   placed : (new : TaskRow) → row_weight new < row_weight row
-      → rows_weight (slice_set (joined st child).tasks t new) + room_weight lim (lim.tasks - length (slice_set (joined st child).tasks t new)) < weight lim st
+      → rows_weight (slice_set (state_after_join st child).tasks t new) + room_weight lim (lim.tasks - length (slice_set (state_after_join st child).tasks t new)) < weight lim st
   placed new lighter =
       let sum = joined_weight st child t row new found in
-      let count : length (slice_set (joined st child).tasks t new) ≡ length st.tasks = length-set (joined st child).tasks t new ∙ length_joined st child in
+      let count : length (slice_set (state_after_join st child).tasks t new) ≡ length st.tasks = length-set (state_after_join st child).tasks t new ∙ length_joined st child in
       rw count (omega (arith, sum))
 
   -- and another row beside it
   grown : (new other : TaskRow) → row_weight new < row_weight row → row_weight other ≤ 2 * lim.fuel + 2 → length st.tasks < lim.tasks
-      → rows_weight (slice_set (joined st child).tasks t new ++ other ∷ []) + room_weight lim (lim.tasks - length (slice_set (joined st child).tasks t new ++ other ∷ [])) < weight lim st
+      → rows_weight (slice_set (state_after_join st child).tasks t new ++ other ∷ []) + room_weight lim (lim.tasks - length (slice_set (state_after_join st child).tasks t new ++ other ∷ [])) < weight lim st
   grown new other lighter light room =
-      let rows = slice_set (joined st child).tasks t new in
+      let rows = slice_set (state_after_join st child).tasks t new in
       let sum = joined_weight st child t row new found in
       let more = added_weight rows other in
       let count : length (rows ++ other ∷ []) ≡ length st.tasks + 1 =
-      length-append rows (other ∷ []) ∙ ap (λ (n : ℕ). n + 1) (length-set (joined st child).tasks t new ∙ length_joined st child) in
+      length-append rows (other ∷ []) ∙ ap (λ (n : ℕ). n + 1) (length-set (state_after_join st child).tasks t new ∙ length_joined st child) in
       let one : lim.tasks - length (rows ++ other ∷ []) ≡ lim.tasks - length st.tasks - 1 = omega (arith, count) in
       let kept = less_room lim (lim.tasks - length st.tasks) (omega arith) in
       rw one (omega (arith, sum, more, kept))
@@ -88,11 +88,11 @@ module _ (lim : Bounds) (st : State) (t : ℕ) (row : TaskRow) (found : slice_ge
 
   -- the making of a task
   made_falls : (frame : Frame) (into : ℕ) (spawned : Bool) (task : Frame) (args : List ℤ) (effects : Summary) (place : Place) (fits : Bool)
-      → IsSpent row frame (stops.Make task args effects spawned into place) → CountsMade lim st → nat_lt ((joined st child).asked + 1) lim.tasks ≡ fits
-      → weight lim (if◌then◌else◌ {A = State × End} fits (having_made lim (joined st child) t row frame into spawned task args effects, end_is.Made ((joined st child).asked + 1))
-      (faulted (asking (joined st child)) t row (stopped_frame frame) TaskLimit place, end_is.Fault TaskLimit place)).0 < weight lim st
+      → IsSpent row frame (stops.Make task args effects spawned into place) → CountsMade lim st → nat_lt ((state_after_join st child).asked + 1) lim.tasks ≡ fits
+      → weight lim (if◌then◌else◌ {A = State × End} fits (state_after_make lim (state_after_join st child) t row frame into spawned task args effects, end_is.Made ((state_after_join st child).asked + 1))
+      (state_after_fault (state_after_asking (state_after_join st child)) t row (stopped_frame frame) TaskLimit place, end_is.Fault TaskLimit place)).0 < weight lim st
   made_falls frame into spawned task args effects place true spent counts e =
-      let number = (joined st child).asked + 1 in
+      let number = (state_after_join st child).asked + 1 in
       let below : number < lim.tasks = ltb-true number lim.tasks e in
       let asked = asked_joined st child in
       let room : length st.tasks < lim.tasks = let is = counts (omega (arith, below, asked)) in omega (arith, is, below, asked) in
@@ -104,7 +104,7 @@ module _ (lim : Bounds) (st : State) (t : ℕ) (row : TaskRow) (found : slice_ge
       placed (faulted_row row (stopped_frame frame)) (ended (faulted_row row (stopped_frame frame)) spent.left.enabled refl)
 
   -- a segment that has stopped
-  stopped_falls : (frame : Frame) (stop : Stop) → IsSpent row frame stop → CountsMade lim st → weight lim (stopped lim (joined st child) t row frame stop).0 < weight lim st
+  stopped_falls : (frame : Frame) (stop : Stop) → IsSpent row frame stop → CountsMade lim st → weight lim (stop_result lim (state_after_join st child) t row frame stop).0 < weight lim st
   stopped_falls frame (stops.Make task args effects spawned into place) spent counts = made_falls frame into spawned task args effects place _ spent counts refl
   stopped_falls frame (stops.Waits on) spent counts =
       let next = spent.next in
@@ -129,17 +129,17 @@ admitted_falls lim st t made =
 module _ (p : Program) (lim : Bounds) (st : State) (t : ℕ) (keeps : (frame : Frame) (cells : List ℤ) → SegmentKeeps frame cells (segment p frame cells)) (counts : CountsMade lim st) where
   -- what the segment of a task leaves of its work
   spent : (row : TaskRow) → row.status ≡ Enabled → row.out ≡ row.frame.out → ClosesFirst row.frame
-      → let after = segment p (ready st.tasks row.frame) st.cells in IsSpent row after.frame after.stop
+      → let after = segment p (ready_frame st.tasks row.frame) st.cells in IsSpent row after.frame after.stop
   spent row enabled out closes =
-      let before = ready st.tasks row.frame in
+      let before = ready_frame st.tasks row.frame in
       let after = segment p before st.cells in
       let k : SegmentKeeps before st.cells after = keeps before st.cells in
-      let taken : giving.Taken row.frame before = giving.taken row.frame _ closes in
-      let fuel : before.fuel ≡ row.frame.fuel = taken.fuel in
+      let gave : giving.Taken row.frame before = giving.taken row.frame _ closes in
+      let fuel : before.fuel ≡ row.frame.fuel = gave.fuel in
       let same : length after.frame.out ≡ length before.out = ap length k.out in
       let had : children_left row.frame.next (length row.frame.out) ≡ children_left row.frame.next (length row.out) = ap (λ (l : List ℕ). children_left row.frame.next (length l)) (sym out) in
       record {
-        left = record { enabled = enabled; fuel = omega (arith, k.fuel, fuel); out = omega (arith, taken.out, same, had) };
+        left = record { enabled = enabled; fuel = omega (arith, k.fuel, fuel); out = omega (arith, gave.out, same, had) };
         made = λ child args effects spawned future place e. omega (arith, k.made child args effects spawned future place e, fuel);
         got = λ on into e. omega (arith, k.got on into e, fuel);
         joined = λ on into e. omega (arith, k.joined on into e, fuel);
@@ -150,12 +150,12 @@ module _ (p : Program) (lim : Bounds) (st : State) (t : ℕ) (keeps : (frame : F
   ran_falls : (row : TaskRow) → slice_get st.tasks t ≡ Some row → row.status ≡ Enabled → row.out ≡ row.frame.out → ClosesFirst row.frame
       → weight lim (ran p lim st t (slice_get st.tasks t)).0 < weight lim st
   ran_falls row found enabled out closes =
-      let after = segment p (ready st.tasks row.frame) st.cells in
+      let after = segment p (ready_frame st.tasks row.frame) st.cells in
       let later : State = record st { cells = after.cells } in
       let falls = stopped_falls lim later t row found (joined_child row.out (link_of st.links t).waits) after.frame after.stop (spent row enabled out closes) counts in
       rw found falls
 
   pub falls : (kind : Kind) → MayTake st kind t → ((row : TaskRow) → slice_get st.tasks t ≡ Some row → (row.out ≡ row.frame.out) × ClosesFirst row.frame)
-      → weight lim (taken p lim st kind t).0 < weight lim st
+      → weight lim (result_by_kind p lim st kind t).0 < weight lim st
   falls Admit may rows = admitted_falls lim st t may.0
   falls Run may rows = let row = may.0 in let facts = rows row.0 row.1 in ran_falls row.0 row.1 row.2 facts.0 facts.1

@@ -22,7 +22,7 @@ use Rattle.twe_machine.specs.declared.state.State.{State}
 use Rattle.twe_machine.specs.declared.state.TaskRow.{TaskRow}
 use Rattle.twe_machine.specs.declared.state.TaskStatus.{TaskStatus}
 use Rattle.twe_machine.specs.declared.state.TaskStatus.TheVariants.{Made, Enabled, Done, Faulted}
-use Rattle.twe_machine.specs.Moves.{joined, joined_child, stopped_frame, ready, awaited_value}
+use Rattle.twe_machine.specs.Moves.{state_after_join, joined_child, stopped_frame, ready_frame, awaited_value}
 use Rattle.twe_machine.specs.Rows.{awaited, is_done_row, is_done_status, link_of_row}
 use Rattle.twe_machine.proofs.Almost.{Almost}
 use Rattle.twe_machine.proofs.Carried.{given_keeps, segment_stands}
@@ -92,7 +92,7 @@ module _ (p : Program) (lim : Bounds) (st : State) (stands : Stands p lim st) (t
   value = awaited_value st.tasks (awaited row.frame.next)
 
   abbrev after : Stopped
-  after = segment p (ready st.tasks row.frame) st.cells
+  after = segment p (ready_frame st.tasks row.frame) st.cells
 
   own_stands : RowStands p lim st.tasks t row
   own_stands = stands.rows t row found
@@ -103,20 +103,20 @@ module _ (p : Program) (lim : Bounds) (st : State) (stands : Stands p lim st) (t
   pub left_stands : FrameStands p lim st.tasks t after.frame
   left_stands = segment_stands p lim st.tasks stands.rows t row own_stands own_children value st.cells
 
-  halfway_by : (child : Option ℕ) → AfterJoin p lim st.tasks (rows_joined st.tasks child) t row after.frame.out → Halfway p lim (joined (record st { cells = after.cells }) child) t row after.frame
+  halfway_by : (child : Option ℕ) → AfterJoin p lim st.tasks (rows_joined st.tasks child) t row after.frame.out → Halfway p lim (state_after_join (record st { cells = after.cells }) child) t row after.frame
   halfway_by None join = record {
     almost = record { stand = join.stand; own = join.own; children = join.children; own_children = join.own_children };
     frame_stands = left_stands;
     counts = counts_of p lim st stands;
     number = stands.number;
-    cells = (segment_keeps p (ready st.tasks row.frame) st.cells).cells ∙ stands.cells;
+    cells = (segment_keeps p (ready_frame st.tasks row.frame) st.cells).cells ∙ stands.cells;
   }
   halfway_by (Some c) join = record {
     almost = record { stand = join.stand; own = join.own; children = join.children; own_children = join.own_children };
     frame_stands = frame_later p lim st.tasks _ t after.frame join.later left_stands;
     counts = same_counts lim st.tasks _ st.asked st.first_fault join.as_many join.faulted join.status join.status_back (counts_of p lim st stands);
     number = λ few. stands.number few ∙ sym join.as_many;
-    cells = (segment_keeps p (ready st.tasks row.frame) st.cells).cells ∙ stands.cells;
+    cells = (segment_keeps p (ready_frame st.tasks row.frame) st.cells).cells ∙ stands.cells;
   }
 
   -- what is waited for is done, where the task may run
@@ -132,10 +132,10 @@ module _ (p : Program) (lim : Bounds) (st : State) (stands : Stands p lim st) (t
         done_by Done is done = is
         done_by Faulted is done = absurd (done (refl, is))
 
-  pub halfway : ((u : ℕ) → ¬ WaitsFor st.links t u) → Halfway p lim (joined (record st { cells = after.cells }) (joined_child row.out (link_of st.links t).waits)) t row after.frame
+  pub halfway : ((u : ℕ) → ¬ WaitsFor st.links t u) → Halfway p lim (state_after_join (record st { cells = after.cells }) (joined_child row.out (link_of st.links t).waits)) t row after.frame
   halfway free =
       let join = after_join p lim st.tasks stands.rows (children_of p lim st stands) t row found (awaited_done free) value in
-      let same_out : after.frame.out ≡ (given_by row.frame.next row.frame value).out = (segment_keeps p (ready st.tasks row.frame) st.cells).out in
-      subst (λ (waits : Option ℕ). Halfway p lim (joined (record st { cells = after.cells }) (joined_child row.out waits)) t row after.frame) (sym waits_is)
+      let same_out : after.frame.out ≡ (given_by row.frame.next row.frame value).out = (segment_keeps p (ready_frame st.tasks row.frame) st.cells).out in
+      subst (λ (waits : Option ℕ). Halfway p lim (state_after_join (record st { cells = after.cells }) (joined_child row.out waits)) t row after.frame) (sym waits_is)
       (halfway_by (joined_child row.out (awaited row.frame.next))
       (subst (AfterJoin p lim st.tasks (rows_joined st.tasks (joined_child row.out (awaited row.frame.next))) t row) (sym same_out) join))

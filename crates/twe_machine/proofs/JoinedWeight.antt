@@ -3,7 +3,7 @@ use Rattle.std.proofs.Common.{◌≡◌, ◌+◌, ℕ, List, length, Option, Som
 use Rattle.std.specs.Prelude.{slice_get, slice_set}
 use Rattle.twe_machine.specs.declared.state.State.{State}
 use Rattle.twe_machine.specs.declared.state.TaskRow.{TaskRow}
-use Rattle.twe_machine.specs.Moves.{joined, joined_row, joined_rows}
+use Rattle.twe_machine.specs.Moves.{state_after_join, joined_row, joined_rows}
 use Rattle.twe_machine.proofs.RowNumbers.{joined_there}
 use Rattle.twe_machine.proofs.Weight.{row_weight, rows_weight, set_weight}
 
@@ -20,7 +20,7 @@ after_join rows c t (Some r) row new there found =
 
 -- the same in a state
 pub joined_weight : (st : State) (child : Option ℕ) (t : ℕ) (row new : TaskRow) → slice_get st.tasks t ≡ Some row
-    → rows_weight (slice_set (joined st child).tasks t new) + row_weight row ≡ rows_weight st.tasks + row_weight new
+    → rows_weight (slice_set (state_after_join st child).tasks t new) + row_weight row ≡ rows_weight st.tasks + row_weight new
 joined_weight st None t row new found = set_weight st.tasks t row new found
 joined_weight st (Some c) t row new found = after_join st.tasks c t (slice_get st.tasks c) row new refl found
 
@@ -29,11 +29,11 @@ length_joined_rows rows c None = refl
 length_joined_rows rows c (Some r) = length-set rows c (joined_row r)
 
 -- and there are as many
-pub length_joined : (st : State) (child : Option ℕ) → length (joined st child).tasks ≡ length st.tasks
+pub length_joined : (st : State) (child : Option ℕ) → length (state_after_join st child).tasks ≡ length st.tasks
 length_joined st None = refl
 length_joined st (Some c) = length_joined_rows st.tasks c (slice_get st.tasks c)
 
 -- as many tasks were asked for
-pub asked_joined : (st : State) (child : Option ℕ) → (joined st child).asked ≡ st.asked
+pub asked_joined : (st : State) (child : Option ℕ) → (state_after_join st child).asked ≡ st.asked
 asked_joined st None = refl
 asked_joined st (Some c) = refl

@@ -14,7 +14,7 @@ use Rattle.twe_machine.specs.declared.state.State.{State}
 use Rattle.twe_machine.specs.declared.state.TaskRow.{TaskRow}
 use Rattle.twe_machine.specs.declared.state.TaskStatus.TheVariants.{Made, Enabled}
 use Rattle.twe_machine.specs.Legal.{MayTake}
-use Rattle.twe_machine.specs.Moves.{admitted, admitted_row, joined_child, ran, taken, ready}
+use Rattle.twe_machine.specs.Moves.{admitted, admitted_row, joined_child, ran, result_by_kind, ready_frame}
 use Rattle.twe_machine.specs.Runs.{makes, admits, finishes, makes_task, is_admission, is_done}
 use Rattle.twe_machine.proofs.JournalCounts.{Counts, count_more, times_made, times_admitted, times_admitted_at, times_finished, times_finished_at}
 use Rattle.twe_machine.proofs.MoveCounts.{CountsOn, stopped_counts, stopped_admitted}
@@ -47,7 +47,7 @@ admission_adds st u t row found made alone =
 segment_adds : (p : Program) (lim : Bounds) (st : State) (u t : ℕ) (row : TaskRow) → slice_get st.tasks t ≡ Some row → row.status ≡ Enabled
     → 0 < length st.tasks → CountsMade lim st → Adds u Run t st (ran p lim st t (Some row))
 segment_adds p lim st u t row found enabled some counts =
-    let after = segment p (ready st.tasks row.frame) st.cells in
+    let after = segment p (ready_frame st.tasks row.frame) st.cells in
     let later : State = record st { cells = after.cells } in
     let child = joined_child row.out (link_of st.links t).waits in
     let on = stopped_counts lim later t row found enabled child after.frame after.stop u some counts in
@@ -59,7 +59,7 @@ segment_adds p lim st u t row found enabled some counts =
 -- any legal move, if a task that is to be admitted has no parent
 pub adds : (p : Program) (lim : Bounds) (st : State) (kind : Kind) (u t : ℕ) → MayTake st kind t
     → ((row : TaskRow) → slice_get st.tasks t ≡ Some row → row.status ≡ Made → row.parent ≡ None)
-    → 0 < length st.tasks → CountsMade lim st → Adds u kind t st (taken p lim st kind t)
+    → 0 < length st.tasks → CountsMade lim st → Adds u kind t st (result_by_kind p lim st kind t)
 adds p lim st Admit u t may alone some counts =
     let row = may.0 in
     subst (λ (found : Option TaskRow). Adds u Admit t st (admitted st t found, ends.Admitted)) (sym row.1) (admission_adds st u t row.0 row.1 row.2 (alone row.0 row.1 row.2))
@@ -69,9 +69,9 @@ adds p lim st Run u t may alone some counts =
 
 -- the journal with the entry of that move, which has the end that the move gives
 pub counts_more : (p : Program) (lim : Bounds) (st : State) (entry : Entry) (journal : List Entry) → Counts journal st
-    → (taken p lim st entry.mv.kind entry.mv.task).1 ≡ entry.end
-    → ((u : ℕ) → Adds u entry.mv.kind entry.mv.task st (taken p lim st entry.mv.kind entry.mv.task))
-    → Counts (journal ++ entry ∷ []) (taken p lim st entry.mv.kind entry.mv.task).0
+    → (result_by_kind p lim st entry.mv.kind entry.mv.task).1 ≡ entry.end
+    → ((u : ℕ) → Adds u entry.mv.kind entry.mv.task st (result_by_kind p lim st entry.mv.kind entry.mv.task))
+    → Counts (journal ++ entry ∷ []) (result_by_kind p lim st entry.mv.kind entry.mv.task).0
 counts_more p lim st entry journal counts is more =
     let kind = entry.mv.kind in
     let t = entry.mv.task in

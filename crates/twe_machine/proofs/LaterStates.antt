@@ -18,7 +18,7 @@ use Rattle.seg_exec.specs.declared.stop.Stop.TheVariants as stops
 use Rattle.seg_exec.specs.Segment.{Stopped, segment}
 use Rattle.twe_machine.specs.declared.state.State.{State}
 use Rattle.twe_machine.specs.declared.state.TaskRow.{TaskRow}
-use Rattle.twe_machine.specs.Moves.{admitted, admitted_row, joined, joined_child, joined_row, joined_rows, going_row, done_row, faulted_row, stopped_frame, making_frame, new_row, parent_of, having_made, faulted, asking, stopped, ran, ready, taken}
+use Rattle.twe_machine.specs.Moves.{admitted, admitted_row, state_after_join, joined_child, joined_row, joined_rows, going_row, done_row, faulted_row, stopped_frame, making_frame, new_row, parent_of, state_after_make, state_after_fault, state_after_asking, stop_result, ran, ready_frame, result_by_kind}
 use Rattle.twe_machine.specs.Runs.{LegalFrom, replayed}
 use Rattle.twe_machine.proofs.Later.{IsSameTask, Later, later_itself, later_then, later_set, later_put}
 use Rattle.twe_machine.proofs.Linked.{Linked, child_in, joined_keeps}
@@ -31,7 +31,7 @@ joined_rows_later : (rows : List TaskRow) (c : ℕ) (found : Option TaskRow) →
 joined_rows_later rows c None e = later_itself rows
 joined_rows_later rows c (Some row) e = later_set rows c row (joined_row row) e (same row (joined_row row) refl refl refl refl)
 
-joined_later : (st : State) (child : Option ℕ) → Later st.tasks (joined st child).tasks
+joined_later : (st : State) (child : Option ℕ) → Later st.tasks (state_after_join st child).tasks
 joined_later st None = later_itself st.tasks
 joined_later st (Some c) = joined_rows_later st.tasks c (slice_get st.tasks c) refl
 
@@ -40,8 +40,8 @@ module _ (lim : Bounds) (st : State) (t : ℕ) (row : TaskRow) (frame : Frame) (
   set_later new kept = later_set st.tasks t row new found kept
 
   make_later : (b : Bool) (child : Frame) (args : List ℤ) (effects : Summary) (spawned : Bool) (future : ℕ) (place : Place)
-      → Later st.tasks (cond {A = State × End} b (having_made lim st t row frame future spawned child args effects, ends.Made (st.asked + 1))
-      (faulted (asking st) t row (stopped_frame frame) TaskLimit place, ends.Fault TaskLimit place)).0.tasks
+      → Later st.tasks (cond {A = State × End} b (state_after_make lim st t row frame future spawned child args effects, ends.Made (st.asked + 1))
+      (state_after_fault (state_after_asking st) t row (stopped_frame frame) TaskLimit place, ends.Fault TaskLimit place)).0.tasks
   make_later true child args effects spawned future place =
       let going = going_row row (making_frame future spawned (st.asked + 1) frame) in
       let new = new_row lim (st.asked + 1) (parent_of t spawned) child args effects in
@@ -49,7 +49,7 @@ module _ (lim : Bounds) (st : State) (t : ℕ) (row : TaskRow) (frame : Frame) (
   make_later false child args effects spawned future place =
       let new = faulted_row row (stopped_frame frame) in set_later new (same row new refl refl refl refl)
 
-  stopped_later : (stop : Stop) → Later st.tasks (stopped lim st t row frame stop).0.tasks
+  stopped_later : (stop : Stop) → Later st.tasks (stop_result lim st t row frame stop).0.tasks
   stopped_later (stops.Make child args effects spawned future place) = make_later (nat_lt (st.asked + 1) lim.tasks) child args effects spawned future place
   stopped_later (stops.Waits on) = set_later (going_row row frame) (same row (going_row row frame) refl refl refl refl)
   stopped_later (stops.Joins on) = set_later (going_row row frame) (same row (going_row row frame) refl refl refl refl)
@@ -64,15 +64,15 @@ module _ (p : Program) (lim : Bounds) where
   ran_later : (st : State) (t : ℕ) (found : Option TaskRow) → slice_get st.tasks t ≡ found → Linked lim st → Later st.tasks (ran p lim st t found).0.tasks
   ran_later st t None e linked = later_itself st.tasks
   ran_later st t (Some row) e linked =
-      let after : Stopped = segment p (ready st.tasks row.frame) st.cells in
+      let after : Stopped = segment p (ready_frame st.tasks row.frame) st.cells in
       let st0 : State = record st { cells = after.cells } in
       let child = joined_child row.out (link_of st0.links t).waits in
       let apart : (c : ℕ) → child ≡ Some c → t ≢ c = λ c is equal. let above : t < c = (linked.outs t row e).up c (child_in row.out (link_of st0.links t).waits c is) in omega arith in
-      later_then st.tasks (joined st0 child).tasks (stopped lim (joined st0 child) t row after.frame after.stop).0.tasks (joined_later st0 child)
-      (stopped_later lim (joined st0 child) t row after.frame (joined_keeps st0 t row child e apart) after.stop)
+      later_then st.tasks (state_after_join st0 child).tasks (stop_result lim (state_after_join st0 child) t row after.frame after.stop).0.tasks (joined_later st0 child)
+      (stopped_later lim (state_after_join st0 child) t row after.frame (joined_keeps st0 t row child e apart) after.stop)
 
   -- over one move
-  pub taken_later : (st : State) (kind : Kind) (t : ℕ) → Linked lim st → Later st.tasks (taken p lim st kind t).0.tasks
+  pub taken_later : (st : State) (kind : Kind) (t : ℕ) → Linked lim st → Later st.tasks (result_by_kind p lim st kind t).0.tasks
   taken_later st Admit t linked = admitted_later st t (slice_get st.tasks t) refl
   taken_later st Run t linked = ran_later st t (slice_get st.tasks t) refl linked
 
@@ -80,6 +80,6 @@ module _ (p : Program) (lim : Bounds) where
   pub replayed_later : (st : State) (entries : List Entry) → LegalFrom p lim st entries → Linked lim st → Later st.tasks (replayed p lim st entries).tasks
   replayed_later st [] legal linked = later_itself st.tasks
   replayed_later st (entry ∷ entries) legal linked =
-      let next : State = (taken p lim st entry.mv.kind entry.mv.task).0 in
+      let next : State = (result_by_kind p lim st entry.mv.kind entry.mv.task).0 in
       later_then st.tasks next.tasks (replayed p lim next entries).tasks (taken_later st entry.mv.kind entry.mv.task linked)
       (replayed_later next entries legal.2 (taken_linked p lim st entry.mv.kind entry.mv.task legal.0 linked))

@@ -23,7 +23,7 @@ use Rattle.twe_machine.specs.declared.state.State.{State}
 use Rattle.twe_machine.specs.declared.state.TaskRow.{TaskRow}
 use Rattle.twe_machine.specs.Changes.{ChangesAsSegment, ChangesNoResult, LeavesAlone, ResultsAfter, TakesJoin, asked_by, fault_after, made_by, next_segment}
 use Rattle.twe_machine.specs.Legal.{MayMove, MayTake}
-use Rattle.twe_machine.specs.Moves.{admitted, admitted_row, asking, done_row, faulted, faulted_row, going_row, having_made, joined, joined_child, joined_row, making_frame, moved, new_row, parent_of, ran, ready, stopped, stopped_frame, taken}
+use Rattle.twe_machine.specs.Moves.{admitted, admitted_row, state_after_asking, done_row, state_after_fault, faulted_row, going_row, state_after_make, state_after_join, joined_child, joined_row, making_frame, move_result, new_row, parent_of, ran, ready_frame, stop_result, stopped_frame, result_by_kind}
 use Rattle.twe_machine.specs.Rows.{IsRow, link_of_row}
 use Rattle.twe_machine.specs.Runs.{IsReached}
 use Rattle.twe_machine.proofs.JoinedWeight.{length_joined}
@@ -44,10 +44,10 @@ record EndsAs (st after : State) (frame : Frame) (stop : Stop) (t : ℕ) (end : 
   first_fault : after.first_fault ≡ fault_after st.first_fault t end
 
 -- the join that the segment took is no part of it
-ends_joined : (st after : State) (child : Option ℕ) (frame : Frame) (stop : Stop) (t : ℕ) (end : End) → EndsAs (joined st child) after frame stop t end → EndsAs st after frame stop t end
+ends_joined : (st after : State) (child : Option ℕ) (frame : Frame) (stop : Stop) (t : ℕ) (end : End) → EndsAs (state_after_join st child) after frame stop t end → EndsAs st after frame stop t end
 ends_joined st after None frame stop t end rest = rest
 ends_joined st after (Some c) frame stop t end rest =
-    let count : length (joined st (Some c)).tasks ≡ length st.tasks = length_joined st (Some c) in
+    let count : length (state_after_join st (Some c)).tasks ≡ length st.tasks = length_joined st (Some c) in
     record {
       tasks = rest.tasks ∙ ap (λ (n : ℕ). n + made_by end) count;
       made = λ child is. rest.made child is ∙ count;
@@ -65,8 +65,8 @@ module _ (lim : Bounds) (st : State) (t : ℕ) (row : TaskRow) (frame : Frame) (
   none_asked = omega arith
 
   ends_made : (b : Bool) → nat_lt (st.asked + 1) lim.tasks ≡ b → (child : Frame) (args : List ℤ) (effects : Summary) (spawned : Bool) (future : ℕ) (place : Place)
-      → let after = cond {A = State × End} b (having_made lim st t row frame future spawned child args effects, ends.Made (st.asked + 1))
-      (faulted (asking st) t row (stopped_frame frame) TaskLimit place, ends.Fault TaskLimit place) in
+      → let after = cond {A = State × End} b (state_after_make lim st t row frame future spawned child args effects, ends.Made (st.asked + 1))
+      (state_after_fault (state_after_asking st) t row (stopped_frame frame) TaskLimit place, ends.Fault TaskLimit place) in
       EndsAs st after.0 frame (stops.Make child args effects spawned future place) t after.1
   ends_made true e child args effects spawned future place =
       let going = going_row row (making_frame future spawned (st.asked + 1) frame) in
@@ -88,7 +88,7 @@ module _ (lim : Bounds) (st : State) (t : ℕ) (row : TaskRow) (frame : Frame) (
     first_fault = refl;
   }
 
-  ends_stopped : (stop : Stop) → EndsAs st (stopped lim st t row frame stop).0 frame stop t (stopped lim st t row frame stop).1
+  ends_stopped : (stop : Stop) → EndsAs st (stop_result lim st t row frame stop).0 frame stop t (stop_result lim st t row frame stop).1
   ends_stopped (stops.Make child args effects spawned future place) = ends_made (nat_lt (st.asked + 1) lim.tasks) refl child args effects spawned future place
   ends_stopped (stops.Waits on) = record {
     tasks = as_many (going_row row frame);
@@ -142,12 +142,12 @@ module _ (p : Program) (lim : Bounds) (st : State) (t : ℕ) where
   run_ends : (row : TaskRow) → IsRow st t row → (st.asked + 1 < lim.tasks → st.asked + 1 ≡ length st.tasks)
       → MoveEndsAs p st (ran p lim st t (Some row)).0 Run t (ran p lim st t (Some row)).1
   run_ends row found number =
-      let left = segment p (ready st.tasks row.frame) st.cells in
+      let left = segment p (ready_frame st.tasks row.frame) st.cells in
       let later : State = record st { cells = left.cells } in
       let child = joined_child row.out (link_of st.links t).waits in
       let end = ran p lim st t (Some row) in
       let rest = ends_joined later end.0 child left.frame left.stop t end.1
-      (ends_stopped lim (joined later child) t row left.frame (joined_number later child number) left.stop) in
+      (ends_stopped lim (state_after_join later child) t row left.frame (joined_number later child number) left.stop) in
       record {
         tasks = rest.tasks;
         made = rest.made;
@@ -157,12 +157,12 @@ module _ (p : Program) (lim : Bounds) (st : State) (t : ℕ) where
         first_fault = rest.first_fault;
       } where
         joined_number : (s : State) (o : Option ℕ) → (s.asked + 1 < lim.tasks → s.asked + 1 ≡ length s.tasks)
-            → (joined s o).asked + 1 < lim.tasks → (joined s o).asked + 1 ≡ length (joined s o).tasks
+            → (state_after_join s o).asked + 1 < lim.tasks → (state_after_join s o).asked + 1 ≡ length (state_after_join s o).tasks
         joined_number s None counts few = counts few
         joined_number s (Some c) counts few = counts few ∙ sym (length_joined s (Some c))
 
   move_ends : (kind : Kind) → MayTake st kind t → (st.asked + 1 < lim.tasks → st.asked + 1 ≡ length st.tasks)
-      → MoveEndsAs p st (taken p lim st kind t).0 kind t (taken p lim st kind t).1
+      → MoveEndsAs p st (result_by_kind p lim st kind t).0 kind t (result_by_kind p lim st kind t).1
   move_ends Admit may number =
       subst (λ (found : Option TaskRow). MoveEndsAs p st (admitted st t found) Admit t ends.Admitted) (sym may.0.1) (admission_ends may.0.0 may.0.1)
   move_ends Run may number =
@@ -170,7 +170,7 @@ module _ (p : Program) (lim : Bounds) (st : State) (t : ℕ) where
 
 module _ (p : Program) (lim : Bounds) (well : IsWellFormed p) (st : State) (kind : Kind) (t : ℕ) (may : MayTake st kind t) (stands : Stands p lim st) where
   abbrev after : State
-  after = (taken p lim st kind t).0
+  after = (result_by_kind p lim st kind t).0
 
   abbrev mv : Move
   mv = record { kind = kind; task = t }
@@ -205,7 +205,7 @@ module _ (p : Program) (lim : Bounds) (well : IsWellFormed p) (st : State) (kind
       row_link p lim after after_stands c (joined_row child.row) (child_row c child.row takes child.there)
       ∙ ap (λ (l : Link). record l { joined = true }) (sym (row_link p lim st stands c child.row child.there))
 
-  pub left_alone : LeavesAlone p st after mv (taken p lim st kind t).1
+  pub left_alone : LeavesAlone p st after mv (result_by_kind p lim st kind t).1
   left_alone =
       let rest = move_ends p lim st t kind may stands.number in
       record {
@@ -222,5 +222,5 @@ module _ (p : Program) (lim : Bounds) (well : IsWellFormed p) (st : State) (kind
 
 -- in each state that a run comes to
 pub moves_leave_alone : (p : Program) (lim : Bounds) (st : State) (m : Move) → IsWellFormed p → IsReached p lim st → MayMove st m
-    → LeavesAlone p st (moved p lim st m).0 m (moved p lim st m).1
+    → LeavesAlone p st (move_result p lim st m).0 m (move_result p lim st m).1
 moves_leave_alone p lim st m well reached may = left_alone p lim well st m.kind m.task may (reached_stands p lim st well reached)

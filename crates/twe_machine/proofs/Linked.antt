@@ -7,7 +7,7 @@ use Rattle.wait_graph.specs.declared.tasks.Link.{Link}
 use Rattle.wait_graph.specs.Link.{link_of, new_link, with_wait, with_joined, with_done}
 use Rattle.twe_machine.specs.declared.state.State.{State}
 use Rattle.twe_machine.specs.declared.state.TaskRow.{TaskRow}
-use Rattle.twe_machine.specs.Moves.{joined, joined_child, joined_row, joined_rows}
+use Rattle.twe_machine.specs.Moves.{state_after_join, joined_child, joined_row, joined_rows}
 use Rattle.twe_machine.specs.Rows.{link_of_row, LinksAgree}
 use Rattle.twe_machine.proofs.Members.{IsIn, any_in}
 use Rattle.twe_machine.proofs.Places.{set_other, set_cases, map_set, map_index}
@@ -72,7 +72,7 @@ length_joined : (rows : List TaskRow) (c : ℕ) (found : Option TaskRow) → len
 length_joined rows c None = refl
 length_joined rows c (Some row) = length-set rows c (joined_row row)
 
-pub joined_linked : (lim : Bounds) (st : State) (child : Option ℕ) → Linked lim st → Linked lim (joined st child)
+pub joined_linked : (lim : Bounds) (st : State) (child : Option ℕ) → Linked lim st → Linked lim (state_after_join st child)
 joined_linked lim st None linked = linked
 joined_linked lim st (Some c) linked = record {
   links = ap (λ (l : List Link). with_joined l c) linked.links ∙ joined_links st.tasks c (slice_get st.tasks c) refl;
@@ -94,6 +94,6 @@ child_in out None c e = absurd (cc)
 child_in out (Some on) c e = child_in_by out on (list_any (λ (k : ℕ). Rattle.std.specs.Prelude.nat_eq k on) out) refl c e
 
 -- and not the task itself, whose row stays
-pub joined_keeps : (st : State) (t : ℕ) (row : TaskRow) (child : Option ℕ) → slice_get st.tasks t ≡ Some row → ((c : ℕ) → child ≡ Some c → t ≢ c) → slice_get (joined st child).tasks t ≡ Some row
+pub joined_keeps : (st : State) (t : ℕ) (row : TaskRow) (child : Option ℕ) → slice_get st.tasks t ≡ Some row → ((c : ℕ) → child ≡ Some c → t ≢ c) → slice_get (state_after_join st child).tasks t ≡ Some row
 joined_keeps st t row None found ne = found
 joined_keeps st t row (Some c) found ne = joined_other st.tasks c t (slice_get st.tasks c) (ne c refl) ∙ found

@@ -19,7 +19,7 @@ use Rattle.seg_exec.specs.declared.stop.Stop.TheVariants as stops
 use Rattle.twe_machine.specs.declared.state.State.{State}
 use Rattle.twe_machine.specs.declared.state.TaskRow.{TaskRow}
 use Rattle.twe_machine.specs.declared.state.TaskStatus.TheVariants.{Enabled}
-use Rattle.twe_machine.specs.Moves.{home, going_row, done_row, faulted_row, faulted, finished, asking, making_frame, out_with, new_row, parent_of, having_made, stopped, stopped_frame}
+use Rattle.twe_machine.specs.Moves.{state_after_storing, going_row, done_row, faulted_row, state_after_fault, state_after_finish, state_after_asking, making_frame, out_with, new_row, parent_of, state_after_make, stop_result, stopped_frame}
 use Rattle.twe_machine.specs.Rows.{awaited, is_done_row, is_done_status, link_of_row}
 use Rattle.twe_machine.proofs.Linked.{OutUp, Linked, waiting_links, done_links, set_twice}
 use Rattle.twe_machine.proofs.Members.{IsIn, put_in_cases}
@@ -49,14 +49,14 @@ module _ (lim : Bounds) (t : ℕ) (row : TaskRow) (frame : Frame) (enabled : row
   faulted_waits : WaitsNow row (faulted_row row frame) frame
   faulted_waits = λ i. record { waits = awaited frame.next; parent = row.parent; joined = row.joined; done = sym not_done i }
 
-  home_linked : (st : State) (new : TaskRow) → slice_get st.tasks t ≡ Some row → WaitsNow row new frame → OutUp t new → Linked lim st → Linked lim (home st t frame new)
+  home_linked : (st : State) (new : TaskRow) → slice_get st.tasks t ≡ Some row → WaitsNow row new frame → OutUp t new → Linked lim st → Linked lim (state_after_storing st t frame new)
   home_linked st new found waits up linked = record {
     links = ap (λ (l : List Link). with_wait l t (awaited frame.next)) linked.links ∙ waiting_links st.tasks t row new (awaited frame.next) found waits;
     number = λ few. linked.number few ∙ sym (length-set st.tasks t new);
     outs = set_outs st.tasks t new linked.outs up;
   }
 
-  finished_linked : (st : State) (value : ℤ) → slice_get st.tasks t ≡ Some row → OutUp t (done_row row frame value) → Linked lim st → Linked lim (finished st t row frame value)
+  finished_linked : (st : State) (value : ℤ) → slice_get st.tasks t ≡ Some row → OutUp t (done_row row frame value) → Linked lim st → Linked lim (state_after_finish st t row frame value)
   finished_linked st value found up linked =
       let going = going_row row frame in
       let new = done_row row frame value in
@@ -96,7 +96,7 @@ StopFresh _ = Unit {0}
 
 module _ (lim : Bounds) (t : ℕ) (row : TaskRow) (frame : Frame) (enabled : row.status ≡ Enabled) (ups : (c : ℕ) → IsIn c frame.out → t < c) where
   made_linked : (st : State) (future : ℕ) (spawned : Bool) (child : Frame) (args : List ℤ) (effects : Summary) → slice_get st.tasks t ≡ Some row
-      → child.next ≡ Go → child.out ≡ [] → st.asked + 1 < lim.tasks → Linked lim st → Linked lim (having_made lim st t row frame future spawned child args effects)
+      → child.next ≡ Go → child.out ≡ [] → st.asked + 1 < lim.tasks → Linked lim st → Linked lim (state_after_make lim st t row frame future spawned child args effects)
   made_linked st future spawned child args effects found go none few linked =
       let number = st.asked + 1 in
       let parent = parent_of t spawned in
@@ -118,23 +118,23 @@ module _ (lim : Bounds) (t : ℕ) (row : TaskRow) (frame : Frame) (enabled : row
 
   stopped_linked_make : (b : Bool) (st : State) (child : Frame) (args : List ℤ) (effects : Summary) (spawned : Bool) (future : ℕ) (place : Place)
       → nat_lt (st.asked + 1) lim.tasks ≡ b → slice_get st.tasks t ≡ Some row → child.next ≡ Go → child.out ≡ [] → Linked lim st
-      → Linked lim (cond {A = State × End} b (having_made lim st t row frame future spawned child args effects, ends.Made (st.asked + 1))
-      (faulted (asking st) t row (stopped_frame frame) TaskLimit place, ends.Fault TaskLimit place)).0
+      → Linked lim (cond {A = State × End} b (state_after_make lim st t row frame future spawned child args effects, ends.Made (st.asked + 1))
+      (state_after_fault (state_after_asking st) t row (stopped_frame frame) TaskLimit place, ends.Fault TaskLimit place)).0
   stopped_linked_make true st child args effects spawned future place is found go none linked =
       made_linked st future spawned child args effects found go none (ltb-true (st.asked + 1) lim.tasks is) linked
   stopped_linked_make false st child args effects spawned future place is found go none linked =
       let past : lim.tasks ≤ st.asked + 1 = ltb-false (st.asked + 1) lim.tasks is in
-      let asked : Linked lim (asking st) = record { links = linked.links; number = λ more. absurd (omega (arith, past, more)); outs = linked.outs } in
-      let home = home_linked lim t row (stopped_frame frame) enabled (asking st) (faulted_row row (stopped_frame frame)) found
+      let asked : Linked lim (state_after_asking st) = record { links = linked.links; number = λ more. absurd (omega (arith, past, more)); outs = linked.outs } in
+      let stored = home_linked lim t row (stopped_frame frame) enabled (state_after_asking st) (faulted_row row (stopped_frame frame)) found
       (faulted_waits lim t row (stopped_frame frame) enabled) (record { same = refl; up = ups }) asked in
-      record { links = home.links; number = home.number; outs = home.outs }
+      record { links = stored.links; number = stored.number; outs = stored.outs }
 
-  pub stopped_linked : (st : State) (stop : Stop) → slice_get st.tasks t ≡ Some row → StopFresh stop → Linked lim st → Linked lim (stopped lim st t row frame stop).0
+  pub stopped_linked : (st : State) (stop : Stop) → slice_get st.tasks t ≡ Some row → StopFresh stop → Linked lim st → Linked lim (stop_result lim st t row frame stop).0
   stopped_linked st (stops.Make child args effects spawned future place) found fresh linked =
       stopped_linked_make (nat_lt (st.asked + 1) lim.tasks) st child args effects spawned future place refl found fresh.0 fresh.1 linked
   stopped_linked st (stops.Waits on) found fresh linked = home_linked lim t row frame enabled st (going_row row frame) found refl (record { same = refl; up = ups }) linked
   stopped_linked st (stops.Joins on) found fresh linked = home_linked lim t row frame enabled st (going_row row frame) found refl (record { same = refl; up = ups }) linked
   stopped_linked st (stops.Done value) found fresh linked = finished_linked lim t row frame enabled st value found (record { same = refl; up = ups }) linked
   stopped_linked st (stops.Fault kind place) found fresh linked =
-      let home = home_linked lim t row frame enabled st (faulted_row row frame) found (faulted_waits lim t row frame enabled) (record { same = refl; up = ups }) linked in
-      record { links = home.links; number = home.number; outs = home.outs }
+      let stored = home_linked lim t row frame enabled st (faulted_row row frame) found (faulted_waits lim t row frame enabled) (record { same = refl; up = ups }) linked in
+      record { links = stored.links; number = stored.number; outs = stored.outs }

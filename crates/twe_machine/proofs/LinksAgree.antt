@@ -22,7 +22,7 @@ use Rattle.twe_machine.specs.declared.state.TaskRow.{TaskRow}
 use Rattle.twe_machine.specs.declared.state.TaskStatus.{TaskStatus}
 use Rattle.twe_machine.specs.declared.state.TaskStatus.TheVariants.{Made, Enabled}
 use Rattle.twe_machine.specs.Legal.{MayTake}
-use Rattle.twe_machine.specs.Moves.{joined, joined_child, admitted, admitted_row, ran, taken, ready, awaited_value, start_of}
+use Rattle.twe_machine.specs.Moves.{state_after_join, joined_child, admitted, admitted_row, ran, result_by_kind, ready_frame, awaited_value, start_of}
 use Rattle.twe_machine.specs.Rows.{HasStatus, awaited, is_done_row, is_done_status, link_of_row}
 use Rattle.twe_machine.specs.Runs.{LegalFrom, replayed, IsReached}
 use Rattle.twe_machine.proofs.Linked.{OutUp, Linked, joined_linked, child_in, joined_keeps}
@@ -63,7 +63,7 @@ module _ (p : Program) (lim : Bounds) where
   ran_linked : (st : State) (t : ℕ) (found : Option TaskRow) → HasStatus st t Enabled → slice_get st.tasks t ≡ found → Linked lim st → Linked lim (ran p lim st t found).0
   ran_linked st t None may e linked = linked
   ran_linked st t (Some row) may e linked =
-      let before = ready st.tasks row.frame in
+      let before = ready_frame st.tasks row.frame in
       let after = segment p before st.cells in
       let st0 : State = record st { cells = after.cells } in
       let child = joined_child row.out (link_of st0.links t).waits in
@@ -72,7 +72,7 @@ module _ (p : Program) (lim : Bounds) where
       λ c h. up.up c (subst (IsIn c) (sym up.same)
       (given_out row.frame.next row.frame (awaited_value st.tasks (awaited row.frame.next)) c (subst (IsIn c) (segment_keeps p before st.cells).out h))) in
       let apart : (c : ℕ) → child ≡ Some c → t ≢ c = λ c is same. let above : t < c = up.up c (child_in row.out (link_of st0.links t).waits c is) in omega arith in
-      stopped_linked lim t row after.frame (status_of st t row Enabled may e) ups (joined st0 child) after.stop (joined_keeps st0 t row child e apart)
+      stopped_linked lim t row after.frame (status_of st t row Enabled may e) ups (state_after_join st0 child) after.stop (joined_keeps st0 t row child e apart)
       (segment_fresh before st.cells after.stop refl)
       (joined_linked lim st0 child (record { links = linked.links; number = linked.number; outs = linked.outs }))
 
@@ -88,7 +88,7 @@ module _ (p : Program) (lim : Bounds) where
         outs = set_outs st.tasks t new linked.outs (record { same = up.same; up = up.up });
       }
 
-  pub taken_linked : (st : State) (kind : Kind) (t : ℕ) → MayTake st kind t → Linked lim st → Linked lim (taken p lim st kind t).0
+  pub taken_linked : (st : State) (kind : Kind) (t : ℕ) → MayTake st kind t → Linked lim st → Linked lim (result_by_kind p lim st kind t).0
   taken_linked st Admit t may linked = admitted_linked st t (slice_get st.tasks t) may.0 refl linked
   taken_linked st Run t may linked = ran_linked st t (slice_get st.tasks t) may.0 refl linked
 
@@ -103,7 +103,7 @@ module _ (p : Program) (lim : Bounds) where
   run_linked : (st : State) (entries : List Entry) → LegalFrom p lim st entries → Linked lim st → Linked lim (replayed p lim st entries)
   run_linked st [] legal linked = linked
   run_linked st (entry ∷ entries) legal linked =
-      run_linked (taken p lim st entry.mv.kind entry.mv.task).0 entries legal.2 (taken_linked st entry.mv.kind entry.mv.task legal.0 linked)
+      run_linked (result_by_kind p lim st entry.mv.kind entry.mv.task).0 entries legal.2 (taken_linked st entry.mv.kind entry.mv.task legal.0 linked)
 
   pub reached_linked : (st : State) → IsReached p lim st → Linked lim st
   reached_linked st r = subst (Linked lim) (sym r.same) (run_linked (start_of p lim) r.journal r.legal start_linked)

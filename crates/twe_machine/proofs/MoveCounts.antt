@@ -15,7 +15,7 @@ use Rattle.seg_exec.specs.declared.stop.Stop.TheVariants as stops
 use Rattle.twe_machine.specs.declared.state.State.{State}
 use Rattle.twe_machine.specs.declared.state.TaskRow.{TaskRow}
 use Rattle.twe_machine.specs.declared.state.TaskStatus.TheVariants.{Enabled}
-use Rattle.twe_machine.specs.Moves.{done_row, faulted_row, going_row, making_frame, stopped_frame, new_row, parent_of, joined, stopped, asking, having_made, faulted}
+use Rattle.twe_machine.specs.Moves.{done_row, faulted_row, going_row, making_frame, stopped_frame, new_row, parent_of, state_after_join, stop_result, state_after_asking, state_after_make, state_after_fault}
 use Rattle.twe_machine.specs.Runs.{makes_task, is_done}
 use Rattle.twe_machine.proofs.JournalCounts.{times_made, times_admitted, times_finished, admitted_changes, finished_changes}
 use Rattle.twe_machine.proofs.StoppedNumbers.{if_done, stopped_number}
@@ -35,19 +35,19 @@ pub record CountsOn (u : ℕ) (t : ℕ) (before : State) (after : State × End) 
 
 module _ (lim : Bounds) (st : State) (t : ℕ) (row : TaskRow) (found : slice_get st.tasks t ≡ Some row) (enabled : row.status ≡ Enabled) (child : Option ℕ) where
   -- as many tasks, or one more
-  length_placed : (new : TaskRow) → length (slice_set (joined st child).tasks t new) ≡ length st.tasks
-  length_placed new = length-set (joined st child).tasks t new ∙ length_joined st child
+  length_placed : (new : TaskRow) → length (slice_set (state_after_join st child).tasks t new) ≡ length st.tasks
+  length_placed new = length-set (state_after_join st child).tasks t new ∙ length_joined st child
 
-  same_made : (u : ℕ) (new : TaskRow) → times_made u (length (slice_set (joined st child).tasks t new)) ≡ times_made u (length st.tasks) + 0
+  same_made : (u : ℕ) (new : TaskRow) → times_made u (length (slice_set (state_after_join st child).tasks t new)) ≡ times_made u (length st.tasks) + 0
   same_made u new = ap (times_made u) (length_placed new) ∙ omega arith
 
-  one_made : (u : ℕ) (new other : TaskRow) → 0 < length st.tasks → CountsMade lim st → (joined st child).asked + 1 < lim.tasks
-      → times_made u (length (slice_set (joined st child).tasks t new ++ other ∷ [])) ≡ times_made u (length st.tasks) + cond (((joined st child).asked + 1) == u) 1 0
+  one_made : (u : ℕ) (new other : TaskRow) → 0 < length st.tasks → CountsMade lim st → (state_after_join st child).asked + 1 < lim.tasks
+      → times_made u (length (slice_set (state_after_join st child).tasks t new ++ other ∷ [])) ≡ times_made u (length st.tasks) + cond (((state_after_join st child).asked + 1) == u) 1 0
   one_made u new other some counts below =
       let asked = asked_joined st child in
-      let number : (joined st child).asked + 1 ≡ length st.tasks = let is = counts (omega (arith, below, asked)) in omega (arith, is, asked) in
-      let more : length (slice_set (joined st child).tasks t new ++ other ∷ []) ≡ length st.tasks + 1 =
-      length-append (slice_set (joined st child).tasks t new) (other ∷ []) ∙ ap (λ (n : ℕ). n + 1) (length_placed new) in
+      let number : (state_after_join st child).asked + 1 ≡ length st.tasks = let is = counts (omega (arith, below, asked)) in omega (arith, is, asked) in
+      let more : length (slice_set (state_after_join st child).tasks t new ++ other ∷ []) ≡ length st.tasks + 1 =
+      length-append (slice_set (state_after_join st child).tasks t new) (other ∷ []) ∙ ap (λ (n : ℕ). n + 1) (length_placed new) in
       ap (times_made u) more ∙ (made_once u (length st.tasks) some ∙ ap (λ (n : ℕ). times_made u (length st.tasks) + cond (n == u) 1 0) (sym number))
 
   -- the task is not done
@@ -57,34 +57,34 @@ module _ (lim : Bounds) (st : State) (t : ℕ) (row : TaskRow) (found : slice_ge
   not_done u later end going same = same ∙ ap (λ (n : ℕ). number_at times_finished (slice_get st.tasks u) + n) (hits_none t u ∙ ap (λ (b : Bool). cond (b && (t == u)) 1 0) (sym going))
 
   made_counts : (frame : Frame) (into : ℕ) (spawned : Bool) (task : Frame) (args : List ℤ) (effects : Summary) (place : Place) (u : ℕ) (fits : Bool)
-      → 0 < length st.tasks → CountsMade lim st → nat_lt ((joined st child).asked + 1) lim.tasks ≡ fits
-      → let after = if◌then◌else◌ {A = State × End} fits (having_made lim (joined st child) t row frame into spawned task args effects, ends.Made ((joined st child).asked + 1))
-      (faulted (asking (joined st child)) t row (stopped_frame frame) TaskLimit place, ends.Fault TaskLimit place) in
+      → 0 < length st.tasks → CountsMade lim st → nat_lt ((state_after_join st child).asked + 1) lim.tasks ≡ fits
+      → let after = if◌then◌else◌ {A = State × End} fits (state_after_make lim (state_after_join st child) t row frame into spawned task args effects, ends.Made ((state_after_join st child).asked + 1))
+      (state_after_fault (state_after_asking (state_after_join st child)) t row (stopped_frame frame) TaskLimit place, ends.Fault TaskLimit place) in
       number_at times_finished (slice_get after.0.tasks u) ≡ number_at times_finished (slice_get st.tasks u) + hits t u 0 → CountsOn u t st after
   made_counts frame into spawned task args effects place u true some counts e same =
-      let number = (joined st child).asked + 1 in
+      let number = (state_after_join st child).asked + 1 in
       let maker = making_frame into spawned number frame in
       record {
         made = one_made u (going_row row maker) (new_row lim number (parent_of t spawned) task args effects) some counts (ltb-true number lim.tasks e);
-        finished = not_done u (having_made lim (joined st child) t row frame into spawned task args effects) (ends.Made number) refl same;
+        finished = not_done u (state_after_make lim (state_after_join st child) t row frame into spawned task args effects) (ends.Made number) refl same;
       }
   made_counts frame into spawned task args effects place u false some counts e same = record {
     made = same_made u (faulted_row row (stopped_frame frame));
-    finished = not_done u (faulted (asking (joined st child)) t row (stopped_frame frame) TaskLimit place) (ends.Fault TaskLimit place) refl same;
+    finished = not_done u (state_after_fault (state_after_asking (state_after_join st child)) t row (stopped_frame frame) TaskLimit place) (ends.Fault TaskLimit place) refl same;
   }
 
-  pub stopped_counts : (frame : Frame) (stop : Stop) (u : ℕ) → 0 < length st.tasks → CountsMade lim st → CountsOn u t st (stopped lim (joined st child) t row frame stop)
+  pub stopped_counts : (frame : Frame) (stop : Stop) (u : ℕ) → 0 < length st.tasks → CountsMade lim st → CountsOn u t st (stop_result lim (state_after_join st child) t row frame stop)
   stopped_counts frame (stops.Make task args effects spawned into place) u some counts =
       made_counts frame into spawned task args effects place u _ some counts refl
       (stopped_number lim st t row found child times_finished 1 (finished_changes row enabled) frame (stops.Make task args effects spawned into place) u)
   stopped_counts frame (stops.Waits on) u some counts = record {
     made = same_made u (going_row row frame);
-    finished = not_done u (stopped lim (joined st child) t row frame (stops.Waits on)).0 (ends.Waits on) refl
+    finished = not_done u (stop_result lim (state_after_join st child) t row frame (stops.Waits on)).0 (ends.Waits on) refl
         (stopped_number lim st t row found child times_finished 1 (finished_changes row enabled) frame (stops.Waits on) u);
   }
   stopped_counts frame (stops.Joins on) u some counts = record {
     made = same_made u (going_row row frame);
-    finished = not_done u (stopped lim (joined st child) t row frame (stops.Joins on)).0 (ends.Joins on) refl
+    finished = not_done u (stop_result lim (state_after_join st child) t row frame (stops.Joins on)).0 (ends.Joins on) refl
         (stopped_number lim st t row found child times_finished 1 (finished_changes row enabled) frame (stops.Joins on) u);
   }
   stopped_counts frame (stops.Done value) u some counts = record {
@@ -94,7 +94,7 @@ module _ (lim : Bounds) (st : State) (t : ℕ) (row : TaskRow) (found : slice_ge
   }
   stopped_counts frame (stops.Fault kind place) u some counts = record {
     made = same_made u (faulted_row row frame);
-    finished = not_done u (stopped lim (joined st child) t row frame (stops.Fault kind place)).0 (ends.Fault kind place) refl
+    finished = not_done u (stop_result lim (state_after_join st child) t row frame (stops.Fault kind place)).0 (ends.Fault kind place) refl
         (stopped_number lim st t row found child times_finished 1 (finished_changes row enabled) frame (stops.Fault kind place) u);
   }
 
@@ -105,7 +105,7 @@ module _ (lim : Bounds) (st : State) (t : ℕ) (row : TaskRow) (found : slice_ge
   none_done (stops.Done value) = refl
   none_done (stops.Fault kind place) = refl
 
-  pub stopped_admitted : (frame : Frame) (stop : Stop) (u : ℕ) → number_at times_admitted (slice_get (stopped lim (joined st child) t row frame stop).0.tasks u) ≡ number_at times_admitted (slice_get st.tasks u)
+  pub stopped_admitted : (frame : Frame) (stop : Stop) (u : ℕ) → number_at times_admitted (slice_get (stop_result lim (state_after_join st child) t row frame stop).0.tasks u) ≡ number_at times_admitted (slice_get st.tasks u)
   stopped_admitted frame stop u =
       let same = stopped_number lim st t row found child times_admitted 0 (admitted_changes row enabled) frame stop u in
       let no : hits t u (if_done 0 stop) ≡ 0 = ap (λ (n : ℕ). hits t u n) (none_done stop) ∙ hits_none t u in

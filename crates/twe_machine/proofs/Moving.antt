@@ -19,7 +19,7 @@ use Rattle.twe_machine.specs.declared.state.FirstFault.{FirstFault}
 use Rattle.twe_machine.specs.declared.state.State.{State}
 use Rattle.twe_machine.specs.declared.state.TaskRow.{TaskRow}
 use Rattle.twe_machine.specs.declared.state.TaskStatus.TheVariants.{Enabled, Faulted}
-use Rattle.twe_machine.specs.Moves.{new_row, parent_of, status_at_start, out_with, making_frame, going_row, done_row, having_made, home, finished, first_fault_of}
+use Rattle.twe_machine.specs.Moves.{new_row, parent_of, status_at_start, out_with, making_frame, going_row, done_row, state_after_make, state_after_storing, state_after_finish, first_fault_of}
 use Rattle.twe_machine.proofs.AfterStop.{going_stands}
 use Rattle.twe_machine.proofs.Almost.{Almost, AllSettled, set_settled, put_almost}
 use Rattle.twe_machine.proofs.Beginning.{new_stands, maker_stands}
@@ -108,14 +108,14 @@ module _ (p : Program) (lim : Bounds) (well : IsWellFormed p) (t : ℕ) (row : T
         child_row (starts_well (parent_of t spawned)) (omega (arith, length-set rows t going, is, few))
 
   module _ (st : State) (half : Halfway p lim st t row frame) where
-    pub going_kept : RowStands p lim st.tasks t (going_row row frame) → Kept p lim (home st t frame (going_row row frame))
+    pub going_kept : RowStands p lim st.tasks t (going_row row frame) → Kept p lim (state_after_storing st t frame (going_row row frame))
     going_kept stands = record {
       settled = set_settled p lim st.tasks t row (going_row row frame) frame.out half.almost (same_task row (going_row row frame) refl refl refl refl) refl refl stands;
       counts = set_counts lim st.tasks st.asked st.first_fault half.counts t row (going_row row frame) half.almost.own no_fault_yet no_fault_yet;
       cells = half.cells;
     }
 
-    pub done_kept : (value : ℤ) → RowStands p lim st.tasks t (done_row row frame value) → Kept p lim (finished st t row frame value)
+    pub done_kept : (value : ℤ) → RowStands p lim st.tasks t (done_row row frame value) → Kept p lim (state_after_finish st t row frame value)
     done_kept value stands = record {
       settled = set_settled p lim st.tasks t row (done_row row frame value) frame.out half.almost (same_task row (done_row row frame value) refl refl refl refl) refl refl stands;
       counts = set_counts lim st.tasks st.asked st.first_fault half.counts t row (done_row row frame value) half.almost.own no_fault_yet (λ is. cc (is));
@@ -136,7 +136,7 @@ module _ (p : Program) (lim : Bounds) (well : IsWellFormed p) (t : ℕ) (row : T
     -- a task is made
     pub make_kept : (child : Frame) (args : List ℤ) (effects : Summary) (spawned : Bool) (future : ℕ) → MakesDeclared p frame child args effects spawned future
         → frame.next ≡ Go → frame.decl ≡ row.frame.decl → ((task : ℕ) (out : List ℕ) → IsReady p (record frame { futures = slice_set frame.futures future (Some task); out = out }))
-        → st.asked + 1 < lim.tasks → Kept p lim (having_made lim st t row frame future spawned child args effects)
+        → st.asked + 1 < lim.tasks → Kept p lim (state_after_make lim st t row frame future spawned child args effects)
     make_kept child args effects spawned future declared go decl ready few =
         let rows = st.tasks in
         let is : st.asked + 1 ≡ length rows = half.number few in

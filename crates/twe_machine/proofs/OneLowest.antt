@@ -12,7 +12,7 @@ use Rattle.twe_machine.specs.declared.state.TaskRow.{TaskRow}
 use Rattle.twe_machine.specs.declared.state.TaskStatus.TheVariants.{Made, Enabled}
 use Rattle.twe_machine.specs.Legal.{MayTake}
 use Rattle.twe_machine.specs.LowestFirst.{IsLowest, LowestFirstFrom}
-use Rattle.twe_machine.specs.Moves.{moved}
+use Rattle.twe_machine.specs.Moves.{move_result}
 use Rattle.twe_machine.specs.Rows.{HasStatus}
 
 -- no task is both made and enabled
@@ -41,7 +41,7 @@ one_from p lim st [] (entry ∷ entries) a b = absurd (a Unfinished b.0 refl)
 one_from p lim st (entry ∷ entries) [] a b = absurd (b Unfinished a.0 refl)
 one_from p lim st (x ∷ xs) (y ∷ ys) a b =
     let move : x.mv ≡ y.mv = one_move st x.mv y.mv a.1 b.1 in
-    let end : x.end ≡ y.end = sym a.2 ∙ (ap (λ (mv : Move). (moved p lim st mv).1) move ∙ b.2) in
+    let end : x.end ≡ y.end = sym a.2 ∙ (ap (λ (mv : Move). (move_result p lim st mv).1) move ∙ b.2) in
     let entry : x ≡ y = λ i. record { mv = move i; end = end i } in
-    let rest : xs ≡ ys = one_from p lim (moved p lim st y.mv).0 xs ys (subst (λ (mv : Move). LowestFirstFrom p lim (moved p lim st mv).0 xs) move a.3) b.3 in
+    let rest : xs ≡ ys = one_from p lim (move_result p lim st y.mv).0 xs ys (subst (λ (mv : Move). LowestFirstFrom p lim (move_result p lim st mv).0 xs) move a.3) b.3 in
     λ i. entry i ∷ rest i

@@ -14,7 +14,7 @@ use Rattle.seg_exec.specs.declared.stop.Stop.TheVariants as stops
 use Rattle.seg_exec.specs.Segment.{IsSegment}
 use Rattle.twe_machine.specs.declared.state.State.{State}
 use Rattle.twe_machine.specs.declared.state.TaskRow.{TaskRow}
-use Rattle.twe_machine.specs.Moves.{MaySettle, done_row, faulted_row, first_fault_of, going_row, joined, joined_child, joined_row, joined_rows, making_frame, new_row, parent_of, ran, ready, settled, stopped, stopped_frame}
+use Rattle.twe_machine.specs.Moves.{MaySettle, done_row, faulted_row, first_fault_of, going_row, state_after_join, joined_child, joined_row, joined_rows, making_frame, new_row, parent_of, ran, ready_frame, settling_result, stop_result, stopped_frame}
 use Rattle.twe_machine.specs.Rows.{awaited}
 use Rattle.twe_machine.specs.inner.Settling.{SettlesAfter, without_frame}
 use Rattle.twe_machine.proofs.Ended.{set_again}
@@ -42,7 +42,7 @@ put_back (r ∷ rows) (suc t) (suc child) left row =
 -- a stop asks nothing of the row that stood in the place of its task, but what is kept of it
 stopped_same : (lim : Bounds) (st : State) (rows others : List TaskRow) (t : ℕ) (row : TaskRow) (frame : Frame) (stop : Stop)
     → ((r : TaskRow) → slice_set rows t r ≡ slice_set others t r)
-    → stopped lim (record st { tasks = rows }) t (without_frame row) frame stop ≡ stopped lim (record st { tasks = others }) t row frame stop
+    → stop_result lim (record st { tasks = rows }) t (without_frame row) frame stop ≡ stop_result lim (record st { tasks = others }) t row frame stop
 stopped_same lim st rows others t row frame (stops.Make child args effects spawned future place) same =
     let maker = making_frame future spawned (st.asked + 1) frame in
     λ i.
@@ -104,7 +104,7 @@ stopped_same lim st rows others t row frame (stops.Fault kind place) same =
 
 -- so a row may be without its frame meanwhile
 settled_again : (lim : Bounds) (st : State) (t : ℕ) (row : TaskRow) (frame : Frame) (stop : Stop) (child : Option ℕ)
-    → stopped lim (joined (record st { tasks = slice_set st.tasks t (without_frame row) }) child) t (without_frame row) frame stop ≡ stopped lim (joined st child) t row frame stop
+    → stop_result lim (state_after_join (record st { tasks = slice_set st.tasks t (without_frame row) }) child) t (without_frame row) frame stop ≡ stop_result lim (state_after_join st child) t row frame stop
 settled_again lim st t row frame stop None = stopped_same lim st (slice_set st.tasks t (without_frame row)) st.tasks t row frame stop (set_again st.tasks t (without_frame row))
 settled_again lim st t row frame stop (Some child) =
     let out = slice_set st.tasks t (without_frame row) in
@@ -113,27 +113,27 @@ settled_again lim st t row frame stop (Some child) =
 
 -- what a segment makes of the state, with its frame out of its row
 pub run_settled : (p : Program) (lim : Bounds) (st : State) (t : ℕ) (row : TaskRow) (rows : List TaskRow) (frame after : Frame) (stop : Stop) (cells : List ℤ) (moved : State × End)
-    → slice_get st.tasks t ≡ Some row → rows ≡ slice_set st.tasks t (without_frame row) → frame ≡ ready st.tasks row.frame
+    → slice_get st.tasks t ≡ Some row → rows ≡ slice_set st.tasks t (without_frame row) → frame ≡ ready_frame st.tasks row.frame
     → IsSegment p frame st.cells stop after cells
-    → moved ≡ settled lim (record st { cells = cells; tasks = rows }) t (slice_get rows t) after stop
+    → moved ≡ settling_result lim (record st { cells = cells; tasks = rows }) t (slice_get rows t) after stop
     → moved ≡ ran p lim st t (slice_get st.tasks t)
 run_settled p lim st t row rows frame after stop cells moved here out taken carried settles =
     let left = slice_set st.tasks t (without_frame row) in
-    let is : IsSegment p (ready st.tasks row.frame) st.cells stop after cells = subst (λ (f : Frame). IsSegment p f st.cells stop after cells) taken carried in
+    let is : IsSegment p (ready_frame st.tasks row.frame) st.cells stop after cells = subst (λ (f : Frame). IsSegment p f st.cells stop after cells) taken carried in
     settles
-    ∙ (ap (λ (l : List TaskRow). settled lim (record st { cells = cells; tasks = l }) t (slice_get l t) after stop) out
-    ∙ (ap (λ (found : Option TaskRow). settled lim (record st { cells = cells; tasks = left }) t found after stop) (set_same st.tasks t row (without_frame row) here)
+    ∙ (ap (λ (l : List TaskRow). settling_result lim (record st { cells = cells; tasks = l }) t (slice_get l t) after stop) out
+    ∙ (ap (λ (found : Option TaskRow). settling_result lim (record st { cells = cells; tasks = left }) t found after stop) (set_same st.tasks t row (without_frame row) here)
     ∙ (settled_again lim (record st { cells = cells }) t row after stop (joined_child row.out (link_of st.links t).waits)
-    ∙ (sym (λ i. settled lim (record st { cells = is.1 i }) t (Some row) (is.0 i) (is.2 i))
+    ∙ (sym (λ i. settling_result lim (record st { cells = is.1 i }) t (Some row) (is.0 i) (is.2 i))
     ∙ sym (ap (ran p lim st t) here)))))
 
 -- and it may be settled so
 pub run_settles : (p : Program) (lim : Bounds) (st : State) (t : ℕ) (row : TaskRow) (rows : List TaskRow) (frame after : Frame) (stop : Stop) (cells : List ℤ)
-    → slice_get st.tasks t ≡ Some row → rows ≡ slice_set st.tasks t (without_frame row) → frame ≡ ready st.tasks row.frame
+    → slice_get st.tasks t ≡ Some row → rows ≡ slice_set st.tasks t (without_frame row) → frame ≡ ready_frame st.tasks row.frame
     → IsSegment p frame st.cells stop after cells → SettlesAfter p lim st t
     → MaySettle lim (record st { cells = cells; tasks = rows }) t after.next
 run_settles p lim st t row rows frame after stop cells here out taken carried settles =
-    let is : IsSegment p (ready st.tasks row.frame) st.cells stop after cells = subst (λ (f : Frame). IsSegment p f st.cells stop after cells) taken carried in
+    let is : IsSegment p (ready_frame st.tasks row.frame) st.cells stop after cells = subst (λ (f : Frame). IsSegment p f st.cells stop after cells) taken carried in
     let s : MaySettle lim st t after.next = subst (λ (f : Frame). MaySettle lim st t f.next) is.0 (settles row here) in
     let count : length rows ≡ length st.tasks = ap length out ∙ simp length-set in
     record {

@@ -18,7 +18,7 @@ use Rattle.seg_exec.specs.declared.stop.Stop.TheVariants as stops
 use Rattle.seg_exec.specs.Segment.{segment}
 use Rattle.twe_machine.specs.declared.state.State.{State}
 use Rattle.twe_machine.specs.declared.state.TaskRow.{TaskRow}
-use Rattle.twe_machine.specs.Moves.{admitted, admitted_row, joined, joined_child, joined_row, joined_rows, going_row, done_row, faulted_row, stopped_frame, making_frame, new_row, parent_of, having_made, faulted, asking, stopped, ran, ready, taken}
+use Rattle.twe_machine.specs.Moves.{admitted, admitted_row, state_after_join, joined_child, joined_row, joined_rows, going_row, done_row, faulted_row, stopped_frame, making_frame, new_row, parent_of, state_after_make, state_after_fault, state_after_asking, stop_result, ran, ready_frame, result_by_kind}
 use Rattle.twe_machine.specs.Rows.{IsRow}
 use Rattle.twe_machine.proofs.Linked.{joined_other}
 use Rattle.twe_machine.proofs.Places.{set_same, set_other, put_before}
@@ -37,7 +37,7 @@ abbrev pub RowAfter : State → Option ℕ → ℕ → TaskRow → Type 0
 RowAfter after child u row = ((child ≢ Some u) × IsRow after u row) ⊎ ((child ≡ Some u) × IsRow after u (joined_row row))
 
 -- once the join is taken
-row_joined : (st : State) (child : Option ℕ) (u : ℕ) (row : TaskRow) → IsRow st u row → RowAfter (joined st child) child u row
+row_joined : (st : State) (child : Option ℕ) (u : ℕ) (row : TaskRow) → IsRow st u row → RowAfter (state_after_join st child) child u row
 row_joined st None u row here = inl (λ e. cc (e), here)
 row_joined st (Some c) u row here =
     elim (cases_eq u c) [
@@ -55,14 +55,14 @@ module _ (lim : Bounds) (st : State) (t : ℕ) (row : TaskRow) (frame : Frame) (
   row_set new = set_other st.tasks t u new other ∙ here
 
   row_made : (b : Bool) (child : Frame) (args : List ℤ) (effects : Summary) (spawned : Bool) (future : ℕ) (place : Place)
-      → IsRow (cond {A = State × End} b (having_made lim st t row frame future spawned child args effects, ends.Made (st.asked + 1))
-      (faulted (asking st) t row (stopped_frame frame) TaskLimit place, ends.Fault TaskLimit place)).0 u r
+      → IsRow (cond {A = State × End} b (state_after_make lim st t row frame future spawned child args effects, ends.Made (st.asked + 1))
+      (state_after_fault (state_after_asking st) t row (stopped_frame frame) TaskLimit place, ends.Fault TaskLimit place)).0 u r
   row_made true child args effects spawned future place =
       let going = going_row row (making_frame future spawned (st.asked + 1) frame) in
       put_before (slice_set st.tasks t going) (new_row lim (st.asked + 1) (parent_of t spawned) child args effects) u r (row_set going)
   row_made false child args effects spawned future place = row_set (faulted_row row (stopped_frame frame))
 
-  row_stopped : (stop : Stop) → IsRow (stopped lim st t row frame stop).0 u r
+  row_stopped : (stop : Stop) → IsRow (stop_result lim st t row frame stop).0 u r
   row_stopped (stops.Make child args effects spawned future place) = row_made (nat_lt (st.asked + 1) lim.tasks) child args effects spawned future place
   row_stopped (stops.Waits on) = row_set (going_row row frame)
   row_stopped (stops.Joins on) = row_set (going_row row frame)
@@ -77,15 +77,15 @@ module _ (p : Program) (lim : Bounds) (st : State) (t u : ℕ) (other : u ≢ t)
   row_ran : (found : Option TaskRow) → RowAfter (ran p lim st t found).0 (child_of st t found) u r
   row_ran None = inl (λ e. cc (e), here)
   row_ran (Some row) =
-      let after = segment p (ready st.tasks row.frame) st.cells in
+      let after = segment p (ready_frame st.tasks row.frame) st.cells in
       let later : State = record st { cells = after.cells } in
       let child = joined_child row.out (link_of st.links t).waits in
       elim (row_joined later child u r here) [
-        | inl stays ↦ inl (stays.0, row_stopped lim (joined later child) t row after.frame u other r stays.1 after.stop)
-        | inr marked ↦ inr (marked.0, row_stopped lim (joined later child) t row after.frame u other (joined_row r) marked.1 after.stop)
+        | inl stays ↦ inl (stays.0, row_stopped lim (state_after_join later child) t row after.frame u other r stays.1 after.stop)
+        | inr marked ↦ inr (marked.0, row_stopped lim (state_after_join later child) t row after.frame u other (joined_row r) marked.1 after.stop)
       ]
 
   -- over a move
-  pub row_after : (kind : Kind) → RowAfter (taken p lim st kind t).0 (taken_child st kind t) u r
+  pub row_after : (kind : Kind) → RowAfter (result_by_kind p lim st kind t).0 (taken_child st kind t) u r
   row_after Admit = row_admitted (slice_get st.tasks t)
   row_after Run = row_ran (slice_get st.tasks t)

@@ -19,7 +19,7 @@ use Rattle.twe_machine.specs.declared.state.State.{State}
 use Rattle.twe_machine.specs.declared.state.TaskRow.{TaskRow}
 use Rattle.twe_machine.specs.declared.state.TaskStatus.TheVariants.{Made, Enabled, Faulted}
 use Rattle.twe_machine.specs.Legal.{MayTake}
-use Rattle.twe_machine.specs.Moves.{admitted, admitted_row, awaited_value, initial_values, joined, joined_child, new_row, ran, ready, start_of, taken}
+use Rattle.twe_machine.specs.Moves.{admitted, admitted_row, awaited_value, initial_values, state_after_join, joined_child, new_row, ran, ready_frame, start_of, result_by_kind}
 use Rattle.twe_machine.specs.Rows.{HasStatus, awaited}
 use Rattle.twe_machine.specs.Runs.{LegalFrom, replayed, IsReached}
 use Rattle.twe_machine.proofs.Almost.{Almost, set_settled}
@@ -134,11 +134,11 @@ module _ (p : Program) (lim : Bounds) (well : IsWellFormed p) where
   ran_kept : (st : State) (t : ℕ) (found : Option TaskRow) → HasStatus st t Enabled → ((u : ℕ) → ¬ WaitsFor st.links t u) → slice_get st.tasks t ≡ found → Stands p lim st → Kept p lim (ran p lim st t found).0
   ran_kept st t None may free e stands = absurd (cc (may.1, e))
   ran_kept st t (Some row) may free e stands =
-      let after : Stopped = segment p (ready st.tasks row.frame) st.cells in
-      stop_kept p lim well (joined (record st { cells = after.cells }) (joined_child row.out (link_of st.links t).waits)) t row (status_of st t row Enabled may e) after.frame
+      let after : Stopped = segment p (ready_frame st.tasks row.frame) st.cells in
+      stop_kept p lim well (state_after_join (record st { cells = after.cells }) (joined_child row.out (link_of st.links t).waits)) t row (status_of st t row Enabled may e) after.frame
       (halfway p lim st stands t row e free) after.stop (carries p row (stands.rows t row e).ready (awaited_value st.tasks (awaited row.frame.next)) st.cells)
 
-  taken_kept : (st : State) (kind : Kind) (t : ℕ) → MayTake st kind t → Stands p lim st → Kept p lim (taken p lim st kind t).0
+  taken_kept : (st : State) (kind : Kind) (t : ℕ) → MayTake st kind t → Stands p lim st → Kept p lim (result_by_kind p lim st kind t).0
   taken_kept st Admit t may stands = admitted_kept st t (slice_get st.tasks t) may.0 refl stands
   taken_kept st Run t may stands = ran_kept st t (slice_get st.tasks t) may.0 may.1 refl stands
 
@@ -155,9 +155,9 @@ module _ (p : Program) (lim : Bounds) (well : IsWellFormed p) where
   }
 
   -- a legal move keeps what stands
-  pub taken_stands : (st : State) (kind : Kind) (t : ℕ) → MayTake st kind t → Stands p lim st → Stands p lim (taken p lim st kind t).0
+  pub taken_stands : (st : State) (kind : Kind) (t : ℕ) → MayTake st kind t → Stands p lim st → Stands p lim (result_by_kind p lim st kind t).0
   taken_stands st kind t may stands =
-      stands_from p lim (taken p lim st kind t).0 (taken_kept st kind t may stands) (taken_linked p lim st kind t may (linked_of st stands))
+      stands_from p lim (result_by_kind p lim st kind t).0 (taken_kept st kind t may stands) (taken_linked p lim st kind t may (linked_of st stands))
 
   pub start_stands : Stands p lim (start_of p lim)
   start_stands = stands_from p lim (start_of p lim) start_kept (start_linked p lim)
@@ -165,7 +165,7 @@ module _ (p : Program) (lim : Bounds) (well : IsWellFormed p) where
   pub run_stands : (st : State) (entries : List Entry) → LegalFrom p lim st entries → Stands p lim st → Stands p lim (replayed p lim st entries)
   run_stands st [] legal stands = stands
   run_stands st (entry ∷ entries) legal stands =
-      run_stands (taken p lim st entry.mv.kind entry.mv.task).0 entries legal.2 (taken_stands st entry.mv.kind entry.mv.task legal.0 stands)
+      run_stands (result_by_kind p lim st entry.mv.kind entry.mv.task).0 entries legal.2 (taken_stands st entry.mv.kind entry.mv.task legal.0 stands)
 
 -- in each state that a run comes to all stands
 pub reached_stands : (p : Program) (lim : Bounds) (st : State) → IsWellFormed p → IsReached p lim st → Stands p lim st

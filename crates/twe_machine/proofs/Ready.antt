@@ -4,7 +4,7 @@ use Rattle.std.specs.Prelude.{slice_get, slice_set}
 use Rattle.seg_exec.specs.declared.frame.Frame.{Frame}
 use Rattle.seg_exec.specs.Giving.{given}
 use Rattle.twe_machine.specs.declared.state.TaskRow.{TaskRow}
-use Rattle.twe_machine.specs.Moves.{value_of, awaited_value, ready}
+use Rattle.twe_machine.specs.Moves.{value_of, awaited_value, ready_frame}
 use Rattle.twe_machine.specs.Rows.{awaited}
 
 -- a row that stands in its place with another frame has its value as before
@@ -25,7 +25,7 @@ awaited_kept rows t (Some on) row new here same = value_kept rows t on row new h
 pub taken_ready : (rows : List TaskRow) (t : ℕ) (row item : TaskRow) (frame left given_frame : Frame) (on : Option ℕ) (value : ℤ)
     → slice_get rows t ≡ Some row → slice_get rows t ≡ Some item → frame ≡ item.frame → on ≡ awaited frame.next
     → value ≡ awaited_value (slice_set rows t (record item { frame = left })) on → given_frame ≡ given frame value
-    → given_frame ≡ ready rows row.frame
+    → given_frame ≡ ready_frame rows row.frame
 taken_ready rows t row item frame left given_frame on value here found taken waits has gave =
     let is : item ≡ row = cc in
     let same : frame ≡ row.frame = taken ∙ ap (λ (r : TaskRow). r.frame) is in

@@ -18,7 +18,7 @@ use Rattle.twe_machine.specs.declared.state.State.{State}
 use Rattle.twe_machine.specs.declared.state.TaskStatus.{TaskStatus}
 use Rattle.twe_machine.specs.declared.state.TaskStatus.TheVariants.{Made, Enabled}
 use Rattle.twe_machine.specs.Legal.{Forbids, MayMove, MayTake}
-use Rattle.twe_machine.specs.Moves.{moved, start_of}
+use Rattle.twe_machine.specs.Moves.{move_result, start_of}
 use Rattle.twe_machine.specs.Replays.{AreLegal, IsFirstIllegal, IsOutOfMemory, IsReplay}
 use Rattle.twe_machine.specs.Rows.{HasStatus}
 use Rattle.twe_machine.specs.Runs.{IsRun, LegalFrom, entry_of, replayed}
@@ -91,8 +91,8 @@ one_why st Run t (HeldBy s) b x y = absurd x
 
 module _ (p : Program) (lim : Bounds) where
   -- a legal journal goes on by the same moves
-  same_rest : (st : State) (mv other : Move) (entries : List Entry) → mv ≡ other → LegalFrom p lim (moved p lim st mv).0 entries → LegalFrom p lim (moved p lim st other).0 entries
-  same_rest st mv other entries same = subst (λ (m : Move). LegalFrom p lim (moved p lim st m).0 entries) same
+  same_rest : (st : State) (mv other : Move) (entries : List Entry) → mv ≡ other → LegalFrom p lim (move_result p lim st mv).0 entries → LegalFrom p lim (move_result p lim st other).0 entries
+  same_rest st mv other entries same = subst (λ (m : Move). LegalFrom p lim (move_result p lim st m).0 entries) same
 
   -- its moves determine it
   pub one_from : (st : State) (journal other : List Entry) → LegalFrom p lim st journal → LegalFrom p lim st other → map move_of journal ≡ map move_of other → journal ≡ other
@@ -101,9 +101,9 @@ module _ (p : Program) (lim : Bounds) where
   one_from st (x ∷ xs) [] a b same = absurd (cc)
   one_from st (x ∷ xs) (y ∷ ys) a b same =
       let move : x.mv ≡ y.mv = cons_head same in
-      let end : x.end ≡ y.end = sym a.1 ∙ (ap (λ (mv : Move). (moved p lim st mv).1) move ∙ b.1) in
+      let end : x.end ≡ y.end = sym a.1 ∙ (ap (λ (mv : Move). (move_result p lim st mv).1) move ∙ b.1) in
       let entry : x ≡ y = λ i. record { mv = move i; end = end i } in
-      let rest : xs ≡ ys = one_from (moved p lim st y.mv).0 xs ys (same_rest st x.mv y.mv xs move a.2) b.2 (cons_tail same) in
+      let rest : xs ≡ ys = one_from (move_result p lim st y.mv).0 xs ys (same_rest st x.mv y.mv xs move a.2) b.2 (cons_tail same) in
       λ i. entry i ∷ rest i
 
   -- its moves have no forbidden one
@@ -114,7 +114,7 @@ module _ (p : Program) (lim : Bounds) where
       forbids_not st mv.kind mv.task why forbids (subst (MayMove st) (cons_head same) legal.0)
   never_from st (b ∷ bs) mv after [] why forbids legal same = cc
   never_from st (b ∷ bs) mv after (x ∷ xs) why forbids legal same =
-      never_from (moved p lim st b.mv).0 bs mv after xs why forbids (same_rest st x.mv b.mv xs (cons_head same) legal.2) (cons_tail same)
+      never_from (move_result p lim st b.mv).0 bs mv after xs why forbids (same_rest st x.mv b.mv xs (cons_head same) legal.2) (cons_tail same)
 
   -- the first forbidden move of a list is one
   first_from : (st : State) (before others : List Entry) (mv other : Move) (after rest : List Move) (why reason : Why)
@@ -128,8 +128,8 @@ module _ (p : Program) (lim : Bounds) where
       absurd (forbids_not st other.kind other.task reason y (subst (MayMove st) (cons_head same) a.0))
   first_from st (e ∷ es) (f ∷ fs) mv other after rest why reason a b x y same =
       let move : e.mv ≡ f.mv = cons_head same in
-      let forbids = subst (λ (m : Move). Forbids (replayed p lim (moved p lim st m).0 es) mv.kind mv.task why) move x in
-      let later = first_from (moved p lim st f.mv).0 es fs mv other after rest why reason (same_rest st e.mv f.mv es move a.2) b.2 forbids y (cons_tail same) in
+      let forbids = subst (λ (m : Move). Forbids (replayed p lim (move_result p lim st m).0 es) mv.kind mv.task why) move x in
+      let later = first_from (move_result p lim st f.mv).0 es fs mv other after rest why reason (same_rest st e.mv f.mv es move a.2) b.2 forbids y (cons_tail same) in
       (ap (λ (n : ℕ). suc n) later.0, later.1)
 
   pub never_both : (moves : List Move) (n : ℕ) (why : Why) → AreLegal p lim moves → ¬ IsFirstIllegal p lim moves n why
@@ -165,21 +165,21 @@ module _ (p : Program) (lim : Bounds) where
         by_result (Err (OutOfMemory memory)) told ran n why first = inr tt
 
 -- a run goes on by one move
-replayed_more : (p : Program) (lim : Bounds) (st : State) (entries : List Entry) (last : Entry) → replayed p lim st (entries ++ last ∷ []) ≡ (moved p lim (replayed p lim st entries) last.mv).0
+replayed_more : (p : Program) (lim : Bounds) (st : State) (entries : List Entry) (last : Entry) → replayed p lim st (entries ++ last ∷ []) ≡ (move_result p lim (replayed p lim st entries) last.mv).0
 replayed_more p lim st [] last = refl
-replayed_more p lim st (entry ∷ entries) last = replayed_more p lim (moved p lim st entry.mv).0 entries last
+replayed_more p lim st (entry ∷ entries) last = replayed_more p lim (move_result p lim st entry.mv).0 entries last
 
 legal_more : (p : Program) (lim : Bounds) (st : State) (entries : List Entry) (last : Entry) → LegalFrom p lim st entries → MayMove (replayed p lim st entries) last.mv
-    → (moved p lim (replayed p lim st entries) last.mv).1 ≡ last.end → LegalFrom p lim st (entries ++ last ∷ [])
+    → (move_result p lim (replayed p lim st entries) last.mv).1 ≡ last.end → LegalFrom p lim st (entries ++ last ∷ [])
 legal_more p lim st [] last legal may end = (may, end, tt)
-legal_more p lim st (entry ∷ entries) last legal may end = (legal.0, legal.1, legal_more p lim (moved p lim st entry.mv).0 entries last legal.2 may end)
+legal_more p lim st (entry ∷ entries) last legal may end = (legal.0, legal.1, legal_more p lim (move_result p lim st entry.mv).0 entries last legal.2 may end)
 
 pub run_more : (p : Program) (lim : Bounds) (journal : List Entry) (st : State) (mv : Move) → IsRun p lim journal st → MayMove st mv
-    → IsRun p lim (journal ++ entry_of p lim st mv ∷ []) (moved p lim st mv).0
+    → IsRun p lim (journal ++ entry_of p lim st mv ∷ []) (move_result p lim st mv).0
 run_more p lim journal st mv run may = record {
   legal = legal_more p lim (start_of p lim) journal (entry_of p lim st mv) run.legal (subst (λ (s : State). MayMove s mv) run.same may)
-      (ap (λ (s : State). (moved p lim s mv).1) (sym run.same));
-  same = ap (λ (s : State). (moved p lim s mv).0) run.same ∙ sym (replayed_more p lim (start_of p lim) journal (entry_of p lim st mv));
+      (ap (λ (s : State). (move_result p lim s mv).1) (sym run.same));
+  same = ap (λ (s : State). (move_result p lim s mv).0) run.same ∙ sym (replayed_more p lim (start_of p lim) journal (entry_of p lim st mv));
 }
 
 -- an error that is passed on stays the same

@@ -4,7 +4,7 @@ use Rattle.std.specs.Prelude.{slice_get, slice_set}
 use Rattle.std.proofs.lemmas.Bool.{cases_eq, eq-eqb, ne_eqb}
 use Rattle.twe_machine.specs.declared.state.State.{State}
 use Rattle.twe_machine.specs.declared.state.TaskRow.{TaskRow}
-use Rattle.twe_machine.specs.Moves.{joined, joined_row, joined_rows}
+use Rattle.twe_machine.specs.Moves.{state_after_join, joined_row, joined_rows}
 
 -- the number of the row that stands at a place, and 0 if none does
 abbrev pub number_at : (TaskRow → ℕ) → Option TaskRow → ℕ
@@ -66,7 +66,7 @@ module _ (f : TaskRow → ℕ) where
     number_joined_rows rows c u (Some r) there =
         number_set rows c u 0 r (joined_row r) there (joins r ∙ omega arith) ∙ omega (arith, hits_none c u)
 
-    pub number_joined : (st : State) (child : Option ℕ) (u : ℕ) → number_at f (slice_get (joined st child).tasks u) ≡ number_at f (slice_get st.tasks u)
+    pub number_joined : (st : State) (child : Option ℕ) (u : ℕ) → number_at f (slice_get (state_after_join st child).tasks u) ≡ number_at f (slice_get st.tasks u)
     number_joined st None u = refl
     number_joined st (Some c) u = number_joined_rows st.tasks c u (slice_get st.tasks c) refl
 
@@ -84,9 +84,9 @@ module _ (f : TaskRow → ℕ) where
 
     -- a row takes the place of one that was there before the join
     pub number_settled : (st : State) (child : Option ℕ) (t u n : ℕ) (row new : TaskRow) → slice_get st.tasks t ≡ Some row → f new ≡ f row + n
-        → number_at f (slice_get (slice_set (joined st child).tasks t new) u) ≡ number_at f (slice_get st.tasks u) + hits t u n
+        → number_at f (slice_get (slice_set (state_after_join st child).tasks t new) u) ≡ number_at f (slice_get st.tasks u) + hits t u n
     number_settled st None t u n row new found more = number_set st.tasks t u n row new found more
     number_settled st (Some c) t u n row new found more =
         let x = joined_there st.tasks c t (slice_get st.tasks c) row refl found in
-        number_set (joined st (Some c)).tasks t u n x.0 new x.1 (more ∙ ap (λ (k : ℕ). k + n) (sym x.2))
+        number_set (state_after_join st (Some c)).tasks t u n x.0 new x.1 (more ∙ ap (λ (k : ℕ). k + n) (sym x.2))
         ∙ ap (λ (k : ℕ). k + hits t u n) (number_joined st (Some c) u)

@@ -14,7 +14,7 @@ use Rattle.seg_exec.specs.declared.frame.Next.TheVariants.{Go, Get, Join, Closin
 use Rattle.seg_exec.specs.Segment.{segment}
 use Rattle.twe_machine.specs.declared.state.State.{State}
 use Rattle.twe_machine.specs.declared.state.TaskRow.{TaskRow}
-use Rattle.twe_machine.specs.Moves.{MaySettle, ready}
+use Rattle.twe_machine.specs.Moves.{MaySettle, ready_frame}
 use Rattle.twe_machine.specs.Rows.{IsRow, awaited, link_of_row}
 use Rattle.twe_machine.specs.Runs.{IsReached}
 use Rattle.twe_machine.proofs.Halfway.{left_stands}
@@ -50,18 +50,18 @@ few_asked p lim st within stands =
     omega (arith, most, limit, stands.asked, within.tasks_most)
 
 pub stands_settle : (p : Program) (lim : Bounds) (st : State) (t : ℕ) (row : TaskRow) → IsWithin lim.fuel lim.tasks → Stands p lim st → IsRow st t row
-    → MaySettle lim st t (segment p (ready st.tasks row.frame) st.cells).frame.next
+    → MaySettle lim st t (segment p (ready_frame st.tasks row.frame) st.cells).frame.next
 stands_settle p lim st t row within stands found = record {
   there = slice_get_within st.tasks t row found;
   linked = as_many_links p lim st stands;
   number = stands.number;
   few = few_asked p lim st within stands;
-  above = awaited_above p lim st.tasks t (segment p (ready st.tasks row.frame) st.cells).frame (left_stands p lim st stands t row found);
+  above = awaited_above p lim st.tasks t (segment p (ready_frame st.tasks row.frame) st.cells).frame (left_stands p lim st stands t row found);
 }
 
 -- what the next segment of a task leaves may be settled
 pub may_settle : (p : Program) (lim : Bounds) (st : State) (t : ℕ) (row : TaskRow) → IsWellFormed p → IsWithin lim.fuel lim.tasks → IsReached p lim st → IsRow st t row
-    → MaySettle lim st t (segment p (ready st.tasks row.frame) st.cells).frame.next
+    → MaySettle lim st t (segment p (ready_frame st.tasks row.frame) st.cells).frame.next
 may_settle p lim st t row well within reached found = stands_settle p lim st t row within (reached_stands p lim st well reached) found
 
 -- the state may be another with as many rows and links, in which as many tasks were asked for

@@ -12,7 +12,7 @@ use Rattle.seg_exec.specs.declared.stop.Stop.{Stop}
 use Rattle.seg_exec.specs.declared.stop.Stop.TheVariants as stops
 use Rattle.twe_machine.specs.declared.state.State.{State}
 use Rattle.twe_machine.specs.declared.state.TaskRow.{TaskRow}
-use Rattle.twe_machine.specs.Moves.{going_row, done_row, faulted_row, making_frame, stopped_frame, new_row, parent_of, joined, joined_row, stopped, asking, having_made, faulted}
+use Rattle.twe_machine.specs.Moves.{going_row, done_row, faulted_row, making_frame, stopped_frame, new_row, parent_of, state_after_join, joined_row, stop_result, state_after_asking, state_after_make, state_after_fault}
 use Rattle.twe_machine.proofs.RowNumbers.{number_at, hits, number_settled, number_added}
 
 -- n if the segment ended its task with a value, else 0
@@ -34,21 +34,21 @@ pub record ChangesWhenDone (f : TaskRow → ℕ) (d : ℕ) (row : TaskRow) : Typ
 
 module _ (lim : Bounds) (st : State) (t : ℕ) (row : TaskRow) (found : slice_get st.tasks t ≡ Some row) (child : Option ℕ) (f : TaskRow → ℕ) (d : ℕ) (changes : ChangesWhenDone f d row) where
   -- the new row has the same number
-  same_number : (u : ℕ) (new : TaskRow) → f new ≡ f row → number_at f (slice_get (slice_set (joined st child).tasks t new) u) ≡ number_at f (slice_get st.tasks u) + hits t u 0
+  same_number : (u : ℕ) (new : TaskRow) → f new ≡ f row → number_at f (slice_get (slice_set (state_after_join st child).tasks t new) u) ≡ number_at f (slice_get st.tasks u) + hits t u 0
   same_number u new same = number_settled f changes.joins st child t u 0 row new found (same ∙ omega arith)
 
   made_number : (frame : Frame) (into : ℕ) (spawned : Bool) (task : Frame) (args : List ℤ) (effects : Summary) (place : Place) (u : ℕ) (fits : Bool)
-      → number_at f (slice_get (if◌then◌else◌ {A = State × End} fits (having_made lim (joined st child) t row frame into spawned task args effects, ends.Made ((joined st child).asked + 1))
-      (faulted (asking (joined st child)) t row (stopped_frame frame) TaskLimit place, ends.Fault TaskLimit place)).0.tasks u) ≡ number_at f (slice_get st.tasks u) + hits t u 0
+      → number_at f (slice_get (if◌then◌else◌ {A = State × End} fits (state_after_make lim (state_after_join st child) t row frame into spawned task args effects, ends.Made ((state_after_join st child).asked + 1))
+      (state_after_fault (state_after_asking (state_after_join st child)) t row (stopped_frame frame) TaskLimit place, ends.Fault TaskLimit place)).0.tasks u) ≡ number_at f (slice_get st.tasks u) + hits t u 0
   made_number frame into spawned task args effects place u true =
-      let number = (joined st child).asked + 1 in
+      let number = (state_after_join st child).asked + 1 in
       let maker = making_frame into spawned number frame in
-      number_added f (slice_set (joined st child).tasks t (going_row row maker)) u (new_row lim number (parent_of t spawned) task args effects) (changes.fresh lim number t spawned task args effects)
+      number_added f (slice_set (state_after_join st child).tasks t (going_row row maker)) u (new_row lim number (parent_of t spawned) task args effects) (changes.fresh lim number t spawned task args effects)
       ∙ same_number u (going_row row maker) (changes.going maker)
   made_number frame into spawned task args effects place u false = same_number u (faulted_row row (stopped_frame frame)) (changes.failed (stopped_frame frame))
 
-  pub stopped_number : (frame : Frame) (stop : Stop) (u : ℕ) → number_at f (slice_get (stopped lim (joined st child) t row frame stop).0.tasks u) ≡ number_at f (slice_get st.tasks u) + hits t u (if_done d stop)
-  stopped_number frame (stops.Make task args effects spawned into place) u = made_number frame into spawned task args effects place u (nat_lt ((joined st child).asked + 1) lim.tasks)
+  pub stopped_number : (frame : Frame) (stop : Stop) (u : ℕ) → number_at f (slice_get (stop_result lim (state_after_join st child) t row frame stop).0.tasks u) ≡ number_at f (slice_get st.tasks u) + hits t u (if_done d stop)
+  stopped_number frame (stops.Make task args effects spawned into place) u = made_number frame into spawned task args effects place u (nat_lt ((state_after_join st child).asked + 1) lim.tasks)
   stopped_number frame (stops.Waits on) u = same_number u (going_row row frame) (changes.going frame)
   stopped_number frame (stops.Joins on) u = same_number u (going_row row frame) (changes.going frame)
   stopped_number frame (stops.Done value) u = number_settled f changes.joins st child t u d row (done_row row frame value) found (changes.done frame value)

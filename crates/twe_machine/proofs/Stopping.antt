@@ -16,7 +16,7 @@ use Rattle.segment_laws.specs.Keeps.{IsClosing}
 use Rattle.twe_machine.specs.declared.state.State.{State}
 use Rattle.twe_machine.specs.declared.state.TaskRow.{TaskRow}
 use Rattle.twe_machine.specs.declared.state.TaskStatus.TheVariants.{Enabled}
-use Rattle.twe_machine.specs.Moves.{having_made, faulted, faulted_row, stopped_frame, asking, stopped}
+use Rattle.twe_machine.specs.Moves.{state_after_make, state_after_fault, faulted_row, stopped_frame, state_after_asking, stop_result}
 use Rattle.twe_machine.proofs.AfterStop.{stopped_stands, going_stands, done_stands, faulted_stands}
 use Rattle.twe_machine.proofs.Halfway.{Carries, carries, Halfway}
 use Rattle.twe_machine.proofs.Moving.{Kept, same_task, going_kept, done_kept, fault_kept, make_kept}
@@ -32,8 +32,8 @@ module _ (p : Program) (lim : Bounds) (well : IsWellFormed p) (st : State) (t : 
 
   make_stopped : (b : Bool) (child : Frame) (args : List ℤ) (effects : Summary) (spawned : Bool) (future : ℕ) (place : Place) → nat_lt (st.asked + 1) lim.tasks ≡ b
       → Carries p row frame (stops.Make child args effects spawned future place)
-      → Kept p lim (cond {A = State × End} b (having_made lim st t row frame future spawned child args effects, ends.Made (st.asked + 1))
-      (faulted (asking st) t row (stopped_frame frame) TaskLimit place, ends.Fault TaskLimit place)).0
+      → Kept p lim (cond {A = State × End} b (state_after_make lim st t row frame future spawned child args effects, ends.Made (st.asked + 1))
+      (state_after_fault (state_after_asking st) t row (stopped_frame frame) TaskLimit place, ends.Fault TaskLimit place)).0
   make_stopped true child args effects spawned future place is carries =
       make_kept p lim well t row enabled frame st half child args effects spawned future (carries.declared child args effects spawned future place refl)
       carries.next carries.decl (carries.made child args effects spawned future place refl) (ltb-true (st.asked + 1) lim.tasks is)
@@ -43,7 +43,7 @@ module _ (p : Program) (lim : Bounds) (well : IsWellFormed p) (st : State) (t : 
       (faulted_stands p lim st.tasks t row own_stands enabled (stopped_frame frame) (stopped_stands p lim st.tasks t frame half.frame_stands) carries.ended carries.decl refl)
       (st.asked + 1) (omega arith) TaskLimit place _ _
 
-  pub stop_kept : (stop : Stop) → Carries p row frame stop → Kept p lim (stopped lim st t row frame stop).0
+  pub stop_kept : (stop : Stop) → Carries p row frame stop → Kept p lim (stop_result lim st t row frame stop).0
   stop_kept (stops.Make child args effects spawned future place) carries = make_stopped (nat_lt (st.asked + 1) lim.tasks) child args effects spawned future place refl carries
   stop_kept (stops.Waits on) carries =
       going_kept p lim well t row enabled frame st half

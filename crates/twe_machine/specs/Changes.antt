@@ -15,7 +15,7 @@ use Rattle.twe_machine.specs.declared.state.FirstFault.{FirstFault}
 use Rattle.twe_machine.specs.declared.state.State.{State}
 use Rattle.twe_machine.specs.declared.state.TaskRow.{TaskRow}
 use Rattle.twe_machine.specs.declared.state.TaskStatus.TheVariants.{Done}
-use Rattle.twe_machine.specs.Moves.{first_fault_of, ready}
+use Rattle.twe_machine.specs.Moves.{first_fault_of, ready_frame}
 use Rattle.twe_machine.specs.Rows.{IsRow}
 
 -- The move takes the join of c: it runs a task that has waited for c, and c is an unjoined child of that task.
@@ -26,7 +26,7 @@ pub record TakesJoin (st : State) (mv : Move) (c : ℕ) : Type 0 where
 
 -- the segment that the task of this row runs next
 abbrev pub next_segment : Program → State → TaskRow → Stopped
-next_segment p st row = segment p (ready st.tasks row.frame) st.cells
+next_segment p st row = segment p (ready_frame st.tasks row.frame) st.cells
 
 -- how many tasks a segment that stopped so has asked for
 abbrev pub asked_by : Stop → ℕ

@@ -9,7 +9,7 @@ use Rattle.twe_machine.specs.declared.ending.Outcome.{Outcome}
 use Rattle.twe_machine.specs.declared.ending.Outcome.TheVariants.{Unfinished}
 use Rattle.twe_machine.specs.declared.state.State.{State}
 use Rattle.twe_machine.specs.Legal.{MayMove}
-use Rattle.twe_machine.specs.Moves.{moved, start_of}
+use Rattle.twe_machine.specs.Moves.{move_result, start_of}
 use Rattle.twe_machine.specs.Runs.{IsOutcome}
 
 -- the move is legal, and no task with a lower number has a legal move
@@ -24,8 +24,8 @@ IsOver st = (outcome : Outcome) → IsOutcome st outcome → outcome ≢ Unfinis
 abbrev pub LowestFirstFrom : Program → Bounds → State → List Entry → Type 0
 LowestFirstFrom p lim st [] = IsOver st
 LowestFirstFrom p lim st (entry ∷ entries) =
-    IsOutcome st Unfinished × IsLowest st entry.mv × ((moved p lim st entry.mv).1 ≡ entry.end)
-    × LowestFirstFrom p lim (moved p lim st entry.mv).0 entries
+    IsOutcome st Unfinished × IsLowest st entry.mv × ((move_result p lim st entry.mv).1 ≡ entry.end)
+    × LowestFirstFrom p lim (move_result p lim st entry.mv).0 entries
 
 -- the journal is the lowest-first one of the program under these limits
 abbrev pub LowestFirst : Program → Bounds → List Entry → Type 0

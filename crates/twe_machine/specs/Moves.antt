@@ -80,8 +80,8 @@ making_frame future spawned child frame = record frame { futures = slice_set fra
 -- The end of a segment.
 
 -- a frame between segments: the numbers that the segment printed are taken out of it
-abbrev pub emptied : Frame → Frame
-emptied frame = record frame { prints = [] }
+abbrev pub frame_without_prints : Frame → Frame
+frame_without_prints frame = record frame { prints = [] }
 
 -- the frame of a task that has met a fault at a make: nothing is left to run
 abbrev pub stopped_frame : Frame → Frame
@@ -89,13 +89,13 @@ stopped_frame frame = record frame { body = None; next = Ended }
 
 -- the row of a task that is unfinished, that is done with a value, and that has met a fault
 abbrev pub going_row : TaskRow → Frame → TaskRow
-going_row row frame = record row { frame = emptied frame; out = frame.out }
+going_row row frame = record row { frame = frame_without_prints frame; out = frame.out }
 
 abbrev pub done_row : TaskRow → Frame → ℤ → TaskRow
-done_row row frame value = record row { frame = emptied frame; out = frame.out; status = status.Done; value = value }
+done_row row frame value = record row { frame = frame_without_prints frame; out = frame.out; status = status.Done; value = value }
 
 abbrev pub faulted_row : TaskRow → Frame → TaskRow
-faulted_row row frame = record row { frame = emptied frame; out = frame.out; status = status.Faulted }
+faulted_row row frame = record row { frame = frame_without_prints frame; out = frame.out; status = status.Faulted }
 
 -- the first fault of a run stays the first
 abbrev pub first_fault_of : Option FirstFault → ℕ → FaultKind → Place → Option FirstFault
@@ -104,31 +104,31 @@ first_fault_of None t kind place = Some (record { task = t; kind = kind; place =
 
 -- the state after the frame of t was stored and t has this row: the numbers that the segment printed join those of
 -- the run, and the links say what t waits for
-abbrev pub home : State → ℕ → Frame → TaskRow → State
-home st t frame row = record st {
+abbrev pub state_after_storing : State → ℕ → Frame → TaskRow → State
+state_after_storing st t frame row = record st {
   prints = st.prints ++ frame.prints;
   tasks = slice_set st.tasks t row;
   links = with_wait st.links t (awaited frame.next);
 }
 
-abbrev pub faulted : State → ℕ → TaskRow → Frame → FaultKind → Place → State
-faulted st t row frame kind place =
-    record (home st t frame (faulted_row row frame)) { first_fault = first_fault_of st.first_fault t kind place }
+abbrev pub state_after_fault : State → ℕ → TaskRow → Frame → FaultKind → Place → State
+state_after_fault st t row frame kind place =
+    record (state_after_storing st t frame (faulted_row row frame)) { first_fault = first_fault_of st.first_fault t kind place }
 
-abbrev pub finished : State → ℕ → TaskRow → Frame → ℤ → State
-finished st t row frame value =
-    let after = home st t frame (done_row row frame value) in record after { links = with_done after.links t }
+abbrev pub state_after_finish : State → ℕ → TaskRow → Frame → ℤ → State
+state_after_finish st t row frame value =
+    let after = state_after_storing st t frame (done_row row frame value) in record after { links = with_done after.links t }
 
 -- one more task was asked for
-abbrev pub asking : State → State
-asking st = record st { asked = st.asked + 1 }
+abbrev pub state_after_asking : State → State
+state_after_asking st = record st { asked = st.asked + 1 }
 
 -- t has made a task, which has the next number
-abbrev pub having_made : Bounds → State → ℕ → TaskRow → Frame → ℕ → Bool → Frame → List ℤ → Summary → State
-having_made lim st t row frame future spawned child args effects =
+abbrev pub state_after_make : Bounds → State → ℕ → TaskRow → Frame → ℕ → Bool → Frame → List ℤ → Summary → State
+state_after_make lim st t row frame future spawned child args effects =
     let number = st.asked + 1 in
     let maker = making_frame future spawned number frame in
-    let after = home (asking st) t maker (going_row row maker) in
+    let after = state_after_storing (state_after_asking st) t maker (going_row row maker) in
     record after {
       tasks = after.tasks ++ new_row lim number (parent_of t spawned) child args effects ∷ [];
       links = after.links ++ new_link (parent_of t spawned) ∷ [];
@@ -137,15 +137,15 @@ having_made lim st t row frame future spawned child args effects =
 -- the state after a segment of t that left this frame and stopped in this way, and the end of the move. What a task
 -- wrote and printed before a fault remains. A make whose number is not below the limit is a fault of its maker, and
 -- makes no task.
-abbrev pub stopped : Bounds → State → ℕ → TaskRow → Frame → Stop → State × End
-stopped lim st t row frame (stops.Make child args effects spawned future place) =
+abbrev pub stop_result : Bounds → State → ℕ → TaskRow → Frame → Stop → State × End
+stop_result lim st t row frame (stops.Make child args effects spawned future place) =
     if nat_lt (st.asked + 1) lim.tasks
-    then (having_made lim st t row frame future spawned child args effects, ends.Made (st.asked + 1))
-    else (faulted (asking st) t row (stopped_frame frame) TaskLimit place, ends.Fault TaskLimit place)
-stopped lim st t row frame (stops.Waits on) = (home st t frame (going_row row frame), ends.Waits on)
-stopped lim st t row frame (stops.Joins on) = (home st t frame (going_row row frame), ends.Joins on)
-stopped lim st t row frame (stops.Done value) = (finished st t row frame value, ends.Done value)
-stopped lim st t row frame (stops.Fault kind place) = (faulted st t row frame kind place, ends.Fault kind place)
+    then (state_after_make lim st t row frame future spawned child args effects, ends.Made (st.asked + 1))
+    else (state_after_fault (state_after_asking st) t row (stopped_frame frame) TaskLimit place, ends.Fault TaskLimit place)
+stop_result lim st t row frame (stops.Waits on) = (state_after_storing st t frame (going_row row frame), ends.Waits on)
+stop_result lim st t row frame (stops.Joins on) = (state_after_storing st t frame (going_row row frame), ends.Joins on)
+stop_result lim st t row frame (stops.Done value) = (state_after_finish st t row frame value, ends.Done value)
+stop_result lim st t row frame (stops.Fault kind place) = (state_after_fault st t row frame kind place, ends.Fault kind place)
 
 -- The start of a segment.
 
@@ -162,16 +162,16 @@ joined_rows rows child None = rows
 joined_rows rows child (Some row) = slice_set rows child (joined_row row)
 
 -- the state after the child, if there is one, was marked as joined
-abbrev pub joined : State → Option ℕ → State
-joined st None = st
-joined st (Some child) = record st { tasks = joined_rows st.tasks child (slice_get st.tasks child); links = with_joined st.links child }
+abbrev pub state_after_join : State → Option ℕ → State
+state_after_join st None = st
+state_after_join st (Some child) = record st { tasks = joined_rows st.tasks child (slice_get st.tasks child); links = with_joined st.links child }
 
 -- the state after a segment of t that left this frame and stopped in this way, and the end of the move. The cells are
 -- already those after the segment; all else but the frame of t is as before it. A child that the segment joined is
 -- marked here.
-abbrev pub settled : Bounds → State → ℕ → Option TaskRow → Frame → Stop → State × End
-settled lim st t None frame stop = (st, Admitted)
-settled lim st t (Some row) frame stop = stopped lim (joined st (joined_child row.out (link_of st.links t).waits)) t row frame stop
+abbrev pub settling_result : Bounds → State → ℕ → Option TaskRow → Frame → Stop → State × End
+settling_result lim st t None frame stop = (st, Admitted)
+settling_result lim st t (Some row) frame stop = stop_result lim (state_after_join st (joined_child row.out (link_of st.links t).waits)) t row frame stop
 
 -- the value of the awaited task
 abbrev pub value_of : Option TaskRow → ℤ
@@ -183,23 +183,23 @@ awaited_value rows None = pos 0
 awaited_value rows (Some on) = value_of (slice_get rows on)
 
 -- the frame that the next segment of a task starts from: if the task has waited, it takes the value
-abbrev pub ready : List TaskRow → Frame → Frame
-ready rows frame = given frame (awaited_value rows (awaited frame.next))
+abbrev pub ready_frame : List TaskRow → Frame → Frame
+ready_frame rows frame = given frame (awaited_value rows (awaited frame.next))
 
 -- one segment of task t
 abbrev pub ran : Program → Bounds → State → ℕ → Option TaskRow → State × End
 ran p lim st t None = (st, Admitted)
 ran p lim st t (Some row) =
-    let after = segment p (ready st.tasks row.frame) st.cells in
-    settled lim (record st { cells = after.cells }) t (Some row) after.frame after.stop
+    let after = segment p (ready_frame st.tasks row.frame) st.cells in
+    settling_result lim (record st { cells = after.cells }) t (Some row) after.frame after.stop
 
-abbrev pub taken : Program → Bounds → State → Kind → ℕ → State × End
-taken p lim st Admit t = (admitted st t (slice_get st.tasks t), Admitted)
-taken p lim st Run t = ran p lim st t (slice_get st.tasks t)
+abbrev pub result_by_kind : Program → Bounds → State → Kind → ℕ → State × End
+result_by_kind p lim st Admit t = (admitted st t (slice_get st.tasks t), Admitted)
+result_by_kind p lim st Run t = ran p lim st t (slice_get st.tasks t)
 
 -- the state after a legal move, and the end of the move
-abbrev pub moved : Program → Bounds → State → Move → State × End
-moved p lim st mv = taken p lim st mv.kind mv.task
+abbrev pub move_result : Program → Bounds → State → Move → State × End
+move_result p lim st mv = result_by_kind p lim st mv.kind mv.task
 
 -- the initial values of the cells, in the order of their numbers
 abbrev pub initial_values : List CellDecl → List ℤ

@@ -15,19 +15,19 @@ use Rattle.twe_machine.specs.declared.state.State.{State}
 use Rattle.twe_machine.specs.declared.state.TaskRow.{TaskRow}
 use Rattle.twe_machine.specs.declared.state.TaskStatus.TheVariants.{Done}
 use Rattle.twe_machine.specs.Legal.{MayMove, Isolated}
-use Rattle.twe_machine.specs.Moves.{moved, start_of}
+use Rattle.twe_machine.specs.Moves.{move_result, start_of}
 use Rattle.twe_machine.specs.Rows.{IsRow}
 
 -- the state after the moves of these entries
 abbrev pub replayed : Program → Bounds → State → List Entry → State
 replayed p lim st [] = st
-replayed p lim st (entry ∷ entries) = replayed p lim (moved p lim st entry.mv).0 entries
+replayed p lim st (entry ∷ entries) = replayed p lim (move_result p lim st entry.mv).0 entries
 
 -- each move is legal after those before it, and each entry has the end that its move gives
 abbrev pub LegalFrom : Program → Bounds → State → List Entry → Type 0
 LegalFrom p lim st [] = Unit {0}
 LegalFrom p lim st (entry ∷ entries) =
-    MayMove st entry.mv × ((moved p lim st entry.mv).1 ≡ entry.end) × LegalFrom p lim (moved p lim st entry.mv).0 entries
+    MayMove st entry.mv × ((move_result p lim st entry.mv).1 ≡ entry.end) × LegalFrom p lim (move_result p lim st entry.mv).0 entries
 
 -- the journal is one of the program under these limits
 abbrev pub Legal : Program → Bounds → List Entry → Type 0
@@ -44,7 +44,7 @@ pub record IsRun (p : Program) (lim : Bounds) (journal : List Entry) (st : State
 
 -- the entry for a move in this state
 abbrev pub entry_of : Program → Bounds → State → Move → Entry
-entry_of p lim st mv = record { mv = mv; end = (moved p lim st mv).1 }
+entry_of p lim st mv = record { mv = mv; end = (move_result p lim st mv).1 }
 
 -- some legal journal leads to this state
 pub record IsReached (p : Program) (lim : Bounds) (st : State) : Type 0 where

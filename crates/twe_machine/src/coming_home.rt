@@ -2,7 +2,7 @@
 ghost use Rattle.std.specs.Prelude.{◌≡◌, ◌<◌, ◌++◌, length, OnOk};
 ghost use Rattle.std.specs.Option.{ForSome};
 ghost use Rattle.twe_machine.specs.declared.state.TaskRow.{TaskRow};
-ghost use Rattle.twe_machine.specs.Moves.{emptied, going_row, home};
+ghost use Rattle.twe_machine.specs.Moves.{frame_without_prints, going_row, state_after_storing};
 ghost use Rattle.twe_machine.specs.Rows.{IsRow, awaited};
 
 use crate::state::State;
@@ -26,7 +26,7 @@ pub(crate) fn awaited(next: Next) -> Option<u32>
 /// Moves the printed numbers of a frame to the end of those of the run.
 fn take_prints(alloc: Global, prints: &mut Ints, frame: &mut Frame) -> Result<(), Memory>
     ensures prints { OnOk result (prints.new ≡ prints.old ++ frame.old.prints) }
-    ensures frame { OnOk result (frame.new ≡ emptied frame.old) }
+    ensures frame { OnOk result (frame.new ≡ frame_without_prints frame.old) }
 {
     prints.push_all(frame.prints.as_slice())?;
     frame.prints = Ints::new(alloc);
@@ -39,7 +39,7 @@ pub(crate) fn come_home(alloc: Global, st: &mut State, t: u32, frame: Frame) -> 
     requires there { t < length st.old.tasks }
     requires linked { length st.old.links ≡ length st.old.tasks }
     requires above { ForSome (awaited frame.next) (λ on. (t < on) × (on < length st.old.tasks)) }
-    ensures state { OnOk result ((row : TaskRow) → IsRow st.old t row → st.new ≡ home st.old t frame (going_row row frame)) }
+    ensures state { OnOk result ((row : TaskRow) → IsRow st.old t row → st.new ≡ state_after_storing st.old t frame (going_row row frame)) }
     ensures rows { OnOk result (length st.new.tasks ≡ length st.old.tasks) }
     ensures linked { OnOk result (length st.new.links ≡ length st.new.tasks) }
 {

@@ -14,7 +14,7 @@ ghost use Rattle.twe_machine.specs.declared.state.TaskStatus.TheVariants.{Done};
 ghost use Rattle.twe_machine.specs.Changes.{IsDoneWith, LeavesAlone, next_segment};
 ghost use Rattle.twe_machine.specs.Legal.{MayMove};
 ghost use Rattle.twe_machine.specs.LowestFirst.{LowestFirst};
-ghost use Rattle.twe_machine.specs.Moves.{MaySettle, moved};
+ghost use Rattle.twe_machine.specs.Moves.{MaySettle, move_result};
 ghost use Rattle.twe_machine.specs.Rows.{IsRow, LinksAgree, EffectsAreFilled};
 ghost use Rattle.twe_machine.specs.Runs.{AllTasksDone, EachAtMostOnce, EachOnce, IsReachable, IsReached, Legal, LegalFrom, admits, makes, replayed, state_after};
 
@@ -77,13 +77,13 @@ pub fn journals_are_short()
 /// numbers, the count of makes and the first fault change as its segment and its end say.
 pub fn a_move_leaves_the_rest_alone()
     ensures { (p : Program) (lim : Bounds) (st : State) (mv : Move) → IsWellFormed p → IsReached p lim st → MayMove st mv
-        → LeavesAlone p st (moved p lim st mv).0 mv (moved p lim st mv).1 }
+        → LeavesAlone p st (move_result p lim st mv).0 mv (move_result p lim st mv).1 }
 {}
 
 /// A chain of waits from one task to another stays over legal moves until the other task is done.
 pub fn chains_of_waits_stay()
     ensures a_move { (p : Program) (lim : Bounds) (st : State) (mv : Move) (s u : ℕ) → IsWellFormed p → IsReached p lim st
-        → MayMove st mv → WaitsOnUnlessDone st.links s u → WaitsOnUnlessDone (moved p lim st mv).0.links s u }
+        → MayMove st mv → WaitsOnUnlessDone st.links s u → WaitsOnUnlessDone (move_result p lim st mv).0.links s u }
     ensures a_journal { (p : Program) (lim : Bounds) (st : State) (entries : List Entry) (s u : ℕ) → IsWellFormed p
         → IsReached p lim st → LegalFrom p lim st entries → WaitsOnUnlessDone st.links s u
         → WaitsOnUnlessDone (replayed p lim st entries).links s u }
@@ -92,7 +92,7 @@ pub fn chains_of_waits_stay()
 /// A task that is done stays done over legal moves, with its value.
 pub fn done_tasks_stay_done()
     ensures a_move { (p : Program) (lim : Bounds) (st : State) (mv : Move) (u : ℕ) (value : ℤ) → MayMove st mv
-        → IsDoneWith st u value → IsDoneWith (moved p lim st mv).0 u value }
+        → IsDoneWith st u value → IsDoneWith (move_result p lim st mv).0 u value }
     ensures a_journal { (p : Program) (lim : Bounds) (st : State) (entries : List Entry) (u : ℕ) (value : ℤ)
         → LegalFrom p lim st entries → IsDoneWith st u value → IsDoneWith (replayed p lim st entries) u value }
 {}

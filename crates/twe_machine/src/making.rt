@@ -3,7 +3,7 @@ ghost use Rattle.std.specs.Prelude.{◌≡◌, ◌+◌, ◌-◌, ◌^◌, ◌<�
 ghost use Rattle.std.specs.Option.{ForSome};
 ghost use Rattle.wait_graph.specs.Link.{new_link};
 ghost use Rattle.twe_machine.specs.declared.state.TaskRow.{TaskRow};
-ghost use Rattle.twe_machine.specs.Moves.{MaySettle, having_made, making_frame, new_row, out_with, stopped};
+ghost use Rattle.twe_machine.specs.Moves.{MaySettle, state_after_make, making_frame, new_row, out_with, stop_result};
 ghost use Rattle.twe_machine.specs.Rows.{IsRow, awaited};
 
 use crate::coming_home::come_home;
@@ -90,7 +90,7 @@ fn make(
     requires number { st.old.asked + 1 ≡ length st.old.tasks }
     requires room { length st.old.tasks < 2 ^ 32 - 1 }
     ensures state { OnOk result ((row : TaskRow) → IsRow st.old t row
-        → st.new ≡ having_made lim st.old t row frame how.future how.spawned task.frame task.args task.effects) }
+        → st.new ≡ state_after_make lim st.old t row frame how.future how.spawned task.frame task.args task.effects) }
     ensures number { IfOk result (λ child. child ≡ st.old.asked + 1) }
 {
     let mut frame = frame;
@@ -115,7 +115,7 @@ pub(crate) fn ask(
 ) -> Result<End, Memory>
     requires { MaySettle lim st.old t frame.next }
     ensures { IfOk result (λ end. (row : TaskRow) → IsRow st.old t row
-        → (st.new, end) ≡ stopped lim st.old t row frame (Stop.Make task.frame task.args task.effects how.spawned how.future how.place)) }
+        → (st.new, end) ≡ stop_result lim st.old t row frame (Stop.Make task.frame task.args task.effects how.spawned how.future how.place)) }
 {
     if st.asked + 1 < lim.tasks {
         let child = make(alloc, lim, st, t, frame, task, how)?;

@@ -1,7 +1,7 @@
 //! Taking one move.
 ghost use Rattle.std.specs.Prelude.{◌≡◌, ◌<◌, length, IfOk, slice_get};
 ghost use Rattle.twe_machine.specs.Legal.{MayMove};
-ghost use Rattle.twe_machine.specs.Moves.{admitted, moved};
+ghost use Rattle.twe_machine.specs.Moves.{admitted, move_result};
 ghost use Rattle.twe_machine.specs.Runs.{IsReached};
 
 use crate::running::run;
@@ -16,7 +16,7 @@ use twe_program::Prog;
 pub fn step(alloc: Global, p: &Prog, lim: Limits, st: &mut State, mv: Move) -> Result<End, Memory>
     requires reached { IsReached p.now lim st.old }
     requires legal { MayMove st.old mv }
-    ensures { IfOk result (λ end. (st.new, end) ≡ moved p.now lim st.old mv) }
+    ensures { IfOk result (λ end. (st.new, end) ≡ move_result p.now lim st.old mv) }
 {
     let _main = p.main;
     let _tasks = lim.tasks;

@@ -2,7 +2,7 @@
 ghost use Rattle.std.specs.Prelude.{◌≡◌, ◌<◌, length, IfOk, OnOk, slice_get};
 ghost use Rattle.std.specs.Option.{ForSome};
 ghost use Rattle.twe_machine.specs.declared.state.TaskRow.{TaskRow};
-ghost use Rattle.twe_machine.specs.Moves.{MaySettle, going_row, home, settled, stopped};
+ghost use Rattle.twe_machine.specs.Moves.{MaySettle, going_row, state_after_storing, settling_result, stop_result};
 ghost use Rattle.twe_machine.specs.Rows.{IsRow, awaited};
 
 use crate::coming_home::come_home;
@@ -29,7 +29,7 @@ pub fn settle(
     stop: Stop,
 ) -> Result<End, Memory>
     requires { MaySettle lim st.old t frame.next }
-    ensures { IfOk result (λ end. (st.new, end) ≡ settled lim st.old t (slice_get st.old.tasks t) frame stop) }
+    ensures { IfOk result (λ end. (st.new, end) ≡ settling_result lim st.old t (slice_get st.old.tasks t) frame stop) }
 {
     take_join(st, t);
     stop_task(alloc, lim, st, t, frame, stop)
@@ -46,7 +46,7 @@ fn stop_task(
 ) -> Result<End, Memory>
     requires { MaySettle lim st.old t frame.next }
     ensures { IfOk result (λ end. (row : TaskRow) → IsRow st.old t row
-        → (st.new, end) ≡ stopped lim st.old t row frame stop) }
+        → (st.new, end) ≡ stop_result lim st.old t row frame stop) }
 {
     match stop {
         Stop::Make {
@@ -81,7 +81,7 @@ fn go_on(alloc: Global, st: &mut State, t: u32, frame: Frame, end: End) -> Resul
     requires there { t < length st.old.tasks }
     requires linked { length st.old.links ≡ length st.old.tasks }
     requires above { ForSome (awaited frame.next) (λ on. (t < on) × (on < length st.old.tasks)) }
-    ensures state { OnOk result ((row : TaskRow) → IsRow st.old t row → st.new ≡ home st.old t frame (going_row row frame)) }
+    ensures state { OnOk result ((row : TaskRow) → IsRow st.old t row → st.new ≡ state_after_storing st.old t frame (going_row row frame)) }
     ensures end { IfOk result (λ told. told ≡ end) }
 {
     come_home(alloc, st, t, frame)?;

@@ -3,7 +3,7 @@ ghost use Rattle.std.specs.Prelude.{◌≡◌, ◌<◌, ◌==◌, length, IfSome
 ghost use Rattle.std.specs.List.{list_any};
 ghost use Rattle.wait_graph.specs.Link.{link_of};
 ghost use Rattle.twe_machine.specs.declared.state.TaskRow.{TaskRow};
-ghost use Rattle.twe_machine.specs.Moves.{joined, joined_child};
+ghost use Rattle.twe_machine.specs.Moves.{state_after_join, joined_child};
 ghost use Rattle.twe_machine.specs.Rows.{IsRow};
 
 use crate::state::State;
@@ -38,7 +38,7 @@ pub(crate) fn take_join(st: &mut State, t: u32)
     requires there { t < length st.old.tasks }
     requires linked { length st.old.links ≡ length st.old.tasks }
     ensures state { (row : TaskRow) → IsRow st.old t row
-        → st.new ≡ joined st.old (joined_child row.out (link_of st.old.links t).waits) }
+        → st.new ≡ state_after_join st.old (joined_child row.out (link_of st.old.links t).waits) }
     ensures kept { (row : TaskRow) → IsRow st.old t row → IsRow st.new t row }
     ensures asked { st.new.asked ≡ st.old.asked }
     ensures rows { length st.new.tasks ≡ length st.old.tasks }

@@ -4,7 +4,7 @@ ghost use Rattle.std.specs.Option.{ForSome};
 ghost use Rattle.seg_journal.specs.declared.journal.End.TheVariants as ends;
 ghost use Rattle.twe_machine.specs.declared.state.TaskRow.{TaskRow};
 ghost use Rattle.twe_machine.specs.declared.state.TaskStatus.TheVariants.{Done};
-ghost use Rattle.twe_machine.specs.Moves.{faulted, finished, first_fault_of, stopped_frame};
+ghost use Rattle.twe_machine.specs.Moves.{state_after_fault, state_after_finish, first_fault_of, stopped_frame};
 ghost use Rattle.twe_machine.specs.Rows.{IsRow, awaited};
 
 use crate::coming_home::come_home;
@@ -25,7 +25,7 @@ pub(crate) fn finish(
     requires there { t < length st.old.tasks }
     requires linked { length st.old.links ≡ length st.old.tasks }
     requires above { ForSome (awaited frame.next) (λ on. (t < on) × (on < length st.old.tasks)) }
-    ensures state { OnOk result ((row : TaskRow) → IsRow st.old t row → st.new ≡ finished st.old t row frame value) }
+    ensures state { OnOk result ((row : TaskRow) → IsRow st.old t row → st.new ≡ state_after_finish st.old t row frame value) }
     ensures end { IfOk result (λ end. end ≡ ends.Done value) }
 {
     come_home(alloc, st, t, frame)?;
@@ -54,7 +54,7 @@ pub(crate) fn fail(
     requires there { t < length st.old.tasks }
     requires linked { length st.old.links ≡ length st.old.tasks }
     requires above { ForSome (awaited frame.next) (λ on. (t < on) × (on < length st.old.tasks)) }
-    ensures state { OnOk result ((row : TaskRow) → IsRow st.old t row → st.new ≡ faulted st.old t row frame kind place) }
+    ensures state { OnOk result ((row : TaskRow) → IsRow st.old t row → st.new ≡ state_after_fault st.old t row frame kind place) }
     ensures end { IfOk result (λ end. end ≡ ends.Fault kind place) }
 {
     come_home(alloc, st, t, frame)?;

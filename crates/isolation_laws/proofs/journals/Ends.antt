@@ -10,7 +10,7 @@ use Rattle.wait_graph.specs.Waiting.{IsDone, SpawnedBy, WaitsForNobody}
 use Rattle.twe_machine.specs.declared.state.State.{State}
 use Rattle.twe_machine.specs.declared.state.TaskRow.{TaskRow}
 use Rattle.twe_machine.specs.declared.state.TaskStatus.TheVariants.{Done, Enabled, Faulted}
-use Rattle.twe_machine.specs.Moves.{asking, done_row, emptied, faulted, faulted_row, finished, going_row, home, joined, stopped_frame}
+use Rattle.twe_machine.specs.Moves.{state_after_asking, done_row, frame_without_prints, state_after_fault, faulted_row, state_after_finish, going_row, state_after_storing, state_after_join, stopped_frame}
 use Rattle.twe_machine.specs.Rows.{IsRow, LinksAgree, awaited}
 use Rattle.isolation_laws.proofs.rows.Continuing.{Became, Continues}
 use Rattle.isolation_laws.proofs.frames.Frames.{OnPath}
@@ -20,10 +20,10 @@ use Rattle.isolation_laws.proofs.rows.Joining.{DoneAreChildless}
 use Rattle.isolation_laws.proofs.journals.Known.{Kept}
 
 -- the printed numbers do not matter for arguments and paths
-pub runs_emptied : (p : Program) (args : List ℤ) (frame : Frame) → RunsWith p args frame → RunsWith p args (emptied frame)
+pub runs_emptied : (p : Program) (args : List ℤ) (frame : Frame) → RunsWith p args frame → RunsWith p args (frame_without_prints frame)
 runs_emptied p args frame runs = record { count = runs.count; params = runs.params; next = runs.next }
 
-pub on_path_emptied : (p : Program) (rows : List TaskRow) (frame : Frame) → OnPath p rows frame → OnPath p rows (emptied frame)
+pub on_path_emptied : (p : Program) (rows : List TaskRow) (frame : Frame) → OnPath p rows frame → OnPath p rows (frame_without_prints frame)
 on_path_emptied p rows frame on_path = record { path = on_path.path; reached = on_path.reached; children = on_path.children }
 
 pub runs_stopped : (p : Program) (args : List ℤ) (frame : Frame) → RunsWith p args frame → RunsWith p args (stopped_frame frame)
@@ -42,16 +42,16 @@ module _ (p : Program) (st : State) (kept : Kept p st) (agree : LinksAgree st) (
     (done : (child : ℕ) → o ≡ Some child → IsDone st.links child) (t : ℕ) (row : TaskRow) (is_t : IsRow st t row) (nobody : WaitsForNobody st.links t)
     (frame : Frame) (runs : RunsWith p row.args frame) where
   -- the task goes on
-  pub kept_going : ((new : State) → Continues st new → ¬ (frame.body ≡ None) → OnPath p new.tasks frame) → Kept p (home (joined st o) t frame (going_row row frame))
+  pub kept_going : ((new : State) → Continues st new → ¬ (frame.body ≡ None) → OnPath p new.tasks frame) → Kept p (state_after_storing (state_after_join st o) t frame (going_row row frame))
   kept_going path =
       let new = going_row row frame in
       let became = going_became row frame in
       kept_home p st kept o t row is_t frame new became (runs_emptied p row.args frame runs)
-      (λ some. on_path_emptied p _ frame (path (home (joined st o) t frame new) (continues_home st o t row is_t frame new became) some))
+      (λ some. on_path_emptied p _ frame (path (state_after_storing (state_after_join st o) t frame new) (continues_home st o t row is_t frame new became) some))
       (isolated_home st o t row is_t agree childless done nobody frame new became (λ e. e) kept.isolated)
 
   -- it has met a fault
-  pub kept_faulted : frame.body ≡ None → (kind : FaultKind) (place : Place) → Kept p (faulted (joined st o) t row frame kind place)
+  pub kept_faulted : frame.body ≡ None → (kind : FaultKind) (place : Place) → Kept p (state_after_fault (state_after_join st o) t row frame kind place)
   kept_faulted none kind place =
       let new = faulted_row row frame in
       let became = faulted_became row frame in
@@ -60,7 +60,7 @@ module _ (p : Program) (st : State) (kept : Kept p st) (agree : LinksAgree st) (
       record { runs = k.runs; within = k.within; siblings = k.siblings; paths = k.paths; isolated = k.isolated }
 
   -- it would make one task too many
-  pub kept_limited : (kind : FaultKind) (place : Place) → Kept p (faulted (asking (joined st o)) t row (stopped_frame frame) kind place)
+  pub kept_limited : (kind : FaultKind) (place : Place) → Kept p (state_after_fault (state_after_asking (state_after_join st o)) t row (stopped_frame frame) kind place)
   kept_limited kind place =
       let stopped = stopped_frame frame in
       let new = faulted_row row stopped in
@@ -71,8 +71,8 @@ module _ (p : Program) (st : State) (kept : Kept p st) (agree : LinksAgree st) (
 
   -- it is done
   pub kept_finished : (value : ℤ) → frame.body ≡ None → awaited frame.next ≡ None
-      → ((x : ℕ) → ¬ SpawnedBy (with_done (home (joined st o) t frame (done_row row frame value)).links t) x t)
-      → Kept p (finished (joined st o) t row frame value)
+      → ((x : ℕ) → ¬ SpawnedBy (with_done (state_after_storing (state_after_join st o) t frame (done_row row frame value)).links t) x t)
+      → Kept p (state_after_finish (state_after_join st o) t row frame value)
   kept_finished value none no_wait alone =
       let new = done_row row frame value in
       let became = done_became row frame value in

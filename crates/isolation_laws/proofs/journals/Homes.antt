@@ -7,7 +7,7 @@ use Rattle.soundness_laws.specs.RunsWith.{RunsWith}
 use Rattle.twe_machine.specs.declared.state.State.{State}
 use Rattle.twe_machine.specs.declared.state.TaskRow.{TaskRow}
 use Rattle.twe_machine.specs.Legal.{Isolated}
-use Rattle.twe_machine.specs.Moves.{home, joined}
+use Rattle.twe_machine.specs.Moves.{state_after_storing, state_after_join}
 use Rattle.twe_machine.specs.Rows.{IsRow}
 use Rattle.isolation_laws.proofs.rows.Continuing.{Became, Continues, siblings_later, within_later}
 use Rattle.isolation_laws.proofs.frames.Frames.{ChildOut, OnPath}
@@ -31,7 +31,7 @@ on_path_later p old new frame continues on_path = record {
 }
 
 module _ (p : Program) (st : State) (kept : Kept p st) (o : Option ℕ) (t : ℕ) (row : TaskRow) (is_t : IsRow st t row) (frame : Frame) (new : TaskRow) where
-  pub runs_home : RunsWith p new.args new.frame → (s : ℕ) (b : TaskRow) → IsRow (home (joined st o) t frame new) s b → RunsWith p b.args b.frame
+  pub runs_home : RunsWith p new.args new.frame → (s : ℕ) (b : TaskRow) → IsRow (state_after_storing (state_after_join st o) t frame new) s b → RunsWith p b.args b.frame
   runs_home runs s b is = elim (rows_home st o t row is_t frame new s b is) [
     | inl here ↦ subst (λ (r : TaskRow). RunsWith p r.args r.frame) (sym here.1) runs
     | inr other ↦ runs_untouched p other.1.0 b other.1.2 (kept.runs s other.1.0 other.1.1)
@@ -39,10 +39,10 @@ module _ (p : Program) (st : State) (kept : Kept p st) (o : Option ℕ) (t : ℕ
 
 module _ (p : Program) (st : State) (kept : Kept p st) (o : Option ℕ) (t : ℕ) (row : TaskRow) (is_t : IsRow st t row) (frame : Frame) (new : TaskRow) (became : Became row new)
     (runs : RunsWith p new.args new.frame)
-    (path : ¬ (new.frame.body ≡ None) → OnPath p (home (joined st o) t frame new).tasks new.frame) where
-  paths_home : (s : ℕ) (b : TaskRow) → IsRow (home (joined st o) t frame new) s b → ¬ (b.frame.body ≡ None) → OnPath p (home (joined st o) t frame new).tasks b.frame
+    (path : ¬ (new.frame.body ≡ None) → OnPath p (state_after_storing (state_after_join st o) t frame new).tasks new.frame) where
+  paths_home : (s : ℕ) (b : TaskRow) → IsRow (state_after_storing (state_after_join st o) t frame new) s b → ¬ (b.frame.body ≡ None) → OnPath p (state_after_storing (state_after_join st o) t frame new).tasks b.frame
   paths_home s b is some =
-      let after = home (joined st o) t frame new in
+      let after = state_after_storing (state_after_join st o) t frame new in
       elim (rows_home st o t row is_t frame new s b is) [
         | inl here ↦
             subst (λ (r : TaskRow). OnPath p after.tasks r.frame) (sym here.1) (path (λ none. some (ap (λ (r : TaskRow). r.frame.body) here.1 ∙ none)))
@@ -54,9 +54,9 @@ module _ (p : Program) (st : State) (kept : Kept p st) (o : Option ℕ) (t : ℕ
       ]
 
   -- so the invariant holds, if the new state is isolated
-  pub kept_home : Isolated (home (joined st o) t frame new) → Kept p (home (joined st o) t frame new)
+  pub kept_home : Isolated (state_after_storing (state_after_join st o) t frame new) → Kept p (state_after_storing (state_after_join st o) t frame new)
   kept_home isolated =
-      let after = home (joined st o) t frame new in
+      let after = state_after_storing (state_after_join st o) t frame new in
       let continues = continues_home st o t row is_t frame new became in
       record {
         runs = runs_home p st kept o t row is_t frame new runs;

@@ -18,7 +18,7 @@ use Rattle.twe_machine.specs.declared.state.State.{State}
 use Rattle.twe_machine.specs.declared.state.TaskRow.{TaskRow}
 use Rattle.twe_machine.specs.declared.state.TaskStatus.TheVariants.{Enabled, Made}
 use Rattle.twe_machine.specs.Legal.{MayTake}
-use Rattle.twe_machine.specs.Moves.{admitted, moved, new_row, ran, start_of, taken}
+use Rattle.twe_machine.specs.Moves.{admitted, move_result, new_row, ran, start_of, result_by_kind}
 use Rattle.twe_machine.specs.Rows.{HasStatus, IsRow}
 use Rattle.twe_machine.specs.Runs.{AlwaysIsolated, IsReached, Legal, LegalFrom, replayed, state_after}
 use Rattle.twe_machine.proofs.ReachedStands.{reached_stands, start_stands, taken_stands}
@@ -38,7 +38,7 @@ legal_take : (p : Program) (lim : Bounds) (journal : List Entry) (n : ℕ) (st :
 legal_take p lim [] zero st legal = tt
 legal_take p lim [] (suc n) st legal = tt
 legal_take p lim (entry ∷ journal) zero st legal = tt
-legal_take p lim (entry ∷ journal) (suc n) st legal = (legal.0, legal.1, legal_take p lim journal n (moved p lim st entry.mv).0 legal.2)
+legal_take p lim (entry ∷ journal) (suc n) st legal = (legal.0, legal.1, legal_take p lim journal n (move_result p lim st entry.mv).0 legal.2)
 
 pub beginnings_legal : (p : Program) (lim : Bounds) (journal : List Entry) (n : ℕ) → Legal p lim journal → Legal p lim (take n journal)
 beginnings_legal p lim journal n legal = legal_take p lim journal n (start_of p lim) legal
@@ -62,7 +62,7 @@ module _ (p : Program) (wf : IsWellFormed p) (keeps : KeepsEffects p) (lim : Bou
   run_by st t None is stands kept may later = kept
   run_by st t (Some row) is stands kept may later = segment_kept p wf keeps lim st stands kept t row is may later
 
-  move_kept : (st : State) (kind : Kind) (t : ℕ) → Stands p lim st → Kept p st → MayTake st kind t → Stands p lim (taken p lim st kind t).0 → Kept p (taken p lim st kind t).0
+  move_kept : (st : State) (kind : Kind) (t : ℕ) → Stands p lim st → Kept p st → MayTake st kind t → Stands p lim (result_by_kind p lim st kind t).0 → Kept p (result_by_kind p lim st kind t).0
   move_kept st Admit t stands kept may later = admit_by st t (slice_get st.tasks t) refl kept may
   move_kept st Run t stands kept may later = run_by st t (slice_get st.tasks t) refl stands kept may later
 
@@ -71,7 +71,7 @@ module _ (p : Program) (wf : IsWellFormed p) (keeps : KeepsEffects p) (lim : Bou
   whole_kept [] st legal stands kept = kept
   whole_kept (entry ∷ journal) st legal stands kept =
       let later = taken_stands p lim wf st entry.mv.kind entry.mv.task legal.0 stands in
-      whole_kept journal (moved p lim st entry.mv).0 legal.2 later (move_kept st entry.mv.kind entry.mv.task stands kept legal.0 later)
+      whole_kept journal (move_result p lim st entry.mv).0 legal.2 later (move_kept st entry.mv.kind entry.mv.task stands kept legal.0 later)
 
   -- the start, with `main` alone, has it
   abbrev first : TaskRow

@@ -20,7 +20,7 @@ use Rattle.segment_laws.specs.Keeps.{NextAfter}
 use Rattle.segment_laws.proofs.SegmentKept.{segment_keeps}
 use Rattle.twe_machine.specs.declared.state.State.{State}
 use Rattle.twe_machine.specs.declared.state.TaskRow.{TaskRow}
-use Rattle.twe_machine.specs.Moves.{emptied, going_row, home, joined, joined_rows, making_frame, new_row, parent_of}
+use Rattle.twe_machine.specs.Moves.{frame_without_prints, going_row, state_after_storing, state_after_join, joined_rows, making_frame, new_row, parent_of}
 use Rattle.twe_machine.specs.Rows.{IsRow}
 use Rattle.isolation_laws.proofs.rows.Adding.{row_added, with_row}
 use Rattle.isolation_laws.proofs.frames.Afterwards.{after}
@@ -32,19 +32,19 @@ length_joined_by : (rows : List TaskRow) (child : ℕ) (r : Option TaskRow) → 
 length_joined_by rows child None = refl
 length_joined_by rows child (Some row) = length_set rows child _
 
-pub length_joined : (st : State) (o : Option ℕ) → length (joined st o).tasks ≡ length st.tasks
+pub length_joined : (st : State) (o : Option ℕ) → length (state_after_join st o).tasks ≡ length st.tasks
 length_joined st None = refl
 length_joined st (Some child) = length_joined_by st.tasks child (slice_get st.tasks child)
 
-pub length_home : (st : State) (o : Option ℕ) (t : ℕ) (frame : Frame) (row : TaskRow) → length (home (joined st o) t frame row).tasks ≡ length st.tasks
-length_home st o t frame row = length_set (joined st o).tasks t row ∙ length_joined st o
+pub length_home : (st : State) (o : Option ℕ) (t : ℕ) (frame : Frame) (row : TaskRow) → length (state_after_storing (state_after_join st o) t frame row).tasks ≡ length st.tasks
+length_home st o t frame row = length_set (state_after_join st o).tasks t row ∙ length_joined st o
 
 -- the frame of a task that has made a task of this number, and the state without the new task
 abbrev pub maker : Program → TaskRow → ℤ → List ℤ → Bool → ℕ → ℕ → Frame
 maker p row value cells spawned future number = making_frame future spawned number (after p row.frame value cells)
 
 abbrev pub mid : State → Option ℕ → ℕ → TaskRow → Frame → State
-mid st o t row frame = home (joined st o) t frame (going_row row frame)
+mid st o t row frame = state_after_storing (state_after_join st o) t frame (going_row row frame)
 
 -- the segment of t stops at a make
 abbrev pub StopsAtMake : Program → TaskRow → ℤ → List ℤ → Frame → List ℤ → Summary → Bool → ℕ → Place → Type 0
@@ -58,7 +58,7 @@ module _ (p : Program) (wf : IsWellFormed p) (keeps : KeepsEffects p) (lim : Bou
   before_runs : RunsWith p row.args (given row.frame value)
   before_runs = given_runs p row.args row.frame (kept.runs t row is_t) value
 
-  maker_runs : RunsWith p row.args (emptied (maker p row value cells spawned future number))
+  maker_runs : RunsWith p row.args (frame_without_prints (maker p row value cells spawned future number))
   maker_runs =
       let r = segment_later p wf keeps row.args (given row.frame value) before_runs cells in
       record { count = r.count; params = r.params; next = r.next }

@@ -23,7 +23,7 @@ use Rattle.twe_machine.specs.declared.state.State.{State}
 use Rattle.twe_machine.specs.declared.state.TaskRow.{TaskRow}
 use Rattle.twe_machine.specs.declared.state.TaskStatus.TheVariants.{Enabled}
 use Rattle.twe_machine.specs.Legal.{Isolated}
-use Rattle.twe_machine.specs.Moves.{going_row, joined, new_row, out_with, parent_of, status_at_start}
+use Rattle.twe_machine.specs.Moves.{going_row, state_after_join, new_row, out_with, parent_of, status_at_start}
 use Rattle.twe_machine.specs.Rows.{HasStatus, IsRow, LinksAgree, awaited, link_of_row}
 use Rattle.twe_machine.proofs.Standing.{Stands}
 use Rattle.isolation_laws.specs.Within.{EffectsWithin, SpawnedWithin}
@@ -78,7 +78,7 @@ module _ (p : Program) (wf : IsWellFormed p) (keeps : KeepsEffects p) (lim : Bou
   pub own_row : IsRow between t (going_row row frame)
   own_row =
       let here = slice_get_within st.tasks t row is_t in
-      get_set_within (joined st o).tasks t (going_row row frame) (omega (arith, length_joined st o))
+      get_set_within (state_after_join st o).tasks t (going_row row frame) (omega (arith, length_joined st o))
 
   nobody_mid : WaitsForNobody between.links t
   nobody_mid =

@@ -30,7 +30,7 @@ use Rattle.twe_machine.specs.declared.state.State.{State}
 use Rattle.twe_machine.specs.declared.state.TaskRow.{TaskRow}
 use Rattle.twe_machine.specs.declared.state.TaskStatus.TheVariants.{Enabled}
 use Rattle.twe_machine.specs.Legal.{MayRun}
-use Rattle.twe_machine.specs.Moves.{awaited_value, done_row, faulted, asking, going_row, having_made, home, joined, joined_child, making_frame, ready, stopped, stopped_frame}
+use Rattle.twe_machine.specs.Moves.{awaited_value, done_row, state_after_fault, state_after_asking, going_row, state_after_make, state_after_storing, state_after_join, joined_child, making_frame, ready_frame, stop_result, stopped_frame}
 use Rattle.twe_machine.specs.Rows.{IsRow, awaited}
 use Rattle.twe_machine.proofs.Members.{EachOnce, contains_in, without_once, without_other}
 use Rattle.twe_machine.proofs.Standing.{Stands}
@@ -74,7 +74,7 @@ still_once Ended out once = once
 none_twice : (out : List ℕ) (u : ℕ) → EachOnce out → IsIn u (without u out) → ⊥
 none_twice out u once here = without_other out u u once (contains_in (without u out) u (in-contains (without u out) u here)) refl
 
-asked_joined : (st : State) (o : Option ℕ) → (joined st o).asked ≡ st.asked
+asked_joined : (st : State) (o : Option ℕ) → (state_after_join st o).asked ≡ st.asked
 asked_joined st None = refl
 asked_joined st (Some child) = refl
 
@@ -87,17 +87,17 @@ module _ (p : Program) (wf : IsWellFormed p) (keeps : KeepsEffects p) (lim : Bou
   frame = after p row.frame value old.cells
 
   abbrev stop : Stop
-  stop = (segment p (ready old.tasks row.frame) old.cells).stop
+  stop = (segment p (ready_frame old.tasks row.frame) old.cells).stop
 
   -- the state with the cells after the segment, and the child that is joined
   abbrev st : State
-  st = record old { cells = (segment p (ready old.tasks row.frame) old.cells).cells }
+  st = record old { cells = (segment p (ready_frame old.tasks row.frame) old.cells).cells }
 
   abbrev o : Option ℕ
   o = joined_child row.out (link_of old.links t).waits
 
-  keeping : SegmentKeeps (ready old.tasks row.frame) old.cells (segment p (ready old.tasks row.frame) old.cells)
-  keeping = segment_keeps p (ready old.tasks row.frame) old.cells
+  keeping : SegmentKeeps (ready_frame old.tasks row.frame) old.cells (segment p (ready_frame old.tasks row.frame) old.cells)
+  keeping = segment_keeps p (ready_frame old.tasks row.frame) old.cells
 
   kept : Kept p st
   kept = kept_cells p old st.cells old_kept
@@ -112,7 +112,7 @@ module _ (p : Program) (wf : IsWellFormed p) (keeps : KeepsEffects p) (lim : Bou
   done child e = joined_child_done old.links row.out t child may.1 e
 
   runs : RunsWith p row.args frame
-  runs = segment_later p wf keeps row.args (ready old.tasks row.frame) (given_runs p row.args row.frame (old_kept.runs t row is_t) value) old.cells
+  runs = segment_later p wf keeps row.args (ready_frame old.tasks row.frame) (given_runs p row.args row.frame (old_kept.runs t row is_t) value) old.cells
 
   once : (u : ℕ) → IsIn u (without u frame.out) → ⊥
   once u here =
@@ -123,17 +123,17 @@ module _ (p : Program) (wf : IsWellFormed p) (keeps : KeepsEffects p) (lim : Bou
   next_is s is = subst (λ (x : Stop). NextAfter x frame) is keeping.next
 
   -- the segment stops at a wait for a value, or at a join of a child
-  go_on : ((new : State) → Continues st new → ¬ (frame.body ≡ None) → OnPath p new.tasks frame) → Kept p (home (joined st o) t frame (going_row row frame))
+  go_on : ((new : State) → Continues st new → ¬ (frame.body ≡ None) → OnPath p new.tasks frame) → Kept p (state_after_storing (state_after_join st o) t frame (going_row row frame))
   go_on path = kept_going p st kept stands.links (done_childless p lim st stands) o done t row is_t may.1 frame runs path
 
-  waits : (on : ℕ) → stop ≡ ends.Waits on → Kept p (home (joined st o) t frame (going_row row frame))
+  waits : (on : ℕ) → stop ≡ ends.Waits on → Kept p (state_after_storing (state_after_join st o) t frame (going_row row frame))
   waits on is =
       let next = next_is (ends.Waits on) is in
       go_on
       (λ new continues some.
       got p st row.frame value old.cells (kept.paths t row is_t (some_at_get p row.frame value old.cells on next.0 next.1)) new continues on next.0 next.1)
 
-  joins : (on : ℕ) → stop ≡ ends.Joins on → Kept p (home (joined st o) t frame (going_row row frame))
+  joins : (on : ℕ) → stop ≡ ends.Joins on → Kept p (state_after_storing (state_after_join st o) t frame (going_row row frame))
   joins on is = elim (next_is (ends.Joins on) is) [
     | inl next ↦
         go_on
@@ -143,27 +143,27 @@ module _ (p : Program) (wf : IsWellFormed p) (keeps : KeepsEffects p) (lim : Bou
   ]
 
   -- the row of t is the one that was set
-  set_row : (changed : TaskRow) (new : Frame) → IsRow (home (joined st o) t new changed) t changed
+  set_row : (changed : TaskRow) (new : Frame) → IsRow (state_after_storing (state_after_join st o) t new changed) t changed
   set_row changed new =
       let here = slice_get_within old.tasks t row is_t in
-      get_set_within (joined st o).tasks t changed (omega (arith, length_joined st o))
+      get_set_within (state_after_join st o).tasks t changed (omega (arith, length_joined st o))
 
-  is_done : (value_of : ℤ) → stop ≡ ends.Done value_of → Stands p lim (stopped lim (joined st o) t row frame (ends.Done value_of)).0
-      → Kept p (stopped lim (joined st o) t row frame (ends.Done value_of)).0
+  is_done : (value_of : ℤ) → stop ≡ ends.Done value_of → Stands p lim (stop_result lim (state_after_join st o) t row frame (ends.Done value_of)).0
+      → Kept p (stop_result lim (state_after_join st o) t row frame (ends.Done value_of)).0
   is_done value_of is later =
       let next = next_is (ends.Done value_of) is in
       kept_finished p st kept stands.links (done_childless p lim st stands) o done t row is_t may.1 frame runs value_of next.1 (ap awaited next.0)
-      (done_alone p lim (stopped lim (joined st o) t row frame (ends.Done value_of)).0 later t (done_row row frame value_of) (set_row (done_row row frame value_of) frame) refl)
+      (done_alone p lim (stop_result lim (state_after_join st o) t row frame (ends.Done value_of)).0 later t (done_row row frame value_of) (set_row (done_row row frame value_of) frame) refl)
 
   module _ (child : Frame) (args : List ℤ) (effects : Summary) (spawned : Bool) (future : ℕ) (place : Place) (is : stop ≡ ends.Make child args effects spawned future place) where
     abbrev number : ℕ
-    number = (joined st o).asked + 1
+    number = (state_after_join st o).asked + 1
 
     abbrev making : Frame
     making = making_frame future spawned number frame
 
     abbrev made : State
-    made = having_made lim (joined st o) t row frame future spawned child args effects
+    made = state_after_make lim (state_after_join st o) t row frame future spawned child args effects
 
     counted : number < lim.tasks → number ≡ length st.tasks
     counted below =
@@ -183,20 +183,20 @@ module _ (p : Program) (wf : IsWellFormed p) (keeps : KeepsEffects p) (lim : Bou
 
     -- the state after the make, or after a fault if the limit on tasks is reached
     abbrev by_limit : Bool → State × End
-    by_limit b = if b then (made, moves_end.Made number) else (faulted (asking (joined st o)) t row (stopped_frame frame) TaskLimit place, moves_end.Fault TaskLimit place)
+    by_limit b = if b then (made, moves_end.Made number) else (state_after_fault (state_after_asking (state_after_join st o)) t row (stopped_frame frame) TaskLimit place, moves_end.Fault TaskLimit place)
 
     limited : (b : Bool) → nat_lt number lim.tasks ≡ b → Stands p lim (by_limit b).0 → Kept p (by_limit b).0
     limited true e later = makes (ltb-true number lim.tasks e) later
     limited false e later = kept_limited p st kept stands.links (done_childless p lim st stands) o done t row is_t may.1 frame runs TaskLimit place
 
-  after_stop : (s : Stop) → stop ≡ s → Stands p lim (stopped lim (joined st o) t row frame s).0 → Kept p (stopped lim (joined st o) t row frame s).0
+  after_stop : (s : Stop) → stop ≡ s → Stands p lim (stop_result lim (state_after_join st o) t row frame s).0 → Kept p (stop_result lim (state_after_join st o) t row frame s).0
   after_stop (ends.Make child args effects spawned future place) is later =
-      limited child args effects spawned future place is (nat_lt ((joined st o).asked + 1) lim.tasks) refl later
+      limited child args effects spawned future place is (nat_lt ((state_after_join st o).asked + 1) lim.tasks) refl later
   after_stop (ends.Waits on) is later = waits on is
   after_stop (ends.Joins on) is later = joins on is
   after_stop (ends.Done value_of) is later = is_done value_of is later
   after_stop (ends.Fault kind place) is later =
       kept_faulted p st kept stands.links (done_childless p lim st stands) o done t row is_t may.1 frame runs (next_is (ends.Fault kind place) is).1 kind place
 
-  pub segment_kept : Stands p lim (stopped lim (joined st o) t row frame stop).0 → Kept p (stopped lim (joined st o) t row frame stop).0
+  pub segment_kept : Stands p lim (stop_result lim (state_after_join st o) t row frame stop).0 → Kept p (stop_result lim (state_after_join st o) t row frame stop).0
   segment_kept later = after_stop stop refl later

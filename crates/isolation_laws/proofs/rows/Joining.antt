@@ -11,7 +11,7 @@ use Rattle.wait_graph.proofs.WaitingLemmas.{WaitsForNobody-waits}
 use Rattle.twe_machine.specs.declared.state.State.{State}
 use Rattle.twe_machine.specs.declared.state.TaskRow.{TaskRow}
 use Rattle.twe_machine.specs.declared.state.TaskStatus.TheVariants.{Enabled}
-use Rattle.twe_machine.specs.Moves.{joined, joined_child, joined_row, joined_rows}
+use Rattle.twe_machine.specs.Moves.{state_after_join, joined_child, joined_row, joined_rows}
 use Rattle.twe_machine.specs.Rows.{HasStatus, IsRow, LinksAgree}
 use Rattle.isolation_laws.proofs.rows.Continuing.{Became, became_itself}
 use Rattle.isolation_laws.proofs.rows.Gets.{get_set}
@@ -46,7 +46,7 @@ untouches_rows rows child (Some row) found s b is = elim (get_set rows child s (
   | inr other ↦ (b, other.1, untouched_itself b)
 ]
 
-pub untouches_joined : (st : State) (o : Option ℕ) → Untouches st (joined st o)
+pub untouches_joined : (st : State) (o : Option ℕ) → Untouches st (state_after_join st o)
 untouches_joined st None s b is = (b, is, untouched_itself b)
 untouches_joined st (Some child) s b is = untouches_rows st.tasks child (slice_get st.tasks child) refl s b is
 
@@ -66,12 +66,12 @@ joined_child_done links out t child nobody e = (WaitsForNobody-waits links t).0 
 abbrev pub DoneAreChildless : List Link → Type 0
 DoneAreChildless links = (u c : ℕ) → IsDone links u → ¬ SpawnedBy links c u
 
-pub nobody_joined : (st : State) (o : Option ℕ) (t : ℕ) → WaitsForNobody st.links t → WaitsForNobody (joined st o).links t
+pub nobody_joined : (st : State) (o : Option ℕ) (t : ℕ) → WaitsForNobody st.links t → WaitsForNobody (state_after_join st o).links t
 nobody_joined st None t nobody = nobody
 nobody_joined st (Some child) t nobody = λ u w. nobody u ((WaitsFor-with_joined st.links child t u).0 w)
 
 pub yields_joined : (st : State) (o : Option ℕ) → LinksAgree st → DoneAreChildless st.links → ((child : ℕ) → o ≡ Some child → IsDone st.links child)
-    → (s c : ℕ) → HasStatus st c Enabled → YieldsTo st.links s c → YieldsTo (joined st o).links s c
+    → (s c : ℕ) → HasStatus st c Enabled → YieldsTo st.links s c → YieldsTo (state_after_join st o).links s c
 yields_joined st None agree childless done s c may yields = yields
 yields_joined st (Some child) agree childless done s c may yields =
     let is_done = done child refl in

@@ -29,7 +29,7 @@ use Rattle.wait_graph.proofs.WaitingLemmas.{WaitsForNobody-waits}
 use Rattle.twe_machine.specs.declared.state.State.{State}
 use Rattle.twe_machine.specs.declared.state.TaskRow.{TaskRow}
 use Rattle.twe_machine.specs.Legal.{MayRun}
-use Rattle.twe_machine.specs.Moves.{awaited_value, ready}
+use Rattle.twe_machine.specs.Moves.{awaited_value, ready_frame}
 use Rattle.twe_machine.specs.Rows.{IsRow, awaited}
 use Rattle.twe_machine.specs.Runs.{IsReached, Legal}
 use Rattle.twe_machine.proofs.Members.{contains_in, in_contains, in_without}
@@ -80,10 +80,10 @@ module _ (p : Program) (wf : IsWellFormed p) (keeps : KeepsEffects p) (lim : Bou
       let known = stands.rows s row is in
       let value = awaited_value st.tasks (awaited row.frame.next) in
       let runs = given_runs p row.args row.frame (kept.runs s row is) value in
-      let decl : (ready st.tasks row.frame).decl ≡ row.decl = given_decl row.frame value ∙ known.decl in
-      let same : effects_at p (ready st.tasks row.frame).decl row.args ≡ row.effects = ap (λ (n : ℕ). effects_at p n row.args) decl ∙ sym known.effects in
+      let decl : (ready_frame st.tasks row.frame).decl ≡ row.decl = given_decl row.frame value ∙ known.decl in
+      let same : effects_at p (ready_frame st.tasks row.frame).decl row.args ≡ row.effects = ap (λ (n : ℕ). effects_at p n row.args) decl ∙ sym known.effects in
       subst (λ (effects : Summary). SomeCoversAccess effects.effects (access_of p access)) same
-      (segment_declared p wf keeps row.args (ready st.tasks row.frame) runs cells access here)
+      (segment_declared p wf keeps row.args (ready_frame st.tasks row.frame) runs cells access here)
 
   -- if a task may run, its next segment joins the child that its frame waits to join
   will_join : (t c : ℕ) (row : TaskRow) → IsRow st t row → MayRun st t → child_to_join row.frame.next ≡ Some c → WillJoin st row c
@@ -104,13 +104,13 @@ module _ (p : Program) (wf : IsWellFormed p) (keeps : KeepsEffects p) (lim : Bou
       let value = awaited_value st.tasks (awaited row.frame.next) in
       let decl = taker (slice_get p.tasks row.frame.decl) (length row.args) (kept.runs t row is).count in
       let es = child.effects.effects in
-      let all = segment_spares p wf keeps es decl.0 (ready st.tasks row.frame) cells (λ some.
+      let all = segment_spares p wf keeps es decl.0 (ready_frame st.tasks row.frame) cells (λ some.
       let path = kept.paths t row is (λ none. some (given_none row.frame value none)) in
       let out = path.children c child (child_out t c row is may by other) is_c in
       let reached = subst (λ (o : Option Decl). Reached (body_of o) (left_of p row.frame) path.path) decl.1 path.reached in
       subst (IsFine p es decl.0) (sym (given_left p row.frame value))
       (left_fine p wf keeps decl.0 row.frame.decl decl.1 row.frame.futures path.path c child.effects out (left_of p row.frame) reached)) in
-      all-in (λ (a : Access). Spares es (access_of p a)) (segment p (ready st.tasks row.frame) cells).accesses all access (contains-in _ access here)
+      all-in (λ (a : Access). Spares es (access_of p a)) (segment p (ready_frame st.tasks row.frame) cells).accesses all access (contains-in _ access here)
 
   covered_now : AccessesAreCovered p st
   covered_now t row is may cells access here = record {

@@ -7,7 +7,7 @@ use Rattle.seg_exec.specs.declared.frame.Next.TheVariants.{Ended}
 use Rattle.seg_exec.specs.Segment.{segment}
 use Rattle.twe_machine.specs.declared.state.State.{State}
 use Rattle.twe_machine.specs.declared.state.TaskRow.{TaskRow}
-use Rattle.twe_machine.specs.Moves.{MaySettle, ready}
+use Rattle.twe_machine.specs.Moves.{MaySettle, ready_frame}
 use Rattle.twe_machine.specs.Rows.{IsRow}
 
 -- a frame with nothing left to run
@@ -31,4 +31,4 @@ without_frame row = record row { frame = no_frame }
 -- the frame that the next segment of t leaves may be settled
 abbrev pub SettlesAfter : Program → Bounds → State → ℕ → Type 0
 SettlesAfter p lim st t =
-    (row : TaskRow) → IsRow st t row → MaySettle lim st t (segment p (ready st.tasks row.frame) st.cells).frame.next
+    (row : TaskRow) → IsRow st t row → MaySettle lim st t (segment p (ready_frame st.tasks row.frame) st.cells).frame.next

@@ -5,7 +5,7 @@ use Rattle.twe_program.specs.WellFormed.{IsWellFormed}
 use Rattle.twe_machine.specs.declared.state.State.{State}
 use Rattle.twe_machine.specs.declared.state.TaskStatus.TheVariants.{Done}
 use Rattle.twe_machine.specs.declared.ending.Outcome.TheVariants.{AllDone}
-use Rattle.twe_machine.specs.Moves.{moved}
+use Rattle.twe_machine.specs.Moves.{move_result}
 use Rattle.twe_machine.specs.Rows.{HasStatus}
 use Rattle.twe_machine.specs.Runs.{AllTasksDone, EachAtMostOnce, EachOnce, Legal, entry_of}
 use Rattle.twe_machine.proofs.DoneStays.{done_stays}
@@ -41,7 +41,7 @@ moves-preserved c =
     let more = goes_on p c.args.lim c.moves.journal c.moves.st c.in-Some.mv c.moves.invariant.going c.in-Some.ensures.unfinished c.in-Some.ensures.lowest in
     record {
       going = subst (λ (st : State). IsGoing p c.args.lim c.take.new.journal st) (sym c.in_ok-take.ensures.state)
-          (subst (λ (journal : List Entry). IsGoing p c.args.lim journal (moved p c.args.lim c.moves.st c.in-Some.mv).0) (sym c.in_ok-take.ensures.entered) more);
+          (subst (λ (journal : List Entry). IsGoing p c.args.lim journal (move_result p c.args.lim c.moves.st c.in-Some.mv).0) (sym c.in_ok-take.ensures.entered) more);
       done = c.count_done-done.ensures.done;
     }
 
