@@ -21,7 +21,7 @@ use Rattle.seg_exec.specs.declared.stop.Stop.TheVariants as stops
 use Rattle.seg_exec.specs.Segment.{segment}
 use Rattle.twe_machine.specs.declared.state.State.{State}
 use Rattle.twe_machine.specs.declared.state.TaskRow.{TaskRow}
-use Rattle.twe_machine.specs.Changes.{ChangesAsSegment, ChangesNoResult, LeavesAlone, ResultsAfter, TakesJoin, asked_by, fault_after, made_by, next_segment}
+use Rattle.twe_machine.specs.Changes.{ChangesAsSegment, ChangesNoResult, IsTaskOf, LeavesAlone, ResultsAfter, TakesJoin, asked_by, fault_after, made_by, next_segment}
 use Rattle.twe_machine.specs.Legal.{MayMove, MayTake}
 use Rattle.twe_machine.specs.Moves.{admitted, admitted_row, state_after_asking, done_row, state_after_fault, faulted_row, going_row, state_after_make, state_after_join, joined_child, joined_row, making_frame, move_result, new_row, parent_of, ran, ready_frame, stop_result, stopped_frame, result_by_kind}
 use Rattle.twe_machine.specs.Rows.{IsRow, link_of_row}
@@ -30,7 +30,8 @@ use Rattle.twe_machine.proofs.JoinedWeight.{length_joined}
 use Rattle.twe_machine.proofs.Ordered.{parent_down}
 use Rattle.twe_machine.proofs.OtherRows.{row_after, taken_child}
 use Rattle.twe_machine.proofs.Places.{below_there, got_one}
-use Rattle.twe_machine.proofs.ReachedStands.{reached_stands, taken_stands}
+use Rattle.twe_machine.proofs.LaterStates.{taken_later}
+use Rattle.twe_machine.proofs.ReachedStands.{linked_of, reached_stands, taken_stands}
 use Rattle.twe_machine.proofs.Standing.{Stands}
 use Rattle.twe_machine.proofs.TakenJoins.{row_link, spawned_child, takes_child}
 
@@ -178,6 +179,11 @@ module _ (p : Program) (lim : Bounds) (well : IsWellFormed p) (st : State) (kind
   after_stands : Stands p lim after
   after_stands = taken_stands p lim well st kind t may stands
 
+  own_row : (row : TaskRow) → IsRow st t row → IsTaskOf after t row
+  own_row row here =
+      let kept = (taken_later p lim st kind t (linked_of p lim well st stands)).kept t row here in
+      record { now = kept.now; there = kept.there; decl = kept.decl; args = kept.args; effects = kept.effects; parent = kept.parent }
+
   other_rows : (u : ℕ) (row : TaskRow) → u ≢ t → ¬ TakesJoin st mv u → IsRow st u row → IsRow after u row
   other_rows u row ne free here =
       elim (row_after p lim st t u ne row here kind) [
@@ -209,6 +215,7 @@ module _ (p : Program) (lim : Bounds) (well : IsWellFormed p) (st : State) (kind
   left_alone =
       let rest = move_ends p lim st t kind may stands.number in
       record {
+        own = own_row;
         rows = other_rows;
         links = other_links;
         joined_row = child_row;

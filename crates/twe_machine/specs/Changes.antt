@@ -28,17 +28,17 @@ pub record TakesJoin (st : State) (mv : Move) (c : ℕ) : Type 0 where
 abbrev pub next_segment : Program → State → TaskRow → Stopped
 next_segment p st row = segment p (ready_frame st.tasks row.frame) st.cells
 
--- how many tasks a segment that stopped so has asked for
+-- how many tasks a segment with this stop has asked for
 abbrev pub asked_by : Stop → ℕ
 asked_by (stops.Make child args effects spawned future place) = 1
 asked_by _ = 0
 
--- how many tasks a move that ended so has made
+-- how many tasks a move with this end has made
 abbrev pub made_by : End → ℕ
 made_by (ends.Made child) = 1
 made_by _ = 0
 
--- the first fault of a run after a move of t that ended so
+-- the first fault of a run after a move of t with this end
 abbrev pub fault_after : Option FirstFault → ℕ → End → Option FirstFault
 fault_after first t (ends.Fault kind place) = first_fault_of first t kind place
 fault_after first t _ = first
@@ -50,7 +50,7 @@ pub record ChangesAsSegment (st after : State) (left : Stopped) : Type 0 where
   pub prints : after.prints ≡ st.prints ++ left.frame.prints
   pub asked : after.asked ≡ st.asked + asked_by left.stop
 
--- an admission changes none of them
+-- an admission changes none of the three
 pub record ChangesNoResult (st after : State) : Type 0 where
   pub cells : after.cells ≡ st.cells
   pub prints : after.prints ≡ st.prints
@@ -60,10 +60,21 @@ abbrev pub ResultsAfter : Program → State → State → Kind → ℕ → Type 
 ResultsAfter p st after Admit t = ChangesNoResult st after
 ResultsAfter p st after Run t = (row : TaskRow) → IsRow st t row → ChangesAsSegment st after (next_segment p st row)
 
+-- task u of this state has the declaration, the arguments, the effects and the parent of this row
+pub record IsTaskOf (st : State) (u : ℕ) (row : TaskRow) : Type 0 where
+  pub now : TaskRow
+  pub there : IsRow st u now
+  pub decl : now.decl ≡ row.decl
+  pub args : now.args ≡ row.args
+  pub effects : now.effects ≡ row.effects
+  pub parent : now.parent ≡ row.parent
+
 -- What a legal move with this end leaves alone. It changes the row and the links of its own task. Of the others it
 -- marks a child as joined if it takes its join, and it adds the row and the links of a task that it makes. The rest
 -- of the state changes as its segment and its end say.
 pub record LeavesAlone (p : Program) (st after : State) (mv : Move) (end : End) : Type 0 where
+  -- its own task keeps its declaration, its arguments, its effects and its parent
+  pub own : (row : TaskRow) → IsRow st mv.task row → IsTaskOf after mv.task row
   -- each other task keeps its row and its links, unless the move takes its join
   pub rows : (u : ℕ) (row : TaskRow) → u ≢ mv.task → ¬ TakesJoin st mv u → IsRow st u row → IsRow after u row
   pub links : (u : ℕ) → u < length st.tasks → u ≢ mv.task → ¬ TakesJoin st mv u → link_of after.links u ≡ link_of st.links u
