@@ -1,5 +1,5 @@
 -- Over every legal journal: how often each task was made, admitted and finished, and how long the journal is at most.
-use Rattle.std.proofs.Common.{◌≡◌, ◌+◌, ◌*◌, ◌<◌, ◌≤◌, ℕ, zero, suc, Bool, List, [], ◌∷◌, ◌++◌, length, Some, cond, refl, sym, ap, subst, arith}
+use Rattle.std.proofs.Common.{◌≡◌, ◌+◌, ◌*◌, ◌<◌, ◌≤◌, ℕ, zero, suc, Bool, List, [], ◌∷◌, ◌++◌, length, cond, refl, sym, ap, subst, arith}
 use Rattle.std.specs.Prelude.{slice_get}
 use Rattle.std.proofs.lemmas.Bool.{le-ltb}
 use Rattle.std.proofs.lemmas.List.{append_assoc, append-nil}
@@ -14,7 +14,6 @@ use Rattle.twe_machine.specs.declared.state.TaskRow.{TaskRow}
 use Rattle.twe_machine.specs.Moves.{start_of, result_by_kind}
 use Rattle.twe_machine.specs.Runs.{Legal, LegalFrom, replayed, state_after}
 use Rattle.twe_machine.proofs.Falls.{childless, falls}
-use Rattle.twe_machine.proofs.GivenWork.{ClosesFirst}
 use Rattle.twe_machine.proofs.JournalCounts.{Counts, times_made, times_admitted, times_finished}
 use Rattle.twe_machine.proofs.KeptCounts.{adds, counts_more}
 use Rattle.twe_machine.proofs.ReachedStands.{start_stands, taken_stands}

@@ -17,7 +17,7 @@ use Rattle.twe_machine.specs.declared.state.State.{State}
 use Rattle.twe_machine.specs.declared.state.TaskRow.{TaskRow}
 use Rattle.twe_machine.specs.Legal.{MayTake}
 use Rattle.twe_machine.specs.Moves.{admitted, joined_row, result_by_kind}
-use Rattle.twe_machine.specs.Rows.{IsRow, is_done_status, link_of_row}
+use Rattle.twe_machine.specs.Rows.{IsRow, is_done_status}
 use Rattle.twe_machine.specs.Runs.{LegalFrom, replayed}
 use Rattle.twe_machine.proofs.Ordered.{link_from, waits_up}
 use Rattle.twe_machine.proofs.OtherRows.{row_after}

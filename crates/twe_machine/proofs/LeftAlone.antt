@@ -21,14 +21,14 @@ use Rattle.seg_exec.specs.declared.stop.Stop.TheVariants as stops
 use Rattle.seg_exec.specs.Segment.{segment}
 use Rattle.twe_machine.specs.declared.state.State.{State}
 use Rattle.twe_machine.specs.declared.state.TaskRow.{TaskRow}
-use Rattle.twe_machine.specs.Changes.{ChangesAsSegment, ChangesNoResult, IsTaskOf, LeavesAlone, ResultsAfter, TakesJoin, asked_by, fault_after, made_by, next_segment}
+use Rattle.twe_machine.specs.Changes.{ChangesAsSegment, IsTaskOf, LeavesAlone, ResultsAfter, TakesJoin, asked_by, fault_after, made_by, next_segment}
 use Rattle.twe_machine.specs.Legal.{MayMove, MayTake}
 use Rattle.twe_machine.specs.Moves.{admitted, admitted_row, state_after_asking, done_row, state_after_fault, faulted_row, going_row, state_after_make, state_after_join, joined_child, joined_row, making_frame, move_result, new_row, parent_of, ran, ready_frame, stop_result, stopped_frame, result_by_kind}
 use Rattle.twe_machine.specs.Rows.{IsRow, link_of_row}
 use Rattle.twe_machine.specs.Runs.{IsReached}
 use Rattle.twe_machine.proofs.JoinedWeight.{length_joined}
 use Rattle.twe_machine.proofs.Ordered.{parent_down}
-use Rattle.twe_machine.proofs.OtherRows.{row_after, taken_child}
+use Rattle.twe_machine.proofs.OtherRows.{row_after}
 use Rattle.twe_machine.proofs.Places.{below_there, got_one}
 use Rattle.twe_machine.proofs.LaterStates.{taken_later}
 use Rattle.twe_machine.proofs.ReachedStands.{linked_of, reached_stands, taken_stands}

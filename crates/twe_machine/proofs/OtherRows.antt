@@ -1,5 +1,5 @@
 -- What a move makes of the rows of other tasks than its own: each stays, but for the mark of a child whose join is taken.
-use Rattle.std.proofs.Common.{◌≡◌, ◌≢◌, ◌⊎◌, ◌+◌, ◌++◌, ℕ, ℤ, Bool, true, false, cond, List, [], ◌∷◌, Option, None, Some, inl, inr, sym, ap, ◌∙◌, subst, nat_lt}
+use Rattle.std.proofs.Common.{◌≡◌, ◌≢◌, ◌⊎◌, ◌+◌, ℕ, ℤ, Bool, true, false, cond, List, Option, None, Some, inl, inr, sym, ap, ◌∙◌, subst, nat_lt}
 use Rattle.std.specs.Prelude.{slice_get, slice_set}
 use Rattle.std.proofs.lemmas.Bool.{cases_eq}
 use Rattle.twe_io.specs.declared.place.Place.{Place}
