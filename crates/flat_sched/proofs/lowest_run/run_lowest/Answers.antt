@@ -1,13 +1,12 @@
-use Rattle.std.proofs.Common.{◌≡◌, ◌<◌, ◌≤◌, ◌+◌, ◌*◌, ℕ, List, [], ◌∷◌, ◌++◌, ap, length, length-append, sym, subst, arith}
+use Rattle.std.proofs.Common.{◌≡◌, ◌+◌, List, [], ◌∷◌, ◌++◌, ap, length, length-append, sym, subst, arith}
 use Rattle.seg_journal.specs.declared.journal.Entry.{Entry}
 use Rattle.twe_limits.specs.Limits.{Bounds, IsWithin}
 use Rattle.twe_program.specs.WellFormed.{IsWellFormed}
 use Rattle.twe_machine.specs.declared.state.State.{State}
 use Rattle.twe_machine.specs.declared.state.TaskStatus.TheVariants.{Done}
-use Rattle.twe_machine.specs.declared.ending.Outcome.TheVariants.{AllDone}
 use Rattle.twe_machine.specs.Moves.{move_result}
 use Rattle.twe_machine.specs.Rows.{HasStatus}
-use Rattle.twe_machine.specs.Runs.{AllTasksDone, EachAtMostOnce, EachOnce, Legal, entry_of}
+use Rattle.twe_machine.specs.Runs.{AllTasksDone, EachOnce, entry_of}
 use Rattle.twe_machine.proofs.DoneStays.{done_stays}
 use Rattle.flat_sched.proofs.Going.{IsGoing, at_start, ended_lowest, goes_on, run_goes_on}
 use Rattle.flat_sched.proofs.lowest_run.run_lowest.Goals as goal
