@@ -1,18 +1,15 @@
 -- Walks along the solid elements at the front of a path.
-use Rattle.std.proofs.Common.{◌≡◌, ℕ, ◌+◌, ◌<◌, true, false, List, [], ◌∷◌, ◌++◌, length, get_or, drop, drop-cons, add-one, Some, None, refl, sym, ap, subst, ◌∙◌, ◌⊎◌, append_assoc}
+use Rattle.std.proofs.Common.{◌≡◌, ℕ, ◌+◌, ◌<◌, ◌≤◌, true, false, List, [], ◌∷◌, ◌++◌, length, get_or, drop, drop-cons, add-one, Some, None, refl, sym, ap, ◌∙◌, append_assoc, arith}
 use Rattle.std.specs.Prelude.{take_while}
 use Rattle.std.proofs.lemmas.List.{append-nil}
+use Rattle.std.proofs.Math.ListN.{drop_of_length-le}
 use Rattle.region_paths.specs.declared.elements.Elem.{Elem}
 use Rattle.region_paths.specs.declared.elements.Elem.TheVariants.{Name, Index, Var, AnyIndex}
 use Rattle.region_paths.specs.Filled.{is_solid}
-use Rattle.effect_tree.specs.declared.step.Part.{Part}
-use Rattle.effect_tree.specs.declared.step.Part.TheVariants as part
-use Rattle.effect_tree.specs.Prefix.{IsPrefix}
-use Rattle.effect_tree.specs.inner.Steps.{part_of, elem_of}
-use Rattle.effect_tree.specs.inner.Growth.{Grows}
-use Rattle.effect_tree.proofs.PrefixLemmas.{IsPrefix-snoc}
+use Rattle.prefix_tree.specs.declared.part.Part.{Part}
+use Rattle.prefix_tree.specs.declared.part.Part.TheVariants as part
+use Rattle.effect_tree.specs.inner.Parts.{part_of, elem_of}
 use Rattle.effect_tree.proofs.SolidLemmas.{take_while-solid, take_while-other}
-use Rattle.effect_tree.proofs.GrowthLemmas.{Grows-append, Grows-same}
 
 -- a part is its element
 pub part_elem : (e : Elem) (p : Part) → part_of e ≡ Some p → elem_of p ≡ e
@@ -59,10 +56,8 @@ pub front_goes : (path elems : List Elem) (k : ℕ) (p : Part) → k < length el
 front_goes path elems k p there front part =
     append_assoc path (elem_of p ∷ []) (take_while is_solid (drop (k + 1) elems)) ∙ front_next path elems k p there front part
 
--- the prefixes of a path and of one element more
-pub Grows-longer : (old mid new : List (List Elem)) (at next : List Elem) (e : Elem) → Grows old mid (λ path. IsPrefix path at) → Grows mid new (λ path. path ≡ at ++ e ∷ []) → next ≡ at ++ e ∷ [] → Grows old new (λ path. IsPrefix path next)
-Grows-longer old mid new at next e a b same =
-    subst (λ (p : List Elem). Grows old new (λ path. IsPrefix path p)) (sym same)
-    (Grows-same old new (λ path. IsPrefix path at ⊎ (path ≡ at ++ e ∷ [])) (λ path. IsPrefix path (at ++ e ∷ []))
-    (Grows-append old mid new (λ path. IsPrefix path at) (λ path. path ≡ at ++ e ∷ []) a b)
-    (λ path. let snoc = IsPrefix-snoc path at e in (snoc.1, snoc.0)))
+-- the walk along all elements
+pub front_ends : (path elems : List Elem) (k : ℕ) → length elems ≡ k → path ++ take_while is_solid (drop k elems) ≡ take_while is_solid elems → path ≡ take_while is_solid elems
+front_ends path elems k all front =
+    let none = ap (take_while is_solid) (let past : length elems ≤ k = omega arith in drop_of_length-le elems past) in
+    sym (append-nil path) ∙ sym (ap (λ (xs : List Elem). path ++ xs) none) ∙ front

@@ -1,14 +1,8 @@
-pub mod StepLemmas
-pub mod PrefixLemmas
-pub mod SnocLemmas
+pub mod Outcomes
 pub mod SolidLemmas
 pub mod PlaceLemmas
-pub mod PathsLemmas
-pub mod TreeLemmas
-pub mod AddLemmas
-pub mod GrowthLemmas
+pub mod PartPaths
 pub mod FrontLemmas
-pub mod RowLemmas
 pub mod DeclaredLemmas
 pub mod CellsLemmas
 pub mod ProgramLemmas

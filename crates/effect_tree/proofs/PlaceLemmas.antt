@@ -5,9 +5,9 @@ use Rattle.region_paths.specs.Written.{WrittenPath}
 use Rattle.region_paths.specs.Filled.{solid_prefix}
 use Rattle.region_paths.specs.Inside.{inside}
 use Rattle.region_paths.specs.Sets.{SetsMeet}
-use Rattle.effect_tree.specs.Prefix.{IsPrefix}
+use Rattle.prefix_tree.specs.Prefix.{IsPrefix}
 use Rattle.effect_tree.specs.Place.{IsPlace, IsSolid}
-use Rattle.effect_tree.proofs.PrefixLemmas.{IsPrefix-trans, IsPrefix-antisym}
+use Rattle.prefix_tree.proofs.PrefixLemmas.{IsPrefix-trans, IsPrefix-antisym}
 use Rattle.effect_tree.proofs.SolidLemmas.{solid_prefixes_meet, solid_prefix_meets_solid, solid_prefix_inside}
 
 -- what is placed by a shorter solid prefix is placed above

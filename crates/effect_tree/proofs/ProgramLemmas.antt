@@ -1,26 +1,20 @@
--- What a well-formed program gives: each cell's path is solid, and each index of its elements is small.
+-- What a well-formed program gives: each cell's path is solid, and there are few nodes.
 use Rattle.std.proofs.Common.{◌≡◌, ℕ, ◌<◌, ◌≤◌, ◌↔◌, List, [], ◌∷◌, length, get_or, refl, sym, ap, subst, ◌∙◌, inl, inr, ⊎_elim, arith}
 use Rattle.std.specs.Prelude.{take_while}
 use Rattle.std.specs.List.{All, AllByRecursion}
+use Rattle.std.proofs.lemmas.List.{get_or_default}
 use Rattle.std.proofs.lemmas.List.Elements.{All-from_recursion}
+use Rattle.twe_limits.specs.Language.{max_nodes}
 use Rattle.region_paths.specs.declared.elements.Elem.{Elem}
 use Rattle.region_paths.specs.declared.elements.Elem.TheVariants.{Name, Index, Var, AnyIndex}
 use Rattle.region_paths.specs.Filled.{is_solid, solid_prefix}
+use Rattle.prefix_tree.specs.Nodes.{IsTreeOfPaths}
 use Rattle.twe_program.specs.declared.program.CellDecl.{CellDecl}
-use Rattle.twe_program.specs.Program.{Program, cells_made}
+use Rattle.twe_program.specs.Program.{Program}
+use Rattle.twe_program.specs.Nodes.{IsPrefixOfDeclared, IsNodePath}
 use Rattle.twe_program.specs.WellFormed.{IsWellFormed, CellFits, CellElementFits}
-use Rattle.effect_tree.specs.Nodes.{IsNode}
-use Rattle.effect_tree.specs.DeclaredPaths.{IsPrefixOfDeclared, IsNodePath}
-use Rattle.effect_tree.specs.inner.Growth.{HasNodes, IsFrontPath, IsSmall}
+use Rattle.effect_tree.specs.inner.Growth.{HasPaths, IsFrontPath}
 use Rattle.effect_tree.proofs.SolidLemmas.{take_while-solid}
-
-small_each : (cells : List CellDecl) → cells_made cells ≤ 65536 → AllByRecursion IsSmall cells
-small_each [] h = tt
-small_each (cell ∷ cells) h = (omega arith, small_each cells (omega arith))
-
--- the cells of a program are few enough for its indexes to be literals
-pub cells_small : (p : Program) → IsWellFormed p → All IsSmall p.cells
-cells_small p fits = All-from_recursion IsSmall p.cells (small_each p.cells fits.few_cells)
 
 solid_elems : (regions : ℕ) (elems : List Elem) → AllByRecursion (CellElementFits regions) elems → take_while is_solid elems ≡ elems
 solid_elems regions [] h = refl
@@ -54,8 +48,18 @@ front_is_whole p fits path =
     )
 
 -- the nodes for the cells are those for the program
-pub HasNodes-whole : (nodes : List (List Elem)) (p : Program) (cells : List CellDecl) → IsWellFormed p → cells ≡ p.cells → HasNodes nodes (IsFrontPath cells) → (path : List Elem) → IsNode nodes path ↔ IsNodePath p path
-HasNodes-whole nodes p cells fits same has path =
+pub HasPaths-whole : (nodes : List (List Elem)) (p : Program) (cells : List CellDecl) → IsWellFormed p → cells ≡ p.cells → HasPaths nodes (IsFrontPath cells) → HasPaths nodes (IsNodePath p)
+HasPaths-whole nodes p cells fits same has path =
     let whole = front_is_whole p fits path in
-    let all = subst (λ (cs : List CellDecl). HasNodes nodes (IsFrontPath cs)) same has in
+    let all = subst (λ (cs : List CellDecl). HasPaths nodes (IsFrontPath cs)) same has in
     (λ node. whole.0 ((all path).0 node), λ h. (all path).1 (whole.1 h))
+
+-- there are no more nodes than a program may have
+pub few-nodes : (nodes : List (List Elem)) (p : Program) → IsWellFormed p → HasPaths nodes (IsNodePath p) → IsTreeOfPaths nodes → length nodes ≤ max_nodes
+few-nodes nodes p fits has t =
+    fits.few_nodes nodes
+    (λ i j d below within same.
+    let i_there : i < length nodes = omega arith in
+    let one = t.once i j i_there within (get_or_default nodes i [] d i_there ∙ same ∙ get_or_default nodes j d [] within) in
+    omega arith)
+    (λ path c. (has path).0 (c.0, c.1, get_or_default nodes c.0 [] path c.1 ∙ c.2))

@@ -11,7 +11,7 @@ use Rattle.region_paths.specs.Written.{WrittenPath}
 use Rattle.region_paths.specs.Concrete.{ConcreteElem, ConcretePath, region, number, elem_stands, each_stands, stands, InSet}
 use Rattle.region_paths.specs.Filled.{is_solid, solid_prefix}
 use Rattle.region_paths.specs.Inside.{within, starts_within, inside}
-use Rattle.effect_tree.specs.Prefix.{IsPrefix}
+use Rattle.prefix_tree.specs.Prefix.{IsPrefix}
 use Rattle.effect_tree.specs.Place.{IsSolid}
 
 -- the elements stand against the first of the concrete path
@@ -142,7 +142,7 @@ inside_starts true false xs ys pt qt h = absurd (false≢true h)
 inside_starts false true xs ys pt qt h = (and_parts _ _ (and_parts _ _ h).1).0
 inside_starts true true xs ys pt qt h = (and_parts _ _ h).0
 
--- Where sets meet, one of the solid prefixes is a prefix of the other.
+-- If sets meet, one of the solid prefixes is a prefix of the other.
 pub solid_prefixes_meet : (p q : WrittenPath) (c : ConcretePath) → InSet p c → InSet q c → AreAboveOneAnother (solid_prefix p) (solid_prefix q)
 solid_prefixes_meet p q c s t = fronts_meet p.elems q.elems c (Stands-set p c s) (Stands-set q c t)
 

@@ -4,8 +4,8 @@ use Rattle.std.specs.List.{list_all}
 use Rattle.region_paths.specs.declared.elements.Elem.{Elem}
 use Rattle.region_paths.specs.Written.{WrittenPath}
 use Rattle.region_paths.specs.Filled.{is_solid, solid_prefix}
-use Rattle.effect_tree.specs.Prefix.{IsPrefix}
-use Rattle.effect_tree.specs.Nodes.{IsNode}
+use Rattle.prefix_tree.specs.Prefix.{IsPrefix}
+use Rattle.prefix_tree.specs.Nodes.{IsNode}
 
 -- the deepest node whose path the given one begins with: each such node's path is a prefix of this node's
 pub record IsDeepest (nodes : List (List Elem)) (path place : List Elem) : Type 0 where

@@ -1,5 +1,4 @@
 -- What only private clauses and invariants cite.
-pub mod Steps
-pub mod Order
-pub mod Tree
+pub mod Parts
 pub mod Growth
+pub mod Children

@@ -1,10 +1,12 @@
 //! The shape of the effect tree of a program.
-ghost use Rattle.std.specs.Prelude.{◌≡◌, ℕ, ◌<◌, ◌↔◌, length, Contains, IfSome, IsNone, IfOk};
-ghost use Rattle.std.specs.List.{All};
+ghost use Rattle.std.specs.Prelude.{◌≡◌, ℕ, ◌<◌, ◌≤◌, ◌↔◌, length, take_while, Contains, IfSome, IsNone, IfOk};
 ghost use Rattle.std.specs.List.Sorted.{IsStrictlyIncreasing};
 
-use crate::tree::Tree;
-use region_paths::Path;
+use crate::children::children;
+use crate::growth::tree_of_cells;
+use crate::parts::part;
+use prefix_tree::PrefixTree;
+use region_paths::{Elem, Path};
 use std::alloc::Global;
 use std::marker::Model;
 use twe_io::Memory;
@@ -14,46 +16,54 @@ use twe_program::{CellDecl, Prog};
 /// each cell, the elements of arrays and grids included. Contracts see it as the list of the nodes' paths.
 #[derive(Debug, Drop)]
 pub struct Shape {
-    tree: Tree,
+    /// The nodes.
+    tree: PrefixTree,
+    /// For each node those right below it, in increasing order.
+    below: Vec<Vec<u32>>,
 }
 
 impl Model for Shape {
     ghost use Rattle.std.specs.Prelude.{List};
     ghost use Rattle.region_paths.specs.declared.elements.Elem.{Elem};
-    ghost use Rattle.effect_tree.specs.inner.Tree.{IsTree, paths};
+    ghost use Rattle.prefix_tree.specs.Nodes.{IsTreeOfPaths};
+    ghost use Rattle.effect_tree.specs.inner.Parts.{elem_paths};
+    ghost use Rattle.effect_tree.specs.inner.Children.{items_of, HasChildren};
 
     ghost Value = { List (List Elem) };
 
-    ghost view = { λ shape. paths shape.tree };
+    ghost view = { λ shape. elem_paths shape.tree };
 
-    ghost invariant = { λ shape. IsTree shape.tree };
+    ghost invariant = { λ shape. IsTreeOfPaths shape.tree × HasChildren shape.tree (items_of shape.below) };
 }
 
 impl Shape {
     ghost use Rattle.std.specs.Prelude.{List};
     ghost use Rattle.region_paths.specs.declared.elements.Elem.{Elem};
-    ghost use Rattle.effect_tree.specs.Nodes.{path_of, IsNode, IsParent, IsTreeOfPaths};
-    ghost use Rattle.effect_tree.specs.DeclaredPaths.{IsNodePath};
-    ghost use Rattle.effect_tree.specs.Place.{IsPlace};
-    ghost use Rattle.effect_tree.specs.inner.Growth.{HasNodes, IsFrontPath, IsSmall};
+    ghost use Rattle.region_paths.specs.Filled.{is_solid};
+    ghost use Rattle.prefix_tree.specs.Nodes.{path_of, IsNode, IsParent, IsTreeOfPaths};
+    ghost use Rattle.twe_limits.specs.Language.{max_nodes};
+    ghost use Rattle.twe_program.specs.Nodes.{IsNodePath};
+    ghost use Rattle.effect_tree.specs.Place.{IsPlace, IsDeepest};
+    ghost use Rattle.effect_tree.specs.inner.Growth.{HasPaths, IsFrontPath};
 
-    /// The shape of the program's tree. It takes time near linear in the number of nodes.
+    /// The shape of the program's tree. It has at most `MAX_NODES` nodes, so 32 bits number all of them. It takes time
+    /// near linear in the number of nodes.
     pub fn build(alloc: Global, p: &Prog) -> Result<Self, Memory>
         ensures exact { IfOk result (λ shape. (path : List Elem) → (IsNode shape path ↔ IsNodePath p.now path)) }
         ensures tree { IfOk result IsTreeOfPaths }
+        ensures few { IfOk result (λ shape. length shape ≤ max_nodes) }
     {
         Self::of_cells(alloc, p.cells.as_slice())
     }
 
     /// The shape of these cells' tree.
     pub(crate) fn of_cells(alloc: Global, cells: &[CellDecl]) -> Result<Self, Memory>
-        requires { All IsSmall cells.now }
-        ensures exact { IfOk result (λ shape. HasNodes shape (IsFrontPath cells.now)) }
+        ensures exact { IfOk result (λ shape. HasPaths shape (IsFrontPath cells.now)) }
         ensures tree { IfOk result IsTreeOfPaths }
     {
-        Ok(Shape {
-            tree: Tree::of_cells(alloc, cells)?,
-        })
+        let tree = tree_of_cells(alloc, cells)?;
+        let below = children(alloc, &tree)?;
+        Ok(Shape { tree, below })
     }
 
     /// How many nodes there are.
@@ -61,10 +71,10 @@ impl Shape {
         ensures count { result ≡ length self.now }
         ensures tree { IsTreeOfPaths self.now }
     {
-        self.tree.steps.len() as u32
+        self.tree.len()
     }
 
-    /// The node right above `n`, which the root alone hasn't. It takes no memory.
+    /// The node right above `n`. Only the root has none. It takes no memory.
     pub fn parent(&self, n: u32) -> Option<u32>
         requires { n < length self.now }
         ensures parent { IfSome result (λ m. IsParent self.now m n) }
@@ -79,7 +89,7 @@ impl Shape {
         ensures each { (m : ℕ) → (Contains result.now m ↔ IsParent self.now n m) }
         ensures in_order { IsStrictlyIncreasing result.now }
     {
-        self.tree.below(n)
+        self.below[n as usize].as_slice()
     }
 
     /// The place of a path: the deepest node that is a prefix of the path's solid prefix. It takes no memory, and time
@@ -88,6 +98,24 @@ impl Shape {
         ensures there { result < length self.now }
         ensures place { IsPlace self.now path.now (path_of self.now result) }
     {
-        self.tree.deepest(path.elems().as_slice())
+        self.deepest(path.elems().as_slice())
+    }
+
+    /// The deepest node that is a prefix of the solid elements at the front.
+    fn deepest(&self, elems: &[Elem]) -> u32
+        ensures there { result < length self.now }
+        ensures deepest { IsDeepest self.now (take_while is_solid elems.now) (path_of self.now result) }
+    {
+        let mut at = 0;
+        for elem in elems {
+            let Some(next) = part(*elem) else {
+                return at;
+            };
+            let Some(child) = self.tree.child(at, next) else {
+                return at;
+            };
+            at = child;
+        }
+        at
     }
 }

@@ -1,8 +1,4 @@
 //! The shapes of small programs, and where paths are placed in them.
-ghost use Rattle.std.specs.Prelude.{◌≡◌, ◌↔◌, ◌<◌, length, IsTrue};
-ghost use Rattle.std.specs.List.{All};
-ghost use Rattle.effect_tree.specs.inner.Growth.{IsSmall};
-
 use crate::Shape;
 use region_paths::{Elem, Elems, Path};
 use std::alloc::Global;
@@ -34,15 +30,7 @@ fn cell(alloc: Global, elems: &[Elem], dims: Dims) -> Result<CellDecl, Memory> {
     })
 }
 
-/// Whether the indexes of each cell's elements have 32 bits.
-fn are_small(cells: &[CellDecl]) -> bool
-    ensures { IsTrue result ↔ All IsSmall cells.now }
-{
-    cells.iter().all(|cell| cell.dims.size() <= 1 << 31)
-}
-
-fn shape_of<R: Abort + AllocGlobal>(rt: &R, cells: &[CellDecl]) -> Result<Shape, Fail> {
-    assert!(rt; are_small(cells));
+fn shape_of<R: AllocGlobal>(rt: &R, cells: &[CellDecl]) -> Result<Shape, Fail> {
     Ok(Shape::of_cells(rt.alloc(), cells)?)
 }
 

@@ -1,22 +1,22 @@
--- The cells of a program are small, and their paths are solid.
-use Rattle.std.proofs.Common.{List, sym, ap, subst, ◌∙◌}
-use Rattle.std.specs.List.{All}
+-- The paths of a program's cells are solid, and a program has few nodes.
+use Rattle.std.proofs.Common.{ap, subst, ◌∙◌}
 use Rattle.std.proofs.lemmas.Result.{IfOk-weaker}
-use Rattle.twe_program.specs.declared.program.CellDecl.{CellDecl}
 use Rattle.twe_program.specs.Program.{Program}
 use Rattle.twe_program.specs.WellFormed.{IsWellFormed}
-use Rattle.effect_tree.specs.inner.Growth.{IsSmall}
-use Rattle.effect_tree.proofs.ProgramLemmas.{cells_small, HasNodes-whole}
+use Rattle.effect_tree.proofs.Outcomes.{ok_both}
+use Rattle.effect_tree.proofs.ProgramLemmas.{HasPaths-whole, few-nodes}
 use Rattle.effect_tree.proofs.shape.Shape.build.Goals as goal
-
-pub of_cells-requires : goal.of_cells-requires
-of_cells-requires c =
-    let cells = c.as_slice.ensures ∙ ap (λ (p : Program). p.cells) c.p.view_is in
-    subst (λ (cs : List CellDecl). All IsSmall cs) (sym cells) (cells_small c.args.p.now (subst IsWellFormed c.p.view_is c.p.invariant))
 
 pub returns-clause-exact : goal.returns-clause-exact
 returns-clause-exact c =
     let cells = c.as_slice.ensures ∙ ap (λ (p : Program). p.cells) c.p.view_is in
-    IfOk-weaker c.of_cells.result _ _
-    (λ shape has. HasNodes-whole shape c.args.p.now c.as_slice.result.now (subst IsWellFormed c.p.view_is c.p.invariant) cells has)
-    c.of_cells.ensures.exact
+    let fits = subst IsWellFormed c.p.view_is c.p.invariant in
+    IfOk-weaker c.of_cells.result _ _ (λ shape has. HasPaths-whole shape c.args.p.now c.as_slice.result.now fits cells has) c.of_cells.ensures.exact
+
+pub returns-clause-few : goal.returns-clause-few
+returns-clause-few c =
+    let cells = c.as_slice.ensures ∙ ap (λ (p : Program). p.cells) c.p.view_is in
+    let fits = subst IsWellFormed c.p.view_is c.p.invariant in
+    ok_both c.of_cells.result _ _ _
+    (λ shape has tree. few-nodes shape c.args.p.now fits (HasPaths-whole shape c.args.p.now c.as_slice.result.now fits cells has) tree)
+    c.of_cells.ensures.exact c.of_cells.ensures.tree

@@ -1,0 +1,4 @@
+pub mod Prefix
+pub mod Nodes
+pub mod Growth
+pub mod inner
