@@ -26,7 +26,7 @@ noted : (earlier : Option FirstFault) (t : ℕ) (kind : FaultKind) (place : Plac
 noted (Some fault) t kind place e = cc
 noted None t kind place e = cc
 
--- where there is no fault after a segment, it has met none
+-- if there is no fault after a segment, it has met none
 made_well : (lim : Bounds) (st : State) (t : ℕ) (row : TaskRow) (frame : Frame) (into : ℕ) (spawned : Bool) (task : Frame) (args : List ℤ) (effects : Summary) (place : Place) (fits : Bool)
     → let after = if◌then◌else◌ {A = State × End} fits (state_after_make lim st t row frame into spawned task args effects, ends.Made (st.asked + 1))
     (state_after_fault (state_after_asking st) t row (stopped_frame frame) TaskLimit place, ends.Fault TaskLimit place) in

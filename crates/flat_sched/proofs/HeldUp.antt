@@ -91,7 +91,7 @@ waits_or_not_by links t (Some u) e =
 waits_or_not : (links : List Link) (t : ℕ) → WaitsForNobody links t ⊎ ((u : ℕ) × WaitsFor links t u)
 waits_or_not links t = waits_or_not_by links t (link_of links t).waits refl
 
--- what fails for none of so many numbers holds, as far as a contradiction goes, of all of them at once
+-- if P cannot be refuted at any number below n, it cannot be refuted at all of them at once
 none_fails : (n : ℕ) (P : ℕ → Type 0) → ((s : ℕ) → s < n → ¬ ¬ P s) → ¬ ¬ ((s : ℕ) → s < n → P s)
 none_fails zero P each all = all (λ s below. absurd (omega arith))
 none_fails (suc n) P each all =
@@ -103,7 +103,7 @@ none_fails (suc n) P each all =
 abbrev Yields : State → ℕ → ℕ → Type 0
 Yields st t s = s ≢ t → HasStatus st s Enabled → Interfere st s t → YieldsTo st.links s t
 
--- so where a task that was made may not be admitted, it has a bar
+-- so if a task that was made may not be admitted, it has a bar
 bar_or_admission : (st : State) (t : ℕ) → HasStatus st t Made → ¬ MayAdmit st t → ((s : ℕ) → ¬ IsBar st s t) → ⊥
 bar_or_admission st t made held free =
     none_fails (length st.tasks) (Yields st t)

@@ -31,7 +31,7 @@ module _ (p : Program) (lim : Bounds) (rows : List TaskRow) (t : ℕ) where
     ended = stands.ended;
   }
 
-  -- the frame of a task that has met a fault where it was to make one
+  -- the frame of a task that has met a fault at a make
   pub stopped_stands : (frame : Frame) → FrameStands p lim rows t frame → FrameStands p lim rows t (stopped_frame frame)
   stopped_stands frame stands = record {
     number = stands.number;

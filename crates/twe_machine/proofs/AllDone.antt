@@ -1,4 +1,4 @@
--- What the test tells that each row is done.
+-- The test that each row is done means that it is.
 use Rattle.std.proofs.Common.{◌≡◌, ◌&&◌, ℕ, zero, suc, Bool, true, false, List, [], ◌∷◌, Some, refl, ap, ◌∙◌, subst}
 use Rattle.std.specs.Prelude.{slice_get}
 use Rattle.std.specs.List.{list_all}
@@ -17,7 +17,7 @@ both : (a b : Bool) → (a && b) ≡ true → (a ≡ true) × (b ≡ true)
 both true b e = (refl, e)
 both false b e = absurd (cc)
 
--- each task is done where the test says so
+-- each task is done if the test says so
 pub all_are_done : (rows : List TaskRow) → list_all is_done_row rows ≡ true → (t : ℕ) (row : TaskRow) → slice_get rows t ≡ Some row → row.status ≡ Done
 all_are_done [] all t row here = absurd (cc)
 all_are_done (r ∷ rows) all zero row here =
@@ -25,7 +25,7 @@ all_are_done (r ∷ rows) all zero row here =
     subst (λ (x : TaskRow). x.status ≡ Done) is (is_done_is r.status (both (is_done_row r) (list_all is_done_row rows) all).0)
 all_are_done (r ∷ rows) all (suc t) row here = all_are_done rows (both (is_done_row r) (list_all is_done_row rows) all).1 t row here
 
--- and the test says so where each task is done
+-- and the test says so if each task is done
 pub all_done_told : (rows : List TaskRow) → ((t : ℕ) (row : TaskRow) → slice_get rows t ≡ Some row → row.status ≡ Done) → list_all is_done_row rows ≡ true
 all_done_told [] done = refl
 all_done_told (r ∷ rows) done =

@@ -1,4 +1,4 @@
--- The end of a task that has come home: its row is put in its place once more.
+-- The end of a task whose frame was stored: its row is set once more.
 use Rattle.std.proofs.Common.{◌≡◌, ℕ, ℤ, zero, suc, List, [], ◌∷◌, Option, Some, refl, ap, ◌∙◌}
 use Rattle.std.specs.Prelude.{slice_get, slice_set}
 use Rattle.twe_io.specs.declared.place.Place.{Place}
@@ -19,7 +19,7 @@ set_again [] t x y = refl
 set_again (z ∷ xs) zero x y = refl
 set_again (z ∷ xs) (suc t) x y = ap (λ (l : List _). z ∷ l) (set_again xs t x y)
 
--- the row that stands in its place once the frame has come home
+-- its row after the frame was stored
 row_is : (st came : State) (t : ℕ) (row item : TaskRow) (frame : Frame) → slice_get st.tasks t ≡ Some row
     → came ≡ state_after_storing st t frame (going_row row frame) → slice_get came.tasks t ≡ Some item → item ≡ going_row row frame
 row_is st came t row item frame here comes found =

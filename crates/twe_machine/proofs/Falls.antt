@@ -45,7 +45,7 @@ new_weight : (lim : Bounds) (number t : ℕ) (spawned : Bool) (child : Frame) (a
 new_weight lim number t true child args effects = omega (arith, childless child.next)
 new_weight lim number t false child args effects = omega (arith, childless child.next)
 
--- what is known of a segment that left this frame and stopped so
+-- what is known of a segment that left this frame and stopped in this way
 pub record IsSpent (row : TaskRow) (frame : Frame) (stop : Stop) : Type 0 where
   pub left : IsLeft row frame
   pub made : (child : Frame) (args : List ℤ) (effects : Summary) (spawned : Bool) (future : ℕ) (place : Place)

@@ -24,7 +24,7 @@ without_le child (first ∷ others) = skipped_le child first others (first == ch
 without_first : (child : ℕ) (others : List ℕ) → without child (child ∷ others) ≡ others
 without_first child others = ap (λ (b : Bool). if b then others else (child ∷ without child others)) (eq-eqb child child refl)
 
--- what a frame has taken, once it has taken its value: no fuel, and a child where it was to join one
+-- taking the awaited value takes no fuel, and takes the child out if it was to be joined
 pub record Taken (frame after : Frame) : Type 0 where
   pub fuel : after.fuel ≡ frame.fuel
   pub out : length after.out ≤ children_left frame.next (length frame.out)

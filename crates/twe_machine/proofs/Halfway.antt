@@ -33,7 +33,7 @@ use Rattle.twe_machine.proofs.Members.{in_contains, contains_in}
 use Rattle.twe_machine.proofs.Places.{map_index}
 use Rattle.twe_machine.proofs.Standing.{FrameStands, RowStands, Stands}
 
--- The frame that a segment of the task has left, which has stopped so: what it does next, and what it makes.
+-- What is known of the frame and the stop of a segment: what the task does next, and what it makes.
 pub record Carries (p : Program) (row : TaskRow) (frame : Frame) (stop : Stop) : Type 0 where
   pub decl : frame.decl ≡ row.frame.decl
   pub next : NextAfter stop frame
@@ -119,7 +119,7 @@ module _ (p : Program) (lim : Bounds) (st : State) (stands : Stands p lim st) (t
     cells = (segment_keeps p (ready_frame st.tasks row.frame) st.cells).cells ∙ stands.cells;
   }
 
-  -- what is waited for is done, where the task may run
+  -- if the task may run, the awaited task is done
   done_link : (u : ℕ) (b : TaskRow) → slice_get st.tasks u ≡ Some b → (link_of st.links u).done ≡ is_done_row b
   done_link u b here = ap (λ links. (link_of links u).done) stands.links ∙ ap (λ link. link.done) (map_index link_of_row st.tasks u b (new_link None) here)
 

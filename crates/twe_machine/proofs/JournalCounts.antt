@@ -15,7 +15,7 @@ use Rattle.twe_machine.specs.Runs.{makes, admits, finishes}
 use Rattle.twe_machine.proofs.StoppedNumbers.{ChangesWhenDone}
 use Rattle.twe_machine.proofs.RowNumbers.{number_at}
 
--- of so many tasks each but the first was made once
+-- of this number of tasks each but the first was made once
 abbrev pub times_made : ℕ → ℕ → ℕ
 times_made zero count = 0
 times_made (suc t) count = cond (nat_lt (suc t) count) 1 0

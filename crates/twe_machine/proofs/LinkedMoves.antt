@@ -25,7 +25,7 @@ use Rattle.twe_machine.proofs.Linked.{OutUp, Linked, waiting_links, done_links, 
 use Rattle.twe_machine.proofs.Members.{IsIn, put_in_cases}
 use Rattle.twe_machine.proofs.Places.{set_same, set_cases, put_cases}
 
--- A frame goes home.
+-- A frame is stored.
 
 pub set_outs : (rows : List TaskRow) (t : ℕ) (new : TaskRow) → ((u : ℕ) (row : TaskRow) → slice_get rows u ≡ Some row → OutUp u row) → OutUp t new
     → (u : ℕ) (row : TaskRow) → slice_get (slice_set rows t new) u ≡ Some row → OutUp u row

@@ -93,7 +93,7 @@ without_none_by : (m on : ℕ) (ms : List ℕ) (b : Bool) → (m == on) ≡ b �
 without_none_by m on ms true is out rest = absurd (out (inl (sym (eqb-true m on is))))
 without_none_by m on ms false is out rest = ap (λ (l : List ℕ). m ∷ l) rest
 
--- where it is not there nothing is taken out
+-- if it is not there, nothing is taken out
 pub without_none : (ms : List ℕ) (on : ℕ) → ¬ IsIn on ms → without on ms ≡ ms
 without_none [] on out = refl
 without_none (m ∷ ms) on out = without_none_by m on ms (m == on) refl out (without_none ms on (λ h. out (inr h)))

@@ -14,7 +14,7 @@ use Rattle.twe_machine.proofs.ReachedStands.{reached_stands}
 use Rattle.twe_machine.proofs.SettlesNext.{as_many_links, awaited_above}
 use Rattle.twe_machine.proofs.Standing.{Stands}
 
--- the links of a task are those of its row, or those of a new task with no parent where it has none
+-- the links of a task are those of its row, or those of a new task without a parent if it has no row
 pub link_from : (rows : List TaskRow) (t : ℕ) (found : Option TaskRow) → slice_get rows t ≡ found
     → (P : Link → Type 0) → (found ≡ None → P (new_link None)) → ((row : TaskRow) → found ≡ Some row → P (link_of_row row)) → P (link_of (map link_of_row rows) t)
 link_from [] t found e P none some = none (sym e)

@@ -1,4 +1,4 @@
--- The frame that the next segment of a task starts from, where it is out of its row already.
+-- The frame that the next segment of a task starts from, after it was taken out of its row.
 use Rattle.std.proofs.Common.{◌≡◌, ℕ, ℤ, zero, suc, List, [], ◌∷◌, Option, None, Some, refl, sym, ap, ◌∙◌}
 use Rattle.std.specs.Prelude.{slice_get, slice_set}
 use Rattle.seg_exec.specs.declared.frame.Frame.{Frame}

@@ -28,7 +28,7 @@ hits_other zero (suc u) n other = refl
 hits_other (suc t) zero n other = refl
 hits_other (suc t) (suc u) n other = hits_other t u n (λ e. other (ap (λ (k : ℕ). suc k) e))
 
--- so is a count of one where the places are equal
+-- so it is n if the places are equal, and else 0
 pub hits_is : (t u n : ℕ) → hits t u n ≡ cond (t == u) n 0
 hits_is t u n =
     ⊎_elim

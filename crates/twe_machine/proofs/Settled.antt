@@ -11,7 +11,7 @@ use Rattle.twe_machine.specs.declared.state.State.{State}
 use Rattle.twe_machine.specs.declared.state.TaskRow.{TaskRow}
 use Rattle.twe_machine.specs.Moves.{state_after_asking, going_row, state_after_make, state_after_storing, state_after_join, joined_child, making_frame, new_row, parent_of, settling_result, stop_result}
 
--- a task was made: its maker has come home, and its row and its links stand after the others
+-- a task was made: the frame of its maker is stored, and its row and its links stand after the others
 pub made_is : (lim : Bounds) (st came after : State) (t : ℕ) (row : TaskRow) (frame maker : Frame) (future : ℕ) (spawned : Bool) (child : Frame) (args : List ℤ) (effects : Summary) (parent : Option ℕ)
     → maker ≡ making_frame future spawned (st.asked + 1) frame
     → came ≡ state_after_storing (state_after_asking st) t maker (going_row row maker)

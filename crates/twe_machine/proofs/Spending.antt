@@ -26,7 +26,7 @@ going_weight row frame next left is =
     ap (λ (s : TaskStatus). weight_at s (2 * frame.fuel + children_left frame.next (length frame.out))) left.enabled
     ∙ ap (λ (n : Next). 2 * frame.fuel + children_left n (length frame.out) + 1) is
 
--- where it has stopped at a getValue
+-- it has stopped at a getValue
 pub got_weight : (row : TaskRow) (frame : Frame) (on : ℕ) (into : Option ℕ) → IsLeft row frame → frame.next ≡ Get on into → frame.fuel < row.frame.fuel
     → row_weight (going_row row frame) < row_weight row
 got_weight row frame on into left is less =

@@ -35,7 +35,7 @@ pub record IsMadeAfter (rows : List TaskRow) (t : ℕ) (parent : Option ℕ) (u 
   pub parent_is : row.parent ≡ parent
 
 -- the future f of a task t of this declaration stands for u: u is one of the tasks that the body makes into f, and a
--- child of t where it is a `spawn` that makes it
+-- child of t if a `spawn` makes it
 pub record StandsFor (p : Program) (rows : List TaskRow) (t decl f u : ℕ) : Type 0 where
   pub declared : Declared
   pub found : slice_get (futures_at p decl) f ≡ Some declared

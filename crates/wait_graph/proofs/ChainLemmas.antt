@@ -29,7 +29,7 @@ Chain-rest only away none = absurd (away refl)
 Chain-rest {Step} {a} {b} {d} only away (more {b = c} r chain) =
     subst (λ (x : ℕ). Chain Step x d) (only c r) chain
 
--- where no place has two steps, of two places that chains lead to one comes after the other
+-- if no place has two steps, then of two places that chains lead to one comes after the other
 pub Chain-fork : {Step : ℕ → ℕ → Type 0} {a b c : ℕ} → ((x y z : ℕ) → Step x y → Step x z → z ≡ y) → Chain Step a b → Chain Step a c → Chain Step b c ⊎ Chain Step c b
 Chain-fork one none other = inl other
 Chain-fork one (more r chain) none = inr (more r chain)
@@ -41,7 +41,7 @@ pub Chain-map : {Step Other : ℕ → ℕ → Type 0} {a b : ℕ} → ((x y : �
 Chain-map f none = none
 Chain-map {a = a} f (more {b = x} r chain) = more (f a x r) (Chain-map f chain)
 
--- where no step leads on from t, a chain to another place doesn't come to t
+-- if no step leads on from t, a chain to another place doesn't come to t
 pub Chain-around : {Step Other : ℕ → ℕ → Type 0} {a b t : ℕ} → ((c : ℕ) → ¬ Step t c) → ((x y : ℕ) → y ≢ t → Step x y → Other x y) → b ≢ t → Chain Step a b → Chain Other a b
 Chain-around stop f away none = none
 Chain-around {Step} {a = a} {b = b} stop f away (more {b = x} r chain) =

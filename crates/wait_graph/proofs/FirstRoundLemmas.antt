@@ -10,7 +10,7 @@ use Rattle.wait_graph.specs.Walk.{walk, first_round}
 use Rattle.wait_graph.specs.inner.Again.{after, ComesAgain}
 use Rattle.wait_graph.proofs.WalkLemmas.{after-suc, walk-add, length-walk, get_or-walk}
 
--- a number stands again where it stands anywhere
+-- a number that stands in the list is found in it
 list_any_middle : (t : ℕ) (xs ys : List ℕ) → list_any (λ u. eqb u t) (xs ++ t ∷ ys) ≡ true
 list_any_middle t xs ys =
     list_any_at (λ u. eqb u t) (xs ++ t ∷ ys) (length xs) 0 (let e = length-append xs (t ∷ ys) in omega arith)

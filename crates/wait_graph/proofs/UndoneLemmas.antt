@@ -7,7 +7,7 @@ use Rattle.wait_graph.specs.declared.tasks.Link.{Link}
 use Rattle.wait_graph.specs.Link.{new_link, link_of}
 use Rattle.wait_graph.specs.StuckCycle.{IsUndone, lowest_undone}
 
--- where some task isn't done, the lowest such task is there and isn't done
+-- if some task isn't done, the lowest such task is there and isn't done
 pub IsUndone-lowest : (links : List Link) (t : ℕ) → IsUndone links t → IsUndone links (lowest_undone links)
 IsUndone-lowest links t some =
     let p : Link → Bool = λ link. not link.done in

@@ -32,7 +32,7 @@ DescendsFrom-down {t = t} ordered (more {b = p} child chain) =
     let others = DescendsFrom-down ordered chain in
     omega arith
 
--- what s yields to, the task yields to that s waits for, where s itself is neither t nor an ancestor of t
+-- if s is neither t nor an ancestor of t and yields to t, the task that s waits for yields to t
 pub YieldsTo-next : {links : List Link} {s t next : ℕ} → WaitsFor links s next → ¬ DescendsFrom links t s → YieldsTo links s t → YieldsTo links next t
 YieldsTo-next {links} {s} {t} wait apart yield =
     (yield.0, Chain-rest (λ c w. WaitsFor-one wait w) (λ e. apart (subst (λ (x : ℕ). DescendsFrom links t x) (sym e) yield.2)) yield.1, yield.2)

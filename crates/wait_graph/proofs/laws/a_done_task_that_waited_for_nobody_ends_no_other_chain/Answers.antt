@@ -1,4 +1,4 @@
--- A chain comes to a task that waits for nobody only where it ends.
+-- A chain comes to a task that waits for nobody only at its end.
 use Rattle.wait_graph.proofs.SettingLemmas.{WaitsOn-with_done, WaitsOnUnlessDone-with_done, YieldsTo-with_done}
 use Rattle.wait_graph.proofs.laws.a_done_task_that_waited_for_nobody_ends_no_other_chain.Goals as goal
 
