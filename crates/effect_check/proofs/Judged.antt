@@ -15,15 +15,17 @@ use Rattle.effect_check.specs.declared.act.ActKind.{ActKind}
 use Rattle.effect_check.specs.declared.act.ActKind.TheVariants.{Touch, Call, Make, Wait}
 use Rattle.effect_check.specs.declared.rule.ERule.{ERule}
 use Rattle.effect_check.specs.declared.rule.ERule.TheVariants.{E1, E2, E3, E4, E5, E6, E7, E8}
-use Rattle.effect_check.specs.declared.rule.Failure.{Failure}
+use Rattle.effect_check.specs.FailsEffect.{EffectFailure}
 use Rattle.effect_check.specs.declared.futures.Spawn.{Spawn}
 use Rattle.effect_check.specs.declared.futures.Futures.{Futures}
 use Rattle.effect_check.specs.Acts.{acts_in_all}
 use Rattle.effect_check.specs.Covered.{Does, CoveredAt}
 use Rattle.effect_check.specs.FailsEffect.{TaskFails, MethodFails}
 use Rattle.effect_check.specs.FailsEffect as rules
-use Rattle.effect_check.specs.inner.Failures.{failure_if, spawn_of, spawns_among, bars, covered, all_covered, all_inside, task_failures_at, task_failures, method_failures_at, method_failures}
-use Rattle.effect_check.proofs.Members.{IsIn, in-left, in-right, in-cases, contains-in, in-contains, both-true, true-both, list_all-in, in-list_all, list_any-in, in-list_any, all-in}
+use Rattle.effect_check.specs.inner.Failures.{spawn_of, spawns_among, bars, covered, all_covered, all_inside, task_failures_at, task_failures, method_failures_at, method_failures}
+use Rattle.first_failure.specs.First.{failure_if}
+use Rattle.first_failure.proofs.Firsts.{if-in, in-if}
+use Rattle.first_failure.proofs.Members.{IsIn, in-left, in-right, in-cases, contains-in, in-contains, both-true, true-both, list_all-in, in-list_all, list_any-in, in-list_any, all-in}
 use Rattle.effect_check.proofs.Range.{IsInRange, AllInRange}
 
 -- what is gathered from acts, one after the other, comes from one of them
@@ -61,15 +63,6 @@ all_fails t xs x i n = whole (list_all t xs) refl where
   whole : (b : Bool) → list_all t xs ≡ b → not b ≡ true
   whole true e = absurd (not_both (t x) n (list_all-in t xs e x i))
   whole false e = refl
-
-in-failure_if : (b : Bool) (rule : ERule) (place : Place) (f : Failure) → IsIn f (failure_if b rule place) → (b ≡ true) × (f ≡ record { rule = rule; place = place })
-in-failure_if true rule place f (inl e) = (refl, e)
-in-failure_if true rule place f (inr none) = absurd none
-in-failure_if false rule place f i = absurd i
-
-failure-in : (b : Bool) (rule : ERule) (place : Place) → b ≡ true → IsIn (record { rule = rule; place = place }) (failure_if b rule place)
-failure-in true rule place e = inl refl
-failure-in false rule place e = absurd (false≢true e)
 
 -- what a spawn is made from
 spawn-made : (kind : ActKind) (s : Spawn) → IsIn s (spawn_of kind)
@@ -144,16 +137,16 @@ module _ (p : Program) (task : Decl) (fs : Futures) (flow : IsFlowOf fs.points t
   not_covered : (point : ℕ) (effect : Effect) → point < task.body.points → not (covered task.summary fs point effect) ≡ true → ¬ CoveredAt p task point effect
   not_covered point effect here n c = not_both (covered task.summary fs point effect) n (covered_from point effect here c)
 
-  at_rule : (f : Failure) (rule : ERule) (place : Place) → f ≡ record { rule = rule; place = place } → TaskFails p task rule place → TaskFails p task f.rule f.place
-  at_rule f rule place e fails = subst (λ (g : Failure). TaskFails p task g.rule g.place) (sym e) fails
+  at_rule : (f : EffectFailure) (rule : ERule) (place : Place) → f ≡ record { rule = rule; place = place } → TaskFails p task rule place → TaskFails p task f.rule f.place
+  at_rule f rule place e fails = subst (λ (g : EffectFailure). TaskFails p task g.rule g.place) (sym e) fails
 
-  fails_at : (point : ℕ) (kind : ActKind) → Does p task point kind → (f : Failure) → IsIn f (task_failures_at task fs point kind) → TaskFails p task f.rule f.place
+  fails_at : (point : ℕ) (kind : ActKind) → Does p task point kind → (f : EffectFailure) → IsIn f (task_failures_at task fs point kind) → TaskFails p task f.rule f.place
   fails_at point (Touch effect place) does f i =
-      let q = in-failure_if (not (covered task.summary fs point effect)) E1 place f i in
+      let q = if-in (not (covered task.summary fs point effect)) E1 place f i in
       let here = (in_range point (Touch effect place) does).0 in
       at_rule f E1 place q.1 (rules.access point effect place does (not_covered point effect here q.0))
   fails_at point (Call effects place) does f i =
-      let q = in-failure_if (not (all_covered task.summary fs point effects)) E2 place f i in
+      let q = if-in (not (all_covered task.summary fs point effects)) E2 place f i in
       let here = (in_range point (Call effects place) does).0 in
       let one = one_fails (λ e. covered task.summary fs point e) effects.effects q.0 in
       at_rule f E2 place q.1 (rules.called point effects one.0 place does (in-contains effects.effects one.0 one.1) (not_covered point one.0 here one.2))
@@ -165,15 +158,15 @@ module _ (p : Program) (task : Decl) (fs : Futures) (flow : IsFlowOf fs.points t
       elim (in-cases f (again ++ bare) loose i) [
         | inl front ↦ elim (in-cases f again bare front) [
           | inl j ↦
-              let q = in-failure_if (may_at fs.points point future) E5 future_place f j in
+              let q = if-in (may_at fs.points point future) E5 future_place f j in
               at_rule f E5 future_place q.1 (rules.spawned_again point future deterministic effects future_place place does ((flow.may point future there.0 there.1).0 q.0))
           | inr j ↦
-              let q = in-failure_if (not (all_covered task.summary fs point effects)) E3 place f j in
+              let q = if-in (not (all_covered task.summary fs point effects)) E3 place f j in
               let one = one_fails (λ e. covered task.summary fs point e) effects.effects q.0 in
               at_rule f E3 place q.1 (rules.spawned point future deterministic effects one.0 future_place place does (in-contains effects.effects one.0 one.1) (not_covered point one.0 there.0 one.2))
         ]
         | inr j ↦
-            let q = in-failure_if (task.deterministic && not deterministic) E7 place f j in
+            let q = if-in (task.deterministic && not deterministic) E7 place f j in
             let both = both-true task.deterministic (not deterministic) q.0 in
             at_rule f E7 place q.1 (plain deterministic both.1 does both.0)
       ] where
@@ -181,23 +174,23 @@ module _ (p : Program) (task : Decl) (fs : Futures) (flow : IsFlowOf fs.points t
         plain true n made strict = absurd (false≢true n)
         plain false n made strict = rules.not_deterministic point future effects future_place place made strict
   fails_at point (Make future false deterministic effects future_place place) does f i =
-      let q = in-failure_if task.deterministic E6 place f i in
+      let q = if-in task.deterministic E6 place f i in
       at_rule f E6 place q.1 (rules.made_later point future deterministic effects future_place place does q.0)
   fails_at point (Wait future true place) does f i =
-      let q = in-failure_if (not (surely_at fs.points point future)) E4 place f i in
+      let q = if-in (not (surely_at fs.points point future)) E4 place f i in
       let there = in_range point (Wait future true place) does in
       at_rule f E4 place q.1 (rules.joined point future place does (λ surely. not_both (surely_at fs.points point future) q.0 ((flow.surely point future there.0 there.1).1 surely)))
   fails_at point (Wait future false place) does f i =
-      let q = in-failure_if task.deterministic E6 place f i in
+      let q = if-in task.deterministic E6 place f i in
       at_rule f E6 place q.1 (rules.waited point future place does q.0)
 
   -- each listed failure is one of the rules
-  pub listed-fails : (f : Failure) → IsIn f (task_failures task fs (acts_in_all p task.body.block)) → TaskFails p task f.rule f.place
+  pub listed-fails : (f : EffectFailure) → IsIn f (task_failures task fs (acts_in_all p task.body.block)) → TaskFails p task f.rule f.place
   listed-fails f i =
       let found = gathered-in (λ act. task_failures_at task fs act.point act.kind) (task_failures task fs) refl (λ a others. refl) (acts_in_all p task.body.block) f i in
       fails_at found.0.point found.0.kind (in-contains (acts_in_all p task.body.block) found.0 found.1) f found.2
 
-  listed_at : (point : ℕ) (kind : ActKind) → Does p task point kind → (f : Failure) → IsIn f (task_failures_at task fs point kind)
+  listed_at : (point : ℕ) (kind : ActKind) → Does p task point kind → (f : EffectFailure) → IsIn f (task_failures_at task fs point kind)
       → IsIn f (task_failures task fs (acts_in_all p task.body.block))
   listed_at point kind does f i =
       let act : Act = record { point = point; kind = kind } in
@@ -214,40 +207,40 @@ module _ (p : Program) (task : Decl) (fs : Futures) (flow : IsFlowOf fs.points t
   pub fails-listed : (rule : ERule) (place : Place) → TaskFails p task rule place → IsIn (record { rule = rule; place = place }) (task_failures task fs (acts_in_all p task.body.block))
   fails-listed _ _ (rules.access point effect place does n) =
       listed_at point (Touch effect place) does (record { rule = E1; place = place })
-      (failure-in (not (covered task.summary fs point effect)) E1 place (uncovered point effect (in_range point (Touch effect place) does).0 n))
+      (in-if (not (covered task.summary fs point effect)) E1 place (uncovered point effect (in_range point (Touch effect place) does).0 n))
   fails-listed _ _ (rules.called point effects effect place does contained n) =
       listed_at point (Call effects place) does (record { rule = E2; place = place })
-      (failure-in (not (all_covered task.summary fs point effects)) E2 place
+      (in-if (not (all_covered task.summary fs point effects)) E2 place
       (all_fails (λ e. covered task.summary fs point e) effects.effects effect (contains-in effects.effects effect contained) (uncovered point effect (in_range point (Call effects place) does).0 n)))
   fails-listed _ _ (rules.spawned point future deterministic effects effect future_place place does contained n) =
       listed_at point (Make future true deterministic effects future_place place) does (record { rule = E3; place = place })
       (in-left _ (failure_if (may_at fs.points point future) E5 future_place ++ failure_if (not (all_covered task.summary fs point effects)) E3 place) (failure_if (task.deterministic && not deterministic) E7 place)
       (in-right _ (failure_if (may_at fs.points point future) E5 future_place) (failure_if (not (all_covered task.summary fs point effects)) E3 place)
-      (failure-in (not (all_covered task.summary fs point effects)) E3 place
+      (in-if (not (all_covered task.summary fs point effects)) E3 place
       (all_fails (λ e. covered task.summary fs point e) effects.effects effect (contains-in effects.effects effect contained)
       (uncovered point effect (in_range point (Make future true deterministic effects future_place place) does).0 n)))))
   fails-listed _ _ (rules.joined point future place does n) =
       let there = in_range point (Wait future true place) does in
       listed_at point (Wait future true place) does (record { rule = E4; place = place })
-      (failure-in (not (surely_at fs.points point future)) E4 place (surely_not point future there.0 there.1 n))
+      (in-if (not (surely_at fs.points point future)) E4 place (surely_not point future there.0 there.1 n))
   fails-listed _ _ (rules.spawned_again point future deterministic effects future_place place does out) =
       let there = in_range point (Make future true deterministic effects future_place place) does in
       listed_at point (Make future true deterministic effects future_place place) does (record { rule = E5; place = future_place })
       (in-left _ (failure_if (may_at fs.points point future) E5 future_place ++ failure_if (not (all_covered task.summary fs point effects)) E3 place) (failure_if (task.deterministic && not deterministic) E7 place)
       (in-left _ (failure_if (may_at fs.points point future) E5 future_place) (failure_if (not (all_covered task.summary fs point effects)) E3 place)
-      (failure-in (may_at fs.points point future) E5 future_place ((flow.may point future there.0 there.1).1 out))))
+      (in-if (may_at fs.points point future) E5 future_place ((flow.may point future there.0 there.1).1 out))))
   fails-listed _ _ (rules.made_later point future deterministic effects future_place place does strict) =
-      listed_at point (Make future false deterministic effects future_place place) does (record { rule = E6; place = place }) (failure-in task.deterministic E6 place strict)
+      listed_at point (Make future false deterministic effects future_place place) does (record { rule = E6; place = place }) (in-if task.deterministic E6 place strict)
   fails-listed _ _ (rules.waited point future place does strict) =
-      listed_at point (Wait future false place) does (record { rule = E6; place = place }) (failure-in task.deterministic E6 place strict)
+      listed_at point (Wait future false place) does (record { rule = E6; place = place }) (in-if task.deterministic E6 place strict)
   fails-listed _ _ (rules.not_deterministic point future effects future_place place does strict) =
       listed_at point (Make future true false effects future_place place) does (record { rule = E7; place = place })
       (in-right _ (failure_if (may_at fs.points point future) E5 future_place ++ failure_if (not (all_covered task.summary fs point effects)) E3 place) (failure_if (task.deterministic && true) E7 place)
-      (failure-in (task.deterministic && true) E7 place (true-both task.deterministic true strict refl)))
+      (in-if (task.deterministic && true) E7 place (true-both task.deterministic true strict refl)))
 
 module _ (p : Program) (method : Decl) where
-  at_method_rule : (f : Failure) (rule : ERule) (place : Place) → f ≡ record { rule = rule; place = place } → MethodFails p method rule place → MethodFails p method f.rule f.place
-  at_method_rule f rule place e fails = subst (λ (g : Failure). MethodFails p method g.rule g.place) (sym e) fails
+  at_method_rule : (f : EffectFailure) (rule : ERule) (place : Place) → f ≡ record { rule = rule; place = place } → MethodFails p method rule place → MethodFails p method f.rule f.place
+  at_method_rule f rule place e fails = subst (λ (g : EffectFailure). MethodFails p method g.rule g.place) (sym e) fails
 
   outside : (effect : Effect) → not (covers method.summary effect) ≡ true → ¬ IsTrue (covers method.summary effect)
   outside effect n y = not_both (covers method.summary effect) n y
@@ -258,24 +251,24 @@ module _ (p : Program) (method : Decl) where
     by_test true e = absurd (n e)
     by_test false e = refl
 
-  method_fails_at : (point : ℕ) (kind : ActKind) → Does p method point kind → (f : Failure) → IsIn f (method_failures_at method kind) → MethodFails p method f.rule f.place
+  method_fails_at : (point : ℕ) (kind : ActKind) → Does p method point kind → (f : EffectFailure) → IsIn f (method_failures_at method kind) → MethodFails p method f.rule f.place
   method_fails_at point (Touch effect place) does f i =
-      let q = in-failure_if (not (covers method.summary effect)) E8 place f i in
+      let q = if-in (not (covers method.summary effect)) E8 place f i in
       at_method_rule f E8 place q.1 (rules.access_outside point effect place does (outside effect q.0))
   method_fails_at point (Call effects place) does f i =
-      let q = in-failure_if (not (all_inside method.summary effects)) E8 place f i in
+      let q = if-in (not (all_inside method.summary effects)) E8 place f i in
       let one = one_fails (λ e. covers method.summary e) effects.effects q.0 in
       at_method_rule f E8 place q.1 (rules.called_outside point effects one.0 place does (in-contains effects.effects one.0 one.1) (outside one.0 one.2))
   method_fails_at point (Make future spawned deterministic effects future_place place) does f i = absurd i
   method_fails_at point (Wait future join place) does f i = absurd i
 
   -- each listed failure is one of the rule
-  pub listed-method_fails : (f : Failure) → IsIn f (method_failures method (acts_in_all p method.body.block)) → MethodFails p method f.rule f.place
+  pub listed-method_fails : (f : EffectFailure) → IsIn f (method_failures method (acts_in_all p method.body.block)) → MethodFails p method f.rule f.place
   listed-method_fails f i =
       let found = gathered-in (λ act. method_failures_at method act.kind) (method_failures method) refl (λ a others. refl) (acts_in_all p method.body.block) f i in
       method_fails_at found.0.point found.0.kind (in-contains (acts_in_all p method.body.block) found.0 found.1) f found.2
 
-  method_listed_at : (point : ℕ) (kind : ActKind) → Does p method point kind → (f : Failure) → IsIn f (method_failures_at method kind)
+  method_listed_at : (point : ℕ) (kind : ActKind) → Does p method point kind → (f : EffectFailure) → IsIn f (method_failures_at method kind)
       → IsIn f (method_failures method (acts_in_all p method.body.block))
   method_listed_at point kind does f i =
       let act : Act = record { point = point; kind = kind } in
@@ -286,8 +279,8 @@ module _ (p : Program) (method : Decl) where
   pub method_fails-listed : (rule : ERule) (place : Place) → MethodFails p method rule place → IsIn (record { rule = rule; place = place }) (method_failures method (acts_in_all p method.body.block))
   method_fails-listed _ _ (rules.access_outside point effect place does n) =
       method_listed_at point (Touch effect place) does (record { rule = E8; place = place })
-      (failure-in (not (covers method.summary effect)) E8 place (not_inside effect n))
+      (in-if (not (covers method.summary effect)) E8 place (not_inside effect n))
   method_fails-listed _ _ (rules.called_outside point effects effect place does contained n) =
       method_listed_at point (Call effects place) does (record { rule = E8; place = place })
-      (failure-in (not (all_inside method.summary effects)) E8 place
+      (in-if (not (all_inside method.summary effects)) E8 place
       (all_fails (λ e. covers method.summary e) effects.effects effect (contains-in effects.effects effect contained) (not_inside effect n)))

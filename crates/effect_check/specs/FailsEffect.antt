@@ -1,6 +1,8 @@
 -- The rules on effects: where a program fails them, and which failure is the first.
 use Rattle.std.specs.Prelude.{◌≡◌, ◌⊎◌, ◌<◌, ◌≤◌, ℕ, Bool, true, false, IsTrue, Contains}
 use Rattle.twe_io.specs.declared.place.Place.{Place}
+use Rattle.first_failure.specs.declared.failure.Failure.{Failure}
+use Rattle.first_failure.specs.Order as order
 use Rattle.effect_sets.specs.declared.effects.Effect.{Effect}
 use Rattle.effect_sets.specs.declared.effects.Summary.{Summary}
 use Rattle.effect_sets.specs.Covers.{covers}
@@ -70,19 +72,13 @@ number_of E6 = 6
 number_of E7 = 7
 number_of E8 = 8
 
--- the first place is earlier in the text
-abbrev pub IsEarlier : Place → Place → Type 0
-IsEarlier a b = (a.line < b.line) ⊎ ((a.line ≡ b.line) × (a.col < b.col))
-
--- the first failure does not come after the second: its place is earlier, or the same and its number not higher
-abbrev pub NotAfter : ERule → Place → ERule → Place → Type 0
-NotAfter rule place other elsewhere =
-    IsEarlier place elsewhere ⊎ ((place ≡ elsewhere) × (number_of rule ≤ number_of other))
+-- a rule on effects that fails, and where
+abbrev pub EffectFailure : Type 0
+EffectFailure = Failure ERule
 
 -- the failure comes before all others
-pub record IsFirstFailure (p : Program) (rule : ERule) (place : Place) : Type 0 where
-  pub fails : FailsEffect p rule place
-  pub first : (other : ERule) (elsewhere : Place) → FailsEffect p other elsewhere → NotAfter rule place other elsewhere
+abbrev pub IsFirstFailure : Program → ERule → Place → Type 0
+IsFirstFailure p rule place = order.IsFirstFailure number_of (FailsEffect p) rule place
 
 -- the cause of an answer other than Ok: the first failure; that memory ran out has none
 abbrev pub HasCause : Program → CheckFail → Type 0

@@ -8,7 +8,6 @@ mod act;
 mod body;
 mod collect;
 mod cover;
-mod first;
 mod futures;
 mod judge;
 mod rule;

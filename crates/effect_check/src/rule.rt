@@ -1,5 +1,6 @@
 //! The rules on effects, and the answer of the check where one of them fails.
 
+use first_failure::Rule;
 use std::error::Error;
 use std::fmt;
 use twe_io::{Memory, Place};
@@ -25,23 +26,13 @@ pub enum ERule {
     E8,
 }
 
-/// A rule that fails, and where.
-#[derive(Clone, Copy, Debug, PartialEq, Eq)]
-pub struct Failure {
-    /// The rule.
-    pub rule: ERule,
-    /// The place that the rule names.
-    pub place: Place,
-}
+impl Rule for ERule {
+    ghost use Rattle.effect_check.specs.FailsEffect.{number_of as number_in_name};
 
-impl ERule {
-    ghost use Rattle.std.specs.Prelude.{◌≡◌};
-    ghost use Rattle.effect_check.specs.FailsEffect.{number_of};
+    ghost number_of = { number_in_name };
 
     /// The number in the rule's name.
-    pub fn number(self) -> u8
-        ensures { result ≡ number_of self }
-    {
+    fn number(self) -> u8 {
         match self {
             ERule::E1 => 1,
             ERule::E2 => 2,

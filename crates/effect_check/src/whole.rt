@@ -6,29 +6,30 @@ ghost use Rattle.effect_check.specs.FailsEffect.{FailsEffect, HasCause};
 ghost use Rattle.effect_check.specs.inner.First.{IsFirstOf, FailsInTask, FailsInBody};
 
 use crate::judge::{judge_method, judge_task};
-use crate::rule::{CheckFail, Failure};
+use crate::rule::{CheckFail, ERule};
+use first_failure::Failure;
 use std::alloc::Global;
 use twe_io::Memory;
 use twe_program::Prog;
 
 /// The first failure of the tasks.
-fn first_in_tasks(alloc: Global, p: &Prog) -> Result<Option<Failure>, Memory>
+fn first_in_tasks(alloc: Global, p: &Prog) -> Result<Option<Failure<ERule>>, Memory>
     ensures { IfOk result (IsFirstOf (FailsInTask p.now)) }
 {
     let mut first = None;
     for task in p.tasks.as_slice() {
-        first = judge_task(alloc, p, task, first)?;
+        judge_task(alloc, p, task, &mut first)?;
     }
     Ok(first)
 }
 
 /// The first failure of all bodies.
-fn first_failure(alloc: Global, p: &Prog) -> Result<Option<Failure>, Memory>
+fn first_failure(alloc: Global, p: &Prog) -> Result<Option<Failure<ERule>>, Memory>
     ensures { IfOk result (IsFirstOf (FailsInBody p.now)) }
 {
     let mut first = first_in_tasks(alloc, p)?;
     for method in p.methods.as_slice() {
-        first = judge_method(alloc, p, method, first)?;
+        judge_method(alloc, p, method, &mut first)?;
     }
     Ok(first)
 }

@@ -12,7 +12,7 @@ use Rattle.twe_ast.specs.inner.StatementSize.{depth_of_all, depth_of_arms}
 use Rattle.name_check.specs.Ends.{close_of}
 use Rattle.name_check.specs.declared.names.GlobalName.{GlobalName}
 use Rattle.name_check.specs.declared.scope.Here.{Here}
-use Rattle.name_check.specs.declared.rule.Failure.{Failure}
+use Rattle.name_check.specs.FailsName.{NameFailure}
 use Rattle.name_check.specs.Here.{after, after_all, after_arms, after_block}
 use Rattle.name_check.specs.Size.{statements_in_all, statements_in_arms}
 use Rattle.name_check.specs.Asks.{asks_of}
@@ -44,13 +44,13 @@ next_arm items last i item below is = ap (λ xs. arms_of xs last) (drop_more ite
 pub no_arm : (items : List Arm) (last : Option Statements) (i : ℕ) → length items ≤ i → arms_of (drop i items) last ≡ last_of last
 no_arm items last i past = ap (λ xs. arms_of xs last) (drop_all i items past)
 
-module _ (globals : List GlobalName) (returns : ReturnType) (here new : Here) (first now : Option Failure) where
+module _ (globals : List GlobalName) (returns : ReturnType) (here new : Here) (first now : Option NameFailure) where
   -- one statement of a block on
   module _ (block rest : Statements) (stmt : Statement) (is : block ≡ statement stmt rest) (passed : new ≡ after globals here stmt) where
     pub block_passed : (all : Here) → after_all globals here block ≡ all → after_all globals new rest ≡ all
     block_passed all h = ap (λ x. after_all globals x rest) passed ∙ (ap (after_all globals here) (sym is) ∙ h)
 
-    pub block_noted : now ≡ first_of_sites globals first (sites_in globals returns here stmt) → (all : Option Failure)
+    pub block_noted : now ≡ first_of_sites globals first (sites_in globals returns here stmt) → (all : Option NameFailure)
         → first_of_sites globals first (sites_in_all globals returns here block) ≡ all → first_of_sites globals now (sites_in_all globals returns new rest) ≡ all
     block_noted noted all h =
         ap (λ f. first_of_sites globals f (sites_in_all globals returns new rest)) noted
@@ -68,14 +68,14 @@ pub last_arm : (items : List Arm) (body : Statements) → depth_of_all body + 1 
 last_arm [] body = omega arith
 last_arm (first ∷ others) body = omega (arith, last_arm others body)
 
-module _ (globals : List GlobalName) (returns : ReturnType) (here new : Here) (first between now : Option Failure) where
+module _ (globals : List GlobalName) (returns : ReturnType) (here new : Here) (first between now : Option NameFailure) where
   -- one arm of an `if` on
   module _ (arms rest : Arms) (condition : Expression) (body : Statements) (is : arms ≡ arm condition body rest) (passed : new ≡ after_block globals here body) where
     pub arms_passed : (all : Here) → after_arms globals here arms ≡ all → after_arms globals new rest ≡ all
     arms_passed all h = ap (λ x. after_arms globals x rest) passed ∙ (ap (after_arms globals here) (sym is) ∙ h)
 
     pub arms_noted : between ≡ first_of_asks globals here.locals first (asks_of globals here.locals (Some Boolean) condition)
-        → now ≡ first_of_sites globals between (sites_in_all globals returns here body) → (all : Option Failure)
+        → now ≡ first_of_sites globals between (sites_in_all globals returns here body) → (all : Option NameFailure)
         → first_of_sites globals first (sites_in_arms globals returns here arms) ≡ all → first_of_sites globals now (sites_in_arms globals returns new rest) ≡ all
     arms_noted before noted all h =
         let asked : List Site = sites_at here.locals returns (asks_of globals here.locals (Some Boolean) condition) in

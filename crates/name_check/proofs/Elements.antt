@@ -9,27 +9,17 @@ use Rattle.twe_ast.specs.declared.item.Clause.{Clause}
 use Rattle.twe_ast.specs.declared.path.Path.{Path}
 use Rattle.twe_ast.specs.declared.path.PathElem.{PathElem}
 use Rattle.name_check.specs.declared.rule.NRule.{NRule}
-use Rattle.name_check.specs.declared.rule.Failure.{Failure}
+use Rattle.name_check.specs.FailsName.{NameFailure}
 use Rattle.name_check.specs.Limits.{StandsAfter, IsSecondStar, is_star}
-use Rattle.name_check.specs.inner.Least.{failure_if}
+use Rattle.first_failure.specs.First.{failure_if}
 use Rattle.name_check.specs.inner.OtherFailures.{failures_of_place, second_star, path_failures, paths_failures, clauses_failures}
-use Rattle.name_check.proofs.Members.{IsIn, in-left, in-right, in-cases}
+use Rattle.first_failure.proofs.Members.{IsIn, in-left, in-right, in-cases}
 
-abbrev pub failure : NRule → Place → Failure
+abbrev pub failure : NRule → Place → NameFailure
 failure rule place = record { rule = rule; place = place }
 
--- the one failure of a test
-pub if-in : (b : Bool) (rule : NRule) (place : Place) (f : Failure) → IsIn f (failure_if b rule place) → (b ≡ true) × (f ≡ failure rule place)
-if-in true rule place f (inl e) = (refl, e)
-if-in true rule place f (inr h) = absurd h
-if-in false rule place f h = absurd h
-
-pub in-if : (b : Bool) (rule : NRule) (place : Place) → b ≡ true → IsIn (failure rule place) (failure_if b rule place)
-in-if true rule place h = inl refl
-in-if false rule place h = absurd (false≢true h)
-
 -- the one failure of a place
-pub place-in : (place : Option Place) (rule : NRule) (f : Failure) → IsIn f (failures_of_place rule place) → (at : Place) × (place ≡ Some at) × (f ≡ failure rule at)
+pub place-in : (place : Option Place) (rule : NRule) (f : NameFailure) → IsIn f (failures_of_place rule place) → (at : Place) × (place ≡ Some at) × (f ≡ failure rule at)
 place-in None rule f h = absurd h
 place-in (Some at) rule f (inl e) = (at, refl, e)
 place-in (Some at) rule f (inr h) = absurd h
@@ -57,7 +47,7 @@ module _ {X : Type 0} where
   mapped place (Some x) at h = (x, refl, let e : place x ≡ at = cc in sym e)
 
   -- the failure of what stands after so many others
-  pub over-in : (place : X → Place) (xs : List X) (n : ℕ) (rule : NRule) (f : Failure) → IsIn f (failures_of_place rule (option_map place (slice_get xs n)))
+  pub over-in : (place : X → Place) (xs : List X) (n : ℕ) (rule : NRule) (f : NameFailure) → IsIn f (failures_of_place rule (option_map place (slice_get xs n)))
       → (x : X) × StandsAfter n xs x × (f ≡ failure rule (place x))
   over-in place xs n rule f h =
       let found = place-in (option_map place (slice_get xs n)) rule f h in
@@ -155,7 +145,7 @@ star-second (first ∷ before) after elem star one = by (is_star first) refl (st
   by true e later = let n : 1 + count_by is_star before ≡ 1 = sym (count_cons first before true e) ∙ one in ap (λ b. second_star b (before ++ elem ∷ after)) e ∙ star-next before after elem star (omega arith)
   by false e later = let n : 0 + count_by is_star before ≡ 1 = sym (count_cons first before false e) ∙ one in ap (λ b. second_star b (before ++ elem ∷ after)) e ∙ later (omega arith)
 
-pub star-in : (elems : List PathElem) (rule : NRule) (f : Failure) → IsIn f (failures_of_place rule (second_star false elems))
+pub star-in : (elems : List PathElem) (rule : NRule) (f : NameFailure) → IsIn f (failures_of_place rule (second_star false elems))
     → (elem : PathElem) × IsSecondStar elems elem × (f ≡ failure rule elem.place)
 star-in elems rule f h =
     let found = place-in (second_star false elems) rule f h in
@@ -166,19 +156,19 @@ pub in-star : (elems : List PathElem) (rule : NRule) (elem : PathElem) → IsSec
 in-star elems rule elem h = in-place (second_star false elems) rule elem.place (ap (second_star false) h.list ∙ star-second h.before h.after elem h.star h.one)
 
 -- the failures of the paths of clauses
-paths-in : (paths : List Path) (f : Failure) → IsIn f (paths_failures paths) → (path : Path) × IsIn path paths × IsIn f (path_failures path)
+paths-in : (paths : List Path) (f : NameFailure) → IsIn f (paths_failures paths) → (path : Path) × IsIn path paths × IsIn f (path_failures path)
 paths-in [] f h = absurd h
 paths-in (path ∷ paths) f h = elim (in-cases f (path_failures path) (paths_failures paths) h) [
   | inl here ↦ (path, inl refl, here)
   | inr later ↦ let found = paths-in paths f later in (found.0, inr found.1, found.2)
 ]
 
-in-paths : (paths : List Path) (path : Path) (f : Failure) → IsIn path paths → IsIn f (path_failures path) → IsIn f (paths_failures paths)
+in-paths : (paths : List Path) (path : Path) (f : NameFailure) → IsIn path paths → IsIn f (path_failures path) → IsIn f (paths_failures paths)
 in-paths [] path f there h = absurd there
 in-paths (first ∷ paths) path f (inl e) h = in-left f (path_failures first) (paths_failures paths) (subst (λ p. IsIn f (path_failures p)) e h)
 in-paths (first ∷ paths) path f (inr there) h = in-right f (path_failures first) (paths_failures paths) (in-paths paths path f there h)
 
-pub clauses-in : (clauses : List Clause) (f : Failure) → IsIn f (clauses_failures clauses)
+pub clauses-in : (clauses : List Clause) (f : NameFailure) → IsIn f (clauses_failures clauses)
     → (path : Path) × IsIn path (flat_map (λ (clause : Clause). clause.paths) clauses) × IsIn f (path_failures path)
 clauses-in [] f h = absurd h
 clauses-in (clause ∷ clauses) f h =
@@ -188,7 +178,7 @@ clauses-in (clause ∷ clauses) f h =
       | inr later ↦ let found = clauses-in clauses f later in (found.0, in-right found.0 clause.paths rest found.1, found.2)
     ]
 
-pub in-clauses : (clauses : List Clause) (path : Path) (f : Failure) → IsIn path (flat_map (λ (clause : Clause). clause.paths) clauses) → IsIn f (path_failures path)
+pub in-clauses : (clauses : List Clause) (path : Path) (f : NameFailure) → IsIn path (flat_map (λ (clause : Clause). clause.paths) clauses) → IsIn f (path_failures path)
     → IsIn f (clauses_failures clauses)
 in-clauses [] path f there h = absurd there
 in-clauses (clause ∷ clauses) path f there h =

@@ -23,7 +23,7 @@ use Rattle.twe_ast.specs.declared.stmt.LocalType.TheVariants.{Int, Boolean}
 use Rattle.cell_limits.specs.GoesOver.{cells_of, cells_of_item, GoesOver}
 use Rattle.name_check.specs.declared.rule.NRule.{NRule}
 use Rattle.name_check.specs.declared.rule.NRule.TheVariants.{N1, N2, N3, N4, N5, N6, N7, N8, N9}
-use Rattle.name_check.specs.declared.rule.Failure.{Failure}
+use Rattle.name_check.specs.FailsName.{NameFailure}
 use Rattle.name_check.specs.declared.seen.Asked.{Asked}
 use Rattle.name_check.specs.declared.seen.Asked.TheVariants as asked
 use Rattle.name_check.specs.declared.seen.Global.TheVariants as global_kinds
@@ -41,15 +41,16 @@ use Rattle.name_check.specs.Limits.{StandsAfter, decls_of, decls_of_item, paths_
 use Rattle.name_check.specs.FailsName as rules
 use Rattle.name_check.specs.FailsName.{FailsName, Asks, HasMain, IsDeclaredAgain, seen_as, fits}
 use Rattle.name_check.specs.inner.Failures.{lacks_value, has_other_count, assigns_constant, failures_of_use, differs, failures_by, failures_at, is_void}
-use Rattle.name_check.specs.inner.Least.{failure_if}
+use Rattle.first_failure.specs.First.{failure_if}
 use Rattle.name_check.specs.inner.OtherFailures.{failures_of_place, fifth_name, ninth_path, long_elem, path_failures, clauses_failures, lacks_return, decl_failures, item_failures}
 use Rattle.name_check.specs.inner.Whole.{is_again, again_failures, is_main_item}
-use Rattle.name_check.proofs.Elements.{failure, in-if, in-over, in-star, in-clauses}
-use Rattle.name_check.proofs.Members.{IsIn, in-left, in-right, contains-in, in-contains, flat_map-in, in-flat_map, list_any-in, in-list_any, both-true, true-both, true-or, false-not}
+use Rattle.first_failure.proofs.Firsts.{in-if}
+use Rattle.name_check.proofs.Elements.{failure, in-over, in-star, in-clauses}
+use Rattle.first_failure.proofs.Members.{IsIn, in-left, in-right, contains-in, in-contains, flat_map-in, in-flat_map, list_any-in, in-list_any, both-true, true-both, true-or, false-not}
 use Rattle.name_check.proofs.Gathered.{site_failures, failures_in_item, failures_in}
 
 -- it is the failure of a declaration that goes over a limit
-abbrev pub GoesOverAt : Ast → Failure → Type 0
+abbrev pub GoesOverAt : Ast → NameFailure → Type 0
 GoesOverAt ast f = (cell : CellDecl) × GoesOver (cells_of ast.items) cell × (f ≡ failure N7 cell.name.place)
 
 differ-not_same : (type other : LocalType) → ¬ (type ≡ other) → not (same_type (Some type) (Some other)) ≡ true
@@ -64,7 +65,7 @@ not_equal params args h = grind (arith, nat_tests)
 module _ (ast : Ast) where
   module _ (locals : List LocalName) (returns : ReturnType) (ask : Ask) (there : Asks ast locals returns ask) where
     -- a failure of what is asked for is in the list
-    in_site : (f : Failure) → IsIn f (failures_by (globals_of ast) locals returns ask) → IsIn f (failures_in ast)
+    in_site : (f : NameFailure) → IsIn f (failures_by (globals_of ast) locals returns ask) → IsIn f (failures_in ast)
     in_site f h =
         let site : Site = record { locals = locals; returns = returns; ask = ask } in
         let d = flat_map-in (sites_of_item (globals_of ast)) ast.items site (contains-in (sites_of ast) site there) in
@@ -74,12 +75,12 @@ module _ (ast : Ast) where
         (in-flat_map (failures_in_item (globals_of ast)) ast.items item f d.1 (in-left f (site_failures (globals_of ast) (sites_of_item (globals_of ast) item)) (item_failures item) in_sites))
 
   -- one of the other failures of an item is in the list
-  in_item : (item : Item) → IsIn item ast.items → (f : Failure) → IsIn f (item_failures item) → IsIn f (failures_in ast)
+  in_item : (item : Item) → IsIn item ast.items → (f : NameFailure) → IsIn f (item_failures item) → IsIn f (failures_in ast)
   in_item item there f h =
       in-left f (flat_map (failures_in_item (globals_of ast)) ast.items) _
       (in-flat_map (failures_in_item (globals_of ast)) ast.items item f there (in-right f (site_failures (globals_of ast) (sites_of_item (globals_of ast) item)) (item_failures item) h))
 
-  decl_item : (decl : Decl) (item : Item) → IsIn decl (decls_of_item item) → (f : Failure) → IsIn f (decl_failures decl) → IsIn f (item_failures item)
+  decl_item : (decl : Decl) (item : Item) → IsIn decl (decls_of_item item) → (f : NameFailure) → IsIn f (decl_failures decl) → IsIn f (item_failures item)
   decl_item decl (items.Regions names) there f h = absurd there
   decl_item decl (items.Cell cell) there f h = absurd there
   decl_item decl (items.Method d) (inl e) f h = subst (λ x. IsIn f (decl_failures x)) e h
@@ -87,19 +88,19 @@ module _ (ast : Ast) where
   decl_item decl (items.Task deterministic d) (inl e) f h = subst (λ x. IsIn f (decl_failures x)) e h
   decl_item decl (items.Task deterministic d) (inr none) f h = absurd none
 
-  in_decl : (decl : Decl) → Contains (decls_of ast) decl → (f : Failure) → IsIn f (decl_failures decl) → IsIn f (failures_in ast)
+  in_decl : (decl : Decl) → Contains (decls_of ast) decl → (f : NameFailure) → IsIn f (decl_failures decl) → IsIn f (failures_in ast)
   in_decl decl there f h =
       let d = flat_map-in decls_of_item ast.items decl (contains-in (decls_of ast) decl there) in
       in_item d.0 d.1 f (decl_item decl d.0 d.2 f h)
 
-  cell_item : (cell : CellDecl) (item : Item) → IsIn cell (cells_of_item item) → (f : Failure) → IsIn f (item_failures (items.Cell cell)) → IsIn f (item_failures item)
+  cell_item : (cell : CellDecl) (item : Item) → IsIn cell (cells_of_item item) → (f : NameFailure) → IsIn f (item_failures (items.Cell cell)) → IsIn f (item_failures item)
   cell_item cell (items.Regions names) there f h = absurd there
   cell_item cell (items.Cell c) (inl e) f h = subst (λ (x : CellDecl). IsIn f (item_failures (items.Cell x))) e h
   cell_item cell (items.Cell c) (inr none) f h = absurd none
   cell_item cell (items.Method d) there f h = absurd there
   cell_item cell (items.Task deterministic d) there f h = absurd there
 
-  in_cell : (cell : CellDecl) → Contains (cells_of ast.items) cell → (f : Failure) → IsIn f (item_failures (items.Cell cell)) → IsIn f (failures_in ast)
+  in_cell : (cell : CellDecl) → Contains (cells_of ast.items) cell → (f : NameFailure) → IsIn f (item_failures (items.Cell cell)) → IsIn f (failures_in ast)
   in_cell cell there f h =
       let d = flat_map-in cells_of_item ast.items cell (contains-in (cells_of ast.items) cell there) in
       in_item d.0 d.1 f (cell_item cell d.0 d.2 f h)
@@ -107,7 +108,7 @@ module _ (ast : Ast) where
   -- the parts of the failures of a use of a name that is seen
   module _ (locals : List LocalName) (returns : ReturnType) (name : Name) (asks : Asked) (other : Seen)
       (there : Asks ast locals returns (uses name asks)) (is : seen_as (globals_of ast) locals asks name.text ≡ Some other) where
-    in_use : (f : Failure) → IsIn f (failures_of_use asks (Some other) name.place) → IsIn f (failures_in ast)
+    in_use : (f : NameFailure) → IsIn f (failures_of_use asks (Some other) name.place) → IsIn f (failures_in ast)
     in_use f h = in_site locals returns (uses name asks) there f (subst (λ o. IsIn f (failures_of_use asks o name.place)) (sym is) h)
 
     in_kind : fits asks other ≡ false → IsIn (failure N3 name.place) (failures_in ast)
@@ -204,7 +205,7 @@ module _ (ast : Ast) where
         (in-right (failure N7 path.place) (failures_of_place N7 (fifth_name decl.params)) _
         (in-left (failure N7 path.place) (failures_of_place N7 (ninth_path (paths_of decl))) _ (in-over (λ (p : Path). p.place) (paths_of decl) 8 N7 path h)))
 
-    in_path : (path : Path) → Contains (paths_of decl) path → (f : Failure) → IsIn f (path_failures path) → IsIn f (failures_in ast)
+    in_path : (path : Path) → Contains (paths_of decl) path → (f : NameFailure) → IsIn f (path_failures path) → IsIn f (failures_in ast)
     in_path path among f h =
         in_decl decl there f
         (in-right f (failures_of_place N7 (fifth_name decl.params)) _
@@ -213,7 +214,7 @@ module _ (ast : Ast) where
 
     in_end : decl.returns ≡ return_types.Int → one_ends decl.body ≡ false → IsIn (failure N5 (close_of decl.body)) (failures_in ast)
     in_end int ends =
-        let f : Failure = failure N5 (close_of decl.body) in
+        let f : NameFailure = failure N5 (close_of decl.body) in
         in_decl decl there f
         (in-right f (failures_of_place N7 (fifth_name decl.params)) _
         (in-right f (failures_of_place N7 (ninth_path (paths_of decl))) _

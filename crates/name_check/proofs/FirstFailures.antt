@@ -6,23 +6,24 @@ use Rattle.twe_ast.specs.Expression.{Expression}
 use Rattle.twe_ast.specs.declared.stmt.LocalType.{LocalType}
 use Rattle.name_check.specs.declared.names.GlobalName.{GlobalName}
 use Rattle.name_check.specs.declared.scope.LocalName.{LocalName}
-use Rattle.name_check.specs.declared.rule.Failure.{Failure}
+use Rattle.name_check.specs.FailsName.{NameFailure}
 use Rattle.name_check.specs.Types.{type_of}
 use Rattle.name_check.specs.Asks.{Ask, need, place_of}
-use Rattle.name_check.specs.inner.Least.{first_from, earlier}
+use Rattle.first_failure.proofs.Firsts as firsts_of
+use Rattle.name_check.specs.FailsName.{number_of}
+use Rattle.name_check.specs.inner.First.{first_from}
 use Rattle.name_check.specs.inner.Failures.{first_of_asks, failures_here, failures_of_need}
 
-pub first_from-append : (first : Option Failure) (xs ys : List Failure) → first_from first (xs ++ ys) ≡ first_from (first_from first xs) ys
-first_from-append first [] ys = refl
-first_from-append first (x ∷ xs) ys = first_from-append (earlier first x) xs ys
+pub first_from-append : (first : Option NameFailure) (xs ys : List NameFailure) → first_from first (xs ++ ys) ≡ first_from (first_from first xs) ys
+first_from-append first xs ys = firsts_of.first_from-append number_of first xs ys
 
 module _ (globals : List GlobalName) (locals : List LocalName) where
-  pub first_of_asks-append : (first : Option Failure) (xs ys : List Ask)
+  pub first_of_asks-append : (first : Option NameFailure) (xs ys : List Ask)
       → first_of_asks globals locals first (xs ++ ys) ≡ first_of_asks globals locals (first_of_asks globals locals first xs) ys
   first_of_asks-append first [] ys = refl
   first_of_asks-append first (x ∷ xs) ys = first_of_asks-append (first_from first (failures_here globals locals x)) xs ys
 
-  pub first_of_need : (first : Option Failure) (type : Option LocalType) (value : Expression)
+  pub first_of_need : (first : Option NameFailure) (type : Option LocalType) (value : Expression)
       → first_of_asks globals locals first (need type value) ≡ first_from first (failures_of_need type (type_of globals locals value) (place_of value))
   first_of_need first None value = refl
   first_of_need first (Some type) value = refl
@@ -33,7 +34,7 @@ pub both_first : (a b c : Bool) → (a && (b && c)) ≡ ((a && b) && c)
 both_first true b c = refl
 both_first false b c = refl
 
-pub first_of_four : (first : Option Failure) (a b c d : List Failure)
+pub first_of_four : (first : Option NameFailure) (a b c d : List NameFailure)
     → first_from first (a ++ (b ++ (c ++ d))) ≡ first_from (first_from (first_from (first_from first a) b) c) d
 first_of_four first a b c d =
     first_from-append first a (b ++ (c ++ d))
@@ -41,7 +42,7 @@ first_of_four first a b c d =
 
 -- what each thing of a list asks for, one thing on
 pub each_noted : {X : Type 0} (f : X → List Ask) (globals : List GlobalName) (locals : List LocalName) (items : List X) (i : ℕ) (item : X) → i < length items → get_or items i item ≡ item
-    → (first now all : Option Failure) → now ≡ first_of_asks globals locals first (f item)
+    → (first now all : Option NameFailure) → now ≡ first_of_asks globals locals first (f item)
     → first_of_asks globals locals first (flat_map f (drop i items)) ≡ all → first_of_asks globals locals now (flat_map f (drop (i + 1) items)) ≡ all
 each_noted f globals locals items i item below is first now all noted so_far =
     let next = drop_more items i item below ∙ ap (λ x. x ∷ drop (i + 1) items) is in

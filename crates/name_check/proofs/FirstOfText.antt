@@ -6,47 +6,46 @@ use Rattle.twe_ast.specs.declared.item.Ast.{Ast}
 use Rattle.cell_limits.specs.FirstOver.{IsFirstOver}
 use Rattle.name_check.specs.declared.rule.NRule.{NRule}
 use Rattle.name_check.specs.declared.rule.NRule.TheVariants.{N7}
-use Rattle.name_check.specs.declared.rule.Failure.{Failure}
-use Rattle.name_check.specs.FailsName.{FailsName, IsFirstFailure}
+use Rattle.name_check.specs.FailsName.{NameFailure}
+use Rattle.name_check.specs.FailsName.{FailsName, IsFirstFailure, number_of}
 use Rattle.name_check.specs.FailsName as rules
-use Rattle.name_check.specs.inner.Least.{first_from}
+use Rattle.name_check.specs.inner.First.{first_from}
 use Rattle.name_check.specs.inner.OtherFailures.{failures_of_place}
-use Rattle.name_check.proofs.Members.{IsIn}
-use Rattle.name_check.proofs.Ordered.{IsFirstOf, first-same, first_from-first}
+use Rattle.first_failure.proofs.Members.{IsIn}
+use Rattle.first_failure.specs.Order.{IsFirstOf}
+use Rattle.first_failure.proofs.Firsts.{first-same, first_from-first, first-said}
 use Rattle.name_check.proofs.Gathered.{failures_in}
 use Rattle.name_check.proofs.Listed.{listed-fails}
 use Rattle.name_check.proofs.Fails.{fails-listed, GoesOverAt}
 
 module _ (ast : Ast) where
-  over-fails : (over : Option Place) → IsFirstOver ast.items over → (f : Failure) → IsIn f (failures_of_place N7 over) → FailsName ast f.rule f.place
+  over-fails : (over : Option Place) → IsFirstOver ast.items over → (f : NameFailure) → IsIn f (failures_of_place N7 over) → FailsName ast f.rule f.place
   over-fails None is f h = absurd h
   over-fails (Some place) is f (inl e) =
       let (cell, goes, at) = is.0 in
-      subst (λ (g : Failure). FailsName ast g.rule g.place) (sym e) (subst (λ p. FailsName ast N7 p) (sym at) (rules.too_many_cells cell goes))
+      subst (λ (g : NameFailure). FailsName ast g.rule g.place) (sym e) (subst (λ p. FailsName ast N7 p) (sym at) (rules.too_many_cells cell goes))
   over-fails (Some place) is f (inr h) = absurd h
 
-  fails-over : (over : Option Place) → IsFirstOver ast.items over → (f : Failure) → GoesOverAt ast f → IsIn f (failures_of_place N7 over)
+  fails-over : (over : Option Place) → IsFirstOver ast.items over → (f : NameFailure) → GoesOverAt ast f → IsIn f (failures_of_place N7 over)
   fails-over None is f (cell, goes, e) = absurd (is cell goes)
   fails-over (Some place) is f (cell, goes, e) = inl (e ∙ ap (λ p. make p) (is.1 cell goes)) where
-    make : Place → Failure
+    make : Place → NameFailure
     make p = record { rule = N7; place = p }
 
-  said : (first : Option Failure) → IsFirstOf (λ f. FailsName ast f.rule f.place) first
-      → MatchOption first ((rule : NRule) (place : Place) → ¬ FailsName ast rule place) (λ f. IsFirstFailure ast f.rule f.place)
-  said None h = λ rule place. h (record { rule = rule; place = place })
-  said (Some f) h = record { fails = h.0; first = λ rule place. h.1 (record { rule = rule; place = place }) }
+  -- it is the first failure of a rule of names, or there is none
+  abbrev pub IsFirst : Option NameFailure → Type 0
+  IsFirst first = MatchOption first ((rule : NRule) (place : Place) → ¬ FailsName ast rule place) (λ f. IsFirstFailure ast f.rule f.place)
 
-  pub first_of_text : (found first : Option Failure) (over : Option Place) → found ≡ first_from None (failures_in ast) → IsFirstOver ast.items over
-      → first ≡ first_from found (failures_of_place N7 over)
-      → MatchOption first ((rule : NRule) (place : Place) → ¬ FailsName ast rule place) (λ f. IsFirstFailure ast f.rule f.place)
+  pub first_of_text : (found first : Option NameFailure) (over : Option Place) → found ≡ first_from None (failures_in ast) → IsFirstOver ast.items over
+      → first ≡ first_from found (failures_of_place N7 over) → IsFirst first
   first_of_text found first over gathered is noted =
-      let No : Failure → Type 0 = λ f. ⊥ in
-      let In : Failure → Type 0 = λ f. No f ⊎ IsIn f (failures_in ast) in
-      let All : Failure → Type 0 = λ f. In f ⊎ IsIn f (failures_of_place N7 over) in
-      let h1 : IsFirstOf In found = subst (IsFirstOf In) (sym gathered) (first_from-first No None (failures_in ast) (λ f h. h)) in
-      let h2 : IsFirstOf All first = subst (IsFirstOf All) (sym noted) (first_from-first In found (failures_of_place N7 over) h1) in
-      said first
-      (first-same All (λ f. FailsName ast f.rule f.place)
+      let No : NameFailure → Type 0 = λ f. ⊥ in
+      let In : NameFailure → Type 0 = λ f. No f ⊎ IsIn f (failures_in ast) in
+      let All : NameFailure → Type 0 = λ f. In f ⊎ IsIn f (failures_of_place N7 over) in
+      let h1 : IsFirstOf number_of In found = subst (IsFirstOf number_of In) (sym gathered) (first_from-first number_of No None (failures_in ast) (λ f h. h)) in
+      let h2 : IsFirstOf number_of All first = subst (IsFirstOf number_of All) (sym noted) (first_from-first number_of In found (failures_of_place N7 over) h1) in
+      first-said number_of (FailsName ast) first
+      (first-same number_of All (λ f. FailsName ast f.rule f.place)
       (λ f q. elim q [ inl r ↦ elim r [ inl none ↦ absurd none | inr x ↦ listed-fails ast f x ] | inr x ↦ over-fails over is f x ])
       (λ f q. elim (fails-listed ast f.rule f.place q) [ inl x ↦ inl (inr x) | inr x ↦ inr (fails-over over is f x) ])
       first h2)

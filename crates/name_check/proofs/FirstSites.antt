@@ -5,7 +5,7 @@ use Rattle.twe_ast.specs.declared.item.ReturnType.{ReturnType}
 use Rattle.twe_ast.specs.declared.stmt.LocalType.{LocalType}
 use Rattle.name_check.specs.declared.names.GlobalName.{GlobalName}
 use Rattle.name_check.specs.declared.scope.LocalName.{LocalName}
-use Rattle.name_check.specs.declared.rule.Failure.{Failure}
+use Rattle.name_check.specs.FailsName.{NameFailure}
 use Rattle.name_check.specs.Types.{type_of, left_need, right_need}
 use Rattle.name_check.specs.Asks.{Ask, uses, needs, declares, returns_value, returns_nothing, need, asks_of, asks_inside, asks_of_all}
 use Rattle.std.specs.List.{flat_map}
@@ -18,7 +18,7 @@ use Rattle.twe_ast.specs.declared.path.PathElemKind.{PathElemKind}
 use Rattle.twe_ast.specs.declared.path.PathElemKind.TheVariants as elem_kinds
 use Rattle.name_check.specs.Stands.{Site, sites_at, asks_of_kind, asks_of_cell_kind, asks_of_path, asks_of_clause}
 use Rattle.name_check.specs.inner.Elements.{asks_of_elem, asks_of_cell_elem}
-use Rattle.name_check.specs.inner.Least.{first_from}
+use Rattle.name_check.specs.inner.First.{first_from}
 use Rattle.name_check.specs.inner.Failures.{first_of_asks, first_of_sites, failures_at, failures_here}
 
 -- none of these asks for a value that is returned
@@ -61,7 +61,7 @@ module _ (globals : List GlobalName) (locals : List LocalName) where
     all_inside no_more = tt
     all_inside (argument first others) = join (asks_of globals locals _ first) (asks_of_all globals locals others) (of_inside _ first) (all_inside others)
 
-  same_inside : (returns : ReturnType) (first : Option Failure) (asks : List Ask) → AreInside asks
+  same_inside : (returns : ReturnType) (first : Option NameFailure) (asks : List Ask) → AreInside asks
       → first_of_sites globals first (sites_at locals returns asks) ≡ first_of_asks globals locals first asks
   same_inside returns first [] h = refl
   same_inside returns first (uses name asks ∷ others) h = same_inside returns (first_from first (failures_here globals locals (uses name asks))) others h.1
@@ -70,20 +70,20 @@ module _ (globals : List GlobalName) (locals : List LocalName) where
   same_inside returns first (returns_value place ∷ others) h = absurd h.0
   same_inside returns first (returns_nothing place ∷ others) h = absurd h.0
 
-  pub first_of_expression : (returns : ReturnType) (first : Option Failure) (type : Option LocalType) (value : Expression)
+  pub first_of_expression : (returns : ReturnType) (first : Option NameFailure) (type : Option LocalType) (value : Expression)
       → first_of_sites globals first (sites_at locals returns (asks_of globals locals type value)) ≡ first_of_asks globals locals first (asks_of globals locals type value)
   first_of_expression returns first type value = same_inside returns first (asks_of globals locals type value) (of_inside type value)
 
-  pub first_of_arguments : (returns : ReturnType) (first : Option Failure) (args : Arguments)
+  pub first_of_arguments : (returns : ReturnType) (first : Option NameFailure) (args : Arguments)
       → first_of_sites globals first (sites_at locals returns (asks_of_all globals locals args)) ≡ first_of_asks globals locals first (asks_of_all globals locals args)
   first_of_arguments returns first args = same_inside returns first (asks_of_all globals locals args) (all_inside args)
 
-pub first_of_sites-append : (globals : List GlobalName) (first : Option Failure) (xs ys : List Site)
+pub first_of_sites-append : (globals : List GlobalName) (first : Option NameFailure) (xs ys : List Site)
     → first_of_sites globals first (xs ++ ys) ≡ first_of_sites globals (first_of_sites globals first xs) ys
 first_of_sites-append globals first [] ys = refl
 first_of_sites-append globals first (x ∷ xs) ys = first_of_sites-append globals (first_from first (failures_at globals x)) xs ys
 
-pub first_at-append : (globals : List GlobalName) (locals : List LocalName) (returns : ReturnType) (first : Option Failure) (xs ys : List Ask)
+pub first_at-append : (globals : List GlobalName) (locals : List LocalName) (returns : ReturnType) (first : Option NameFailure) (xs ys : List Ask)
     → first_of_sites globals first (sites_at locals returns (xs ++ ys)) ≡ first_of_sites globals (first_of_sites globals first (sites_at locals returns xs)) (sites_at locals returns ys)
 first_at-append globals locals returns first [] ys = refl
 first_at-append globals locals returns first (x ∷ xs) ys =
@@ -111,7 +111,7 @@ each_inside : {X : Type 0} (f : X → List Ask) → ((x : X) → AreInside (f x)
 each_inside f h [] = tt
 each_inside f h (x ∷ xs) = join (f x) (flat_map f xs) (h x) (each_inside f h xs)
 
-module _ (globals : List GlobalName) (locals : List LocalName) (returns : ReturnType) (first : Option Failure) where
+module _ (globals : List GlobalName) (locals : List LocalName) (returns : ReturnType) (first : Option NameFailure) where
   pub first_of_effects : (clauses : List Clause)
       → first_of_sites globals first (sites_at locals returns (flat_map asks_of_clause clauses)) ≡ first_of_asks globals locals first (flat_map asks_of_clause clauses)
   first_of_effects clauses =

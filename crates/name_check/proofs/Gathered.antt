@@ -5,32 +5,33 @@ use Rattle.twe_ast.specs.declared.item.Ast.{Ast}
 use Rattle.twe_ast.specs.declared.item.Item.{Item}
 use Rattle.name_check.specs.declared.names.GlobalName.{GlobalName}
 use Rattle.name_check.specs.declared.rule.NRule.TheVariants.{N8}
-use Rattle.name_check.specs.declared.rule.Failure.{Failure}
+use Rattle.name_check.specs.FailsName.{NameFailure}
 use Rattle.name_check.specs.Names.{globals_of}
 use Rattle.name_check.specs.Stands.{Site, sites_of_item}
 use Rattle.name_check.specs.inner.Failures.{failures_at, first_of_sites}
-use Rattle.name_check.specs.inner.Least.{failure_if, first_from}
+use Rattle.first_failure.specs.First.{failure_if}
+use Rattle.name_check.specs.inner.First.{first_from}
 use Rattle.name_check.specs.inner.OtherFailures.{item_failures}
 use Rattle.name_check.specs.inner.Whole.{again_failures, first_but_nodes, first_in_items, is_main_item}
 use Rattle.name_check.proofs.FirstFailures.{first_from-append}
 
-abbrev pub site_failures : List GlobalName → List Site → List Failure
+abbrev pub site_failures : List GlobalName → List Site → List NameFailure
 site_failures globals sites = flat_map (failures_at globals) sites
 
-abbrev pub failures_in_item : List GlobalName → Item → List Failure
+abbrev pub failures_in_item : List GlobalName → Item → List NameFailure
 failures_in_item globals item = site_failures globals (sites_of_item globals item) ++ item_failures item
 
-abbrev pub failures_in : Ast → List Failure
+abbrev pub failures_in : Ast → List NameFailure
 failures_in ast =
     flat_map (failures_in_item (globals_of ast)) ast.items
     ++ (again_failures [] (globals_of ast) ++ failure_if (not (list_any is_main_item ast.items)) N8 ast.end)
 
-first_of_sites_is : (globals : List GlobalName) (first : Option Failure) (sites : List Site) → first_of_sites globals first sites ≡ first_from first (site_failures globals sites)
+first_of_sites_is : (globals : List GlobalName) (first : Option NameFailure) (sites : List Site) → first_of_sites globals first sites ≡ first_from first (site_failures globals sites)
 first_of_sites_is globals first [] = refl
 first_of_sites_is globals first (site ∷ sites) =
     first_of_sites_is globals (first_from first (failures_at globals site)) sites ∙ sym (first_from-append first (failures_at globals site) (site_failures globals sites))
 
-first_in_items_is : (globals : List GlobalName) (first : Option Failure) (items : List Item)
+first_in_items_is : (globals : List GlobalName) (first : Option NameFailure) (items : List Item)
     → first_in_items globals first items ≡ first_from first (flat_map (failures_in_item globals) items)
 first_in_items_is globals first [] = refl
 first_in_items_is globals first (item ∷ items) =
@@ -42,8 +43,8 @@ first_in_items_is globals first (item ∷ items) =
 
 pub first_but_nodes_is : (ast : Ast) → first_but_nodes ast ≡ first_from None (failures_in ast)
 first_but_nodes_is ast =
-    let items : List Failure = flat_map (failures_in_item (globals_of ast)) ast.items in
-    let again : List Failure = again_failures [] (globals_of ast) in
-    let main : List Failure = failure_if (not (list_any is_main_item ast.items)) N8 ast.end in
+    let items : List NameFailure = flat_map (failures_in_item (globals_of ast)) ast.items in
+    let again : List NameFailure = again_failures [] (globals_of ast) in
+    let main : List NameFailure = failure_if (not (list_any is_main_item ast.items)) N8 ast.end in
     ap (λ o. first_from (first_from o again) main) (first_in_items_is (globals_of ast) None ast.items)
     ∙ (sym (first_from-append (first_from None items) again main) ∙ sym (first_from-append None items (again ++ main)))

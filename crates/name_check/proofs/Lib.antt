@@ -6,8 +6,6 @@ pub mod Arguments
 pub mod FirstSites
 pub mod Bodies
 pub mod PathsOver
-pub mod Members
-pub mod Ordered
 pub mod Gathered
 pub mod Elements
 pub mod Listed

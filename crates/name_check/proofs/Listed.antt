@@ -23,7 +23,7 @@ use Rattle.twe_ast.specs.Expression.{Expression}
 use Rattle.cell_limits.specs.GoesOver.{cells_of, cells_of_item}
 use Rattle.name_check.specs.declared.rule.NRule.{NRule}
 use Rattle.name_check.specs.declared.rule.NRule.TheVariants.{N1, N2, N3, N4, N5, N6, N7, N8, N9}
-use Rattle.name_check.specs.declared.rule.Failure.{Failure}
+use Rattle.name_check.specs.FailsName.{NameFailure}
 use Rattle.name_check.specs.declared.seen.Asked.{Asked}
 use Rattle.name_check.specs.declared.seen.Asked.TheVariants as asked
 use Rattle.name_check.specs.declared.seen.Global.TheVariants as global_kinds
@@ -41,16 +41,17 @@ use Rattle.name_check.specs.Limits.{decls_of, decls_of_item, paths_of}
 use Rattle.name_check.specs.FailsName as rules
 use Rattle.name_check.specs.FailsName.{FailsName, Asks, HasMain, seen_as, fits}
 use Rattle.name_check.specs.inner.Failures.{lacks_value, has_other_count, assigns_constant, failures_of_use, differs, failures_by, failures_at, is_void}
-use Rattle.name_check.specs.inner.Least.{failure_if}
+use Rattle.first_failure.specs.First.{failure_if}
 use Rattle.name_check.specs.inner.OtherFailures.{failures_of_place, fifth_name, ninth_path, long_elem, second_star, path_failures, clauses_failures, lacks_return, decl_failures, item_failures}
 use Rattle.name_check.specs.inner.Whole.{is_again, again_failures, is_main_item}
-use Rattle.name_check.proofs.Elements.{failure, if-in, over-in, star-in, clauses-in}
-use Rattle.name_check.proofs.Members.{IsIn, in-cases, contains-in, in-contains, flat_map-in, in-flat_map, list_any-in, in-list_any, not-true, both-true, or-true, true-both}
+use Rattle.first_failure.proofs.Firsts.{if-in}
+use Rattle.name_check.proofs.Elements.{failure, over-in, star-in, clauses-in}
+use Rattle.first_failure.proofs.Members.{IsIn, in-cases, contains-in, in-contains, flat_map-in, in-flat_map, list_any-in, in-list_any, not-true, both-true, or-true, true-both}
 use Rattle.name_check.proofs.Gathered.{site_failures, failures_in_item, failures_in}
 
 -- the same failure, said by its rule and place
-at : (ast : Ast) (f : Failure) (rule : NRule) (place : Place) → f ≡ failure rule place → FailsName ast rule place → FailsName ast f.rule f.place
-at ast f rule place e h = subst (λ (g : Failure). FailsName ast g.rule g.place) (sym e) h
+at : (ast : Ast) (f : NameFailure) (rule : NRule) (place : Place) → f ≡ failure rule place → FailsName ast rule place → FailsName ast f.rule f.place
+at ast f rule place e h = subst (λ (g : NameFailure). FailsName ast g.rule g.place) (sym e) h
 
 same_itself : (type : LocalType) → same_type (Some type) (Some type) ≡ true
 same_itself Int = refl
@@ -93,13 +94,13 @@ module _ (ast : Ast) where
     constant-fails _ _ there is h = absurd (false≢true h)
 
     use-fails : (asks : Asked) → Asks ast locals returns (uses name asks) → (o : Option Seen) → seen_as (globals_of ast) locals asks name.text ≡ o
-        → (f : Failure) → IsIn f (failures_of_use asks o name.place) → FailsName ast f.rule f.place
+        → (f : NameFailure) → IsIn f (failures_of_use asks o name.place) → FailsName ast f.rule f.place
     use-fails asks there None is f h = at ast f N1 name.place (if-in true N1 name.place f h).1 (rules.unknown locals returns name asks there is)
     use-fails asks there (Some other) is f h =
-        let kind : List Failure = failure_if (not (fits asks other)) N3 name.place in
-        let value : List Failure = failure_if (lacks_value asks other) N3 name.place in
-        let count : List Failure = failure_if (has_other_count asks other) N4 name.place in
-        let constant : List Failure = failure_if (assigns_constant asks other) N6 name.place in
+        let kind : List NameFailure = failure_if (not (fits asks other)) N3 name.place in
+        let value : List NameFailure = failure_if (lacks_value asks other) N3 name.place in
+        let count : List NameFailure = failure_if (has_other_count asks other) N4 name.place in
+        let constant : List NameFailure = failure_if (assigns_constant asks other) N6 name.place in
         elim (in-cases f kind (value ++ (count ++ constant)) h) [
           | inl x ↦ let d = if-in (not (fits asks other)) N3 name.place f x in
               at ast f N3 name.place d.1 (rules.other_kind locals returns name asks other there is (not-true (fits asks other) d.0))
@@ -113,19 +114,19 @@ module _ (ast : Ast) where
         ]
 
   need-fails : (locals : List LocalName) (returns : ReturnType) (type : LocalType) (value : Expression) → Asks ast locals returns (needs type value)
-      → (o : Option LocalType) → type_of (globals_of ast) locals value ≡ o → (f : Failure) → IsIn f (failure_if (differs type o) N3 (place_of value)) → FailsName ast f.rule f.place
+      → (o : Option LocalType) → type_of (globals_of ast) locals value ≡ o → (f : NameFailure) → IsIn f (failure_if (differs type o) N3 (place_of value)) → FailsName ast f.rule f.place
   need-fails locals returns type value there None is f h = absurd h
   need-fails locals returns type value there (Some other) is f h =
       let d = if-in (not (same_type (Some type) (Some other))) N3 (place_of value) f h in
       at ast f N3 (place_of value) d.1 (rules.other_type locals returns type other value there is (differ type other (not-true (same_type (Some type) (Some other)) d.0)))
 
   declared-fails : (locals : List LocalName) (returns : ReturnType) (name : Name) → Asks ast locals returns (declares name)
-      → (o : Option Seen) → seen (globals_of ast) locals name.text ≡ o → (f : Failure) → IsIn f (failure_if (is_some o) N2 name.place) → FailsName ast f.rule f.place
+      → (o : Option Seen) → seen (globals_of ast) locals name.text ≡ o → (f : NameFailure) → IsIn f (failure_if (is_some o) N2 name.place) → FailsName ast f.rule f.place
   declared-fails locals returns name there None is f h = absurd h
   declared-fails locals returns name there (Some other) is f h = at ast f N2 name.place (if-in true N2 name.place f h).1 (rules.hides locals returns name other there is)
 
   ask-fails : (locals : List LocalName) (returns : ReturnType) (ask : Ask) → Asks ast locals returns ask
-      → (f : Failure) → IsIn f (failures_by (globals_of ast) locals returns ask) → FailsName ast f.rule f.place
+      → (f : NameFailure) → IsIn f (failures_by (globals_of ast) locals returns ask) → FailsName ast f.rule f.place
   ask-fails locals returns (uses name asks) there f h = use-fails locals returns name asks there (seen_as (globals_of ast) locals asks name.text) refl f h
   ask-fails locals returns (needs type value) there f h = need-fails locals returns type value there (type_of (globals_of ast) locals value) refl f h
   ask-fails locals returns (declares name) there f h = declared-fails locals returns name there (seen (globals_of ast) locals name.text) refl f h
@@ -136,22 +137,22 @@ module _ (ast : Ast) where
       let d = if-in (not (is_void returns)) N3 place f h in
       at ast f N3 place d.1 (rules.nothing_for_value locals place (subst (λ r. Asks ast locals r (returns_nothing place)) (int_is returns d.0) there))
 
-  site-fails : (site : Site) → IsIn site (sites_of ast) → (f : Failure) → IsIn f (failures_at (globals_of ast) site) → FailsName ast f.rule f.place
+  site-fails : (site : Site) → IsIn site (sites_of ast) → (f : NameFailure) → IsIn f (failures_at (globals_of ast) site) → FailsName ast f.rule f.place
   site-fails site there f h = ask-fails site.locals site.returns site.ask (in-contains (sites_of ast) site there) f h
 
-  path-fails : (decl : Decl) (path : Path) → Contains (decls_of ast) decl → Contains (paths_of decl) path → (f : Failure) → IsIn f (path_failures path) → FailsName ast f.rule f.place
+  path-fails : (decl : Decl) (path : Path) → Contains (decls_of ast) decl → Contains (paths_of decl) path → (f : NameFailure) → IsIn f (path_failures path) → FailsName ast f.rule f.place
   path-fails decl path there among f h =
       elim (in-cases f (failures_of_place N7 (long_elem path.elems)) (failures_of_place N9 (second_star false path.elems)) h) [
         | inl x ↦ let d = over-in (λ (elem : PathElem). elem.place) path.elems 32 N7 f x in at ast f N7 d.0.place d.2 (rules.long_path decl path d.0 there among d.1)
         | inr x ↦ let d = star-in path.elems N9 f x in at ast f N9 d.0.place d.2 (rules.second_star decl path d.0 there among d.1)
       ]
 
-  decl-fails : (decl : Decl) → Contains (decls_of ast) decl → (f : Failure) → IsIn f (decl_failures decl) → FailsName ast f.rule f.place
+  decl-fails : (decl : Decl) → Contains (decls_of ast) decl → (f : NameFailure) → IsIn f (decl_failures decl) → FailsName ast f.rule f.place
   decl-fails decl there f h =
-      let params : List Failure = failures_of_place N7 (fifth_name decl.params) in
-      let paths : List Failure = failures_of_place N7 (ninth_path (paths_of decl)) in
-      let inside : List Failure = clauses_failures decl.effects in
-      let end : List Failure = failure_if (lacks_return decl) N5 (close_of decl.body) in
+      let params : List NameFailure = failures_of_place N7 (fifth_name decl.params) in
+      let paths : List NameFailure = failures_of_place N7 (ninth_path (paths_of decl)) in
+      let inside : List NameFailure = clauses_failures decl.effects in
+      let end : List NameFailure = failure_if (lacks_return decl) N5 (close_of decl.body) in
       elim (in-cases f params (paths ++ (inside ++ end)) h) [
         | inl x ↦ let d = over-in (λ (name : Name). name.place) decl.params 4 N7 f x in at ast f N7 d.0.place d.2 (rules.too_many_params decl d.0 there d.1)
         | inr y ↦ elim (in-cases f paths (inside ++ end) y) [
@@ -166,7 +167,7 @@ module _ (ast : Ast) where
         ]
       ]
 
-  other-fails : (item : Item) → IsIn item ast.items → (f : Failure) → IsIn f (item_failures item) → FailsName ast f.rule f.place
+  other-fails : (item : Item) → IsIn item ast.items → (f : NameFailure) → IsIn f (item_failures item) → FailsName ast f.rule f.place
   other-fails (items.Regions names) there f h = absurd h
   other-fails (items.Cell cell) there f h =
       let d = over-in (λ (elem : CellElem). elem.place) cell.path.elems 32 N7 f h in
@@ -177,7 +178,7 @@ module _ (ast : Ast) where
   other-fails (items.Task deterministic decl) there f h =
       decl-fails decl (in-contains (decls_of ast) decl (in-flat_map decls_of_item ast.items (items.Task deterministic decl) decl there (inl refl))) f h
 
-  item-fails : (f : Failure) → IsIn f (flat_map (failures_in_item (globals_of ast)) ast.items) → FailsName ast f.rule f.place
+  item-fails : (f : NameFailure) → IsIn f (flat_map (failures_in_item (globals_of ast)) ast.items) → FailsName ast f.rule f.place
   item-fails f h =
       let d = flat_map-in (failures_in_item (globals_of ast)) ast.items f h in
       let item : Item = d.0 in
@@ -203,7 +204,7 @@ module _ (ast : Ast) where
         ];
       })
 
-  again-fails : (before others : List GlobalName) → globals_of ast ≡ before ++ others → (f : Failure) → IsIn f (again_failures before others) → FailsName ast f.rule f.place
+  again-fails : (before others : List GlobalName) → globals_of ast ≡ before ++ others → (f : NameFailure) → IsIn f (again_failures before others) → FailsName ast f.rule f.place
   again-fails before [] list f h = absurd h
   again-fails before (this ∷ others) list f h =
       elim (in-cases f (failure_if (is_again before this) N2 this.place) (again_failures (before ++ this ∷ []) others) h) [
@@ -218,16 +219,16 @@ module _ (ast : Ast) where
       (true-both (bytes_eq h.decl.name.text (codes "main")) _ ((bytes_decides h.decl.name.text (codes "main")).1 h.named)
       (true-both (length h.decl.params == 0) (is_void h.decl.returns) (ap (λ (xs : List Name). length xs == 0) h.plain) (ap is_void h.void)))
 
-  main-fails : (f : Failure) → IsIn f (failure_if (not (list_any is_main_item ast.items)) N8 ast.end) → FailsName ast f.rule f.place
+  main-fails : (f : NameFailure) → IsIn f (failure_if (not (list_any is_main_item ast.items)) N8 ast.end) → FailsName ast f.rule f.place
   main-fails f h =
       let d = if-in (not (list_any is_main_item ast.items)) N8 ast.end f h in
       at ast f N8 ast.end d.1 (rules.no_main (λ has. false≢true (sym (not-true (list_any is_main_item ast.items) d.0) ∙ main_passes has)))
 
-  pub listed-fails : (f : Failure) → IsIn f (failures_in ast) → FailsName ast f.rule f.place
+  pub listed-fails : (f : NameFailure) → IsIn f (failures_in ast) → FailsName ast f.rule f.place
   listed-fails f h =
-      let in_items : List Failure = flat_map (failures_in_item (globals_of ast)) ast.items in
-      let again : List Failure = again_failures [] (globals_of ast) in
-      let main : List Failure = failure_if (not (list_any is_main_item ast.items)) N8 ast.end in
+      let in_items : List NameFailure = flat_map (failures_in_item (globals_of ast)) ast.items in
+      let again : List NameFailure = again_failures [] (globals_of ast) in
+      let main : List NameFailure = failure_if (not (list_any is_main_item ast.items)) N8 ast.end in
       elim (in-cases f in_items (again ++ main) h) [
         | inl x ↦ item-fails f x
         | inr y ↦ elim (in-cases f again main y) [ inl x ↦ again-fails [] (globals_of ast) refl f x | inr x ↦ main-fails f x ]

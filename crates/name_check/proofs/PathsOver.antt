@@ -6,8 +6,8 @@ use Rattle.std.specs.Option.{option_map}
 use Rattle.twe_io.specs.declared.place.Place.{Place}
 use Rattle.twe_ast.specs.declared.item.Clause.{Clause}
 use Rattle.twe_ast.specs.declared.path.Path.{Path}
-use Rattle.name_check.specs.declared.rule.Failure.{Failure}
-use Rattle.name_check.specs.inner.Least.{first_from}
+use Rattle.name_check.specs.FailsName.{NameFailure}
+use Rattle.name_check.specs.inner.First.{first_from}
 use Rattle.name_check.specs.inner.OtherFailures.{clauses_failures, paths_failures}
 use Rattle.name_check.proofs.FirstFailures.{first_from-append}
 
@@ -54,7 +54,7 @@ module _ (clauses : List Clause) (i : ℕ) (clause : Clause) (below : i < length
   pub paths_fit : (left : ℕ) → slice_get clause.paths left ≡ None → length clause.paths ≤ left
   paths_fit left none = got_past clause.paths left none
 
-  pub clauses_noted : (first now all : Option Failure) → now ≡ first_from first (paths_failures clause.paths)
+  pub clauses_noted : (first now all : Option NameFailure) → now ≡ first_from first (paths_failures clause.paths)
       → first_from first (clauses_failures (drop i clauses)) ≡ all → first_from now (clauses_failures (drop (i + 1) clauses)) ≡ all
   clauses_noted first now all noted so_far =
       ap (λ f. first_from f (clauses_failures (drop (i + 1) clauses))) noted

@@ -1,6 +1,8 @@
 -- The rules of names: where a tree fails them, and which failure is the first.
 use Rattle.std.specs.Prelude.{◌≡◌, ◌⊎◌, ℕ, ◌<◌, ◌≤◌, ◌==◌, Bool, true, false, not, List, [], ◌∷◌, ◌++◌, Option, None, Some, codes, Contains}
 use Rattle.twe_io.specs.declared.place.Place.{Place}
+use Rattle.first_failure.specs.declared.failure.Failure.{Failure}
+use Rattle.first_failure.specs.Order as order
 use Rattle.twe_ast.specs.declared.item.Ast.{Ast}
 use Rattle.twe_ast.specs.declared.item.CellDecl.{CellDecl}
 use Rattle.twe_ast.specs.declared.item.Decl.{Decl}
@@ -142,16 +144,10 @@ number_of N7 = 7
 number_of N8 = 8
 number_of N9 = 9
 
--- the first place is earlier in the text
-abbrev pub IsEarlier : Place → Place → Type 0
-IsEarlier a b = (a.line < b.line) ⊎ ((a.line ≡ b.line) × (a.col < b.col))
-
--- the first failure does not come after the second: its place is earlier, or the same and its number not higher
-abbrev pub NotAfter : NRule → Place → NRule → Place → Type 0
-NotAfter rule place other elsewhere =
-    IsEarlier place elsewhere ⊎ ((place ≡ elsewhere) × (number_of rule ≤ number_of other))
+-- a rule of names that fails, and where
+abbrev pub NameFailure : Type 0
+NameFailure = Failure NRule
 
 -- the failure comes before all others
-pub record IsFirstFailure (ast : Ast) (rule : NRule) (place : Place) : Type 0 where
-  pub fails : FailsName ast rule place
-  pub first : (other : NRule) (elsewhere : Place) → FailsName ast other elsewhere → NotAfter rule place other elsewhere
+abbrev pub IsFirstFailure : Ast → NRule → Place → Type 0
+IsFirstFailure ast rule place = order.IsFirstFailure number_of (FailsName ast) rule place

@@ -7,4 +7,5 @@ pub mod Ends
 pub mod Limits
 pub mod Size
 pub mod FailsName
+pub mod Checked
 pub mod inner

@@ -2,7 +2,7 @@ pub mod Firsts
 pub mod Parameters
 pub mod Counts
 pub mod Room
-pub mod Least
+pub mod First
 pub mod Failures
 pub mod Simple
 pub mod OtherFailures

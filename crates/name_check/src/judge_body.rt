@@ -9,8 +9,9 @@ ghost use Rattle.name_check.specs.inner.Room.{HasRoom};
 use crate::judge_expr::judge_expr;
 use crate::judge_simple::{judge_simple, pass_simple};
 use crate::names::Globals;
-use crate::rule::Failure;
+use crate::rule::NRule;
 use crate::scope::Here;
+use first_failure::Failure;
 use std::alloc::Global;
 use twe_ast::{Arms, Block, LocalType, ReturnType, Stmt, StmtKind};
 use twe_io::Memory;
@@ -24,7 +25,7 @@ fn judge_stmt(
     globals: &Globals,
     returns: ReturnType,
     here: &mut Here,
-    first: &mut Option<Failure>,
+    first: &mut Option<Failure<NRule>>,
 ) -> Result<(), Memory>
     requires { HasRoom here.old (statements_in stmt.now) }
     ensures passed { OnOk result (here.new ≡ after globals.now here.old stmt.now) }
@@ -65,7 +66,7 @@ pub fn judge_block(
     globals: &Globals,
     returns: ReturnType,
     here: &mut Here,
-    first: &mut Option<Failure>,
+    first: &mut Option<Failure<NRule>>,
 ) -> Result<(), Memory>
     requires { HasRoom here.old (statements_in_all block.now) }
     ensures passed { OnOk result (here.new ≡ after_block globals.now here.old block.now) }
@@ -88,7 +89,7 @@ fn judge_arms(
     globals: &Globals,
     returns: ReturnType,
     here: &mut Here,
-    first: &mut Option<Failure>,
+    first: &mut Option<Failure<NRule>>,
 ) -> Result<(), Memory>
     requires { HasRoom here.old (statements_in_arms arms.now) }
     ensures passed { OnOk result (here.new ≡ after_arms globals.now here.old arms.now) }

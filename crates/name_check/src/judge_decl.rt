@@ -5,16 +5,17 @@ ghost use Rattle.name_check.specs.Here.{params_of};
 ghost use Rattle.name_check.specs.Size.{size_of_decl, size_of_item};
 ghost use Rattle.name_check.specs.Stands.{sites_of_decl, sites_of_item, sites_of_params};
 ghost use Rattle.name_check.specs.inner.Failures.{first_of_sites};
-ghost use Rattle.name_check.specs.inner.Least.{first_from};
+ghost use Rattle.name_check.specs.inner.First.{first_from};
 ghost use Rattle.name_check.specs.inner.OtherFailures.{decl_failures, item_failures};
 
 use crate::judge_body::judge_block;
 use crate::judge_path::{judge_cell_path, judge_effects};
 use crate::limits::{judge_cell_limit, judge_limits};
 use crate::names::Globals;
-use crate::rule::Failure;
+use crate::rule::NRule;
 use crate::scope::{Here, Locals};
 use crate::uses::judge_declared;
+use first_failure::Failure;
 use std::alloc::Global;
 use twe_ast::{CellDecl, Decl, Item};
 use twe_io::Memory;
@@ -25,7 +26,7 @@ fn judge_params(
     decl: &Decl,
     alloc: Global,
     globals: &Globals,
-    first: &mut Option<Failure>,
+    first: &mut Option<Failure<NRule>>,
 ) -> Result<Locals, Memory>
     requires { length decl.now.params < 2 ^ 32 }
     ensures params { IfOk result (λ locals. locals ≡ params_of decl.now) }
@@ -47,7 +48,7 @@ fn judge_names(
     decl: &Decl,
     alloc: Global,
     globals: &Globals,
-    first: &mut Option<Failure>,
+    first: &mut Option<Failure<NRule>>,
 ) -> Result<(), Memory>
     requires { size_of_decl decl.now < 2 ^ 32 }
     ensures { OnOk result (first.new ≡ first_of_sites globals.now first.old (sites_of_decl globals.now decl.now)) }
@@ -68,7 +69,7 @@ fn judge_decl(
     decl: &Decl,
     alloc: Global,
     globals: &Globals,
-    first: &mut Option<Failure>,
+    first: &mut Option<Failure<NRule>>,
 ) -> Result<(), Memory>
     requires { size_of_decl decl.now < 2 ^ 32 }
     ensures { OnOk result (first.new ≡ first_from (first_of_sites globals.now first.old (sites_of_decl globals.now decl.now)) (decl_failures decl.now)) }
@@ -80,7 +81,7 @@ fn judge_decl(
 
 /// Notes all failures of the declaration of a cell, but for that of how many cells and nodes there are.
 #[tactic(auto, using(crate::proofs::FirstSites::decl_sites))]
-fn judge_cell(cell: &CellDecl, alloc: Global, globals: &Globals, first: &mut Option<Failure>)
+fn judge_cell(cell: &CellDecl, alloc: Global, globals: &Globals, first: &mut Option<Failure<NRule>>)
     ensures { first.new ≡ first_from (first_of_sites globals.now first.old (sites_of_item globals.now (items.Cell cell.now))) (item_failures (items.Cell cell.now)) }
 {
     let nothing = Locals::new(alloc);
@@ -93,7 +94,7 @@ pub fn judge_item(
     item: &Item,
     alloc: Global,
     globals: &Globals,
-    first: &mut Option<Failure>,
+    first: &mut Option<Failure<NRule>>,
 ) -> Result<(), Memory>
     requires { size_of_item item.now < 2 ^ 32 }
     ensures { OnOk result (first.new ≡ first_from (first_of_sites globals.now first.old (sites_of_item globals.now item.now)) (item_failures item.now)) }

@@ -4,12 +4,11 @@ ghost use Rattle.twe_ast.specs.Expression.{ArrayElement, CallValue, GridElement,
 ghost use Rattle.name_check.specs.Types.{are_ints, count_of, gives, left_need, operands_agree, right_need, type_if, type_of, type_of_shape};
 ghost use Rattle.name_check.specs.Asks.{asks_inside, asks_of, asks_of_all};
 ghost use Rattle.name_check.specs.inner.Failures.{failures_of_need, first_of_asks};
-ghost use Rattle.name_check.specs.inner.Least.{first_from};
+ghost use Rattle.name_check.specs.inner.First.{first_from};
 
-use crate::first::note;
 use crate::look::look_up;
 use crate::names::Globals;
-use crate::rule::{Failure, NRule};
+use crate::rule::NRule;
 use crate::scope::Locals;
 use crate::seen::Asked;
 use crate::types::{
@@ -17,6 +16,7 @@ use crate::types::{
     unary_type,
 };
 use crate::uses::judge_use;
+use first_failure::{Failure, report_if};
 use twe_ast::{Args, BinOp, Expr, ExprKind, LocalType, Name};
 use twe_io::Place;
 
@@ -25,13 +25,13 @@ fn met(
     need: Option<LocalType>,
     found: Option<LocalType>,
     place: Place,
-    first: &mut Option<Failure>,
+    first: &mut Option<Failure<NRule>>,
 ) -> Option<LocalType>
     ensures same { result ≡ found }
     ensures noted { first.new ≡ first_from first.old (failures_of_need need found place) }
 {
     if let Some(need) = need {
-        note(
+        report_if(
             first,
             found.is_some() && !is_type(found, need),
             NRule::N3,
@@ -54,7 +54,7 @@ fn judge_name(
     name: &Name,
     globals: &Globals,
     locals: &Locals,
-    first: &mut Option<Failure>,
+    first: &mut Option<Failure<NRule>>,
 ) -> Option<LocalType>
     ensures found { result ≡ type_of_shape globals.now locals.now (Variable name.now) }
     ensures noted { first.new ≡ first_of_asks globals.now locals.now first.old (asks_inside globals.now locals.now (Variable name.now)) }
@@ -71,7 +71,7 @@ fn judge_element(
     index: &Expr,
     globals: &Globals,
     locals: &Locals,
-    first: &mut Option<Failure>,
+    first: &mut Option<Failure<NRule>>,
 ) -> Option<LocalType>
     ensures found { result ≡ type_of_shape globals.now locals.now (ArrayElement array.now index.now) }
     ensures noted { first.new ≡ first_of_asks globals.now locals.now first.old (asks_inside globals.now locals.now (ArrayElement array.now index.now)) }
@@ -91,7 +91,7 @@ fn judge_grid_element(
     column: &Expr,
     globals: &Globals,
     locals: &Locals,
-    first: &mut Option<Failure>,
+    first: &mut Option<Failure<NRule>>,
 ) -> Option<LocalType>
     ensures found { result ≡ type_of_shape globals.now locals.now (GridElement array.now row.now column.now) }
     ensures noted { first.new ≡ first_of_asks globals.now locals.now first.old (asks_inside globals.now locals.now (GridElement array.now row.now column.now)) }
@@ -111,7 +111,7 @@ fn judge_call(
     args: &Args,
     globals: &Globals,
     locals: &Locals,
-    first: &mut Option<Failure>,
+    first: &mut Option<Failure<NRule>>,
 ) -> Option<LocalType>
     ensures found { result ≡ type_of_shape globals.now locals.now (CallValue method.now args.now) }
     ensures noted { first.new ≡ first_of_asks globals.now locals.now first.old (asks_inside globals.now locals.now (CallValue method.now args.now)) }
@@ -135,7 +135,7 @@ fn judge_operands(
     right: &Expr,
     globals: &Globals,
     locals: &Locals,
-    first: &mut Option<Failure>,
+    first: &mut Option<Failure<NRule>>,
 ) -> Option<LocalType>
     ensures found { result ≡ type_if (operands_agree op (type_of globals.now locals.now left.now) (type_of globals.now locals.now right.now)) (Some (gives op)) }
     ensures noted { first.new ≡ first_of_asks globals.now locals.now first.old (asks_of globals.now locals.now (left_need op) left.now ++ asks_of globals.now locals.now (right_need op (type_of globals.now locals.now left.now)) right.now) }
@@ -153,7 +153,7 @@ fn judge_inside(
     expr: &Expr,
     globals: &Globals,
     locals: &Locals,
-    first: &mut Option<Failure>,
+    first: &mut Option<Failure<NRule>>,
 ) -> Option<LocalType>
     ensures found { result ≡ type_of globals.now locals.now expr.now }
     ensures noted { first.new ≡ first_of_asks globals.now locals.now first.old (asks_of globals.now locals.now None expr.now) }
@@ -199,7 +199,7 @@ pub fn judge_expr(
     need: Option<LocalType>,
     globals: &Globals,
     locals: &Locals,
-    first: &mut Option<Failure>,
+    first: &mut Option<Failure<NRule>>,
 ) -> Option<LocalType>
     ensures found { result ≡ type_of globals.now locals.now expr.now }
     ensures noted { first.new ≡ first_of_asks globals.now locals.now first.old (asks_of globals.now locals.now need expr.now) }
@@ -215,7 +215,7 @@ pub fn judge_args(
     args: &Args,
     globals: &Globals,
     locals: &Locals,
-    first: &mut Option<Failure>,
+    first: &mut Option<Failure<NRule>>,
 ) -> bool
     ensures numbers { result ≡ are_ints globals.now locals.now args.now }
     ensures noted { first.new ≡ first_of_asks globals.now locals.now first.old (asks_of_all globals.now locals.now args.now) }

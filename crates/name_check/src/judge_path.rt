@@ -6,14 +6,20 @@ ghost use Rattle.name_check.specs.inner.Failures.{first_of_asks};
 ghost use Rattle.name_check.specs.inner.Elements.{asks_of_cell_elem, asks_of_elem};
 
 use crate::names::Globals;
-use crate::rule::Failure;
+use crate::rule::NRule;
 use crate::scope::Locals;
 use crate::seen::Asked;
 use crate::uses::{judge_text, judge_use};
+use first_failure::Failure;
 use twe_ast::{CellElem, CellElemKind, Clause, Path, PathElem, PathElemKind};
 
 /// Notes the failures of an element of the path of an effect.
-fn judge_elem(elem: &PathElem, globals: &Globals, locals: &Locals, first: &mut Option<Failure>)
+fn judge_elem(
+    elem: &PathElem,
+    globals: &Globals,
+    locals: &Locals,
+    first: &mut Option<Failure<NRule>>,
+)
     ensures { first.new ≡ first_of_asks globals.now locals.now first.old (asks_of_elem elem.now) }
 {
     match &elem.kind {
@@ -26,7 +32,7 @@ fn judge_elem(elem: &PathElem, globals: &Globals, locals: &Locals, first: &mut O
 }
 
 /// The same for the path of an effect.
-fn judge_path(path: &Path, globals: &Globals, locals: &Locals, first: &mut Option<Failure>)
+fn judge_path(path: &Path, globals: &Globals, locals: &Locals, first: &mut Option<Failure<NRule>>)
     ensures { first.new ≡ first_of_asks globals.now locals.now first.old (asks_of_path path.now) }
 {
     for elem in path.elems.as_slice() {
@@ -35,7 +41,12 @@ fn judge_path(path: &Path, globals: &Globals, locals: &Locals, first: &mut Optio
 }
 
 /// The same for the paths of a clause.
-fn judge_clause(clause: &Clause, globals: &Globals, locals: &Locals, first: &mut Option<Failure>)
+fn judge_clause(
+    clause: &Clause,
+    globals: &Globals,
+    locals: &Locals,
+    first: &mut Option<Failure<NRule>>,
+)
     ensures { first.new ≡ first_of_asks globals.now locals.now first.old (asks_of_clause clause.now) }
 {
     for path in clause.paths.as_slice() {
@@ -48,7 +59,7 @@ pub fn judge_effects(
     clauses: &[Clause],
     globals: &Globals,
     locals: &Locals,
-    first: &mut Option<Failure>,
+    first: &mut Option<Failure<NRule>>,
 )
     ensures { first.new ≡ first_of_asks globals.now locals.now first.old (flat_map asks_of_clause clauses.now) }
 {
@@ -58,7 +69,12 @@ pub fn judge_effects(
 }
 
 /// Notes the failures of an element of the path of a cell.
-fn judge_cell_elem(elem: &CellElem, globals: &Globals, locals: &Locals, first: &mut Option<Failure>)
+fn judge_cell_elem(
+    elem: &CellElem,
+    globals: &Globals,
+    locals: &Locals,
+    first: &mut Option<Failure<NRule>>,
+)
     ensures { first.new ≡ first_of_asks globals.now locals.now first.old (asks_of_cell_elem elem.now) }
 {
     match &elem.kind {
@@ -74,7 +90,7 @@ pub fn judge_cell_path(
     elems: &[CellElem],
     globals: &Globals,
     locals: &Locals,
-    first: &mut Option<Failure>,
+    first: &mut Option<Failure<NRule>>,
 )
     ensures { first.new ≡ first_of_asks globals.now locals.now first.old (flat_map asks_of_cell_elem elems.now) }
 {

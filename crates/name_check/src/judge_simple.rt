@@ -5,14 +5,14 @@ ghost use Rattle.name_check.specs.inner.Failures.{first_of_sites, is_void};
 ghost use Rattle.name_check.specs.inner.Room.{HasRoom};
 ghost use Rattle.name_check.specs.inner.Simple.{after_simple, set_sites, simple_sites, task_sites};
 
-use crate::first::note;
 use crate::judge_expr::{count, judge_args, judge_expr};
 use crate::look::look_up;
 use crate::names::Globals;
-use crate::rule::{Failure, NRule};
+use crate::rule::NRule;
 use crate::scope::Here;
 use crate::seen::{Asked, Local, Seen};
 use crate::uses::{judge_declared, judge_use};
+use first_failure::{Failure, report_if};
 use std::alloc::Global;
 use twe_ast::{LocalType, ReturnType, Stmt, StmtKind};
 use twe_io::Memory;
@@ -44,7 +44,7 @@ fn judge_task(
     globals: &Globals,
     returns: ReturnType,
     here: &Here,
-    first: &mut Option<Failure>,
+    first: &mut Option<Failure<NRule>>,
 )
     ensures { first.new ≡ first_of_sites globals.now first.old (task_sites globals.now returns here.now stmt.now) }
 {
@@ -87,7 +87,7 @@ fn judge_set(
     globals: &Globals,
     returns: ReturnType,
     here: &Here,
-    first: &mut Option<Failure>,
+    first: &mut Option<Failure<NRule>>,
 )
     ensures { first.new ≡ first_of_sites globals.now first.old (set_sites globals.now returns here.now stmt.now) }
 {
@@ -130,7 +130,7 @@ pub fn judge_simple(
     globals: &Globals,
     returns: ReturnType,
     here: &Here,
-    first: &mut Option<Failure>,
+    first: &mut Option<Failure<NRule>>,
 )
     ensures { first.new ≡ first_of_sites globals.now first.old (simple_sites globals.now returns here.now stmt.now) }
 {
@@ -146,13 +146,13 @@ pub fn judge_simple(
             judge_expr(value, Some(*local_type), globals, locals, first);
         }
         StmtKind::Return { place, value: None } => {
-            note(first, !is_void(returns), NRule::N3, *place);
+            report_if(first, !is_void(returns), NRule::N3, *place);
         }
         StmtKind::Return {
             value: Some(value),
             ..
         } => {
-            note(first, is_void(returns), NRule::N3, value.place);
+            report_if(first, is_void(returns), NRule::N3, value.place);
             judge_expr(value, Some(LocalType::Int), globals, locals, first);
         }
         StmtKind::Print { value, .. } => {

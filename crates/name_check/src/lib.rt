@@ -6,7 +6,6 @@
 
 mod declared;
 mod ends;
-mod first;
 mod firsts;
 mod here;
 mod judge_body;
@@ -26,7 +25,7 @@ mod whole;
 
 pub use look::look_up;
 pub use names::{GlobalName, Globals};
-pub use rule::{Failure, NRule};
+pub use rule::NRule;
 pub use scope::{Here, LocalName, Locals};
 pub use seen::{Asked, Global, Local, Seen};
-pub use whole::first_failure;
+pub use whole::{CheckedNames, check_names, first_failure};

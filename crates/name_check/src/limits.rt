@@ -4,22 +4,22 @@ ghost use Rattle.std.specs.List.{flat_map};
 ghost use Rattle.twe_ast.specs.declared.item.Clause.{Clause as EffectClause};
 ghost use Rattle.name_check.specs.Limits.{is_star};
 ghost use Rattle.name_check.specs.declared.rule.NRule.TheVariants.{N7 as N7_};
-ghost use Rattle.name_check.specs.inner.Least.{first_from};
+ghost use Rattle.name_check.specs.inner.First.{first_from};
 ghost use Rattle.name_check.specs.inner.OtherFailures as failures;
 
 use crate::ends::{block_ends, close_of};
-use crate::first::note;
 use crate::judge_simple::is_void;
-use crate::rule::{Failure, NRule};
+use crate::rule::NRule;
+use first_failure::{Failure, report_if};
 use twe_ast::{CellElem, Clause, Decl, Name, Path, PathElem, PathElemKind};
 use twe_io::{List, Place};
 
 /// Notes the failure of the rule at the place, if there is one.
-pub fn note_place(first: &mut Option<Failure>, rule: NRule, place: Option<Place>)
+pub fn report_at(first: &mut Option<Failure<NRule>>, rule: NRule, place: Option<Place>)
     ensures { first.new ≡ first_from first.old (failures.failures_of_place rule place) }
 {
     if let Some(place) = place {
-        note(first, true, rule, place);
+        report_if(first, true, rule, place);
     }
 }
 
@@ -95,18 +95,18 @@ fn second_star(elems: &[PathElem]) -> Option<Place>
 
 /// Notes the failures of the lengths and the stars of paths.
 #[tactic(auto, using(crate::proofs::FirstFailures::firsts))]
-fn judge_paths(paths: &[Path], first: &mut Option<Failure>)
+fn judge_paths(paths: &[Path], first: &mut Option<Failure<NRule>>)
     ensures { first.new ≡ first_from first.old (failures.paths_failures paths.now) }
 {
     for path in paths {
-        note_place(first, NRule::N7, long_elem(&path.elems));
-        note_place(first, NRule::N9, second_star(path.elems.as_slice()));
+        report_at(first, NRule::N7, long_elem(&path.elems));
+        report_at(first, NRule::N9, second_star(path.elems.as_slice()));
     }
 }
 
 /// The same for the paths of clauses.
 #[tactic(auto, using(crate::proofs::FirstFailures::firsts))]
-fn judge_clauses(clauses: &[Clause], first: &mut Option<Failure>)
+fn judge_clauses(clauses: &[Clause], first: &mut Option<Failure<NRule>>)
     ensures { first.new ≡ first_from first.old (failures.clauses_failures clauses.now) }
 {
     for clause in clauses {
@@ -124,18 +124,18 @@ fn lacks_return(decl: &Decl) -> bool
 /// Notes the failures of how much a method or a task declares, of the stars in its effects, and of a body that can end
 /// without a `return` where a value is returned.
 #[tactic(auto, using(crate::proofs::FirstFailures::firsts))]
-pub fn judge_limits(decl: &Decl, first: &mut Option<Failure>)
+pub fn judge_limits(decl: &Decl, first: &mut Option<Failure<NRule>>)
     ensures { first.new ≡ first_from first.old (failures.decl_failures decl.now) }
 {
-    note_place(first, NRule::N7, fifth_name(&decl.params));
-    note_place(first, NRule::N7, ninth_path(decl.effects.as_slice()));
+    report_at(first, NRule::N7, fifth_name(&decl.params));
+    report_at(first, NRule::N7, ninth_path(decl.effects.as_slice()));
     judge_clauses(decl.effects.as_slice(), first);
-    note(first, lacks_return(decl), NRule::N5, close_of(&decl.body));
+    report_if(first, lacks_return(decl), NRule::N5, close_of(&decl.body));
 }
 
 /// Notes the failure of the length of the path of a cell.
-pub fn judge_cell_limit(elems: &List<CellElem>, first: &mut Option<Failure>)
+pub fn judge_cell_limit(elems: &List<CellElem>, first: &mut Option<Failure<NRule>>)
     ensures { first.new ≡ first_from first.old (failures.failures_of_place N7_ (failures.long_cell_elem elems.now)) }
 {
-    note_place(first, NRule::N7, long_cell_elem(elems));
+    report_at(first, NRule::N7, long_cell_elem(elems));
 }

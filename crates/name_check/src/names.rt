@@ -2,14 +2,14 @@
 ghost use Rattle.std.specs.Prelude.{◌≡◌, ◌≤◌, [], ◌∷◌, ◌++◌, bytes_eq, length, take, OnOk};
 ghost use Rattle.std.specs.List.{list_any};
 ghost use Rattle.name_check.specs.declared.names.GlobalName.{GlobalName as Entry};
-ghost use Rattle.name_check.specs.inner.Least.{first_from};
+ghost use Rattle.name_check.specs.inner.First.{first_from};
 ghost use Rattle.name_check.specs.inner.Whole.{again_failures, is_again};
 ghost use Rattle.name_check.specs.Names.{global_of};
 
-use crate::first::note;
 use crate::firsts::{add_first, first_place};
-use crate::rule::{Failure, NRule};
+use crate::rule::NRule;
 use crate::seen::Global;
+use first_failure::{Failure, report_if};
 use std::alloc;
 use std::collections::BTreeMap;
 use std::marker::Model;
@@ -115,12 +115,12 @@ impl Globals {
     }
 
     /// Notes the failures of names that are `Console`, or stand after one of the same text.
-    pub(crate) fn judge_again(&self, first: &mut Option<Failure>)
+    pub(crate) fn judge_again(&self, first: &mut Option<Failure<NRule>>)
         ensures { first.new ≡ first_from first.old (again_failures [] self.now) }
     {
         for index in 0..self.entries.len() {
             let entry = &self.entries[index];
-            note(first, self.is_again(entry, index), NRule::N2, entry.place);
+            report_if(first, self.is_again(entry, index), NRule::N2, entry.place);
         }
     }
 }

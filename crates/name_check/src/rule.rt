@@ -1,6 +1,6 @@
-//! The rules, and a failure of one.
+//! The rules of names.
 
-use twe_io::Place;
+use first_failure::Rule;
 
 /// A rule of names.
 #[derive(Clone, Copy, Debug, PartialEq, Eq)]
@@ -25,23 +25,13 @@ pub enum NRule {
     N9,
 }
 
-/// A rule that fails, and where.
-#[derive(Clone, Copy, Debug, PartialEq, Eq)]
-pub struct Failure {
-    /// The rule.
-    pub rule: NRule,
-    /// The place that the rule names.
-    pub place: Place,
-}
+impl Rule for NRule {
+    ghost use Rattle.name_check.specs.FailsName.{number_of as number_in_name};
 
-impl NRule {
-    ghost use Rattle.std.specs.Prelude.{◌≡◌};
-    ghost use Rattle.name_check.specs.FailsName.{number_of};
+    ghost number_of = { number_in_name };
 
     /// The number in the rule's name.
-    pub fn number(self) -> u8
-        ensures { result ≡ number_of self }
-    {
+    fn number(self) -> u8 {
         match self {
             NRule::N1 => 1,
             NRule::N2 => 2,

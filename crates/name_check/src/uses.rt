@@ -3,14 +3,14 @@ ghost use Rattle.std.specs.Prelude.{◌≡◌};
 ghost use Rattle.name_check.specs.FailsName.{fits, seen_as};
 ghost use Rattle.name_check.specs.inner.Failures.{assigns_constant, failures_here, failures_of_use, has_other_count, lacks_value};
 ghost use Rattle.name_check.specs.Asks.{declares, uses};
-ghost use Rattle.name_check.specs.inner.Least.{first_from};
+ghost use Rattle.name_check.specs.inner.First.{first_from};
 
-use crate::first::note;
 use crate::look::look_up;
 use crate::names::Globals;
-use crate::rule::{Failure, NRule};
+use crate::rule::NRule;
 use crate::scope::Locals;
 use crate::seen::{Asked, Global, Local, Seen};
+use first_failure::{Failure, report_if};
 use twe_ast::{Name, ReturnType};
 use twe_io::{Place, Word};
 
@@ -88,16 +88,16 @@ fn assigns_constant(asked: Asked, seen: Seen) -> bool
 
 /// Notes the failures of the use of a name that stands for this.
 #[tactic(auto, using(crate::proofs::FirstFailures::firsts))]
-fn note_failures(first: &mut Option<Failure>, asked: Asked, seen: Option<Seen>, place: Place)
+fn note_failures(first: &mut Option<Failure<NRule>>, asked: Asked, seen: Option<Seen>, place: Place)
     ensures { first.new ≡ first_from first.old (failures_of_use asked seen place) }
 {
     match seen {
-        None => note(first, true, NRule::N1, place),
+        None => report_if(first, true, NRule::N1, place),
         Some(seen) => {
-            note(first, !fits(asked, seen), NRule::N3, place);
-            note(first, lacks_value(asked, seen), NRule::N3, place);
-            note(first, has_other_count(asked, seen), NRule::N4, place);
-            note(first, assigns_constant(asked, seen), NRule::N6, place);
+            report_if(first, !fits(asked, seen), NRule::N3, place);
+            report_if(first, lacks_value(asked, seen), NRule::N3, place);
+            report_if(first, has_other_count(asked, seen), NRule::N4, place);
+            report_if(first, assigns_constant(asked, seen), NRule::N6, place);
         }
     }
 }
@@ -109,7 +109,7 @@ pub fn judge_text(
     asked: Asked,
     globals: &Globals,
     locals: &Locals,
-    first: &mut Option<Failure>,
+    first: &mut Option<Failure<NRule>>,
 )
     ensures { first.new ≡ first_from first.old (failures_here globals.now locals.now (uses (record { text = text.now; place = place }) asked)) }
 {
@@ -123,7 +123,7 @@ pub fn judge_use(
     asked: Asked,
     globals: &Globals,
     locals: &Locals,
-    first: &mut Option<Failure>,
+    first: &mut Option<Failure<NRule>>,
 )
     ensures { first.new ≡ first_from first.old (failures_here globals.now locals.now (uses name.now asked)) }
 {
@@ -131,9 +131,14 @@ pub fn judge_use(
 }
 
 /// Notes the failure of a name that is declared where it is seen.
-pub fn judge_declared(name: &Name, globals: &Globals, locals: &Locals, first: &mut Option<Failure>)
+pub fn judge_declared(
+    name: &Name,
+    globals: &Globals,
+    locals: &Locals,
+    first: &mut Option<Failure<NRule>>,
+)
     ensures { first.new ≡ first_from first.old (failures_here globals.now locals.now (declares name.now)) }
 {
     let seen = look_up(globals, locals, &name.text);
-    note(first, seen.is_some(), NRule::N2, name.place);
+    report_if(first, seen.is_some(), NRule::N2, name.place);
 }

@@ -4,16 +4,18 @@ ghost use Rattle.std.specs.List.{list_any, sum_by};
 ghost use Rattle.twe_io.specs.declared.place.Place.{Place as Somewhere};
 ghost use Rattle.name_check.specs.declared.rule.NRule.{NRule as Named};
 ghost use Rattle.name_check.specs.FailsName.{FailsName, IsFirstFailure};
+ghost use Rattle.name_check.specs.Names.{globals_of};
+ghost use Rattle.name_check.specs.Checked.{IsCheckOf};
 ghost use Rattle.name_check.specs.Size.{IsCountable, size_of_item};
 ghost use Rattle.name_check.specs.inner.Whole.{first_but_nodes, first_in_items, is_main, is_main_item};
 
-use crate::first::note;
 use crate::judge_decl::judge_item;
 use crate::judge_simple::is_void;
-use crate::limits::note_place;
+use crate::limits::report_at;
 use crate::names::Globals;
-use crate::rule::{Failure, NRule};
+use crate::rule::NRule;
 use cell_limits::first_over;
+use first_failure::{Failure, report_if};
 use std::alloc::Global;
 use twe_ast::{Ast, Decl, Item};
 use twe_io::Memory;
@@ -52,7 +54,7 @@ fn judge_items(
     items: &[Item],
     alloc: Global,
     globals: &Globals,
-    first: &mut Option<Failure>,
+    first: &mut Option<Failure<NRule>>,
 ) -> Result<(), Memory>
     requires { sum_by size_of_item items.now < 2 ^ 32 }
     ensures { OnOk result (first.new ≡ first_in_items globals.now first.old items.now) }
@@ -63,16 +65,20 @@ fn judge_items(
     Ok(())
 }
 
-/// The first failure of a text, but for that of how many cells and nodes there are.
-fn first_but_nodes(alloc: Global, ast: &Ast) -> Result<Option<Failure>, Memory>
-    requires { IsCountable ast.now }
+/// The first failure of a text with these global names, but for that of how many cells and nodes there are.
+fn first_but_nodes(
+    alloc: Global,
+    ast: &Ast,
+    globals: &Globals,
+) -> Result<Option<Failure<NRule>>, Memory>
+    requires countable { IsCountable ast.now }
+    requires names { globals.now ≡ globals_of ast.now }
     ensures { IfOk result (λ found. found ≡ first_but_nodes ast.now) }
 {
-    let globals = Globals::of(alloc, ast)?;
     let mut first = None;
-    judge_items(ast.items.as_slice(), alloc, &globals, &mut first)?;
+    judge_items(ast.items.as_slice(), alloc, globals, &mut first)?;
     globals.judge_again(&mut first);
-    note(
+    report_if(
         &mut first,
         !has_main(ast.items.as_slice()),
         NRule::N8,
@@ -81,16 +87,41 @@ fn first_but_nodes(alloc: Global, ast: &Ast) -> Result<Option<Failure>, Memory>
     Ok(first)
 }
 
-/// The failure of a rule of names that comes first in a text, and at one place the one with the lowest number; nothing
-/// where the text keeps all of them.
-pub fn first_failure(alloc: Global, ast: &Ast) -> Result<Option<Failure>, Memory>
+/// The outcome of checking the names of a tree.
+#[derive(Debug, Drop)]
+pub enum CheckedNames {
+    /// No rule of names fails: the global names of the tree.
+    Accepted(Globals),
+    /// The first failure of a rule of names.
+    Refused(Failure<NRule>),
+}
+
+/// Checks the names of a tree. If no rule of names fails it returns the global names of the tree, and otherwise the
+/// failure that comes first in the text, and at one place the one with the lowest number.
+pub fn check_names(alloc: Global, ast: &Ast) -> Result<CheckedNames, Memory>
+    requires { IsCountable ast.now }
+    ensures { IfOk result (IsCheckOf ast.now) }
+{
+    let globals = Globals::of(alloc, ast)?;
+    let mut first = first_but_nodes(alloc, ast, &globals)?;
+    let over = first_over(alloc, ast.items.as_slice())?;
+    report_at(&mut first, NRule::N7, over);
+    match first {
+        None => Ok(CheckedNames::Accepted(globals)),
+        Some(failure) => Ok(CheckedNames::Refused(failure)),
+    }
+}
+
+/// The failure of a rule of names that comes first in a text, and at one place the one with the lowest number; or
+/// nothing if no rule of names fails.
+pub fn first_failure(alloc: Global, ast: &Ast) -> Result<Option<Failure<NRule>>, Memory>
     requires { IsCountable ast.now }
     ensures { IfOk result (λ found. MatchOption found
         ((rule : Named) (place : Somewhere) → ¬ FailsName ast.now rule place)
         (λ failure. IsFirstFailure ast.now failure.rule failure.place)) }
 {
-    let mut first = first_but_nodes(alloc, ast)?;
-    let over = first_over(alloc, ast.items.as_slice())?;
-    note_place(&mut first, NRule::N7, over);
-    Ok(first)
+    match check_names(alloc, ast)? {
+        CheckedNames::Accepted(_) => Ok(None),
+        CheckedNames::Refused(failure) => Ok(Some(failure)),
+    }
 }

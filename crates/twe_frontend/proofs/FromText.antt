@@ -1,5 +1,5 @@
 -- The trees of texts are as the rules of names need them.
-use Rattle.std.proofs.Common.{ℕ, ◌≤◌, List, [], length, arith}
+use Rattle.std.proofs.Common.{ℕ, ◌+◌, ◌<◌, ◌^◌, List, [], length, arith}
 use Rattle.twe_io.specs.declared.place.Place.{Place}
 use Rattle.twe_ast.specs.declared.item.Ast.{Ast}
 use Rattle.twe_lexer.specs.declared.token.Token.{Token}
@@ -13,7 +13,7 @@ use Rattle.twe_frontend.proofs.Literals.{small_indexes, no_more_tokens}
 use Rattle.twe_frontend.proofs.NoTasks.{methods_make_none}
 use Rattle.twe_frontend.proofs.Sizes.{by_items}
 
-pub is_from_text : (text : List ℕ) (tokens : List Token) (tree : Ast) → length text ≤ 1048576 → BeginsWith text tokens [] → Writes tree tokens → ((rule : SRule) (place : Place) → ¬ Fails text rule place) → IsFromText tree
+pub is_from_text : (text : List ℕ) (tokens : List Token) (tree : Ast) → length text + 1 < 2 ^ 32 → BeginsWith text tokens [] → Writes tree tokens → ((rule : SRule) (place : Place) → ¬ Fails text rule place) → IsFromText tree
 is_from_text text tokens tree few begins writes keeps =
     let small = small_indexes text tokens begins keeps in
     record {

@@ -1,5 +1,4 @@
 mod SameTree
-mod OneFirst
 mod OneAnswer
 mod Tails
 mod Sizes
@@ -7,3 +6,6 @@ mod NoTasks
 mod Literals
 mod Indexes
 mod FromText
+mod WholeCut
+mod FirstExists
+mod NeverNeither

@@ -78,7 +78,7 @@ front_of at (first ∷ others) (b ∷ bs) token after e =
     subst (λ (t : Token). Front at (first ∷ others) (t ∷ bs) token) this (add at first others bs token gap (front_of (at ++ first) others bs token after rest)))
     (cases_Bool (is_gap first))
 
-begins_up_to : (text : List ℕ) (tokens before : List Token) (token : Token) (after : List Token) → BeginsWith text tokens [] → tokens ≡ before ++ token ∷ after → (rest : List ℕ) × BeginsWith text (before ++ token ∷ []) rest
+pub begins_up_to : (text : List ℕ) (tokens before : List Token) (token : Token) (after : List Token) → BeginsWith text tokens [] → tokens ≡ before ++ token ∷ after → (rest : List ℕ) × BeginsWith text (before ++ token ∷ []) rest
 begins_up_to text tokens before token after begins e =
     let it = front_of [] begins.lexemes before token after (sym begins.same ∙ e) in
     let cut = cut_front it.front it.back text [] (subst (λ (lexemes : List (List ℕ)). AreFirstLexemes lexemes text []) it.split begins.cut) in

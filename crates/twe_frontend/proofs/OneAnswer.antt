@@ -18,7 +18,7 @@ use Rattle.twe_frontend.specs.declared.refusal.RuleName.{RuleName}
 use Rattle.twe_frontend.specs.declared.refusal.RuleName.TheVariants.{Text, Name, Effect}
 use Rattle.twe_frontend.specs.Accepted.{IsTreeOf, IsMeaningOf, Accepted, IsRefusal, of_text, of_names, of_effects}
 use Rattle.twe_frontend.proofs.SameTree.{OneTree, same_tree}
-use Rattle.twe_frontend.proofs.OneFirst.{one_first}
+use Rattle.first_failure.proofs.Order.{one_first}
 
 abbrev text_named : ℕ → SRule
 text_named n = slice_index_or (S1 ∷ S1 ∷ S2 ∷ S3 ∷ S4 ∷ S5 ∷ S6 ∷ []) n S1
@@ -72,21 +72,21 @@ keeps_names one text p tree rule place meant parsed fails =
 
 pub one_refusal : OneTree → (text : List ℕ) (refusal other : Refusal) → IsRefusal text refusal → IsRefusal text other → refusal ≡ other
 one_refusal one text refusal other (of_text rule place first) (of_text rule2 place2 again) =
-    let same = one_first SRule text_rules.rank text_named text_back rule rule2 place place2 (first.first rule2 place2 again.fails) (again.first rule place first.fails) in
+    let same = one_first text_rules.rank text_named text_back rule rule2 place place2 (first.first rule2 place2 again.fails) (again.first rule place first.fails) in
     same_refusal (Text rule) (Text rule2) place place2 (ap Text same.0) same.1
 one_refusal one text refusal other (of_text rule place first) (of_names tree rule2 place2 parsed again) = absurd (parsed.keeps rule place first.fails)
 one_refusal one text refusal other (of_text rule place first) (of_effects p rule2 place2 meant again) = absurd (meant.parsed.keeps rule place first.fails)
 one_refusal one text refusal other (of_names tree rule place parsed first) (of_text rule2 place2 again) = absurd (parsed.keeps rule2 place2 again.fails)
 one_refusal one text refusal other (of_names tree rule place parsed first) (of_names tree2 rule2 place2 parsed2 again) =
     let moved = subst (λ (t : Ast). name_check.IsFirstFailure t rule2 place2) (same_tree one text tree2 tree parsed2 parsed) again in
-    let same = one_first NRule name_check.number_of name_named name_back rule rule2 place place2 (first.first rule2 place2 moved.fails) (moved.first rule place first.fails) in
+    let same = one_first name_check.number_of name_named name_back rule rule2 place place2 (first.first rule2 place2 moved.fails) (moved.first rule place first.fails) in
     same_refusal (Name rule) (Name rule2) place place2 (ap Name same.0) same.1
 one_refusal one text refusal other (of_names tree rule place parsed first) (of_effects p rule2 place2 meant again) = absurd (keeps_names one text p tree rule place meant parsed first.fails)
 one_refusal one text refusal other (of_effects p rule place meant first) (of_text rule2 place2 again) = absurd (meant.parsed.keeps rule2 place2 again.fails)
 one_refusal one text refusal other (of_effects p rule place meant first) (of_names tree rule2 place2 parsed again) = absurd (keeps_names one text p tree rule2 place2 meant parsed again.fails)
 one_refusal one text refusal other (of_effects p rule place meant first) (of_effects p2 rule2 place2 meant2 again) =
     let moved = subst (λ (q : Program). effect_rules.IsFirstFailure q rule2 place2) (same_program one text p2 p meant2 meant) again in
-    let same = one_first ERule effect_rules.number_of effect_named effect_back rule rule2 place place2 (first.first rule2 place2 moved.fails) (moved.first rule place first.fails) in
+    let same = one_first effect_rules.number_of effect_named effect_back rule rule2 place place2 (first.first rule2 place2 moved.fails) (moved.first rule place first.fails) in
     same_refusal (Effect rule) (Effect rule2) place place2 (ap Effect same.0) same.1
 
 pub not_refused : OneTree → (text : List ℕ) (p : Program) (refusal : Refusal) → Accepted text p → IsRefusal text refusal → ⊥

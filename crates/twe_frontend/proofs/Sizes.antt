@@ -1,5 +1,5 @@
 -- What a tree declares and does has a token each.
-use Rattle.std.proofs.Common.{ℕ, suc, ◌+◌, ◌≤◌, Bool, Option, List, ◌∷◌, length, arith}
+use Rattle.std.proofs.Common.{ℕ, suc, ◌+◌, ◌-◌, ◌≤◌, Bool, Option, List, ◌∷◌, length, arith}
 use Rattle.std.specs.List.{sum_by}
 use Rattle.std.proofs.lemmas.List.Sums.{sum_by-cons}
 use Rattle.twe_ast.specs.declared.item.Clause.{Clause}
@@ -84,23 +84,23 @@ by_params : {names : List Name} {tokens rest : List Token} → WritesParams name
 by_params no_params = omega arith
 by_params (params others) = let more = by_more_params others in omega arith
 
-by_decl : {in_task : Bool} {it : Decl} {tokens rest : List Token} → WritesDecl in_task it tokens rest → size_of_decl it + length rest ≤ length tokens
+by_decl : {in_task : Bool} {it : Decl} {tokens rest : List Token} → WritesDecl in_task it tokens rest → suc (size_of_decl it + length rest) ≤ length tokens
 by_decl (decl names effects body) = let first = by_params names in let second = by_effects effects in let inside = by_statements body in omega arith
 
 by_initial : {start : Option Initial} {tokens rest : List Token} → WritesInitial start tokens rest → length rest ≤ length tokens
 by_initial {tokens = tokens} writes = after-initial (NoLonger tokens) (one_less tokens) writes (omega arith)
 
-by_item : {it : Item} {tokens rest : List Token} → WritesItem it tokens rest → size_of_item it + length rest ≤ length tokens
+by_item : {it : Item} {tokens rest : List Token} → WritesItem it tokens rest → suc (size_of_item it + length rest) ≤ length tokens
 by_item (regions others) = let more = by_more_names others in omega arith
 by_item (cell path start) = let first = by_cell_path path in let second = by_initial start in omega arith
 by_item (array path) = let first = by_cell_path path in omega arith
 by_item (grid path) = let first = by_cell_path path in omega arith
-by_item (method it) = by_decl it
+by_item (method it) = let inside = by_decl it in omega arith
 by_item (task it) = let inside = by_decl it in omega arith
 by_item (deterministic_task it) = let inside = by_decl it in omega arith
 
--- all together
-pub by_items : {them : List Item} {tokens : List Token} → WritesItems them tokens → sum_by size_of_item them ≤ length tokens
+-- all together, and one token more if there is any item
+pub by_items : {them : List Item} {tokens : List Token} → WritesItems them tokens → sum_by size_of_item them ≤ length tokens - 1
 by_items no_more_items = omega arith
 by_items (more_items {first = first} {others = others} one more) =
     let this = by_item one in

@@ -20,9 +20,11 @@ pub fn one_refusal()
     one_tree();
 }
 
-/// A text with a refusal is not accepted.
+/// A text is refused or accepted: never both, and never neither. The second half is said by a double negation, since
+/// no clause decides which of the two it is: that is what `read_program` does.
 pub fn refused_or_accepted()
-    ensures { (text : List ℕ) (p : Program) (refusal : Refusal) → Accepted text p → ¬ IsRefusal text refusal }
+    ensures never_both { (text : List ℕ) (p : Program) (refusal : Refusal) → Accepted text p → ¬ IsRefusal text refusal }
+    ensures never_neither { (text : List ℕ) → ((refusal : Refusal) → ¬ IsRefusal text refusal) → ¬ ¬ ((p : Program) × Accepted text p) }
 {
     one_tree();
 }

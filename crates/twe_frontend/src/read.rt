@@ -1,5 +1,5 @@
 //! From a text to its program.
-ghost use Rattle.std.specs.Prelude.{◌≡◌, ◌≤◌, length, IfOk, IfErr};
+ghost use Rattle.std.specs.Prelude.{◌+◌, ◌<◌, ◌^◌, length, IfOk, IfErr, OnOk};
 ghost use Rattle.twe_frontend.specs.Accepted.{Accepted, IsMeaningOf, IsTreeOf};
 ghost use Rattle.twe_frontend.specs.Reads.{HasCause};
 
@@ -48,9 +48,10 @@ impl From<Memory> for FrontFail {
     }
 }
 
-/// The tree of a text that keeps the rules of the text.
+/// The tree of a text that keeps the rules of the text. If it is Ok, the text has less than 2^32 - 1 bytes.
 fn tree_of(alloc: Global, text: &[u8]) -> Result<Ast, FrontFail>
     ensures tree { IfOk result (IsTreeOf text.now) }
+    ensures countable { OnOk result (length text.now + 1 < 2 ^ 32) }
     ensures refused { IfErr result (HasCause text.now) }
 {
     match parse(alloc, text) {
@@ -65,7 +66,6 @@ fn tree_of(alloc: Global, text: &[u8]) -> Result<Ast, FrontFail>
 
 /// What a text means that keeps the rules of the text and those of names.
 fn meaning_of(alloc: Global, text: &[u8]) -> Result<Prog, FrontFail>
-    requires { length text.now ≤ 1048576 }
     ensures meaning { IfOk result (IsMeaningOf text.now) }
     ensures refused { IfErr result (HasCause text.now) }
 {
@@ -80,10 +80,10 @@ fn meaning_of(alloc: Global, text: &[u8]) -> Result<Prog, FrontFail>
     }
 }
 
-/// The program of a text of at most 1,048,576 bytes, or the one refusal of the text: of all rules that fail, a rule of
-/// the text before every rule of names, and that before every rule on effects, and of one class the first in the text.
+/// The program of a text, or the one refusal of the text: of all rules that fail, a rule of the text before every rule of
+/// names, and that before every rule on effects, and of one class the first in the text. `OutOfMemory` also stands for a
+/// text of 2^32 - 1 bytes or more, whose places can't be counted.
 pub fn read_program(alloc: Global, text: &[u8]) -> Result<Prog, FrontFail>
-    requires { length text.now ≤ 1048576 }
     ensures accepted { IfOk result (Accepted text.now) }
     ensures refused { IfErr result (HasCause text.now) }
 {

@@ -9,7 +9,8 @@ ghost use Rattle.twe_names.specs.Resolves.{HasCause};
 
 use crate::fail::NameFail;
 use crate::program::program;
-use name_check::{Failure, Globals, first_failure};
+use first_failure::Failure;
+use name_check::{CheckedNames, check_names};
 use std::alloc::Global;
 use twe_ast::Ast;
 use twe_program::Prog;
@@ -22,11 +23,8 @@ pub fn resolve(alloc: Global, ast: &Ast) -> Result<Prog, NameFail>
     ensures accepted { OnOk result ((rule : Named) (place : Place) → ¬ FailsName ast.now rule place) }
     ensures refused { IfErr result (HasCause ast.now) }
 {
-    match first_failure(alloc, ast)? {
-        Some(Failure { rule, place }) => Err(NameFail::Names { rule, place }),
-        None => {
-            let globals = Globals::of(alloc, ast)?;
-            Ok(program(alloc, ast, &globals)?)
-        }
+    match check_names(alloc, ast)? {
+        CheckedNames::Accepted(globals) => Ok(program(alloc, ast, &globals)?),
+        CheckedNames::Refused(Failure { rule, place }) => Err(NameFail::Names { rule, place }),
     }
 }

@@ -2,6 +2,8 @@
 use Rattle.std.specs.Prelude.{◌≡◌, ◌==◌, nat_lt, ℕ, Bool, true, false, not, ◌&&◌, ◌||◌, if◌then◌else◌, List, [], ◌∷◌, ◌++◌, Option, None, Some}
 use Rattle.std.specs.List.{list_any, list_all}
 use Rattle.twe_io.specs.declared.place.Place.{Place}
+use Rattle.first_failure.specs.First.{failure_if}
+use Rattle.first_failure.specs.First as failures
 use Rattle.effect_sets.specs.declared.effects.Effect.{Effect}
 use Rattle.effect_sets.specs.declared.effects.Summary.{Summary}
 use Rattle.effect_sets.specs.Covers.{covers}
@@ -14,15 +16,10 @@ use Rattle.effect_check.specs.declared.act.ActKind.{ActKind}
 use Rattle.effect_check.specs.declared.act.ActKind.TheVariants.{Touch, Call, Make, Wait}
 use Rattle.effect_check.specs.declared.rule.ERule.{ERule}
 use Rattle.effect_check.specs.declared.rule.ERule.TheVariants.{E1, E2, E3, E4, E5, E6, E7, E8}
-use Rattle.effect_check.specs.declared.rule.Failure.{Failure}
 use Rattle.effect_check.specs.declared.futures.Spawn.{Spawn}
 use Rattle.effect_check.specs.declared.futures.Futures.{Futures}
 use Rattle.effect_check.specs.Acts.{acts_in_all}
-use Rattle.effect_check.specs.FailsEffect.{number_of}
-
-abbrev pub failure_if : Bool → ERule → Place → List Failure
-failure_if true rule place = record { rule = rule; place = place } ∷ []
-failure_if false rule place = []
+use Rattle.effect_check.specs.FailsEffect.{EffectFailure, number_of}
 
 -- the spawn that an act is, if it is one
 abbrev pub spawn_of : ActKind → List Spawn
@@ -47,7 +44,7 @@ abbrev pub all_inside : Summary → Summary → Bool
 all_inside summary effects = list_all (λ effect. covers summary effect) effects.effects
 
 -- the failures of a task at something that it does
-abbrev pub task_failures_at : Decl → Futures → ℕ → ActKind → List Failure
+abbrev pub task_failures_at : Decl → Futures → ℕ → ActKind → List EffectFailure
 task_failures_at task futures point (Touch effect place) = failure_if (not (covered task.summary futures point effect)) E1 place
 task_failures_at task futures point (Call effects place) = failure_if (not (all_covered task.summary futures point effects)) E2 place
 task_failures_at task futures point (Make future true deterministic effects future_place place) =
@@ -58,44 +55,31 @@ task_failures_at task futures point (Make future false deterministic effects fut
 task_failures_at task futures point (Wait future true place) = failure_if (not (surely_at futures.points point future)) E4 place
 task_failures_at task futures point (Wait future false place) = failure_if task.deterministic E6 place
 
-abbrev pub task_failures : Decl → Futures → List Act → List Failure
+abbrev pub task_failures : Decl → Futures → List Act → List EffectFailure
 task_failures task futures [] = []
 task_failures task futures (act ∷ acts) = task_failures_at task futures act.point act.kind ++ task_failures task futures acts
 
 -- the failures of a method at something that it does
-abbrev pub method_failures_at : Decl → ActKind → List Failure
+abbrev pub method_failures_at : Decl → ActKind → List EffectFailure
 method_failures_at method (Touch effect place) = failure_if (not (covers method.summary effect)) E8 place
 method_failures_at method (Call effects place) = failure_if (not (all_inside method.summary effects)) E8 place
 method_failures_at method _ = []
 
-abbrev pub method_failures : Decl → List Act → List Failure
+abbrev pub method_failures : Decl → List Act → List EffectFailure
 method_failures method [] = []
 method_failures method (act ∷ acts) = method_failures_at method act.kind ++ method_failures method acts
 
--- the first failure comes before the second: its place is earlier, or the same and its number is lower
-abbrev pub is_before : Failure → Failure → Bool
-is_before a b =
-    nat_lt a.place.line b.place.line
-    || ((a.place.line == b.place.line)
-    && (nat_lt a.place.col b.place.col || ((a.place.col == b.place.col) && nat_lt (number_of a.rule) (number_of b.rule))))
-
--- the one that comes first, of the first so far and another
-abbrev pub earlier : Option Failure → Failure → Option Failure
-earlier None other = Some other
-earlier (Some first) other = if is_before other first then Some other else Some first
-
 -- the first of all, of the first so far and these
-abbrev pub first_from : Option Failure → List Failure → Option Failure
-first_from first [] = first
-first_from first (other ∷ others) = first_from (earlier first other) others
+abbrev pub first_from : Option EffectFailure → List EffectFailure → Option EffectFailure
+first_from first others = failures.first_from number_of first others
 
 -- what the failures of a task make of the first so far
-pub record JudgesTask (p : Program) (task : Decl) (first later : Option Failure) : Type 0 where
+pub record JudgesTask (p : Program) (task : Decl) (first later : Option EffectFailure) : Type 0 where
   pub futures : Futures
   pub flow : IsFlowOf futures.points task.body
   pub spawns : futures.spawns ≡ spawns_among (acts_in_all p task.body.block)
   pub judged : later ≡ first_from first (task_failures task futures (acts_in_all p task.body.block))
 
 -- what those of a method make of it
-abbrev pub JudgesMethod : Program → Decl → Option Failure → Option Failure → Type 0
+abbrev pub JudgesMethod : Program → Decl → Option EffectFailure → Option EffectFailure → Type 0
 JudgesMethod p method first later = later ≡ first_from first (method_failures method (acts_in_all p method.body.block))

@@ -5,7 +5,7 @@ use Rattle.twe_ast.specs.declared.item.ReturnType.{ReturnType}
 use Rattle.twe_ast.specs.declared.item.ReturnType.TheVariants as return_types
 use Rattle.twe_ast.specs.declared.stmt.LocalType.{LocalType}
 use Rattle.name_check.specs.declared.rule.NRule.TheVariants.{N1, N2, N3, N4, N6}
-use Rattle.name_check.specs.declared.rule.Failure.{Failure}
+use Rattle.name_check.specs.FailsName.{NameFailure}
 use Rattle.name_check.specs.declared.seen.Asked.{Asked}
 use Rattle.name_check.specs.declared.seen.Asked.TheVariants as asked
 use Rattle.name_check.specs.declared.seen.Global.TheVariants as global_kinds
@@ -19,7 +19,8 @@ use Rattle.name_check.specs.Types.{same_type, type_of}
 use Rattle.name_check.specs.Asks.{Ask, uses, needs, declares, returns_value, returns_nothing, place_of}
 use Rattle.name_check.specs.Stands.{Site}
 use Rattle.name_check.specs.FailsName.{seen_as, fits}
-use Rattle.name_check.specs.inner.Least.{failure_if, first_from}
+use Rattle.first_failure.specs.First.{failure_if}
+use Rattle.name_check.specs.inner.First.{first_from}
 
 -- a value is needed of a method or a task that returns nothing
 abbrev pub lacks_value : Asked → Seen → Bool
@@ -39,7 +40,7 @@ assigns_constant asked.Target (seens.Local (local_kinds.Variable number local_ty
 assigns_constant _ _ = false
 
 -- the failures of a name that is used, where it stands for this
-abbrev pub failures_of_use : Asked → Option Seen → Place → List Failure
+abbrev pub failures_of_use : Asked → Option Seen → Place → List NameFailure
 failures_of_use asks None place = failure_if true N1 place
 failures_of_use asks (Some other) place =
     failure_if (not (fits asks other)) N3 place
@@ -52,19 +53,19 @@ differs type None = false
 differs type (Some other) = not (same_type (Some type) (Some other))
 
 -- the failure of an expression that stands where this type is needed, if one is
-abbrev pub failures_of_need : Option LocalType → Option LocalType → Place → List Failure
+abbrev pub failures_of_need : Option LocalType → Option LocalType → Place → List NameFailure
 failures_of_need None found place = []
 failures_of_need (Some type) found place = failure_if (differs type found) N3 place
 
 -- the failures of what is asked for, but for what is returned
-abbrev pub failures_here : List GlobalName → List LocalName → Ask → List Failure
+abbrev pub failures_here : List GlobalName → List LocalName → Ask → List NameFailure
 failures_here globals locals (uses name asks) = failures_of_use asks (seen_as globals locals asks name.text) name.place
 failures_here globals locals (needs type value) = failures_of_need (Some type) (type_of globals locals value) (place_of value)
 failures_here globals locals (declares name) = failure_if (is_some (seen globals locals name.text)) N2 name.place
 failures_here globals locals (returns_value place) = []
 failures_here globals locals (returns_nothing place) = []
 
-abbrev pub first_of_asks : List GlobalName → List LocalName → Option Failure → List Ask → Option Failure
+abbrev pub first_of_asks : List GlobalName → List LocalName → Option NameFailure → List Ask → Option NameFailure
 first_of_asks globals locals first [] = first
 first_of_asks globals locals first (ask ∷ asks) = first_of_asks globals locals (first_from first (failures_here globals locals ask)) asks
 
@@ -73,16 +74,16 @@ is_void return_types.Void = true
 is_void return_types.Int = false
 
 -- the failures of what is asked for in a declaration that returns this
-abbrev pub failures_by : List GlobalName → List LocalName → ReturnType → Ask → List Failure
+abbrev pub failures_by : List GlobalName → List LocalName → ReturnType → Ask → List NameFailure
 failures_by globals locals returns (uses name asks) = failures_here globals locals (uses name asks)
 failures_by globals locals returns (needs type value) = failures_here globals locals (needs type value)
 failures_by globals locals returns (declares name) = failures_here globals locals (declares name)
 failures_by globals locals returns (returns_value place) = failure_if (is_void returns) N3 place
 failures_by globals locals returns (returns_nothing place) = failure_if (not (is_void returns)) N3 place
 
-abbrev pub failures_at : List GlobalName → Site → List Failure
+abbrev pub failures_at : List GlobalName → Site → List NameFailure
 failures_at globals site = failures_by globals site.locals site.returns site.ask
 
-abbrev pub first_of_sites : List GlobalName → Option Failure → List Site → Option Failure
+abbrev pub first_of_sites : List GlobalName → Option NameFailure → List Site → Option NameFailure
 first_of_sites globals first [] = first
 first_of_sites globals first (site ∷ sites) = first_of_sites globals (first_from first (failures_at globals site)) sites

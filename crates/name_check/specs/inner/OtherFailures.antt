@@ -12,13 +12,13 @@ use Rattle.twe_ast.specs.declared.path.Path.{Path}
 use Rattle.twe_ast.specs.declared.path.PathElem.{PathElem}
 use Rattle.name_check.specs.declared.rule.NRule.{NRule}
 use Rattle.name_check.specs.declared.rule.NRule.TheVariants.{N5, N7, N9}
-use Rattle.name_check.specs.declared.rule.Failure.{Failure}
+use Rattle.name_check.specs.FailsName.{NameFailure}
 use Rattle.name_check.specs.Ends.{one_ends, close_of}
 use Rattle.name_check.specs.Limits.{is_star, paths_of}
 use Rattle.name_check.specs.inner.Failures.{is_void}
-use Rattle.name_check.specs.inner.Least.{failure_if}
+use Rattle.first_failure.specs.First.{failure_if}
 
-abbrev pub failures_of_place : NRule → Option Place → List Failure
+abbrev pub failures_of_place : NRule → Option Place → List NameFailure
 failures_of_place rule None = []
 failures_of_place rule (Some place) = record { rule = rule; place = place } ∷ []
 
@@ -41,14 +41,14 @@ second_star before [] = None
 second_star false (elem ∷ elems) = second_star (is_star elem) elems
 second_star true (elem ∷ elems) = if is_star elem then Some elem.place else second_star true elems
 
-abbrev pub path_failures : Path → List Failure
+abbrev pub path_failures : Path → List NameFailure
 path_failures path = failures_of_place N7 (long_elem path.elems) ++ failures_of_place N9 (second_star false path.elems)
 
-abbrev pub paths_failures : List Path → List Failure
+abbrev pub paths_failures : List Path → List NameFailure
 paths_failures [] = []
 paths_failures (path ∷ paths) = path_failures path ++ paths_failures paths
 
-abbrev pub clauses_failures : List Clause → List Failure
+abbrev pub clauses_failures : List Clause → List NameFailure
 clauses_failures [] = []
 clauses_failures (clause ∷ clauses) = paths_failures clause.paths ++ clauses_failures clauses
 
@@ -56,13 +56,13 @@ clauses_failures (clause ∷ clauses) = paths_failures clause.paths ++ clauses_f
 abbrev pub lacks_return : Decl → Bool
 lacks_return decl = not (is_void decl.returns) && not (one_ends decl.body)
 
-abbrev pub decl_failures : Decl → List Failure
+abbrev pub decl_failures : Decl → List NameFailure
 decl_failures decl =
     failures_of_place N7 (fifth_name decl.params)
     ++ (failures_of_place N7 (ninth_path (paths_of decl))
     ++ (clauses_failures decl.effects ++ failure_if (lacks_return decl) N5 (close_of decl.body)))
 
-abbrev pub item_failures : Item → List Failure
+abbrev pub item_failures : Item → List NameFailure
 item_failures (items.Regions names) = []
 item_failures (items.Cell cell) = failures_of_place N7 (long_cell_elem cell.path.elems)
 item_failures (items.Method decl) = decl_failures decl

@@ -7,18 +7,19 @@ use Rattle.twe_ast.specs.declared.item.Item.{Item}
 use Rattle.twe_ast.specs.declared.item.Item.TheVariants as items
 use Rattle.name_check.specs.declared.names.GlobalName.{GlobalName}
 use Rattle.name_check.specs.declared.rule.NRule.TheVariants.{N2, N8}
-use Rattle.name_check.specs.declared.rule.Failure.{Failure}
+use Rattle.name_check.specs.FailsName.{NameFailure}
 use Rattle.name_check.specs.Names.{globals_of}
 use Rattle.name_check.specs.Stands.{sites_of_item}
 use Rattle.name_check.specs.inner.Failures.{first_of_sites, is_void}
-use Rattle.name_check.specs.inner.Least.{failure_if, first_from}
+use Rattle.first_failure.specs.First.{failure_if}
+use Rattle.name_check.specs.inner.First.{first_from}
 use Rattle.name_check.specs.inner.OtherFailures.{item_failures}
 
 -- a name is `Console`, or one of these names before it
 abbrev pub is_again : List GlobalName → GlobalName → Bool
 is_again before this = bytes_eq this.text (codes "Console") || list_any (λ (e : GlobalName). bytes_eq this.text e.text) before
 
-abbrev pub again_failures : List GlobalName → List GlobalName → List Failure
+abbrev pub again_failures : List GlobalName → List GlobalName → List NameFailure
 again_failures before [] = []
 again_failures before (this ∷ others) = failure_if (is_again before this) N2 this.place ++ again_failures (before ++ this ∷ []) others
 
@@ -31,12 +32,12 @@ is_main_item (items.Task deterministic decl) = is_main decl
 is_main_item _ = false
 
 -- the first failure of items, one after another
-abbrev pub first_in_items : List GlobalName → Option Failure → List Item → Option Failure
+abbrev pub first_in_items : List GlobalName → Option NameFailure → List Item → Option NameFailure
 first_in_items globals first [] = first
 first_in_items globals first (item ∷ others) =
     first_in_items globals (first_from (first_of_sites globals first (sites_of_item globals item)) (item_failures item)) others
 
-abbrev pub first_but_nodes : Ast → Option Failure
+abbrev pub first_but_nodes : Ast → Option NameFailure
 first_but_nodes ast =
     first_from (first_from (first_in_items (globals_of ast) None ast.items) (again_failures [] (globals_of ast)))
     (failure_if (not (list_any is_main_item ast.items)) N8 ast.end)

@@ -17,7 +17,7 @@ loop-method-preserved c =
     let there : c.loop-method.method-index < length p.methods = subst (λ (xs : List Decl). c.loop-method.method-index < length xs) items c.loop-method-test.true in
     let is : get_or p.methods c.loop-method.method-index method ≡ method =
     subst (λ (xs : List Decl). get_or xs c.loop-method.method-index method ≡ method) items (sym c.method-item.is) in
-    method-more p c.loop-method.method-index there method is c.loop-method.first c.in_ok-first-2.first c.loop-method.invariant c.in_ok-first-2.ensures
+    method-more p c.loop-method.method-index there method is c.loop-method.first c.judge_method.new.first c.loop-method.invariant c.in_ok-judge_method.ensures
 
 pub returns : goal.returns
 returns c =

@@ -16,7 +16,7 @@ loop-task-preserved c =
     let there : c.loop-task.task-index < length p.tasks = subst (λ (xs : List Decl). c.loop-task.task-index < length xs) items c.loop-task-test.true in
     let is : get_or p.tasks c.loop-task.task-index task ≡ task =
     subst (λ (xs : List Decl). get_or xs c.loop-task.task-index task ≡ task) items (sym c.task-item.is) in
-    task-more p well_formed c.loop-task.task-index there task is c.loop-task.first c.in_ok-first.first c.loop-task.invariant c.in_ok-first.ensures
+    task-more p well_formed c.loop-task.task-index there task is c.loop-task.first c.judge_task.new.first c.loop-task.invariant c.in_ok-judge_task.ensures
 
 pub returns : goal.returns
 returns c =

@@ -1,5 +1,5 @@
 use Rattle.std.proofs.Common.{sym, ap, ◌∙◌}
-use Rattle.name_check.specs.inner.Least.{first_from}
+use Rattle.name_check.specs.inner.First.{first_from}
 use Rattle.name_check.specs.inner.OtherFailures.{paths_failures}
 use Rattle.name_check.proofs.PathsOver.{clauses_noted}
 use Rattle.name_check.proofs.limits.judge_clauses.Goals as goal

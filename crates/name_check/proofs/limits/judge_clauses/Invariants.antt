@@ -1,5 +1,5 @@
 use Rattle.std.proofs.Common.{◌≡◌, drop}
-use Rattle.name_check.specs.inner.Least.{first_from}
+use Rattle.name_check.specs.inner.First.{first_from}
 use Rattle.name_check.specs.inner.OtherFailures.{clauses_failures}
 use Rattle.name_check.proofs.limits.judge_clauses.Given as goal
 

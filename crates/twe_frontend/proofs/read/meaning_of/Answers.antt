@@ -9,7 +9,7 @@ use Rattle.twe_frontend.proofs.read.meaning_of.Goals as goal
 pub resolve-requires : goal.resolve-requires
 resolve-requires c =
     let parsed = c.in_ok-tree.ensures.tree in
-    is_from_text c.args.text.now parsed.tokens c.in_ok-tree.tree c.requires parsed.cut parsed.writes parsed.keeps
+    is_from_text c.args.text.now parsed.tokens c.in_ok-tree.tree c.in_ok-tree.ensures.countable parsed.cut parsed.writes parsed.keeps
 
 -- the resolver's refusal
 pub returns-in-Err-Names-clause-refused : goal.returns-in-Err-Names-clause-refused

@@ -1,5 +1,5 @@
 use Rattle.std.proofs.Common.{◌≡◌, take, drop, []}
-use Rattle.name_check.specs.inner.Least.{first_from}
+use Rattle.name_check.specs.inner.First.{first_from}
 use Rattle.name_check.specs.inner.Whole.{again_failures}
 use Rattle.name_check.proofs.names.Globals.judge_again.Given as goal
 

@@ -1,7 +1,7 @@
--- Elements of a list, by recursion on it.
+-- Elements of a list, by recursion on it, and tests of two parts.
 use Rattle.std.proofs.Common.{◌≡◌, ◌⊎◌, ◌<◌, zero, suc, Bool, true, false, not, ◌&&◌, ◌||◌, List, [], ◌∷◌, ◌++◌, length, inl, inr, refl, sym, ap, ◌∙◌, subst, arith}
 use Rattle.std.proofs.lemmas.Bool.{false≢true}
-use Rattle.std.specs.List.{Contains, list_any, flat_map}
+use Rattle.std.specs.List.{Contains, list_all, list_any, flat_map, AllByRecursion}
 
 abbrev pub IsIn : {X : Type 0} → X → List X → Type 0
 IsIn x [] = ⊥
@@ -47,29 +47,7 @@ in-flat_map f [] x y there h = absurd there
 in-flat_map f (z ∷ xs) x y (inl e) h = in-left y (f z) (flat_map f xs) (subst (λ w. IsIn y (f w)) e h)
 in-flat_map f (z ∷ xs) x y (inr there) h = in-right y (f z) (flat_map f xs) (in-flat_map f xs x y there h)
 
-any_cons : {X : Type 0} (p : X → Bool) (y : X) (ys : List X) (b : Bool) → p y ≡ b → (b || list_any p ys) ≡ true
-    → (list_any p ys ≡ true → (x : X) × IsIn x ys × (p x ≡ true)) → (x : X) × IsIn x (y ∷ ys) × (p x ≡ true)
-any_cons p y ys true e h later = (y, inl refl, e)
-any_cons p y ys false e h later = let found = later h in (found.0, inr found.1, found.2)
-
-pub list_any-in : {X : Type 0} (p : X → Bool) (xs : List X) → list_any p xs ≡ true → (x : X) × IsIn x xs × (p x ≡ true)
-list_any-in p [] h = absurd (false≢true h)
-list_any-in p (y ∷ ys) h = any_cons p y ys (p y) refl h (list_any-in p ys)
-
-or_left : (a b : Bool) → a ≡ true → (a || b) ≡ true
-or_left true b e = refl
-or_left false b e = absurd (false≢true e)
-
-or_right : (a b : Bool) → b ≡ true → (a || b) ≡ true
-or_right true b e = refl
-or_right false b e = e
-
-pub in-list_any : {X : Type 0} (p : X → Bool) (xs : List X) (x : X) → IsIn x xs → p x ≡ true → list_any p xs ≡ true
-in-list_any p [] x there h = absurd there
-in-list_any p (y ∷ ys) x (inl e) h = or_left (p y) (list_any p ys) (ap p (sym e) ∙ h)
-in-list_any p (y ∷ ys) x (inr there) h = or_right (p y) (list_any p ys) (in-list_any p ys x there h)
-
--- a test that passes, and one that fails
+-- tests of two parts
 pub not-true : (b : Bool) → not b ≡ true → b ≡ false
 not-true true h = absurd (false≢true h)
 not-true false h = refl
@@ -90,5 +68,46 @@ or-true true b h = inl refl
 or-true false b h = inr h
 
 pub true-or : (a b : Bool) → (a ≡ true) ⊎ (b ≡ true) → (a || b) ≡ true
-true-or a b (inl e) = or_left a b e
-true-or a b (inr e) = or_right a b e
+true-or true b h = refl
+true-or false b (inl e) = absurd (false≢true e)
+true-or false b (inr e) = e
+
+-- tests of each element, and of one
+pub list_all-in : {X : Type 0} (p : X → Bool) (xs : List X) → list_all p xs ≡ true → (x : X) → IsIn x xs → p x ≡ true
+list_all-in p [] h x i = absurd i
+list_all-in p (y ∷ ys) h x (inl e) = ap p e ∙ (both-true (p y) (list_all p ys) h).0
+list_all-in p (y ∷ ys) h x (inr i) = list_all-in p ys (both-true (p y) (list_all p ys) h).1 x i
+
+pub in-list_all : {X : Type 0} (p : X → Bool) (xs : List X) → ((x : X) → IsIn x xs → p x ≡ true) → list_all p xs ≡ true
+in-list_all p [] h = refl
+in-list_all p (y ∷ ys) h = true-both (p y) (list_all p ys) (h y (inl refl)) (in-list_all p ys (λ x i. h x (inr i)))
+
+pub list_any-in : {X : Type 0} (p : X → Bool) (xs : List X) → list_any p xs ≡ true → (x : X) × IsIn x xs × (p x ≡ true)
+list_any-in p [] h = absurd (false≢true h)
+list_any-in p (y ∷ ys) h = elim (or-true (p y) (list_any p ys) h) [
+  | inl e ↦ (y, inl refl, e)
+  | inr more ↦ let found = list_any-in p ys more in (found.0, inr found.1, found.2)
+]
+
+pub in-list_any : {X : Type 0} (p : X → Bool) (xs : List X) (x : X) → IsIn x xs → p x ≡ true → list_any p xs ≡ true
+in-list_any p [] x there h = absurd there
+in-list_any p (y ∷ ys) x (inl e) h = true-or (p y) (list_any p ys) (inl (ap p (sym e) ∙ h))
+in-list_any p (y ∷ ys) x (inr there) h = true-or (p y) (list_any p ys) (inr (in-list_any p ys x there h))
+
+-- a fact about each element
+pub all-in : {X : Type 0} (P : X → Type 0) (xs : List X) → AllByRecursion P xs → (x : X) → IsIn x xs → P x
+all-in P [] h x i = absurd i
+all-in P (y ∷ ys) h x (inl e) = subst P (sym e) h.0
+all-in P (y ∷ ys) h x (inr i) = all-in P ys h.1 x i
+
+pub all-append : {X : Type 0} (P : X → Type 0) (xs ys : List X) → AllByRecursion P xs → AllByRecursion P ys → AllByRecursion P (xs ++ ys)
+all-append P [] ys h k = k
+all-append P (x ∷ xs) ys h k = (h.0, all-append P xs ys h.1 k)
+
+pub all-front : {X : Type 0} (P : X → Type 0) (xs ys : List X) → AllByRecursion P (xs ++ ys) → AllByRecursion P xs
+all-front P [] ys h = tt
+all-front P (x ∷ xs) ys h = (h.0, all-front P xs ys h.1)
+
+pub all-back : {X : Type 0} (P : X → Type 0) (xs ys : List X) → AllByRecursion P (xs ++ ys) → AllByRecursion P ys
+all-back P [] ys h = h
+all-back P (x ∷ xs) ys h = all-back P xs ys h.1
