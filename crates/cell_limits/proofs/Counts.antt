@@ -4,18 +4,17 @@ use Rattle.std.specs.Prelude.{codes}
 use Rattle.std.specs.List.{Contains}
 use Rattle.std.proofs.lemmas.List.{length-take-le, get_or-take, get_or_default}
 use Rattle.std.proofs.lemmas.List.Elements.{Contains-append_left, Contains-append_right, Contains-append_cases}
+use Rattle.twe_limits.specs.Language.{max_nodes}
+use Rattle.prefix_tree.specs.declared.part.Part.{Part}
+use Rattle.prefix_tree.specs.Nodes.{path_of, IsNode as IsTreeNode, IsTreeOfPaths}
+use Rattle.prefix_tree.specs.Growth.{Grows}
 use Rattle.twe_ast.specs.declared.item.CellDecl.{CellDecl}
 use Rattle.twe_ast.specs.declared.path.CellElemKind.{CellElemKind}
 use Rattle.twe_ast.specs.declared.path.CellElemKind.TheVariants.{Name}
 use Rattle.cell_limits.specs.declared.count.Count.{Count}
-use Rattle.cell_limits.specs.declared.step.Part.{Part}
-use Rattle.cell_limits.specs.declared.tree.Tree.{Tree}
 use Rattle.cell_limits.specs.Nodes.{cells_made, console, IsNode, of_console, of_cell, HasNodes}
 use Rattle.cell_limits.specs.inner.Parts.{part_of, parts_of}
-use Rattle.cell_limits.specs.inner.Tree.{IsTree, IsIn, paths, path_of}
-use Rattle.cell_limits.specs.inner.Growth.{Grows}
 use Rattle.cell_limits.specs.inner.Counting.{IsOfCell, IsPartsOf, HasCounted, CountsWhole}
-use Rattle.cell_limits.proofs.TreeLemmas.{path_of-once}
 use Rattle.cell_limits.proofs.Known.{AreKnown}
 use Rattle.cell_limits.proofs.KnownNodes.{parts_of-once, known-node}
 use Rattle.cell_limits.proofs.Distinct.{Contains-here, Contains-cons, length-le_from_once, choose}
@@ -43,7 +42,7 @@ IsNode-cases cells cell path (of_cell other declared rest there d e) =
 
 -- the paths of the nodes are these, by their parts
 abbrev pub IsExact : List (List ℕ) → List CellDecl → List (List Part) → Type 0
-IsExact names cells nodes = (parts : List Part) → IsIn nodes parts ↔ IsPartsOf names (IsNode cells) parts
+IsExact names cells nodes = (parts : List Part) → IsTreeNode nodes parts ↔ IsPartsOf names (IsNode cells) parts
 
 pub exact-more : (names : List (List ℕ)) (cells : List CellDecl) (cell : CellDecl) (old new : List (List Part)) → IsExact names cells old → Grows old new (IsPartsOf names (IsOfCell cell)) → IsExact names (cells ++ cell ∷ []) new
 exact-more names cells cell old new is grows parts = (
@@ -64,12 +63,11 @@ pub cells_made-append : (cells more : List CellDecl) → cells_made (cells ++ mo
 cells_made-append [] more = omega arith
 cells_made-append (c ∷ cs) more = let others = cells_made-append cs more in omega arith
 
-pub HasCounted-more : (names : List (List ℕ)) (cells : List CellDecl) (cell : CellDecl) (old new : Count) → HasCounted names cells old → CountsWhole names old new cell → length (paths new.tree) ≤ 131072 → HasCounted names (cells ++ cell ∷ []) new
+pub HasCounted-more : (names : List (List ℕ)) (cells : List CellDecl) (cell : CellDecl) (old new : Count) → HasCounted names cells old → CountsWhole names old new cell → length new.tree ≤ max_nodes → HasCounted names (cells ++ cell ∷ []) new
 HasCounted-more names cells cell old new was added few = record {
   cells = let both = cells_made-append cells (cell ∷ []) in let before = was.cells in let this = added.cells in omega arith;
   few_cells = added.few_cells;
-  tree = added.tree;
-  exact = exact-more names cells cell (paths old.tree) (paths new.tree) was.exact added.grows;
+  exact = exact-more names cells cell old.tree new.tree was.exact added.grows;
   few_nodes = few;
 }
 
@@ -121,9 +119,8 @@ HasNodes-le names cells nodes count has known is h =
     in_range : (xs : List (List Part)) (n : ℕ) (x : List Part) → n < length xs → path_of xs n ≡ x → get_or xs n x ≡ x
     in_range xs n x there e = get_or_default xs n x [] there ∙ e
 
-pub le-HasNodes : (names : List (List ℕ)) (cells : List CellDecl) (tree : Tree) (count : ℕ) → IsTree tree → IsExact names cells (paths tree) → count ≤ length (paths tree) → HasNodes cells count
-le-HasNodes names cells tree count t is few =
-    let nodes = paths tree in
+pub le-HasNodes : (names : List (List ℕ)) (cells : List CellDecl) (nodes : List (List Part)) (count : ℕ) → IsTreeOfPaths nodes → IsExact names cells nodes → count ≤ length nodes → HasNodes cells count
+le-HasNodes names cells nodes count t is few =
     let some = take count nodes in
     let long : length some ≡ count = length-take-le count nodes few in
     let chosen =
@@ -135,7 +132,7 @@ le-HasNodes names cells tree count t is few =
     let at_second = get_or-take count nodes j d second in
     let i_there : i < length nodes = omega arith in
     let j_there : j < length nodes = omega arith in
-    let one = path_of-once tree t i j i_there j_there (get_or_default nodes i [] d i_there ∙ sym at_first ∙ same ∙ at_second ∙ get_or_default nodes j d [] j_there) in
+    let one = t.once i j i_there j_there (get_or_default nodes i [] d i_there ∙ sym at_first ∙ same ∙ at_second ∙ get_or_default nodes j d [] j_there) in
     omega arith)
     (λ parts c.
     let within = c.1 in

@@ -1,21 +1,21 @@
 -- The beginnings of the paths that a cell declares, and their parts.
-use Rattle.std.proofs.Common.{◌≡◌, ℕ, ◌<◌, ◌↔◌, List, [], ◌∷◌, ◌++◌, Option, map, refl, sym, ap, subst, ◌∙◌, ◌⊎◌, inl, inr, ⊎_elim, arith}
+use Rattle.std.proofs.Common.{◌≡◌, ℕ, pos, ◌<◌, ◌↔◌, List, [], ◌∷◌, ◌++◌, Option, refl, sym, ap, subst, ◌∙◌, ◌⊎◌, inl, inr, ⊎_elim, arith}
 use Rattle.std.proofs.Math.Seq.{append_snoc}
 use Rattle.std.proofs.lemmas.List.{map-append}
 use Rattle.twe_ast.specs.declared.item.CellShape.{CellShape}
 use Rattle.twe_ast.specs.declared.item.Initial.{Initial}
-use Rattle.twe_ast.specs.declared.path.CellElem.{CellElem}
 use Rattle.twe_ast.specs.declared.item.CellShape.TheVariants.{Scalar, Array, Grid}
 use Rattle.twe_ast.specs.declared.path.CellElemKind.{CellElemKind}
 use Rattle.twe_ast.specs.declared.path.CellElemKind.TheVariants as kind
-use Rattle.cell_limits.specs.declared.step.Part.{Part}
-use Rattle.cell_limits.specs.declared.step.Part.TheVariants as part
+use Rattle.prefix_tree.specs.declared.part.Part.{Part}
+use Rattle.prefix_tree.specs.declared.part.Part.TheVariants as part
+use Rattle.prefix_tree.specs.Prefix.{IsPrefix}
+use Rattle.prefix_tree.specs.Growth.{Grows, IsRowElement, IsGridElement}
+use Rattle.prefix_tree.proofs.PrefixLemmas.{IsPrefix-refl, IsPrefix-snoc}
+use Rattle.prefix_tree.proofs.GrowthLemmas.{Grows-append, Grows-same}
 use Rattle.cell_limits.specs.Nodes.{Declares}
 use Rattle.cell_limits.specs.inner.Parts.{part_of, parts_of}
-use Rattle.cell_limits.specs.inner.Growth.{Grows, IsPrefix, IsRowElement, IsGridElement}
 use Rattle.cell_limits.specs.inner.Counting.{IsPartsOf}
-use Rattle.cell_limits.proofs.PrefixLemmas.{IsPrefix-refl, IsPrefix-snoc}
-use Rattle.cell_limits.proofs.GrowthLemmas.{Grows-append, Grows-same}
 
 -- a beginning of the parts of a path is that of a beginning of the path
 pub prefix-parts : (names : List (List ℕ)) (path : List CellElemKind) (parts : List Part) → IsPrefix parts (parts_of names path) → (front : List CellElemKind) × (rest : List CellElemKind) × (path ≡ front ++ rest) × (parts_of names front ≡ parts)
@@ -36,9 +36,9 @@ parts-prefix names (k ∷ ks) rest = (refl, parts-prefix names ks rest)
 parts-snoc : (names : List (List ℕ)) (path : List CellElemKind) (k : CellElemKind) → parts_of names (path ++ k ∷ []) ≡ parts_of names path ++ part_of names k ∷ []
 parts-snoc names path k = map-append (part_of names) path (k ∷ [])
 
-parts-grid : (names : List (List ℕ)) (path : List CellElemKind) (i j : ℕ) → parts_of names (path ++ kind.Index i ∷ kind.Index j ∷ []) ≡ (parts_of names path ++ part.Index i ∷ []) ++ part.Index j ∷ []
+parts-grid : (names : List (List ℕ)) (path : List CellElemKind) (i j : ℕ) → parts_of names (path ++ kind.Index i ∷ kind.Index j ∷ []) ≡ (parts_of names path ++ part.Index (pos i) ∷ []) ++ part.Index (pos j) ∷ []
 parts-grid names path i j =
-    map-append (part_of names) path (kind.Index i ∷ kind.Index j ∷ []) ∙ sym (append_snoc (parts_of names path) (part.Index i) (part.Index j ∷ []))
+    map-append (part_of names) path (kind.Index i ∷ kind.Index j ∷ []) ∙ sym (append_snoc (parts_of names path) (part.Index (pos i)) (part.Index (pos j) ∷ []))
 
 -- the path is a beginning of one that a cell of this shape at this path declares
 abbrev IsOf : List CellElemKind → CellShape → List CellElemKind → Type 0
@@ -84,7 +84,7 @@ of-array names at n parts = (
       (λ e. inl (to names parts d.0 at (parts_of names at) e refl d.2))
       (λ r.
       ⊎_elim (λ p. inl p) (λ e. inr (r.0, r.1, e))
-      ((IsPrefix-snoc parts (parts_of names at) (part.Index r.0)).0 (to names parts d.0 _ _ r.2 (parts-snoc names at (kind.Index r.0)) d.2)))
+      ((IsPrefix-snoc parts (parts_of names at) (part.Index (pos r.0))).0 (to names parts d.0 _ _ r.2 (parts-snoc names at (kind.Index r.0)) d.2)))
       d.1,
 )
 
@@ -95,11 +95,11 @@ of-grid names at rows columns parts = (
       (λ p. of-declared names at (Grid rows columns) at parts (inl refl) p)
       (λ g.
       let i = g.1.0 in
-      let row = parts_of names at ++ part.Index i ∷ [] in
+      let row = parts_of names at ++ part.Index (pos i) ∷ [] in
       ⊎_elim
       (λ (e : parts ≡ row).
       of-declared names at (Grid rows columns) (at ++ kind.Index i ∷ kind.Index 0 ∷ []) parts (inr (i, 0, g.1.1, g.0, refl))
-      (subst (λ (p : List Part). IsPrefix parts p) (sym (parts-grid names at i 0)) ((IsPrefix-snoc parts row (part.Index 0)).1 (inl (whole parts row e)))))
+      (subst (λ (p : List Part). IsPrefix parts p) (sym (parts-grid names at i 0)) ((IsPrefix-snoc parts row (part.Index (pos 0))).1 (inl (whole parts row e)))))
       (λ (r : IsRowElement row columns parts).
       of-declared names at (Grid rows columns) (at ++ kind.Index i ∷ kind.Index r.0 ∷ []) parts (inr (i, r.0, g.1.1, r.1, refl))
       (whole parts _ (r.2 ∙ sym (parts-grid names at i r.0))))
@@ -112,13 +112,13 @@ of-grid names at rows columns parts = (
       (λ g.
       let i = g.0 in
       let j = g.1 in
-      let row = parts_of names at ++ part.Index i ∷ [] in
+      let row = parts_of names at ++ part.Index (pos i) ∷ [] in
       let column = g.3 in
       let some : 0 < columns = omega arith in
       ⊎_elim
-      (λ p. ⊎_elim (λ q. inl q) (λ e. inr (some, (i, g.2, inl e))) ((IsPrefix-snoc parts (parts_of names at) (part.Index i)).0 p))
+      (λ p. ⊎_elim (λ q. inl q) (λ e. inr (some, (i, g.2, inl e))) ((IsPrefix-snoc parts (parts_of names at) (part.Index (pos i))).0 p))
       (λ e. inr (some, (i, g.2, inr (j, column, e))))
-      ((IsPrefix-snoc parts row (part.Index j)).0 (to names parts d.0 _ _ g.4 (parts-grid names at i j) d.2)))
+      ((IsPrefix-snoc parts row (part.Index (pos j))).0 (to names parts d.0 _ _ g.4 (parts-grid names at i j) d.2)))
       d.1,
 )
 
@@ -151,8 +151,3 @@ Grows-grid_of names old mid new front above at shape rows columns same end is a 
     (subst (λ (p : List Part). Grows old mid (λ path. IsPrefix path p)) same a)
     (subst (λ (p : List Part). Grows mid new (IsGridElement p rows columns)) (end ∙ same) b))
     (of-grid names at rows columns))
-
--- the parts of the elements of a path are those of their kinds
-pub parts-written : (names : List (List ℕ)) (elems : List CellElem) → map (λ (elem : CellElem). part_of names elem.kind) elems ≡ parts_of names (map (λ (elem : CellElem). elem.kind) elems)
-parts-written names [] = refl
-parts-written names (e ∷ es) = ap (λ (path : List Part). part_of names e.kind ∷ path) (parts-written names es)

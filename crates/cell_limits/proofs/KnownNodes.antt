@@ -1,5 +1,5 @@
--- All names in the path of a node are known, and so its parts tell it.
-use Rattle.std.proofs.Common.{◌≡◌, ℕ, ◌<◌, List, [], ◌∷◌, ◌++◌, length, length-append, refl, sym, ap, subst, ◌∙◌, ⊎_elim, arith}
+-- All names in the path of a node are known, so no other path of a node has the same parts.
+use Rattle.std.proofs.Common.{◌≡◌, ℕ, pos, ◌<◌, List, [], ◌∷◌, ◌++◌, length, length-append, refl, sym, ap, subst, ◌∙◌, ⊎_elim, arith}
 use Rattle.std.specs.Prelude.{codes}
 use Rattle.std.specs.List.{All, Contains}
 use Rattle.std.proofs.lemmas.List.{get_or_append_left}
@@ -9,7 +9,7 @@ use Rattle.twe_ast.specs.declared.item.CellShape.{CellShape}
 use Rattle.twe_ast.specs.declared.item.CellShape.TheVariants.{Scalar, Array, Grid}
 use Rattle.twe_ast.specs.declared.path.CellElemKind.{CellElemKind}
 use Rattle.twe_ast.specs.declared.path.CellElemKind.TheVariants.{Name, Index}
-use Rattle.cell_limits.specs.declared.step.Part.TheVariants as part
+use Rattle.prefix_tree.specs.declared.part.Part.TheVariants as part
 use Rattle.cell_limits.specs.Nodes.{Declares, written_path, IsNode, of_console, of_cell}
 use Rattle.cell_limits.specs.inner.Parts.{part_of, parts_of, IsKnown}
 use Rattle.cell_limits.proofs.Positions.{number_of-once}
@@ -24,10 +24,10 @@ All-front P xs ys h k d below =
 number-same : (m n : ℕ) → part.Name m ≡ part.Name n → m ≡ n
 number-same m n e = cc
 
-index-same : (m n : ℕ) → part.Index m ≡ part.Index n → m ≡ n
+index-same : (m n : ℕ) → part.Index (pos m) ≡ part.Index (pos n) → m ≡ n
 index-same m n e = cc
 
-other-part : (m n : ℕ) → ¬ (part.Name m ≡ part.Index n)
+other-part : (m n : ℕ) → ¬ (part.Name m ≡ part.Index (pos n))
 other-part m n e = cc
 
 part_of-once : (names : List (List ℕ)) (a b : CellElemKind) → IsKnown names a → IsKnown names b → part_of names a ≡ part_of names b → a ≡ b
@@ -36,7 +36,7 @@ part_of-once names (Name s) (Index j) h k e = absurd (other-part _ _ e)
 part_of-once names (Index i) (Name t) h k e = absurd (other-part _ _ (sym e))
 part_of-once names (Index i) (Index j) h k e = ap Index (index-same i j e)
 
--- paths of known names are one where their parts are
+-- paths of known names are one if their parts are
 pub parts_of-once : (names : List (List ℕ)) (a b : List CellElemKind) → All (IsKnown names) a → All (IsKnown names) b → parts_of names a ≡ parts_of names b → a ≡ b
 parts_of-once names [] [] h k e = refl
 parts_of-once names [] (y ∷ ys) h k e = cc

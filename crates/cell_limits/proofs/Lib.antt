@@ -1,15 +1,7 @@
-pub mod StepLemmas
-pub mod SnocLemmas
-pub mod PathsLemmas
-pub mod PrefixLemmas
-pub mod TreeLemmas
-pub mod AddLemmas
-pub mod GrowthLemmas
-pub mod RowLemmas
 pub mod Positions
 pub mod NumberingLemmas
 pub mod Known
-pub mod PathGrowth
+pub mod WrittenParts
 pub mod DeclaredLemmas
 pub mod Distinct
 pub mod KnownNodes

@@ -4,6 +4,7 @@ use Rattle.std.specs.Prelude.{codes}
 use Rattle.std.specs.List.{All, Contains}
 use Rattle.std.proofs.lemmas.List.{take-append-drop}
 use Rattle.std.proofs.lemmas.List.Concat.{flat_map-append}
+use Rattle.twe_limits.specs.Language.{max_cells, max_nodes}
 use Rattle.twe_ast.specs.declared.item.CellDecl.{CellDecl}
 use Rattle.twe_ast.specs.declared.item.Item.{Item}
 use Rattle.cell_limits.specs.declared.count.Count.{Count}
@@ -11,7 +12,6 @@ use Rattle.cell_limits.specs.Nodes.{cells_made, written_path, HasNodes}
 use Rattle.cell_limits.specs.GoesOver.{cells_of_item, cells_of, GoesOver}
 use Rattle.cell_limits.specs.FirstOver.{IsFirstOver}
 use Rattle.cell_limits.specs.inner.Parts.{IsKnown}
-use Rattle.cell_limits.specs.inner.Tree.{paths}
 use Rattle.cell_limits.specs.inner.Counting.{HasCounted, CountsOn}
 use Rattle.cell_limits.proofs.Known.{AreKnown}
 use Rattle.cell_limits.proofs.KnownNodes.{All-front}
@@ -27,11 +27,11 @@ HasNodes-append cells more count h = record {
 }
 
 -- what goes over a limit stays over it with more declarations
-over-stays : (before after : List CellDecl) → (65536 < cells_made before) ⊎ HasNodes before 131073 → cells_made (before ++ after) ≤ 65536 → ¬ HasNodes (before ++ after) 131073 → ⊥
+over-stays : (before after : List CellDecl) → (max_cells < cells_made before) ⊎ HasNodes before (max_nodes + 1) → cells_made (before ++ after) ≤ max_cells → ¬ HasNodes (before ++ after) (max_nodes + 1) → ⊥
 over-stays before after over cells nodes =
     ⊎_elim
     (λ many. let both = cells_made-append before after in absurd (omega arith))
-    (λ many. nodes (HasNodes-append before after 131073 many))
+    (λ many. nodes (HasNodes-append before after (max_nodes + 1) many))
     over
 
 -- an element and what comes after it, once more
@@ -61,8 +61,8 @@ not_before : (cells : List CellDecl) (one other : CellDecl) (m : List CellDecl) 
 not_before cells one other m g h e =
     let split = e ∙ one_more g.before one m in
     over-stays (g.before ++ one ∷ []) m g.over
-    (subst (λ (cs : List CellDecl). cells_made cs ≤ 65536) split h.few_cells)
-    (λ many. h.few_nodes (subst (λ (cs : List CellDecl). HasNodes cs 131073) (sym split) many))
+    (subst (λ (cs : List CellDecl). cells_made cs ≤ max_cells) split h.few_cells)
+    (λ many. h.few_nodes (subst (λ (cs : List CellDecl). HasNodes cs (max_nodes + 1)) (sym split) many))
 
 -- at most one declaration goes over
 pub GoesOver-once : (cells : List CellDecl) (one other : CellDecl) → GoesOver cells one → GoesOver cells other → one ≡ other
@@ -81,31 +81,31 @@ IsFirstOver-some its cell over =
     ((cell, over, refl), λ other also. ap (λ (c : CellDecl). c.name.place) (GoesOver-once (cells_of its) other cell also over))
 
 module _ (names : List (List ℕ)) (has : Contains names (codes "Console")) where
-  few_nodes : (cells : List CellDecl) (count : Count) → AreKnown names cells → HasCounted names cells count → ¬ HasNodes cells 131073
+  few_nodes : (cells : List CellDecl) (count : Count) → AreKnown names cells → HasCounted names cells count → ¬ HasNodes cells (max_nodes + 1)
   few_nodes cells count known counted many =
-      let le = HasNodes-le names cells (paths count.tree) 131073 has known counted.exact many in
+      let le = HasNodes-le names cells count.tree (max_nodes + 1) has known counted.exact many in
       let few = counted.few_nodes in
       omega arith
 
-  -- where all was counted, none goes over
+  -- if all was counted, none goes over
   pub IsFirstOver-none : (its : List Item) (count : Count) → AreKnown names (cells_of its) → HasCounted names (cells_of its) count → (cell : CellDecl) → ¬ GoesOver (cells_of its) cell
   IsFirstOver-none its count known counted cell over =
       let split = over.list ∙ one_more over.before cell over.after in
-      let few : cells_made (cells_of its) ≤ 65536 = let is = counted.cells in let small = counted.few_cells in omega arith in
+      let few : cells_made (cells_of its) ≤ max_cells = let is = counted.cells in let small = counted.few_cells in omega arith in
       over-stays (over.before ++ cell ∷ []) over.after over.over
-      (subst (λ (cs : List CellDecl). cells_made cs ≤ 65536) split few)
-      (λ many. few_nodes (cells_of its) count known counted (subst (λ (cs : List CellDecl). HasNodes cs 131073) (sym split) many))
+      (subst (λ (cs : List CellDecl). cells_made cs ≤ max_cells) split few)
+      (λ many. few_nodes (cells_of its) count known counted (subst (λ (cs : List CellDecl). HasNodes cs (max_nodes + 1)) (sym split) many))
 
-  over-now : (before : List CellDecl) (cell : CellDecl) (old new : Count) → HasCounted names before old → CountsOn names old new cell false → (65536 < cells_made (before ++ cell ∷ [])) ⊎ HasNodes (before ++ cell ∷ []) 131073
+  over-now : (before : List CellDecl) (cell : CellDecl) (old new : Count) → HasCounted names before old → CountsOn names old new cell false → (max_cells < cells_made (before ++ cell ∷ [])) ⊎ HasNodes (before ++ cell ∷ []) (max_nodes + 1)
   over-now before cell old new was on =
       ⊎_elim
       (λ cells. let both = cells_made-append before (cell ∷ []) in let is = was.cells in inl (omega arith))
       (λ nodes.
       let many = nodes.1 in
-      inr (le-HasNodes names (before ++ cell ∷ []) new.tree 131073 nodes.0.tree (exact-more names before cell (paths old.tree) (paths new.tree) was.exact nodes.0.grows) (omega arith)))
+      inr (le-HasNodes names (before ++ cell ∷ []) new.tree (max_nodes + 1) nodes.0.tree (exact-more names before cell old.tree new.tree was.exact nodes.0.grows) (omega arith)))
       on
 
-  -- where the numbers don't stay within the limits, this declaration goes over
+  -- if the numbers don't stay within the limits, this declaration goes over
   pub goes-over : (before : List CellDecl) (cell : CellDecl) (after : List CellDecl) (old new : Count) → AreKnown names (before ++ cell ∷ after) → HasCounted names before old → CountsOn names old new cell false → GoesOver (before ++ cell ∷ after) cell
   goes-over before cell after old new known was on = record {
     before = before;

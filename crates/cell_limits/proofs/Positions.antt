@@ -25,7 +25,7 @@ position_push_other p xs y fails =
     let long = length_push xs y in
     rw (at, long, fails) (grind (arith, nat_tests))
 
--- an element that passes at the end is the first, where no other passes
+-- an element that passes at the end is the first if no other passes
 pub position_push_first : {X : Type 0} (p : X → Bool) (xs : List X) (y : X) → p y ≡ true → position p xs ≡ None → position p (xs ++ y ∷ []) ≡ Some (length xs)
 position_push_first p xs y passes none =
     let at = position_or_len_push p xs y in
@@ -37,7 +37,7 @@ first_is_some : (b : Bool) (k n : ℕ) (any : Bool) → is_some {T = ℕ} (cond 
 first_is_some true k n any at = grind (arith, nat_tests)
 first_is_some false k n any at = grind (arith, nat_tests)
 
--- there is a first place exactly where some element passes
+-- there is a first place if and only if some element passes
 is_some_position : {X : Type 0} (p : X → Bool) (xs : List X) → is_some (position p xs) ≡ list_any p xs
 is_some_position p [] = refl
 is_some_position p (x ∷ xs) = first_is_some (p x) (position_or_len p xs) (length xs) (list_any p xs) (is_some_position p xs)

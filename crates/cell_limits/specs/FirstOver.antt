@@ -5,7 +5,7 @@ use Rattle.twe_ast.specs.declared.item.Item.{Item}
 use Rattle.twe_ast.specs.declared.item.CellDecl.{CellDecl}
 use Rattle.cell_limits.specs.GoesOver.{cells_of, GoesOver}
 
--- the place of the name of a declaration that goes over, which is that of each such declaration; or None where there is none
+-- None: no declaration goes over a limit. Some: one does, and the place is that of the name of each that does.
 abbrev pub IsFirstOver : List Item → Option Place → Type 0
 IsFirstOver items None = (cell : CellDecl) → ¬ GoesOver (cells_of items) cell
 IsFirstOver items (Some place) =

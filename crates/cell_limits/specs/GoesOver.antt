@@ -14,7 +14,8 @@ cells_of_item _ = []
 abbrev pub cells_of : List Item → List CellDecl
 cells_of items = flat_map cells_of_item items
 
--- the declaration is the first, in the order of the text, that brings the number of cells or that of nodes over its limit
+-- The declaration is the first, in the order of the text, that brings the number of cells or the number of nodes over its
+-- limit.
 pub record GoesOver (cells : List CellDecl) (cell : CellDecl) : Type 0 where
   pub before : List CellDecl
   pub after : List CellDecl

@@ -1,5 +1,5 @@
--- The cells that a text declares, and the nodes of their paths. Both are counted by the text of the names, so that a name
--- that is declared nowhere counts as well.
+-- The cells that a text declares, and the nodes of their paths. Paths are compared by the text of their names, so a name
+-- that is declared nowhere counts too.
 use Rattle.std.specs.Prelude.{◌≡◌, ℕ, ◌+◌, ◌*◌, ◌<◌, ◌⊎◌, List, [], ◌∷◌, ◌++◌, map, codes, length, Contains, AllPairs}
 use Rattle.twe_ast.specs.declared.item.CellDecl.{CellDecl}
 use Rattle.twe_ast.specs.declared.item.CellShape.{CellShape}
@@ -23,7 +23,7 @@ cells_made (cell ∷ cells) = size_of cell.shape + cells_made cells
 abbrev pub written_path : CellDecl → List CellElemKind
 written_path cell = map (λ (elem : CellElem). elem.kind) cell.path.elems
 
--- A cell declares the path in which it lies. An array and a grid declare the paths of their elements beside that.
+-- A cell declares the path in which it lies. An array and a grid also declare the paths of their elements.
 abbrev pub Declares : List CellElemKind → CellShape → List CellElemKind → Type 0
 Declares path (shapes.Scalar initial) declared = declared ≡ path
 Declares path (shapes.Array elements) declared =
@@ -35,13 +35,13 @@ Declares path (shapes.Grid rows columns) declared =
 abbrev pub console : List CellElemKind
 console = Name (codes "Console") ∷ []
 
--- a node is a beginning of the path of `Console`, or of a path that a cell declares; the empty one is the root
+-- A node is a prefix of the path of `Console`, or of a path that a cell declares. The empty path is the root.
 pub data IsNode (cells : List CellDecl) (path : List CellElemKind) : Type 0 where
   of_console : (rest : List CellElemKind) → console ≡ path ++ rest → IsNode cells path
   of_cell : (cell : CellDecl) (declared rest : List CellElemKind)
       → Contains cells cell → Declares (written_path cell) cell.shape declared → declared ≡ path ++ rest → IsNode cells path
 
--- there are so many nodes, or more
+-- there are at least this many nodes
 pub record HasNodes (cells : List CellDecl) (count : ℕ) : Type 0 where
   pub nodes : List (List CellElemKind)
   pub many : length nodes ≡ count

@@ -1,24 +1,24 @@
 //! The numbers of cells and of nodes, counted over the declarations of a text.
 ghost use Rattle.std.specs.Prelude.{◌≡◌, ◌≤◌, ◌+◌, ◌-◌, ◌^◌, [], IfOk};
+ghost use Rattle.twe_limits.specs.Language.{max_cells};
 ghost use Rattle.cell_limits.specs.Nodes.{size_of};
-ghost use Rattle.cell_limits.specs.inner.Tree.{IsTree};
 ghost use Rattle.cell_limits.specs.inner.Counting.{HasCounted, CountsOn};
 
+use crate::growth::add_cell;
 use crate::names::Names;
-use crate::step::Part;
-use crate::tree::Tree;
-use crate::{MOST_CELLS, MOST_NODES};
+use prefix_tree::{Part, PrefixTree};
 use std::alloc::Global;
 use twe_ast::{CellDecl, CellElemKind, CellShape};
 use twe_io::{Memory, Word};
+use twe_limits::{MAX_CELLS, MAX_NODES};
 
 /// What was counted.
 #[derive(Debug, Drop)]
 pub(crate) struct Count {
-    /// How many cells.
+    /// How many cells there are.
     pub cells: u64,
     /// The nodes.
-    pub tree: Tree,
+    pub tree: PrefixTree,
 }
 
 /// How many cells a declaration makes.
@@ -39,24 +39,23 @@ impl Count {
         ensures { IfOk result (HasCounted names.now []) }
     {
         let console = CellElemKind::Name(Word::from_text(alloc, "Console")?);
-        let mut tree = Tree::new(alloc)?;
+        let mut tree = PrefixTree::new(alloc)?;
         tree.child_or_new(0, names.part(&console))?;
         Ok(Count { cells: 0, tree })
     }
 
-    /// Counts a declaration, and answers whether both numbers stay within their limits. Where its cells go over theirs,
-    /// no node is added.
-    pub fn add(&mut self, names: &Names, cell: &CellDecl) -> Result<bool, Memory>
-        requires tree { IsTree self.old.tree }
-        requires few { self.old.cells ≤ 65536 }
+    /// Counts a declaration, and returns whether both numbers stay within their limits. If its cells go over theirs, no
+    /// node is added.
+    pub fn add(&mut self, alloc: Global, names: &Names, cell: &CellDecl) -> Result<bool, Memory>
+        requires { self.old.cells ≤ max_cells }
         ensures { IfOk result (CountsOn names.now self.old self.new cell.now) }
     {
         self.cells += size(&cell.shape);
-        if self.cells > MOST_CELLS {
+        if self.cells > u64::from(MAX_CELLS) {
             return Ok(false);
         }
-        self.tree.grow_cell(names, cell)?;
-        if self.tree.len() > MOST_NODES {
+        add_cell(alloc, names, &mut self.tree, cell)?;
+        if self.tree.len() > MAX_NODES {
             return Ok(false);
         }
         Ok(true)

@@ -3,7 +3,7 @@ ghost use Rattle.std.specs.Prelude.{◌≡◌, List};
 ghost use Rattle.twe_ast.specs.declared.item.CellDecl.{CellDecl};
 ghost use Rattle.cell_limits.specs.GoesOver.{GoesOver};
 
-/// Of the declarations of a text at most one is the first that goes over a limit.
+/// At most one declaration of a text is the first that goes over a limit.
 pub fn a_declaration_goes_over_alone()
     ensures { (cells : List CellDecl) (one other : CellDecl) → GoesOver cells one → GoesOver cells other → one ≡ other }
 {}

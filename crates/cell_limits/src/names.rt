@@ -1,11 +1,11 @@
-//! The names in the paths of cells, numbered in the order in which they stand first, so that paths are compared by numbers.
+//! The names in the paths of cells, numbered in the order of their first occurrence, so that paths are compared by numbers.
 ghost use Rattle.std.specs.Prelude.{◌≡◌, List, ℕ, [], ◌∷◌, ◌++◌, None, bytes_eq, position, codes, Contains, IfOk, OnOk};
 ghost use Rattle.std.specs.List.{All};
 ghost use Rattle.cell_limits.specs.GoesOver.{cells_of_item, cells_of};
 ghost use Rattle.cell_limits.specs.Nodes.{written_path};
 ghost use Rattle.cell_limits.specs.inner.Parts.{number_of, part_of, IsKnown, Keeps};
 
-use crate::step::Part;
+use prefix_tree::Part;
 use std::alloc::Global;
 use std::collections::BTreeMap;
 use std::marker::Model;
@@ -42,7 +42,7 @@ impl Names {
         }
     }
 
-    /// `Console`, and the names in the paths of the cells that are declared.
+    /// `Console`, and the names in the paths of all cells that the items declare.
     pub fn of_items(alloc: Global, items: &[Item]) -> Result<Self, Memory>
         ensures console { IfOk result (λ names. Contains names (codes "Console")) }
         ensures cells { IfOk result (λ names. All (λ cell. All (IsKnown names) (written_path cell)) (cells_of items.now)) }
@@ -66,7 +66,7 @@ impl Names {
         Ok(())
     }
 
-    /// Adds the names in a path that aren't there yet.
+    /// Adds the names of a path that aren't there yet.
     fn add_all(&mut self, alloc: Global, elems: &[CellElem]) -> Result<(), Memory>
         ensures known { OnOk result (All (λ (elem : CellElem). IsKnown self.new elem.kind) elems.now) }
         ensures keeps { OnOk result (Keeps self.old self.new) }
@@ -77,7 +77,7 @@ impl Names {
         Ok(())
     }
 
-    /// Adds the name that an element of a path is, if it is one.
+    /// Adds an element of a path if it is a name.
     fn add_kind(&mut self, alloc: Global, kind: &CellElemKind) -> Result<(), Memory>
         ensures known { OnOk result (IsKnown self.new kind.now) }
         ensures keeps { OnOk result (Keeps self.old self.new) }
@@ -88,7 +88,7 @@ impl Names {
         Ok(())
     }
 
-    /// Adds a name, where it isn't there yet.
+    /// Adds a name if it isn't there yet.
     fn add(&mut self, alloc: Global, name: &Word) -> Result<(), Memory>
         ensures known { OnOk result (Contains self.new name.now) }
         ensures keeps { OnOk result (Keeps self.old self.new) }
@@ -106,7 +106,7 @@ impl Names {
         self.numbers.get(name.as_str()).copied()
     }
 
-    /// Puts a name that isn't there after the others.
+    /// Appends a name that isn't there yet.
     fn push(&mut self, alloc: Global, name: &Word) -> Result<(), Memory>
         requires { position (bytes_eq name.now) self.old ≡ None }
         ensures { OnOk result (self.new ≡ self.old ++ name.now ∷ []) }
@@ -123,20 +123,20 @@ impl Names {
         Ok(())
     }
 
-    /// The number of a name, and 0 for one that isn't there.
+    /// The number of a name, or 0 if it isn't there.
     fn number(&self, name: &Word) -> u32
         ensures { result ≡ number_of self.now name.now }
     {
         self.find(name).unwrap_or(0)
     }
 
-    /// What an element of a path is by the numbers of the names.
+    /// An element of a path as a part, by the numbers of the names.
     pub fn part(&self, kind: &CellElemKind) -> Part
         ensures { result ≡ part_of self.now kind.now }
     {
         match kind {
             CellElemKind::Name(name) => Part::Name(self.number(name)),
-            CellElemKind::Index(index) => Part::Index(*index),
+            CellElemKind::Index(index) => Part::Index(i64::from(*index)),
         }
     }
 }

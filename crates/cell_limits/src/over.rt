@@ -1,4 +1,4 @@
-//! The first declaration of a text that brings the number of cells, or that of nodes, over its limit.
+//! The first declaration of a text that brings the number of cells or the number of nodes over its limit.
 ghost use Rattle.std.specs.Prelude.{◌≡◌, [], ◌∷◌, codes, Contains, IfOk, MatchOption};
 ghost use Rattle.std.specs.List.{All};
 ghost use Rattle.cell_limits.specs.GoesOver.{cells_of_item, cells_of};
@@ -13,8 +13,8 @@ use std::alloc::Global;
 use twe_ast::{CellDecl, Item};
 use twe_io::{Memory, Place};
 
-/// The place of the name of the first declaration that brings the number of cells over 65,536, or that of nodes over
-/// 131,072; or `None`, where none does.
+/// The place of the name of the first declaration that brings the number of cells over `MAX_CELLS`, or that of nodes over
+/// `MAX_NODES`. It returns `None` if no declaration does.
 ///
 /// Cells are counted before nodes, and no node is counted of a declaration whose cells go over their limit. The time is
 /// near linear in the length of the text, and in the limits.
@@ -23,11 +23,16 @@ pub fn first_over(alloc: Global, items: &[Item]) -> Result<Option<Place>, Memory
 {
     let names = Names::of_items(alloc, items)?;
     let count = Count::new(alloc, &names)?;
-    first_counted(&names, count, items)
+    first_counted(alloc, &names, count, items)
 }
 
-/// The same, where all names are known and nothing was counted yet.
-fn first_counted(names: &Names, mut count: Count, items: &[Item]) -> Result<Option<Place>, Memory>
+/// The same, once all names are known, and before anything is counted.
+fn first_counted(
+    alloc: Global,
+    names: &Names,
+    mut count: Count,
+    items: &[Item],
+) -> Result<Option<Place>, Memory>
     requires none { HasCounted names.now [] count }
     requires console { Contains names.now (codes "Console") }
     requires cells { All (λ cell. All (IsKnown names.now) (written_path cell)) (cells_of items.now) }
@@ -35,7 +40,7 @@ fn first_counted(names: &Names, mut count: Count, items: &[Item]) -> Result<Opti
 {
     for item in items {
         if let Some(cell) = cell_of(item) {
-            if !count.add(names, cell)? {
+            if !count.add(alloc, names, cell)? {
                 return Ok(Some(cell.name.place));
             }
         }
@@ -43,7 +48,7 @@ fn first_counted(names: &Names, mut count: Count, items: &[Item]) -> Result<Opti
     Ok(None)
 }
 
-/// The declaration of cells that an item is, if it is one.
+/// The item, if it is a declaration of cells.
 fn cell_of(item: &Item) -> Option<&CellDecl>
     ensures { MatchOption result (cells_of_item item.now ≡ []) (λ cell. cells_of_item item.now ≡ cell.now ∷ []) }
 {

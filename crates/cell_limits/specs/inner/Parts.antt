@@ -1,9 +1,9 @@
 -- What the elements of paths are by the numbers of names.
-use Rattle.std.specs.Prelude.{ℕ, List, map, bytes_eq, position, unwrap_or, Contains}
+use Rattle.std.specs.Prelude.{ℕ, pos, List, map, bytes_eq, position, unwrap_or, Contains}
 use Rattle.twe_ast.specs.declared.path.CellElemKind.{CellElemKind}
 use Rattle.twe_ast.specs.declared.path.CellElemKind.TheVariants.{Name, Index}
-use Rattle.cell_limits.specs.declared.step.Part.{Part}
-use Rattle.cell_limits.specs.declared.step.Part.TheVariants as part
+use Rattle.prefix_tree.specs.declared.part.Part.{Part}
+use Rattle.prefix_tree.specs.declared.part.Part.TheVariants as part
 
 -- the place of a name in the list, and 0 for one that isn't there
 abbrev pub number_of : List (List ℕ) → List ℕ → ℕ
@@ -11,7 +11,7 @@ number_of names text = unwrap_or (position (bytes_eq text) names) 0
 
 abbrev pub part_of : List (List ℕ) → CellElemKind → Part
 part_of names (Name text) = part.Name (number_of names text)
-part_of names (Index index) = part.Index index
+part_of names (Index index) = part.Index (pos index)
 
 abbrev pub parts_of : List (List ℕ) → List CellElemKind → List Part
 parts_of names path = map (part_of names) path
