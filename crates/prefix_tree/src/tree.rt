@@ -96,7 +96,8 @@ impl PrefixTree {
         Ok(number)
     }
 
-    /// Returns the node right below `from` whose path ends in `part`, and adds it if it isn't there.
+    /// Returns the node right below `from` whose path ends in `part`, and adds it if it isn't there. It fails if memory
+    /// runs out, or if 32 bits cannot number the nodes.
     pub fn child_or_new(&mut self, from: u32, part: Part) -> Result<u32, Memory>
         requires { from < length self.old }
         ensures there { IfOk result (λ n. n < length self.new) }
