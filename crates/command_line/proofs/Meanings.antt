@@ -2,6 +2,7 @@
 use Rattle.std.proofs.Common.{◌≡◌, ◌≤◌, ◌++◌, ℕ, List, [], ◌∷◌, length, codes, bytes_eq, Option, None, Some, Bool, true, false, cond, nat_lt, unwrap_or, option_to_list, slice_index_or, refl, sym, ap, ◌∙◌, subst, arith}
 use Rattle.std.proofs.lemmas.Option.{none-some, same_Some}
 use Rattle.std.proofs.lemmas.Slice.Eq.{bytes_eq-Decides}
+use Rattle.twe_limits.specs.Language.{default_fuel, default_tasks}
 use Rattle.twe_limits.specs.Limits.{Bounds}
 use Rattle.command_line.specs.declared.command.Command.{Command}
 use Rattle.command_line.specs.declared.command.Command.TheVariants.{Check, Run}
@@ -47,10 +48,10 @@ module _ (choices : List Choice) (h : Given) (gives : all_chosen nothing choices
     flag = omega (arith, flag_times, flag_at_most_once h.journal);
   }
 
-  same_limits : record { fuel = unwrap_or h.fuel 1000000; tasks = unwrap_or h.tasks 10000 } ≡ limits_of choices
+  same_limits : record { fuel = unwrap_or h.fuel default_fuel; tasks = unwrap_or h.tasks default_tasks } ≡ limits_of choices
   same_limits =
-      ap (λ (n : ℕ). record { fuel = n; tasks = unwrap_or h.tasks 10000 }) (first_of h.fuel (numbers_for Fuel choices) 1000000 (numbers Fuel))
-      ∙ ap (λ (n : ℕ). record { fuel = number_or 1000000 Fuel choices; tasks = n }) (first_of h.tasks (numbers_for Tasks choices) 10000 (numbers Tasks))
+      ap (λ (n : ℕ). record { fuel = n; tasks = unwrap_or h.tasks default_tasks }) (first_of h.fuel (numbers_for Fuel choices) default_fuel (numbers Fuel))
+      ∙ ap (λ (n : ℕ). record { fuel = number_or default_fuel Fuel choices; tasks = n }) (first_of h.tasks (numbers_for Tasks choices) default_tasks (numbers Tasks))
 
   same_command : run_as h ≡ Run (limits_of choices) (has_flag choices)
   same_command =

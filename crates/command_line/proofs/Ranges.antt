@@ -2,6 +2,7 @@
 use Rattle.std.proofs.Common.{◌≡◌, ◌≤◌, ◌&&◌, ℕ, List, [], ◌∷◌, Bool, true, false, cond, Option, None, Some, nat_le, unwrap_or, option_to_list, refl, sym, subst, arith, leb-true}
 use Rattle.std.proofs.lemmas.Bool.{false≢true}
 use Rattle.std.proofs.lemmas.Option.{cond_some}
+use Rattle.twe_limits.specs.Language.{default_fuel, default_tasks, max_fuel, max_tasks}
 use Rattle.twe_limits.specs.Limits.{IsWithin}
 use Rattle.command_line.specs.declared.options.Setting.{Setting}
 use Rattle.command_line.specs.declared.options.Setting.TheVariants.{Workers, Fuel, Tasks}
@@ -25,13 +26,13 @@ is_between least most word number e =
 -- the range of a setting's numbers
 abbrev InRange : Setting → ℕ → Type 0
 InRange Workers number = (0 ≤ number) × (number ≤ 0)
-InRange Fuel number = (0 ≤ number) × (number ≤ 100000000)
-InRange Tasks number = (1 ≤ number) × (number ≤ 100000)
+InRange Fuel number = (0 ≤ number) × (number ≤ max_fuel)
+InRange Tasks number = (1 ≤ number) × (number ≤ max_tasks)
 
 in_range : (setting : Setting) (word : List ℕ) (number : ℕ) → number_for setting word ≡ Some number → InRange setting number
 in_range Workers word number e = is_between 0 0 word number e
-in_range Fuel word number e = is_between 0 100000000 word number e
-in_range Tasks word number e = is_between 1 100000 word number e
+in_range Fuel word number e = is_between 0 max_fuel word number e
+in_range Tasks word number e = is_between 1 max_tasks word number e
 
 abbrev AllInRange : Setting → List ℕ → Type 0
 AllInRange setting [] = Unit {0}
@@ -57,15 +58,15 @@ options_in_range (value_inside {words} {choices} other value number is rest) set
     more_in_range setting other number (numbers_for setting choices) (in_range other value number is) (options_in_range rest setting)
 options_in_range (flag rest) setting = options_in_range rest setting
 
-fuel_or : (o : Option ℕ) → AllInRange Fuel (option_to_list o) → unwrap_or o 1000000 ≤ 100000000
+fuel_or : (o : Option ℕ) → AllInRange Fuel (option_to_list o) → unwrap_or o default_fuel ≤ max_fuel
 fuel_or None range = omega arith
 fuel_or (Some number) range = range.0.1
 
-tasks_or : (o : Option ℕ) → AllInRange Tasks (option_to_list o) → (1 ≤ unwrap_or o 10000) × (unwrap_or o 10000 ≤ 100000)
+tasks_or : (o : Option ℕ) → AllInRange Tasks (option_to_list o) → (1 ≤ unwrap_or o default_tasks) × (unwrap_or o default_tasks ≤ max_tasks)
 tasks_or None range = (omega arith, omega arith)
 tasks_or (Some number) range = range.0
 
-pub limits_within : (words : List (List ℕ)) (h : Given) → read nothing None words ≡ Some h → IsWithin (unwrap_or h.fuel 1000000) (unwrap_or h.tasks 10000)
+pub limits_within : (words : List (List ℕ)) (h : Given) → read nothing None words ≡ Some h → IsWithin (unwrap_or h.fuel default_fuel) (unwrap_or h.tasks default_tasks)
 limits_within words h e =
     let c = cut words nothing h e in
     let tasks = tasks_or h.tasks (subst (AllInRange Tasks) (sym (slots_all c.0 nothing h Tasks c.2)) (options_in_range c.1 Tasks)) in

@@ -1,24 +1,25 @@
--- The options that may follow `run`. A setting has a number, which is the next word or follows `=` in the same word; a
--- number is digits alone, so it begins with no `-`. The flag `--journal` has none.
+-- The options that may follow `run`. A setting takes a number: it is the next word, or it follows `=` in the same word. A
+-- number is digits alone, so it never begins with `-`. The flag `--journal` takes no number.
 use Rattle.std.specs.Prelude.{◌≡◌, ◌≤◌, ◌+◌, ◌++◌, ℕ, Bool, true, false, List, [], ◌∷◌, length, Option, Some, codes, nat_lt, slice_index_or, if◌then◌else◌}
 use Rattle.command_line.specs.declared.options.Setting.{Setting}
 use Rattle.command_line.specs.declared.options.Setting.TheVariants.{Workers, Fuel, Tasks}
 use Rattle.command_line.specs.Numbers.{number_between}
+use Rattle.twe_limits.specs.Language.{max_fuel, max_tasks}
 
--- how a setting is spelled
+-- the spelling of a setting
 abbrev pub spelled : Setting → List ℕ
 spelled Workers = codes "--workers"
 spelled Fuel = codes "--fuel"
 spelled Tasks = codes "--tasks"
 
--- The number that a word gives to a setting. No run has workers yet, so their number is 0; there is always a first task,
--- so the number of tasks is not.
+-- The number that a word gives to a setting. Runs have no workers, so their number is 0. Each run has task 0, so the
+-- number of tasks is at least 1.
 abbrev pub number_for : Setting → List ℕ → Option ℕ
 number_for Workers word = number_between 0 0 word
-number_for Fuel word = number_between 0 100000000 word
-number_for Tasks word = number_between 1 100000 word
+number_for Fuel word = number_between 0 max_fuel word
+number_for Tasks word = number_between 1 max_tasks word
 
--- an option: a setting with its number, or the flag
+-- an option: a setting and its number, or the flag
 pub data Choice : Type 0 where
   set : Setting → ℕ → Choice
   journal : Choice
@@ -47,18 +48,18 @@ numbers_for setting (set other number ∷ choices) =
     if same_setting setting other then number ∷ numbers_for setting choices else numbers_for setting choices
 numbers_for setting (journal ∷ choices) = numbers_for setting choices
 
--- how often the flag stands there
+-- how often the flag stands among the options
 abbrev pub flags : List Choice → ℕ
 flags [] = 0
 flags (set setting number ∷ choices) = flags choices
 flags (journal ∷ choices) = flags choices + 1
 
--- no option stands there twice
+-- no option stands twice
 pub record NoneTwice (choices : List Choice) : Type 0 where
   pub settings : (setting : Setting) → length (numbers_for setting choices) ≤ 1
   pub flag : flags choices ≤ 1
 
--- the number that a setting is given, or this one where it is given none
+-- the number that a setting is given, or the default if it is given none
 abbrev pub number_or : ℕ → Setting → List Choice → ℕ
 number_or default setting choices = slice_index_or (numbers_for setting choices) 0 default
 

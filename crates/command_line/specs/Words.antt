@@ -1,15 +1,16 @@
--- The command line: `check` alone, or `run` and its options, in any order, none of them twice. Every other list of words
--- is no command.
+-- The commands: `check` alone, or `run` and its options, in any order, none of them twice. Every other list of words is no
+-- command.
 use Rattle.std.specs.Prelude.{ℕ, List, [], ◌∷◌, Option, None, Some, codes}
+use Rattle.twe_limits.specs.Language.{default_fuel, default_tasks}
 use Rattle.twe_limits.specs.Limits.{Bounds}
 use Rattle.command_line.specs.declared.command.Command.{Command}
 use Rattle.command_line.specs.declared.command.Command.TheVariants.{Check, Run}
 use Rattle.command_line.specs.declared.options.Setting.TheVariants.{Fuel, Tasks}
 use Rattle.command_line.specs.Options.{Choice, AreOptions, NoneTwice, number_or, has_flag}
 
--- the limits of a run with these options: a million of fuel and ten thousand tasks where nothing else is said
+-- the limits that the options give; an option that is left out has its default
 abbrev pub limits_of : List Choice → Bounds
-limits_of choices = record { fuel = number_or 1000000 Fuel choices; tasks = number_or 10000 Tasks choices }
+limits_of choices = record { fuel = number_or default_fuel Fuel choices; tasks = number_or default_tasks Tasks choices }
 
 -- the words mean this command
 pub data Means : List (List ℕ) → Command → Type 0 where
@@ -17,7 +18,7 @@ pub data Means : List (List ℕ) → Command → Type 0 where
   run : (words : List (List ℕ)) (choices : List Choice) → AreOptions words choices → NoneTwice choices
       → Means (codes "run" ∷ words) (Run (limits_of choices) (has_flag choices))
 
--- this is the command that the words mean, or none where they mean none
+-- this is the command that the words mean, or none if they mean none
 abbrev pub IsMeaning : List (List ℕ) → Option Command → Type 0
 IsMeaning words (Some command) = Means words command
 IsMeaning words None = (command : Command) → ¬ Means words command

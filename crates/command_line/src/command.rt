@@ -7,28 +7,28 @@ use crate::options::read_options;
 use twe_io::Word;
 use twe_limits::Limits;
 
-/// What the program is to do.
+/// What the program is asked to do.
 #[derive(Clone, Copy, Debug, PartialEq, Eq)]
 pub enum Command {
-    /// Check the program, and say whether it is accepted.
+    /// Check a program text, and say if it is accepted.
     Check,
-    /// Run the program.
+    /// Run a program.
     Run {
         /// The limits of the run.
         lim: Limits,
-        /// Whether its journal is written too.
+        /// Whether its journal is written after the result.
         journal: bool,
     },
 }
 
-/// The command that the words mean, or none where they mean no command.
+/// The command that the words mean, or `None` if they mean no command.
 pub fn read_words(words: &[Word]) -> Option<Command>
     ensures { IsMeaning words.now result }
 {
     read_command(words)
 }
 
-/// The same, word by word.
+/// The same command, by the reading of one word after another.
 fn read_command(words: &[Word]) -> Option<Command>
     ensures { result ≡ command_of words.now }
 {
@@ -49,13 +49,13 @@ fn read_check(others: &[Word]) -> Option<Command>
     }
 }
 
-/// The command `run` with these words after it.
+/// The command `run`, if the words after it are its options.
 fn read_run(others: &[Word]) -> Option<Command>
     ensures { result ≡ run_with (read nothing None others.now) }
 {
     let given = read_options(others)?;
-    let fuel = given.fuel.unwrap_or(1_000_000);
-    let tasks = given.tasks.unwrap_or(10_000);
+    let fuel = given.fuel.unwrap_or(Limits::DEFAULT_FUEL);
+    let tasks = given.tasks.unwrap_or(u64::from(Limits::DEFAULT_TASKS));
     Some(Command::Run {
         lim: Limits::new(fuel, tasks as u32),
         journal: given.journal,

@@ -1,4 +1,4 @@
-//! The words of the command line: what they mean. What is done then is left to the crate above.
+//! The command that the words of the command line mean. `twe_cli` carries it out.
 #![tactic(auto)]
 
 mod command;

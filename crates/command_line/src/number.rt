@@ -4,7 +4,7 @@ ghost use Rattle.std.specs.List.{list_all};
 ghost use Rattle.std.specs.Char.{is_ascii_digit};
 ghost use Rattle.command_line.specs.Numbers.{is_number, number_of, number_between};
 
-/// What stands for every number above `most`, which no number on the command line may be.
+/// The value of every number from here on: it is above each limit of the command line.
 const TOO_LARGE: u64 = 10_000_000_000;
 
 /// The number that a word is, if it is one of 1 to 10 decimal digits, from `least` to `most`.
@@ -23,21 +23,21 @@ pub(crate) fn number_between(least: u64, most: u64, word: &[u8]) -> Option<u64>
     }
 }
 
-/// Whether the word has 1 to 10 decimal digits and nothing else.
+/// Whether the word is 1 to 10 decimal digits and nothing else.
 fn is_number(word: &[u8]) -> bool
     ensures { result ≡ is_number word.now }
 {
     1 <= word.len() && word.len() <= 10 && are_digits(word)
 }
 
-/// Whether each byte is a digit.
+/// Whether each byte is a decimal digit.
 fn are_digits(word: &[u8]) -> bool
     ensures { result ≡ list_all is_ascii_digit word.now }
 {
     word.iter().all(|byte| byte.is_ascii_digit())
 }
 
-/// The number that digits write, or 10000000000 where it is greater.
+/// The number that the digits write, but at most 10000000000.
 fn number_of(digits: &[u8]) -> u64
     ensures { result ≡ min (number_of digits.now) 10000000000 }
 {

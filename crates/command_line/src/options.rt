@@ -7,29 +7,29 @@ use crate::number::number_between;
 use twe_io::Word;
 use twe_limits::Limits;
 
-/// What `run` can be told by a number.
+/// An option of `run` that takes a number.
 #[derive(Clone, Copy)]
 pub(crate) enum Setting {
-    /// How many workers a run has. Without workers it is carried out by the program's own thread.
+    /// The number of workers. Only 0 is allowed: the run stays on the program's own thread.
     Workers,
-    /// How much fuel each task has.
+    /// The fuel of each task, in units.
     Fuel,
-    /// How many tasks may be made.
+    /// The number of tasks that may be made, task 0 counted.
     Tasks,
 }
 
-/// What a word is, where a new option may begin.
+/// A word at which a new option begins.
 #[derive(Clone, Copy)]
 enum Part {
-    /// The name of a setting, whose number is the next word.
+    /// The name of a setting; its number has to be the next word.
     Names(Setting),
-    /// A setting with its number.
+    /// A setting with its number in the same word.
     Gives(Setting, u64),
     /// The flag `--journal`.
     Journal,
 }
 
-/// What the options have given so far.
+/// The values that the options read so far have given.
 #[derive(Clone, Copy)]
 pub(crate) struct Given {
     /// The number of workers.
@@ -42,16 +42,16 @@ pub(crate) struct Given {
     pub(crate) journal: bool,
 }
 
-/// What was read of the words so far.
+/// The state of the reading after some of the words.
 #[derive(Clone, Copy)]
 struct Sofar {
-    /// What the options have given.
+    /// The values given so far.
     given: Given,
-    /// The setting whose number has to be the next word, if the last word has named one.
+    /// The setting that the last word named, if its number has to be the next word.
     wanted: Option<Setting>,
 }
 
-/// What the words after `run` give, if they are options none of which stands twice.
+/// The values that the words give, if they are options and none of them stands twice.
 pub(crate) fn read_options(words: &[Word]) -> Option<Given>
     ensures { result ≡ read nothing None words.now }
 {
@@ -68,7 +68,7 @@ pub(crate) fn read_options(words: &[Word]) -> Option<Given>
     }
 }
 
-/// Nothing was given yet.
+/// No value is given.
 const NOTHING: Given = Given {
     workers: None,
     fuel: None,
@@ -76,7 +76,7 @@ const NOTHING: Given = Given {
     journal: false,
 };
 
-/// What was read with one word more, if the word may stand there.
+/// The state after one more word, if the word may stand there.
 fn next(sofar: Sofar, word: &[u8]) -> Option<Sofar>
     ensures { result ≡ next sofar.given sofar.wanted word.now }
 {
@@ -89,7 +89,7 @@ fn next(sofar: Sofar, word: &[u8]) -> Option<Sofar>
     }
 }
 
-/// What was read with one part more, if its option was not given before.
+/// The state after one more part, if its option was not given before.
 fn take(given: Given, part: Part) -> Option<Sofar>
     ensures { result ≡ taken given part }
 {
@@ -101,7 +101,7 @@ fn take(given: Given, part: Part) -> Option<Sofar>
     Some(Sofar { given, wanted })
 }
 
-/// What a word is, where a new option may begin.
+/// The part that a word is, if an option may begin with it.
 fn part_of(word: &[u8]) -> Option<Part>
     ensures { result ≡ part_of word.now }
 {
@@ -113,7 +113,7 @@ fn part_of(word: &[u8]) -> Option<Part>
         .or(setting_part(Setting::Tasks, word))
 }
 
-/// The part that a word is with this setting, if it is one.
+/// The part that a word is with this setting: its name, or its name, `=` and its number.
 fn setting_part(setting: Setting, word: &[u8]) -> Option<Part>
     ensures { result ≡ setting_part setting word.now }
 {
@@ -125,7 +125,7 @@ fn setting_part(setting: Setting, word: &[u8]) -> Option<Part>
     Some(Part::Gives(setting, number_for(setting, value)?))
 }
 
-/// How a setting is spelled.
+/// The spelling of a setting.
 fn spelled(setting: Setting) -> &'static [u8]
     ensures { result.now ≡ spelled setting }
 {
@@ -136,7 +136,7 @@ fn spelled(setting: Setting) -> &'static [u8]
     }
 }
 
-/// The number that a word gives to a setting.
+/// The number that a word gives to a setting, if it is one within the setting's range.
 fn number_for(setting: Setting, word: &[u8]) -> Option<u64>
     ensures { result ≡ number_for setting word.now }
 {
@@ -147,7 +147,7 @@ fn number_for(setting: Setting, word: &[u8]) -> Option<u64>
     }
 }
 
-/// What is given with this number too, if the setting had none.
+/// The given values and this number, if the setting had no number before.
 fn with_number(given: Given, setting: Setting, number: u64) -> Option<Given>
     ensures { result ≡ with_number given setting number }
 {
@@ -168,7 +168,7 @@ fn with_number(given: Given, setting: Setting, number: u64) -> Option<Given>
     }
 }
 
-/// What is given with the flag too, if it had not stood before.
+/// The given values and the flag, if the flag was not given before.
 fn with_flag(given: Given) -> Option<Given>
     ensures { result ≡ with_flag given }
 {

@@ -1,5 +1,5 @@
 -- The texts that are written. Each line ends with byte 10.
-use Rattle.std.specs.Prelude.{◌++◌, ◌+◌, ℕ, zero, suc, ℤ, Bool, List, [], ◌∷◌, length, map, codes, decimal, Option, None, Some, slice_get, if◌then◌else◌}
+use Rattle.std.specs.Prelude.{count_by, true, false, ◌++◌, ◌+◌, ℕ, zero, suc, ℤ, Bool, List, [], ◌∷◌, length, map, codes, decimal, Option, None, Some, slice_get, if◌then◌else◌}
 use Rattle.std.specs.Fmt.{signed_decimal}
 use Rattle.std.specs.List.{flat_map}
 use Rattle.twe_io.specs.declared.place.Place.{Place}
@@ -23,6 +23,8 @@ use Rattle.twe_frontend.specs.declared.refusal.Refusal.{Refusal}
 use Rattle.twe_frontend.specs.declared.refusal.RuleName.{RuleName}
 use Rattle.twe_frontend.specs.declared.refusal.RuleName.TheVariants.{Text, Name, Effect}
 use Rattle.twe_machine.specs.declared.state.State.{State}
+use Rattle.twe_machine.specs.declared.state.TaskRow.{TaskRow}
+use Rattle.twe_machine.specs.Rows.{is_done_row}
 
 abbrev pub line : List ℕ → List ℕ
 line text = text ++ 10 ∷ []
@@ -44,22 +46,22 @@ value_shown (Some value) = signed_decimal value
 abbrev pub value_text : List ℤ → ℕ → List ℕ
 value_text cells cell = value_shown (slice_get cells cell)
 
--- the values of so many cells from this number on, each after `, `
+-- the values of `count` cells from this number on, each after `, `
 abbrev pub more_values : List ℤ → ℕ → ℕ → List ℕ
 more_values cells cell zero = []
 more_values cells cell (suc count) = codes ", " ++ (value_text cells cell ++ more_values cells (cell + 1) count)
 
--- `[1, 0, 0]`, and `[]` where there are none
+-- `[1, 0, 0]`, or `[]` if the row has no cells
 abbrev pub row_text : List ℤ → ℕ → ℕ → List ℕ
 row_text cells cell zero = codes "[]"
 row_text cells cell (suc count) = codes "[" ++ (value_text cells cell ++ (more_values cells (cell + 1) count ++ codes "]"))
 
--- so many rows of so many cells from this number on, each after `, `
+-- `rows` rows of `columns` cells from this number on, each after `, `
 abbrev pub more_rows : List ℤ → ℕ → ℕ → ℕ → List ℕ
 more_rows cells cell zero columns = []
 more_rows cells cell (suc rows) columns = codes ", " ++ (row_text cells cell columns ++ more_rows cells (cell + columns) rows columns)
 
--- `[[0, 0], [1, 10]]`, and `[]` where there are no rows
+-- `[[0, 0], [1, 10]]`, or `[]` if there are no rows
 abbrev pub grid_text : List ℤ → ℕ → ℕ → ℕ → List ℕ
 grid_text cells cell zero columns = codes "[]"
 grid_text cells cell (suc rows) columns = codes "[" ++ (row_text cells cell columns ++ (more_rows cells (cell + columns) rows columns ++ codes "]"))
@@ -74,7 +76,7 @@ values_text cells cell (Grid rows columns) = grid_text cells cell rows columns
 abbrev pub cell_line : List ℤ → CellDecl → List ℕ
 cell_line cells cell = line (cell.name ++ (codes " = " ++ values_text cells cell.first cell.dims))
 
--- the printed numbers, the cells in the order of their declaration, and the count of tasks made
+-- the printed numbers, the cells in the order of their declaration, and the number of tasks made
 abbrev pub result_text : Program → State → List ℕ
 result_text p st =
     prints_text st.prints
@@ -155,10 +157,29 @@ edges_text (edge ∷ edges) = edge_text edge ++ more_edges edges
 abbrev pub stuck_text : List Edge → List ℕ
 stuck_text edges = line (codes "stuck: " ++ edges_text edges)
 
--- what is written of a journal after the other lines of a run: a line `%%`, the limits as a head, and a line for the
--- move of each entry
+-- the lines of a journal after the other lines of a run: a line `%%`, the limits as a head, and a line for the move of each
+-- entry
 abbrev pub journal_part : Bounds → List Entry → List ℕ
 journal_part lim journal = line (codes "%%") ++ (head_line lim ++ flat_map move_line (map move_of journal))
+
+-- `journal: line 2 is not a move`, and `journal: line 2 is not legal`
+abbrev pub bad_line_text : ℕ → List ℕ → List ℕ
+bad_line_text n what = line (codes "journal: line " ++ (decimal n ++ (codes " is not " ++ what)))
+
+abbrev pub not_a_move_text : ℕ → List ℕ
+not_a_move_text n = bad_line_text n (codes "a move")
+
+abbrev pub not_legal_text : ℕ → List ℕ
+not_legal_text n = bad_line_text n (codes "legal")
+
+-- the task of this row is not done
+abbrev pub is_undone : TaskRow → Bool
+is_undone row = if is_done_row row then false else true
+
+-- `unfinished: 1 of 2 tasks not done`
+abbrev pub unfinished_text : State → List ℕ
+unfinished_text st =
+    line (codes "unfinished: " ++ (decimal (count_by is_undone st.tasks) ++ (codes " of " ++ (decimal (length st.tasks) ++ codes " tasks not done"))))
 
 abbrev pub usage_text : List ℕ
 usage_text = line (codes "usage: twe check | run [--workers k] [--fuel f] [--tasks t] [--journal] | replay [--fuel f] [--tasks t] | load N [--workers k]")

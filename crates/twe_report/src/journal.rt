@@ -2,12 +2,13 @@
 ghost use Rattle.std.specs.Prelude.{◌≡◌, IfOk};
 ghost use Rattle.twe_report.specs.Texts as texts;
 
-use seg_journal::{Journal, Limits, print_journal};
+use seg_journal::{Journal, print_journal};
 use std::alloc::Global;
 use twe_io::{Bytes, Memory};
+use twe_limits::Limits;
 
-/// What is written of a journal after the other lines of a run: a line `%%`, and the journal's text with the limits as
-/// its head.
+/// The lines of a journal after the other lines of a run: a line `%%`, and the text of the journal with the limits as its
+/// head.
 pub fn journal_part(alloc: Global, journal: &Journal, lim: Limits) -> Result<Bytes, Memory>
     ensures { IfOk result (λ text. text ≡ texts.journal_part lim journal.now) }
 {

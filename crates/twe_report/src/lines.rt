@@ -1,4 +1,4 @@
-//! The lines of complaint. Each ends with byte 10.
+//! The answers of one line. Each line ends with byte 10.
 ghost use Rattle.std.specs.Prelude.{◌≡◌, ◌++◌, IfOk, OnOk};
 ghost use Rattle.twe_report.specs.Texts.{text_rule, name_rule, effect_rule, rule_text, place_text, fault_name};
 ghost use Rattle.twe_report.specs.Texts as texts;
@@ -6,10 +6,10 @@ ghost use Rattle.twe_report.specs.Texts as texts;
 use effect_check::ERule;
 use itoa::Buffer;
 use name_check::NRule;
-use seg_journal::FaultKind;
 use std::alloc::Global;
 use twe_frontend::{Refusal, RuleName};
 use twe_io::{Bytes, Memory, Place};
+use twe_limits::FaultKind;
 use twe_parser::SRule;
 
 /// The usage line.
@@ -29,11 +29,37 @@ pub fn read_fault_text(alloc: Global) -> Result<Bytes, Memory>
     Bytes::from_slice(alloc, b"read fault\n")
 }
 
-/// The line for an input of more bytes than a text may have.
+/// The line for an input that has more bytes than a text may have.
 pub fn too_long_text(alloc: Global) -> Result<Bytes, Memory>
     ensures { IfOk result (λ text. text ≡ texts.too_long_text) }
 {
     Bytes::from_slice(alloc, b"input too long\n")
+}
+
+/// The line for a journal text in which line `n`, counted from 1, is the first that is neither a head on line 1 nor a move.
+pub fn not_a_move_text(alloc: Global, n: u64) -> Result<Bytes, Memory>
+    ensures { IfOk result (λ text. text ≡ texts.not_a_move_text n) }
+{
+    bad_line_text(alloc, n, b"a move")
+}
+
+/// The line for a journal text in which line `n`, counted from 1, has the first move that is not legal.
+pub fn not_legal_text(alloc: Global, n: u64) -> Result<Bytes, Memory>
+    ensures { IfOk result (λ text. text ≡ texts.not_legal_text n) }
+{
+    bad_line_text(alloc, n, b"legal")
+}
+
+/// The line for a journal text in which line `n` is not what it has to be.
+fn bad_line_text(alloc: Global, n: u64, what: &[u8]) -> Result<Bytes, Memory>
+    ensures { IfOk result (λ text. text ≡ texts.bad_line_text n what.now) }
+{
+    let mut text = Bytes::from_slice(alloc, b"journal: line ")?;
+    text.push_all(Buffer::new().format(n).as_bytes())?;
+    text.push_all(b" is not ")?;
+    text.push_all(what)?;
+    text.push(b'\n')?;
+    Ok(text)
 }
 
 /// The line for a text that is accepted.
@@ -140,7 +166,7 @@ fn name_of(rule: RuleName) -> &'static [u8]
     }
 }
 
-/// Writes a place, as `3:28`, after a text.
+/// Appends a place to a text, as `3:28`.
 fn push_place(text: &mut Bytes, place: Place) -> Result<(), Memory>
     ensures { OnOk result (text.new ≡ text.old ++ place_text place) }
 {

@@ -10,8 +10,8 @@ use twe_io::{Bytes, Memory};
 use twe_machine::State;
 use twe_program::{CellDecl, Dims, Prog};
 
-/// The result of a run: the printed numbers, the cells in the order of their declaration, and how many tasks were
-/// made.
+/// The result of a run: the printed numbers, the cells in the order of their declaration, and the number of tasks that
+/// were made.
 pub fn result_text(alloc: Global, p: &Prog, st: &State) -> Result<Bytes, Memory>
     ensures { IfOk result (λ text. text ≡ texts.result_text p.now st.now) }
 {
@@ -33,7 +33,7 @@ pub fn prints_text(alloc: Global, prints: &[i32]) -> Result<Bytes, Memory>
     Ok(text)
 }
 
-/// Each printed number, on a line of its own.
+/// Appends each printed number, on a line of its own.
 fn push_prints(text: &mut Bytes, prints: &[i32]) -> Result<(), Memory>
     ensures { OnOk result (text.new ≡ text.old ++ prints_text prints.now) }
 {
@@ -43,7 +43,7 @@ fn push_prints(text: &mut Bytes, prints: &[i32]) -> Result<(), Memory>
     Ok(())
 }
 
-/// A number, on a line of its own.
+/// Appends a number, on a line of its own.
 fn push_print(text: &mut Bytes, number: i32) -> Result<(), Memory>
     ensures { OnOk result (text.new ≡ text.old ++ printed_line number) }
 {
@@ -52,7 +52,7 @@ fn push_print(text: &mut Bytes, number: i32) -> Result<(), Memory>
     Ok(())
 }
 
-/// A line for each declaration of cells, as `x = 42`.
+/// Appends a line for each declaration of cells, as `x = 42`.
 fn push_cells(text: &mut Bytes, cells: &[CellDecl], values: &[i32]) -> Result<(), Memory>
     ensures { OnOk result (text.new ≡ text.old ++ flat_map (cell_line values.now) cells.now) }
 {
@@ -62,7 +62,7 @@ fn push_cells(text: &mut Bytes, cells: &[CellDecl], values: &[i32]) -> Result<()
     Ok(())
 }
 
-/// The line of a declaration of cells.
+/// Appends the line of a declaration of cells.
 fn push_cell(text: &mut Bytes, cell: &CellDecl, values: &[i32]) -> Result<(), Memory>
     ensures { OnOk result (text.new ≡ text.old ++ cell_line values.now cell.now) }
 {
@@ -72,7 +72,7 @@ fn push_cell(text: &mut Bytes, cell: &CellDecl, values: &[i32]) -> Result<(), Me
     text.push(b'\n')
 }
 
-/// The values of a declaration whose first cell has this number.
+/// Appends the values of a declaration whose first cell has this number.
 fn push_values(text: &mut Bytes, values: &[i32], cell: u64, dims: Dims) -> Result<(), Memory>
     requires { cell < 2 ^ 32 }
     ensures { OnOk result (text.new ≡ text.old ++ values_text values.now cell dims) }
@@ -86,7 +86,7 @@ fn push_values(text: &mut Bytes, values: &[i32], cell: u64, dims: Dims) -> Resul
     }
 }
 
-/// The value of the cell of this number, and nothing for a number that no cell has.
+/// Appends the value of the cell of this number, and nothing if no cell has the number.
 fn push_value(text: &mut Bytes, values: &[i32], cell: u64) -> Result<(), Memory>
     ensures { OnOk result (text.new ≡ text.old ++ value_text values.now cell) }
 {
@@ -96,7 +96,7 @@ fn push_value(text: &mut Bytes, values: &[i32], cell: u64) -> Result<(), Memory>
     Ok(())
 }
 
-/// So many values, from the cell of this number on, as `[1, 0, 0]`.
+/// Appends `count` values from the cell of this number on, as `[1, 0, 0]`.
 fn push_row(text: &mut Bytes, values: &[i32], cell: u64, count: u64) -> Result<(), Memory>
     requires { cell + count < 2 ^ 64 }
     ensures { OnOk result (text.new ≡ text.old ++ row_text values.now cell count) }
@@ -110,7 +110,7 @@ fn push_row(text: &mut Bytes, values: &[i32], cell: u64, count: u64) -> Result<(
     text.push(b']')
 }
 
-/// So many values, from the cell of this number on, each after `, `.
+/// Appends `count` values from the cell of this number on, each after `, `.
 fn push_more_values(text: &mut Bytes, values: &[i32], cell: u64, count: u64) -> Result<(), Memory>
     requires { cell + count < 2 ^ 64 }
     ensures { OnOk result (text.new ≡ text.old ++ more_values values.now cell count) }
@@ -122,7 +122,7 @@ fn push_more_values(text: &mut Bytes, values: &[i32], cell: u64, count: u64) -> 
     Ok(())
 }
 
-/// So many rows of so many values, from the cell of this number on, as `[[0, 0], [1, 10]]`.
+/// Appends `rows` rows of `columns` values from the cell of this number on, as `[[0, 0], [1, 10]]`.
 fn push_grid(
     text: &mut Bytes,
     values: &[i32],
@@ -144,7 +144,7 @@ fn push_grid(
     text.push(b']')
 }
 
-/// So many rows of so many values, from the cell of this number on, each after `, `.
+/// Appends `rows` rows of `columns` values from the cell of this number on, each row after `, `.
 fn push_more_rows(
     text: &mut Bytes,
     values: &[i32],

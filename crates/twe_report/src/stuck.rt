@@ -8,7 +8,7 @@ use std::alloc::Global;
 use twe_io::{Bytes, Memory};
 use wait_graph::{Cycle, Edge};
 
-/// The line of a run that is stuck, with the cycle of tasks that hold one another up, as
+/// The line of a stuck run, with the cycle of tasks that hold one another up, as
 /// `stuck: 1 waits 3, 3 held by 1`.
 pub fn stuck_text(alloc: Global, cycle: &Cycle) -> Result<Bytes, Memory>
     ensures { IfOk result (λ text. text ≡ texts.stuck_text cycle.now) }
@@ -19,7 +19,7 @@ pub fn stuck_text(alloc: Global, cycle: &Cycle) -> Result<Bytes, Memory>
     Ok(text)
 }
 
-/// Edges, with `, ` between them.
+/// Appends edges, with `, ` between them.
 fn push_edges(text: &mut Bytes, edges: &[Edge]) -> Result<(), Memory>
     ensures { OnOk result (text.new ≡ text.old ++ edges_text edges.now) }
 {
@@ -32,7 +32,7 @@ fn push_edges(text: &mut Bytes, edges: &[Edge]) -> Result<(), Memory>
     }
 }
 
-/// Edges, each after `, `.
+/// Appends edges, each after `, `.
 fn push_more_edges(text: &mut Bytes, edges: &[Edge]) -> Result<(), Memory>
     ensures { OnOk result (text.new ≡ text.old ++ more_edges edges.now) }
 {
@@ -43,7 +43,7 @@ fn push_more_edges(text: &mut Bytes, edges: &[Edge]) -> Result<(), Memory>
     Ok(())
 }
 
-/// An edge, as `1 waits 3` or `3 held by 1`.
+/// Appends an edge, as `1 waits 3` or `3 held by 1`.
 fn push_edge(text: &mut Bytes, edge: Edge) -> Result<(), Memory>
     ensures { OnOk result (text.new ≡ text.old ++ edge_text edge) }
 {
@@ -52,7 +52,7 @@ fn push_edge(text: &mut Bytes, edge: Edge) -> Result<(), Memory>
     text.push_all(Buffer::new().format(edge.to).as_bytes())
 }
 
-/// What stands between the two tasks of an edge.
+/// The words between the two tasks of an edge.
 fn word_of(held: bool) -> &'static [u8]
     ensures { result.now ≡ edge_word held }
 {

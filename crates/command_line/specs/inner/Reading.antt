@@ -10,21 +10,22 @@ use Rattle.command_line.specs.declared.options.Part.TheVariants.{Names, Gives, J
 use Rattle.command_line.specs.declared.options.Given.{Given}
 use Rattle.command_line.specs.declared.options.Sofar.{Sofar}
 use Rattle.command_line.specs.Options.{spelled, number_for}
+use Rattle.twe_limits.specs.Language.{default_fuel, default_tasks}
 
 abbrev pub nothing : Given
 nothing = record { workers = None; fuel = None; tasks = None; journal = false }
 
--- what is given with this number too, if the setting had none
+-- the given values and this number, if the setting had no number before
 abbrev pub with_number : Given → Setting → ℕ → Option Given
 with_number given Workers number = if is_some given.workers then None else Some (record given { workers = Some number })
 with_number given Fuel number = if is_some given.fuel then None else Some (record given { fuel = Some number })
 with_number given Tasks number = if is_some given.tasks then None else Some (record given { tasks = Some number })
 
--- what is given with the flag too, if it had not stood before
+-- the given values and the flag, if the flag was not given before
 abbrev pub with_flag : Given → Option Given
 with_flag given = if given.journal then None else Some (record given { journal = true })
 
--- what stands after a beginning, if a text has it
+-- the rest of a text after this beginning, if the text begins so
 abbrev pub after : List ℕ → List ℕ → Option (List ℕ)
 after front word = if bytes_eq (take (length front) word) front then Some (drop (length front) word) else None
 
@@ -36,36 +37,36 @@ rest_part setting (byte ∷ rest) = option_map (λ number. Gives setting number)
 abbrev pub setting_part : Setting → List ℕ → Option Part
 setting_part setting word = option_and_then (rest_part setting) (after (spelled setting) word)
 
--- what a word is, where a new option may begin
+-- the part that a word is, if an option may begin with it
 abbrev pub part_of : List ℕ → Option Part
 part_of word =
     if bytes_eq word (codes "--journal") then Some Journal
     else option_or (option_or (setting_part Workers word) (setting_part Fuel word)) (setting_part Tasks word)
 
--- an option is given, and the next word begins another
+-- an option is whole, and the next word begins another
 abbrev pub settled : Option Given → Option Sofar
 settled given = option_map (λ g. record { given = g; wanted = None }) given
 
--- what was read with one part more
+-- the state after one more part
 abbrev pub taken : Given → Part → Option Sofar
 taken given (Names setting) = Some (record { given = given; wanted = Some setting })
 taken given (Gives setting number) = settled (with_number given setting number)
 taken given Journal = settled (with_flag given)
 
--- what was read with one word more
+-- the state after one more word
 abbrev pub next : Given → Option Setting → List ℕ → Option Sofar
 next given (Some setting) word = option_and_then (λ number. taken given (Gives setting number)) (number_for setting word)
 next given None word = option_and_then (taken given) (part_of word)
 
--- what all of the words give
+-- the values that all the words give
 abbrev pub read : Given → Option Setting → List (List ℕ) → Option Given
 read given None [] = Some given
 read given (Some setting) [] = None
 read given wanted (word ∷ words) = option_and_then (λ (sofar : Sofar). read sofar.given sofar.wanted words) (next given wanted word)
 
--- the command `run` where this is given
+-- the command `run` with these values
 abbrev pub run_as : Given → Command
-run_as given = Run (record { fuel = unwrap_or given.fuel 1000000; tasks = unwrap_or given.tasks 10000 }) given.journal
+run_as given = Run (record { fuel = unwrap_or given.fuel default_fuel; tasks = unwrap_or given.tasks default_tasks }) given.journal
 
 abbrev pub run_with : Option Given → Option Command
 run_with given = option_map run_as given
