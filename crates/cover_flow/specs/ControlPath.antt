@@ -7,7 +7,7 @@ use Rattle.twe_program.specs.Statement.{Statement, Block, Let, Set, SetCell, Set
 abbrev pub Path : Type 0
 Path = List Statement
 
--- so many steps, one after the other
+-- any number of steps, one after the other
 abbrev pub Repeated : (Path → Path → Type 0) → ℕ → Path → Path → Type 0
 Repeated Step zero path later = later ≡ path
 Repeated Step (suc n) path later = (between : Path) × Step path between × Repeated Step n between later

@@ -1,14 +1,14 @@
--- The answers for a body: for each future and each point, whether the future may be out and whether it surely is.
+-- The dataflow facts of a body: for each future and each point, whether the future may be out and whether it surely is.
 use Rattle.std.specs.Prelude.{ℕ, ◌<◌, ◌↔◌, Bool, false, not, IsTrue, List, [], slice_get, unwrap_or}
 use Rattle.twe_program.specs.declared.program.Body.{Body}
 use Rattle.cover_flow.specs.declared.seen.Seen.{Seen}
 use Rattle.cover_flow.specs.Out.{MayBeOut, SurelyOut}
 
--- a list for each future, with what is seen of it at each point
+-- a list for each future, with its fact at each point
 abbrev pub Table : Type 0
 Table = List (List Seen)
 
--- what is seen of the future at the point, where the table has them
+-- the fact of the future at the point, if the table has them
 abbrev pub seen_at : Table → ℕ → ℕ → Seen
 seen_at table point f = unwrap_or (slice_get (unwrap_or (slice_get table f) []) point) (record { out = false; not_out = false })
 
@@ -20,7 +20,7 @@ may_at table point f = (seen_at table point f).out
 abbrev pub surely_at : Table → ℕ → ℕ → Bool
 surely_at table point f = not (seen_at table point f).not_out
 
--- the table answers for each point and each future of the body exactly as its control paths say
+-- for each point and each future of the body the table says exactly what its control paths do
 pub record IsFlowOf (table : Table) (body : Body) : Type 0 where
   pub may : (point f : ℕ) → point < body.points → f < body.futures → IsTrue (may_at table point f) ↔ MayBeOut body point f
   pub surely : (point f : ℕ) → point < body.points → f < body.futures → IsTrue (surely_at table point f) ↔ SurelyOut body point f

@@ -8,7 +8,7 @@ abbrev pub followed_by : Statements → Statements → Statements
 followed_by no_more more = more
 followed_by (statement first others) more = statement first (followed_by others more)
 
--- the statements are those of a branch, or none where there is no `else`
+-- the statements are those of a branch, or none if there is no `else`
 abbrev pub IsBranch : Arms → Statements → Type 0
 IsBranch (arm condition body others) taken = (taken ≡ body) ⊎ IsBranch others taken
 IsBranch (otherwise body) taken = taken ≡ body
@@ -29,13 +29,13 @@ abbrev pub Steps : Statements → Path → Statements → Path → Type 0
 Steps no_more path left later = ⊥
 Steps (statement first others) path left later = StepsOn first others path left later
 
--- so many steps
+-- any number of steps
 abbrev pub StepsFar : ℕ → Statements → Path → Statements → Path → Type 0
 StepsFar zero from path left later = (left ≡ from) × (later ≡ path)
 StepsFar (suc n) from path left later =
     (next : Statements) × (between : Path) × Steps from path next between × StepsFar n next between left later
 
--- the point where this is left to be carried out
+-- the point at which this is left to be carried out
 abbrev pub point_before : ℕ → Statements → ℕ
 point_before end no_more = end
 point_before end (statement first others) = point_of first

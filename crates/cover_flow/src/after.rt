@@ -1,11 +1,11 @@
-//! What control paths through statements make of what is seen of one future.
+//! The transfer functions of statements on the dataflow fact of one future.
 ghost use Rattle.std.specs.Prelude.{◌≡◌};
 ghost use Rattle.cover_flow.specs.inner.After.{after, after_all, after_one};
 
 use crate::seen::Seen;
 use twe_program::{Arms, Block, Stmt, StmtKind};
 
-/// What is seen of the future after the statement, on paths that go on to the next one.
+/// The fact after a statement, on paths that go on to the next one.
 #[cycle(after)]
 pub fn after_statement(stmt: &Stmt, future: u32, seen: Seen) -> Seen
     ensures { result ≡ after future stmt.now seen }
@@ -29,7 +29,7 @@ pub fn after_statement(stmt: &Stmt, future: u32, seen: Seen) -> Seen
     }
 }
 
-/// What is seen of it after the statements of a block.
+/// The fact after the statements of a block.
 #[cycle(after)]
 pub fn after_block(block: &Block, future: u32, seen: Seen) -> Seen
     ensures { result ≡ after_all future block.now seen }
@@ -41,7 +41,7 @@ pub fn after_block(block: &Block, future: u32, seen: Seen) -> Seen
     seen
 }
 
-/// What is seen of it after one of the branches, whichever it is.
+/// The fact after any one of the branches.
 #[cycle(after)]
 fn after_arms(arms: &Arms, future: u32, seen: Seen) -> Seen
     ensures { result ≡ after_one future arms.now seen }

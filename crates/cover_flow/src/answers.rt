@@ -1,4 +1,4 @@
-//! The answers for a body: which futures may be out at its points, and which surely are.
+//! The result of the analysis of a body: which futures may be out at its points, and which surely are.
 ghost use Rattle.std.specs.Prelude.{◌≡◌, IfOk};
 ghost use Rattle.cover_flow.specs.Flow.{IsFlowOf, may_at, seen_at, surely_at};
 ghost use Rattle.cover_flow.specs.inner.Marked.{filled_in, row_of};
@@ -11,7 +11,7 @@ use twe_io::{List, Memory};
 use twe_program::Body;
 
 /// For each future and each point of a body, whether the future is out on some control path to the point, and whether
-/// on every one. Contracts see the table of what is seen.
+/// on every one. Contracts see the table of dataflow facts.
 #[derive(Debug, Drop)]
 pub struct Points {
     rows: List<List<Seen>>,
@@ -26,23 +26,23 @@ impl Model for Points {
 }
 
 impl Points {
-    /// Whether on some control path to the point the last spawn or join of the future is a spawn. It is not where the
-    /// body has no such point or future.
+    /// Whether on some control path to the point the last spawn or join of the future is a spawn. It is false if the body
+    /// has no such point or future.
     pub fn may(&self, point: u32, future: u32) -> bool
         ensures { result ≡ may_at self.now point future }
     {
         self.seen(point, future).out
     }
 
-    /// Whether on every control path to the point the last spawn or join of the future is a spawn. That is so where no
-    /// path comes, and where the body has no such point or future.
+    /// Whether on every control path to the point the last spawn or join of the future is a spawn. It is true if no path
+    /// comes there, and if the body has no such point or future.
     pub fn surely(&self, point: u32, future: u32) -> bool
         ensures { result ≡ surely_at self.now point future }
     {
         !self.seen(point, future).not_out
     }
 
-    /// What is seen of the future at the point.
+    /// The dataflow fact of the future at the point.
     fn seen(&self, point: u32, future: u32) -> Seen
         ensures { result ≡ seen_at self.now point future }
     {
@@ -53,7 +53,7 @@ impl Points {
     }
 }
 
-/// Fills in what is seen of one future at each point of the body.
+/// Fills in the facts of one future at each point of the body.
 fn fill_in(row: &mut [Seen], body: &Body, future: u32)
     ensures { row.new ≡ filled_in row.old body.now future }
 {
@@ -63,7 +63,7 @@ fn fill_in(row: &mut [Seen], body: &Body, future: u32)
     note(row, end, last);
 }
 
-/// What is seen of one future at each point of the body.
+/// The facts of one future at each point of the body.
 fn row_for(alloc: Global, body: &Body, future: u32) -> Result<List<Seen>, Memory>
     ensures { IfOk result (λ row. row ≡ row_of body.now future) }
 {
@@ -72,8 +72,8 @@ fn row_for(alloc: Global, body: &Body, future: u32) -> Result<List<Seen>, Memory
     Ok(List::from(row))
 }
 
-/// The answers for the body, exactly as its control paths say. It goes through the body once for each future, and once
-/// more through a loop for each loop around it.
+/// The dataflow facts of the body, exactly as its control paths say. It goes through the body once for each future, and
+/// once more through a loop for each loop around it.
 pub fn flow(alloc: Global, body: &Body) -> Result<Points, Memory>
     ensures { IfOk result (λ points. IsFlowOf points body.now) }
 {

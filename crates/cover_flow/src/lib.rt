@@ -1,5 +1,5 @@
-//! Which futures may be out, and which surely are, at each point of a body: exactly as the control paths to the point
-//! say, which `specs/` defines. What the answers are used for, the rules on effects, is left to others.
+//! A dataflow analysis: which futures may be out, and which surely are, at each point of a body. It is exact for the
+//! control paths to the point, which `specs/` defines. The rules on effects, which use it, are left to others.
 #![tactic(auto)]
 
 mod after;

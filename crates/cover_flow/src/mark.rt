@@ -1,4 +1,4 @@
-//! What is seen of one future at each point within statements.
+//! The dataflow facts of one future at each point within statements.
 ghost use Rattle.std.specs.Prelude.{◌≡◌};
 ghost use Rattle.cover_flow.specs.inner.After.{after, after_all, after_one};
 ghost use Rattle.cover_flow.specs.inner.Marked.{marked, marked_all, marked_one, noted};
@@ -7,7 +7,7 @@ use crate::after::{after_block, after_statement};
 use crate::seen::Seen;
 use twe_program::{Arms, Block, Stmt, StmtKind};
 
-/// Which future is looked for, and where a return goes.
+/// The future that is followed, and the point to which a return goes.
 #[derive(Clone, Copy)]
 pub struct Walk {
     /// The number of the future.
@@ -16,7 +16,7 @@ pub struct Walk {
     pub end: u32,
 }
 
-/// Adds what is seen at a point, where the row has it.
+/// Joins a fact into that of a point, if the row has the point.
 pub fn note(row: &mut [Seen], point: u32, seen: Seen)
     ensures { row.new ≡ noted row.old point seen }
 {
@@ -26,7 +26,8 @@ pub fn note(row: &mut [Seen], point: u32, seen: Seen)
     }
 }
 
-/// Adds what is seen at each point within the statement, and by its returns at the end, and gives what is seen after it.
+/// Joins the facts at each point within a statement into the row, and those of its returns into the end. Returns the fact
+/// after the statement.
 #[cycle(mark)]
 pub fn mark_statement(row: &mut [Seen], stmt: &Stmt, walk: Walk, seen: Seen) -> Seen
     ensures after { result ≡ after walk.future stmt.now seen }
@@ -59,7 +60,7 @@ pub fn mark_statement(row: &mut [Seen], stmt: &Stmt, walk: Walk, seen: Seen) -> 
     }
 }
 
-/// The same for the statements of a block.
+/// Does the same for the statements of a block.
 #[cycle(mark)]
 pub fn mark_block(row: &mut [Seen], block: &Block, walk: Walk, seen: Seen) -> Seen
     ensures after { result ≡ after_all walk.future block.now seen }
@@ -72,7 +73,7 @@ pub fn mark_block(row: &mut [Seen], block: &Block, walk: Walk, seen: Seen) -> Se
     seen
 }
 
-/// The same for the branches.
+/// Does the same for the branches.
 #[cycle(mark)]
 fn mark_arms(row: &mut [Seen], arms: &Arms, walk: Walk, seen: Seen) -> Seen
     ensures after { result ≡ after_one walk.future arms.now seen }

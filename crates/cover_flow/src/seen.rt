@@ -1,9 +1,9 @@
-//! What the control paths to a point leave of one future.
+//! The dataflow fact of one future at a point.
 ghost use Rattle.std.specs.Prelude.{◌≡◌};
 ghost use Rattle.cover_flow.specs.inner.After.{at_start, joined, nowhere, put_out, taken_in};
 
-/// Whether on some control path to a point a future is out, and whether on some it is not. Where no path comes, neither
-/// is so.
+/// The dataflow fact of a future at a point: whether on some control path to the point it is out, and whether on some it
+/// is not. If no path comes there, both are false.
 #[derive(Clone, Copy, Debug)]
 pub struct Seen {
     /// On some path it is out.
@@ -13,7 +13,7 @@ pub struct Seen {
 }
 
 impl Seen {
-    /// At the start of a body, where nothing was spawned yet.
+    /// The fact at the start of a body, when nothing is spawned yet.
     pub fn at_start() -> Seen
         ensures { result ≡ at_start }
     {
@@ -23,7 +23,7 @@ impl Seen {
         }
     }
 
-    /// Where no path comes.
+    /// The fact if no path comes.
     pub fn nowhere() -> Seen
         ensures { result ≡ nowhere }
     {
@@ -33,7 +33,7 @@ impl Seen {
         }
     }
 
-    /// On the paths of both.
+    /// The join of two facts: on the paths of both.
     pub fn joined(self, other: Seen) -> Seen
         ensures { result ≡ joined self other }
     {
@@ -43,7 +43,7 @@ impl Seen {
         }
     }
 
-    /// After a spawn into the future.
+    /// The fact after a spawn into the future.
     pub fn put_out(self) -> Seen
         ensures { result ≡ put_out self }
     {
@@ -53,7 +53,7 @@ impl Seen {
         }
     }
 
-    /// After a join of the future.
+    /// The fact after a join of the future.
     pub fn taken_in(self) -> Seen
         ensures { result ≡ taken_in self }
     {

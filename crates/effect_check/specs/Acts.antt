@@ -1,5 +1,5 @@
 -- What a body does at its points: it reads and writes cells and prints, calls methods, makes tasks and waits for them.
--- The effects of a method or a task are those of its summary, filled with the arguments as they stand.
+-- The effects of a method or a task are those of its summary, filled with the arguments as the rules see them.
 use Rattle.std.specs.Prelude.{ℕ, Bool, true, false, List, [], ◌∷◌, ◌++◌, Option, None, Some, slice_get}
 use Rattle.twe_io.specs.declared.place.Place.{Place}
 use Rattle.region_paths.specs.declared.elements.Elem.{Elem}

@@ -1,4 +1,4 @@
--- The rules on effects: where a program fails them, and which failure is the first.
+-- The rules on effects: when a program fails them, and which failure comes first.
 use Rattle.std.specs.Prelude.{◌≡◌, ◌⊎◌, ◌<◌, ◌≤◌, ℕ, Bool, true, false, IsTrue, Contains}
 use Rattle.twe_io.specs.declared.place.Place.{Place}
 use Rattle.first_failure.specs.declared.failure.Failure.{Failure}
@@ -76,11 +76,11 @@ number_of E8 = 8
 abbrev pub EffectFailure : Type 0
 EffectFailure = Failure ERule
 
--- the failure comes before all others
+-- the failure that comes before all others
 abbrev pub IsFirstFailure : Program → ERule → Place → Type 0
 IsFirstFailure p rule place = order.IsFirstFailure number_of (FailsEffect p) rule place
 
--- the cause of an answer other than Ok: the first failure; that memory ran out has none
+-- the cause of an error: the first failure; nothing is said of want of memory
 abbrev pub HasCause : Program → CheckFail → Type 0
 HasCause p (Rule rule place) = IsFirstFailure p rule place
 HasCause p (OutOfMemory memory) = Unit {0}

@@ -1,4 +1,4 @@
--- How an index, an argument and a cell stand in the rules.
+-- An index, an argument and a cell as the rules see them.
 use Rattle.std.specs.Prelude.{ℕ, true, false, List, [], ◌∷◌, ◌++◌, Option, None, Some, slice_get}
 use Rattle.region_paths.specs.declared.elements.Elem.{Elem}
 use Rattle.region_paths.specs.declared.elements.Elem.TheVariants.{Name, Index, Var, AnyIndex}
@@ -7,7 +7,7 @@ use Rattle.twe_program.specs.declared.program.CellDecl.{CellDecl}
 use Rattle.twe_program.specs.Program.{Program}
 use Rattle.twe_program.specs.Expression.{Expression, Literal, Variable, Arguments, no_more, argument}
 
--- a literal, a parameter and a `final int` local stand as themselves, and everything else as any index
+-- a literal, a parameter and a `final int` local are themselves, and everything else is any index
 abbrev pub element_of : Expression → Elem
 element_of (Literal value) = Index value
 element_of (Variable var true) = Var var

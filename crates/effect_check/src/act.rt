@@ -15,7 +15,7 @@ pub struct Act {
     pub kind: ActKind,
 }
 
-/// What is done. The effects are those of a summary, filled with the arguments.
+/// What is done. Its effects are those of a summary, filled with the arguments.
 #[derive(Debug, Drop)]
 pub enum ActKind {
     /// A read or a write of cells, or a print.
@@ -25,14 +25,14 @@ pub enum ActKind {
         /// The place of the cell's name, or of the word `print`.
         place: Place,
     },
-    /// The call of a method.
+    /// A call of a method.
     Call {
         /// The effects of the method.
         effects: Summary,
         /// The place of its name.
         place: Place,
     },
-    /// The making of a task.
+    /// A statement that makes a task.
     Make {
         /// The number of the future that stands for it.
         future: u32,
@@ -47,7 +47,7 @@ pub enum ActKind {
         /// The place of the task's name.
         place: Place,
     },
-    /// The waiting for a task.
+    /// A statement that waits for a task.
     Wait {
         /// The number of the future that stands for it.
         future: u32,

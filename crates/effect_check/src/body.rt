@@ -36,7 +36,7 @@ fn add_value(
     }
 }
 
-/// What is made: the future and the task, how, and their places.
+/// A task that is made: its future, whether it is spawned, and the places of the names.
 #[derive(Clone, Copy)]
 struct Making {
     future: u32,
@@ -46,7 +46,7 @@ struct Making {
     place: Place,
 }
 
-/// Adds the making of a task.
+/// Adds a statement that makes a task.
 fn add_make(
     acts: &mut Acts,
     alloc: Global,
@@ -70,7 +70,7 @@ fn add_make(
     acts.push(Act { point, kind })
 }
 
-/// Adds the waiting for a task.
+/// Adds a statement that waits for a task.
 fn add_wait(
     acts: &mut Acts,
     point: u32,
@@ -198,7 +198,7 @@ fn add_stmt(stmt: &Stmt, acts: &mut Acts, alloc: Global, p: &Prog) -> Result<(),
     }
 }
 
-/// The same for the statements of a block.
+/// Adds what the statements of a block do.
 #[cycle(body)]
 fn add_block(block: &Block, acts: &mut Acts, alloc: Global, p: &Prog) -> Result<(), Memory>
     ensures { OnOk result (acts.new ≡ acts.old ++ acts_in_all p.now block.now) }
@@ -209,7 +209,7 @@ fn add_block(block: &Block, acts: &mut Acts, alloc: Global, p: &Prog) -> Result<
     Ok(())
 }
 
-/// The same for the arms of an `if`, whose conditions are evaluated at its point.
+/// Adds what the arms of an `if` do, whose conditions are evaluated at its point.
 #[cycle(body)]
 fn add_arms(arms: &Arms, acts: &mut Acts, alloc: Global, p: &Prog, point: u32) -> Result<(), Memory>
     ensures { OnOk result (acts.new ≡ acts.old ++ acts_in_one p.now point arms.now) }

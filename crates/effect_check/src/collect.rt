@@ -10,8 +10,8 @@ use std::alloc::Global;
 use twe_io::{Memory, Place};
 use twe_program::{Args, Decl, Expr, ExprKind, Prog};
 
-/// How an index or an argument stands in the rules: a literal, a parameter and a `final int` local as itself, and
-/// everything else as any index.
+/// An index or an argument as the rules see it: a literal, a parameter and a `final int` local as itself, and everything
+/// else as any index.
 pub fn element(expr: &Expr) -> Elem
     ensures { result ≡ element_of expr.now }
 {
@@ -22,7 +22,7 @@ pub fn element(expr: &Expr) -> Elem
     }
 }
 
-/// How the arguments stand in the rules.
+/// The arguments as the rules see them.
 fn elements(alloc: Global, args: &Args) -> Result<Elems, Memory>
     ensures { IfOk result (λ elems. elems ≡ elements_of args.now) }
 {
@@ -77,7 +77,7 @@ pub fn deterministic(decls: &[Decl], number: u32) -> bool
     }
 }
 
-/// Adds the call of a method.
+/// Adds a call of a method.
 pub fn add_call(
     acts: &mut Acts,
     alloc: Global,
@@ -148,7 +148,7 @@ pub fn add_expr(
     }
 }
 
-/// The same for each of the arguments.
+/// Adds what is done at the point to evaluate the arguments.
 #[cycle(expr)]
 pub fn add_args(
     args: &Args,

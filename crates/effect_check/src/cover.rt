@@ -9,7 +9,7 @@ use crate::futures::{Futures, Spawn};
 use cover_flow::Points;
 use effect_sets::{Effect, Summary, covers, interferes};
 
-/// Whether the effects interfere as they are written.
+/// Whether the effects interfere, as they are written.
 fn may_interfere(effect: &Effect, other: &Effect) -> bool
     ensures { result ≡ statically_interferes effect.now other.now }
 {

@@ -1,4 +1,4 @@
-//! The futures of a body: where each may be out, and which effects the spawned tasks have.
+//! The futures of a body: the points at which each may be out, and the effects of the spawned tasks.
 ghost use Rattle.std.specs.Prelude.{◌≡◌, ◌++◌, IfOk, OnOk};
 ghost use Rattle.effect_check.specs.inner.Failures.{spawn_of, spawns_among};
 
@@ -17,16 +17,16 @@ pub struct Spawn {
     pub effects: Summary,
 }
 
-/// What the rules ask of the futures of a body.
+/// What the rules need to know of the futures of a body.
 #[derive(Debug, Drop)]
 pub struct Futures {
-    /// Where each may be out, and where each surely is.
+    /// The points at which each may be out, and at which each surely is.
     pub points: Points,
     /// The spawns of the body.
     pub spawns: List<Spawn>,
 }
 
-/// Adds the spawn that this is, if it is one.
+/// Adds the act if it is a spawn.
 fn add_spawn(alloc: Global, spawns: &mut List<Spawn>, kind: &ActKind) -> Result<(), Memory>
     ensures { OnOk result (spawns.new ≡ spawns.old ++ spawn_of kind.now) }
 {

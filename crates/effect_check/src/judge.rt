@@ -1,4 +1,4 @@
-//! Which rules a body fails by what it does, and which failure comes first.
+//! Reports the rules that a body fails by what it does, and keeps the first failure.
 ghost use Rattle.std.specs.Prelude.{◌≡◌, OnOk};
 ghost use Rattle.effect_check.specs.inner.Failures.{JudgesMethod, JudgesTask, first_from, method_failures_at, task_failures, task_failures_at};
 

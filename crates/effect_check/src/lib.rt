@@ -1,7 +1,7 @@
-//! Whether a program keeps the rules on effects, and which failure of them comes first in its text.
+//! Whether a program keeps the rules on effects, and otherwise which failure comes first in its text.
 //!
-//! `specs/` says where each rule fails. Which futures may be out at a point is told by `cover_flow`, and when effects
-//! cover or interfere by `effect_sets`. The rules on names and on the text are left to the crates that read it.
+//! `specs/` says when each rule fails. `cover_flow` computes which futures may be out at a point, and `effect_sets` whether
+//! effects cover one another or interfere. The rules on names and on the text are left to the crates that read it.
 #![tactic(auto)]
 
 mod act;

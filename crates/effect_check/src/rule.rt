@@ -1,4 +1,4 @@
-//! The rules on effects, and the answer of the check where one of them fails.
+//! The rules on effects, and the error of the check.
 
 use first_failure::Rule;
 use std::error::Error;

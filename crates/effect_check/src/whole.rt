@@ -34,8 +34,8 @@ fn first_failure(alloc: Global, p: &Prog) -> Result<Option<Failure<ERule>>, Memo
     Ok(first)
 }
 
-/// Checks that the program keeps the rules on effects. It is Ok exactly where no rule fails, and otherwise, memory
-/// permitting, names the failure that comes first in the text, and at one place the one with the lowest number.
+/// Checks that the program keeps the rules on effects. It is Ok exactly if no rule fails. Otherwise, if memory suffices, it
+/// returns the failure that comes first in the text, and at one place the one with the lowest number.
 pub fn check(alloc: Global, p: &Prog) -> Result<(), CheckFail>
     ensures accepted { OnOk result ((rule : Named) (place : Place) → ¬ FailsEffect p.now rule place) }
     ensures refused { IfErr result (HasCause p.now) }

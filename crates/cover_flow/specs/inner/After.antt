@@ -1,4 +1,4 @@
--- What is seen of one future after a statement, by what is seen before it.
+-- The transfer functions: the dataflow fact of one future after a statement, from that before it.
 use Rattle.std.specs.Prelude.{ℕ, true, false, ◌||◌, if◌then◌else◌}
 use Rattle.twe_program.specs.Statement.{Statement, Block, If, While, Return, Statements, no_more, statement, Arms, arm, otherwise, no_else}
 use Rattle.cover_flow.specs.declared.seen.Seen.{Seen}

@@ -1,4 +1,4 @@
--- What is seen of one future at each point, kept as a list by the numbers of the points.
+-- The facts of one future at each point, as a list by the numbers of the points.
 use Rattle.std.specs.Prelude.{ℕ, List, slice_index_or, slice_set, replicate}
 use Rattle.twe_program.specs.declared.program.Body.{Body}
 use Rattle.twe_program.specs.Statement.{Statement, Block, If, While, Return, Statements, no_more, statement, Arms, arm, otherwise, no_else}
@@ -6,11 +6,11 @@ use Rattle.cover_flow.specs.declared.seen.Seen.{Seen}
 use Rattle.cover_flow.specs.ControlPath.{point_of, end_of}
 use Rattle.cover_flow.specs.inner.After.{nowhere, at_start, joined, after, after_all}
 
--- what is seen is added at the point
+-- the fact is joined into that of the point
 abbrev pub noted : List Seen → ℕ → Seen → List Seen
 noted row point seen = slice_set row point (joined (slice_index_or row point nowhere) seen)
 
--- what paths that come to the statement with `seen` add at the points within it, and by returns at the end
+-- what paths that come to the statement with the fact `seen` add at the points within it, and by returns at the end
 abbrev mutual
   pub marked : ℕ → ℕ → Statement → Seen → List Seen → List Seen
   marked f end (Block point body) seen row = marked_all f end body seen (noted row point seen)
@@ -29,10 +29,10 @@ abbrev mutual
   marked_one f end (otherwise body) seen row = marked_all f end body seen row
   marked_one f end no_else seen row = row
 
--- the row with what is seen of the future at each point of a body
+-- the row with the fact of the future at each point of a body
 abbrev pub filled_in : List Seen → Body → ℕ → List Seen
 filled_in row body f = noted (marked_all f (end_of body) body.block at_start row) (end_of body) (after_all f body.block at_start)
 
--- what is seen of the future at each point of a body
+-- the facts of the future at each point of a body
 abbrev pub row_of : Body → ℕ → List Seen
 row_of body f = filled_in (replicate body.points nowhere) body f

@@ -21,7 +21,7 @@ use Rattle.effect_check.specs.declared.futures.Futures.{Futures}
 use Rattle.effect_check.specs.Acts.{acts_in_all}
 use Rattle.effect_check.specs.FailsEffect.{EffectFailure, number_of}
 
--- the spawn that an act is, if it is one
+-- the act as a spawn, if it is one
 abbrev pub spawn_of : ActKind → List Spawn
 spawn_of (Make future true deterministic effects future_place place) = record { future = future; effects = effects } ∷ []
 spawn_of _ = []
@@ -73,13 +73,13 @@ method_failures method (act ∷ acts) = method_failures_at method act.kind ++ me
 abbrev pub first_from : Option EffectFailure → List EffectFailure → Option EffectFailure
 first_from first others = failures.first_from number_of first others
 
--- what the failures of a task make of the first so far
+-- the first failure after those of a task are reported
 pub record JudgesTask (p : Program) (task : Decl) (first later : Option EffectFailure) : Type 0 where
   pub futures : Futures
   pub flow : IsFlowOf futures.points task.body
   pub spawns : futures.spawns ≡ spawns_among (acts_in_all p task.body.block)
   pub judged : later ≡ first_from first (task_failures task futures (acts_in_all p task.body.block))
 
--- what those of a method make of it
+-- the first failure after those of a method are reported
 abbrev pub JudgesMethod : Program → Decl → Option EffectFailure → Option EffectFailure → Type 0
 JudgesMethod p method first later = later ≡ first_from first (method_failures method (acts_in_all p method.body.block))
