@@ -1,7 +1,7 @@
 -- How the laws of this crate are proved. The folders are in the order in which to read them: each uses only those above
 -- it, and in each folder a file uses only files that stand above it.
 --
--- The invariant of a run is `Kept` (journals/Known). Read specs/ and journals/Known first, and then frames/Frames, which
+-- The invariant of a run is `Kept` (journals/Invariant). Read specs/ and journals/Invariant first, and then frames/Frames, which
 -- has the part of the invariant that connects a running task to the rules on effects.
 --
 -- From other crates these proofs take mostly the lemmas of public laws: those of wait_graph, effect_sets and

@@ -1,7 +1,7 @@
 -- A frame on a control path, with its children out; and what a segment leaves of it.
 pub mod Frames
-pub mod Afterwards
+pub mod AfterSegment
 -- After a wait, after a make, and when nothing is left of the body.
-pub mod Waited
-pub mod Made
-pub mod Nothing
+pub mod AfterWait
+pub mod AfterMake
+pub mod EndedBody

@@ -1,13 +1,13 @@
 -- The invariant.
-pub mod Known
+pub mod Invariant
 -- A segment that makes no task keeps it.
-pub mod Homes
-pub mod Ends
+pub mod PutBackKeeps
+pub mod EndsKeep
 -- A segment that makes a task keeps it.
-pub mod Makers
-pub mod MakersPaths
-pub mod MakersKept
+pub mod MakersRow
+pub mod MakeKeepsPaths
+pub mod MakeKeeps
 -- So do all segments, and admissions. The induction over the journal.
-pub mod Segments
-pub mod Admissions
+pub mod SegmentKeeps
+pub mod AdmissionKeeps
 pub mod Journals

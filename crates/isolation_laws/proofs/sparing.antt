@@ -5,4 +5,4 @@ pub mod Statements
 -- What remains of a body after a task operation, and so a whole segment.
 pub mod Remainders
 -- What remains of the body of a task that may run is fine for each child that is out.
-pub mod Sheltered
+pub mod ChildrenOut

@@ -17,8 +17,8 @@ use Rattle.seg_exec.specs.Entry.{effects_of}
 use Rattle.effect_check.specs.Acts.{filled_summary}
 use Rattle.effect_check.proofs.Members.{IsIn}
 use Rattle.soundness_laws.proofs.Declared.{in-map, map-in}
-use Rattle.isolation_laws.proofs.effects.Loose.{loose, apart-loose}
-use Rattle.isolation_laws.proofs.effects.Interfering.{interferes_both, some-meet}
+use Rattle.isolation_laws.proofs.effects.LoosenedPaths.{loose, apart-loose}
+use Rattle.isolation_laws.proofs.effects.Interference.{interferes_both, some-meet}
 
 -- a literal stands for its own number; a variable or any index may stand for each number
 abbrev pub StandsAs : Elem → ℤ → Type 0

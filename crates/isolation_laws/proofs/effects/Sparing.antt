@@ -20,8 +20,8 @@ use Rattle.effect_check.specs.Acts.{filled_summary}
 use Rattle.effect_check.proofs.Members.{IsIn}
 use Rattle.soundness_laws.proofs.Declared.{in-map, map-in}
 use Rattle.isolation_laws.proofs.effects.Instances.{AllStandAs, loose_stands}
-use Rattle.isolation_laws.proofs.effects.Interfering.{any-in, in-any, interferes_more}
-use Rattle.isolation_laws.proofs.effects.Loose.{apart-loose, loose}
+use Rattle.isolation_laws.proofs.effects.Interference.{any-in, in-any, interferes_more}
+use Rattle.isolation_laws.proofs.effects.LoosenedPaths.{apart-loose, loose}
 
 -- the access interferes with none of the effects
 abbrev pub Spares : List Effect → Access → Type 0

@@ -23,7 +23,7 @@ use Rattle.segment_laws.specs.Ready.{IsDeclaredAs, futures_at}
 use Rattle.twe_machine.specs.declared.state.State.{State}
 use Rattle.twe_machine.specs.declared.state.TaskRow.{TaskRow}
 use Rattle.twe_machine.specs.Rows.{IsRow}
-use Rattle.isolation_laws.proofs.paths.Outs.{Reached}
+use Rattle.isolation_laws.proofs.paths.FuturesOut.{Reached}
 
 -- the children that are still out once the awaited value is taken
 abbrev pub still_out : Next → List ℕ → List ℕ

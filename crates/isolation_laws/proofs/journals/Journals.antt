@@ -25,13 +25,13 @@ use Rattle.twe_machine.proofs.ReachedStands.{reached_stands, start_stands, taken
 use Rattle.twe_machine.proofs.Standing.{Stands}
 use Rattle.isolation_laws.specs.Rows.{ChildrenApart}
 use Rattle.isolation_laws.specs.Within.{AlwaysWithin, SpawnedWithin}
-use Rattle.isolation_laws.proofs.journals.Admissions.{admission_kept}
+use Rattle.isolation_laws.proofs.journals.AdmissionKeeps.{admission_kept}
 use Rattle.isolation_laws.proofs.frames.Frames.{OnPath}
-use Rattle.isolation_laws.proofs.rows.Gets.{one_there}
-use Rattle.isolation_laws.proofs.journals.Known.{Kept}
-use Rattle.isolation_laws.proofs.rows.Linking.{spawned_row}
-use Rattle.isolation_laws.proofs.journals.MakersPaths.{on_path_entry}
-use Rattle.isolation_laws.proofs.journals.Segments.{segment_kept}
+use Rattle.isolation_laws.proofs.rows.ListElements.{one_there}
+use Rattle.isolation_laws.proofs.journals.Invariant.{Kept}
+use Rattle.isolation_laws.proofs.rows.LinksOfRows.{spawned_row}
+use Rattle.isolation_laws.proofs.journals.MakeKeepsPaths.{on_path_entry}
+use Rattle.isolation_laws.proofs.journals.SegmentKeeps.{segment_kept}
 
 -- each beginning of a legal journal is legal
 legal_take : (p : Program) (lim : Bounds) (journal : List Entry) (n : ℕ) (st : State) → LegalFrom p lim st journal → LegalFrom p lim st (take n journal)

@@ -6,9 +6,9 @@ use Rattle.twe_machine.specs.declared.state.State.{State}
 use Rattle.twe_machine.specs.declared.state.TaskRow.{TaskRow}
 use Rattle.twe_machine.specs.Rows.{IsRow, LinksAgree}
 use Rattle.isolation_laws.specs.Within.{EffectsWithin, SpawnedWithin}
-use Rattle.isolation_laws.proofs.rows.Gets.{one_there}
-use Rattle.isolation_laws.proofs.effects.Interfering.{within_itself, within_more}
-use Rattle.isolation_laws.proofs.rows.Linking.{spawned_row}
+use Rattle.isolation_laws.proofs.rows.ListElements.{one_there}
+use Rattle.isolation_laws.proofs.effects.Interference.{within_itself, within_more}
+use Rattle.isolation_laws.proofs.rows.LinksOfRows.{spawned_row}
 
 last_of : {Step : ℕ → ℕ → Type 0} {y b : ℕ} → Chain Step y b → (x : ℕ) → Step x y → (d : ℕ) × Chain Step x d × Step d b
 last_of none x first = (x, none, first)

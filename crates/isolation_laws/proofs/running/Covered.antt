@@ -40,11 +40,11 @@ use Rattle.isolation_laws.specs.CoveredNow.{WillJoin, child_to_join}
 use Rattle.isolation_laws.specs.Rows.{RowsKeepToDeclarations}
 use Rattle.isolation_laws.proofs.frames.Frames.{given_none, still_out}
 use Rattle.isolation_laws.proofs.journals.Journals.{beginning_reached, reached_kept}
-use Rattle.isolation_laws.proofs.journals.Known.{Kept, taker}
-use Rattle.isolation_laws.proofs.rows.Linking.{link_there, spawned_row}
-use Rattle.isolation_laws.proofs.paths.Outs.{Reached}
+use Rattle.isolation_laws.proofs.journals.Invariant.{Kept, taker}
+use Rattle.isolation_laws.proofs.rows.LinksOfRows.{link_there, spawned_row}
+use Rattle.isolation_laws.proofs.paths.FuturesOut.{Reached}
 use Rattle.isolation_laws.proofs.sparing.Remainders.{segment_spares}
-use Rattle.isolation_laws.proofs.sparing.Sheltered.{left_fine}
+use Rattle.isolation_laws.proofs.sparing.ChildrenOut.{left_fine}
 use Rattle.isolation_laws.proofs.effects.Sparing.{Spares}
 use Rattle.isolation_laws.proofs.sparing.Statements.{IsFine}
 

@@ -26,10 +26,10 @@ use Rattle.twe_machine.proofs.Standing.{Stands}
 use Rattle.isolation_laws.specs.Conflicts.{Makes, MoversApart}
 use Rattle.isolation_laws.proofs.running.Covered.{declared, spared}
 use Rattle.isolation_laws.proofs.rows.Descents.{last_step, within_along}
-use Rattle.isolation_laws.proofs.effects.Interfering.{any-in, in-any}
+use Rattle.isolation_laws.proofs.effects.Interference.{any-in, in-any}
 use Rattle.isolation_laws.proofs.journals.Journals.{reached_kept}
-use Rattle.isolation_laws.proofs.journals.Known.{Kept, done_childless}
-use Rattle.isolation_laws.proofs.rows.Linking.{enabled_undone, spawned_row}
+use Rattle.isolation_laws.proofs.journals.Invariant.{Kept, done_childless}
+use Rattle.isolation_laws.proofs.rows.LinksOfRows.{enabled_undone, spawned_row}
 
 -- conflicts are mutual
 or_back : (a b : Bool) → (a || b) ≡ true → (b || a) ≡ true

@@ -27,7 +27,7 @@ use Rattle.soundness_laws.proofs.Declared.{in-map, map-in, values_now, within_it
 use Rattle.soundness_laws.proofs.Expressions.{AnyValue, BelowKeeps, DeclaredIn, Each, FlowKeeps, Kept}
 use Rattle.soundness_laws.proofs.Sound.{Fine, method_sound}
 use Rattle.isolation_laws.proofs.effects.ExactEffects.{exact, exact_covers, exact_only}
-use Rattle.isolation_laws.proofs.effects.Interfering.{any-in, in-any}
+use Rattle.isolation_laws.proofs.effects.Interference.{any-in, in-any}
 use Rattle.isolation_laws.proofs.effects.Sparing.{EffectSpares, Spares, spares_less}
 
 -- what holds for each member holds for all

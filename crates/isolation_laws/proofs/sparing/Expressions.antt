@@ -30,7 +30,7 @@ use Rattle.soundness_laws.proofs.CellPaths.{AtSome, cell_touched, element_touche
 use Rattle.soundness_laws.proofs.Declared.{values_now}
 use Rattle.soundness_laws.proofs.Expressions.{AnyValue, BelowKeeps, StandFor, StandsFor}
 use Rattle.isolation_laws.proofs.sparing.Calls.{EachSpares, GivenSpares, called_spares, give_spares}
-use Rattle.isolation_laws.proofs.paths.Fine.{ActSpares, AllSpare}
+use Rattle.isolation_laws.proofs.paths.FineRests.{ActSpares, AllSpare}
 use Rattle.isolation_laws.proofs.effects.Sparing.{EffectSpares, Spares}
 
 pub spare_front : (es : List Effect) (xs ys : List Act) → AllSpare es (xs ++ ys) → AllSpare es xs

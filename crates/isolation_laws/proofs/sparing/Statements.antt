@@ -29,7 +29,7 @@ use Rattle.segment_laws.proofs.Leading.{BelowLeads, FlowLeads, left_after, state
 use Rattle.segment_laws.proofs.Quiet.{leads_silently}
 use Rattle.isolation_laws.proofs.sparing.Calls.{EachSpares, GivenSpares, called_spares, unit_spares}
 use Rattle.isolation_laws.proofs.sparing.Expressions.{path_spares, spare_back, spare_front, value_spares, values_spare}
-use Rattle.isolation_laws.proofs.paths.Fine.{AllSpare, Fine, fine_later, fine_own}
+use Rattle.isolation_laws.proofs.paths.FineRests.{AllSpare, Fine, fine_later, fine_own}
 use Rattle.isolation_laws.proofs.paths.OwnActs.{condition_acts}
 use Rattle.isolation_laws.proofs.effects.Sparing.{EffectSpares}
 

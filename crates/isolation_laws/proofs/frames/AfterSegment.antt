@@ -19,7 +19,7 @@ use Rattle.segment_laws.proofs.SegmentKept.{segment_keeps}
 use Rattle.twe_machine.specs.declared.state.State.{State}
 use Rattle.soundness_laws.proofs.Given.{given_decl}
 use Rattle.isolation_laws.proofs.frames.Frames.{ChildOut, OnPath, given_futures, given_out, still_out}
-use Rattle.isolation_laws.proofs.paths.Outs.{Reached, out-quiet, reached_more}
+use Rattle.isolation_laws.proofs.paths.FuturesOut.{Reached, out-quiet, reached_more}
 
 -- the children without one of them are among the children
 in_without_by : (same : Bool) (u on first : ℕ) (others : List ℕ) → (IsIn u (without on others) → IsIn u others)

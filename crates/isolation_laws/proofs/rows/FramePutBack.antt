@@ -14,9 +14,9 @@ use Rattle.twe_machine.specs.declared.state.TaskStatus.TheVariants.{Done, Enable
 use Rattle.twe_machine.specs.Legal.{Isolated}
 use Rattle.twe_machine.specs.Moves.{state_after_storing, state_after_join}
 use Rattle.twe_machine.specs.Rows.{HasStatus, IsRow, LinksAgree, awaited}
-use Rattle.isolation_laws.proofs.rows.Continuing.{Became, Continues, EnabledBefore, isolated_later}
-use Rattle.isolation_laws.proofs.rows.Gets.{get_set}
-use Rattle.isolation_laws.proofs.rows.Joining.{DoneAreChildless, Untouched, untouches_joined, nobody_joined, yields_joined}
+use Rattle.isolation_laws.proofs.rows.RowsLater.{Became, Continues, EnabledBefore, isolated_later}
+use Rattle.isolation_laws.proofs.rows.ListElements.{get_set}
+use Rattle.isolation_laws.proofs.rows.JoinedChild.{DoneAreChildless, Untouched, untouches_joined, nobody_joined, yields_joined}
 
 -- a task that waits for nobody still does when its wait is taken away
 nobody_without : (links : List Link) (t : ℕ) → WaitsForNobody links t → WaitsForNobody (with_wait links t None) t

@@ -27,18 +27,18 @@ use Rattle.twe_machine.specs.Moves.{going_row, state_after_join, new_row, out_wi
 use Rattle.twe_machine.specs.Rows.{HasStatus, IsRow, LinksAgree, awaited, link_of_row}
 use Rattle.twe_machine.proofs.Standing.{Stands}
 use Rattle.isolation_laws.specs.Within.{EffectsWithin, SpawnedWithin}
-use Rattle.isolation_laws.proofs.rows.Adding.{ParentsAreThere, agree_before, before_length, isolated_made, siblings_made, with_row, within_made}
-use Rattle.isolation_laws.proofs.frames.Afterwards.{after, after_out}
-use Rattle.isolation_laws.proofs.rows.Continuing.{Continues, SiblingsApart, siblings_later, within_later}
-use Rattle.isolation_laws.proofs.journals.Ends.{going_became}
-use Rattle.isolation_laws.proofs.rows.Gets.{get_before_added, get_set_within}
-use Rattle.isolation_laws.proofs.rows.Going.{continues_home, isolated_home, nobody_home}
-use Rattle.isolation_laws.proofs.rows.Joining.{DoneAreChildless}
-use Rattle.isolation_laws.proofs.journals.Known.{Kept, parents_there}
-use Rattle.isolation_laws.proofs.frames.Made.{apart_from}
-use Rattle.isolation_laws.proofs.journals.Makers.{StopsAtMake, goes_on, length_home, length_joined, maker, mid, runs_made}
-use Rattle.isolation_laws.proofs.journals.MakersPaths.{declared_there, own_path, paths_made}
-use Rattle.isolation_laws.proofs.rows.Spawning.{isolated_spawned, siblings_spawned, within_spawned}
+use Rattle.isolation_laws.proofs.rows.AddedTask.{ParentsAreThere, agree_before, before_length, isolated_made, siblings_made, with_row, within_made}
+use Rattle.isolation_laws.proofs.frames.AfterSegment.{after, after_out}
+use Rattle.isolation_laws.proofs.rows.RowsLater.{Continues, SiblingsApart, siblings_later, within_later}
+use Rattle.isolation_laws.proofs.journals.EndsKeep.{going_became}
+use Rattle.isolation_laws.proofs.rows.ListElements.{get_before_added, get_set_within}
+use Rattle.isolation_laws.proofs.rows.FramePutBack.{continues_home, isolated_home, nobody_home}
+use Rattle.isolation_laws.proofs.rows.JoinedChild.{DoneAreChildless}
+use Rattle.isolation_laws.proofs.journals.Invariant.{Kept, parents_there}
+use Rattle.isolation_laws.proofs.frames.AfterMake.{apart_from}
+use Rattle.isolation_laws.proofs.journals.MakersRow.{StopsAtMake, goes_on, length_home, length_joined, maker, mid, runs_made}
+use Rattle.isolation_laws.proofs.journals.MakeKeepsPaths.{declared_there, own_path, paths_made}
+use Rattle.isolation_laws.proofs.rows.SpawnedTask.{isolated_spawned, siblings_spawned, within_spawned}
 
 module _ (p : Program) (wf : IsWellFormed p) (keeps : KeepsEffects p) (lim : Bounds) (st : State) (stands : Stands p lim st) (kept : Kept p st)
     (o : Option ℕ) (done : (child : ℕ) → o ≡ Some child → IsDone st.links child) (childless : DoneAreChildless st.links)

@@ -13,12 +13,12 @@ use Rattle.twe_machine.specs.declared.state.TaskStatus.TheVariants.{Enabled}
 use Rattle.twe_machine.specs.Legal.{Isolated}
 use Rattle.twe_machine.specs.Rows.{HasStatus, IsRow, LinksAgree}
 use Rattle.isolation_laws.specs.Within.{EffectsWithin, SpawnedWithin}
-use Rattle.isolation_laws.proofs.rows.Adding.{ParentsAreThere, before_length, descends_added, row_added, with_row, yields_added}
-use Rattle.isolation_laws.proofs.rows.Continuing.{SiblingsApart}
+use Rattle.isolation_laws.proofs.rows.AddedTask.{ParentsAreThere, before_length, descends_added, row_added, with_row, yields_added}
+use Rattle.isolation_laws.proofs.rows.RowsLater.{SiblingsApart}
 use Rattle.isolation_laws.proofs.rows.Descents.{last_step, within_along}
-use Rattle.isolation_laws.proofs.rows.Gets.{one_there}
-use Rattle.isolation_laws.proofs.effects.Interfering.{some-more, some-mutual}
-use Rattle.isolation_laws.proofs.rows.Linking.{spawned_row}
+use Rattle.isolation_laws.proofs.rows.ListElements.{one_there}
+use Rattle.isolation_laws.proofs.effects.Interference.{some-more, some-mutual}
+use Rattle.isolation_laws.proofs.rows.LinksOfRows.{spawned_row}
 
 -- the task t, which waits for nobody, has spawned a task. The effects of the new task lie within those of t, and
 -- interfere with those of no other unjoined child of t.

@@ -48,11 +48,6 @@ module _ (st : State) (agree : LinksAgree st) where
   pub spawned_row : (c p : ℕ) → SpawnedBy st.links c p → (row : TaskRow) × IsRow st c row × (row.parent ≡ Some p) × (row.joined ≡ false)
   spawned_row c p by = spawned_by c p (slice_get st.tasks c) refl by
 
-  pub row_spawned : (c p : ℕ) (row : TaskRow) → IsRow st c row → row.parent ≡ Some p → row.joined ≡ false → SpawnedBy st.links c p
-  row_spawned c p row is parent unjoined =
-      let same = link_there c row is in
-      record { parent = ap (λ (l : Link). l.parent) same ∙ parent; unjoined = ap (λ (l : Link). l.joined) same ∙ unjoined }
-
   done_by : (c : ℕ) (o : Option TaskRow) → slice_get st.tasks c ≡ o → IsDone st.links c → (row : TaskRow) × IsRow st c row × (row.status ≡ Done)
   done_by c None none done = let no : false ≡ true = sym (ap (λ (l : Link). l.done) (link_not_there c none)) ∙ done in absurd (cc)
   done_by c (Some row) is done = (row, is, is_done_is row.status (sym (ap (λ (l : Link). l.done) (link_there c row is)) ∙ done))

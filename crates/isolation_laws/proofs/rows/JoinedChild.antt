@@ -13,9 +13,9 @@ use Rattle.twe_machine.specs.declared.state.TaskRow.{TaskRow}
 use Rattle.twe_machine.specs.declared.state.TaskStatus.TheVariants.{Enabled}
 use Rattle.twe_machine.specs.Moves.{state_after_join, joined_child, joined_row, joined_rows}
 use Rattle.twe_machine.specs.Rows.{HasStatus, IsRow, LinksAgree}
-use Rattle.isolation_laws.proofs.rows.Continuing.{Became, became_itself}
-use Rattle.isolation_laws.proofs.rows.Gets.{get_set}
-use Rattle.isolation_laws.proofs.rows.Linking.{enabled_undone}
+use Rattle.isolation_laws.proofs.rows.RowsLater.{Became, became_itself}
+use Rattle.isolation_laws.proofs.rows.ListElements.{get_set}
+use Rattle.isolation_laws.proofs.rows.LinksOfRows.{enabled_undone}
 
 -- the second row is the first, except that the task may have been joined
 pub record Untouched (a b : TaskRow) : Type 0 where

@@ -35,11 +35,11 @@ use Rattle.twe_machine.specs.declared.state.TaskRow.{TaskRow}
 use Rattle.twe_machine.specs.Moves.{making_frame, out_with}
 use Rattle.twe_machine.specs.Rows.{IsRow}
 use Rattle.soundness_laws.proofs.Given.{given_decl}
-use Rattle.isolation_laws.proofs.frames.Afterwards.{after, after_decl, after_futures, after_out, child_later, reached_at, still_out_at}
+use Rattle.isolation_laws.proofs.frames.AfterSegment.{after, after_decl, after_futures, after_out, child_later, reached_at, still_out_at}
 use Rattle.isolation_laws.proofs.frames.Frames.{ChildOut, OnPath, given_futures, still_out}
-use Rattle.isolation_laws.proofs.rows.Gets.{get_set_other, get_set_within}
-use Rattle.isolation_laws.proofs.paths.Makes.{make_act}
-use Rattle.isolation_laws.proofs.paths.Outs.{Reached, reached_more, reached_out}
+use Rattle.isolation_laws.proofs.rows.ListElements.{get_set_other, get_set_within}
+use Rattle.isolation_laws.proofs.paths.MakesInBodies.{make_act}
+use Rattle.isolation_laws.proofs.paths.FuturesOut.{Reached, reached_more, reached_out}
 use Rattle.isolation_laws.proofs.paths.Spawns.{not_out_again, spawned_apart}
 
 -- a future is declared either for spawned tasks or for others

@@ -34,17 +34,17 @@ use Rattle.twe_machine.specs.Moves.{awaited_value, done_row, state_after_fault, 
 use Rattle.twe_machine.specs.Rows.{IsRow, awaited}
 use Rattle.twe_machine.proofs.Members.{EachOnce, contains_in, without_once, without_other}
 use Rattle.twe_machine.proofs.Standing.{Stands}
-use Rattle.isolation_laws.proofs.frames.Afterwards.{after, after_out}
-use Rattle.isolation_laws.proofs.rows.Continuing.{Continues}
-use Rattle.isolation_laws.proofs.journals.Ends.{kept_faulted, kept_finished, kept_going, kept_limited}
+use Rattle.isolation_laws.proofs.frames.AfterSegment.{after, after_out}
+use Rattle.isolation_laws.proofs.rows.RowsLater.{Continues}
+use Rattle.isolation_laws.proofs.journals.EndsKeep.{kept_faulted, kept_finished, kept_going, kept_limited}
 use Rattle.isolation_laws.proofs.frames.Frames.{OnPath, still_out}
-use Rattle.isolation_laws.proofs.rows.Gets.{get_before_added, get_set_within, one_there}
-use Rattle.isolation_laws.proofs.rows.Joining.{joined_child_done}
-use Rattle.isolation_laws.proofs.journals.Known.{Kept, done_alone, done_childless}
-use Rattle.isolation_laws.proofs.journals.Makers.{length_joined, mid}
-use Rattle.isolation_laws.proofs.journals.MakersKept.{kept_made, own_row}
-use Rattle.isolation_laws.proofs.frames.Nothing.{some_at_get, some_at_join}
-use Rattle.isolation_laws.proofs.frames.Waited.{got, joined_one}
+use Rattle.isolation_laws.proofs.rows.ListElements.{get_before_added, get_set_within, one_there}
+use Rattle.isolation_laws.proofs.rows.JoinedChild.{joined_child_done}
+use Rattle.isolation_laws.proofs.journals.Invariant.{Kept, done_alone, done_childless}
+use Rattle.isolation_laws.proofs.journals.MakersRow.{length_joined, mid}
+use Rattle.isolation_laws.proofs.journals.MakeKeeps.{kept_made, own_row}
+use Rattle.isolation_laws.proofs.frames.EndedBody.{some_at_get, some_at_join}
+use Rattle.isolation_laws.proofs.frames.AfterWait.{got, joined_one}
 
 -- the cells do not matter for the invariant
 kept_cells : (p : Program) (st : State) (cells : List ℤ) → Kept p st → Kept p (record st { cells = cells })

@@ -12,12 +12,12 @@ use Rattle.twe_machine.specs.declared.state.TaskRow.{TaskRow}
 use Rattle.twe_machine.specs.declared.state.TaskStatus.TheVariants.{Done, Enabled, Faulted}
 use Rattle.twe_machine.specs.Moves.{state_after_asking, done_row, frame_without_prints, state_after_fault, faulted_row, state_after_finish, going_row, state_after_storing, state_after_join, stopped_frame}
 use Rattle.twe_machine.specs.Rows.{IsRow, LinksAgree, awaited}
-use Rattle.isolation_laws.proofs.rows.Continuing.{Became, Continues}
+use Rattle.isolation_laws.proofs.rows.RowsLater.{Became, Continues}
 use Rattle.isolation_laws.proofs.frames.Frames.{OnPath}
-use Rattle.isolation_laws.proofs.rows.Going.{continues_home, isolated_finished, isolated_home}
-use Rattle.isolation_laws.proofs.journals.Homes.{kept_home}
-use Rattle.isolation_laws.proofs.rows.Joining.{DoneAreChildless}
-use Rattle.isolation_laws.proofs.journals.Known.{Kept}
+use Rattle.isolation_laws.proofs.rows.FramePutBack.{continues_home, isolated_finished, isolated_home}
+use Rattle.isolation_laws.proofs.journals.PutBackKeeps.{kept_home}
+use Rattle.isolation_laws.proofs.rows.JoinedChild.{DoneAreChildless}
+use Rattle.isolation_laws.proofs.journals.Invariant.{Kept}
 
 -- the printed numbers do not matter for arguments and paths
 pub runs_emptied : (p : Program) (args : List ℤ) (frame : Frame) → RunsWith p args frame → RunsWith p args (frame_without_prints frame)

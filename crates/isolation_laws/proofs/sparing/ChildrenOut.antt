@@ -25,10 +25,10 @@ use Rattle.soundness_laws.specs.KeepsEffects.{KeepsEffects}
 use Rattle.soundness_laws.proofs.Sound.{got-in, task_sound}
 use Rattle.segment_laws.specs.Passes.{Quietly}
 use Rattle.isolation_laws.proofs.sparing.Calls.{all_from_in}
-use Rattle.isolation_laws.proofs.paths.Fine.{ActSpares, AllSpare, Fine, fit_far}
+use Rattle.isolation_laws.proofs.paths.FineRests.{ActSpares, AllSpare, Fine, fit_far}
 use Rattle.isolation_laws.proofs.frames.Frames.{ChildOut}
-use Rattle.isolation_laws.proofs.paths.Makes.{reached_acts}
-use Rattle.isolation_laws.proofs.paths.Outs.{Reached, out-quiet, reached_more, reached_out}
+use Rattle.isolation_laws.proofs.paths.MakesInBodies.{reached_acts}
+use Rattle.isolation_laws.proofs.paths.FuturesOut.{Reached, out-quiet, reached_more, reached_out}
 use Rattle.isolation_laws.proofs.paths.OwnActs.{own_acts, own_at, own_in}
 use Rattle.isolation_laws.proofs.effects.Sparing.{EffectSpares, written_spares}
 use Rattle.isolation_laws.proofs.paths.Spawns.{all_stand_as}

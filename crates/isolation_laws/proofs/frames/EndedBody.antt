@@ -14,7 +14,7 @@ use Rattle.seg_exec.specs.Segment.{segment}
 use Rattle.segment_laws.specs.Left.{body_left, left_of}
 use Rattle.segment_laws.specs.Passes.{Passes}
 use Rattle.segment_laws.proofs.Following.{gets_follow, joins_follow, makes_follow}
-use Rattle.isolation_laws.proofs.frames.Afterwards.{after}
+use Rattle.isolation_laws.proofs.frames.AfterSegment.{after}
 use Rattle.isolation_laws.proofs.frames.Frames.{given_none}
 
 no_steps : (n : ℕ) (first : Statement) (others : Statements) (path later : Path) → StepsFar n no_more path (statement first others) later → ⊥

@@ -35,12 +35,6 @@ became_later a b c first second = record {
 abbrev pub Continues : State → State → Type 0
 Continues old new = (s : ℕ) (b : TaskRow) → IsRow new s b → (a : TaskRow) × IsRow old s a × Became a b
 
-pub continues_later : (first second third : State) → Continues first second → Continues second third → Continues first third
-continues_later first second third one two s c is =
-    let b = two s c is in
-    let a = one s b.0 b.1 in
-    (a.0, a.1, became_later a.0 b.0 c a.2 b.2)
-
 -- two unjoined children of one task do not interfere, said of their rows
 abbrev pub SiblingsApart : State → Type 0
 SiblingsApart st = (c d t : ℕ) (a b : TaskRow) → c ≢ d → IsRow st c a → IsRow st d b → a.parent ≡ Some t → b.parent ≡ Some t

@@ -19,10 +19,10 @@ use Rattle.segment_laws.proofs.Following.{gets_follow, joins_follow}
 use Rattle.twe_machine.specs.declared.state.State.{State}
 use Rattle.twe_machine.specs.declared.state.TaskRow.{TaskRow}
 use Rattle.twe_machine.specs.Rows.{IsRow}
-use Rattle.isolation_laws.proofs.rows.Continuing.{Continues}
+use Rattle.isolation_laws.proofs.rows.RowsLater.{Continues}
 use Rattle.isolation_laws.proofs.frames.Frames.{ChildOut, OnPath, given_futures, still_out}
-use Rattle.isolation_laws.proofs.paths.Outs.{Reached, reached_more}
-use Rattle.isolation_laws.proofs.frames.Afterwards.{after, after_decl, after_futures, after_out, child_later, in_without, reached_at, still_out_at}
+use Rattle.isolation_laws.proofs.paths.FuturesOut.{Reached, reached_more}
+use Rattle.isolation_laws.proofs.frames.AfterSegment.{after, after_decl, after_futures, after_out, child_later, in_without, reached_at, still_out_at}
 
 -- a future other than the joined one stays out
 other_out : (same out : Bool) → same ≢ true → IsTrue out → IsTrue (not same && out)

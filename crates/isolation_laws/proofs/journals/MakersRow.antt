@@ -22,11 +22,11 @@ use Rattle.twe_machine.specs.declared.state.State.{State}
 use Rattle.twe_machine.specs.declared.state.TaskRow.{TaskRow}
 use Rattle.twe_machine.specs.Moves.{frame_without_prints, going_row, state_after_storing, state_after_join, joined_rows, making_frame, new_row, parent_of}
 use Rattle.twe_machine.specs.Rows.{IsRow}
-use Rattle.isolation_laws.proofs.rows.Adding.{row_added, with_row}
-use Rattle.isolation_laws.proofs.frames.Afterwards.{after}
-use Rattle.isolation_laws.proofs.rows.Gets.{length_set}
-use Rattle.isolation_laws.proofs.journals.Homes.{runs_home}
-use Rattle.isolation_laws.proofs.journals.Known.{Kept}
+use Rattle.isolation_laws.proofs.rows.AddedTask.{row_added, with_row}
+use Rattle.isolation_laws.proofs.frames.AfterSegment.{after}
+use Rattle.isolation_laws.proofs.rows.ListElements.{length_set}
+use Rattle.isolation_laws.proofs.journals.PutBackKeeps.{runs_home}
+use Rattle.isolation_laws.proofs.journals.Invariant.{Kept}
 
 length_joined_by : (rows : List TaskRow) (child : ℕ) (r : Option TaskRow) → length (joined_rows rows child r) ≡ length rows
 length_joined_by rows child None = refl

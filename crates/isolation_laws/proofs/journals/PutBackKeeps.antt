@@ -9,11 +9,11 @@ use Rattle.twe_machine.specs.declared.state.TaskRow.{TaskRow}
 use Rattle.twe_machine.specs.Legal.{Isolated}
 use Rattle.twe_machine.specs.Moves.{state_after_storing, state_after_join}
 use Rattle.twe_machine.specs.Rows.{IsRow}
-use Rattle.isolation_laws.proofs.rows.Continuing.{Became, Continues, siblings_later, within_later}
+use Rattle.isolation_laws.proofs.rows.RowsLater.{Became, Continues, siblings_later, within_later}
 use Rattle.isolation_laws.proofs.frames.Frames.{ChildOut, OnPath}
-use Rattle.isolation_laws.proofs.rows.Going.{continues_home, rows_home}
-use Rattle.isolation_laws.proofs.rows.Joining.{Untouched}
-use Rattle.isolation_laws.proofs.journals.Known.{Kept}
+use Rattle.isolation_laws.proofs.rows.FramePutBack.{continues_home, rows_home}
+use Rattle.isolation_laws.proofs.rows.JoinedChild.{Untouched}
+use Rattle.isolation_laws.proofs.journals.Invariant.{Kept}
 
 -- a row with the same arguments and frame still runs with its arguments
 pub runs_untouched : (p : Program) (a b : TaskRow) → Untouched a b → RunsWith p a.args a.frame → RunsWith p b.args b.frame

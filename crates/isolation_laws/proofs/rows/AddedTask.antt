@@ -12,8 +12,8 @@ use Rattle.twe_machine.specs.declared.state.TaskStatus.TheVariants.{Enabled, Mad
 use Rattle.twe_machine.specs.Legal.{Isolated}
 use Rattle.twe_machine.specs.Rows.{HasStatus, IsRow, LinksAgree, link_of_row}
 use Rattle.isolation_laws.specs.Within.{SpawnedWithin}
-use Rattle.isolation_laws.proofs.rows.Continuing.{SiblingsApart}
-use Rattle.isolation_laws.proofs.rows.Gets.{get_added}
+use Rattle.isolation_laws.proofs.rows.RowsLater.{SiblingsApart}
+use Rattle.isolation_laws.proofs.rows.ListElements.{get_added}
 
 -- chains of waits and of descent stay
 pub descends_added : (links : List Link) (parent : Option ℕ) (c u : ℕ) → DescendsFrom links c u → DescendsFrom (links ++ new_link parent ∷ []) c u

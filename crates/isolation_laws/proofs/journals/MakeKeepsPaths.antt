@@ -21,18 +21,18 @@ use Rattle.twe_machine.specs.declared.state.TaskRow.{TaskRow}
 use Rattle.twe_machine.specs.Moves.{going_row, new_row, parent_of}
 use Rattle.twe_machine.specs.Rows.{IsRow}
 use Rattle.twe_machine.proofs.Standing.{Stands}
-use Rattle.isolation_laws.proofs.rows.Adding.{before_length, row_added, with_row}
-use Rattle.isolation_laws.proofs.frames.Afterwards.{after}
-use Rattle.isolation_laws.proofs.rows.Continuing.{Continues}
-use Rattle.isolation_laws.proofs.journals.Ends.{going_became, on_path_emptied}
+use Rattle.isolation_laws.proofs.rows.AddedTask.{before_length, row_added, with_row}
+use Rattle.isolation_laws.proofs.frames.AfterSegment.{after}
+use Rattle.isolation_laws.proofs.rows.RowsLater.{Continues}
+use Rattle.isolation_laws.proofs.journals.EndsKeep.{going_became, on_path_emptied}
 use Rattle.isolation_laws.proofs.frames.Frames.{OnPath, still_out}
-use Rattle.isolation_laws.proofs.rows.Going.{continues_home, rows_home}
-use Rattle.isolation_laws.proofs.journals.Homes.{on_path_later}
-use Rattle.isolation_laws.proofs.journals.Known.{Kept, child_there, taker}
-use Rattle.isolation_laws.proofs.frames.Made.{made_on_path}
-use Rattle.isolation_laws.proofs.journals.Makers.{StopsAtMake, length_home, maker, mid}
-use Rattle.isolation_laws.proofs.frames.Nothing.{some_at_make}
-use Rattle.isolation_laws.proofs.paths.Outs.{reached_start}
+use Rattle.isolation_laws.proofs.rows.FramePutBack.{continues_home, rows_home}
+use Rattle.isolation_laws.proofs.journals.PutBackKeeps.{on_path_later}
+use Rattle.isolation_laws.proofs.journals.Invariant.{Kept, child_there, taker}
+use Rattle.isolation_laws.proofs.frames.AfterMake.{made_on_path}
+use Rattle.isolation_laws.proofs.journals.MakersRow.{StopsAtMake, length_home, maker, mid}
+use Rattle.isolation_laws.proofs.frames.EndedBody.{some_at_make}
+use Rattle.isolation_laws.proofs.paths.FuturesOut.{reached_start}
 
 -- a task before its first segment is at the start of its body
 pub on_path_entry : (p : Program) (rows : List TaskRow) (task : ℕ) (args : List ℤ) (number fuel : ℕ) → OnPath p rows (record (entry_frame p task args) { task = number; fuel = fuel })

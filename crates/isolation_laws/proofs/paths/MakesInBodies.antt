@@ -9,8 +9,8 @@ use Rattle.cover_flow.specs.Steps.{IsBranch}
 use Rattle.effect_check.specs.declared.act.Act.{Act}
 use Rattle.effect_check.specs.Acts.{acts_in, acts_in_all, acts_in_one, acts_of, make}
 use Rattle.effect_check.proofs.Members.{IsIn, in-cases, in-left, in-right}
-use Rattle.isolation_laws.proofs.paths.Collected.{collected}
-use Rattle.isolation_laws.proofs.paths.Outs.{Reached}
+use Rattle.isolation_laws.proofs.paths.PartsOfBodies.{collected}
+use Rattle.isolation_laws.proofs.paths.FuturesOut.{Reached}
 
 branch_acts : (p : Program) (x : Act) (point : ℕ) (arms : Arms) (taken : Statements) → IsBranch arms taken → IsIn x (acts_in_all p taken) → IsIn x (acts_in_one p point arms)
 branch_acts p x point (arm condition body others) taken (inl same) h =

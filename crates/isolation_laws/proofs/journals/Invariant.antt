@@ -7,7 +7,6 @@ use Rattle.twe_program.specs.Fitting.{TakesArguments}
 use Rattle.twe_program.specs.Program.{Program}
 use Rattle.seg_exec.specs.declared.frame.Next.{Next}
 use Rattle.seg_exec.specs.declared.frame.Next.TheVariants.{Go, Get, Join, Closing, Ended}
-use Rattle.seg_exec.specs.Giving.{without}
 use Rattle.effect_check.proofs.Members.{IsIn, in-contains}
 use Rattle.soundness_laws.specs.RunsWith.{RunsWith}
 use Rattle.wait_graph.specs.Waiting.{SpawnedBy}
@@ -16,15 +15,14 @@ use Rattle.twe_machine.specs.declared.state.TaskRow.{TaskRow}
 use Rattle.twe_machine.specs.declared.state.TaskStatus.TheVariants.{Done}
 use Rattle.twe_machine.specs.Legal.{Isolated}
 use Rattle.twe_machine.specs.Rows.{IsRow}
-use Rattle.twe_machine.proofs.Members.{contains_in, without_other}
 use Rattle.twe_machine.proofs.Standing.{IsChild, Stands}
 use Rattle.isolation_laws.specs.Within.{SpawnedWithin}
-use Rattle.isolation_laws.proofs.rows.Adding.{ParentsAreThere}
-use Rattle.isolation_laws.proofs.frames.Afterwards.{in_without}
-use Rattle.isolation_laws.proofs.rows.Continuing.{SiblingsApart}
+use Rattle.isolation_laws.proofs.rows.AddedTask.{ParentsAreThere}
+use Rattle.isolation_laws.proofs.frames.AfterSegment.{in_without}
+use Rattle.isolation_laws.proofs.rows.RowsLater.{SiblingsApart}
 use Rattle.isolation_laws.proofs.frames.Frames.{FramesOnPaths, still_out}
-use Rattle.isolation_laws.proofs.rows.Joining.{DoneAreChildless}
-use Rattle.isolation_laws.proofs.rows.Linking.{done_row, spawned_row}
+use Rattle.isolation_laws.proofs.rows.JoinedChild.{DoneAreChildless}
+use Rattle.isolation_laws.proofs.rows.LinksOfRows.{done_row, spawned_row}
 
 -- Each task runs with its arguments. The effects of a spawned task lie within those of its parent, and interfere with
 -- those of no other unjoined child of the parent. Each frame is on a control path of its body. The state is isolated.
@@ -62,10 +60,6 @@ module _ (p : Program) (lim : Bounds) (st : State) (stands : Stands p lim st) wh
       let inside = in-contains row.frame.out u (still_in row.frame.next u row.frame.out here) in
       let child = (stands.children t row is u).0 (subst (λ (out : List ℕ). Contains out u) (sym (stands.rows t row is).out) inside) in
       (child.row, child.there)
-
-  pub once_out : (t : ℕ) (row : TaskRow) → IsRow st t row → (u : ℕ) → IsIn u (without u row.frame.out) → ⊥
-  once_out t row is u here =
-      without_other row.frame.out u u (stands.rows t row is).frame.once (contains_in (without u row.frame.out) u (in-contains (without u row.frame.out) u here)) refl
 
   -- a done task has no unjoined child
   pub done_alone : (u : ℕ) (row : TaskRow) → IsRow st u row → row.status ≡ Done → (c : ℕ) → ¬ SpawnedBy st.links c u

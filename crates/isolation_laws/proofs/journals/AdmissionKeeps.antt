@@ -11,12 +11,12 @@ use Rattle.twe_machine.specs.declared.state.TaskStatus.TheVariants.{Enabled}
 use Rattle.twe_machine.specs.Legal.{Interfere, Isolated, MayAdmit}
 use Rattle.twe_machine.specs.Moves.{admitted, admitted_row}
 use Rattle.twe_machine.specs.Rows.{HasStatus, IsRow}
-use Rattle.isolation_laws.proofs.rows.Continuing.{Became, Continues, became_itself, interfere_before, siblings_later, within_later}
+use Rattle.isolation_laws.proofs.rows.RowsLater.{Became, Continues, became_itself, interfere_before, siblings_later, within_later}
 use Rattle.isolation_laws.proofs.frames.Frames.{OnPath}
-use Rattle.isolation_laws.proofs.rows.Gets.{get_set}
-use Rattle.isolation_laws.proofs.journals.Homes.{on_path_later}
-use Rattle.isolation_laws.proofs.effects.Interfering.{some-mutual}
-use Rattle.isolation_laws.proofs.journals.Known.{Kept}
+use Rattle.isolation_laws.proofs.rows.ListElements.{get_set}
+use Rattle.isolation_laws.proofs.journals.PutBackKeeps.{on_path_later}
+use Rattle.isolation_laws.proofs.effects.Interference.{some-mutual}
+use Rattle.isolation_laws.proofs.journals.Invariant.{Kept}
 
 admitted_became : (row : TaskRow) → Became row (admitted_row row)
 admitted_became row = record { decl = refl; args = refl; effects = refl; parent = refl; unjoined = λ h. h }
