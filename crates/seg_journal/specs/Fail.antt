@@ -1,4 +1,4 @@
--- Why a text is not read as a journal.
+-- Why a text was not read as a journal.
 use Rattle.seg_journal.specs.declared.text.JournalFail.{JournalFail}
 use Rattle.seg_journal.specs.declared.text.JournalFail.TheVariants.{BadLine, OutOfMemory}
 

@@ -1,20 +1,20 @@
--- The lines of a text, and the first of them that has no place in a journal.
+-- The lines of a text, and the first of them that is no line of a journal.
 use Rattle.std.specs.Prelude.{◌≡◌, ◌⊎◌, ℕ, ◌+◌, ◌==◌, if◌then◌else◌, List, [], ◌∷◌, ◌++◌, length}
 use Rattle.twe_limits.specs.Limits.{Bounds}
 use Rattle.seg_journal.specs.Spelling.{move_line, head_line, HasTask, AreLimits}
 use Rattle.seg_journal.specs.declared.moves.Move.{Move}
 
--- the lines that begin with this byte, and go on with the first of the others
+-- the same lines with this byte before the first
 abbrev pub with_byte : ℕ → List (List ℕ) → List (List ℕ)
 with_byte byte [] = (byte ∷ []) ∷ []
 with_byte byte (line ∷ lines) = (byte ∷ line) ∷ lines
 
--- The lines of a text. Each has the byte 10 that ends it, which the last may lack.
+-- The lines of a text, each with the byte 10 that ends it; the last line may lack it.
 abbrev pub lines_of : List ℕ → List (List ℕ)
 lines_of [] = []
 lines_of (byte ∷ text) = if byte == 10 then (byte ∷ []) ∷ lines_of text else with_byte byte (lines_of text)
 
--- the line is that of some move
+-- the line is that of a move
 abbrev pub IsMoveLine : List ℕ → Type 0
 IsMoveLine line = (mv : Move) × HasTask mv × (line ≡ move_line mv)
 
@@ -22,11 +22,11 @@ IsMoveLine line = (mv : Move) × HasTask mv × (line ≡ move_line mv)
 abbrev pub IsHeadLine : List ℕ → Type 0
 IsHeadLine line = (limits : Bounds) × AreLimits limits × (line ≡ head_line limits)
 
--- the line of this number, counted from 1, is a head on line 1, or a move
+-- the line of this number, counted from 1, is good: a head if it is line 1, or a move
 abbrev pub IsGoodLine : ℕ → List ℕ → Type 0
 IsGoodLine number line = ((number ≡ 1) × IsHeadLine line) ⊎ IsMoveLine line
 
--- each of these lines is good, the first of them being the line of this number
+-- each of these lines is good; the first of them has this number
 abbrev pub AreGoodLines : ℕ → List (List ℕ) → Type 0
 AreGoodLines number [] = Unit {0}
 AreGoodLines number (line ∷ lines) = IsGoodLine number line × AreGoodLines (number + 1) lines

@@ -1,29 +1,49 @@
-//! The entries of a journal, and what a move can end in.
+//! The entries of a journal: moves and how they ended.
+
 use crate::Move;
 use twe_io::{List, Place};
 use twe_limits::FaultKind;
 
-/// What a move ended in. An admission ends in `Admitted`, and a segment in one of the others.
+/// How a move ended. An admission ends in `Admitted`, and a segment in one of the others.
 #[derive(Clone, Copy, Debug, PartialEq, Eq)]
 pub enum End {
     /// The task was admitted.
     Admitted,
-    /// The segment made the task of this number.
-    Made { child: u32 },
-    /// The task waits for the value of another.
-    Waits { on: u32 },
+    /// The segment made a task.
+    Made {
+        /// The number of the new task.
+        child: u32,
+    },
+    /// The task waits for the value of another task.
+    Waits {
+        /// The task that it waits for.
+        on: u32,
+    },
     /// The task waits to join a child that it spawned.
-    Joins { on: u32 },
-    /// The task is done and has this value.
-    Done { value: i32 },
-    /// The task met a fault at this place of the text.
-    Fault { kind: FaultKind, place: Place },
+    Joins {
+        /// The child.
+        on: u32,
+    },
+    /// The task is done.
+    Done {
+        /// The value that the task returned.
+        value: i32,
+    },
+    /// The task met a fault.
+    Fault {
+        /// The kind of fault.
+        kind: FaultKind,
+        /// Its place in the text.
+        place: Place,
+    },
 }
 
-/// One entry of a journal: a move, and what it ended in.
+/// An entry of a journal: a move and how it ended.
 #[derive(Clone, Copy, Debug, PartialEq, Eq)]
 pub struct Entry {
+    /// The move.
     pub mv: Move,
+    /// How it ended.
     pub end: End,
 }
 

@@ -1,20 +1,20 @@
-//! The journal of a run: its moves, what each ended in, and the limits that the run was made under.
+//! The journal of a run, and journals as text.
 //!
-//! A journal is what a scheduler leaves: whoever takes its moves again, one after another, comes to the
-//! same state. What a move does to a state is left to the machine above.
+//! A journal lists the moves that a scheduler made and how each ended. Its text has the limits of the run and the moves,
+//! so that the run can be replayed. The crate does not say what a move does to the state of a run.
 #![tactic(auto)]
 
 mod journal;
+mod laws;
 mod line;
 mod moves;
 mod number;
 mod text;
 
 pub use journal::{End, Entry, Journal};
+pub use laws::{journal_or_bad_line, one_spelling};
 pub use moves::{Kind, Move, Moves};
-pub use text::{
-    JournalFail, JournalText, journal_or_bad_line, one_spelling, print_journal, read_journal,
-};
+pub use text::{JournalFail, JournalText, print_journal, read_journal};
 pub use twe_limits::{FaultKind, Limits};
 
 #[cfg(test)]

@@ -1,4 +1,4 @@
-//! The lines of a journal: how each is read from the front of a text, and how it is written.
+//! The lines of a journal: reading one at the start of a text, and writing one at the end of a text.
 ghost use Rattle.std.specs.Prelude.{◌≡◌, List, ℕ, ◌++◌, decimal, IfSome, IsSomeAnd, OnOk};
 ghost use Rattle.twe_limits.specs.Limits.{Bounds};
 ghost use Rattle.seg_journal.specs.Spelling.{kind_word, move_line, head_line, tasks_part, HasTask, AreLimits};
@@ -10,7 +10,7 @@ use crate::{Kind, Limits, Move};
 use itoa::Buffer;
 use twe_io::{Bytes, Memory};
 
-/// The move whose line is at the front of a text, and what stands after that line.
+/// The move whose line begins a text, and the rest of the text; none if no such line does.
 pub(crate) fn move_at(text: &[u8]) -> Option<(Move, &[u8])>
     ensures found { IfSome result (λ x. HasTask x.0 × (text.now ≡ move_line x.0 ++ x.1.now)) }
     ensures only { (mv : Move) (rest : List ℕ) → HasTask mv → text.now ≡ move_line mv ++ rest
@@ -22,7 +22,7 @@ pub(crate) fn move_at(text: &[u8]) -> Option<(Move, &[u8])>
     Some((Move { kind, task }, rest))
 }
 
-/// The kind whose word is at the front of a text, and what stands after that word.
+/// The kind whose word begins a text, and the rest of the text; none if no such word does.
 fn kind_at(text: &[u8]) -> Option<(Kind, &[u8])>
     ensures found { IfSome result (λ x. text.now ≡ kind_word x.0 ++ x.1.now) }
     ensures only { (kind : Kind) (rest : List ℕ) → text.now ≡ kind_word kind ++ rest
@@ -35,7 +35,7 @@ fn kind_at(text: &[u8]) -> Option<(Kind, &[u8])>
     Some((Kind::Run, rest))
 }
 
-/// The limits whose line is at the front of a text, and what stands after that line.
+/// The limits whose line begins a text, and the rest of the text; none if no such line does.
 pub(crate) fn head_at(text: &[u8]) -> Option<(Limits, &[u8])>
     ensures found { IfSome result (λ x. AreLimits x.0 × (text.now ≡ head_line x.0 ++ x.1.now)) }
     ensures only { (limits : Bounds) (rest : List ℕ) → AreLimits limits → text.now ≡ head_line limits ++ rest
@@ -49,7 +49,7 @@ pub(crate) fn head_at(text: &[u8]) -> Option<(Limits, &[u8])>
     Some((limits, rest))
 }
 
-/// What stands after a word that is at the front of a text.
+/// The rest of a text that begins with a word; none if it does not.
 fn rest_after<'a>(text: &'a [u8], word: &[u8]) -> Option<&'a [u8]>
     ensures found { IfSome result (λ rest. text.now ≡ word.now ++ rest.now) }
     ensures only { (rest : List ℕ) → text.now ≡ word.now ++ rest → IsSomeAnd result (λ found. found.now ≡ rest) }
@@ -57,7 +57,7 @@ fn rest_after<'a>(text: &'a [u8], word: &[u8]) -> Option<&'a [u8]>
     text.strip_prefix(word)
 }
 
-/// The word of a kind, with the blank after it.
+/// The word of a kind, with the blank that follows it.
 fn word_of(kind: Kind) -> &'static [u8]
     ensures { result.now ≡ kind_word kind }
 {
@@ -67,7 +67,7 @@ fn word_of(kind: Kind) -> &'static [u8]
     }
 }
 
-/// Writes the line of a move after a text.
+/// Appends the line of a move to a text.
 pub(crate) fn push_move(text: &mut Bytes, mv: Move) -> Result<(), Memory>
     ensures written { OnOk result (text.new ≡ text.old ++ move_line mv) }
     ensures task { HasTask mv }
@@ -77,7 +77,7 @@ pub(crate) fn push_move(text: &mut Bytes, mv: Move) -> Result<(), Memory>
     text.push(b'\n')
 }
 
-/// Writes the line of the limits after a text.
+/// Appends the line of the limits to a text.
 pub(crate) fn push_head(text: &mut Bytes, limits: Limits) -> Result<(), Memory>
     ensures { OnOk result (text.new ≡ text.old ++ head_line limits) }
 {
@@ -86,7 +86,7 @@ pub(crate) fn push_head(text: &mut Bytes, limits: Limits) -> Result<(), Memory>
     push_tasks(text, limits.tasks)
 }
 
-/// Writes the part of the head that has the number of tasks after a text.
+/// Appends the part of the head that has the number of tasks to a text.
 fn push_tasks(text: &mut Bytes, tasks: u32) -> Result<(), Memory>
     ensures { OnOk result (text.new ≡ text.old ++ tasks_part tasks) }
 {
@@ -95,7 +95,7 @@ fn push_tasks(text: &mut Bytes, tasks: u32) -> Result<(), Memory>
     text.push(b'\n')
 }
 
-/// Writes a number after a text.
+/// Appends a number to a text.
 fn push_number(text: &mut Bytes, number: u64) -> Result<(), Memory>
     ensures { OnOk result (text.new ≡ text.old ++ decimal number) }
 {

@@ -1,21 +1,24 @@
 //! The moves of a run.
+
 use twe_io::List;
 
-/// What a move does with its task: admit it, or run one segment of it.
+/// What a move does with its task.
 #[derive(Clone, Copy, Debug, PartialEq, Eq)]
 pub enum Kind {
-    /// The task may run from now on.
+    /// It admits the task, which may run from then on.
     Admit,
-    /// The task runs up to its next stop.
+    /// It runs one segment of the task.
     Run,
 }
 
-/// One move of a run, with the number of its task.
+/// A move of a run.
 #[derive(Clone, Copy, Debug, PartialEq, Eq)]
 pub struct Move {
+    /// What it does with the task.
     pub kind: Kind,
+    /// The number of the task.
     pub task: u32,
 }
 
-/// Moves in the order in which they are taken.
+/// Moves in the order in which they are made.
 pub type Moves = List<Move>;

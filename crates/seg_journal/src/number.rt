@@ -1,4 +1,4 @@
-//! Decimal numbers without leading zeros, at the front of a text.
+//! Decimal numbers without leading zeros at the start of a text.
 ghost use Rattle.std.specs.Prelude.{◌≡◌, ◌≢◌, ◌<◌, ◌≤◌, ◌+◌, ◌^◌, ◌==◌, ℕ, List, length, take, drop, ◌∷◌, ◌++◌, Some, decimal, position, IfSome, IfNone, IsSomeAnd};
 ghost use Rattle.std.specs.List.{AllByRecursion};
 ghost use Rattle.std.specs.Char.{IsAsciiDigit};
@@ -7,7 +7,8 @@ ghost use Rattle.std.specs.Str.{IsUtf8};
 use itoa::Buffer;
 use std::str;
 
-/// The number at the front of a text, no larger than `most`, and what stands after the byte that ends it.
+/// The number that begins a text, and the rest of the text after the byte `end` that ends the number. Returns none if no
+/// number of at most `most` that `end` ends begins the text.
 pub(crate) fn number_before(text: &[u8], end: u8, most: u64) -> Option<(u64, &[u8])>
     requires { ¬ IsAsciiDigit end }
     ensures found { IfSome result (λ x. (x.0 ≤ most) × (text.now ≡ decimal x.0 ++ end ∷ x.1.now)) }
@@ -22,7 +23,7 @@ pub(crate) fn number_before(text: &[u8], end: u8, most: u64) -> Option<(u64, &[u
     Some((number, rest))
 }
 
-/// What stands before the first byte of this value, and what stands after it.
+/// The parts of a text before and after the first byte of this value; none if there is no such byte.
 fn split_at_first(text: &[u8], byte: u8) -> Option<(&[u8], &[u8])>
     ensures found { IfSome result (λ x. text.now ≡ x.0.now ++ byte ∷ x.1.now) }
     ensures only { (front rest : List ℕ) → AllByRecursion (λ b. b ≢ byte) front → text.now ≡ front ++ byte ∷ rest
@@ -32,7 +33,7 @@ fn split_at_first(text: &[u8], byte: u8) -> Option<(&[u8], &[u8])>
     Some(parts_at(text, at))
 }
 
-/// What stands before a place of a text, and what stands after it.
+/// The parts of a text before and after a place.
 fn parts_at(text: &[u8], at: usize) -> (&[u8], &[u8])
     requires { at < length text.now }
     ensures front { result.0.now ≡ take at text.now }
@@ -41,14 +42,14 @@ fn parts_at(text: &[u8], at: usize) -> (&[u8], &[u8])
     (&text[..at], &text[at + 1..])
 }
 
-/// The first place of a byte in a text.
+/// The first place of a byte in a text, if there is one.
 fn first_place(text: &[u8], byte: u8) -> Option<usize>
     ensures { result ≡ position (λ b. b == byte) text.now }
 {
     text.iter().position(|b| *b == byte)
 }
 
-/// The number that a text spells, if it spells one. A number is spelled as it is printed.
+/// The number whose decimal form is this text; none if the text is no such form.
 fn number_of(text: &[u8]) -> Option<u64>
     ensures found { IfSome result (λ n. text.now ≡ decimal n) }
     ensures only { (n : ℕ) → n < 2 ^ 64 → text.now ≡ decimal n → result ≡ Some n }
@@ -62,6 +63,7 @@ fn number_of(text: &[u8]) -> Option<u64>
     }
 }
 
+/// The bytes as a text; none if they are not UTF-8.
 fn text_of(bytes: &[u8]) -> Option<&str>
     ensures found { IfSome result (λ text. text.now ≡ bytes.now) }
     ensures none { IfNone result (¬ IsUtf8 bytes.now) }
@@ -69,6 +71,7 @@ fn text_of(bytes: &[u8]) -> Option<&str>
     str::from_utf8(bytes).ok()
 }
 
+/// The number that a text denotes, perhaps with leading zeros or a sign; none if it denotes none.
 fn parsed(text: &str) -> Option<u64>
     ensures { (n : ℕ) → n < 2 ^ 64 → text.now ≡ decimal n → result ≡ Some n }
 {

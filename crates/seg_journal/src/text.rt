@@ -1,11 +1,11 @@
-//! Journals as text.
-ghost use Rattle.std.specs.Prelude.{◌≡◌, ◌≢◌, ◌⊎◌, ◌<◌, ◌≤◌, ◌+◌, ◌^◌, List, ℕ, Some, ◌++◌, length, map, IfOk, IfSome, IsNone, OnOk, IsErrOf, MatchResult};
+//! Journals as text: printing one and reading one.
+ghost use Rattle.std.specs.Prelude.{◌≡◌, ◌≢◌, ◌⊎◌, ◌≤◌, ◌+◌, ◌^◌, List, ℕ, Some, ◌++◌, length, map, IfOk, IfSome, IsNone, OnOk, IsErrOf, MatchResult};
 ghost use Rattle.std.specs.List.{AllByRecursion, flat_map};
 ghost use Rattle.seg_journal.specs.declared.text.JournalFail.TheVariants.{OutOfMemory};
 ghost use Rattle.seg_journal.specs.declared.moves.Move.{Move};
 ghost use Rattle.twe_limits.specs.Limits.{Bounds};
-ghost use Rattle.seg_journal.specs.Spelling.{Spells, IsJournal, head_line, head_part, head_lines, move_line, move_of, HasTask, AreLimits};
-ghost use Rattle.seg_journal.specs.Lines.{IsFirstBadLine, HasBadLine};
+ghost use Rattle.seg_journal.specs.Spelling.{Spells, head_line, head_part, head_lines, move_line, move_of, HasTask, AreLimits};
+ghost use Rattle.seg_journal.specs.Lines.{IsFirstBadLine};
 ghost use Rattle.seg_journal.specs.Fail.{IsOutOfMemory};
 ghost use Rattle.seg_journal.specs.inner.Stops.{StopsAt};
 
@@ -14,17 +14,19 @@ use crate::{Entry, Journal, Limits, Moves};
 use std::alloc::Global;
 use twe_io::{Bytes, Memory};
 
-/// What a text says of a journal: its limits, if it has a head, and its moves.
+/// A journal as its text states it.
 #[derive(Debug, Drop)]
 pub struct JournalText {
+    /// The limits of the run, if the text has a head.
     pub head: Option<Limits>,
+    /// The moves in order.
     pub moves: Moves,
 }
 
-/// Why a text is no journal.
+/// Why a text was not read as a journal.
 #[derive(Clone, Copy, Debug, PartialEq, Eq)]
 pub enum JournalFail {
-    /// The line of this number, counted from 1, is the first that is neither a head on line 1 nor a move.
+    /// The line of this number, counted from 1, is the first that is neither a head in line 1 nor a move.
     BadLine(u64),
     /// There was not enough memory.
     OutOfMemory(Memory),
@@ -38,7 +40,7 @@ impl From<Memory> for JournalFail {
     }
 }
 
-/// The text of a journal: the head with the limits, and the move of each entry.
+/// The text of a journal: a head with the limits, and a line for the move of each entry.
 pub fn print_journal(alloc: Global, journal: &Journal, limits: Limits) -> Result<Bytes, Memory>
     ensures { IfOk result (λ text. Spells text (Some limits) (map move_of journal.now)) }
 {
@@ -48,7 +50,7 @@ pub fn print_journal(alloc: Global, journal: &Journal, limits: Limits) -> Result
     Ok(text)
 }
 
-/// Writes the line of each entry's move after a text.
+/// Appends the line of the move of each entry to a text.
 fn push_moves(text: &mut Bytes, entries: &[Entry]) -> Result<(), Memory>
     ensures written { OnOk result (text.new ≡ text.old ++ flat_map move_line (map move_of entries.now)) }
     ensures tasks { OnOk result (AllByRecursion HasTask (map move_of entries.now)) }
@@ -59,16 +61,17 @@ fn push_moves(text: &mut Bytes, entries: &[Entry]) -> Result<(), Memory>
     Ok(())
 }
 
-/// The limits and the moves that a text spells.
+/// Reads a journal. Returns the limits, if the text has a head, and the moves. If the text is not that of a journal,
+/// returns the number of its first bad line.
 pub fn read_journal(alloc: Global, text: &[u8]) -> Result<JournalText, JournalFail>
-    // What is read is so spelled.
+    // The text is that of the journal that is returned.
     ensures spelled { IfOk result (λ found. Spells text.now found.head found.moves) }
 
-    // What is so spelled is read, unless memory runs out.
+    // The text of a journal is read as that journal, unless memory runs out.
     ensures only { (head : _) (moves : List Move) → Spells text.now head moves → MatchResult result
         (λ found. (found.head ≡ head) × (found.moves ≡ moves)) IsOutOfMemory }
 
-    // It names the first bad line, and where there is one answers that, unless memory runs out.
+    // `BadLine` has the number of the first bad line. If there is a bad line, that is the result, unless memory runs out.
     ensures bad_line { (n : ℕ) → IsErrOf result (JournalFail.BadLine n) → IsFirstBadLine text.now n }
     ensures first_bad { (n : ℕ) → IsFirstBadLine text.now n
         → MatchResult result (λ _. ⊥) (λ fail. (fail ≡ JournalFail.BadLine n) ⊎ IsOutOfMemory fail) }
@@ -76,7 +79,7 @@ pub fn read_journal(alloc: Global, text: &[u8]) -> Result<JournalText, JournalFa
     read_lines(alloc, text)
 }
 
-/// The limits and the moves that a text spells, or its first bad line.
+/// Reads a journal, or finds its first bad line.
 fn read_lines(alloc: Global, text: &[u8]) -> Result<JournalText, JournalFail>
     ensures spelled { IfOk result (λ found. Spells text.now found.head found.moves) }
     ensures bad_line { (n : ℕ) → IsErrOf result (JournalFail.BadLine n) → IsFirstBadLine text.now n }
@@ -86,7 +89,7 @@ fn read_lines(alloc: Global, text: &[u8]) -> Result<JournalText, JournalFail>
     Ok(JournalText { head, moves })
 }
 
-/// The limits of a text, if it has a head, the number of the first line after that, and what stands there.
+/// The limits of a text, if it has a head, then the number of the first line after the head, and the text from there on.
 fn split_head(text: &[u8]) -> (Option<Limits>, u64, &[u8])
     ensures split { text.now ≡ head_part result.0 ++ result.2.now }
     ensures limits { IfSome result.0 AreLimits }
@@ -101,7 +104,7 @@ fn split_head(text: &[u8]) -> (Option<Limits>, u64, &[u8])
     }
 }
 
-/// The moves that a text spells, whose first line has this number.
+/// Reads the moves of a text whose first line has the number `first`.
 fn read_moves(alloc: Global, text: &[u8], first: u64) -> Result<Moves, JournalFail>
     requires { first + length text.now ≤ 2 ^ 64 }
     ensures spelled { IfOk result (λ moves. (text.now ≡ flat_map move_line moves) × AllByRecursion HasTask moves) }
@@ -118,15 +121,3 @@ fn read_moves(alloc: Global, text: &[u8], first: u64) -> Result<Moves, JournalFa
     }
     Ok(moves)
 }
-
-/// No text spells two journals. So what was printed is read again as the same limits and moves.
-pub fn one_spelling()
-    ensures { (text : List ℕ) (head other : _) (moves others : List Move) → Spells text head moves
-        → Spells text other others → (head ≡ other) × (moves ≡ others) }
-{}
-
-/// Each text spells a journal or has a first bad line, and no text does both.
-pub fn journal_or_bad_line()
-    ensures either { (text : List ℕ) → IsJournal text ⊎ HasBadLine text }
-    ensures never_both { (text : List ℕ) → IsJournal text → ¬ HasBadLine text }
-{}

@@ -1,10 +1,10 @@
--- Where a text of moves stops to spell them.
+-- The first line of a text that is not the line of a move.
 use Rattle.std.specs.Prelude.{◌≡◌, ◌≢◌, ◌+◌, ℕ, List, [], ◌++◌, length}
 use Rattle.std.specs.List.{AllByRecursion, flat_map}
 use Rattle.seg_journal.specs.Spelling.{move_line, HasTask}
 use Rattle.seg_journal.specs.declared.moves.Move.{Move}
 
--- some lines of moves, the first of which is the line of this number, and then something that begins with no move
+-- the text has some lines of moves, the first of them with the number `first`, and then a rest that begins with no move
 pub record StopsAt (text : List ℕ) (first number : ℕ) : Type 0 where
   pub moves : List Move
   pub rest : List ℕ

@@ -1,6 +1,6 @@
 use Rattle.seg_journal.proofs.BadLines.{none_bad}
 use Rattle.seg_journal.proofs.EitherWay.{either_way}
-use Rattle.seg_journal.proofs.text.journal_or_bad_line.Goals as goal
+use Rattle.seg_journal.proofs.laws.journal_or_bad_line.Goals as goal
 
 pub returns-clause-either : goal.returns-clause-either
 returns-clause-either c = either_way
