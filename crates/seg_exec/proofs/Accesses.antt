@@ -5,6 +5,7 @@ use Rattle.std.specs.List.{AllByRecursion}
 use Rattle.std.proofs.lemmas.Bool.{ltb-true}
 use Rattle.twe_io.specs.declared.place.Place.{Place}
 use Rattle.twe_ast.specs.declared.expr.BinOp.{BinOp}
+use Rattle.twe_limits.specs.Language.{max_active_calls}
 use Rattle.twe_program.specs.declared.program.Dims.{Dims}
 use Rattle.twe_program.specs.declared.program.Dims.TheVariants.{Scalar, Row, Grid}
 use Rattle.twe_program.specs.declared.program.CellDecl.{CellDecl}
@@ -169,7 +170,7 @@ module _ (p : Program) (well : IsWellFormed p) (cells : List ℤ) (enough : leng
         back_fine s.vars (below (Block 0 (body_of decl)) inside) (fine m.0 m.1 (Block 0 (body_of decl)) m.2 inside h)
 
     called_fine : (method : ℕ) (args : List ℤ) (place : Place) (s : Store) → Fine s → GivenFine (called below p method args place s)
-    called_fine method args place s h = give_fine (unit_taken place s) _ (unit_fine s.fuel place s h) (λ unit s1 h1. entered_fine (nat_le 1000 s1.calls) method args place s1 h1)
+    called_fine method args place s h = give_fine (unit_taken place s) _ (unit_fine s.fuel place s h) (λ unit s1 h1. entered_fine (nat_le max_active_calls s1.calls) method args place s1 h1)
 
     module _ (scope : Scope) (of_p : scope.cells ≡ p.cells) where
       takes_of : (cell count : ℕ) → TakesIndexes (slice_get scope.cells cell) count → TakesIndexes (slice_get p.cells cell) count

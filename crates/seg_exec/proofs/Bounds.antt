@@ -3,10 +3,10 @@ use Rattle.std.proofs.Common.{◌≡◌, ℕ, ◌<◌, false, [], ◌∷◌, Non
 use Rattle.twe_program.specs.Program.{Program}
 use Rattle.twe_program.specs.Statement.{Statement}
 use Rattle.seg_exec.specs.declared.operation.Operation.TheVariants as operations
-use Rattle.seg_exec.specs.declared.work.Ending.TheVariants.{Returned, Faulted, Suspended}
+use Rattle.seg_exec.specs.declared.request.Ending.TheVariants.{Returned, Faulted, Suspended}
 use Rattle.seg_exec.specs.Store.{Store, Flow, goes, returns, fails, stops}
 use Rattle.seg_exec.specs.Meaning.{done_within}
-use Rattle.seg_exec.specs.inner.Tasks.{Execute, Suspend}
+use Rattle.seg_exec.specs.inner.Continuations.{Execute, Suspend}
 use Rattle.seg_exec.specs.inner.Runs.{Moment, Outcome, Over, moment, run}
 use Rattle.seg_exec.proofs.Simulation.{FlowTo, within_meets}
 use Rattle.seg_exec.proofs.Whole.{IsOver, once}

@@ -4,6 +4,7 @@ use Rattle.std.proofs.lemmas.Bool.{eqb-false, eqb-true, eq-eqb}
 use Rattle.std.specs.Prelude.{nat_eq, nat_le, slice_get}
 use Rattle.twe_io.specs.declared.place.Place.{Place}
 use Rattle.twe_ast.specs.declared.expr.BinOp.{BinOp}
+use Rattle.twe_limits.specs.Language.{max_active_calls}
 use Rattle.twe_program.specs.declared.program.Decl.{Decl}
 use Rattle.twe_program.specs.Program.{Program}
 use Rattle.twe_program.specs.Expression.{Expression, Literal, Truth, Variable, CellValue, ArrayElement, GridElement, CallValue, Negative, Negation, Binary, Arguments, argument}
@@ -11,38 +12,38 @@ use Rattle.twe_program.specs.Expression as exprs
 use Rattle.twe_program.specs.Statement.{Statement, Block, Let, Set, SetCell, SetArray, SetGrid, If, While, Return, Print, Call, Make, Wait, Statements, no_more, statement, Arms, arm, otherwise, no_else}
 use Rattle.seg_exec.specs.declared.frame.Position.{Position}
 use Rattle.seg_exec.specs.declared.operation.Operation.{Operation}
-use Rattle.seg_exec.specs.declared.work.Asked.{Asked}
-use Rattle.seg_exec.specs.declared.work.Asked.TheVariants as asks
-use Rattle.seg_exec.specs.declared.work.Goal.{Goal}
-use Rattle.seg_exec.specs.declared.work.Goal.TheVariants as goals
-use Rattle.seg_exec.specs.declared.work.Left.{Left}
-use Rattle.seg_exec.specs.declared.work.Left.TheVariants as lefts
+use Rattle.seg_exec.specs.declared.request.Request.{Request}
+use Rattle.seg_exec.specs.declared.request.Request.TheVariants as requests
+use Rattle.seg_exec.specs.declared.continuation.Goal.{Goal}
+use Rattle.seg_exec.specs.declared.continuation.Goal.TheVariants as goals
+use Rattle.seg_exec.specs.declared.continuation.Recovered.{Recovered}
+use Rattle.seg_exec.specs.declared.continuation.Recovered.TheVariants as recovers
 use Rattle.seg_exec.specs.Access.{Ways}
 use Rattle.seg_exec.specs.Arithmetic.{is_true, decided}
 use Rattle.seg_exec.specs.inner.Reached.{Standing, Served, Advances}
-use Rattle.seg_exec.specs.inner.Sizes.{size_of_expression, size_of_arguments, size_of_statement, size_of_all, size_of_arms, size_of_task, size_of_work}
-use Rattle.seg_exec.specs.inner.Tasks.{Task, Evaluate, Execute, Rest, Choose, Chosen, Turn, Gather, Take, Negate, Invert, Right, Apply, ReadElement, ReadGridElement, GiveVar, GiveCell, GiveElement, GiveGridElement, PrintValue, Discard, Unwind, Suspend, Leave, Config, top, without_value}
-use Rattle.seg_exec.specs.inner.Steps.{Step, asked_unit, unit_or, chosen_by, turned_by, entered_by, gathered, gathering, right_by, applied, read_at, written_at, unwound, unwound_past, suspended, suspended_past, left_by, worked, evaluated, executed, rested, choosing, step_by, step_of}
+use Rattle.seg_exec.specs.inner.Sizes.{size_of_expression, size_of_arguments, size_of_statement, size_of_all, size_of_arms, size_of_continuation, size_of_work}
+use Rattle.seg_exec.specs.inner.Continuations.{Continuation, Evaluate, Execute, Rest, Choose, Chosen, Turn, Gather, Take, Negate, Invert, Right, Apply, ReadElement, ReadGridElement, GiveVar, GiveCell, GiveElement, GiveGridElement, PrintValue, Discard, Unwind, Suspend, Leave, Config, top, without_operand}
+use Rattle.seg_exec.specs.inner.Steps.{Step, asked_unit, unit_or, chosen_by, turned_by, entered_by, gathered, gathering, right_by, applied, read_at, written_at, unwound, unwound_past, suspended, suspended_past, recovered_from, worked, evaluated, executed, rested, choosing, step_by, step_of}
 
 -- a step that is not the end has no more fuel, and, with as much fuel, less work
-abbrev FallsIn : ℕ → ℕ → Asked → Config → Type 0
-FallsIn fuel size (asks.End ending) c = Unit {0}
+abbrev FallsIn : ℕ → ℕ → Request → Config → Type 0
+FallsIn fuel size (requests.End ending) c = Unit {0}
 FallsIn fuel size _ c = (c.fuel ≤ fuel) × (c.fuel ≡ fuel → size_of_work c.work < size)
 
 abbrev Falls : ℕ → ℕ → Step → Type 0
 Falls fuel size step = FallsIn fuel size step.0 step.1
 
 -- a step that has less fuel
-abbrev TakesIn : ℕ → Asked → Config → Type 0
-TakesIn fuel (asks.End ending) c = Unit {0}
+abbrev TakesIn : ℕ → Request → Config → Type 0
+TakesIn fuel (requests.End ending) c = Unit {0}
 TakesIn fuel _ c = c.fuel < fuel
 
-falls_by_fuel : (fuel size : ℕ) (asked : Asked) (c : Config) → TakesIn fuel asked c → FallsIn fuel size asked c
-falls_by_fuel fuel size (asks.End ending) c h = tt
-falls_by_fuel fuel size asks.Nothing c h = (omega (arith, h), λ e. absurd (omega (arith, h, e)))
-falls_by_fuel fuel size (asks.Read cell) c h = (omega (arith, h), λ e. absurd (omega (arith, h, e)))
-falls_by_fuel fuel size (asks.Write cell value) c h = (omega (arith, h), λ e. absurd (omega (arith, h, e)))
-falls_by_fuel fuel size (asks.Print value) c h = (omega (arith, h), λ e. absurd (omega (arith, h, e)))
+falls_by_fuel : (fuel size : ℕ) (request : Request) (c : Config) → TakesIn fuel request c → FallsIn fuel size request c
+falls_by_fuel fuel size (requests.End ending) c h = tt
+falls_by_fuel fuel size requests.Nothing c h = (omega (arith, h), λ e. absurd (omega (arith, h, e)))
+falls_by_fuel fuel size (requests.Read cell) c h = (omega (arith, h), λ e. absurd (omega (arith, h, e)))
+falls_by_fuel fuel size (requests.Write cell value) c h = (omega (arith, h), λ e. absurd (omega (arith, h, e)))
+falls_by_fuel fuel size (requests.Print value) c h = (omega (arith, h), λ e. absurd (omega (arith, h, e)))
 
 unit_falls_by : (size : ℕ) (none : Bool) (place : Place) (c : Config) (next : Config → Step) → nat_eq c.fuel 0 ≡ none
     → ((left : ℕ) → left < c.fuel → TakesIn c.fuel (next (record c { fuel = left })).0 (next (record c { fuel = left })).1)
@@ -110,7 +111,7 @@ entered_falls fuel false decl args place c h = h
 
 gathered_falls : (p : Program) (args : List ℤ) (goal : Goal) (size : ℕ) (c : Config) → Falls c.fuel size (gathered p args goal c)
 gathered_falls p args (goals.Enter method place) size c =
-    unit_falls size place c _ (λ left h. entered_falls c.fuel (nat_le 1000 c.calls) (slice_get p.methods method) args place (record c { fuel = left }) h)
+    unit_falls size place c _ (λ left h. entered_falls c.fuel (nat_le max_active_calls c.calls) (slice_get p.methods method) args place (record c { fuel = left }) h)
 gathered_falls p args (goals.Make future task spawned place) size c = unit_falls size place c _ (λ left h. h)
 
 gathering_falls : (p : Program) (taken : List ℤ) (args : Arguments) (goal : Goal) (c : Config) → Falls c.fuel (size_of_arguments args + 1 + size_of_work c.work) (gathering p taken args goal c)
@@ -133,8 +134,8 @@ written_falls : (cell : Option ℕ) (value : ℤ) (place : Place) (c : Config) �
 written_falls None value place c = tt
 written_falls (Some cell) value place c = (omega arith, λ e. omega arith)
 
--- a task that is dropped is some work
-some_work : (task : Task) → 0 < size_of_task task
+-- a continuation frame that is dropped is some work
+some_work : (next : Continuation) → 0 < size_of_continuation next
 some_work (Evaluate e) = some_expression e
   where
     some_expression : (e : Expression) → 0 < size_of_expression e
@@ -173,61 +174,61 @@ some_work (Take taken args goal) = omega arith
 some_work (Right op right place) = omega arith
 some_work _ = omega arith
 
-past_falls : (left : Left) (size : ℕ) (c : Config) → 0 < size → Falls c.fuel (1 + (size + size_of_work c.work)) (unwound_past left c)
-past_falls (lefts.Caller vars) size c h = (omega arith, λ e. omega arith)
-past_falls (lefts.Block position) size c h = (omega arith, λ e. omega arith)
-past_falls lefts.Nothing size c h = (omega arith, λ e. omega arith)
+past_falls : (recovered : Recovered) (size : ℕ) (c : Config) → 0 < size → Falls c.fuel (1 + (size + size_of_work c.work)) (unwound_past recovered c)
+past_falls (recovers.Caller vars) size c h = (omega arith, λ e. omega arith)
+past_falls (recovers.Block position) size c h = (omega arith, λ e. omega arith)
+past_falls recovers.Nothing size c h = (omega arith, λ e. omega arith)
 
-unwound_falls : (work : List Task) (c : Config) → Falls c.fuel (1 + size_of_work work) (unwound work c)
+unwound_falls : (work : List Continuation) (c : Config) → Falls c.fuel (1 + size_of_work work) (unwound work c)
 unwound_falls [] c = tt
-unwound_falls (task ∷ work) c = past_falls (left_by task) (size_of_task task) (record c { work = work }) (some_work task)
+unwound_falls (next ∷ work) c = past_falls (recovered_from next) (size_of_continuation next) (record c { work = work }) (some_work next)
 
-stopped_falls : (left : Left) (operation : Operation) (positions : List Position) (size : ℕ) (c : Config) → 0 < size → Falls c.fuel (1 + (size + size_of_work c.work)) (suspended_past left operation positions c)
-stopped_falls (lefts.Caller vars) operation positions size c h = (omega arith, λ e. omega arith)
-stopped_falls (lefts.Block position) operation positions size c h = (omega arith, λ e. omega arith)
-stopped_falls lefts.Nothing operation positions size c h = (omega arith, λ e. omega arith)
+stopped_falls : (recovered : Recovered) (operation : Operation) (positions : List Position) (size : ℕ) (c : Config) → 0 < size → Falls c.fuel (1 + (size + size_of_work c.work)) (suspended_past recovered operation positions c)
+stopped_falls (recovers.Caller vars) operation positions size c h = (omega arith, λ e. omega arith)
+stopped_falls (recovers.Block position) operation positions size c h = (omega arith, λ e. omega arith)
+stopped_falls recovers.Nothing operation positions size c h = (omega arith, λ e. omega arith)
 
-suspended_falls : (operation : Operation) (positions : List Position) (work : List Task) (c : Config) → Falls c.fuel (1 + size_of_work work) (suspended operation positions work c)
+suspended_falls : (operation : Operation) (positions : List Position) (work : List Continuation) (c : Config) → Falls c.fuel (1 + size_of_work work) (suspended operation positions work c)
 suspended_falls operation positions [] c = tt
-suspended_falls operation positions (task ∷ work) c = stopped_falls (left_by task) operation positions (size_of_task task) (record c { work = work }) (some_work task)
+suspended_falls operation positions (next ∷ work) c = stopped_falls (recovered_from next) operation positions (size_of_continuation next) (record c { work = work }) (some_work next)
 
-worked_falls : (p : Program) (task : Task) (c : Config) → Falls c.fuel (size_of_task task + size_of_work c.work) (worked p task c)
+worked_falls : (p : Program) (next : Continuation) (c : Config) → Falls c.fuel (size_of_continuation next + size_of_work c.work) (worked p next c)
 worked_falls p (Evaluate e) c = evaluated_falls p e c
 worked_falls p (Execute s) c = executed_falls s c
 worked_falls p (Rest block at stmts) c = rested_falls block at stmts c
 worked_falls p (Choose block arms) c = choosing_falls block arms c
-worked_falls p (Chosen block next body others) c = chosen_falls (is_true (top c.values)) block next body others (without_value c)
-worked_falls p (Turn again body place) c = turned_falls (is_true (top c.values)) again body place (without_value c)
+worked_falls p (Chosen block next body others) c = chosen_falls (is_true (top c.operands)) block next body others (without_operand c)
+worked_falls p (Turn again body place) c = turned_falls (is_true (top c.operands)) again body place (without_operand c)
 worked_falls p (Gather taken args goal) c = gathering_falls p taken args goal c
 worked_falls p (Take taken args goal) c = (omega arith, λ e. omega arith)
 worked_falls p Negate c = (omega arith, λ e. omega arith)
 worked_falls p Invert c = (omega arith, λ e. omega arith)
-worked_falls p (Right op right place) c = right_falls (decided op (is_true (top c.values))) op (top c.values) right place (without_value c)
-worked_falls p (Apply op place) c = applied_falls _ place (without_value (without_value c))
-worked_falls p (ReadElement array place) c = read_falls _ place (without_value c)
-worked_falls p (ReadGridElement array place) c = read_falls _ place (without_value (without_value c))
+worked_falls p (Right op right place) c = right_falls (decided op (is_true (top c.operands))) op (top c.operands) right place (without_operand c)
+worked_falls p (Apply op place) c = applied_falls _ place (without_operand (without_operand c))
+worked_falls p (ReadElement array place) c = read_falls _ place (without_operand c)
+worked_falls p (ReadGridElement array place) c = read_falls _ place (without_operand (without_operand c))
 worked_falls p (GiveVar var) c = (omega arith, λ e. omega arith)
 worked_falls p (GiveCell cell) c = (omega arith, λ e. omega arith)
-worked_falls p (GiveElement array place) c = written_falls _ _ place (without_value (without_value c))
-worked_falls p (GiveGridElement array place) c = written_falls _ _ place (without_value (without_value (without_value c)))
-worked_falls p (PrintValue place) c = unit_falls _ place (without_value c) _ (λ left h. h)
+worked_falls p (GiveElement array place) c = written_falls _ _ place (without_operand (without_operand c))
+worked_falls p (GiveGridElement array place) c = written_falls _ _ place (without_operand (without_operand (without_operand c)))
+worked_falls p (PrintValue place) c = unit_falls _ place (without_operand c) _ (λ left h. h)
 worked_falls p Discard c = (omega arith, λ e. omega arith)
 worked_falls p Unwind c = unwound_falls c.work c
 worked_falls p (Suspend operation positions) c = suspended_falls operation positions c.work c
 worked_falls p (Leave vars) c = (omega arith, λ e. omega arith)
 
-step_falls : (p : Program) (work : List Task) (c : Config) → Falls c.fuel (size_of_work work) (step_by p work c)
+step_falls : (p : Program) (work : List Continuation) (c : Config) → Falls c.fuel (size_of_work work) (step_by p work c)
 step_falls p [] c = tt
-step_falls p (task ∷ work) c = worked_falls p task (record c { work = work })
+step_falls p (next ∷ work) c = worked_falls p next (record c { work = work })
 
 -- the same once what is asked for was done
-served_falls : {C : Type 0} (ways : Ways C) (fuel size : ℕ) (asked : Asked) (old new : Standing C) → FallsIn fuel size asked old.config → Served ways asked old None new
+served_falls : {C : Type 0} (ways : Ways C) (fuel size : ℕ) (request : Request) (old new : Standing C) → FallsIn fuel size request old.config → Served ways request old None new
     → (new.config.fuel ≤ fuel) × (new.config.fuel ≡ fuel → size_of_work new.config.work < size)
-served_falls ways fuel size asks.Nothing old new f h = subst (λ (c : Config). (c.fuel ≤ fuel) × (c.fuel ≡ fuel → size_of_work c.work < size)) (sym (ap (λ s. s.config) h.1)) f
-served_falls ways fuel size (asks.Read cell) old new f h = subst (λ (c : Config). (c.fuel ≤ fuel) × (c.fuel ≡ fuel → size_of_work c.work < size)) (sym h.2) f
-served_falls ways fuel size (asks.Write cell value) old new f h = subst (λ (c : Config). (c.fuel ≤ fuel) × (c.fuel ≡ fuel → size_of_work c.work < size)) (sym h.1) f
-served_falls ways fuel size (asks.Print value) old new f h = subst (λ (c : Config). (c.fuel ≤ fuel) × (c.fuel ≡ fuel → size_of_work c.work < size)) (sym (ap (λ s. s.config) h.1)) f
-served_falls ways fuel size (asks.End ending) old new f h = let none = h.0 in absurd (cc)
+served_falls ways fuel size requests.Nothing old new f h = subst (λ (c : Config). (c.fuel ≤ fuel) × (c.fuel ≡ fuel → size_of_work c.work < size)) (sym (ap (λ s. s.config) h.1)) f
+served_falls ways fuel size (requests.Read cell) old new f h = subst (λ (c : Config). (c.fuel ≤ fuel) × (c.fuel ≡ fuel → size_of_work c.work < size)) (sym h.2) f
+served_falls ways fuel size (requests.Write cell value) old new f h = subst (λ (c : Config). (c.fuel ≤ fuel) × (c.fuel ≡ fuel → size_of_work c.work < size)) (sym h.1) f
+served_falls ways fuel size (requests.Print value) old new f h = subst (λ (c : Config). (c.fuel ≤ fuel) × (c.fuel ≡ fuel → size_of_work c.work < size)) (sym (ap (λ s. s.config) h.1)) f
+served_falls ways fuel size (requests.End ending) old new f h = let none = h.0 in absurd (cc)
 
 pub advance_falls : {C : Type 0} (p : Program) (ways : Ways C) (old new : Standing C) → Advances p ways old None new
     → (new.config.fuel ≤ old.config.fuel) × (new.config.fuel ≡ old.config.fuel → size_of_work new.config.work < size_of_work old.config.work)

@@ -2,6 +2,7 @@ pub mod Accesses
 pub mod Bounds
 pub mod CellNumbers
 pub mod Children
+pub mod Determined
 pub mod Falling
 pub mod PlainLists
 pub mod Reaching

@@ -2,15 +2,15 @@
 use Rattle.std.proofs.Common.{◌≡◌, ℕ, suc, ℤ, List, [], ◌∷◌, ◌++◌, None, Some, refl, sym, ap, ◌∙◌, subst, append_assoc, zero, arith}
 use Rattle.std.proofs.lemmas.List.{append-nil}
 use Rattle.twe_program.specs.Program.{Program}
-use Rattle.seg_exec.specs.declared.work.Asked.{Asked}
-use Rattle.seg_exec.specs.declared.work.Asked.TheVariants.{Nothing, Read, Write, Print, End}
-use Rattle.seg_exec.specs.declared.work.Ending.{Ending}
+use Rattle.seg_exec.specs.declared.request.Request.{Request}
+use Rattle.seg_exec.specs.declared.request.Request.TheVariants.{Nothing, Read, Write, Print, End}
+use Rattle.seg_exec.specs.declared.request.Ending.{Ending}
 use Rattle.seg_exec.specs.Access.{Access, Reads, Writes, Prints, MayAll, MaySame, Ways, after, printed}
 use Rattle.seg_exec.specs.Store.{Store}
-use Rattle.seg_exec.specs.inner.Tasks.{Config, with_value}
+use Rattle.seg_exec.specs.inner.Continuations.{Config, with_operand}
 use Rattle.seg_exec.specs.inner.Steps.{Step, step_of}
 use Rattle.seg_exec.specs.inner.Runs.{Moment, Over, Comes, run, served, stepped, store_of}
-use Rattle.seg_exec.specs.inner.Reached.{Standing, Served, Advances, MayAsk, MayRun, MayStep, Reaches, Finishes, over}
+use Rattle.seg_exec.specs.inner.Reached.{Standing, Served, Advances, MayRequest, MayRun, MayStep, Reaches, Finishes, over}
 use Rattle.seg_exec.proofs.Whole.{over_from}
 use Rattle.seg_exec.proofs.Witnesses.{no_witness_needed, witness_printed, witness_read, witness_written}
 use Rattle.seg_exec.proofs.Simulation.{stays, onward}
@@ -38,8 +38,8 @@ module _ {C : Type 0} (p : Program) (ways : Ways C) where
   step_on from config cells accesses step to is comes e =
       onward p from (over config cells accesses) to comes (record { by = λ k. (suc k, omega arith, ap (λ (s : Step). stepped (run p k) s (over config cells accesses)) is ∙ e k) })
 
-  on_served : (old mid new : Standing C) (asked : Asked) (config : Config) → Reaches p ways old mid → step_of p mid.config ≡ (asked, config)
-      → Served ways asked (record mid { config = config }) None new → Reaches p ways old new
+  on_served : (old mid new : Standing C) (request : Request) (config : Config) → Reaches p ways old mid → step_of p mid.config ≡ (request, config)
+      → Served ways request (record mid { config = config }) None new → Reaches p ways old new
   on_served old mid new Nothing config r is h =
       subst (λ (s : Standing C). Reaches p ways old s) (sym h.1) (record {
         accesses = r.accesses;
@@ -59,8 +59,8 @@ module _ {C : Type 0} (p : Program) (ways : Ways C) where
         witness = witness_read (ways.known mid.cells) (ways.known new.cells) r.accesses cell h.0 r.witness h.3.answer h.3.known;
         comes = λ cells agrees.
             subst (λ (c : Config). Comes p (over old.config cells []) (over c cells all)) (sym h.2)
-            (step_on _ mid.config cells r.accesses (Read cell, config) (over (with_value h.0 config) cells all) is (r.comes cells agrees.0)
-            (λ k. ap (λ (v : ℤ). run p k (record { config = with_value v config; cells = after cells r.accesses; accesses = Reads cell v ∷ r.accesses })) agrees.1));
+            (step_on _ mid.config cells r.accesses (Read cell, config) (over (with_operand h.0 config) cells all) is (r.comes cells agrees.0)
+            (λ k. ap (λ (v : ℤ). run p k (record { config = with_operand v config; cells = after cells r.accesses; accesses = Reads cell v ∷ r.accesses })) agrees.1));
       }
   on_served old mid new (Write cell value) config r is h =
       let all = Writes cell value ∷ r.accesses in
@@ -88,8 +88,8 @@ module _ {C : Type 0} (p : Program) (ways : Ways C) where
   pub reaches_on : (old mid new : Standing C) → Reaches p ways old mid → Advances p ways mid None new → Reaches p ways old new
   reaches_on old mid new r h = on_served old mid new (step_of p mid.config).0 (step_of p mid.config).1 r refl h
 
-  end_served : (old mid new : Standing C) (ending : Ending) (asked : Asked) (config : Config) → Reaches p ways old mid → step_of p mid.config ≡ (asked, config)
-      → Served ways asked (record mid { config = config }) (Some ending) new → Finishes p ways old ending new
+  end_served : (old mid new : Standing C) (ending : Ending) (request : Request) (config : Config) → Reaches p ways old mid → step_of p mid.config ≡ (request, config)
+      → Served ways request (record mid { config = config }) (Some ending) new → Finishes p ways old ending new
   end_served old mid new ending (End last) config r is h =
       let same : last ≡ ending = cc in
       subst (λ (s : Standing C). Finishes p ways old ending s) (sym h.1) (record {
@@ -110,7 +110,7 @@ module _ {C : Type 0} (p : Program) (ways : Ways C) where
 
   -- the accesses so far are among those up to the end
   earlier_served : (cells : C) (n : ℕ) → ((m : Moment) (ending : Ending) (end : Store) → run p n m ≡ Over ending end → MayAll ways cells end.accesses → MayAll ways cells m.accesses)
-      → (asked : Asked) (m : Moment) (ending : Ending) (end : Store) → served (run p n) asked m ≡ Over ending end → MayAll ways cells end.accesses → MayAll ways cells m.accesses
+      → (request : Request) (m : Moment) (ending : Ending) (end : Store) → served (run p n) request m ≡ Over ending end → MayAll ways cells end.accesses → MayAll ways cells m.accesses
   earlier_served cells n before Nothing m ending end e h = before m ending end e h
   earlier_served cells n before (Read cell) m ending end e h = (before _ ending end e h).1
   earlier_served cells n before (Write cell value) m ending end e h = (before _ ending end e h).1
@@ -125,18 +125,18 @@ module _ {C : Type 0} (p : Program) (ways : Ways C) where
       earlier_served cells n (earlier cells n) (step_of p m.config).0 (record m { config = (step_of p m.config).1 }) ending end e h
 
   -- what the next step asks for is among them
-  next_served : (cells : C) (n : ℕ) (asked : Asked) (m : Moment) (ending : Ending) (end : Store) → served (run p n) asked m ≡ Over ending end → MayAll ways cells end.accesses → MayAsk ways cells asked
+  next_served : (cells : C) (n : ℕ) (request : Request) (m : Moment) (ending : Ending) (end : Store) → served (run p n) request m ≡ Over ending end → MayAll ways cells end.accesses → MayRequest ways cells request
   next_served cells n Nothing m ending end e h = tt
   next_served cells n (Read cell) m ending end e h = (earlier cells n _ ending end e h).0
   next_served cells n (Write cell value) m ending end e h = (earlier cells n _ ending end e h).0
   next_served cells n (Print value) m ending end e h = tt
   next_served cells n (End last) m ending end e h = tt
 
-  next_may : (cells : C) (n : ℕ) (m : Moment) (ending : Ending) (end : Store) → run p n m ≡ Over ending end → MayAll ways cells end.accesses → MayAsk ways cells (step_of p m.config).0
+  next_may : (cells : C) (n : ℕ) (m : Moment) (ending : Ending) (end : Store) → run p n m ≡ Over ending end → MayAll ways cells end.accesses → MayRequest ways cells (step_of p m.config).0
   next_may cells zero m ending end e h = absurd (cc)
   next_may cells (suc n) m ending end e h = next_served cells n (step_of p m.config).0 (record m { config = (step_of p m.config).1 }) ending end e h
 
-  ask_later : (old new : C) (asked : Asked) → MaySame ways old new → MayAsk ways old asked → MayAsk ways new asked
+  ask_later : (old new : C) (request : Request) → MaySame ways old new → MayRequest ways old request → MayRequest ways new request
   ask_later old new Nothing same h = tt
   ask_later old new (Read cell) same h = (same.read cell).0 h
   ask_later old new (Write cell value) same h = (same.write cell).0 h

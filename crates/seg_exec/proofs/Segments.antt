@@ -6,8 +6,8 @@ use Rattle.seg_exec.specs.declared.frame.OpenBody.{OpenBody}
 use Rattle.seg_exec.specs.declared.frame.Frame.{Frame}
 use Rattle.seg_exec.specs.declared.machine.Machine.{Machine}
 use Rattle.seg_exec.specs.declared.stop.Stop.{Stop}
-use Rattle.seg_exec.specs.declared.work.Ending.{Ending}
-use Rattle.seg_exec.specs.declared.work.Ending.TheVariants.{Returned, Faulted, Suspended}
+use Rattle.seg_exec.specs.declared.request.Ending.{Ending}
+use Rattle.seg_exec.specs.declared.request.Ending.TheVariants.{Returned, Faulted, Suspended}
 use Rattle.seg_exec.specs.Access.{MayAll, Ways, after, printed}
 use Rattle.seg_exec.specs.Meaning.{body_of, done_within}
 use Rattle.seg_exec.specs.Remaining.{resumed}
@@ -16,7 +16,7 @@ use Rattle.seg_exec.specs.Store.{Store, Flow, goes, returns, fails, stops}
 use Rattle.seg_exec.specs.inner.Finished.{finished}
 use Rattle.seg_exec.specs.inner.Reached.{Finishes, MayRun, over, standing}
 use Rattle.seg_exec.specs.inner.Runs.{Moment, Over, moment, run, store_of}
-use Rattle.seg_exec.specs.inner.Tasks.{Config}
+use Rattle.seg_exec.specs.inner.Continuations.{Config}
 use Rattle.seg_exec.specs.inner.Unfolded.{config_at, unfolded}
 use Rattle.seg_exec.specs.inner.Views.{config_of}
 use Rattle.seg_exec.proofs.Simulation.{within_meets}
@@ -34,7 +34,7 @@ module _ (p : Program) where
   ran frame prints fuel = record frame { prints = prints; fuel = fuel }
 
   -- what a run that ends so leaves
-  abbrev left : Frame → Ending → Store → Stopped
+  abbrev pub left : Frame → Ending → Store → Stopped
   left frame ending s =
       let done = finished p (ran frame (frame.prints ++ printed s.accesses) s.fuel) s.vars ending in
       record { frame = done.0; cells = s.cells; accesses = s.accesses; stop = done.1 }
@@ -54,7 +54,7 @@ module _ (p : Program) where
       ap (λ (x : Store). left frame (Suspended operation positions) x) b ∙ ap (λ (x : Ending). left frame x s) a
 
   -- over a list of cells
-  flow_so : (frame : Frame) (opened : Option OpenBody) (start : Config) (cells : List ℤ) → config_at p frame opened ≡ Some start
+  pub flow_so : (frame : Frame) (opened : Option OpenBody) (start : Config) (cells : List ℤ) → config_at p frame opened ≡ Some start
       → (n : ℕ) × (run p n (over start cells []) ≡ outcome_of p (flow_of p frame opened cells))
   flow_so frame None start cells is = absurd (cc)
   flow_so frame (Some opened) start cells is =
@@ -67,7 +67,7 @@ module _ (p : Program) where
       let meets = resumed_meets p n (done_within p n) (within_meets p n) opened.open_blocks body frame.fuel (omega arith) store (omega arith) [] [] in
       subst (λ (c : Config). (k : ℕ) × (run p k (over c cells []) ≡ outcome_of p flow)) same (ends_so p frame.fuel (over begun cells []) flow meets)
 
-  segment_so : (frame : Frame) (opened : Option OpenBody) (start : Config) (cells : List ℤ) (ending : Ending) (s : Store) → config_at p frame opened ≡ Some start
+  pub segment_so : (frame : Frame) (opened : Option OpenBody) (start : Config) (cells : List ℤ) (ending : Ending) (s : Store) → config_at p frame opened ≡ Some start
       → (n : ℕ) × (run p n (over start cells []) ≡ Over ending s) → stopped_by p frame (flow_of p frame opened cells) ≡ left frame ending s
   segment_so frame opened start cells ending s is ends =
       let flow = flow_of p frame opened cells in

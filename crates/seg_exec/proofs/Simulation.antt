@@ -5,23 +5,24 @@ use Rattle.std.proofs.lemmas.List.{append-nil}
 use Rattle.std.proofs.Math.Dec.{eqb-suc-zero}
 use Rattle.twe_io.specs.declared.place.Place.{Place}
 use Rattle.twe_ast.specs.declared.expr.BinOp.{BinOp}
+use Rattle.twe_limits.specs.Language.{max_active_calls}
 use Rattle.twe_program.specs.declared.program.Decl.{Decl}
 use Rattle.twe_program.specs.Program.{Program}
 use Rattle.twe_program.specs.Expression.{Expression, Literal, Truth, Variable, CellValue, ArrayElement, GridElement, CallValue, Negative, Negation, Binary, Arguments, argument}
 use Rattle.twe_program.specs.Expression as exprs
 use Rattle.twe_program.specs.Statement.{Statement, Block, Let, Set, SetCell, SetArray, SetGrid, If, While, Return, Print, Call, Make, Wait, Statements, no_more, statement, Arms, arm, otherwise, no_else}
 use Rattle.seg_exec.specs.declared.operation.Operation.TheVariants as operations
-use Rattle.seg_exec.specs.declared.work.Goal.{Goal}
-use Rattle.seg_exec.specs.declared.work.Goal.TheVariants as goals
-use Rattle.seg_exec.specs.declared.work.Asked.TheVariants as asks
-use Rattle.seg_exec.specs.declared.work.Ending.{Ending}
-use Rattle.seg_exec.specs.declared.work.Ending.TheVariants.{Faulted}
+use Rattle.seg_exec.specs.declared.continuation.Goal.{Goal}
+use Rattle.seg_exec.specs.declared.continuation.Goal.TheVariants as goals
+use Rattle.seg_exec.specs.declared.request.Request.TheVariants as requests
+use Rattle.seg_exec.specs.declared.request.Ending.{Ending}
+use Rattle.seg_exec.specs.declared.request.Ending.TheVariants.{Faulted}
 use Rattle.seg_exec.specs.Access.{Access}
 use Rattle.seg_exec.specs.Arithmetic.{is_true, operated, decided}
 use Rattle.seg_exec.specs.Cells.{element_number, grid_element_number}
 use Rattle.seg_exec.specs.Store.{Store, Given, gives, faults, Flow, goes, returns, fails, stops, then_give, then_do, then_go, unit_taken}
 use Rattle.seg_exec.specs.Meaning.{Below, element_read, element_written, value_or_fault, right_given, body_of, vars_at_start, given_back, entered, called, value_of, values_of, turned, chosen, stopped_at, done_by, done_all, done_arms, done_within}
-use Rattle.seg_exec.specs.inner.Tasks.{Task, Evaluate, Execute, Rest, Choose, Chosen, Turn, Gather, Take, Negate, Invert, Right, Apply, ReadElement, ReadGridElement, GiveVar, GiveCell, GiveElement, GiveGridElement, PrintValue, Discard, Unwind, Suspend, Leave, Config, to_do}
+use Rattle.seg_exec.specs.inner.Continuations.{Continuation, Evaluate, Execute, Rest, Choose, Chosen, Turn, Gather, Take, Negate, Invert, Right, Apply, ReadElement, ReadGridElement, GiveVar, GiveCell, GiveElement, GiveGridElement, PrintValue, Discard, Unwind, Suspend, Leave, Config, to_do}
 use Rattle.seg_exec.specs.inner.Steps.{Step, on, unit_or, asked_unit, read_at, written_at, right_by, applied, turned_by, chosen_by, entered_by}
 use Rattle.seg_exec.specs.inner.Runs.{Moment, Over, Comes, moment, stepped, run}
 
@@ -56,7 +57,7 @@ module _ (p : Program) where
   GivenTo bound from to (gives value s) = (s.fuel ≤ bound) × Comes p from (to value s)
   GivenTo bound from to (faults kind place s) = Ends from (Faulted kind place) s
 
-  abbrev pub FlowTo : ℕ → Moment → List Task → List ℤ → Flow → Type 0
+  abbrev pub FlowTo : ℕ → Moment → List Continuation → List ℤ → Flow → Type 0
   FlowTo bound from work values (goes s) = (s.fuel ≤ bound) × Comes p from (moment work values s)
   FlowTo bound from work values (returns value s) = (s.fuel ≤ bound) × Comes p from (moment (Unwind ∷ work) (value ∷ values) s)
   FlowTo bound from work values (fails kind place s) = Ends from (Faulted kind place) s
@@ -66,13 +67,13 @@ module _ (p : Program) where
   given_later bound a b to (gives value s) first second = (second.0, onward a b (to value s) first second.1)
   given_later bound a b to (faults kind place s) first second = ends_later a b (Faulted kind place) s first second
 
-  pub flow_later : (bound : ℕ) (a b : Moment) (work : List Task) (values : List ℤ) (f : Flow) → Comes p a b → FlowTo bound b work values f → FlowTo bound a work values f
+  pub flow_later : (bound : ℕ) (a b : Moment) (work : List Continuation) (values : List ℤ) (f : Flow) → Comes p a b → FlowTo bound b work values f → FlowTo bound a work values f
   flow_later bound a b work values (goes s) first second = (second.0, onward a b _ first second.1)
   flow_later bound a b work values (returns value s) first second = (second.0, onward a b _ first second.1)
   flow_later bound a b work values (fails kind place s) first second = ends_later a b (Faulted kind place) s first second
   flow_later bound a b work values (stops operation positions s) first second = (second.0, onward a b _ first second.1)
 
-  flow_weaker : (least bound : ℕ) (from : Moment) (work : List Task) (values : List ℤ) (f : Flow) → least ≤ bound → FlowTo least from work values f → FlowTo bound from work values f
+  flow_weaker : (least bound : ℕ) (from : Moment) (work : List Continuation) (values : List ℤ) (f : Flow) → least ≤ bound → FlowTo least from work values f → FlowTo bound from work values f
   flow_weaker least bound from work values (goes s) le h = (omega (arith, h.0), h.1)
   flow_weaker least bound from work values (returns value s) le h = (omega (arith, h.0), h.1)
   flow_weaker least bound from work values (fails kind place s) le h = h
@@ -84,13 +85,13 @@ module _ (p : Program) where
   give_then bound from to to' (gives value s) next h k = given_later bound from (to value s) to' (next value s) h.1 (k value s h.0)
   give_then bound from to to' (faults kind place s) next h k = h
 
-  do_then : {A : Type 0} (bound : ℕ) (from : Moment) (to : A → Store → Moment) (work : List Task) (values : List ℤ) (g : Given A) (next : A → Store → Flow)
+  do_then : {A : Type 0} (bound : ℕ) (from : Moment) (to : A → Store → Moment) (work : List Continuation) (values : List ℤ) (g : Given A) (next : A → Store → Flow)
       → GivenTo bound from to g → ((value : A) (s : Store) → s.fuel ≤ bound → FlowTo bound (to value s) work values (next value s)) → FlowTo bound from work values (then_do g next)
   do_then bound from to work values (gives value s) next h k = flow_later bound from (to value s) work values (next value s) h.1 (k value s h.0)
   do_then bound from to work values (faults kind place s) next h k = h
 
   -- after a statement of a block
-  pub rest_then : (bound block at : ℕ) (from : Moment) (others : Statements) (work : List Task) (values : List ℤ) (f : Flow) (next : Store → Flow)
+  pub rest_then : (bound block at : ℕ) (from : Moment) (others : Statements) (work : List Continuation) (values : List ℤ) (f : Flow) (next : Store → Flow)
       → FlowTo bound from (Rest block at others ∷ work) values f
       → ((s : Store) → s.fuel ≤ bound → FlowTo bound (moment (Rest block at others ∷ work) values s) work values (next s))
       → FlowTo bound from work values (then_go (stopped_at block at f) next)
@@ -100,7 +101,7 @@ module _ (p : Program) where
   rest_then bound block at from others work values (stops operation positions s) next h k = (h.0, onward from _ _ h.1 (one _ _ (λ k. refl)))
 
   -- after the body of a loop
-  pub again_then : (bound : ℕ) (from : Moment) (again : Statement) (work : List Task) (values : List ℤ) (f : Flow) (next : Store → Flow)
+  pub again_then : (bound : ℕ) (from : Moment) (again : Statement) (work : List Continuation) (values : List ℤ) (f : Flow) (next : Store → Flow)
       → FlowTo bound from (Execute again ∷ work) values f
       → ((s : Store) → s.fuel ≤ bound → FlowTo bound (moment (Execute again ∷ work) values s) work values (next s))
       → FlowTo bound from work values (then_go f next)
@@ -110,19 +111,19 @@ module _ (p : Program) where
   again_then bound from again work values (stops operation positions s) next h k = (h.0, onward from _ _ h.1 (one _ _ (λ k. refl)))
 
   -- what comes of a step, where it depends on a choice
-  read_meets : (bound : ℕ) (from : Moment) (place : Place) (work : List Task) (values : List ℤ) (s : Store) (cell : Option ℕ) → s.fuel ≤ bound
+  read_meets : (bound : ℕ) (from : Moment) (place : Place) (work : List Continuation) (values : List ℤ) (s : Store) (cell : Option ℕ) → s.fuel ≤ bound
       → ((k : ℕ) → run p (suc k) from ≡ stepped (run p k) (read_at cell place (moment work values s).config) (moment work values s))
       → GivenTo bound from (λ v s1. moment work (v ∷ values) s1) (element_read cell place s)
   read_meets bound from place work values s None h e = last_one from _ s e
   read_meets bound from place work values s (Some cell) h e = (h, one from _ e)
 
-  written_meets : (bound : ℕ) (from : Moment) (place : Place) (work : List Task) (values : List ℤ) (s : Store) (cell : Option ℕ) (value : ℤ) → s.fuel ≤ bound
+  written_meets : (bound : ℕ) (from : Moment) (place : Place) (work : List Continuation) (values : List ℤ) (s : Store) (cell : Option ℕ) (value : ℤ) → s.fuel ≤ bound
       → ((k : ℕ) → run p (suc k) from ≡ stepped (run p k) (written_at cell value place (moment work values s).config) (moment work values s))
       → FlowTo bound from work values (element_written cell value place s)
   written_meets bound from place work values s None value h e = last_one from _ s e
   written_meets bound from place work values s (Some cell) value h e = (h, one from _ e)
 
-  applied_meets : (bound : ℕ) (from : Moment) (place : Place) (work : List Task) (values : List ℤ) (s : Store) (value : Option ℤ) → s.fuel ≤ bound
+  applied_meets : (bound : ℕ) (from : Moment) (place : Place) (work : List Continuation) (values : List ℤ) (s : Store) (value : Option ℤ) → s.fuel ≤ bound
       → ((k : ℕ) → run p (suc k) from ≡ stepped (run p k) (applied value place (moment work values s).config) (moment work values s))
       → GivenTo bound from (λ v s1. moment work (v ∷ values) s1) (value_or_fault value place s)
   applied_meets bound from place work values s None h e = last_one from _ s e
@@ -130,7 +131,7 @@ module _ (p : Program) where
 
   -- a unit of fuel: none is left, or one less is
   unit_given : {A : Type 0} (fuel bound : ℕ) (cells vars : List ℤ) (calls : ℕ) (accesses : List Access) (from : Moment) (place : Place)
-      (work : List Task) (values : List ℤ) (step : Config → Step) (to : A → Store → Moment) (next : Unit {0} → Store → Given A)
+      (work : List Continuation) (values : List ℤ) (step : Config → Step) (to : A → Store → Moment) (next : Unit {0} → Store → Given A)
       → let s : Store = record { cells = cells; vars = vars; fuel = fuel; calls = calls; accesses = accesses } in
       ((k : ℕ) → run p (suc k) from ≡ stepped (run p k) (asked_unit place (moment work values s).config step) (moment work values s))
       → ((left : ℕ) → suc left ≡ fuel
@@ -145,7 +146,7 @@ module _ (p : Program) where
       ∙ ap (λ (fuel : ℕ). stepped (run p n) (step (moment work values (s fuel)).config) (moment work values (s fuel))) same)
 
   unit_done : (fuel bound : ℕ) (cells vars : List ℤ) (calls : ℕ) (accesses : List Access) (from : Moment) (place : Place)
-      (work : List Task) (values : List ℤ) (step : Config → Step) (work' : List Task) (values' : List ℤ) (next : Unit {0} → Store → Flow)
+      (work : List Continuation) (values : List ℤ) (step : Config → Step) (work' : List Continuation) (values' : List ℤ) (next : Unit {0} → Store → Flow)
       → let s : Store = record { cells = cells; vars = vars; fuel = fuel; calls = calls; accesses = accesses } in
       ((k : ℕ) → run p (suc k) from ≡ stepped (run p k) (asked_unit place (moment work values s).config step) (moment work values s))
       → ((left : ℕ) → suc left ≡ fuel
@@ -160,7 +161,7 @@ module _ (p : Program) where
       ∙ ap (λ (fuel : ℕ). stepped (run p n) (step (moment work values (s fuel)).config) (moment work values (s fuel))) same)
 
   -- a method is left
-  back_meets : (least bound : ℕ) (from : Moment) (vars : List ℤ) (work : List Task) (values : List ℤ) (f : Flow) → least ≤ bound
+  back_meets : (least bound : ℕ) (from : Moment) (vars : List ℤ) (work : List Continuation) (values : List ℤ) (f : Flow) → least ≤ bound
       → FlowTo least from (Leave vars ∷ work) values f → GivenTo bound from (λ v s. moment work (v ∷ values) s) (given_back vars f)
   back_meets least bound from vars work values (goes s) le h = (omega (arith, h.0), onward from _ _ h.1 (one _ _ (λ k. refl)))
   back_meets least bound from vars work values (returns value s) le h = (omega (arith, h.0), onward from _ _ h.1 (one _ _ (λ k. refl)))
@@ -169,18 +170,18 @@ module _ (p : Program) where
 
   -- what takes a unit of fuel and comes after it meets its meaning, where less than n units are left
   abbrev pub MeetsStatements : ℕ → Below → Type 0
-  MeetsStatements n below = (stmt : Statement) (s : Store) (bound : ℕ) → s.fuel ≤ bound → bound < n → (work : List Task) (values : List ℤ)
+  MeetsStatements n below = (stmt : Statement) (s : Store) (bound : ℕ) → s.fuel ≤ bound → bound < n → (work : List Continuation) (values : List ℤ)
       → FlowTo bound (moment (Execute stmt ∷ work) values s) work values (below stmt s)
 
   abbrev pub MeetsBodies : ℕ → Below → Type 0
-  MeetsBodies n below = (body : Statements) (s : Store) (bound : ℕ) → s.fuel ≤ bound → bound < n → (work : List Task) (values : List ℤ)
+  MeetsBodies n below = (body : Statements) (s : Store) (bound : ℕ) → s.fuel ≤ bound → bound < n → (work : List Continuation) (values : List ℤ)
       → FlowTo bound (moment (Rest 0 0 body ∷ work) values s) work values (below (Block 0 body) s)
 
   abbrev pub Meets : ℕ → Below → Type 0
   Meets n below = MeetsStatements n below × MeetsBodies n below
 
   module _ (n : ℕ) (below : Below) (meets : Meets n below) where
-    entered_meets : (full : Bool) (decl : Option Decl) (vs : List ℤ) (place : Place) (from : Moment) (left bound : ℕ) (work : List Task) (values : List ℤ) (s : Store)
+    entered_meets : (full : Bool) (decl : Option Decl) (vs : List ℤ) (place : Place) (from : Moment) (left bound : ℕ) (work : List Continuation) (values : List ℤ) (s : Store)
         → s.fuel ≤ left → left < n → left ≤ bound
         → ((k : ℕ) → run p (suc k) from ≡ stepped (run p k) (entered_by full decl vs place (moment work values s).config) (moment work values s))
         → GivenTo bound from (λ v s1. moment work (v ∷ values) s1) (entered full below decl vs place s)
@@ -192,16 +193,16 @@ module _ (p : Program) where
         (back_meets left bound _ s.vars work values (below (Block 0 body) inside) le
         (meets.1 body inside left h lt (Leave s.vars ∷ work) values))
 
-    called_meets : (method : ℕ) (vs : List ℤ) (place : Place) (bound : ℕ) (work : List Task) (values : List ℤ) (s : Store) → bound ≤ n → s.fuel ≤ bound
+    called_meets : (method : ℕ) (vs : List ℤ) (place : Place) (bound : ℕ) (work : List Continuation) (values : List ℤ) (s : Store) → bound ≤ n → s.fuel ≤ bound
         → GivenTo bound (moment (Gather vs exprs.no_more (goals.Enter method place) ∷ work) values s) (λ v s1. moment work (v ∷ values) s1) (called below p method vs place s)
     called_meets method vs place bound work values s le h =
         unit_given s.fuel bound s.cells s.vars s.calls s.accesses (moment (Gather vs exprs.no_more (goals.Enter method place) ∷ work) values s) place work values
-        (λ c. entered_by (nat_le 1000 c.calls) (slice_get p.methods method) vs place c) (λ v s1. moment work (v ∷ values) s1)
-        (λ unit s1. entered (nat_le 1000 s1.calls) below (slice_get p.methods method) vs place s1) (λ k. refl)
-        (λ left is e. entered_meets (nat_le 1000 s.calls) (slice_get p.methods method) vs place _ left bound work values (record s { fuel = left })
+        (λ c. entered_by (nat_le max_active_calls c.calls) (slice_get p.methods method) vs place c) (λ v s1. moment work (v ∷ values) s1)
+        (λ unit s1. entered (nat_le max_active_calls s1.calls) below (slice_get p.methods method) vs place s1) (λ k. refl)
+        (λ left is e. entered_meets (nat_le max_active_calls s.calls) (slice_get p.methods method) vs place _ left bound work values (record s { fuel = left })
         (omega arith) (omega (arith, is)) (omega (arith, is)) e)
 
-    right_meets : (d : Option ℤ) (op : BinOp) (x : ℤ) (right : Expression) (place : Place) (from : Moment) (bound : ℕ) (work : List Task) (values : List ℤ) (s : Store) → s.fuel ≤ bound
+    right_meets : (d : Option ℤ) (op : BinOp) (x : ℤ) (right : Expression) (place : Place) (from : Moment) (bound : ℕ) (work : List Continuation) (values : List ℤ) (s : Store) → s.fuel ≤ bound
         → ((k : ℕ) → run p (suc k) from ≡ stepped (run p k) (right_by d op x right place (moment work values s).config) (moment work values s))
         → GivenTo bound (moment (Evaluate right ∷ (Apply op place ∷ work)) (x ∷ values) s) (λ v s1. moment (Apply op place ∷ work) (v ∷ (x ∷ values)) s1) (value_of below p right s)
         → GivenTo bound from (λ v s1. moment work (v ∷ values) s1) (right_given d op x place (value_of below p right s) s)
@@ -213,7 +214,7 @@ module _ (p : Program) where
         (λ y s1 h1. applied_meets bound _ place work values s1 (operated op x y) h1 (λ k. refl)))
 
     mutual
-      value_meets : (e : Expression) (bound : ℕ) → bound ≤ n → (s : Store) → s.fuel ≤ bound → (work : List Task) (values : List ℤ)
+      value_meets : (e : Expression) (bound : ℕ) → bound ≤ n → (s : Store) → s.fuel ≤ bound → (work : List Continuation) (values : List ℤ)
           → GivenTo bound (moment (Evaluate e ∷ work) values s) (λ v s1. moment work (v ∷ values) s1) (value_of below p e s)
       value_meets (Literal value) bound le s h work values = (h, one _ _ (λ k. refl))
       value_meets (Truth value) bound le s h work values = (h, one _ _ (λ k. refl))
@@ -251,7 +252,7 @@ module _ (p : Program) where
           (λ x s1. right_given (decided op (is_true x)) op x place (value_of below p right s1) s1) (value_meets left bound le s h (Right op right place ∷ work) values)
           (λ x s1 h1. right_meets (decided op (is_true x)) op x right place _ bound work values s1 h1 (λ k. refl) (value_meets right bound le s1 h1 (Apply op place ∷ work) (x ∷ values))))
 
-      values_meet : (args : Arguments) (bound : ℕ) → bound ≤ n → (s : Store) → s.fuel ≤ bound → (taken : List ℤ) (goal : Goal) (work : List Task) (values : List ℤ)
+      values_meet : (args : Arguments) (bound : ℕ) → bound ≤ n → (s : Store) → s.fuel ≤ bound → (taken : List ℤ) (goal : Goal) (work : List Continuation) (values : List ℤ)
           → GivenTo bound (moment (Gather taken args goal ∷ work) values s) (λ vs s1. moment (Gather (taken ++ vs) exprs.no_more goal ∷ work) values s1) (values_of below p args s)
       values_meet exprs.no_more bound le s h taken goal work values =
           (h, record { by = λ k. (k, omega arith, ap (λ (vs : List ℤ). run p k (moment (Gather vs exprs.no_more goal ∷ work) values s)) (sym (append-nil taken))) })
@@ -265,7 +266,7 @@ module _ (p : Program) where
           (λ vs s2 h2. (h2, record { by = λ k. (k, omega arith, ap (λ (all : List ℤ). run p k (moment (Gather all exprs.no_more goal ∷ work) values s2)) (append_assoc taken (v ∷ []) vs)) })))))
 
     -- a loop that is tested
-    turned_meets : (true_or_not : Bool) (point : ℕ) (condition : Expression) (body : Statements) (place : Place) (from : Moment) (bound : ℕ) (work : List Task) (values : List ℤ) (s : Store)
+    turned_meets : (true_or_not : Bool) (point : ℕ) (condition : Expression) (body : Statements) (place : Place) (from : Moment) (bound : ℕ) (work : List Continuation) (values : List ℤ) (s : Store)
         → bound ≤ n → s.fuel ≤ bound
         → ((k : ℕ) → run p (suc k) from ≡ stepped (run p k) (turned_by true_or_not (While point condition body place) body place (moment work values s).config) (moment work values s))
         → ((left : ℕ) → left ≤ n → (s1 : Store) → s1.fuel ≤ left → FlowTo left (moment (Rest 0 0 body ∷ (Execute (While point condition body place) ∷ work)) values s1) (Execute (While point condition body place) ∷ work) values (done_all below p 0 0 body s1))
@@ -282,7 +283,7 @@ module _ (p : Program) where
         (inside left (omega (arith, is)) s1 (omega arith))
         (λ s2 h2. meets.0 again s2 left h2 (omega (arith, is)) work values))))
 
-    chosen_meets : (true_or_not : Bool) (block : ℕ) (body : Statements) (others : Arms) (from : Moment) (bound : ℕ) (work : List Task) (values : List ℤ) (s : Store)
+    chosen_meets : (true_or_not : Bool) (block : ℕ) (body : Statements) (others : Arms) (from : Moment) (bound : ℕ) (work : List Continuation) (values : List ℤ) (s : Store)
         → ((k : ℕ) → run p (suc k) from ≡ stepped (run p k) (chosen_by true_or_not block (block + 1) body others (moment work values s).config) (moment work values s))
         → FlowTo bound (moment (Rest block 0 body ∷ work) values s) work values (done_all below p block 0 body s)
         → FlowTo bound (moment (Choose (block + 1) others ∷ work) values s) work values (done_arms below p (block + 1) others s)
@@ -291,7 +292,7 @@ module _ (p : Program) where
     chosen_meets false block body others from bound work values s e first second = flow_later bound from _ work values (done_arms below p (block + 1) others s) (one from _ e) second
 
     -- a value, and what a statement does with it
-    use_value : (e : Expression) (task : Task) (from : Moment) (next : ℤ → Store → Flow) (bound : ℕ) → bound ≤ n → (s : Store) → s.fuel ≤ bound → (work : List Task) (values : List ℤ) (work' : List Task) (values' : List ℤ)
+    use_value : (e : Expression) (task : Continuation) (from : Moment) (next : ℤ → Store → Flow) (bound : ℕ) → bound ≤ n → (s : Store) → s.fuel ≤ bound → (work : List Continuation) (values : List ℤ) (work' : List Continuation) (values' : List ℤ)
         → ((k : ℕ) → run p (suc k) from ≡ run p k (moment (Evaluate e ∷ (task ∷ work)) values s))
         → ((v : ℤ) (s1 : Store) → s1.fuel ≤ bound → FlowTo bound (moment (task ∷ work) (v ∷ values) s1) work' values' (next v s1))
         → FlowTo bound from work' values' (then_do (value_of below p e s) next)
@@ -300,7 +301,7 @@ module _ (p : Program) where
         (do_then bound _ (λ v s1. moment (task ∷ work) (v ∷ values) s1) work' values' (value_of below p e s) next (value_meets e bound le s h (task ∷ work) values) then)
 
     mutual
-      statement_meets : (stmt : Statement) (bound : ℕ) → bound ≤ n → (s : Store) → s.fuel ≤ bound → (work : List Task) (values : List ℤ)
+      statement_meets : (stmt : Statement) (bound : ℕ) → bound ≤ n → (s : Store) → s.fuel ≤ bound → (work : List Continuation) (values : List ℤ)
           → FlowTo bound (moment (Execute stmt ∷ work) values s) work values (done_by below p stmt s)
       statement_meets (Block point body) bound le s h work values =
           flow_later bound _ _ work values (done_all below p 0 0 body s) (one _ _ (λ k. refl)) (all_meet body 0 0 bound le s h work values)
@@ -340,7 +341,7 @@ module _ (p : Program) where
           use_value value Unwind _ _ bound le s h work values work values (λ k. refl) (λ v s1 h1. (h1, stays _))
       statement_meets (Print point value place) bound le s h work values =
           use_value value (PrintValue place) _ _ bound le s h work values work values (λ k. refl)
-          (λ v s1 h1. unit_done s1.fuel bound s1.cells s1.vars s1.calls s1.accesses _ place work values (λ c. (asks.Print v, c)) work values _ (λ k. refl)
+          (λ v s1 h1. unit_done s1.fuel bound s1.cells s1.vars s1.calls s1.accesses _ place work values (λ c. (requests.Print v, c)) work values _ (λ k. refl)
           (λ left is e. (omega (arith, is, h1), one _ _ e)))
       statement_meets (Call point method args place) bound le s h work values =
           flow_later bound _ (moment (Gather [] args (goals.Enter method place) ∷ (Discard ∷ work)) values s) work values _ (one _ _ (λ k. refl))
@@ -359,7 +360,7 @@ module _ (p : Program) where
           unit_done s.fuel bound s.cells s.vars s.calls s.accesses _ place work values (λ c. on (to_do (Suspend (operations.Wait future join into) []) c)) work values _ (λ k. refl)
           (λ left is e. (omega (arith, is, h), one _ _ e))
 
-      pub all_meet : (stmts : Statements) (block at bound : ℕ) → bound ≤ n → (s : Store) → s.fuel ≤ bound → (work : List Task) (values : List ℤ)
+      pub all_meet : (stmts : Statements) (block at bound : ℕ) → bound ≤ n → (s : Store) → s.fuel ≤ bound → (work : List Continuation) (values : List ℤ)
           → FlowTo bound (moment (Rest block at stmts ∷ work) values s) work values (done_all below p block at stmts s)
       all_meet no_more block at bound le s h work values = (h, one _ _ (λ k. refl))
       all_meet (statement first others) block at bound le s h work values =
@@ -368,7 +369,7 @@ module _ (p : Program) where
           (statement_meets first bound le s h (Rest block (at + 1) others ∷ work) values)
           (λ s1 h1. all_meet others block (at + 1) bound le s1 h1 work values))
 
-      arms_meet : (arms : Arms) (block bound : ℕ) → bound ≤ n → (s : Store) → s.fuel ≤ bound → (work : List Task) (values : List ℤ)
+      arms_meet : (arms : Arms) (block bound : ℕ) → bound ≤ n → (s : Store) → s.fuel ≤ bound → (work : List Continuation) (values : List ℤ)
           → FlowTo bound (moment (Choose block arms ∷ work) values s) work values (done_arms below p block arms s)
       arms_meet no_else block bound le s h work values = (h, one _ _ (λ k. refl))
       arms_meet (otherwise body) block bound le s h work values =

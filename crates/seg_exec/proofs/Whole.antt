@@ -3,13 +3,13 @@ use Rattle.std.proofs.Common.{◌≡◌, ℕ, zero, suc, ◌<◌, ◌≤◌, ℤ
 use Rattle.twe_program.specs.Program.{Program}
 use Rattle.twe_program.specs.Statement.{Statement, While, Statements}
 use Rattle.seg_exec.specs.declared.frame.Position.{Position}
-use Rattle.seg_exec.specs.declared.work.Asked.{Asked}
-use Rattle.seg_exec.specs.declared.work.Asked.TheVariants as asks
-use Rattle.seg_exec.specs.declared.work.Ending.TheVariants.{Returned, Faulted, Suspended}
+use Rattle.seg_exec.specs.declared.request.Request.{Request}
+use Rattle.seg_exec.specs.declared.request.Request.TheVariants as requests
+use Rattle.seg_exec.specs.declared.request.Ending.TheVariants.{Returned, Faulted, Suspended}
 use Rattle.seg_exec.specs.Store.{Store, Flow, goes, returns, fails, stops}
 use Rattle.seg_exec.specs.Meaning.{Below, done_all}
 use Rattle.seg_exec.specs.Remaining.{after_first, last_of_first, block_of, block_at, turned_again, resumed}
-use Rattle.seg_exec.specs.inner.Tasks.{Task, Rest}
+use Rattle.seg_exec.specs.inner.Continuations.{Continuation, Rest}
 use Rattle.seg_exec.specs.inner.Steps.{step_of}
 use Rattle.seg_exec.specs.inner.Runs.{Comes, Moment, Outcome, Over, Unfinished, moment, served, run}
 use Rattle.seg_exec.specs.inner.Unfolded.{again_of, unfolded}
@@ -17,7 +17,7 @@ use Rattle.seg_exec.proofs.Simulation.{stays, FlowTo, Meets, rest_then, again_th
 
 module _ (p : Program) where
   module _ (n : ℕ) (below : Below) (meets : Meets p n below) where
-    again_meets : (inner : List Position) (stmt : Option Statement) (from : Moment) (bound : ℕ) → bound < n → (work : List Task) (values : List ℤ) (f : Flow)
+    again_meets : (inner : List Position) (stmt : Option Statement) (from : Moment) (bound : ℕ) → bound < n → (work : List Continuation) (values : List ℤ) (f : Flow)
         → FlowTo p bound from (again_of inner stmt work) values f → FlowTo p bound from work values (turned_again below inner stmt f)
     again_meets (position ∷ inner) (Some (While point condition body place)) from bound lt work values f h =
         again_then p bound from (While point condition body place) work values f (below (While point condition body place)) h
@@ -26,7 +26,7 @@ module _ (p : Program) where
     again_meets (position ∷ inner) None from bound lt work values f h = h
     again_meets (position ∷ inner) (Some _) from bound lt work values f h = h
 
-    pub resumed_meets : (positions : List Position) (stmts : Statements) (bound : ℕ) → bound < n → (s : Store) → s.fuel ≤ bound → (work : List Task) (values : List ℤ)
+    pub resumed_meets : (positions : List Position) (stmts : Statements) (bound : ℕ) → bound < n → (s : Store) → s.fuel ≤ bound → (work : List Continuation) (values : List ℤ)
         → FlowTo p bound (moment (unfolded stmts positions work) values s) work values (resumed below p stmts positions s)
     resumed_meets [] stmts bound lt s h work values = (h, stays p _)
     resumed_meets (position ∷ inner) stmts bound lt s h work values =
@@ -56,12 +56,12 @@ module _ (p : Program) where
   IsOver Unfinished = ⊥
 
   once_served : (k j : ℕ) → ((m : Moment) (o o' : Outcome) → IsOver o → IsOver o' → run p k m ≡ o → run p j m ≡ o' → o ≡ o')
-      → (asked : Asked) (m : Moment) (o o' : Outcome) → IsOver o → IsOver o' → served (run p k) asked m ≡ o → served (run p j) asked m ≡ o' → o ≡ o'
-  once_served k j one asks.Nothing m o o' h h' e e' = one _ o o' h h' e e'
-  once_served k j one (asks.Read cell) m o o' h h' e e' = one _ o o' h h' e e'
-  once_served k j one (asks.Write cell value) m o o' h h' e e' = one _ o o' h h' e e'
-  once_served k j one (asks.Print value) m o o' h h' e e' = one _ o o' h h' e e'
-  once_served k j one (asks.End ending) m o o' h h' e e' = sym e ∙ e'
+      → (request : Request) (m : Moment) (o o' : Outcome) → IsOver o → IsOver o' → served (run p k) request m ≡ o → served (run p j) request m ≡ o' → o ≡ o'
+  once_served k j one requests.Nothing m o o' h h' e e' = one _ o o' h h' e e'
+  once_served k j one (requests.Read cell) m o o' h h' e e' = one _ o o' h h' e e'
+  once_served k j one (requests.Write cell value) m o o' h h' e e' = one _ o o' h h' e e'
+  once_served k j one (requests.Print value) m o o' h h' e e' = one _ o o' h h' e e'
+  once_served k j one (requests.End ending) m o o' h h' e e' = sym e ∙ e'
 
   not_over : (o : Outcome) → IsOver o → Unfinished ≡ o → ⊥
   not_over (Over ending s) h e = cc
@@ -73,13 +73,13 @@ module _ (p : Program) where
   once (suc k) (suc j) m o o' h h' e e' = once_served k j (once k j) (step_of p m.config).0 (record m { config = (step_of p m.config).1 }) o o' h h' e e'
 
   -- a run that is over stays over with more steps
-  longer_served : (k j : ℕ) → ((m : Moment) (o : Outcome) → IsOver o → run p k m ≡ o → run p j m ≡ o) → (asked : Asked) (m : Moment) (o : Outcome) → IsOver o
-      → served (run p k) asked m ≡ o → served (run p j) asked m ≡ o
-  longer_served k j longer asks.Nothing m o h e = longer _ o h e
-  longer_served k j longer (asks.Read cell) m o h e = longer _ o h e
-  longer_served k j longer (asks.Write cell value) m o h e = longer _ o h e
-  longer_served k j longer (asks.Print value) m o h e = longer _ o h e
-  longer_served k j longer (asks.End ending) m o h e = e
+  longer_served : (k j : ℕ) → ((m : Moment) (o : Outcome) → IsOver o → run p k m ≡ o → run p j m ≡ o) → (request : Request) (m : Moment) (o : Outcome) → IsOver o
+      → served (run p k) request m ≡ o → served (run p j) request m ≡ o
+  longer_served k j longer requests.Nothing m o h e = longer _ o h e
+  longer_served k j longer (requests.Read cell) m o h e = longer _ o h e
+  longer_served k j longer (requests.Write cell value) m o h e = longer _ o h e
+  longer_served k j longer (requests.Print value) m o h e = longer _ o h e
+  longer_served k j longer (requests.End ending) m o h e = e
 
   longer : (k j : ℕ) → k ≤ j → (m : Moment) (o : Outcome) → IsOver o → run p k m ≡ o → run p j m ≡ o
   longer zero j le m o h e = absurd (not_over o h e)

@@ -1,27 +1,27 @@
--- Which cell a name and its indexes stand for.
+-- The numbers of the cells that names with indexes denote.
 use Rattle.std.specs.Prelude.{ℕ, ◌+◌, ◌*◌, ℤ, pos, negsuc, Option, None, Some, nat_lt, if◌then◌else◌, option_map, slice_get}
 use Rattle.twe_program.specs.declared.program.Dims.{Dims}
 use Rattle.twe_program.specs.declared.program.Dims.TheVariants.{Scalar, Row, Grid}
 use Rattle.twe_program.specs.declared.program.CellDecl.{CellDecl}
 use Rattle.twe_program.specs.Program.{Program}
 
--- the number of the first cell of a declaration
+-- the number of the first cell of a declaration; 0 if there is no such declaration
 abbrev pub first_of : Option CellDecl → ℕ
 first_of None = 0
 first_of (Some cell) = cell.first
 
--- an index within its bound: at least 0 and below it
+-- the index if it is at least 0 and below its bound
 abbrev pub index_below : ℕ → ℤ → Option ℕ
 index_below bound (pos n) = if nat_lt n bound then Some n else None
 index_below bound (negsuc n) = None
 
--- the place of an element in its array, if the index is within its bound
+-- the place of an element in its array; none if the index is out of range
 abbrev pub in_row : Dims → ℤ → Option ℕ
 in_row (Row count) index = index_below count index
 in_row Scalar index = None
 in_row (Grid rows columns) index = None
 
--- the place of an element in its grid, whose elements are numbered row by row, if both indexes are within their bounds
+-- the place of an element in its grid, whose elements are numbered row by row; none if an index is out of range
 abbrev pub at_column : ℕ → Option ℕ → Option ℕ → Option ℕ
 at_column columns (Some row) (Some column) = Some (row * columns + column)
 at_column columns None column = None
@@ -32,7 +32,7 @@ in_grid (Grid rows columns) row column = at_column columns (index_below rows row
 in_grid Scalar row column = None
 in_grid (Row count) row column = None
 
--- the number of the element, if there is one
+-- the number of the cell of an element; none if an index is out of range
 abbrev pub element_of : Option CellDecl → ℤ → Option ℕ
 element_of None index = None
 element_of (Some cell) index = option_map (λ offset. cell.first + offset) (in_row cell.dims index)

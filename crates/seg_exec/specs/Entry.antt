@@ -1,4 +1,4 @@
--- A task before its first segment.
+-- The frame and the effects of a task before its first segment.
 use Rattle.std.specs.Prelude.{ℕ, ℤ, pos, List, [], ◌∷◌, map, replicate, Option, None, Some, slice_get}
 use Rattle.region_paths.specs.declared.elements.Elem.TheVariants.{Index}
 use Rattle.effect_sets.specs.declared.effects.Summary.{Summary}
@@ -10,6 +10,7 @@ use Rattle.seg_exec.specs.declared.frame.Frame.{Frame}
 use Rattle.seg_exec.specs.declared.frame.Next.TheVariants.{Go}
 use Rattle.seg_exec.specs.Meaning.{vars_at_start}
 
+-- the number of futures of a body
 abbrev pub future_count_of : Option Decl → ℕ
 future_count_of None = 0
 future_count_of (Some decl) = decl.body.futures
@@ -18,7 +19,7 @@ future_count_of (Some decl) = decl.body.futures
 abbrev pub entry_body : Option Decl → List ℤ → OpenBody
 entry_body decl args = record { vars = vars_at_start decl args; open_blocks = record { block = 0; after = 0 } ∷ [] }
 
--- the frame of a task of a declaration with these arguments; its number and its fuel are still to be put in
+-- the frame of a task of a declaration with these arguments; its number and its fuel are 0, and set when it is made
 abbrev pub frame_of : Option Decl → ℕ → List ℤ → Frame
 frame_of decl task args = record {
   task = 0;
@@ -35,7 +36,7 @@ frame_of decl task args = record {
 abbrev pub entry_frame : Program → ℕ → List ℤ → Frame
 entry_frame p task args = frame_of (slice_get p.tasks task) task args
 
--- the effects of a task with these arguments: its summary, filled with them
+-- the effects of a task with these arguments: the summary of its declaration, filled with them
 abbrev pub effects_of : Option Decl → List ℤ → Summary
 effects_of None args = record { effects = [] }
 effects_of (Some decl) args = fill_summary (map (λ value. Index value) args) decl.summary

@@ -1,4 +1,4 @@
--- What a frame that waits becomes once the awaited value is there.
+-- How a frame that waits takes the awaited value.
 use Rattle.std.specs.Prelude.{ℕ, ℤ, ◌==◌, List, [], ◌∷◌, Option, None, Some, if◌then◌else◌, slice_set}
 use Rattle.seg_exec.specs.declared.frame.OpenBody.{OpenBody}
 use Rattle.seg_exec.specs.declared.frame.Frame.{Frame}
@@ -10,7 +10,7 @@ abbrev pub without : ℕ → List ℕ → List ℕ
 without child [] = []
 without child (first ∷ others) = if first == child then others else (first ∷ without child others)
 
--- the variable that takes the value, if one does, has it
+-- the variables once the one that takes the value, if any does, has it
 abbrev pub vars_with : Option ℕ → ℤ → List ℤ → List ℤ
 vars_with None value vars = vars
 vars_with (Some var) value vars = slice_set vars var value
@@ -19,7 +19,8 @@ abbrev pub body_with : Option ℕ → ℤ → Option OpenBody → Option OpenBod
 body_with into value None = None
 body_with into value (Some body) = Some (record body { vars = vars_with into value body.vars })
 
--- the frame goes on, and a child that was joined is not out any more; a frame that does not wait stays as it is
+-- the frame takes the value and can run its next segment; a joined child is no longer among its unjoined children. A
+-- frame that does not wait stays as it is.
 abbrev pub given_by : Next → Frame → ℤ → Frame
 given_by Go frame value = frame
 given_by (Get on into) frame value = record frame { body = body_with into value frame.body; next = Go }

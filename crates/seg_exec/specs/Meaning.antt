@@ -1,6 +1,7 @@
 -- What expressions and statements do. Operands and arguments are evaluated from the left.
 use Rattle.std.specs.Prelude.{ℕ, zero, suc, ◌+◌, ◌-◌, ℤ, pos, Bool, true, false, List, [], ◌∷◌, ◌++◌, length, replicate, Option, None, Some, nat_le, slice_get}
 use Rattle.twe_io.specs.declared.place.Place.{Place}
+use Rattle.twe_limits.specs.Language.{max_active_calls}
 use Rattle.twe_limits.specs.declared.fault.FaultKind.TheVariants.{DivZero, Index, Depth}
 use Rattle.twe_ast.specs.declared.expr.BinOp.{BinOp}
 use Rattle.twe_program.specs.declared.program.Decl.{Decl}
@@ -13,12 +14,12 @@ use Rattle.seg_exec.specs.Arithmetic.{number_of, is_true, operated, decided, neg
 use Rattle.seg_exec.specs.Cells.{cell_number, element_number, grid_element_number}
 use Rattle.seg_exec.specs.Store.{Store, Given, gives, faults, Flow, goes, returns, fails, stops, then_give, then_do, then_go, unit_taken, var_in, with_var, cell_read, cell_written, number_printed}
 
--- What a statement does. Each turn of a loop and each call takes a unit of fuel; what comes after it is a parameter of
--- the definitions below, so that they go by the text alone. `done_within` puts it in.
+-- What a statement does. Each turn of a loop and each call takes a unit of fuel. The definitions below take the meaning
+-- of what follows that unit as a parameter, so that they recurse on the text alone. `done_within` supplies it.
 abbrev pub Below : Type 0
 Below = Statement → Store → Flow
 
--- an element is read, written; a fault where there is no such element
+-- the read and the write of an element; a fault if there is no such element
 abbrev pub element_read : Option ℕ → Place → Store → Given ℤ
 element_read None place s = faults Index place s
 element_read (Some cell) place s = cell_read cell s
@@ -27,12 +28,12 @@ abbrev pub element_written : Option ℕ → ℤ → Place → Store → Flow
 element_written None value place s = fails Index place s
 element_written (Some cell) value place s = goes (cell_written cell value s)
 
--- the value of an operator on its operands; a fault where it divides by zero
+-- the value of an operator on its operands; a fault if it divides by zero
 abbrev pub value_or_fault : Option ℤ → Place → Store → Given ℤ
 value_or_fault None place s = faults DivZero place s
 value_or_fault (Some value) place s = gives value s
 
--- the right operand, and the operator on both, unless the left operand decides
+-- the operator on both operands, unless the left one decides
 abbrev pub right_given : Option ℤ → BinOp → ℤ → Place → Given ℤ → Store → Given ℤ
 right_given (Some value) op left place right s = gives value s
 right_given None op left place right s = then_give right (λ value s1. value_or_fault (operated op left value) place s1)
@@ -49,19 +50,19 @@ var_count_of (Some decl) = decl.body.vars
 abbrev pub vars_at_start : Option Decl → List ℤ → List ℤ
 vars_at_start decl args = args ++ replicate (var_count_of decl - length args) (pos 0)
 
--- the caller's variables are those of the store again
+-- the store after a call: the variables are the caller's again, and one call fewer is active
 abbrev pub left_with : List ℤ → Store → Store
 left_with vars s = record s { vars = vars; calls = s.calls - 1 }
 
--- what a call gives: the value that is returned, and 0 at the end of the body. A method has no task operations, which
--- would end it.
+-- the value of a call: the one that the body returns, or 0 if it ends without a return. A method has no task operations;
+-- one would end it with 0.
 abbrev pub given_back : List ℤ → Flow → Given ℤ
 given_back vars (goes s) = gives (pos 0) (left_with vars s)
 given_back vars (returns value s) = gives value (left_with vars s)
 given_back vars (fails kind place s) = faults kind place s
 given_back vars (stops operation positions s) = gives (pos 0) (left_with vars s)
 
--- a method is carried out, unless 1,000 calls are active
+-- a method is executed, unless too many calls are active already
 abbrev pub entered : Bool → Below → Option Decl → List ℤ → Place → Store → Given ℤ
 entered true below decl args place s = faults Depth place s
 entered false below decl args place s =
@@ -70,7 +71,7 @@ entered false below decl args place s =
 -- the call of a method takes a unit of fuel
 abbrev pub called : Below → Program → ℕ → List ℤ → Place → Store → Given ℤ
 called below p method args place s =
-    then_give (unit_taken place s) (λ unit s1. entered (nat_le 1000 s1.calls) below (slice_get p.methods method) args place s1)
+    then_give (unit_taken place s) (λ unit s1. entered (nat_le max_active_calls s1.calls) below (slice_get p.methods method) args place s1)
 
 abbrev mutual
   pub value_of : Below → Program → Expression → Store → Given ℤ
@@ -94,12 +95,12 @@ abbrev mutual
   values_of below p (argument first others) s =
       then_give (value_of below p first s) (λ value s1. then_give (values_of below p others s1) (λ values s2. gives (value ∷ values) s2))
 
--- a turn of a loop takes a unit of fuel, carries out the body, and comes to the test again
+-- a turn of a loop takes a unit of fuel and executes the body; then the condition is tested again
 abbrev pub turned : Bool → Place → (Store → Flow) → (Store → Flow) → Store → Flow
 turned false place body again s = goes s
 turned true place body again s = then_do (unit_taken place s) (λ unit s1. then_go (body s1) again)
 
--- one of two
+-- the first if the condition is true, and the second otherwise
 abbrev pub chosen : Bool → Flow → Flow → Flow
 chosen true first second = first
 chosen false first second = second
@@ -107,7 +108,7 @@ chosen false first second = second
 abbrev pub value_returned : Given ℤ → Flow
 value_returned given = then_do given (λ value s. returns value s)
 
--- a task operation inside the statement at a place of a block: the position is after that statement
+-- a task operation inside a statement of a block adds the position after that statement
 abbrev pub stopped_at : ℕ → ℕ → Flow → Flow
 stopped_at block after (stops operation positions s) = stops operation (record { block = block; after = after } ∷ positions) s
 stopped_at block after (goes s) = goes s
@@ -140,8 +141,7 @@ abbrev mutual
   done_by below p (Wait point future join into place) s =
       then_do (unit_taken place s) (λ unit s1. stops (operations.Wait future join into) [] s1)
 
-  -- the statements of a block, from the one at a place of it on; the block is known by its number among those of the
-  -- statement that it stands in
+  -- the statements of a block from the one at `at` on; the block is known by its number among those of its statement
   pub done_all : Below → Program → ℕ → ℕ → Statements → Store → Flow
   done_all below p block at no_more s = goes s
   done_all below p block at (statement first others) s =
@@ -154,8 +154,8 @@ abbrev mutual
   done_arms below p block (otherwise body) s = done_all below p block 0 body s
   done_arms below p block no_else s = goes s
 
--- what a statement does, with at most so many turns and calls inside one another and one after the other: a bound above
--- the fuel is never met
+-- what a statement does with at most n turns and calls, nested or in sequence. If n is above the fuel that is left, the
+-- bound is never reached.
 abbrev pub done_within : Program → ℕ → Below
 done_within p zero = λ stmt s. goes s
 done_within p (suc n) = done_by (done_within p n) p

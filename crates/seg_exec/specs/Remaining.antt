@@ -1,4 +1,4 @@
--- What remains of a body, by the positions of its open blocks.
+-- What remains to be executed of a body, by the positions of its open blocks.
 use Rattle.std.specs.Prelude.{ℕ, zero, suc, List, [], ◌∷◌, Option, None, Some}
 use Rattle.twe_program.specs.Program.{Program}
 use Rattle.twe_program.specs.Statement.{Statement, Block, If, While, Statements, no_more, statement, Arms, arm, otherwise, no_else}
@@ -18,7 +18,7 @@ last_of_first (suc n) no_more = None
 last_of_first (suc zero) (statement first others) = Some first
 last_of_first (suc (suc n)) (statement first others) = last_of_first (suc n) others
 
--- the block of this number among the branches of an `if`, or among those of a statement
+-- the block of this number among the branches of an `if`, and among the blocks of a statement
 abbrev pub branch_of : ℕ → Arms → Statements
 branch_of zero (arm condition body others) = body
 branch_of (suc n) (arm condition body others) = branch_of n others
@@ -31,19 +31,19 @@ block_of n (Some (While point condition body place)) = body
 block_of n (Some (If point arms)) = branch_of n arms
 block_of n _ = no_more
 
--- the number of the block that the first position stands in
+-- the number of the block of the first position
 abbrev pub block_at : List Position → ℕ
 block_at [] = 0
 block_at (position ∷ inner) = position.block
 
--- after what remains inside a statement: the next turn where it is a `while`, and nothing else
+-- after what remains inside a statement: the next test if it is a `while`, and nothing otherwise
 abbrev pub turned_again : Below → List Position → Option Statement → Flow → Flow
 turned_again below (position ∷ inner) (Some (While point condition body place)) inside =
     then_go inside (below (While point condition body place))
 turned_again below _ _ inside = inside
 
--- what remains of a block, from the inside out: what remains inside the statement before the position, and then the
--- statements after it
+-- the meaning of what remains of a block, from the inside out: first what remains inside the statement before the
+-- position, then the statements after it
 abbrev pub resumed : Below → Program → Statements → List Position → Store → Flow
 resumed below p stmts [] s = goes s
 resumed below p stmts (position ∷ inner) s =

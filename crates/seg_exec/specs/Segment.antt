@@ -1,4 +1,4 @@
--- The meaning of a segment: of what a task has still to carry out, up to its next task operation or its end.
+-- The meaning of a segment: what a task executes from where it stands up to its next task operation or its end.
 use Rattle.std.specs.Prelude.{◌≡◌, ℕ, ◌+◌, ℤ, pos, Bool, true, false, List, [], ◌∷◌, ◌++◌, Option, None, Some, slice_get}
 use Rattle.twe_program.specs.Program.{Program}
 use Rattle.seg_exec.specs.declared.frame.OpenBody.{OpenBody}
@@ -16,22 +16,22 @@ use Rattle.seg_exec.specs.Meaning.{body_of, done_within}
 use Rattle.seg_exec.specs.Remaining.{resumed}
 use Rattle.seg_exec.specs.Store.{Store, Flow, goes, returns, fails, stops}
 
--- what a segment leaves: the frame, the cells, its accesses with the latest first, and how it stopped
+-- what a segment leaves: the frame, the cells, its accesses, the latest first, and how it stopped
 pub record Stopped : Type 0 where
   pub frame : Frame
   pub cells : List ℤ
   pub accesses : List Access
   pub stop : Stop
 
--- the frame as the store leaves it, with what was printed
+-- the frame with the fuel that the store has left and the numbers that the segment printed
 abbrev pub with_store : Frame → Option OpenBody → Store → Frame
 with_store frame body s = record frame { body = body; fuel = s.fuel; prints = frame.prints ++ printed s.accesses }
 
--- the task's body with what remains of it
+-- the task's body with these open blocks
 abbrev pub open_body : List Position → Store → OpenBody
 open_body open_blocks s = record { vars = s.vars; open_blocks = open_blocks }
 
--- the end of the body: the unjoined children are joined one by one, and then the task is done
+-- at the end of the body the task joins its unjoined children one by one, and then it is done
 abbrev pub closing : List ℕ → Next
 closing [] = Ended
 closing (child ∷ others) = Closing child
@@ -48,7 +48,7 @@ at_end frame value s = record {
   stop = closing_stop frame.out value;
 }
 
--- the task that a future stands for; each future that is waited for stands for one
+-- the task that a future stands for; each future that a task waits for stands for one
 abbrev pub task_of : Option (Option ℕ) → ℕ
 task_of (Some (Some task)) = task
 task_of (Some None) = 0
@@ -62,7 +62,7 @@ abbrev pub waiting_stop : Bool → ℕ → Stop
 waiting_stop true on = ends.Joins on
 waiting_stop false on = ends.Waits on
 
--- a task operation
+-- the stop at a task operation, and what the task does next
 abbrev pub operation_stop : Program → Frame → Operation → Stop
 operation_stop p frame (operations.Make future task args spawned place) = ends.Make (entry_frame p task args) args (effects_at p task args) spawned future place
 operation_stop p frame (operations.Wait future join into) = waiting_stop join (task_of (slice_get frame.futures future))
@@ -71,7 +71,7 @@ abbrev pub operation_next : Frame → Operation → Next
 operation_next frame (operations.Make future task args spawned place) = Go
 operation_next frame (operations.Wait future join into) = waiting join (task_of (slice_get frame.futures future)) into
 
--- how a segment stops, by how what remains in the frame ends
+-- what a segment leaves, by how the rest of the body ends
 abbrev pub stopped_by : Program → Frame → Flow → Stopped
 stopped_by p frame (goes s) = at_end frame (pos 0) s
 stopped_by p frame (returns value s) = at_end frame value s
@@ -92,28 +92,34 @@ stopped_by p frame (stops operation positions s) = record {
 abbrev pub store_at : Frame → List ℤ → List ℤ → Store
 store_at frame vars cells = record { cells = cells; vars = vars; fuel = frame.fuel; calls = 0; accesses = [] }
 
--- what remains of a frame: of the task's own body, or, where it is at its end, the joining of its children
+-- how the rest of a frame ends: the rest of the body, or, if the body has ended, at once with its value
 abbrev pub flow_of : Program → Frame → Option OpenBody → List ℤ → Flow
 flow_of p frame None cells = returns frame.value (store_at frame [] cells)
 flow_of p frame (Some body) cells =
     resumed (done_within p (frame.fuel + 1)) p (body_of (slice_get p.tasks frame.decl)) body.open_blocks (store_at frame body.vars cells)
 
+-- the segment of a frame over a list of cells
 abbrev pub segment : Program → Frame → List ℤ → Stopped
 segment p frame cells = stopped_by p frame (flow_of p frame frame.body cells)
 
--- these are what the segment leaves over this list of cells
+-- the accesses of a segment agree with the list of cells that it began with, and make the list that it leaves
+pub record AgreesWithItself (cells : List ℤ) (stopped : Stopped) : Type 0 where
+  pub agrees : Agrees cells stopped.accesses
+  pub cells_after : stopped.cells ≡ after cells stopped.accesses
+
+-- the segment over this list of cells leaves this stop, this frame and these cells
 abbrev pub IsSegment : Program → Frame → List ℤ → Stop → Frame → List ℤ → Type 0
 IsSegment p old_frame old_cells stop new_frame new_cells =
     let after = segment p old_frame old_cells in
     (after.frame ≡ new_frame) × (after.cells ≡ new_cells) × (after.stop ≡ stop)
 
--- each access of the segment, over any list of cells, may be made
+-- the implementation allows each access that the segment makes over any list of cells
 abbrev pub MayCarryOut : {C : Type 0} → Program → Ways C → Frame → C → Type 0
 MayCarryOut p ways frame holder = (cells : List ℤ) → MayAll ways holder (segment p frame cells).accesses
 
--- Whoever carries out a segment over cells of any kind makes accesses, each by the rule of the cells, which are exactly
--- those of the segment over each list of cells that agrees with what was read; the frame and the stop are those of that
--- segment.
+-- An execution of a segment over any implementation of cells. It makes some accesses, each by the rule of the
+-- implementation. Over each list of cells that agrees with them, the segment makes exactly these accesses and has this
+-- frame and this stop.
 pub record CarriesOut {C : Type 0} (p : Program) (rule : C → Access → C → Type 0) (old_frame : Frame) (old_cells : C) (stop : Stop) (new_frame : Frame) (new_cells : C) : Type 0 where
   pub accesses : List Access
   pub follows : Follows rule old_cells accesses new_cells

@@ -1,4 +1,4 @@
--- What expressions and statements work on, and how they come to an end.
+-- The state that expressions and statements work on, and how they end.
 use Rattle.std.specs.Prelude.{ℕ, zero, suc, ℤ, List, ◌∷◌, slice_get, slice_set}
 use Rattle.twe_io.specs.declared.place.Place.{Place}
 use Rattle.twe_limits.specs.declared.fault.FaultKind.{FaultKind}
@@ -7,8 +7,8 @@ use Rattle.seg_exec.specs.declared.frame.Position.{Position}
 use Rattle.seg_exec.specs.declared.operation.Operation.{Operation}
 use Rattle.seg_exec.specs.Access.{Access, Reads, Writes, Prints, value_in}
 
--- the cells of the program, the parameters and locals of the body, the units of fuel that are left, the active method
--- calls, and the accesses of the segment so far, the latest first
+-- the cells of the program, the parameters and locals of the active body, the fuel that is left, the number of active
+-- method calls, and the accesses of the segment so far, the latest first
 pub record Store : Type 0 where
   pub cells : List ℤ
   pub vars : List ℤ
@@ -16,23 +16,23 @@ pub record Store : Type 0 where
   pub calls : ℕ
   pub accesses : List Access
 
--- how an expression ends: with a value, or in a fault at a place of the text
+-- how an expression ends: with a value, or with a fault at a place of the text
 pub data Given (A : Type 0) : Type 0 where
   gives : (value : A) (store : Store) → Given A
   faults : (kind : FaultKind) (place : Place) (store : Store) → Given A
 
 -- how a statement ends
 pub data Flow : Type 0 where
-  -- the next statement comes
+  -- the next statement follows
   goes : (store : Store) → Flow
-  -- the body is left with a value
+  -- the body returns a value
   returns : (value : ℤ) (store : Store) → Flow
   -- a fault at a place of the text
   fails : (kind : FaultKind) (place : Place) (store : Store) → Flow
-  -- a task operation; the positions say, from the outermost block in, what remains to be carried out
+  -- a task operation; the positions of the open blocks, the outermost first, say what remains to be executed
   stops : (operation : Operation) (positions : List Position) (store : Store) → Flow
 
--- goes on with a value, unless there was a fault
+-- continues with the value, unless there was a fault
 abbrev pub then_give : {A B : Type 0} → Given A → (A → Store → Given B) → Given B
 then_give (gives value store) next = next value store
 then_give (faults kind place store) next = faults kind place store
@@ -41,14 +41,14 @@ abbrev pub then_do : {A : Type 0} → Given A → (A → Store → Flow) → Flo
 then_do (gives value store) next = next value store
 then_do (faults kind place store) next = fails kind place store
 
--- goes on after a statement that ends where the next one comes
+-- continues with the next statement, unless the body returned, failed or stopped
 abbrev pub then_go : Flow → (Store → Flow) → Flow
 then_go (goes store) next = next store
 then_go (returns value store) next = returns value store
 then_go (fails kind place store) next = fails kind place store
 then_go (stops operation positions store) next = stops operation positions store
 
--- a unit of fuel is taken; a fault where none is left
+-- a unit of fuel is taken; a fault if none is left
 abbrev pub unit_of : ℕ → Place → Store → Given (Unit {0})
 unit_of zero place s = faults Fuel place s
 unit_of (suc left) place s = gives tt (record s { fuel = left })
@@ -56,14 +56,14 @@ unit_of (suc left) place s = gives tt (record s { fuel = left })
 abbrev pub unit_taken : Place → Store → Given (Unit {0})
 unit_taken place s = unit_of s.fuel place s
 
--- a parameter or a local, and an assignment to it
+-- the value of a parameter or a local, and an assignment to it
 abbrev pub var_in : ℕ → Store → ℤ
 var_in var s = value_in (slice_get s.vars var)
 
 abbrev pub with_var : ℕ → ℤ → Store → Store
 with_var var value s = record s { vars = slice_set s.vars var value }
 
--- a cell is read, written; a number is printed
+-- the read of a cell, the write of a cell, and the print of a number
 abbrev pub cell_read : ℕ → Store → Given ℤ
 cell_read cell s = let value = value_in (slice_get s.cells cell) in gives value (record s { accesses = Reads cell value ∷ s.accesses })
 

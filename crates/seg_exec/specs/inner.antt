@@ -3,6 +3,6 @@ pub mod Reached
 pub mod Runs
 pub mod Sizes
 pub mod Steps
-pub mod Tasks
+pub mod Continuations
 pub mod Unfolded
 pub mod Views

@@ -1,4 +1,4 @@
-//! The operators on numbers of 32 bits. Truth values are the numbers 0 and 1.
+//! The operators on 32-bit numbers. Truth values are the numbers 0 and 1.
 ghost use Rattle.std.specs.Prelude.{◌≡◌, ◌↔◌};
 ghost use Rattle.seg_exec.specs.Arithmetic.{decided, is_true, negation, negative, number_of, operated, quotient, remainder};
 
@@ -11,14 +11,14 @@ pub(crate) fn number_of(truth: bool) -> i32
     if truth { 1 } else { 0 }
 }
 
-/// Whether a number stands for `true`, which each but 0 does.
+/// Whether a number stands for `true`. Each number but 0 does.
 pub(crate) fn is_true(value: i32) -> bool
     ensures { result ≡ is_true value }
 {
     value != 0
 }
 
-/// The quotient, rounded toward zero; -2147483648 / -1 wraps to -2147483648. It is none exactly where the divisor is 0.
+/// The quotient, rounded toward zero; -2147483648 / -1 wraps to -2147483648. Returns none exactly if the divisor is 0.
 fn quotient(x: i32, y: i32) -> Option<i32>
     ensures { result ≡ quotient x y }
 {
@@ -29,7 +29,7 @@ fn quotient(x: i32, y: i32) -> Option<i32>
     }
 }
 
-/// The remainder, with the sign of the dividend. It is none exactly where the divisor is 0.
+/// The remainder, with the sign of the dividend. Returns none exactly if the divisor is 0.
 fn remainder(x: i32, y: i32) -> Option<i32>
     ensures { result ≡ remainder x y }
 {
@@ -40,7 +40,7 @@ fn remainder(x: i32, y: i32) -> Option<i32>
     }
 }
 
-/// The value of an operator on its two operands; sums, differences and products wrap. It is none exactly where the
+/// The value of an operator on its two operands; sums, differences and products wrap. Returns none exactly if the
 /// operator divides by zero.
 pub(crate) fn operate(op: BinOp, x: i32, y: i32) -> Option<i32>
     ensures { result ≡ operated op x y }
@@ -62,8 +62,8 @@ pub(crate) fn operate(op: BinOp, x: i32, y: i32) -> Option<i32>
     }
 }
 
-/// The value of an operator where its left operand alone decides it: `||` where that one is true, and `&&` where it is
-/// false. It is none else.
+/// The value of an operator if its left operand alone decides it: a true operand decides `||`, and a false one decides
+/// `&&`. Returns none otherwise.
 pub(crate) fn decide(op: BinOp, left: bool) -> Option<i32>
     ensures { result ≡ decided op left }
 {
@@ -74,7 +74,7 @@ pub(crate) fn decide(op: BinOp, left: bool) -> Option<i32>
     }
 }
 
-/// The negative of a number, which wraps: that of -2147483648 is itself.
+/// The negative of a number. It wraps: the negative of -2147483648 is -2147483648.
 pub(crate) fn negate(x: i32) -> i32
     ensures { result ≡ negative x }
 {

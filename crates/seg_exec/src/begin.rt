@@ -1,63 +1,64 @@
-//! Blocks, arms and loops that begin, and returns.
+//! How blocks, arms, loops and returns begin: what they push onto the continuation.
 ghost use Rattle.std.specs.Prelude.{◌≡◌, IfOk};
-ghost use Rattle.seg_exec.specs.inner.Tasks.{Choose, Evaluate, Rest, Turn, to_do};
+ghost use Rattle.seg_exec.specs.inner.Continuations.{Choose, Evaluate, Rest, Turn, to_do};
 ghost use Rattle.seg_exec.specs.inner.Steps.{on, returning};
 ghost use Rattle.seg_exec.specs.inner.Views.{config_of};
 
+use crate::continuation::Continuation;
 use crate::machine::Machine;
-use crate::work::{Asked, Work};
+use crate::request::Request;
 use twe_io::{Memory, Place};
 use twe_program::{Arms, Block, Expr, Stmt};
 
 impl<'a> Machine<'a> {
-    /// The statements of a block are to be carried out.
-    pub(crate) fn begin_block(&mut self, body: &'a Block) -> Result<Asked, Memory>
-        ensures { IfOk result (λ asked. (asked, config_of self.new) ≡ on (to_do (Rest 0 0 body.now) (config_of self.old))) }
+    /// Schedules the statements of a block.
+    pub(crate) fn begin_block(&mut self, body: &'a Block) -> Result<Request, Memory>
+        ensures { IfOk result (λ request. (request, config_of self.new) ≡ on (to_do (Rest 0 0 body.now) (config_of self.old))) }
     {
-        self.push(Work::Rest {
+        self.push(Continuation::Rest {
             block: 0,
             at: 0,
             stmts: body.stmts.as_slice(),
         })?;
-        Ok(Asked::Nothing)
+        Ok(Request::Nothing)
     }
 
-    /// The arms of an `if` are to be tried, from the first on.
-    pub(crate) fn begin_if(&mut self, arms: &'a Arms) -> Result<Asked, Memory>
-        ensures { IfOk result (λ asked. (asked, config_of self.new) ≡ on (to_do (Choose 0 arms.now) (config_of self.old))) }
+    /// Schedules the arms of an `if`, to be tried from the first on.
+    pub(crate) fn begin_if(&mut self, arms: &'a Arms) -> Result<Request, Memory>
+        ensures { IfOk result (λ request. (request, config_of self.new) ≡ on (to_do (Choose 0 arms.now) (config_of self.old))) }
     {
-        self.push(Work::Choose {
+        self.push(Continuation::Choose {
             block: 0,
             arms: arms.arms.as_slice(),
             last: &arms.last,
         })?;
-        Ok(Asked::Nothing)
+        Ok(Request::Nothing)
     }
 
-    /// The condition of a loop is to be tested. `again` is the loop itself.
+    /// Schedules the test of a loop. `again` is the loop itself.
     pub(crate) fn begin_loop(
         &mut self,
         again: &'a Stmt,
         condition: &'a Expr,
         body: &'a Block,
         place: Place,
-    ) -> Result<Asked, Memory>
-        ensures { IfOk result (λ asked. (asked, config_of self.new) ≡ on (to_do (Evaluate condition.now) (to_do (Turn again.now body.now place) (config_of self.old)))) }
+    ) -> Result<Request, Memory>
+        ensures { IfOk result (λ request. (request, config_of self.new) ≡ on (to_do (Evaluate condition.now) (to_do (Turn again.now body.now place) (config_of self.old)))) }
     {
-        self.evaluate_then(condition, Work::Turn { again, body, place })
+        self.evaluate_then(condition, Continuation::Turn { again, body, place })
     }
 
-    /// The body is to be left with a value, and with 0 where none is returned.
-    pub(crate) fn begin_return(&mut self, value: &'a Option<Expr>) -> Result<Asked, Memory>
-        ensures { IfOk result (λ asked. (asked, config_of self.new) ≡ returning value.now (config_of self.old)) }
+    /// Schedules the return from the body, with 0 if the statement returns no value.
+    pub(crate) fn begin_return(&mut self, value: &'a Option<Expr>) -> Result<Request, Memory>
+        ensures { IfOk result (λ request. (request, config_of self.new) ≡ returning value.now (config_of self.old)) }
     {
         match value {
             None => {
-                self.give(0)?;
-                self.push(Work::Unwind)?;
-                Ok(Asked::Nothing)
+                self.push_operand(0)?;
+                self.push(Continuation::Unwind)?;
+                Ok(Request::Nothing)
             }
-            Some(value) => self.evaluate_then(value, Work::Unwind),
+            Some(value) => self.evaluate_then(value, Continuation::Unwind),
         }
     }
 }

@@ -1,26 +1,24 @@
-//! Arguments, and what they are for: the call of a method, or the making of a task.
+//! Arguments and what they are evaluated for: to call a method or to make a task.
 ghost use Rattle.std.specs.Prelude.{◌≡◌, [], IfOk, option_copied};
 ghost use Rattle.twe_program.specs.Statement.{statements_of};
 ghost use Rattle.twe_program.specs.Expression.{arguments_of};
 ghost use Rattle.seg_exec.specs.Meaning.{body_of, var_count_of, vars_at_start};
-ghost use Rattle.seg_exec.specs.inner.Tasks.{Gather, Suspend, to_do};
+ghost use Rattle.seg_exec.specs.inner.Continuations.{Gather, Suspend, to_do};
 ghost use Rattle.seg_exec.specs.inner.Steps.{asked_unit, entering, gathered, gathering, on, taking};
 ghost use Rattle.seg_exec.specs.inner.Views.{config_of};
-ghost use Rattle.seg_exec.specs.declared.work.Goal.TheVariants.{Enter};
+ghost use Rattle.seg_exec.specs.declared.continuation.Goal.TheVariants.{Enter};
 
+use crate::continuation::{Continuation, Goal};
 use crate::machine::{Machine, fault};
 use crate::operation::Operation;
-use crate::work::{Asked, Goal, Work};
+use crate::request::Request;
 use std::alloc::Global;
 use std::mem;
 use twe_io::{Ints, Memory, Place, Stack};
-use twe_limits::FaultKind;
+use twe_limits::{FaultKind, MAX_ACTIVE_CALLS};
 use twe_program::{Args, Decl, Expr, Prog, Stmt};
 
-/// How many method calls a task may have active at once.
-const MAX_CALLS: u32 = 1000;
-
-/// The statements of a declaration, and none where there is no such declaration.
+/// The statements of a declaration; none if there is no such declaration.
 pub(crate) fn statements(decl: Option<&Decl>) -> &[Stmt]
     ensures { statements_of result.now ≡ body_of (option_copied decl.entry) }
 {
@@ -30,7 +28,7 @@ pub(crate) fn statements(decl: Option<&Decl>) -> &[Stmt]
     }
 }
 
-/// How many variables a body has, and 0 where there is no such declaration.
+/// How many variables a body has; 0 if there is no such declaration.
 fn var_count(decl: Option<&Decl>) -> usize
     ensures { result ≡ var_count_of (option_copied decl.entry) }
 {
@@ -52,32 +50,32 @@ pub(crate) fn vars_at_start(alloc: Global, decl: Option<&Decl>, args: Ints) -> R
 }
 
 impl<'a> Machine<'a> {
-    /// Arguments are to be evaluated.
+    /// Schedules the evaluation of arguments.
     pub(crate) fn gather(&mut self, alloc: Global, args: &'a Args, goal: Goal) -> Result<(), Memory>
         ensures { IfOk result (λ _. config_of self.new ≡ to_do (Gather [] args.now goal) (config_of self.old)) }
     {
-        self.push(Work::Gather {
+        self.push(Continuation::Gather {
             taken: Ints::new(alloc),
             args: args.items.as_slice(),
             goal,
         })
     }
 
-    /// A method is to be called: its arguments are to be evaluated, from the left.
+    /// Schedules the call of a method. Its arguments are evaluated first, from the left.
     pub(crate) fn call(
         &mut self,
         alloc: Global,
         method: u32,
         args: &'a Args,
         place: Place,
-    ) -> Result<Asked, Memory>
-        ensures { IfOk result (λ asked. (asked, config_of self.new) ≡ on (to_do (Gather [] args.now (Enter method place)) (config_of self.old))) }
+    ) -> Result<Request, Memory>
+        ensures { IfOk result (λ request. (request, config_of self.new) ≡ on (to_do (Gather [] args.now (Enter method place)) (config_of self.old))) }
     {
         self.gather(alloc, args, Goal::Enter { method, place })?;
-        Ok(Asked::Nothing)
+        Ok(Request::Nothing)
     }
 
-    /// Evaluates the next argument, or goes on with all of them.
+    /// Schedules the evaluation of the next argument; if there is none, does what the arguments are for.
     pub(crate) fn gather_next(
         &mut self,
         alloc: Global,
@@ -85,43 +83,43 @@ impl<'a> Machine<'a> {
         taken: Ints,
         args: &'a [Expr],
         goal: Goal,
-    ) -> Result<Asked, Memory>
-        ensures { IfOk result (λ asked. (asked, config_of self.new) ≡ gathering p.now taken (arguments_of args.now) goal (config_of self.old)) }
+    ) -> Result<Request, Memory>
+        ensures { IfOk result (λ request. (request, config_of self.new) ≡ gathering p.now taken (arguments_of args.now) goal (config_of self.old)) }
     {
         match args {
             [] => self.gathered(alloc, p, taken, goal),
             [first, args @ ..] => {
-                self.push(Work::Take { taken, args, goal })?;
-                self.push(Work::Evaluate(first))?;
-                Ok(Asked::Nothing)
+                self.push(Continuation::Take { taken, args, goal })?;
+                self.push(Continuation::Evaluate(first))?;
+                Ok(Request::Nothing)
             }
         }
     }
 
-    /// Takes the value of an argument.
+    /// Pops the value of an argument and puts it after those before it.
     pub(crate) fn take_argument(
         &mut self,
         taken: Ints,
         args: &'a [Expr],
         goal: Goal,
-    ) -> Result<Asked, Memory>
-        ensures { IfOk result (λ asked. (asked, config_of self.new) ≡ taking taken (arguments_of args.now) goal (config_of self.old)) }
+    ) -> Result<Request, Memory>
+        ensures { IfOk result (λ request. (request, config_of self.new) ≡ taking taken (arguments_of args.now) goal (config_of self.old)) }
     {
         let mut taken = taken;
-        taken.push(self.take())?;
-        self.push(Work::Gather { taken, args, goal })?;
-        Ok(Asked::Nothing)
+        taken.push(self.pop_operand())?;
+        self.push(Continuation::Gather { taken, args, goal })?;
+        Ok(Request::Nothing)
     }
 
-    /// Goes on with all arguments.
+    /// Does what the arguments are for, once all of them have values.
     fn gathered(
         &mut self,
         alloc: Global,
         p: &'a Prog,
         args: Ints,
         goal: Goal,
-    ) -> Result<Asked, Memory>
-        ensures { IfOk result (λ asked. (asked, config_of self.new) ≡ gathered p.now args goal (config_of self.old)) }
+    ) -> Result<Request, Memory>
+        ensures { IfOk result (λ request. (request, config_of self.new) ≡ gathered p.now args goal (config_of self.old)) }
     {
         match goal {
             Goal::Enter { method, place } => {
@@ -146,52 +144,53 @@ impl<'a> Machine<'a> {
         }
     }
 
-    /// Enters a method, which takes a unit of fuel, unless too many calls are active.
+    /// Enters a method, which takes a unit of fuel. It is a fault if no fuel is left, or if `MAX_ACTIVE_CALLS` calls are
+    /// active already.
     fn enter(
         &mut self,
         alloc: Global,
         decl: Option<&'a Decl>,
         args: Ints,
         place: Place,
-    ) -> Result<Asked, Memory>
-        ensures { IfOk result (λ asked. (asked, config_of self.new) ≡ entering (option_copied decl.entry) args place (config_of self.old)) }
+    ) -> Result<Request, Memory>
+        ensures { IfOk result (λ request. (request, config_of self.new) ≡ entering (option_copied decl.entry) args place (config_of self.old)) }
     {
         if self.fuel == 0 {
             return Ok(fault(FaultKind::Fuel, place));
         }
         self.fuel -= 1;
-        if self.calls >= MAX_CALLS {
+        if self.calls >= MAX_ACTIVE_CALLS {
             return Ok(fault(FaultKind::Depth, place));
         }
         self.calls += 1;
         let vars = vars_at_start(alloc, decl, args)?;
         let caller = mem::replace(&mut self.vars, vars);
-        self.push(Work::Leave(caller))?;
-        self.push(Work::Rest {
+        self.push(Continuation::Leave(caller))?;
+        self.push(Continuation::Rest {
             block: 0,
             at: 0,
             stmts: statements(decl),
         })?;
-        Ok(Asked::Nothing)
+        Ok(Request::Nothing)
     }
 
-    /// Stops at a task operation, which takes a unit of fuel.
+    /// Schedules the suspension at a task operation, which takes a unit of fuel. It is a fault if no fuel is left.
     pub(crate) fn suspend(
         &mut self,
         alloc: Global,
         operation: Operation,
         place: Place,
-    ) -> Result<Asked, Memory>
-        ensures { IfOk result (λ asked. (asked, config_of self.new) ≡ asked_unit place (config_of self.old) (λ c. on (to_do (Suspend operation []) c))) }
+    ) -> Result<Request, Memory>
+        ensures { IfOk result (λ request. (request, config_of self.new) ≡ asked_unit place (config_of self.old) (λ c. on (to_do (Suspend operation []) c))) }
     {
         if self.fuel == 0 {
             return Ok(fault(FaultKind::Fuel, place));
         }
         self.fuel -= 1;
-        self.push(Work::Suspend {
+        self.push(Continuation::Suspend {
             operation,
             positions: Stack::new(alloc),
         })?;
-        Ok(Asked::Nothing)
+        Ok(Request::Nothing)
     }
 }

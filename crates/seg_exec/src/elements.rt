@@ -1,11 +1,11 @@
-//! Which cell a name and its indexes stand for.
+//! The numbers of the cells that names with indexes denote.
 ghost use Rattle.std.specs.Prelude.{◌≡◌, ◌<◌, ◌≤◌, ◌+◌, IfSome};
 ghost use Rattle.seg_exec.specs.Cells.{cell_number, element_number, grid_element_number, in_grid, in_row, index_below};
 ghost use Rattle.twe_program.specs.Program.{size_of};
 
 use twe_program::{Dims, Prog};
 
-/// The number of the first cell of a declaration, and 0 where there is no such declaration.
+/// The number of the first cell of a declaration; 0 if there is no such declaration.
 pub(crate) fn cell_number(p: &Prog, cell: u32) -> u32
     ensures { result ≡ cell_number p.now cell }
 {
@@ -15,7 +15,7 @@ pub(crate) fn cell_number(p: &Prog, cell: u32) -> u32
     }
 }
 
-/// The index, if it is at least 0 and below its bound.
+/// Returns the index if it is at least 0 and below its bound.
 fn index_below(bound: u32, index: i32) -> Option<u32>
     ensures place { result ≡ index_below bound index }
     ensures within { IfSome result (λ place. place < bound) }

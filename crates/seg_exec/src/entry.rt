@@ -1,4 +1,4 @@
-//! A task before its first segment.
+//! The frame and the effects of a task before its first segment.
 ghost use Rattle.std.specs.Prelude.{◌≡◌, IfOk, map, option_copied};
 ghost use Rattle.region_paths.specs.declared.elements.Elem.TheVariants.{Index};
 ghost use Rattle.seg_exec.specs.Entry.{effects_at, entry_body, entry_frame, frame_of, future_count_of};
@@ -11,7 +11,7 @@ use std::alloc::{AllocError, Global};
 use twe_io::{Ints, List, Memory};
 use twe_program::{Decl, Prog};
 
-/// How many futures a body has, and 0 where there is no such declaration.
+/// How many futures a body has; 0 if there is no such declaration.
 fn future_count(decl: Option<&Decl>) -> usize
     ensures { result ≡ future_count_of (option_copied decl.entry) }
 {
@@ -52,22 +52,22 @@ fn frame_of(alloc: Global, decl: Option<&Decl>, task: u32, args: Ints) -> Result
     })
 }
 
-/// The frame of a task of this declaration with these arguments before its first segment. Its number and its fuel are 0
-/// and still to be put in.
+/// The frame of a task of this declaration with these arguments, before its first segment. Its number and its fuel are 0;
+/// whoever makes the task sets them.
 pub fn entry_frame(alloc: Global, p: &Prog, task: u32, args: Ints) -> Result<Frame, Memory>
     ensures { IfOk result (λ frame. frame ≡ entry_frame p.now task args) }
 {
     frame_of(alloc, p.tasks.get(task as usize), task, args)
 }
 
-/// Numbers as literal indexes.
+/// Each number as a literal index.
 fn indexes(alloc: Global, values: &[i32]) -> Result<Vec<Elem>, AllocError>
     ensures { IfOk result (λ elems. elems.items ≡ map (λ value. Index value) values.now) }
 {
     values.iter().map(|v| Elem::Index(*v)).collect(alloc)
 }
 
-/// The effects of a task of this declaration with these arguments: its summary, filled with them.
+/// The effects of a task of this declaration with these arguments: the summary of the declaration, filled with them.
 pub fn effects_at(alloc: Global, p: &Prog, task: u32, args: &Ints) -> Result<Summary, Memory>
     ensures { IfOk result (λ effects. effects ≡ effects_at p.now task args.now) }
 {

@@ -1,16 +1,17 @@
-//! Statements: what is to be done for one.
+//! The execution of one statement: the continuation that carries it out.
 ghost use Rattle.std.specs.Prelude.{◌≡◌, IfOk};
 ghost use Rattle.seg_exec.specs.inner.Steps.{assigning, executed};
 ghost use Rattle.seg_exec.specs.inner.Views.{config_of};
 
+use crate::continuation::Continuation;
 use crate::machine::Machine;
-use crate::work::{Asked, Work};
+use crate::request::Request;
 use std::alloc::Global;
 use twe_io::{Memory, Place};
 use twe_program::{Expr, Stmt, StmtKind};
 
 impl<'a> Machine<'a> {
-    /// An element of an array or of a grid is to take a value. Its indexes are evaluated before the value.
+    /// Schedules an assignment to an element of an array or of a grid. The indexes are evaluated before the value.
     fn assign_element(
         &mut self,
         array: u32,
@@ -18,33 +19,33 @@ impl<'a> Machine<'a> {
         second: &'a Option<Expr>,
         value: &'a Expr,
         place: Place,
-    ) -> Result<Asked, Memory>
-        ensures { IfOk result (λ asked. (asked, config_of self.new) ≡ assigning array index.now second.now value.now place (config_of self.old)) }
+    ) -> Result<Request, Memory>
+        ensures { IfOk result (λ request. (request, config_of self.new) ≡ assigning array index.now second.now value.now place (config_of self.old)) }
     {
         match second {
             None => {
-                self.push(Work::GiveElement { array, place })?;
-                self.evaluate_then(index, Work::Evaluate(value))
+                self.push(Continuation::GiveElement { array, place })?;
+                self.evaluate_then(index, Continuation::Evaluate(value))
             }
             Some(second) => {
-                self.push(Work::GiveGridElement { array, place })?;
-                self.push(Work::Evaluate(value))?;
-                self.evaluate_then(index, Work::Evaluate(second))
+                self.push(Continuation::GiveGridElement { array, place })?;
+                self.push(Continuation::Evaluate(value))?;
+                self.evaluate_then(index, Continuation::Evaluate(second))
             }
         }
     }
 
-    /// Puts what there is to do for a statement onto the work.
-    pub(crate) fn execute(&mut self, alloc: Global, stmt: &'a Stmt) -> Result<Asked, Memory>
-        ensures { IfOk result (λ asked. (asked, config_of self.new) ≡ executed stmt.now (config_of self.old)) }
+    /// Pushes the continuation that executes a statement.
+    pub(crate) fn execute(&mut self, alloc: Global, stmt: &'a Stmt) -> Result<Request, Memory>
+        ensures { IfOk result (λ request. (request, config_of self.new) ≡ executed stmt.now (config_of self.old)) }
     {
         match &stmt.kind {
             StmtKind::Block(body) => self.begin_block(body),
-            StmtKind::Let { var, value } => self.evaluate_then(value, Work::GiveVar(*var)),
-            StmtKind::Set { var, value } => self.evaluate_then(value, Work::GiveVar(*var)),
+            StmtKind::Let { var, value } => self.evaluate_then(value, Continuation::GiveVar(*var)),
+            StmtKind::Set { var, value } => self.evaluate_then(value, Continuation::GiveVar(*var)),
             StmtKind::SetCell { cell, value, .. } => self.evaluate_then(
                 value,
-                Work::GiveCell(*cell),
+                Continuation::GiveCell(*cell),
             ),
             StmtKind::SetAt {
                 array,
@@ -60,7 +61,10 @@ impl<'a> Machine<'a> {
                 place,
             } => self.begin_loop(stmt, condition, body, *place),
             StmtKind::Return(value) => self.begin_return(value),
-            StmtKind::Print { value, place } => self.evaluate_then(value, Work::PrintValue(*place)),
+            StmtKind::Print { value, place } => self.evaluate_then(
+                value,
+                Continuation::PrintValue(*place),
+            ),
             StmtKind::Call {
                 method,
                 args,

@@ -1,14 +1,14 @@
-//! What a task keeps between its segments.
+//! The frame of a task: what it keeps between its segments.
 
 use twe_io::{Ints, List};
 
-/// How far a block of a body has been carried out.
+/// How far a block of a body has been executed.
 #[derive(Clone, Copy, Debug, PartialEq, Eq)]
 pub struct Position {
-    /// The number of the block among those of the statement that it stands in, in the order of the text. The body
-    /// itself, and the block of a statement that has but one, is 0.
+    /// The number of the block among those of its statement, in the order of the text, counted from 0. It is 0 for the
+    /// body itself.
     pub block: usize,
-    /// How many of its statements were begun.
+    /// How many of its statements have begun.
     pub after: usize,
 }
 
@@ -17,31 +17,31 @@ pub struct Position {
 pub struct OpenBody {
     /// The values of the variables.
     pub vars: Ints,
-    /// The open blocks, the outermost first. Each but the last has the next one within the last statement that was
-    /// begun.
+    /// The open blocks, the outermost first. Each further block stands in the last statement that has begun in the block
+    /// before it.
     pub open_blocks: List<Position>,
 }
 
 /// What a task does next.
 #[derive(Clone, Copy, Debug, PartialEq, Eq)]
 pub enum Next {
-    /// It goes on.
+    /// It runs its next segment.
     Go,
     /// It waits for the value of a task that it made.
     Get {
         /// The task that it waits for.
         on: u32,
-        /// The variable that takes the value.
+        /// The variable that takes the value, if one does.
         into: Option<u32>,
     },
     /// It waits to join a child that it spawned.
     Join {
         /// The child.
         on: u32,
-        /// The variable that takes the value.
+        /// The variable that takes the value, if one does.
         into: Option<u32>,
     },
-    /// It is at its end and waits to join a child that it spawned.
+    /// Its body has ended, and it waits to join a child that it spawned.
     Closing {
         /// The child.
         on: u32,
@@ -50,26 +50,25 @@ pub enum Next {
     Ended,
 }
 
-/// What a task keeps between its segments.
+/// The frame of a task: what it keeps between its segments.
 #[derive(Debug, Drop)]
 pub struct Frame {
     /// The number of the task.
     pub task: u32,
     /// The number of its declaration.
     pub decl: u32,
-    /// The task's own body, with what remains of it; none if the task is at its end. Between two segments no method is
-    /// under way.
+    /// What remains of the task's body; none if the body has ended. Between two segments no method is active.
     pub body: Option<OpenBody>,
-    /// How many units of fuel are left.
+    /// The fuel that is left, in units.
     pub fuel: u64,
-    /// The task that each future stands for.
+    /// For each future of the body, the task that it stands for; none before that task is made.
     pub futures: List<Option<u32>>,
-    /// The unjoined children, in the order in which they were spawned.
+    /// The children that are not yet joined, in the order in which they were spawned.
     pub out: List<u32>,
-    /// What comes next.
+    /// What the task does next.
     pub next: Next,
-    /// The value that the task returns.
+    /// The value that the body returned.
     pub value: i32,
-    /// What the segment under way has printed.
+    /// The numbers that the current segment has printed, in order.
     pub prints: Ints,
 }

@@ -1,4 +1,4 @@
-//! The awaited value, which is put into a frame that waits.
+//! How a frame that waits takes the value of the awaited task.
 ghost use Rattle.std.specs.Prelude.{◌≡◌, ◌==◌};
 ghost use Rattle.std.specs.List.{position};
 ghost use Rattle.seg_exec.specs.Giving.{body_with, given, without};
@@ -15,7 +15,7 @@ fn place_of(children: &[u32], child: u32) -> Option<usize>
     children.iter().position(|x| *x == child)
 }
 
-/// Takes a child out of a vector of children.
+/// Removes a child from a vector of children, if it is there.
 fn remove_child(items: &mut Vec<u32>, child: u32)
     ensures { items.new.items ≡ without child items.old.items }
 {
@@ -25,7 +25,7 @@ fn remove_child(items: &mut Vec<u32>, child: u32)
     let _ = items.remove(at);
 }
 
-/// Takes a child out of the children.
+/// Removes a child from the children, if it is there. It takes no memory.
 fn take_out(alloc: Global, children: &mut List<u32>, child: u32)
     ensures { children.new ≡ without child children.old }
 {
@@ -34,7 +34,7 @@ fn take_out(alloc: Global, children: &mut List<u32>, child: u32)
     *children = List::from(items);
 }
 
-/// Gives the value to the variable that takes it, if one does.
+/// Assigns the value to the variable that takes it, if one does.
 fn put(body: &mut Option<OpenBody>, into: Option<u32>, value: i32)
     ensures { body.new ≡ body_with into value body.old }
 {
@@ -51,9 +51,9 @@ fn put(body: &mut Option<OpenBody>, into: Option<u32>, value: i32)
 }
 
 impl Frame {
-    /// Gives a frame that waits the value of the awaited task: the frame goes on then, the local that takes the value
-    /// has it, and a child that was joined is not among the unjoined ones any more. A frame that does not wait stays as
-    /// it is. It takes no memory.
+    /// Gives a frame that waits the value of the awaited task. The variable that takes the value is assigned, a child
+    /// that was joined is removed from the unjoined children, and the frame can run its next segment. A frame that does
+    /// not wait stays as it is. It takes no memory.
     pub fn give(&mut self, alloc: Global, value: i32)
         ensures { self.new ≡ given self.old value }
     {

@@ -1,12 +1,15 @@
-//! Segments: what a task carries out up to its next task operation or its end. The meaning of a segment is in `specs/`,
-//! by cases on the text of a body; the evaluator meets it over any cells, with a stack of its own, so that no program
-//! needs a deep one. What a stop makes of the state of a run is left to others.
+//! Segments: what a task executes from where it stands up to its next task operation or its end.
+//!
+//! `specs/` defines the meaning of a segment by cases on the text of a body. The evaluator is proved to have this meaning
+//! over any implementation of `Cells`. It keeps its continuation on a stack of its own, so that no program makes it
+//! recurse deeply. The crate does not say what a stop does to the state of a run.
 #![tactic(auto)]
 
 mod arithmetic;
 mod begin;
 mod call;
 mod cells;
+mod continuation;
 mod elements;
 mod entry;
 mod evaluate;
@@ -17,6 +20,7 @@ mod laws;
 mod machine;
 mod operate;
 mod operation;
+mod request;
 mod resume;
 mod run;
 mod segment;
@@ -24,13 +28,13 @@ mod step;
 mod stop;
 mod unfold;
 mod values;
-mod work;
 
 pub use cells::Cells;
 pub use entry::{effects_at, entry_frame};
 pub use frame::{Frame, Next, OpenBody, Position};
 pub use laws::{
-    accesses_are_of_the_program, larger_bounds_change_nothing, over_a_list_it_is_the_segment,
+    a_segment_is_determined_by_its_reads, accesses_are_of_the_program,
+    larger_bounds_change_nothing, over_a_list_it_is_the_segment,
 };
 pub use operation::Operation;
 pub use segment::{run_segment, run_segment_over_list};

@@ -1,34 +1,35 @@
-//! Statements that call a method, make a task or wait for one.
+//! The execution of statements that call a method, make a task or wait for one.
 ghost use Rattle.std.specs.Prelude.{◌≡◌, [], IfOk};
 ghost use Rattle.seg_exec.specs.declared.operation.Operation.TheVariants.{Wait};
-ghost use Rattle.seg_exec.specs.declared.work.Goal.TheVariants.{Enter, Make};
-ghost use Rattle.seg_exec.specs.inner.Tasks.{Discard, Gather, Suspend, to_do};
+ghost use Rattle.seg_exec.specs.declared.continuation.Goal.TheVariants.{Enter, Make};
+ghost use Rattle.seg_exec.specs.inner.Continuations.{Discard, Gather, Suspend, to_do};
 ghost use Rattle.seg_exec.specs.inner.Steps.{asked_unit, on};
 ghost use Rattle.seg_exec.specs.inner.Views.{config_of};
 
+use crate::continuation::{Continuation, Goal};
 use crate::machine::Machine;
 use crate::operation::Operation;
-use crate::work::{Asked, Goal, Work};
+use crate::request::Request;
 use std::alloc::Global;
 use twe_io::{Memory, Place};
 use twe_program::Args;
 
 impl<'a> Machine<'a> {
-    /// A method is to be called, and its value dropped.
+    /// Schedules the call of a method whose value is dropped.
     pub(crate) fn call_alone(
         &mut self,
         alloc: Global,
         method: u32,
         args: &'a Args,
         place: Place,
-    ) -> Result<Asked, Memory>
-        ensures { IfOk result (λ asked. (asked, config_of self.new) ≡ on (to_do (Gather [] args.now (Enter method place)) (to_do Discard (config_of self.old)))) }
+    ) -> Result<Request, Memory>
+        ensures { IfOk result (λ request. (request, config_of self.new) ≡ on (to_do (Gather [] args.now (Enter method place)) (to_do Discard (config_of self.old)))) }
     {
-        self.push(Work::Discard)?;
+        self.push(Continuation::Discard)?;
         self.call(alloc, method, args, place)
     }
 
-    /// A task is to be made: its arguments are to be evaluated, from the left.
+    /// Schedules the making of a task. Its arguments are evaluated first, from the left.
     pub(crate) fn make(
         &mut self,
         alloc: Global,
@@ -37,8 +38,8 @@ impl<'a> Machine<'a> {
         args: &'a Args,
         spawned: bool,
         place: Place,
-    ) -> Result<Asked, Memory>
-        ensures { IfOk result (λ asked. (asked, config_of self.new) ≡ on (to_do (Gather [] args.now (Make future task spawned place)) (config_of self.old))) }
+    ) -> Result<Request, Memory>
+        ensures { IfOk result (λ request. (request, config_of self.new) ≡ on (to_do (Gather [] args.now (Make future task spawned place)) (config_of self.old))) }
     {
         let goal = Goal::Make {
             future,
@@ -47,10 +48,10 @@ impl<'a> Machine<'a> {
             place,
         };
         self.gather(alloc, args, goal)?;
-        Ok(Asked::Nothing)
+        Ok(Request::Nothing)
     }
 
-    /// Stops at the waiting for a task, which takes a unit of fuel.
+    /// Schedules the wait for a task, which takes a unit of fuel. It is a fault if no fuel is left.
     pub(crate) fn wait(
         &mut self,
         alloc: Global,
@@ -58,8 +59,8 @@ impl<'a> Machine<'a> {
         join: bool,
         into: Option<u32>,
         place: Place,
-    ) -> Result<Asked, Memory>
-        ensures { IfOk result (λ asked. (asked, config_of self.new) ≡ asked_unit place (config_of self.old) (λ c. on (to_do (Suspend (Wait future join into) []) c))) }
+    ) -> Result<Request, Memory>
+        ensures { IfOk result (λ request. (request, config_of self.new) ≡ asked_unit place (config_of self.old) (λ c. on (to_do (Suspend (Wait future join into) []) c))) }
     {
         let operation = Operation::Wait { future, join, into };
         self.suspend(alloc, operation, place)

@@ -1,30 +1,30 @@
-//! The operations on tasks, at which a segment stops.
+//! The task operations, at which a segment stops.
 
 use twe_io::{Ints, Place};
 
-/// An operation on a task, with its arguments evaluated and its unit of fuel taken.
+/// A task operation, once its arguments are evaluated and its unit of fuel is taken.
 #[derive(Debug, Drop)]
 pub enum Operation {
-    /// The making of a task.
+    /// A task is made.
     Make {
-        /// The number of the future that stands for it.
+        /// The number of the future that is to stand for it.
         future: u32,
         /// The number of the task's declaration.
         task: u32,
         /// The arguments.
         args: Ints,
-        /// Whether it is made by `spawn`, and not by `executeLater`.
+        /// Whether it is made by `spawn` rather than by `executeLater`.
         spawned: bool,
         /// The place of the task's name.
         place: Place,
     },
-    /// The waiting for a task.
+    /// The task waits for another.
     Wait {
-        /// The number of the future that stands for it.
+        /// The number of the future that stands for the awaited task.
         future: u32,
-        /// Whether it is a `join`, and not a `getValue`.
+        /// Whether it is a `join` rather than a `getValue`.
         join: bool,
-        /// The local that takes its value, if one does.
+        /// The variable that takes the value, if one does.
         into: Option<u32>,
     },
 }

@@ -1,16 +1,16 @@
-//! The evaluator's run up to the end.
+//! A run of the evaluator up to its end.
 ghost use Rattle.std.specs.Prelude.{◌≡◌, IfOk};
 ghost use Rattle.seg_exec.specs.inner.Reached.{Advances, Finishes, MayRun, MayStep, standing};
 ghost use Rattle.seg_exec.specs.Access.{ways_of};
 
 use crate::cells::Cells;
 use crate::machine::Machine;
-use crate::work::{Asked, Ending};
+use crate::request::{Ending, Request};
 use std::alloc::Global;
 use twe_io::{Ints, Memory};
 use twe_program::Prog;
 
-/// Does the next thing, with what it asks for, and tells the end where it comes.
+/// Makes one step and serves what it requests. Returns the ending if the step is the last.
 fn advance<'a, C: Cells>(
     alloc: Global,
     p: &'a Prog,
@@ -22,19 +22,19 @@ fn advance<'a, C: Cells>(
     ensures { IfOk result (λ ending. Advances p.now (ways_of C.known C.may_read C.may_write C.rule) (standing machine.old cells.old prints.old) ending (standing machine.new cells.new prints.new)) }
 {
     match machine.step(alloc, p)? {
-        Asked::Nothing => {}
-        Asked::Read(cell) => {
+        Request::Nothing => {}
+        Request::Read(cell) => {
             let value = cells.get(cell);
-            machine.give(value)?;
+            machine.push_operand(value)?;
         }
-        Asked::Write(cell, value) => cells.set(cell, value),
-        Asked::Print(value) => prints.push(value)?,
-        Asked::End(ending) => return Ok(Some(ending)),
+        Request::Write(cell, value) => cells.set(cell, value),
+        Request::Print(value) => prints.push(value)?,
+        Request::End(ending) => return Ok(Some(ending)),
     }
     Ok(None)
 }
 
-/// Does all that is to be done, and tells how it ends.
+/// Makes all steps and returns how the run ends.
 pub(crate) fn run<'a, C: Cells>(
     alloc: Global,
     p: &'a Prog,

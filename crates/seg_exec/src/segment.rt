@@ -1,4 +1,4 @@
-//! One segment of a task.
+//! The execution of one segment of a task.
 ghost use Rattle.std.specs.Prelude.{◌≡◌, IfOk, length, option_map, slice_get};
 ghost use Rattle.twe_program.specs.Program.{cell_count};
 ghost use Rattle.seg_exec.specs.Access.{ways_of};
@@ -13,24 +13,25 @@ use crate::entry::{effects_at, entry_frame};
 use crate::frame::{Frame, Next, OpenBody};
 use crate::machine::Machine;
 use crate::operation::Operation;
+use crate::request::Ending;
 use crate::run::run;
 use crate::stop::Stop;
-use crate::work::Ending;
 use std::alloc::Global;
 use twe_io::{Ints, List, Memory, Stack};
 use twe_program::Prog;
 
-/// The task that a future stands for, and 0 where it stands for none.
+/// The task that a future stands for; 0 if it stands for none.
 fn task_of(futures: &List<Option<u32>>, future: u32) -> u32
     ensures { result ≡ task_of (slice_get futures.now future) }
 {
     match futures.get(future as usize) {
         Some(Some(task)) => *task,
-        _ => 0,
+        Some(None) => 0,
+        None => 0,
     }
 }
 
-/// What comes next after a task operation.
+/// What the task does next after an operation.
 fn next_of(frame: &Frame, operation: &Operation) -> Next
     ensures { result ≡ operation_next frame.now operation.now }
 {
@@ -78,7 +79,7 @@ fn stop_of(alloc: Global, p: &Prog, frame: &Frame, operation: Operation) -> Resu
     }
 }
 
-/// Ends the body of a task with a value: its unjoined children are to be joined, or else the task is done.
+/// Ends the body of a task with a value. If it has unjoined children, it waits to join the first; else it is done.
 fn end(alloc: Global, frame: &mut Frame, value: i32) -> Stop
     ensures frame { frame.new ≡ ended_with frame.old value }
     ensures stop { result ≡ closing_stop frame.old.out value }
@@ -98,7 +99,7 @@ fn end(alloc: Global, frame: &mut Frame, value: i32) -> Stop
     }
 }
 
-/// Puts the end of what was carried out into the frame, and tells the stop.
+/// Stores the end of the evaluator in the frame and returns the stop.
 fn finish(
     alloc: Global,
     p: &Prog,
@@ -129,7 +130,7 @@ fn finish(
     }
 }
 
-/// The evaluator at what remains of a frame, or none where the frame is at its end.
+/// The evaluator with what remains of the body of a frame; none if the body has ended.
 fn machine_at<'a>(alloc: Global, p: &'a Prog, frame: &Frame) -> Result<Option<Machine<'a>>, Memory>
     ensures { IfOk result (λ machine. option_map config_of machine ≡ config_at p.now frame.now frame.now.body) }
 {
@@ -138,7 +139,7 @@ fn machine_at<'a>(alloc: Global, p: &'a Prog, frame: &Frame) -> Result<Option<Ma
     };
     let mut machine = Machine {
         work: Stack::new(alloc),
-        values: Stack::new(alloc),
+        operands: Stack::new(alloc),
         vars: body.vars.copy(alloc)?,
         fuel: frame.fuel,
         calls: 0,
@@ -148,9 +149,12 @@ fn machine_at<'a>(alloc: Global, p: &'a Prog, frame: &Frame) -> Result<Option<Ma
     Ok(Some(machine))
 }
 
-/// Carries out one segment of a task: what remains in its frame, up to the next task operation or the end. Where the
-/// frame is at its end already, the next of its unjoined children is to be joined, or the task is done. What is printed
-/// goes to the frame's list. After `Memory` nothing is known of the frame and the cells.
+/// Executes one segment of a task: what remains of its body, up to the next task operation or the end of the body. If the
+/// body has ended already, the task waits to join the next of its unjoined children, or is done if it has none. Printed
+/// numbers go to the frame's list.
+///
+/// The accesses are exactly those of the segment's meaning, each by the rule of the cells. After `Memory` nothing is
+/// known of the frame and the cells.
 pub fn run_segment<C: Cells>(
     alloc: Global,
     p: &Prog,
@@ -173,8 +177,8 @@ pub fn run_segment<C: Cells>(
     }
 }
 
-/// Carries out one segment of a task over a plain list with the cells of the program. After `Memory` nothing is known of
-/// the frame and the cells.
+/// Executes one segment of a task over a plain list with the cells of the program. After `Memory` nothing is known of the
+/// frame and the cells.
 pub fn run_segment_over_list(
     alloc: Global,
     p: &Prog,

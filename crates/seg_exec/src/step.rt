@@ -1,63 +1,73 @@
 //! One step of the evaluator.
 ghost use Rattle.std.specs.Prelude.{◌≡◌, IfOk};
 ghost use Rattle.seg_exec.specs.inner.Steps.{step_of, worked};
-ghost use Rattle.seg_exec.specs.inner.Views.{config_of, task_of};
+ghost use Rattle.seg_exec.specs.inner.Views.{config_of, continuation_of};
 
+use crate::continuation::Continuation;
 use crate::elements::cell_number;
 use crate::machine::Machine;
-use crate::work::{Asked, Ending, Work};
+use crate::request::{Ending, Request};
 use std::alloc::Global;
 use twe_io::Memory;
 use twe_program::Prog;
 
 impl<'a> Machine<'a> {
-    /// Does the next thing.
-    pub(crate) fn step(&mut self, alloc: Global, p: &'a Prog) -> Result<Asked, Memory>
-        ensures { IfOk result (λ asked. (asked, config_of self.new) ≡ step_of p.now (config_of self.old)) }
+    /// Makes one step: pops a continuation frame and runs it. If none is left, the body returns 0.
+    pub(crate) fn step(&mut self, alloc: Global, p: &'a Prog) -> Result<Request, Memory>
+        ensures { IfOk result (λ request. (request, config_of self.new) ≡ step_of p.now (config_of self.old)) }
     {
         match self.work.pop() {
-            None => Ok(Asked::End(Ending::Returned(0))),
+            None => Ok(Request::End(Ending::Returned(0))),
             Some(work) => self.act(alloc, p, work),
         }
     }
 
-    /// Does one thing.
-    fn act(&mut self, alloc: Global, p: &'a Prog, work: Work<'a>) -> Result<Asked, Memory>
-        ensures { IfOk result (λ asked. (asked, config_of self.new) ≡ worked p.now (task_of work.entry) (config_of self.old)) }
+    /// Runs one continuation frame.
+    fn act(&mut self, alloc: Global, p: &'a Prog, work: Continuation<'a>) -> Result<Request, Memory>
+        ensures { IfOk result (λ request. (request, config_of self.new) ≡ worked p.now (continuation_of work.entry) (config_of self.old)) }
     {
         match work {
-            Work::Evaluate(expr) => self.evaluate(alloc, p, expr),
-            Work::Execute(stmt) => self.execute(alloc, stmt),
-            Work::Rest { block, at, stmts } => self.rest(block, at, stmts),
-            Work::Choose { block, arms, last } => self.choose(block, arms, last),
-            Work::Chosen {
+            Continuation::Evaluate(expr) => self.evaluate(alloc, p, expr),
+            Continuation::Execute(stmt) => self.execute(alloc, stmt),
+            Continuation::Rest { block, at, stmts } => self.rest(block, at, stmts),
+            Continuation::Choose { block, arms, last } => self.choose(block, arms, last),
+            Continuation::Chosen {
                 block,
                 next,
                 body,
                 arms,
                 last,
             } => self.chosen(block, next, body, arms, last),
-            Work::Turn { again, body, place } => self.turn(again, body, place),
-            Work::Gather { taken, args, goal } => self.gather_next(alloc, p, taken, args, goal),
-            Work::Take { taken, args, goal } => self.take_argument(taken, args, goal),
-            Work::Negate => self.negate(),
-            Work::Invert => self.invert(),
-            Work::Right { op, right, place } => self.right(op, right, place),
-            Work::Apply { op, place } => self.apply(op, place),
-            Work::ReadElement { array, place } => Ok(self.read_element(p, array, place)),
-            Work::ReadGridElement { array, place } => Ok(self.read_grid_element(p, array, place)),
-            Work::GiveVar(var) => Ok(self.give_var(var)),
-            Work::GiveCell(cell) => Ok(Asked::Write(cell_number(p, cell), self.take())),
-            Work::GiveElement { array, place } => Ok(self.give_element(p, array, place)),
-            Work::GiveGridElement { array, place } => Ok(self.give_grid_element(p, array, place)),
-            Work::PrintValue(place) => Ok(self.print(place)),
-            Work::Discard => Ok(self.discard()),
-            Work::Unwind => self.unwind(),
-            Work::Suspend {
+            Continuation::Turn { again, body, place } => self.turn(again, body, place),
+            Continuation::Gather { taken, args, goal } => self.gather_next(
+                alloc, p, taken, args, goal,
+            ),
+            Continuation::Take { taken, args, goal } => self.take_argument(taken, args, goal),
+            Continuation::Negate => self.negate(),
+            Continuation::Invert => self.invert(),
+            Continuation::Right { op, right, place } => self.right(op, right, place),
+            Continuation::Apply { op, place } => self.apply(op, place),
+            Continuation::ReadElement { array, place } => Ok(self.read_element(p, array, place)),
+            Continuation::ReadGridElement { array, place } => Ok(self.read_grid_element(
+                p, array, place,
+            )),
+            Continuation::GiveVar(var) => Ok(self.give_var(var)),
+            Continuation::GiveCell(cell) => Ok(Request::Write(
+                cell_number(p, cell),
+                self.pop_operand(),
+            )),
+            Continuation::GiveElement { array, place } => Ok(self.give_element(p, array, place)),
+            Continuation::GiveGridElement { array, place } => Ok(self.give_grid_element(
+                p, array, place,
+            )),
+            Continuation::PrintValue(place) => Ok(self.print(place)),
+            Continuation::Discard => Ok(self.discard()),
+            Continuation::Unwind => self.unwind(),
+            Continuation::Suspend {
                 operation,
                 positions,
             } => self.suspend_on(operation, positions),
-            Work::Leave(vars) => self.leave(vars),
+            Continuation::Leave(vars) => self.leave(vars),
         }
     }
 }

@@ -8,41 +8,42 @@ use twe_limits::FaultKind;
 /// How a segment stops.
 #[derive(Debug, Drop)]
 pub enum Stop {
-    /// At the making of a task.
+    /// It makes a task.
     Make {
-        /// The frame of the task before its first segment, whose number and fuel are still to be put in.
+        /// The frame of the new task before its first segment. Its number and its fuel are 0; whoever makes the task sets
+        /// them.
         child: Frame,
-        /// The arguments.
+        /// The arguments of the new task.
         args: Ints,
-        /// Its effects: the summary of its declaration, filled with the arguments.
+        /// The effects of the new task: the summary of its declaration, filled with the arguments.
         effects: Summary,
-        /// Whether it is made by `spawn`, and not by `executeLater`.
+        /// Whether it is made by `spawn` rather than by `executeLater`.
         spawned: bool,
-        /// The number of the future that stands for it.
+        /// The number of the future that is to stand for it.
         future: u32,
         /// The place of its name.
         place: Place,
     },
-    /// At the waiting for the value of a task.
+    /// It waits for the value of a task.
     Waits {
         /// The task.
         on: u32,
     },
-    /// At the join of a child, a written one or one at the end of the body.
+    /// It waits to join a child, at a `join` or at the end of its body.
     Joins {
         /// The child.
         on: u32,
     },
-    /// At the end of the body, with no unjoined child.
+    /// It is done: its body has ended, and no child is unjoined.
     Done {
-        /// The value that the task returns, and 0 for a task that returns nothing.
+        /// The value that the task returns; 0 if it returns none.
         value: i32,
     },
-    /// In a fault.
+    /// It met a fault.
     Fault {
-        /// What it is.
+        /// The kind of fault.
         kind: FaultKind,
-        /// Where it is in the text.
+        /// Its place in the text.
         place: Place,
     },
 }

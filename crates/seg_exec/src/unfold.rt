@@ -1,17 +1,17 @@
-//! The work that the positions of a body stand for.
+//! How the positions of a body are turned back into a continuation.
 ghost use Rattle.std.specs.Prelude.{◌≡◌, IfOk, drop, option_copied, slice_get};
 ghost use Rattle.twe_program.specs.Statement.{statements_of};
 ghost use Rattle.seg_exec.specs.Remaining.{block_at, block_of, branch_of, last_of_first};
 ghost use Rattle.seg_exec.specs.inner.Unfolded.{again_in, with_unfolded};
 ghost use Rattle.seg_exec.specs.inner.Views.{config_of};
 
+use crate::continuation::Continuation;
 use crate::frame::Position;
 use crate::machine::Machine;
-use crate::work::Work;
 use twe_io::Memory;
 use twe_program::{Arm, Arms, Block, Stmt, StmtKind};
 
-/// The statement at a place of a block, if there is one.
+/// The statement at an index of a block, if there is one.
 fn statement_at(stmts: &[Stmt], at: usize) -> Option<&Stmt>
     ensures { option_copied result ≡ slice_get stmts.now at }
 {
@@ -71,7 +71,7 @@ fn block_in(stmt: Option<&Stmt>, block: usize) -> &[Stmt]
     }
 }
 
-/// The number of the block of the first position, and 0 where there is none.
+/// The number of the block of the first position; 0 if there is none.
 fn block_at(positions: &[Position]) -> usize
     ensures { result ≡ block_at positions.now }
 {
@@ -100,21 +100,21 @@ fn after_first(positions: &[Position]) -> &[Position]
 }
 
 impl<'a> Machine<'a> {
-    /// A loop is to be tested again after what remains of its body.
+    /// If `stmt` is a loop that has an open block, schedules its next test.
     fn again(&mut self, inner: &[Position], stmt: Option<&'a Stmt>) -> Result<(), Memory>
         ensures { IfOk result (λ _. config_of self.new ≡ again_in inner.now (option_copied stmt.entry) (config_of self.old)) }
     {
         if !inner.is_empty() {
             if let Some(stmt) = stmt {
                 if let StmtKind::While { .. } = &stmt.kind {
-                    self.push(Work::Execute(stmt))?;
+                    self.push(Continuation::Execute(stmt))?;
                 }
             }
         }
         Ok(())
     }
 
-    /// Puts what remains of a body onto the work.
+    /// Pushes what remains of a body, the innermost block on top.
     pub(crate) fn unfold(&mut self, stmts: &'a [Stmt], positions: &[Position]) -> Result<(), Memory>
         ensures { IfOk result (λ _. config_of self.new ≡ with_unfolded (statements_of stmts.now) positions.now (config_of self.old)) }
     {
@@ -125,7 +125,7 @@ impl<'a> Machine<'a> {
                 return Ok(());
             };
             let inner = after_first(rest);
-            self.push(Work::Rest {
+            self.push(Continuation::Rest {
                 block: position.block,
                 at: position.after,
                 stmts: block,

@@ -1,148 +1,149 @@
-//! What comes of the values on the stack.
+//! The continuation frames that use values of the operand stack.
 ghost use Rattle.std.specs.Prelude.{◌≡◌, IfOk};
 ghost use Rattle.seg_exec.specs.Arithmetic.{negation, negative};
-ghost use Rattle.seg_exec.specs.inner.Tasks.{top, with_value, without_value};
+ghost use Rattle.seg_exec.specs.inner.Continuations.{top, with_operand, without_operand};
 ghost use Rattle.seg_exec.specs.inner.Steps.{applying, giving_element, giving_grid_element, giving_var, on, printing, reading_element, reading_grid_element, righting};
 ghost use Rattle.seg_exec.specs.inner.Views.{config_of};
 
 use crate::arithmetic::{decide, invert, is_true, negate, operate};
+use crate::continuation::Continuation;
 use crate::elements::{element_number, grid_element_number};
 use crate::machine::{Machine, fault};
-use crate::work::{Asked, Work};
+use crate::request::Request;
 use twe_io::{Memory, Place};
 use twe_limits::FaultKind;
 use twe_program::{BinOp, Expr, Prog};
 
 impl<'a> Machine<'a> {
-    /// The negative of the latest value.
-    pub(crate) fn negate(&mut self) -> Result<Asked, Memory>
-        ensures { IfOk result (λ asked. (asked, config_of self.new) ≡ on (with_value (negative (top self.old.values)) (without_value (config_of self.old)))) }
+    /// Replaces the latest value by its negative.
+    pub(crate) fn negate(&mut self) -> Result<Request, Memory>
+        ensures { IfOk result (λ request. (request, config_of self.new) ≡ on (with_operand (negative (top self.old.operands)) (without_operand (config_of self.old)))) }
     {
-        let value = self.take();
-        self.answer(negate(value))
+        let value = self.pop_operand();
+        self.evaluated_to(negate(value))
     }
 
-    /// The negation of the latest value.
-    pub(crate) fn invert(&mut self) -> Result<Asked, Memory>
-        ensures { IfOk result (λ asked. (asked, config_of self.new) ≡ on (with_value (negation (top self.old.values)) (without_value (config_of self.old)))) }
+    /// Replaces the latest value by its negation.
+    pub(crate) fn invert(&mut self) -> Result<Request, Memory>
+        ensures { IfOk result (λ request. (request, config_of self.new) ≡ on (with_operand (negation (top self.old.operands)) (without_operand (config_of self.old)))) }
     {
-        let value = self.take();
-        self.answer(invert(value))
+        let value = self.pop_operand();
+        self.evaluated_to(invert(value))
     }
 
-    /// Drops the latest value.
-    pub(crate) fn discard(&mut self) -> Asked
-        ensures { (result, config_of self.new) ≡ on (without_value (config_of self.old)) }
+    /// Pops the latest value and drops it.
+    pub(crate) fn discard(&mut self) -> Request
+        ensures { (result, config_of self.new) ≡ on (without_operand (config_of self.old)) }
     {
-        let _ = self.take();
-        Asked::Nothing
+        let _ = self.pop_operand();
+        Request::Nothing
     }
 
-    /// Goes on with the right operand, unless the left one decides.
+    /// Schedules the right operand, unless the left one on the stack decides the value.
     pub(crate) fn right(
         &mut self,
         op: BinOp,
         right: &'a Expr,
         place: Place,
-    ) -> Result<Asked, Memory>
-        ensures { IfOk result (λ asked. (asked, config_of self.new) ≡ righting op right.now place (config_of self.old)) }
+    ) -> Result<Request, Memory>
+        ensures { IfOk result (λ request. (request, config_of self.new) ≡ righting op right.now place (config_of self.old)) }
     {
-        let left = self.take();
+        let left = self.pop_operand();
         match decide(op, is_true(left)) {
-            Some(value) => self.give(value)?,
+            Some(value) => self.push_operand(value)?,
             None => {
-                self.give(left)?;
-                self.push(Work::Apply { op, place })?;
-                self.push(Work::Evaluate(right))?;
+                self.push_operand(left)?;
+                self.push(Continuation::Apply { op, place })?;
+                self.push(Continuation::Evaluate(right))?;
             }
         }
-        Ok(Asked::Nothing)
+        Ok(Request::Nothing)
     }
 
-    /// Applies an operator to the two latest values.
-    pub(crate) fn apply(&mut self, op: BinOp, place: Place) -> Result<Asked, Memory>
-        ensures { IfOk result (λ asked. (asked, config_of self.new) ≡ applying op place (config_of self.old)) }
+    /// Replaces the two latest values by the value of an operator on them. It is a fault if the operator divides by zero.
+    pub(crate) fn apply(&mut self, op: BinOp, place: Place) -> Result<Request, Memory>
+        ensures { IfOk result (λ request. (request, config_of self.new) ≡ applying op place (config_of self.old)) }
     {
-        let right = self.take();
-        let left = self.take();
+        let right = self.pop_operand();
+        let left = self.pop_operand();
         match operate(op, left, right) {
             None => Ok(fault(FaultKind::DivZero, place)),
             Some(value) => {
-                self.give(value)?;
-                Ok(Asked::Nothing)
+                self.push_operand(value)?;
+                Ok(Request::Nothing)
             }
         }
     }
 
-    /// Asks for the value of an element of an array.
-    pub(crate) fn read_element(&mut self, p: &Prog, array: u32, place: Place) -> Asked
+    /// Requests the value of an element of an array. It is a fault if the index is out of range.
+    pub(crate) fn read_element(&mut self, p: &Prog, array: u32, place: Place) -> Request
         ensures { (result, config_of self.new) ≡ reading_element p.now array place (config_of self.old) }
     {
-        let index = self.take();
+        let index = self.pop_operand();
         match element_number(p, array, index) {
             None => fault(FaultKind::Index, place),
-            Some(cell) => Asked::Read(cell),
+            Some(cell) => Request::Read(cell),
         }
     }
 
-    /// Asks for the value of an element of a grid.
-    pub(crate) fn read_grid_element(&mut self, p: &Prog, array: u32, place: Place) -> Asked
+    /// Requests the value of an element of a grid. It is a fault if an index is out of range.
+    pub(crate) fn read_grid_element(&mut self, p: &Prog, array: u32, place: Place) -> Request
         ensures { (result, config_of self.new) ≡ reading_grid_element p.now array place (config_of self.old) }
     {
-        let column = self.take();
-        let row = self.take();
+        let column = self.pop_operand();
+        let row = self.pop_operand();
         match grid_element_number(p, array, row, column) {
             None => fault(FaultKind::Index, place),
-            Some(cell) => Asked::Read(cell),
+            Some(cell) => Request::Read(cell),
         }
     }
 
-    /// Gives the latest value to a variable.
-    pub(crate) fn give_var(&mut self, var: u32) -> Asked
+    /// Assigns the latest value to a variable.
+    pub(crate) fn give_var(&mut self, var: u32) -> Request
         ensures { (result, config_of self.new) ≡ giving_var var (config_of self.old) }
     {
-        let value = self.take();
+        let value = self.pop_operand();
         let at = var as usize;
         if at < self.vars.len() {
             self.vars.set(at, value);
         }
-        Asked::Nothing
+        Request::Nothing
     }
 
-    /// Asks that an element of an array takes the latest value.
-    pub(crate) fn give_element(&mut self, p: &Prog, array: u32, place: Place) -> Asked
+    /// Requests that an element of an array takes the latest value. It is a fault if the index is out of range.
+    pub(crate) fn give_element(&mut self, p: &Prog, array: u32, place: Place) -> Request
         ensures { (result, config_of self.new) ≡ giving_element p.now array place (config_of self.old) }
     {
-        let value = self.take();
-        let index = self.take();
+        let value = self.pop_operand();
+        let index = self.pop_operand();
         match element_number(p, array, index) {
             None => fault(FaultKind::Index, place),
-            Some(cell) => Asked::Write(cell, value),
+            Some(cell) => Request::Write(cell, value),
         }
     }
 
-    /// Asks that an element of a grid takes the latest value.
-    pub(crate) fn give_grid_element(&mut self, p: &Prog, array: u32, place: Place) -> Asked
+    /// Requests that an element of a grid takes the latest value. It is a fault if an index is out of range.
+    pub(crate) fn give_grid_element(&mut self, p: &Prog, array: u32, place: Place) -> Request
         ensures { (result, config_of self.new) ≡ giving_grid_element p.now array place (config_of self.old) }
     {
-        let value = self.take();
-        let column = self.take();
-        let row = self.take();
+        let value = self.pop_operand();
+        let column = self.pop_operand();
+        let row = self.pop_operand();
         match grid_element_number(p, array, row, column) {
             None => fault(FaultKind::Index, place),
-            Some(cell) => Asked::Write(cell, value),
+            Some(cell) => Request::Write(cell, value),
         }
     }
 
-    /// Asks that the latest value is printed, which takes a unit of fuel.
-    pub(crate) fn print(&mut self, place: Place) -> Asked
+    /// Requests that the latest value is printed, which takes a unit of fuel. It is a fault if none is left.
+    pub(crate) fn print(&mut self, place: Place) -> Request
         ensures { (result, config_of self.new) ≡ printing place (config_of self.old) }
     {
-        let value = self.take();
+        let value = self.pop_operand();
         if self.fuel == 0 {
             return fault(FaultKind::Fuel, place);
         }
         self.fuel -= 1;
-        Asked::Print(value)
+        Request::Print(value)
     }
 }

@@ -1,12 +1,12 @@
--- What the end of the evaluator's run makes of a frame.
+-- The frame and the stop after a run of the evaluator.
 use Rattle.std.specs.Prelude.{ℤ, List, None, Some}
 use Rattle.twe_program.specs.Program.{Program}
 use Rattle.seg_exec.specs.declared.frame.Frame.{Frame}
 use Rattle.seg_exec.specs.declared.frame.Next.TheVariants.{Ended}
 use Rattle.seg_exec.specs.declared.stop.Stop.{Stop}
 use Rattle.seg_exec.specs.declared.stop.Stop.TheVariants.{Fault}
-use Rattle.seg_exec.specs.declared.work.Ending.{Ending}
-use Rattle.seg_exec.specs.declared.work.Ending.TheVariants.{Returned, Faulted, Suspended}
+use Rattle.seg_exec.specs.declared.request.Ending.{Ending}
+use Rattle.seg_exec.specs.declared.request.Ending.TheVariants.{Returned, Faulted, Suspended}
 use Rattle.seg_exec.specs.Segment.{closing, closing_stop, operation_next, operation_stop}
 
 abbrev pub ended_with : Frame → ℤ → Frame

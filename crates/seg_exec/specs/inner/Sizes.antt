@@ -1,9 +1,9 @@
--- How much work is left until the next unit of fuel: it falls with each step that takes none.
+-- The measure of a continuation: it falls with each step that takes no unit of fuel.
 use Rattle.std.specs.Prelude.{ℕ, ◌+◌, List, [], ◌∷◌, None, Some}
 use Rattle.twe_program.specs.Expression.{Expression, Literal, Truth, Variable, CellValue, ArrayElement, GridElement, CallValue, Negative, Negation, Binary, Arguments, argument}
 use Rattle.twe_program.specs.Expression as args
 use Rattle.twe_program.specs.Statement.{Statement, Block, Let, Set, SetCell, SetArray, SetGrid, If, While, Return, Print, Call, Make, Wait, Statements, no_more, statement, Arms, arm, otherwise, no_else}
-use Rattle.seg_exec.specs.inner.Tasks.{Task, Evaluate, Execute, Rest, Choose, Chosen, Gather, Take, Right}
+use Rattle.seg_exec.specs.inner.Continuations.{Continuation, Evaluate, Execute, Rest, Choose, Chosen, Gather, Take, Right}
 
 abbrev mutual
   pub size_of_expression : Expression → ℕ
@@ -48,17 +48,17 @@ abbrev mutual
   size_of_arms (otherwise body) = size_of_all body + 1
   size_of_arms (arm condition body others) = size_of_expression condition + size_of_all body + size_of_arms others + 4
 
-abbrev pub size_of_task : Task → ℕ
-size_of_task (Evaluate e) = size_of_expression e
-size_of_task (Execute s) = size_of_statement s
-size_of_task (Rest block at stmts) = size_of_all stmts + 1
-size_of_task (Choose block arms) = size_of_arms arms + 1
-size_of_task (Chosen block next body others) = size_of_all body + size_of_arms others + 3
-size_of_task (Gather taken args goal) = size_of_arguments args + 1
-size_of_task (Take taken args goal) = size_of_arguments args + 2
-size_of_task (Right op right place) = size_of_expression right + 2
-size_of_task _ = 1
+abbrev pub size_of_continuation : Continuation → ℕ
+size_of_continuation (Evaluate e) = size_of_expression e
+size_of_continuation (Execute s) = size_of_statement s
+size_of_continuation (Rest block at stmts) = size_of_all stmts + 1
+size_of_continuation (Choose block arms) = size_of_arms arms + 1
+size_of_continuation (Chosen block next body others) = size_of_all body + size_of_arms others + 3
+size_of_continuation (Gather taken args goal) = size_of_arguments args + 1
+size_of_continuation (Take taken args goal) = size_of_arguments args + 2
+size_of_continuation (Right op right place) = size_of_expression right + 2
+size_of_continuation _ = 1
 
-abbrev pub size_of_work : List Task → ℕ
+abbrev pub size_of_work : List Continuation → ℕ
 size_of_work [] = 0
-size_of_work (task ∷ work) = size_of_task task + size_of_work work
+size_of_work (next ∷ work) = size_of_continuation next + size_of_work work

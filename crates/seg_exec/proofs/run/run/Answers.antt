@@ -1,5 +1,5 @@
 use Rattle.std.proofs.Common.{Option, subst, arith}
-use Rattle.seg_exec.specs.declared.work.Ending.{Ending}
+use Rattle.seg_exec.specs.declared.request.Ending.{Ending}
 use Rattle.seg_exec.specs.Access.{ways_of}
 use Rattle.seg_exec.specs.inner.Reached.{Advances, standing}
 use Rattle.seg_exec.proofs.Falling.{advance_falls, measure_falls}
