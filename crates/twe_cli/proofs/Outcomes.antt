@@ -1,24 +1,29 @@
--- How a run has ended, by what its state says.
-use Rattle.std.proofs.Common.{List, refl}
+-- How a run has ended, and the answer to a stuck one.
+use Rattle.std.proofs.Common.{◌≡◌, ℕ, ℤ, List, Result, Ok, Err, IfOk, ap, ◌∙◌}
+use Rattle.twe_io.specs.declared.memory.Memory as out_of
+use Rattle.wait_graph.specs.declared.stuck.Edge.{Edge}
 use Rattle.seg_journal.specs.declared.journal.Entry.{Entry}
+use Rattle.twe_program.specs.Program.{Program}
 use Rattle.twe_machine.specs.declared.ending.Outcome.{Outcome}
 use Rattle.twe_machine.specs.declared.ending.Outcome.TheVariants.{AllDone, Fault, Stuck, Unfinished}
 use Rattle.twe_machine.specs.declared.state.State.{State}
-use Rattle.twe_machine.specs.LowestFirst.{IsOver}
 use Rattle.twe_machine.specs.Runs.{IsOutcome, EachOnce, EachAtMostOnce}
+use Rattle.flat_sched.specs.Stuck.{IsCycleOfReasons, IsStuckCycle}
+use Rattle.twe_report.specs.Texts.{stuck_text}
+use Rattle.twe_cli.specs.declared.answer.Answer.{Answer}
+use Rattle.twe_cli.specs.declared.status.Status.TheVariants as statuses
+use Rattle.twe_cli.specs.Answers.{AnswersRun, after_prints}
 use Rattle.twe_cli.specs.Theorem.{EachAsOften}
-use Rattle.twe_cli.specs.inner.Given.{IsFinal}
 
--- a run that is over is at its end
-pub final : (st : State) (outcome : Outcome) → IsOver st → IsOutcome st outcome → IsFinal outcome
-final st AllDone over is = tt
-final st (Fault task kind place) over is = tt
-final st Stuck over is = tt
-final st Unfinished over is = over Unfinished is refl
-
--- and everything happened as often as it should
+-- everything happened as often as it should
 pub often : (st : State) (journal : List Entry) (outcome : Outcome) → IsOutcome st outcome → (IsOutcome st AllDone → EachOnce journal st) → EachAtMostOnce journal → EachAsOften outcome journal st
 often st journal AllDone is once most = once is
 often st journal (Fault task kind place) is once most = most
 often st journal Stuck is once most = most
 often st journal Unfinished is once most = most
+
+-- the answer to a stuck run has its cycle
+pub stuck_answer : (p : Program) (st : State) (prints : List ℤ) (cycle : List Edge) (line : List ℕ) (made : Result Answer out_of.Memory) → IsStuckCycle st cycle → IsCycleOfReasons st cycle
+    → line ≡ stuck_text cycle → IfOk made (λ a. a ≡ after_prints statuses.Stuck prints line) → IfOk made (AnswersRun p st prints Stuck)
+stuck_answer p st prints cycle line (Ok a) exact reasons is same = (cycle, exact, reasons, same ∙ ap (after_prints statuses.Stuck prints) is)
+stuck_answer p st prints cycle line (Err e) exact reasons is same = tt

@@ -1,4 +1,4 @@
--- The run theorem: what a run of a program is.
+-- The run theorem: what a run of a program is, and what the book of a call has.
 use Rattle.std.specs.Prelude.{◌≡◌, List, [], None, Some}
 use Rattle.seg_journal.specs.declared.journal.Entry.{Entry}
 use Rattle.twe_limits.specs.Limits.{Bounds}
@@ -11,14 +11,14 @@ use Rattle.twe_machine.specs.LowestFirst.{LowestFirst}
 use Rattle.twe_machine.specs.Runs.{Legal, state_after, IsOutcome, EachOnce, EachAtMostOnce, AlwaysIsolated}
 use Rattle.twe_cli.specs.declared.book.Book.{Book}
 
--- each task was made, enabled and ended once where all is done, and else at most once
+-- each task was made, enabled and ended exactly once if all tasks are done, and else at most once
 abbrev pub EachAsOften : Outcome → List Entry → State → Type 0
 EachAsOften AllDone journal st = EachOnce journal st
 EachAsOften _ journal st = EachAtMostOnce journal
 
--- The book has the program and the journal of a run that ended so. The journal is one that the sequential machine allows,
--- entry after entry, and the lowest-first one. Each task was made, enabled and ended once where all is done, and at most
--- once where there was a fault; and at every moment, of two tasks that may run and interfere, one yields to the other.
+-- The book has the program, the journal and the outcome of a run. The sequential machine allows each entry of the journal
+-- after those before it, and the journal is the lowest-first one. If all tasks are done, each was made, enabled and ended
+-- exactly once, and else at most once. At every moment, of two tasks that may run and interfere, one yields to the other.
 pub record HasRun (p : Program) (lim : Bounds) (outcome : Outcome) (book : Book) : Type 0 where
   pub program : book.prog ≡ Some p
   pub not_refused : book.refusal ≡ None
@@ -29,21 +29,21 @@ pub record HasRun (p : Program) (lim : Bounds) (outcome : Outcome) (book : Book)
   pub isolated : AlwaysIsolated p lim book.journal
   pub lowest : LowestFirst p lim book.journal
 
--- a book in which nothing stands yet
+-- an empty book
 pub record IsNew (book : Book) : Type 0 where
   pub program : book.prog ≡ None
   pub journal : book.journal ≡ []
   pub outcome : book.outcome ≡ None
   pub refusal : book.refusal ≡ None
 
--- a book with a refusal, and nothing else
+-- a book with a refusal and nothing else
 pub record HasRefusal (refusal : Refusal) (book : Book) : Type 0 where
   pub program : book.prog ≡ None
   pub journal : book.journal ≡ []
   pub outcome : book.outcome ≡ None
   pub refused : book.refusal ≡ Some refusal
 
--- a book with the program of a text, and nothing else
+-- a book with a program and nothing else
 pub record HasProgram (p : Program) (book : Book) : Type 0 where
   pub program : book.prog ≡ Some p
   pub journal : book.journal ≡ []

@@ -1,12 +1,14 @@
-//! What the program has to say before it writes anything, and the writing of it.
-ghost use Rattle.twe_cli.specs.Answers.{Tells};
+//! An answer: what the program has to say before it writes anything, and the writing of it.
+ghost use Rattle.std.specs.Prelude.{◌≡◌};
+ghost use Rattle.twe_cli.specs.Answers.{Tells, on_err, on_out};
 ghost use Rattle.twe_cli.specs.Ends.{sink};
-ghost use Rattle.twe_cli.specs.inner.Writing.{Wrote, WroteBoth};
+ghost use Rattle.twe_cli.specs.inner.Writing.{TellsMade, Wrote, WroteBoth};
 
 use crate::status::Status;
-use twe_io::{Bytes, Sink, WriteFault, write_whole};
+use std::alloc::Global;
+use twe_io::{Bytes, Memory, Sink, WriteFault, write_whole};
 
-/// What the program has to say: its status, and the bytes for the two sinks.
+/// An answer: the status, and the bytes for the two sinks.
 #[derive(Debug, Drop)]
 pub struct Answer {
     /// The status.
@@ -17,11 +19,47 @@ pub struct Answer {
     pub err: Bytes,
 }
 
-/// Writes an answer, out before err, and says how the call ends: with the answer's status, or with `WriteFault`, after
-/// which nothing more is written. It takes no memory.
-pub fn tell<O: Sink, E: Sink>(answer: &Answer, out: &mut O, err: &mut E) -> Status
+impl Answer {
+    /// An answer on err alone: this line, and nothing on out. It takes no memory.
+    pub fn on_err(alloc: Global, status: Status, line: Bytes) -> Answer
+        ensures { result ≡ on_err status line }
+    {
+        Answer {
+            status,
+            out: Bytes::new(alloc),
+            err: line,
+        }
+    }
+
+    /// An answer of success: these lines on out, and nothing on err. It takes no memory.
+    pub fn on_out(alloc: Global, lines: Bytes) -> Answer
+        ensures { result ≡ on_out lines }
+    {
+        Answer {
+            status: Status::Done,
+            out: lines,
+            err: Bytes::new(alloc),
+        }
+    }
+}
+
+/// Writes an answer, out before err, and returns the status of the call: the answer's status, or `WriteFault` after a
+/// failed write, after which nothing more is written. If no answer could be made, nothing is written, and the status is
+/// `Memory`. It takes no memory.
+pub fn tell<O: Sink, E: Sink>(made: &Result<Answer, Memory>, out: &mut O, err: &mut E) -> Status
+    ensures { TellsMade (sink O.written O.faults O.write_gives) (sink E.written E.faults E.write_gives)
+        out.old out.new err.old err.new made.now result }
+{
+    match made {
+        Ok(answer) => tell_answer(answer, out, err),
+        Err(_) => Status::Memory,
+    }
+}
+
+/// Writes an answer that could be made.
+fn tell_answer<O: Sink, E: Sink>(answer: &Answer, out: &mut O, err: &mut E) -> Status
     ensures { Tells (sink O.written O.faults O.write_gives) (sink E.written E.faults E.write_gives)
-        out.old out.new err.old err.new answer.now.status answer.now.out answer.now.err result }
+        out.old out.new err.old err.new answer.now result }
 {
     match write_both(answer, out, err) {
         Ok(()) => answer.status,
@@ -32,7 +70,7 @@ pub fn tell<O: Sink, E: Sink>(answer: &Answer, out: &mut O, err: &mut E) -> Stat
 /// Writes the bytes for out, and then those for err.
 fn write_both<O: Sink, E: Sink>(answer: &Answer, out: &mut O, err: &mut E) -> Result<(), WriteFault>
     ensures { WroteBoth (sink O.written O.faults O.write_gives) (sink E.written E.faults E.write_gives)
-        out.old out.new err.old err.new answer.now.out answer.now.err result }
+        out.old out.new err.old err.new answer.now result }
 {
     match write_to(out, answer.out.as_slice()) {
         Ok(()) => write_to(err, answer.err.as_slice()),

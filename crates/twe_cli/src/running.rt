@@ -1,12 +1,12 @@
-//! The run of a program that was accepted, and what is said of it.
-ghost use Rattle.std.specs.Prelude.{◌≡◌, [], IfOk};
+//! The run of an accepted program, and the answer to it.
+ghost use Rattle.std.specs.Prelude.{◌≡◌, IfOk};
 ghost use Rattle.soundness_laws.specs.KeepsEffects.{KeepsEffects};
+ghost use Rattle.twe_machine.specs.LowestFirst.{IsOver};
 ghost use Rattle.twe_machine.specs.Runs.{IsReachable, IsOutcome};
 ghost use Rattle.twe_report.specs.Texts as texts;
-ghost use Rattle.twe_cli.specs.Answers.{with_journal};
+ghost use Rattle.twe_cli.specs.Answers.{AnswersRun, after_prints, on_out, with_journal};
 ghost use Rattle.twe_cli.specs.Theorem.{IsNew};
-ghost use Rattle.twe_cli.specs.inner.Given.{IsAnswerOf, IsAnswerOfRun};
-ghost use Rattle.twe_cli.specs.declared.status.Status.TheVariants.{Done, Fault, Stuck};
+ghost use Rattle.twe_cli.specs.inner.Given.{IsAnswerOfRun};
 ghost use Rattle.twe_machine.specs.declared.ending.Outcome.TheVariants as outcomes;
 
 use crate::answer::Answer;
@@ -14,15 +14,16 @@ use crate::book::Book;
 use crate::status::Status;
 use flat_sched::{run_lowest, stuck_cycle};
 use isolation_laws::accepted_runs_are_isolated;
-use seg_journal::{Journal, Limits};
+use seg_journal::Journal;
 use std::alloc::Global;
 use twe_io::{Bytes, Memory};
+use twe_limits::Limits;
 use twe_machine::{Outcome, State, outcome};
 use twe_program::Prog;
 use twe_report::{fault_text, journal_part, prints_text, result_text, stuck_text};
 
-/// Runs a program, and says how the run ended; `journal` asks for the journal too. The book has the program, the journal
-/// and the outcome then.
+/// Runs a program and returns the answer to its run, with the journal if `journal` is true. Afterwards the book has the
+/// program, the journal and the outcome.
 pub(crate) fn run_program(
     alloc: Global,
     lim: Limits,
@@ -37,79 +38,74 @@ pub(crate) fn run_program(
     accepted_runs_are_isolated();
     let (entries, st) = run_lowest(alloc, &p, lim)?;
     let ended = outcome(&p, &st);
-    let plain = answer_of(alloc, &p, &st, ended)?;
-    let answer = told(alloc, plain, journal, lim, &entries)?;
+    let plain = answer_run(alloc, &p, &st, ended)?;
+    let answer = add_journal(alloc, plain, journal, lim, &entries)?;
     book.outcome = Some(ended);
     book.journal = entries;
     book.prog = Some(p);
     Ok(answer)
 }
 
-/// What the program has to say to a run that ended so in this state: its result; after a fault, or where it is stuck, the
-/// numbers that were printed, and the fault or the cycle of the tasks that hold one another up.
-fn answer_of(alloc: Global, p: &Prog, st: &State, ended: Outcome) -> Result<Answer, Memory>
+/// The answer to a run that is over and has ended so in this state: its result; or, after a fault or if it is stuck, the
+/// printed numbers, with the fault or the cycle of the tasks that hold one another up.
+fn answer_run(alloc: Global, p: &Prog, st: &State, ended: Outcome) -> Result<Answer, Memory>
     requires reachable { IsReachable p.now st.now }
     requires outcome { IsOutcome st.now ended }
-    ensures { IfOk result (IsAnswerOf p.now st.now ended) }
+    requires over { IsOver st.now }
+    ensures { IfOk result (AnswersRun p.now st.now st.now.prints ended) }
 {
     match ended {
+        Outcome::AllDone => answer_done(alloc, p, st),
         Outcome::Fault { task, kind, place } => {
-            printed(
-                alloc,
-                st,
-                Status::Fault,
-                fault_text(alloc, task, kind, place)?,
-            )
+            let line = fault_text(alloc, task, kind, place)?;
+            answer_prints(alloc, st, Status::Fault, line)
         }
-        Outcome::Stuck => answer_of_stuck(alloc, p, st),
-        _ => answer_of_done(alloc, p, st),
+        Outcome::Stuck => answer_stuck(alloc, p, st),
+        Outcome::Unfinished => unreachable!(),
     }
 }
 
-/// What the program has to say to a run in which all is done.
-fn answer_of_done(alloc: Global, p: &Prog, st: &State) -> Result<Answer, Memory>
-    ensures { IfOk result (λ answer. answer ≡ record { status = Done; out = texts.result_text p.now st.now; err = [] }) }
+/// The answer to a run in which all tasks are done.
+fn answer_done(alloc: Global, p: &Prog, st: &State) -> Result<Answer, Memory>
+    ensures { IfOk result (λ answer. answer ≡ on_out (texts.result_text p.now st.now)) }
 {
-    Ok(Answer {
-        status: Status::Done,
-        out: result_text(alloc, p, st)?,
-        err: Bytes::new(alloc),
-    })
+    Ok(Answer::on_out(alloc, result_text(alloc, p, st)?))
 }
 
-/// What the program has to say to a run that is stuck in this state.
-fn answer_of_stuck(alloc: Global, p: &Prog, st: &State) -> Result<Answer, Memory>
+/// The answer to a run that is stuck in this state.
+fn answer_stuck(alloc: Global, p: &Prog, st: &State) -> Result<Answer, Memory>
     requires reachable { IsReachable p.now st.now }
     requires stuck { IsOutcome st.now outcomes.Stuck }
-    ensures { IfOk result (IsAnswerOf p.now st.now outcomes.Stuck) }
+    ensures { IfOk result (AnswersRun p.now st.now st.now.prints outcomes.Stuck) }
 {
     let cycle = stuck_cycle(alloc, p, st)?;
-    printed(alloc, st, Status::Stuck, stuck_text(alloc, &cycle)?)
+    let line = stuck_text(alloc, &cycle)?;
+    answer_prints(alloc, st, Status::Stuck, line)
 }
 
-/// An answer with the numbers that were printed, and this for err.
-fn printed(alloc: Global, st: &State, status: Status, err: Bytes) -> Result<Answer, Memory>
-    ensures { IfOk result (λ answer. answer ≡ record { status = status; out = texts.prints_text st.now.prints; err = err }) }
+/// An answer with the printed numbers on out, and this line on err.
+fn answer_prints(alloc: Global, st: &State, status: Status, line: Bytes) -> Result<Answer, Memory>
+    ensures { IfOk result (λ answer. answer ≡ after_prints status st.now.prints line) }
 {
     Ok(Answer {
         status,
         out: prints_text(alloc, st.prints.as_slice())?,
-        err,
+        err: line,
     })
 }
 
-/// An answer, with the journal after the other lines of out where it is asked for.
-fn told(
+/// The answer with the journal after its lines on out, if `asked` is true.
+fn add_journal(
     alloc: Global,
     plain: Answer,
-    journal: bool,
+    asked: bool,
     lim: Limits,
     entries: &Journal,
 ) -> Result<Answer, Memory>
-    ensures { IfOk result (λ answer. answer ≡ record plain { out = with_journal journal lim entries.now plain.out }) }
+    ensures { IfOk result (λ answer. answer ≡ with_journal asked lim entries.now plain) }
 {
     let mut answer = plain;
-    if journal {
+    if asked {
         let part = journal_part(alloc, entries, lim)?;
         answer.out.push_all(part.as_slice())?;
     }

@@ -1,11 +1,13 @@
-//! A command that takes no other thread: it returns for every source and every sink.
-ghost use Rattle.std.specs.Prelude.{◌≡◌, ◌≤◌, [], length, Some, IfOk, OnOk};
-ghost use Rattle.twe_cli.specs.Answers.{Due, Cause, Answers};
-ghost use Rattle.twe_cli.specs.Ends.{most_bytes, source, sink};
-ghost use Rattle.twe_cli.specs.inner.Given.{IsDueFor};
+//! One command: it reads the text of a program, checks it, runs it if the command asks for that, and writes the answer. All
+//! of it happens on the calling thread.
+ghost use Rattle.std.specs.Prelude.{◌≡◌, ◌≤◌, length, Some, IfOk, OnOk};
+ghost use Rattle.twe_limits.specs.Language.{max_text_bytes};
+ghost use Rattle.twe_cli.specs.Answers.{Due, Answers, on_err, on_out};
+ghost use Rattle.twe_cli.specs.Ends.{source, sink};
+ghost use Rattle.twe_cli.specs.inner.Given.{AnswersRead, IsDueFor};
 ghost use Rattle.twe_report.specs.Texts as texts;
 ghost use Rattle.twe_cli.specs.Theorem.{HasProgram, HasRefusal, IsNew};
-ghost use Rattle.twe_cli.specs.declared.status.Status.TheVariants.{Done, Refused};
+ghost use Rattle.twe_cli.specs.declared.status.Status.TheVariants.{Refused};
 ghost use Rattle.soundness_laws.specs.KeepsEffects.{KeepsEffects};
 
 use crate::answer::{Answer, tell};
@@ -16,18 +18,16 @@ use command_line::Command;
 use std::alloc::Global;
 use twe_frontend::{FrontFail, Refusal, read_program};
 use twe_io::{Bytes, Memory, ReadFail, Sink, Source, read_all};
+use twe_limits::MAX_TEXT_BYTES;
 use twe_program::Prog;
 use twe_report::{accepted_text, read_fault_text, refusal_text, too_long_text};
 
-/// How many bytes a text may have.
-const MOST_BYTES: usize = 1_048_576;
-
-/// Carries out a command: reads the text of a program from the source, checks it, runs it where the command says so, and
-/// writes its answer.
+/// Carries out a command: reads the text of a program from the source, checks it, runs it if the command asks for that, and
+/// writes the answer.
 ///
-/// `Answers` says what each status means and what is written with it. The book has the program, the journal of its run
-/// and how the run ended, or the refusal of the text. After `Memory` nothing was written, and nothing more is said of
-/// the source and the book.
+/// `Answers` says what each status means and what is written with it. Afterwards the book has the program, the journal of
+/// its run and how the run ended, or the refusal of the text. After `Memory` nothing was written, and nothing more is
+/// known of the source and the book.
 pub fn twe_single<S: Source, O: Sink, E: Sink>(
     alloc: Global,
     cmd: &Command,
@@ -40,60 +40,52 @@ pub fn twe_single<S: Source, O: Sink, E: Sink>(
     ensures { Answers (source S.left S.faults S.read_gives) (sink O.written O.faults O.write_gives) (sink E.written E.faults E.write_gives)
         (Some cmd.now) src.old src.new out.old out.new err.old err.new book.new result }
 {
-    match answer(alloc, cmd, src, book) {
-        Ok(answer) => tell(&answer, out, err),
-        Err(_) => Status::Memory,
-    }
+    let read = read_all(alloc, src, MAX_TEXT_BYTES);
+    let made = answer_read(alloc, cmd, read, book);
+    tell(&made, out, err)
 }
 
-/// What the program has to say to a command, before it writes anything.
-fn answer<S: Source>(
+/// The answer to what the reading of the source came to.
+fn answer_read(
     alloc: Global,
     cmd: &Command,
-    src: &mut S,
+    read: Result<Bytes, ReadFail>,
     book: &mut Book,
 ) -> Result<Answer, Memory>
-    requires { IsNew book.old }
-    ensures { IfOk result (λ answer. Cause (source S.left S.faults S.read_gives) (Some cmd.now) src.old src.new
-        book.new answer.status answer.out answer.err) }
+    requires new { IsNew book.old }
+    requires short { IfOk read (λ text. length text ≤ max_text_bytes) }
+    ensures { IfOk result (AnswersRead cmd.now read book.new) }
 {
-    match read_all(alloc, src, MOST_BYTES) {
-        Ok(text) => Ok(answer_text(alloc, cmd, text.as_slice(), book)?),
-        Err(ReadFail::ReadFault) => complaint(alloc, Status::ReadFault, read_fault_text(alloc)?),
-        Err(ReadFail::TooLong) => complaint(alloc, Status::TooLong, too_long_text(alloc)?),
+    match read {
+        Ok(text) => answer_text(alloc, cmd, text.as_slice(), book),
+        Err(ReadFail::ReadFault) => Ok(Answer::on_err(
+            alloc,
+            Status::ReadFault,
+            read_fault_text(alloc)?,
+        )),
+        Err(ReadFail::TooLong) => Ok(Answer::on_err(alloc, Status::TooLong, too_long_text(alloc)?)),
         Err(ReadFail::OutOfMemory(memory)) => Err(memory),
     }
 }
 
-/// An answer that has something for err alone.
-fn complaint(alloc: Global, status: Status, err: Bytes) -> Result<Answer, Memory>
-    ensures { IfOk result (λ answer. answer ≡ record { status = status; out = []; err = err }) }
-{
-    Ok(Answer {
-        status,
-        out: Bytes::new(alloc),
-        err,
-    })
-}
-
-/// What the program has to say to a text.
+/// The answer to a text.
 fn answer_text(alloc: Global, cmd: &Command, text: &[u8], book: &mut Book) -> Result<Answer, Memory>
     requires new { IsNew book.old }
-    requires short { length text.now ≤ most_bytes }
-    ensures { IfOk result (λ answer. Due cmd.now text.now book.new answer.status answer.out answer.err) }
+    requires short { length text.now ≤ max_text_bytes }
+    ensures { IfOk result (Due cmd.now text.now book.new) }
 {
     match read_program(alloc, text) {
-        Ok(p) => Ok(answer_program(alloc, cmd, p, book)?),
-        Err(FrontFail::Refused(refusal)) => Ok(refuse(alloc, refusal, book)?),
+        Ok(p) => answer_program(alloc, cmd, p, book),
+        Err(FrontFail::Refused(refusal)) => refuse(alloc, refusal, book),
         Err(FrontFail::OutOfMemory(memory)) => Err(memory),
     }
 }
 
-/// What the program has to say to a text that is accepted and has this program.
+/// The answer to a text that is accepted and has this program.
 fn answer_program(alloc: Global, cmd: &Command, p: Prog, book: &mut Book) -> Result<Answer, Memory>
     requires new { IsNew book.old }
     requires keeps { KeepsEffects p }
-    ensures { IfOk result (λ answer. IsDueFor cmd.now p book.new answer) }
+    ensures { IfOk result (IsDueFor cmd.now p book.new) }
 {
     match *cmd {
         Command::Check => accept(alloc, p, book),
@@ -101,28 +93,24 @@ fn answer_program(alloc: Global, cmd: &Command, p: Prog, book: &mut Book) -> Res
     }
 }
 
-/// Accepts a program.
+/// Accepts a program, which the book has afterwards.
 fn accept(alloc: Global, p: Prog, book: &mut Book) -> Result<Answer, Memory>
     requires { IsNew book.old }
     ensures program { OnOk result (HasProgram p book.new) }
-    ensures answer { IfOk result (λ answer. answer ≡ record { status = Done; out = texts.accepted_text; err = [] }) }
+    ensures answer { IfOk result (λ answer. answer ≡ on_out texts.accepted_text) }
 {
-    let out = accepted_text(alloc)?;
+    let lines = accepted_text(alloc)?;
     book.prog = Some(p);
-    Ok(Answer {
-        status: Status::Done,
-        out,
-        err: Bytes::new(alloc),
-    })
+    Ok(Answer::on_out(alloc, lines))
 }
 
-/// Refuses a text.
+/// Refuses a text, whose refusal the book has afterwards.
 fn refuse(alloc: Global, refusal: Refusal, book: &mut Book) -> Result<Answer, Memory>
     requires { IsNew book.old }
     ensures refusal { OnOk result (HasRefusal refusal book.new) }
-    ensures answer { IfOk result (λ answer. answer ≡ record { status = Refused; out = []; err = texts.refusal_text refusal }) }
+    ensures answer { IfOk result (λ answer. answer ≡ on_err Refused (texts.refusal_text refusal)) }
 {
-    let err = refusal_text(alloc, refusal)?;
+    let line = refusal_text(alloc, refusal)?;
     book.refusal = Some(refusal);
-    complaint(alloc, Status::Refused, err)
+    Ok(Answer::on_err(alloc, Status::Refused, line))
 }

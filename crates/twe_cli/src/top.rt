@@ -1,8 +1,7 @@
-//! The top call.
-ghost use Rattle.std.specs.Prelude.{◌≡◌, [], Option, IfOk};
-ghost use Rattle.twe_cli.specs.Answers.{Answers};
+//! The top call: the whole program, apart from where its bytes come from and go to.
+ghost use Rattle.std.specs.Prelude.{◌≡◌, Option, IfOk};
+ghost use Rattle.twe_cli.specs.Answers.{Answers, on_err};
 ghost use Rattle.twe_cli.specs.Ends.{source, sink};
-ghost use Rattle.twe_cli.specs.inner.Usage.{TellsUsage};
 ghost use Rattle.twe_report.specs.Texts as texts;
 ghost use Rattle.twe_cli.specs.Theorem.{IsNew};
 ghost use Rattle.command_line.specs.Words.{IsMeaning};
@@ -15,13 +14,13 @@ use crate::single::twe_single;
 use crate::status::Status;
 use command_line::read_words;
 use std::alloc::Global;
-use twe_io::{Bytes, Memory, Sink, Source, Word};
+use twe_io::{Memory, Sink, Source, Word};
 use twe_report::usage_text;
 
-/// Does what the words of the command line say: the whole program, but for where its bytes come from and go to.
+/// Carries out the command that the words mean.
 ///
-/// `Answers` says what each status means and what is written with it. A list of words that is no command has the usage
-/// line, and nothing of the source is taken then. After `Memory` nothing was written.
+/// `Answers` says what each status means and what is written with it. If the words mean no command, the answer is the usage
+/// line, and nothing is read from the source. After `Memory` nothing was written.
 pub fn twe<S: Source, O: Sink, E: Sink>(
     alloc: Global,
     words: &[Word],
@@ -37,28 +36,13 @@ pub fn twe<S: Source, O: Sink, E: Sink>(
 {
     match read_words(words) {
         Some(cmd) => twe_single(alloc, &cmd, src, out, err, book),
-        None => tell_usage(alloc, out, err),
+        None => tell(&usage(alloc), out, err),
     }
 }
 
-/// Tells the usage line.
-fn tell_usage<O: Sink, E: Sink>(alloc: Global, out: &mut O, err: &mut E) -> Status
-    ensures { TellsUsage (sink O.written O.faults O.write_gives) (sink E.written E.faults E.write_gives)
-        out.old out.new err.old err.new result }
-{
-    match usage(alloc) {
-        Ok(answer) => tell(&answer, out, err),
-        Err(_) => Status::Memory,
-    }
-}
-
-/// What the program has to say to words that are no command.
+/// The answer to words that mean no command.
 fn usage(alloc: Global) -> Result<Answer, Memory>
-    ensures { IfOk result (λ answer. answer ≡ record { status = Usage; out = []; err = texts.usage_text }) }
+    ensures { IfOk result (λ answer. answer ≡ on_err Usage texts.usage_text) }
 {
-    Ok(Answer {
-        status: Status::Usage,
-        out: Bytes::new(alloc),
-        err: usage_text(alloc)?,
-    })
+    Ok(Answer::on_err(alloc, Status::Usage, usage_text(alloc)?))
 }

@@ -1,33 +1,37 @@
-use Rattle.std.proofs.Common.{refl, subst}
+use Rattle.std.proofs.Common.{List, refl, sym, subst}
+use Rattle.seg_journal.specs.declared.journal.Entry.{Entry}
 use Rattle.twe_program.specs.WellFormed.{IsWellFormed}
 use Rattle.twe_machine.specs.declared.state.State.{State}
-use Rattle.twe_machine.specs.Runs.{IsOutcome}
+use Rattle.twe_machine.specs.Runs.{IsOutcome, state_after}
+use Rattle.twe_cli.specs.Answers.{AnswersRun}
 use Rattle.twe_cli.specs.Theorem.{EachAsOften}
-use Rattle.twe_cli.specs.inner.Given.{IsAnswerOf}
-use Rattle.twe_cli.proofs.Outcomes.{final, often}
+use Rattle.twe_cli.proofs.Outcomes.{often}
 use Rattle.twe_cli.proofs.running.run_program.Goals as goal
 
-pub answer_of-requires : goal.answer_of-requires
-answer_of-requires c =
+pub answer_run-requires : goal.answer_run-requires
+answer_run-requires c =
     let ran = c.in_ok-entries.ensures in
     record {
       reachable = (c.args.lim, record { journal = c.in_ok-entries.entries; legal = ran.legal; same = ran.state });
       outcome = c.outcome-ended.ensures;
+      over = ran.ended;
     }
 
 -- the book has what the lowest-first run has
 pub returns : goal.returns
 returns c =
+    let p = c.args.p in
+    let lim = c.args.lim in
     let journal = c.in_ok-entries.entries in
     let st = c.in_ok-entries.st in
     let ended = c.outcome-ended.result in
+    let plain = c.in_ok-plain.plain in
     let ran = c.in_ok-entries.ensures in
     let is = c.outcome-ended.ensures in
     let isolation = c.accepted_runs_are_isolated.ensures in
     record {
       outcome = ended;
-      plain = c.in_ok-plain.plain;
-      final = final st ended ran.ended is;
+      plain = plain;
       run = record {
         program = refl;
         not_refused = c.requires.new.refusal;
@@ -35,10 +39,10 @@ returns c =
         told = refl;
         ended = subst (λ (s : State). IsOutcome s ended) ran.state is;
         often = subst (λ (s : State). EachAsOften ended journal s) ran.state (often st journal ended is ran.once ran.at_most_once);
-        isolated = isolation.isolated c.args.p (subst IsWellFormed c.p.view_is c.p.invariant) c.requires.keeps c.args.lim journal ran.legal;
+        isolated = isolation.isolated p (subst IsWellFormed c.p.view_is c.p.invariant) c.requires.keeps lim journal ran.legal;
         lowest = ran.lowest;
       };
-      counts = ran.counted;
-      said = subst (λ (s : State). IsAnswerOf c.args.p s ended c.in_ok-plain.plain) ran.state c.in_ok-plain.ensures;
+      answers = subst (λ (counts : List Entry). AnswersRun p (state_after p lim journal) (state_after p lim counts).prints ended plain) (sym ran.counted)
+          (subst (λ (s : State). AnswersRun p s s.prints ended plain) ran.state c.in_ok-plain.ensures);
       same = c.in_ok-answer.ensures;
     }

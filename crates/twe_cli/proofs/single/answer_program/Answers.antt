@@ -6,4 +6,4 @@ returns-in-Check c = due_accepted c.args.cmd.now c.args.p c.accept.new.book c.ac
 
 pub returns-in-Run : goal.returns-in-Run
 returns-in-Run c =
-    due_ran c.args.cmd.now c.in-Run.lim c.in-Run.journal c.args.p c.run_program.new.book c.in-Run.is c.run_program.result c.run_program.ensures
+    due_ran c.args.cmd.now c.in-Run.lim c.in-Run.journal c.args.p c.run_program.new.book c.run_program.result c.in-Run.is c.run_program.ensures
