@@ -4,6 +4,7 @@ use Rattle.std.specs.Prelude.{nat_le, slice_get, slice_set}
 use Rattle.std.proofs.lemmas.List.{length-set}
 use Rattle.twe_io.specs.declared.place.Place.{Place}
 use Rattle.twe_ast.specs.declared.expr.BinOp.{BinOp}
+use Rattle.twe_limits.specs.Language.{max_active_calls}
 use Rattle.twe_program.specs.declared.program.Decl.{Decl}
 use Rattle.twe_program.specs.Program.{Program}
 use Rattle.twe_program.specs.Expression.{Expression, Literal, Truth, Variable, CellValue, ArrayElement, GridElement, CallValue, Negative, Negation, Binary, Arguments, argument}
@@ -101,7 +102,7 @@ module _ (p : Program) (count limit : ℕ) where
 
     called_kept : (method : ℕ) (args : List ℤ) (place : Place) (s : Store) → Kept s → GivenKept (called below p method args place s)
     called_kept method args place s h =
-        give_kept (unit_taken place s) _ (unit_kept s.fuel place s h.1 h) (λ unit s1 h1. entered_kept (nat_le 1000 s1.calls) (slice_get p.methods method) args place s1 h1)
+        give_kept (unit_taken place s) _ (unit_kept s.fuel place s h.1 h) (λ unit s1 h1. entered_kept (nat_le max_active_calls s1.calls) (slice_get p.methods method) args place s1 h1)
 
     mutual
       value_kept : (e : Expression) (s : Store) → Kept s → GivenKept (value_of below p e s)

@@ -1,4 +1,4 @@
--- What a segment leaves as it is, and what comes next by how it stops.
+-- What a segment keeps, and what its task does next.
 use Rattle.std.specs.Prelude.{◌≡◌, ◌⊎◌, ◌<◌, ◌≤◌, ℕ, ℤ, Bool, List, [], ◌∷◌, length, Option, None}
 use Rattle.twe_io.specs.declared.place.Place.{Place}
 use Rattle.effect_sets.specs.declared.effects.Summary.{Summary}
@@ -9,15 +9,15 @@ use Rattle.seg_exec.specs.declared.stop.Stop.{Stop}
 use Rattle.seg_exec.specs.declared.stop.Stop.TheVariants as ends
 use Rattle.seg_exec.specs.Segment.{Stopped}
 
--- the frame is at the end of its body, and waits to join the first of its unjoined children
+-- the body of the frame has ended, and the task waits to join the first of its unjoined children
 pub record IsClosing (after : Frame) (on : ℕ) : Type 0 where
   pub next : after.next ≡ Closing on
   pub body : after.body ≡ None
   pub others : List ℕ
   pub out : after.out ≡ on ∷ others
 
--- what a frame becomes that has stopped so: one that has ended has nothing left, and one that is done has no unjoined
--- child
+-- what the frame is after this stop: if the task has ended, nothing of its body is left; if it is done, no child is
+-- unjoined
 abbrev pub NextAfter : Stop → Frame → Type 0
 NextAfter (ends.Make child args effects spawned future place) after = after.next ≡ Go
 NextAfter (ends.Waits on) after = (into : Option ℕ) × (after.next ≡ Get on into)
@@ -25,7 +25,7 @@ NextAfter (ends.Joins on) after = ((into : Option ℕ) × (after.next ≡ Join o
 NextAfter (ends.Done value) after = (after.next ≡ Ended) × (after.body ≡ None) × (after.out ≡ []) × (after.value ≡ value)
 NextAfter (ends.Fault kind place) after = (after.next ≡ Ended) × (after.body ≡ None)
 
--- how a segment has stopped after which this comes next, for the numbers of what is waited for
+-- the stop of a segment after which the task does this next
 abbrev pub StopBefore : Next → Stop → Type 0
 StopBefore Go stop =
     (child : Frame) × (args : List ℤ) × (effects : Summary) × (spawned : Bool) × (future : ℕ) × (place : Place)
@@ -35,8 +35,8 @@ StopBefore (Join on into) stop = stop ≡ ends.Joins on
 StopBefore (Closing on) stop = stop ≡ ends.Joins on
 StopBefore Ended stop = Unit {0}
 
--- the frame keeps the task's number, its declaration, its futures and its unjoined children, the cells are as many, and
--- fuel is only taken: at least a unit where the segment comes to a task operation
+-- A segment keeps the number of the task, its declaration, its futures, its unjoined children and the number of cells.
+-- It never adds fuel, and takes at least a unit if it stops at a task operation.
 pub record SegmentKeeps (frame : Frame) (old_cells : List ℤ) (after : Stopped) : Type 0 where
   pub task : after.frame.task ≡ frame.task
   pub decl : after.frame.decl ≡ frame.decl

@@ -1,4 +1,4 @@
--- The statement of a body at which a segment stops.
+-- The task operation of a body at which a segment stops.
 use Rattle.std.specs.Prelude.{◌≡◌, ℕ, ℤ, Bool, List, [], ◌∷◌, Option, slice_get}
 use Rattle.twe_io.specs.declared.place.Place.{Place}
 use Rattle.effect_sets.specs.declared.effects.Summary.{Summary}
@@ -12,21 +12,21 @@ use Rattle.seg_exec.specs.Segment.{task_of}
 use Rattle.segment_laws.specs.Left.{left_of}
 use Rattle.segment_laws.specs.Passes.{Passes}
 
--- a literal has its own value; of other expressions nothing is said
+-- an expression may have this value: a literal has its own value, and any other expression may have each value
 abbrev pub MayHave : Expression → ℤ → Type 0
 MayHave (Literal literal) value = value ≡ literal
 MayHave _ value = Unit {0}
 
--- the arguments may have these values, one for each
+-- the arguments may have these values, one for each argument
 abbrev pub AllMayHave : Arguments → List ℤ → Type 0
 AllMayHave no_more [] = Unit {0}
 AllMayHave no_more (value ∷ values) = ⊥
 AllMayHave (argument first others) [] = ⊥
 AllMayHave (argument first others) (value ∷ values) = MayHave first value × AllMayHave others values
 
--- From what is left of the frame `before`, a control path that passes no operation comes to the making of this task, and
--- after it what is left of the frame `after` is left: the task is one of the declaration that stands there, and the
--- arguments may have these values
+-- From the rest of the frame `before`, a control path that passes no other operation leads to the statement that makes
+-- this task, and the rest after that statement is the rest of the frame `after`. The task is one of the declaration that
+-- the statement names, and the arguments may have these values.
 pub record ComesToMake (p : Program) (before after : Frame) (path : Path) (child : Frame) (args : List ℤ) (effects : Summary)
     (spawned : Bool) (future : ℕ) (place : Place) : Type 0 where
   pub point : ℕ
@@ -39,7 +39,7 @@ pub record ComesToMake (p : Program) (before after : Frame) (path : Path) (child
   pub effects_are : effects ≡ effects_at p task args
   pub values : AllMayHave given args
 
--- the same of the waiting for the task `on`, which a future of the frame stands for
+-- the same for a wait for the task `on`, which a future of the frame stands for
 pub record ComesToWait (p : Program) (before after : Frame) (path : Path) (join : Bool) (on : ℕ) (into : Option ℕ) : Type 0 where
   pub point : ℕ
   pub future : ℕ

@@ -1,4 +1,4 @@
--- Frames whose waits are of tasks that they have made.
+-- Frames that wait only for tasks that they have made.
 use Rattle.std.specs.Prelude.{◌≡◌, ℕ, ℤ, Bool, true, false, List, length, Option, None, Some, slice_get}
 use Rattle.effect_sets.specs.declared.effects.Summary.{Summary}
 use Rattle.twe_program.specs.Fitting.{TakesArguments, count_of}
@@ -20,17 +20,17 @@ stands_for_one None = false
 abbrev pub is_set : List (Option ℕ) → ℕ → Bool
 is_set futures future = stands_for_one (slice_get futures future)
 
--- the futures that the body of a task's declaration declares
+-- the futures that the body of a declaration declares
 abbrev pub futures_at : Program → ℕ → List Declared
 futures_at p decl = futures_of_all (body_of (slice_get p.tasks decl))
 
--- the future is declared, and its tasks are spawned or not
+-- the future is declared, for tasks that are spawned or for tasks that are not
 abbrev pub IsDeclaredAs : Option Declared → Bool → Type 0
 IsDeclaredAs None spawned = ⊥
 IsDeclaredAs (Some future) spawned = future.spawned ≡ spawned
 
--- each task is made into a future that is declared for it, with as many arguments as it has parameters; and a `join` is
--- of a future of `spawn`, and a `getValue` of one of `executeLater`
+-- each task is made into the future that is declared for it, with as many arguments as it has parameters; a `join` is for
+-- a future of `spawn`, and a `getValue` for one of `executeLater`
 abbrev mutual
   pub OperationsFit : Program → List Declared → Statement → Type 0
   OperationsFit p futures (Block point body) = AllOperationsFit p futures body
@@ -58,20 +58,20 @@ abbrev mutual
   ArmsOperationsFit p futures (otherwise body) = AllOperationsFit p futures body
   ArmsOperationsFit p futures (arm condition body others) = AllOperationsFit p futures body × ArmsOperationsFit p futures others
 
--- the frame has its futures, each wait that is left is of one that stands for a task by then, and each operation that is
--- left fits
+-- the frame has the futures of its body, each wait in the rest of the body is for a future that stands for a task by then,
+-- and each operation in the rest fits the declarations
 pub record IsReady (p : Program) (frame : Frame) : Type 0 where
   pub waits : AllWaitsFollow (is_set frame.futures) (left_of p frame)
   pub futures : length frame.futures ≡ length (futures_at p frame.decl)
   pub operations : AllOperationsFit p (futures_at p frame.decl) (left_of p frame)
 
--- the frame waits for a task that a future of it stands for, and that was spawned, or was not
+-- the frame waits for the task that one of its futures stands for, which was spawned, or was not
 pub record AwaitsMade (p : Program) (frame : Frame) (spawned : Bool) (on : ℕ) : Type 0 where
   pub future : ℕ
   pub stands : slice_get frame.futures future ≡ Some (Some on)
   pub declared : IsDeclaredAs (slice_get (futures_at p frame.decl) future) spawned
 
--- the frame makes a task as its body declares it, with as many arguments as it has parameters
+-- the frame makes a task as its body declares it, with as many arguments as the task has parameters
 pub record MakesDeclared (p : Program) (frame child : Frame) (args : List ℤ) (effects : Summary) (spawned : Bool) (into : ℕ) : Type 0 where
   pub task : ℕ
   pub child_is : child ≡ entry_frame p task args

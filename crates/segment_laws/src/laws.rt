@@ -1,5 +1,5 @@
-//! Laws of what a segment goes through.
-ghost use Rattle.std.specs.Prelude.{◌≡◌, ℕ, ℤ, Bool, true, false, List, [], Option, Some, slice_get, slice_set};
+//! Laws of segments: what they keep, which control paths they follow, and which tasks they wait for.
+ghost use Rattle.std.specs.Prelude.{◌≡◌, ℕ, ℤ, Bool, true, false, List, Option, Some, slice_get, slice_set};
 ghost use Rattle.twe_io.specs.declared.place.Place.{Place};
 ghost use Rattle.effect_sets.specs.declared.effects.Summary.{Summary};
 ghost use Rattle.twe_program.specs.Program.{Program};
@@ -17,17 +17,17 @@ ghost use Rattle.segment_laws.specs.Left.{left_of};
 ghost use Rattle.segment_laws.specs.Operations.{ComesToMake, ComesToWait};
 ghost use Rattle.segment_laws.specs.Ready.{AwaitsMade, IsReady, MakesDeclared};
 
-/// A segment keeps the number, the declaration, the futures and the unjoined children of its frame, and as many cells as
-/// there were. It takes fuel, at least a unit where it comes to a task operation; and what comes next is as it has
-/// stopped.
+/// A segment keeps the number, the declaration, the futures and the unjoined children of its frame, and the number of
+/// cells. It never adds fuel, and takes at least a unit if it stops at a task operation. What the task does next follows
+/// from how the segment stopped, and conversely.
 pub fn segments_keep()
     ensures { (p : Program) (frame : Frame) (cells : List ℤ) → SegmentKeeps frame cells (segment p frame cells) }
 {}
 
-/// What a segment carries out is a stretch of a control path, whatever the cells have: it leads from what is left of the
-/// body before the segment to the task operation at which it stops, passes no other operation, and leaves what is left
-/// after the segment. Before a task's first segment its whole body is left, and the taking of a value leaves what was
-/// left.
+/// A segment follows a control path, whatever the values of the cells are. The path leads from the rest of the body
+/// before the segment to the task operation at which it stops, and passes no other task operation. After that operation
+/// the rest of the body is the one after the segment. Before a task's first segment the rest is its whole body, and
+/// taking an awaited value does not change the rest.
 pub fn segments_follow_control_paths()
     ensures entry { (p : Program) (task : ℕ) (args : List ℤ) → left_of p (entry_frame p task args) ≡ body_of (slice_get p.tasks task) }
     ensures given { (p : Program) (frame : Frame) (value : ℤ) → left_of p (given frame value) ≡ left_of p frame }
@@ -43,10 +43,13 @@ pub fn segments_follow_control_paths()
         → ComesToWait p frame (segment p frame cells).frame path true on into }
 {}
 
-/// A task of a well-formed program waits only for tasks that it has made. Each wait that is left of its body is of a
-/// future that stands for a task by then: so it is before the first segment; the taking of a value keeps it; and a
-/// segment keeps it, once the future of a task that was made stands for that task, whatever its number is. A task is
-/// made as the body declares it; a `join` waits for one that was spawned, and a `getValue` for one that was not.
+/// A task of a well-formed program waits only for tasks that it has made. A frame is ready if each wait in the rest of its
+/// body is for a future that stands for a task by then.
+///
+/// A frame is ready before its first segment, and stays ready when it takes a value, when its body ends, and after a
+/// segment. After a segment that makes a task it is ready once the future stands for the new task, whatever the number
+/// of that task is. A task is made as the body declares it. A `join` waits for a task that was spawned, and a `getValue`
+/// for one that was not.
 pub fn waits_are_of_made_tasks()
     ensures entry { (p : Program) → IsWellFormed p → (task : ℕ) (args : List ℤ) → IsReady p (entry_frame p task args) }
     ensures same { (p : Program) (frame other : Frame) → other.decl ≡ frame.decl → other.body ≡ frame.body → other.futures ≡ frame.futures

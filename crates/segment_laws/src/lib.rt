@@ -1,7 +1,7 @@
-//! What a segment goes through: the statements of a control path, up to its next task operation.
+//! Laws of segments: each follows a control path of its body up to its next task operation.
 //!
-//! The meaning of a segment is `seg_exec`'s, and control paths are `cover_flow`'s. The laws here tie the two together, so
-//! that what is known of each control path of a body is known of each run of it.
+//! `seg_exec` defines the meaning of a segment, and `cover_flow` defines control paths. The laws here connect the two: a
+//! fact about every control path of a body holds for every run of the body.
 #![tactic(auto)]
 
 mod laws;
