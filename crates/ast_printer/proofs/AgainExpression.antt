@@ -17,7 +17,7 @@ use Rattle.twe_parser.specs.WritesExpression.{is_smallest, WritesExpression, wri
 use Rattle.twe_parser.proofs.FirstTokens.{shape_begins}
 use Rattle.twe_parser.proofs.Steps.{level_small}
 use Rattle.ast_printer.specs.Text.{when}
-use Rattle.ast_printer.specs.ExpressionWords.{literal_words, needs_parentheses, expression_words, shape_words, arguments_words}
+use Rattle.ast_printer.specs.ExpressionTokens.{literal_tokens, needs_parentheses, expression_tokens, shape_tokens, arguments_tokens}
 use Rattle.ast_printer.proofs.Supply.{here, next, tokens_at, after, after_append}
 use Rattle.ast_printer.proofs.PlacedExpression.{placed_expression, placed_shape, placed_arguments}
 
@@ -40,12 +40,12 @@ enclosed_start : (test : Bool) (words more : List TokenKind) → test ≡ true �
 enclosed_start true words more is = refl
 enclosed_start false words more is = absurd (false≢true is)
 
-literal_start : (value : ℕ) (test : Bool) → nat_le value 2147483647 ≡ test → (more : List TokenKind) → starts_smallest (literal_words (if test then pos value else negsuc 2147483647) ++ more) ≡ false
+literal_start : (value : ℕ) (test : Bool) → nat_le value 2147483647 ≡ test → (more : List TokenKind) → starts_smallest (literal_tokens (if test then pos value else negsuc 2147483647) ++ more) ≡ false
 literal_start value true is more = ne_eqb value 2147483648 (λ same. let small = leb-true value 2147483647 is in omega arith)
 literal_start value false is more = refl
 
 -- no expression as an operand of a sign starts with the literal 2147483648
-pub small_start : {level : ℕ} {shape : Shape} {tokens rest : List Token} → WritesShape level shape tokens rest → (more : List TokenKind) → starts_smallest (shape_words 6 shape ++ more) ≡ false
+pub small_start : {level : ℕ} {shape : Shape} {tokens rest : List Token} → WritesShape level shape tokens rest → (more : List TokenKind) → starts_smallest (shape_tokens 6 shape ++ more) ≡ false
 small_start (binary {op = op} le left right) more = let small = level_small op in enclosed_start (needs_parentheses 6 op) _ more (lt-ltb (level_of op) 6 (omega arith))
 small_start (negative other operand) more = refl
 small_start smallest more = refl
@@ -60,7 +60,7 @@ small_start (grid row column) more = refl
 small_start (parentheses (written inside)) more = small_start inside more
 
 literal_again : (level value : ℕ) (test : Bool) → nat_le value 2147483647 ≡ test → (s : List Place) (more : List TokenKind)
-    → WritesShape level (Literal (if test then pos value else negsuc 2147483647)) (tokens_at s (literal_words (if test then pos value else negsuc 2147483647) ++ more)) (tokens_at (after (literal_words (if test then pos value else negsuc 2147483647)) s) more)
+    → WritesShape level (Literal (if test then pos value else negsuc 2147483647)) (tokens_at s (literal_tokens (if test then pos value else negsuc 2147483647) ++ more)) (tokens_at (after (literal_tokens (if test then pos value else negsuc 2147483647)) s) more)
 literal_again level value true is s more =
     let the_value : value_of value ≡ pos value = ap (λ b. if b then pos value else negsuc 2147483647) is in
     subst (λ (v : ℤ). WritesShape level (Literal v) (number value (here s) ∷ tokens_at (next s) more) (tokens_at (next s) more)) the_value literal
@@ -68,32 +68,32 @@ literal_again level value false is s more = smallest
 
 -- it is written again at every level and at all places, whatever comes after it
 abbrev pub AgainAt : ℕ → Expression → List Place → List TokenKind → Type 0
-AgainAt level e s more = WritesExpression level (placed_expression level e s) (tokens_at s (expression_words level e ++ more)) (tokens_at (after (expression_words level e) s) more)
+AgainAt level e s more = WritesExpression level (placed_expression level e s) (tokens_at s (expression_tokens level e ++ more)) (tokens_at (after (expression_tokens level e) s) more)
 
 -- an operator with its operands, enclosed or not
 operator_again : (test : Bool) (level : ℕ) (op : BinOp) (left right : Expression) (s : List Place) (more : List TokenKind) → (test ≡ false → level ≤ level_of op)
     → ((its : List Place) (later : List TokenKind) → AgainAt (level_of op) left its later) → ((its : List Place) (later : List TokenKind) → AgainAt (level_of op + 1) right its later)
     → WritesShape level
-    (Binary op (placed_expression (level_of op) left (after (when test fixed.OpenParen) s)) (placed_expression (level_of op + 1) right (next (after (expression_words (level_of op) left) (after (when test fixed.OpenParen) s))))
-    (here (after (expression_words (level_of op) left) (after (when test fixed.OpenParen) s))))
-    (tokens_at s ((when test fixed.OpenParen ++ (expression_words (level_of op) left ++ kinds.Fixed (operator op) ∷ (expression_words (level_of op + 1) right ++ when test fixed.CloseParen))) ++ more))
-    (tokens_at (after (when test fixed.OpenParen ++ (expression_words (level_of op) left ++ kinds.Fixed (operator op) ∷ (expression_words (level_of op + 1) right ++ when test fixed.CloseParen))) s) more)
+    (Binary op (placed_expression (level_of op) left (after (when test fixed.OpenParen) s)) (placed_expression (level_of op + 1) right (next (after (expression_tokens (level_of op) left) (after (when test fixed.OpenParen) s))))
+    (here (after (expression_tokens (level_of op) left) (after (when test fixed.OpenParen) s))))
+    (tokens_at s ((when test fixed.OpenParen ++ (expression_tokens (level_of op) left ++ kinds.Fixed (operator op) ∷ (expression_tokens (level_of op + 1) right ++ when test fixed.CloseParen))) ++ more))
+    (tokens_at (after (when test fixed.OpenParen ++ (expression_tokens (level_of op) left ++ kinds.Fixed (operator op) ∷ (expression_tokens (level_of op + 1) right ++ when test fixed.CloseParen))) s) more)
 operator_again true level op left right s more le left_again right_again =
     simp (append_assoc, after_append)
-    (parentheses (begins_here 0 _ (next s) _ _ (binary (omega arith) (left_again (next s) _) (right_again (next (after (expression_words (level_of op) left) (next s))) (kinds.Fixed fixed.CloseParen ∷ more)))))
+    (parentheses (begins_here 0 _ (next s) _ _ (binary (omega arith) (left_again (next s) _) (right_again (next (after (expression_tokens (level_of op) left) (next s))) (kinds.Fixed fixed.CloseParen ∷ more)))))
 operator_again false level op left right s more le left_again right_again =
-    simp (append_assoc, append-nil, after_append) (binary (le refl) (left_again s _) (right_again (next (after (expression_words (level_of op) left) s)) more))
+    simp (append_assoc, append-nil, after_append) (binary (le refl) (left_again s _) (right_again (next (after (expression_tokens (level_of op) left) s)) more))
 
 mutual
   pub expression_again : {low : ℕ} {e : Expression} {tokens rest : List Token} → WritesExpression low e tokens rest → (level : ℕ) (s : List Place) (more : List TokenKind) → AgainAt level e s more
-  expression_again (written {shape = shape} writes) level s more = begins_here level (placed_shape level shape s) s (shape_words level shape ++ more) _ (shape_again writes level s more)
+  expression_again (written {shape = shape} writes) level s more = begins_here level (placed_shape level shape s) s (shape_tokens level shape ++ more) _ (shape_again writes level s more)
 
   pub shape_again : {low : ℕ} {shape : Shape} {tokens rest : List Token} → WritesShape low shape tokens rest → (level : ℕ) (s : List Place) (more : List TokenKind)
-      → WritesShape level (placed_shape level shape s) (tokens_at s (shape_words level shape ++ more)) (tokens_at (after (shape_words level shape) s) more)
+      → WritesShape level (placed_shape level shape s) (tokens_at s (shape_tokens level shape ++ more)) (tokens_at (after (shape_tokens level shape) s) more)
   shape_again (binary {op = op} {left = l} {right = r} le left right) level s more =
       operator_again (needs_parentheses level op) level op l r s more (λ is. ltb-false (level_of op) level is) (λ its later. expression_again left (level_of op) its later) (λ its later. expression_again right (level_of op + 1) its later)
   shape_again (negative {operand = expression place inner} other (written operand)) level s more =
-      after_minus level (placed_expression 6 (expression place inner) (next s)) (here s) (next s) (shape_words 6 inner ++ more) _ (small_start operand more) (expression_again (written operand) 6 (next s) more)
+      after_minus level (placed_expression 6 (expression place inner) (next s)) (here s) (next s) (shape_tokens 6 inner ++ more) _ (small_start operand more) (expression_again (written operand) 6 (next s) more)
   shape_again smallest level s more = smallest
   shape_again (negation operand) level s more = negation (expression_again operand 6 (next s) more)
   shape_again (literal {value = value}) level s more = literal_again level value (nat_le value 2147483647) refl s more
@@ -105,17 +105,17 @@ mutual
       simp (append_assoc, after_append) (array {name = record { text = name.text; place = here s }} (expression_again index 0 (next (next s)) (kinds.Fixed fixed.CloseBracket ∷ more)))
   shape_again (grid {name = name} {row = r} row column) level s more =
       simp (append_assoc, after_append)
-      (grid {name = record { text = name.text; place = here s }} (expression_again row 0 (next (next s)) _) (expression_again column 0 (next (next (after (expression_words 0 r) (next (next s))))) (kinds.Fixed fixed.CloseBracket ∷ more)))
+      (grid {name = record { text = name.text; place = here s }} (expression_again row 0 (next (next s)) _) (expression_again column 0 (next (next (after (expression_tokens 0 r) (next (next s))))) (kinds.Fixed fixed.CloseBracket ∷ more)))
   shape_again (parentheses (written inside)) level s more = shape_again inside level s more
 
   pub arguments_again : {args : Arguments} {tokens rest : List Token} → WritesArguments args tokens rest → (s : List Place) (more : List TokenKind)
-      → WritesArguments (placed_arguments false args s) (tokens_at s (arguments_words false args ++ more)) (tokens_at (after (arguments_words false args) s) more)
+      → WritesArguments (placed_arguments false args s) (tokens_at s (arguments_tokens false args ++ more)) (tokens_at (after (arguments_tokens false args) s) more)
   arguments_again no_arguments s more = no_arguments
   arguments_again (arguments {first = f} {others = o} first others) s more =
-      simp (append_assoc, after_append) (arguments (expression_again first 0 s (arguments_words true o ++ more)) (more_arguments_again others (after (expression_words 0 f) s) more))
+      simp (append_assoc, after_append) (arguments (expression_again first 0 s (arguments_tokens true o ++ more)) (more_arguments_again others (after (expression_tokens 0 f) s) more))
 
   pub more_arguments_again : {args : Arguments} {tokens rest : List Token} → MoreArguments args tokens rest → (s : List Place) (more : List TokenKind)
-      → MoreArguments (placed_arguments true args s) (tokens_at s (arguments_words true args ++ more)) (tokens_at (after (arguments_words true args) s) more)
+      → MoreArguments (placed_arguments true args s) (tokens_at s (arguments_tokens true args ++ more)) (tokens_at (after (arguments_tokens true args) s) more)
   more_arguments_again no_more_arguments s more = no_more_arguments
   more_arguments_again (more_arguments {first = f} {others = o} first others) s more =
-      simp (append_assoc, after_append) (more_arguments (expression_again first 0 (next s) (arguments_words true o ++ more)) (more_arguments_again others (after (expression_words 0 f) (next s)) more))
+      simp (append_assoc, after_append) (more_arguments (expression_again first 0 (next s) (arguments_tokens true o ++ more)) (more_arguments_again others (after (expression_tokens 0 f) (next s)) more))

@@ -21,8 +21,8 @@ use Rattle.twe_parser.specs.Written.{word, named, number}
 use Rattle.twe_parser.specs.WritesPath.{WritesCellElem, cell_name, cell_index, MoreCellElems, no_more_cell_elems, more_cell_elems, WritesCellPath, cell_root, cell_region, WritesElem, name, index, parameter, any_index, star, MoreElems, no_more_elems, more_elems, WritesPath, root, region}
 use Rattle.twe_parser.specs.Writes.{MoreNames, no_more_names, more_names, WritesInitial, not_written, initial, negative_initial, MoreParams, no_more_params, more_params, WritesParams, no_params, params, MorePaths, no_more_paths, more_paths, WritesClause, clause, MoreClauses, no_more_clauses, more_clauses, WritesEffects, pure, clauses, WritesDecl, decl, WritesItem, regions, cell, array, grid, method, task, deterministic_task, WritesItems, no_more_items, more_items}
 use Rattle.ast_printer.specs.Text.{when}
-use Rattle.ast_printer.specs.PathWords.{elem_words, elems_words, needs_root, cell_elem_words, cell_elems_words, cell_needs_root}
-use Rattle.ast_printer.specs.ItemWords.{names_words, initial_words, params_words, paths_words, clause_words, clauses_words, effects_words, decl_words, item_words, items_words}
+use Rattle.ast_printer.specs.PathTokens.{elem_tokens, elems_tokens, needs_root, cell_elem_tokens, cell_elems_tokens, cell_needs_root}
+use Rattle.ast_printer.specs.ItemTokens.{names_tokens, initial_tokens, params_tokens, paths_tokens, clause_tokens, clauses_tokens, effects_tokens, decl_tokens, item_tokens, items_tokens}
 use Rattle.ast_printer.proofs.Supply.{here, next, tokens_at, after, after_append, placed_name}
 use Rattle.ast_printer.proofs.PlacedStatement.{second, third}
 use Rattle.ast_printer.proofs.AgainStatement.{block_again}
@@ -37,24 +37,24 @@ joined W one two more s writes =
 
 -- the places after a path
 abbrev past_path : Path → List Place → List Place
-past_path path s = after (elems_words (needs_root path.elems) path.elems) (after (when (needs_root path.elems) fixed.Root) s)
+past_path path s = after (elems_tokens (needs_root path.elems) path.elems) (after (when (needs_root path.elems) fixed.Root) s)
 
 abbrev past_cell_path : CellPath → List Place → List Place
-past_cell_path path s = after (cell_elems_words (cell_needs_root path.elems) path.elems) (after (when (cell_needs_root path.elems) fixed.Root) s)
+past_cell_path path s = after (cell_elems_tokens (cell_needs_root path.elems) path.elems) (after (when (cell_needs_root path.elems) fixed.Root) s)
 
 -- the paths are written again; their `Root` and their elements are taken one by one
 abbrev AgainPath : Path → List Place → List TokenKind → Type 0
 AgainPath path s more =
-    WritesPath (placed_path path s) (tokens_at s (when (needs_root path.elems) fixed.Root ++ (elems_words (needs_root path.elems) path.elems ++ more)))
+    WritesPath (placed_path path s) (tokens_at s (when (needs_root path.elems) fixed.Root ++ (elems_tokens (needs_root path.elems) path.elems ++ more)))
     (tokens_at (past_path path s) more)
 
 abbrev AgainCellPath : CellPath → List Place → List TokenKind → Type 0
 AgainCellPath path s more =
-    WritesCellPath (placed_cell_path path s) (tokens_at s (when (cell_needs_root path.elems) fixed.Root ++ (cell_elems_words (cell_needs_root path.elems) path.elems ++ more)))
+    WritesCellPath (placed_cell_path path s) (tokens_at s (when (cell_needs_root path.elems) fixed.Root ++ (cell_elems_tokens (cell_needs_root path.elems) path.elems ++ more)))
     (tokens_at (past_cell_path path s) more)
 
 elem_again : {elem : PathElem} {tokens rest : List Token} → WritesElem elem tokens rest → (s : List Place) (more : List TokenKind)
-    → WritesElem (placed_elem elem s) (tokens_at s (elem_words elem.kind ++ more)) (tokens_at (after (elem_words elem.kind) s) more)
+    → WritesElem (placed_elem elem s) (tokens_at s (elem_tokens elem.kind ++ more)) (tokens_at (after (elem_tokens elem.kind) s) more)
 elem_again (name {name = n}) s more = name {name = placed_name n s}
 elem_again index s more = index
 elem_again (parameter {name = n}) s more = parameter {name = placed_name n (next s)}
@@ -62,14 +62,14 @@ elem_again any_index s more = any_index
 elem_again star s more = star
 
 elems_again : {elems : List PathElem} {tokens rest : List Token} → MoreElems elems tokens rest → (s : List Place) (more : List TokenKind)
-    → MoreElems (placed_elems true elems s) (tokens_at s (elems_words true elems ++ more)) (tokens_at (after (elems_words true elems) s) more)
+    → MoreElems (placed_elems true elems s) (tokens_at s (elems_tokens true elems ++ more)) (tokens_at (after (elems_tokens true elems) s) more)
 elems_again no_more_elems s more = no_more_elems
 elems_again (more_elems {first = f} {others = o} first others) s more =
-    simp (append_assoc, after_append) (more_elems (elem_again first (next s) (elems_words true o ++ more)) (elems_again others (after (elem_words f.kind) (next s)) more))
+    simp (append_assoc, after_append) (more_elems (elem_again first (next s) (elems_tokens true o ++ more)) (elems_again others (after (elem_tokens f.kind) (next s)) more))
 
 -- a path that is written with `Root`: it is written again with it, or without
 root_again : {elems : List PathElem} {tokens rest : List Token} → MoreElems elems tokens rest → (place : Place) (s : List Place) (more : List TokenKind)
-    → MoreElems (placed_elems true elems (next s)) (tokens_at (next s) (elems_words true elems ++ more)) (tokens_at (after (elems_words true elems) (next s)) more)
+    → MoreElems (placed_elems true elems (next s)) (tokens_at (next s) (elems_tokens true elems ++ more)) (tokens_at (after (elems_tokens true elems) (next s)) more)
     → AgainPath (record { elems = elems; place = place }) s more
 root_again no_more_elems place s more again = root again
 root_again (more_elems (name {name = n}) others) place s more again = region {name = placed_name n s} (elems_again others (next s) more)
@@ -83,18 +83,18 @@ path_again (root {place = place} elems) s more = root_again elems place s more (
 path_again (region {name = n} others) s more = region {name = placed_name n s} (elems_again others (next s) more)
 
 cell_elem_again : {elem : CellElem} {tokens rest : List Token} → WritesCellElem elem tokens rest → (s : List Place) (more : List TokenKind)
-    → WritesCellElem (placed_cell_elem elem s) (tokens_at s (cell_elem_words elem.kind ++ more)) (tokens_at (after (cell_elem_words elem.kind) s) more)
+    → WritesCellElem (placed_cell_elem elem s) (tokens_at s (cell_elem_tokens elem.kind ++ more)) (tokens_at (after (cell_elem_tokens elem.kind) s) more)
 cell_elem_again (cell_name {name = n}) s more = cell_name {name = placed_name n s}
 cell_elem_again cell_index s more = cell_index
 
 cell_elems_again : {elems : List CellElem} {tokens rest : List Token} → MoreCellElems elems tokens rest → (s : List Place) (more : List TokenKind)
-    → MoreCellElems (placed_cell_elems true elems s) (tokens_at s (cell_elems_words true elems ++ more)) (tokens_at (after (cell_elems_words true elems) s) more)
+    → MoreCellElems (placed_cell_elems true elems s) (tokens_at s (cell_elems_tokens true elems ++ more)) (tokens_at (after (cell_elems_tokens true elems) s) more)
 cell_elems_again no_more_cell_elems s more = no_more_cell_elems
 cell_elems_again (more_cell_elems {first = f} {others = o} first others) s more =
-    simp (append_assoc, after_append) (more_cell_elems (cell_elem_again first (next s) (cell_elems_words true o ++ more)) (cell_elems_again others (after (cell_elem_words f.kind) (next s)) more))
+    simp (append_assoc, after_append) (more_cell_elems (cell_elem_again first (next s) (cell_elems_tokens true o ++ more)) (cell_elems_again others (after (cell_elem_tokens f.kind) (next s)) more))
 
 cell_root_again : {elems : List CellElem} {tokens rest : List Token} → MoreCellElems elems tokens rest → (place : Place) (s : List Place) (more : List TokenKind)
-    → MoreCellElems (placed_cell_elems true elems (next s)) (tokens_at (next s) (cell_elems_words true elems ++ more)) (tokens_at (after (cell_elems_words true elems) (next s)) more)
+    → MoreCellElems (placed_cell_elems true elems (next s)) (tokens_at (next s) (cell_elems_tokens true elems ++ more)) (tokens_at (after (cell_elems_tokens true elems) (next s)) more)
     → AgainCellPath (record { elems = elems; place = place }) s more
 cell_root_again no_more_cell_elems place s more again = cell_root again
 cell_root_again (more_cell_elems (cell_name {name = n}) others) place s more again = cell_region {name = placed_name n s} (cell_elems_again others (next s) more)
@@ -105,7 +105,7 @@ cell_path_again (cell_root {place = place} elems) s more = cell_root_again elems
 cell_path_again (cell_region {name = n} others) s more = cell_region {name = placed_name n s} (cell_elems_again others (next s) more)
 
 names_again : {names : List Name} {tokens rest : List Token} → MoreNames names tokens rest → (s : List Place) (more : List TokenKind)
-    → MoreNames (placed_names true names s) (tokens_at s (names_words true names ++ more)) (tokens_at (after (names_words true names) s) more)
+    → MoreNames (placed_names true names s) (tokens_at s (names_tokens true names ++ more)) (tokens_at (after (names_tokens true names) s) more)
 names_again no_more_names s more = no_more_names
 names_again (more_names {first = f} others) s more = more_names {first = placed_name f (next s)} (names_again others (second s) more)
 
@@ -119,7 +119,7 @@ negative_again zero = refl
 negative_again (suc n) = ap negsuc (omega arith)
 
 initial_again : {start : Option Initial} {tokens rest : List Token} → WritesInitial start tokens rest → (s : List Place) (more : List TokenKind)
-    → WritesInitial start (tokens_at s (initial_words start ++ more)) (tokens_at (after (initial_words start) s) more)
+    → WritesInitial start (tokens_at s (initial_tokens start ++ more)) (tokens_at (after (initial_tokens start) s) more)
 initial_again not_written s more = not_written
 initial_again (initial {value = v}) s more =
     subst (λ (n : ℤ). WritesInitial (Some (record { minus = false; value = n })) (word fixed.Assign (here s) ∷ number (unsigned_abs (value_of v)) (here (next s)) ∷ tokens_at (second s) more) (tokens_at (second s) more))
@@ -130,52 +130,52 @@ initial_again (negative_initial {value = v}) s more =
     (negative_again v) negative_initial
 
 more_params_again : {names : List Name} {tokens rest : List Token} → MoreParams names tokens rest → (s : List Place) (more : List TokenKind)
-    → MoreParams (placed_params true names s) (tokens_at s (params_words true names ++ more)) (tokens_at (after (params_words true names) s) more)
+    → MoreParams (placed_params true names s) (tokens_at s (params_tokens true names ++ more)) (tokens_at (after (params_tokens true names) s) more)
 more_params_again no_more_params s more = no_more_params
 more_params_again (more_params {first = f} others) s more = more_params {first = placed_name f (second s)} (more_params_again others (third s) more)
 
 params_again : {names : List Name} {tokens rest : List Token} → WritesParams names tokens rest → (s : List Place) (more : List TokenKind)
-    → WritesParams (placed_params false names (next s)) (tokens_at s (kinds.Fixed fixed.OpenParen ∷ (params_words false names ++ kinds.Fixed fixed.CloseParen ∷ more)))
-    (tokens_at (next (after (params_words false names) (next s))) more)
+    → WritesParams (placed_params false names (next s)) (tokens_at s (kinds.Fixed fixed.OpenParen ∷ (params_tokens false names ++ kinds.Fixed fixed.CloseParen ∷ more)))
+    (tokens_at (next (after (params_tokens false names) (next s))) more)
 params_again no_params s more = no_params
 params_again (params {first = f} others) s more = params {first = placed_name f (second s)} (more_params_again others (third s) (kinds.Fixed fixed.CloseParen ∷ more))
 
 paths_again : {paths : List Path} {tokens rest : List Token} → MorePaths paths tokens rest → (s : List Place) (more : List TokenKind)
-    → MorePaths (placed_paths true paths s) (tokens_at s (paths_words true paths ++ more)) (tokens_at (after (paths_words true paths) s) more)
+    → MorePaths (placed_paths true paths s) (tokens_at s (paths_tokens true paths ++ more)) (tokens_at (after (paths_tokens true paths) s) more)
 paths_again no_more_paths s more = no_more_paths
 paths_again (more_paths {first = f} {others = o} first others) s more =
-    simp (append_assoc, after_append) (more_paths (path_again first (next s) (paths_words true o ++ more)) (paths_again others (past_path f (next s)) more))
+    simp (append_assoc, after_append) (more_paths (path_again first (next s) (paths_tokens true o ++ more)) (paths_again others (past_path f (next s)) more))
 
 clause_again : {c : Clause} {tokens rest : List Token} → WritesClause c tokens rest → (s : List Place) (more : List TokenKind)
-    → WritesClause (placed_clause c s) (tokens_at s (clause_words c ++ more)) (tokens_at (after (clause_words c) s) more)
+    → WritesClause (placed_clause c s) (tokens_at s (clause_tokens c ++ more)) (tokens_at (after (clause_tokens c) s) more)
 clause_again (clause {first = f} {others = o} first others) s more =
-    simp (append_assoc, after_append) (clause (path_again first (next s) (paths_words true o ++ more)) (paths_again others (past_path f (next s)) more))
+    simp (append_assoc, after_append) (clause (path_again first (next s) (paths_tokens true o ++ more)) (paths_again others (past_path f (next s)) more))
 
 clauses_again : {cs : List Clause} {tokens rest : List Token} → MoreClauses cs tokens rest → (s : List Place) (more : List TokenKind)
-    → MoreClauses (placed_clauses cs s) (tokens_at s (clauses_words cs ++ more)) (tokens_at (after (clauses_words cs) s) more)
+    → MoreClauses (placed_clauses cs s) (tokens_at s (clauses_tokens cs ++ more)) (tokens_at (after (clauses_tokens cs) s) more)
 clauses_again no_more_clauses s more = no_more_clauses
 clauses_again (more_clauses {first = f} {others = o} first others) s more =
-    joined (λ tokens rest. MoreClauses (placed_clauses (f ∷ o) s) tokens rest) (clause_words f) (clauses_words o) more s
-    (more_clauses (clause_again first s (clauses_words o ++ more)) (clauses_again others (after (clause_words f) s) more))
+    joined (λ tokens rest. MoreClauses (placed_clauses (f ∷ o) s) tokens rest) (clause_tokens f) (clauses_tokens o) more s
+    (more_clauses (clause_again first s (clauses_tokens o ++ more)) (clauses_again others (after (clause_tokens f) s) more))
 
 effects_again : {cs : List Clause} {tokens rest : List Token} → WritesEffects cs tokens rest → (s : List Place) (more : List TokenKind)
-    → WritesEffects (placed_clauses cs s) (tokens_at s (effects_words cs ++ more)) (tokens_at (after (effects_words cs) s) more)
+    → WritesEffects (placed_clauses cs s) (tokens_at s (effects_tokens cs ++ more)) (tokens_at (after (effects_tokens cs) s) more)
 effects_again pure s more = pure
 effects_again (clauses {first = f} {others = o} first others) s more =
-    joined (λ tokens rest. WritesEffects (placed_clauses (f ∷ o) s) tokens rest) (clause_words f) (clauses_words o) more s
-    (clauses (clause_again first s (clauses_words o ++ more)) (clauses_again others (after (clause_words f) s) more))
+    joined (λ tokens rest. WritesEffects (placed_clauses (f ∷ o) s) tokens rest) (clause_tokens f) (clauses_tokens o) more s
+    (clauses (clause_again first s (clauses_tokens o ++ more)) (clauses_again others (after (clause_tokens f) s) more))
 
 decl_again : {in_task : Bool} {d : Decl} {tokens rest : List Token} → WritesDecl in_task d tokens rest → (s : List Place) (more : List TokenKind)
-    → WritesDecl in_task (placed_decl d s) (tokens_at s (decl_words d ++ more)) (tokens_at (after (decl_words d) s) more)
+    → WritesDecl in_task (placed_decl d s) (tokens_at s (decl_tokens d ++ more)) (tokens_at (after (decl_tokens d) s) more)
 decl_again (decl {name = n} {params = p} {effects = e} names effects body) s more =
     simp (append_assoc, after_append)
-    (decl {name = placed_name n (next s)} (params_again names (second s) _) (effects_again effects (next (after (params_words false p) (third s))) _)
-    (block_again body (next (after (effects_words e) (next (after (params_words false p) (third s))))) more))
+    (decl {name = placed_name n (next s)} (params_again names (second s) _) (effects_again effects (next (after (params_tokens false p) (third s))) _)
+    (block_again body (next (after (effects_tokens e) (next (after (params_tokens false p) (third s))))) more))
 
 item_again : {item : Item} {tokens rest : List Token} → WritesItem item tokens rest → (s : List Place) (more : List TokenKind)
-    → WritesItem (placed_item item s) (tokens_at s (item_words item ++ more)) (tokens_at (after (item_words item) s) more)
+    → WritesItem (placed_item item s) (tokens_at s (item_tokens item ++ more)) (tokens_at (after (item_tokens item) s) more)
 item_again (regions {first = f} {others = o} names) s more =
-    joined (λ tokens rest. WritesItem (placed_item (items.Regions (f ∷ o)) s) (word fixed.Region (here s) ∷ named (placed_name f (next s)) ∷ tokens) rest) (names_words true o) (kinds.Fixed fixed.Semicolon ∷ []) more (second s)
+    joined (λ tokens rest. WritesItem (placed_item (items.Regions (f ∷ o)) s) (word fixed.Region (here s) ∷ named (placed_name f (next s)) ∷ tokens) rest) (names_tokens true o) (kinds.Fixed fixed.Semicolon ∷ []) more (second s)
     (regions {first = placed_name f (next s)} (names_again names (second s) (kinds.Fixed fixed.Semicolon ∷ more)))
 item_again (cell {name = n} {path = p} path start) s more =
     simp (append_assoc, after_append)
@@ -189,6 +189,6 @@ item_again (task d) s more = task (decl_again d (next s) more)
 item_again (deterministic_task d) s more = deterministic_task (decl_again d (second s) more)
 
 -- the words of a program are tokens that write it again, at all places
-pub items_again : {all : List Item} {tokens : List Token} → WritesItems all tokens → (s : List Place) → WritesItems (placed_items all s) (tokens_at s (items_words all))
+pub items_again : {all : List Item} {tokens : List Token} → WritesItems all tokens → (s : List Place) → WritesItems (placed_items all s) (tokens_at s (items_tokens all))
 items_again no_more_items s = no_more_items
-items_again (more_items {first = f} {others = o} first others) s = more_items (item_again first s (items_words o)) (items_again others (after (item_words f) s))
+items_again (more_items {first = f} {others = o} first others) s = more_items (item_again first s (items_tokens o)) (items_again others (after (item_tokens f) s))

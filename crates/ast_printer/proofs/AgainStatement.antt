@@ -8,24 +8,24 @@ use Rattle.twe_lexer.specs.declared.token.Token.{Token}
 use Rattle.twe_lexer.specs.declared.token.TokenKind.{TokenKind}
 use Rattle.twe_lexer.specs.declared.token.TokenKind.TheVariants as kinds
 use Rattle.twe_parser.specs.WritesStatement.{WritesWait, wait, WritesStatement, block, let_local, let_final, set, set_array, set_grid, if_arms, while, return_nothing, return_value, print, call, make, wait_for, let_wait, final_wait, WritesStatements, closed, one_more, WritesArms, if_arm, MoreArms, no_more_arms, else_block, else_if}
-use Rattle.ast_printer.specs.StatementWords.{wait_words, statement_words, block_words, arms_words}
+use Rattle.ast_printer.specs.StatementTokens.{wait_tokens, statement_tokens, block_tokens, arms_tokens}
 use Rattle.ast_printer.proofs.Supply.{next, tokens_at, after, after_append, placed_name}
 use Rattle.ast_printer.proofs.AgainExpression.{expression_again, arguments_again}
 use Rattle.ast_printer.proofs.PlacedStatement.{second, third, past, placed_wait, placed_statement, placed_block, placed_arms}
 
 wait_again : {call : WaitCall} {tokens rest : List Token} → WritesWait call tokens rest → (s : List Place) (more : List TokenKind)
-    → WritesWait (placed_wait call s) (tokens_at s (wait_words call ++ more)) (tokens_at (after (wait_words call) s) more)
+    → WritesWait (placed_wait call s) (tokens_at s (wait_tokens call ++ more)) (tokens_at (after (wait_tokens call) s) more)
 wait_again (wait {future = f}) s more = wait {future = placed_name f s}
 
 -- a further arm stands behind `else`
 behind_else : {in_task : Bool} {arms : Arms} {tokens rest : List Token} → WritesArms in_task arms tokens rest → (s : List Place) (more : List TokenKind)
-    → WritesArms in_task (placed_arms false arms (next s)) (tokens_at (next s) (arms_words false arms ++ more)) (tokens_at (after (arms_words false arms) (next s)) more)
-    → MoreArms in_task (placed_arms true arms s) (tokens_at s (arms_words true arms ++ more)) (tokens_at (after (arms_words true arms) s) more)
+    → WritesArms in_task (placed_arms false arms (next s)) (tokens_at (next s) (arms_tokens false arms ++ more)) (tokens_at (after (arms_tokens false arms) (next s)) more)
+    → MoreArms in_task (placed_arms true arms s) (tokens_at s (arms_tokens true arms ++ more)) (tokens_at (after (arms_tokens true arms) s) more)
 behind_else (if_arm condition body others) s more again = else_if again
 
 mutual
   pub statement_again : {in_task : Bool} {st : Statement} {tokens rest : List Token} → WritesStatement in_task st tokens rest → (s : List Place) (more : List TokenKind)
-      → WritesStatement in_task (placed_statement st s) (tokens_at s (statement_words st ++ more)) (tokens_at (after (statement_words st) s) more)
+      → WritesStatement in_task (placed_statement st s) (tokens_at s (statement_tokens st ++ more)) (tokens_at (after (statement_tokens st) s) more)
   statement_again (block body) s more = block (block_again body (next s) more)
   statement_again (let_local {name = n} value) s more =
       simp (append_assoc, after_append) (let_local {name = placed_name n (next s)} (expression_again value 0 (third s) (kinds.Fixed fixed.Semicolon ∷ more)))
@@ -57,19 +57,19 @@ mutual
   statement_again (final_wait {name = n} waits) s more = final_wait {name = placed_name n (second s)} (wait_again waits (third (next s)) more)
 
   pub block_again : {in_task : Bool} {body : Statements} {tokens rest : List Token} → WritesStatements in_task body tokens rest → (s : List Place) (more : List TokenKind)
-      → WritesStatements in_task (placed_block body s) (tokens_at s (block_words body ++ more)) (tokens_at (after (block_words body) s) more)
+      → WritesStatements in_task (placed_block body s) (tokens_at s (block_tokens body ++ more)) (tokens_at (after (block_tokens body) s) more)
   block_again closed s more = closed
   block_again (one_more {first = f} {others = o} first others) s more =
-      simp (append_assoc, after_append) (one_more (statement_again first s (block_words o ++ more)) (block_again others (after (statement_words f) s) more))
+      simp (append_assoc, after_append) (one_more (statement_again first s (block_tokens o ++ more)) (block_again others (after (statement_tokens f) s) more))
 
   arms_again : {in_task : Bool} {arms : Arms} {tokens rest : List Token} → WritesArms in_task arms tokens rest → (s : List Place) (more : List TokenKind)
-      → WritesArms in_task (placed_arms false arms s) (tokens_at s (arms_words false arms ++ more)) (tokens_at (after (arms_words false arms) s) more)
+      → WritesArms in_task (placed_arms false arms s) (tokens_at s (arms_tokens false arms ++ more)) (tokens_at (after (arms_tokens false arms) s) more)
   arms_again (if_arm {condition = c} {body = b} {next = n} condition body others) s more =
       simp (append_assoc, after_append)
-      (if_arm (expression_again condition 0 (second s) _) (block_again body (past c (second s)) (arms_words true n ++ more)) (more_arms_again others (after (block_words b) (past c (second s))) more))
+      (if_arm (expression_again condition 0 (second s) _) (block_again body (past c (second s)) (arms_tokens true n ++ more)) (more_arms_again others (after (block_tokens b) (past c (second s))) more))
 
   more_arms_again : {in_task : Bool} {arms : Arms} {tokens rest : List Token} → MoreArms in_task arms tokens rest → (s : List Place) (more : List TokenKind)
-      → MoreArms in_task (placed_arms true arms s) (tokens_at s (arms_words true arms ++ more)) (tokens_at (after (arms_words true arms) s) more)
+      → MoreArms in_task (placed_arms true arms s) (tokens_at s (arms_tokens true arms ++ more)) (tokens_at (after (arms_tokens true arms) s) more)
   more_arms_again no_more_arms s more = no_more_arms
   more_arms_again (else_block body) s more = else_block (block_again body (second s) more)
   more_arms_again (else_if arms) s more = behind_else arms s more (arms_again arms (next s) more)

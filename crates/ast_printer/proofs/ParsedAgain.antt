@@ -7,7 +7,7 @@ use Rattle.twe_lexer.specs.Places.{place_after}
 use Rattle.twe_lexer.specs.Tokens.{tokens_from, BeginsWith}
 use Rattle.twe_parser.specs.Limits.{at_start}
 use Rattle.twe_parser.specs.Writes.{WritesItems}
-use Rattle.ast_printer.specs.ItemWords.{items_words, printed}
+use Rattle.ast_printer.specs.ItemTokens.{items_tokens, printed}
 use Rattle.ast_printer.specs.ParsesAgain.{IsTextOf, ParsesAgain}
 use Rattle.ast_printer.proofs.Supply.{tokens_at, kinds_in, places_in, tokens_again}
 use Rattle.ast_printer.proofs.Passing.{AllPass, Beside}
@@ -30,17 +30,17 @@ both_start = record {
 }
 
 pub parses_again : (source : List ℕ) (tree : Ast) → IsTextOf source tree → ParsesAgain (printed tree) tree
-parses_again source tree is = from_words words_pass (all_alone (items_words tree.items) at_start words_pass)
+parses_again source tree is = from_tokens words_pass (all_alone (items_tokens tree.items) at_start words_pass)
   where
-    words_pass : AllPass at_start (items_words tree.items)
+    words_pass : AllPass at_start (items_tokens tree.items)
     words_pass = (items_pass is.writes false false).pass at_start at_start both_start (tokens_pass source is.tokens is.accepted is.cut)
 
-    from_words : AllPass at_start (items_words tree.items) → AllAlone (items_words tree.items) → ParsesAgain (printed tree) tree
-    from_words pass alone =
-        let tokens : List Token = tokens_from [] (lexemes_of (items_words tree.items)) in
-        let begins : BeginsWith (printed tree) tokens [] = record { lexemes = lexemes_of (items_words tree.items); cut = text_cut (items_words tree.items) alone; same = refl } in
-        let kinds : kinds_in tokens ≡ items_words tree.items = words_again [] (items_words tree.items) alone in
-        let placed : tokens_at (places_in tokens) (items_words tree.items) ≡ tokens = ap (tokens_at (places_in tokens)) (sym kinds) ∙ tokens_again tokens in
+    from_tokens : AllPass at_start (items_tokens tree.items) → AllAlone (items_tokens tree.items) → ParsesAgain (printed tree) tree
+    from_tokens pass alone =
+        let tokens : List Token = tokens_from [] (lexemes_of (items_tokens tree.items)) in
+        let begins : BeginsWith (printed tree) tokens [] = record { lexemes = lexemes_of (items_tokens tree.items); cut = text_cut (items_tokens tree.items) alone; same = refl } in
+        let kinds : kinds_in tokens ≡ items_tokens tree.items = words_again [] (items_tokens tree.items) alone in
+        let placed : tokens_at (places_in tokens) (items_tokens tree.items) ≡ tokens = ap (tokens_at (places_in tokens)) (sym kinds) ∙ tokens_again tokens in
         let again : Ast = record { items = placed_items tree.items (places_in tokens); end = place_after (printed tree) } in
         let writes : WritesItems again.items tokens = subst (λ (all : List Token). WritesItems again.items all) placed (items_again is.writes (places_in tokens)) in
         record {
@@ -49,8 +49,8 @@ parses_again source tree is = from_words words_pass (all_alone (items_words tree
             tokens = tokens;
             cut = begins;
             writes = writes;
-            accepted = is_accepted (printed tree) again tokens begins writes (subst (λ (words : List TokenKind). AllPass at_start words) (sym kinds) pass) (text_allowed (items_words tree.items) alone)
-                (lexemes_closed (items_words tree.items) alone);
+            accepted = is_accepted (printed tree) again tokens begins writes (subst (λ (words : List TokenKind). AllPass at_start words) (sym kinds) pass) (text_allowed (items_tokens tree.items) alone)
+                (lexemes_closed (items_tokens tree.items) alone);
           };
           end = refl;
           same = same_items tree.items (places_in tokens);

@@ -17,7 +17,7 @@ use Rattle.twe_parser.specs.Limits.{is_too_large}
 use Rattle.twe_parser.specs.Written.{word, number}
 use Rattle.twe_parser.specs.WritesExpression.{is_smallest, WritesExpression, written, WritesShape, binary, negative, smallest, negation, literal, yes, no, variable, call, array, grid, parentheses, WritesArguments, no_arguments, arguments, MoreArguments, no_more_arguments, more_arguments}
 use Rattle.ast_printer.specs.Text.{when}
-use Rattle.ast_printer.specs.ExpressionWords.{literal_words, needs_parentheses, expression_words, shape_words, arguments_words}
+use Rattle.ast_printer.specs.ExpressionTokens.{literal_tokens, needs_parentheses, expression_tokens, shape_tokens, arguments_tokens}
 use Rattle.ast_printer.proofs.Passing.{Passed, regrouped, step, skip_open, skip_close}
 
 -- after a unary minus the literal 2147483648 does not come
@@ -59,7 +59,7 @@ calm_literal value true place rest calm is = calm
 calm_literal value false place rest calm is = absurd (false≢true is)
 
 literal_passes : (value : ℕ) (test : Bool) → nat_le value 2147483647 ≡ test → (o p : ℕ) (minus : Bool) (place : Place) (rest : List Token) (more : List TokenKind) → Calm minus (number value place ∷ rest)
-    → Passed o p true false rest more → Passed o p false minus (number value place ∷ rest) (literal_words (if test then pos value else negsuc 2147483647) ++ more)
+    → Passed o p true false rest more → Passed o p false minus (number value place ∷ rest) (literal_tokens (if test then pos value else negsuc 2147483647) ++ more)
 literal_passes value true is o p minus place rest more calm follows = step follows
 literal_passes value false is o p minus place rest more calm follows = record {
   pass = λ text print beside passes. absurd (large_literal value text minus is beside.text_minus (calm_literal value minus place rest calm) passes.0.small);
@@ -69,53 +69,53 @@ literal_passes value false is o p minus place rest more calm follows = record {
 not_needed : (level : ℕ) (op : BinOp) → level ≤ level_of op → needs_parentheses level op ≡ false
 not_needed level op le = le-ltb (level_of op) level le
 
-plain_words : (op : BinOp) (left right : Expression) (test : Bool) → List TokenKind
-plain_words op left right test =
-    when test fixed.OpenParen ++ (expression_words (level_of op) left ++ kinds.Fixed (operator op) ∷ (expression_words (level_of op + 1) right ++ when test fixed.CloseParen))
+plain_tokens : (op : BinOp) (left right : Expression) (test : Bool) → List TokenKind
+plain_tokens op left right test =
+    when test fixed.OpenParen ++ (expression_tokens (level_of op) left ++ kinds.Fixed (operator op) ∷ (expression_tokens (level_of op + 1) right ++ when test fixed.CloseParen))
 
 -- at a level the words are those at level 0, or they are those in parentheses
-pub enclosed_or_not : (level : ℕ) (shape : Shape) → (shape_words level shape ≡ shape_words 0 shape) ⊎ (shape_words level shape ≡ kinds.Fixed fixed.OpenParen ∷ (shape_words 0 shape ++ kinds.Fixed fixed.CloseParen ∷ []))
-unfolding plain_words
+pub enclosed_or_not : (level : ℕ) (shape : Shape) → (shape_tokens level shape ≡ shape_tokens 0 shape) ⊎ (shape_tokens level shape ≡ kinds.Fixed fixed.OpenParen ∷ (shape_tokens 0 shape ++ kinds.Fixed fixed.CloseParen ∷ []))
+unfolding plain_tokens
 enclosed_or_not level (Binary op left right place) = by_test (needs_parentheses level op) refl
   where
-    none : plain_words op left right (needs_parentheses 0 op) ≡ plain_words op left right false
-    none = ap (plain_words op left right) (not_needed 0 op (omega arith))
+    none : plain_tokens op left right (needs_parentheses 0 op) ≡ plain_tokens op left right false
+    none = ap (plain_tokens op left right) (not_needed 0 op (omega arith))
 
     by_test : (test : Bool) → needs_parentheses level op ≡ test
-        → (shape_words level (Binary op left right place) ≡ shape_words 0 (Binary op left right place))
-        ⊎ (shape_words level (Binary op left right place) ≡ kinds.Fixed fixed.OpenParen ∷ (shape_words 0 (Binary op left right place) ++ kinds.Fixed fixed.CloseParen ∷ []))
-    by_test false is = inl (ap (plain_words op left right) is ∙ sym none)
+        → (shape_tokens level (Binary op left right place) ≡ shape_tokens 0 (Binary op left right place))
+        ⊎ (shape_tokens level (Binary op left right place) ≡ kinds.Fixed fixed.OpenParen ∷ (shape_tokens 0 (Binary op left right place) ++ kinds.Fixed fixed.CloseParen ∷ []))
+    by_test false is = inl (ap (plain_tokens op left right) is ∙ sym none)
     by_test true is =
-        inr (ap (plain_words op left right) is ∙ ap (λ words. kinds.Fixed fixed.OpenParen ∷ words) (regroup ∙ ap (λ words. words ++ kinds.Fixed fixed.CloseParen ∷ []) (sym none)))
+        inr (ap (plain_tokens op left right) is ∙ ap (λ words. kinds.Fixed fixed.OpenParen ∷ words) (regroup ∙ ap (λ words. words ++ kinds.Fixed fixed.CloseParen ∷ []) (sym none)))
       where
-        regroup : expression_words (level_of op) left ++ kinds.Fixed (operator op) ∷ (expression_words (level_of op + 1) right ++ kinds.Fixed fixed.CloseParen ∷ [])
-            ≡ plain_words op left right false ++ kinds.Fixed fixed.CloseParen ∷ []
+        regroup : expression_tokens (level_of op) left ++ kinds.Fixed (operator op) ∷ (expression_tokens (level_of op + 1) right ++ kinds.Fixed fixed.CloseParen ∷ [])
+            ≡ plain_tokens op left right false ++ kinds.Fixed fixed.CloseParen ∷ []
         regroup = simp (append_assoc, append-nil)
 enclosed_or_not level _ = inl refl
 
 -- an expression in parentheses of the text, which are printed or not
 enclosed_passes : (low : ℕ) (shape : Shape) (o p : ℕ) (minus : Bool) (opening close : Place) (tokens rest : List Token) (more : List TokenKind)
-    → ((upper lower : ℕ) (its : List TokenKind) → Passed upper lower true false (word fixed.CloseParen close ∷ rest) its → Passed upper lower false false tokens (shape_words 0 shape ++ its))
-    → Passed o p true false rest more → Passed o p false minus (word fixed.OpenParen opening ∷ tokens) (shape_words low shape ++ more)
-enclosed_passes low shape o p minus opening close tokens rest more inside follows = by_words (enclosed_or_not low shape)
+    → ((upper lower : ℕ) (its : List TokenKind) → Passed upper lower true false (word fixed.CloseParen close ∷ rest) its → Passed upper lower false false tokens (shape_tokens 0 shape ++ its))
+    → Passed o p true false rest more → Passed o p false minus (word fixed.OpenParen opening ∷ tokens) (shape_tokens low shape ++ more)
+enclosed_passes low shape o p minus opening close tokens rest more inside follows = by_tokens (enclosed_or_not low shape)
   where
-    by_words : (shape_words low shape ≡ shape_words 0 shape) ⊎ (shape_words low shape ≡ kinds.Fixed fixed.OpenParen ∷ (shape_words 0 shape ++ kinds.Fixed fixed.CloseParen ∷ []))
-        → Passed o p false minus (word fixed.OpenParen opening ∷ tokens) (shape_words low shape ++ more)
-    by_words (inl is) = subst (λ (words : List TokenKind). Passed o p false minus (word fixed.OpenParen opening ∷ tokens) (words ++ more)) (sym is) (record {
+    by_tokens : (shape_tokens low shape ≡ shape_tokens 0 shape) ⊎ (shape_tokens low shape ≡ kinds.Fixed fixed.OpenParen ∷ (shape_tokens 0 shape ++ kinds.Fixed fixed.CloseParen ∷ []))
+        → Passed o p false minus (word fixed.OpenParen opening ∷ tokens) (shape_tokens low shape ++ more)
+    by_tokens (inl is) = subst (λ (words : List TokenKind). Passed o p false minus (word fixed.OpenParen opening ∷ tokens) (words ++ more)) (sym is) (record {
       pass = λ text print beside passes. (skip_open {minus = minus} {place = opening} (inside (suc o) p more (skip_close {place = close} beside.fewer follows))).pass text print beside passes;
     })
-    by_words (inr is) = subst (λ (words : List TokenKind). Passed o p false minus (word fixed.OpenParen opening ∷ tokens) (words ++ more)) (sym is)
-        (step (regrouped (shape_words 0 shape) (kinds.Fixed fixed.CloseParen ∷ []) more (inside (suc o) (suc p) (kinds.Fixed fixed.CloseParen ∷ more) (step follows))))
+    by_tokens (inr is) = subst (λ (words : List TokenKind). Passed o p false minus (word fixed.OpenParen opening ∷ tokens) (words ++ more)) (sym is)
+        (step (regrouped (shape_tokens 0 shape) (kinds.Fixed fixed.CloseParen ∷ []) more (inside (suc o) (suc p) (kinds.Fixed fixed.CloseParen ∷ more) (step follows))))
 
 mutual
   pub expression_passes : {level : ℕ} {e : Expression} {tokens rest : List Token} → WritesExpression level e tokens rest → (low : ℕ) → low ≤ level → {o p : ℕ} {minus : Bool} → Calm minus tokens → (more : List TokenKind)
-      → Passed o p true false rest more → Passed o p false minus tokens (expression_words low e ++ more)
+      → Passed o p true false rest more → Passed o p false minus tokens (expression_tokens low e ++ more)
   expression_passes (written shape) low le calm more follows = shape_passes shape low le calm more follows
 
   pub shape_passes : {level : ℕ} {shape : Shape} {tokens rest : List Token} → WritesShape level shape tokens rest → (low : ℕ) → low ≤ level → {o p : ℕ} {minus : Bool} → Calm minus tokens → (more : List TokenKind)
-      → Passed o p true false rest more → Passed o p false minus tokens (shape_words low shape ++ more)
+      → Passed o p true false rest more → Passed o p false minus tokens (shape_tokens low shape ++ more)
   shape_passes (binary {op = op} {left = l} {right = r} {tokens = t} at_most left right) low le {o = o} {p = p} {minus = minus} calm more follows =
-      subst (λ (test : Bool). Passed o p false minus t ((when test fixed.OpenParen ++ (expression_words (level_of op) l ++ kinds.Fixed (operator op) ∷ (expression_words (level_of op + 1) r ++ when test fixed.CloseParen))) ++ more))
+      subst (λ (test : Bool). Passed o p false minus t ((when test fixed.OpenParen ++ (expression_tokens (level_of op) l ++ kinds.Fixed (operator op) ∷ (expression_tokens (level_of op + 1) r ++ when test fixed.CloseParen))) ++ more))
       (sym (not_needed low op (omega arith)))
       (simp (append_assoc, append-nil)
       (expression_passes left (level_of op) (omega arith) calm _ (operator_step op (expression_passes right (level_of op + 1) (omega arith) {minus = false} tt more follows))))
@@ -136,12 +136,12 @@ mutual
       enclosed_passes low shape o p minus opening close t r more (λ upper lower its after. shape_passes inside 0 (omega arith) {o = upper} {p = lower} {minus = false} tt its after) follows
 
   -- arguments after their `(`
-  pub arguments_pass : {args : Arguments} {tokens rest : List Token} → WritesArguments args tokens rest → {o p : ℕ} → (more : List TokenKind) → Passed o p true false rest more → Passed (suc o) (suc p) false false tokens (arguments_words false args ++ more)
+  pub arguments_pass : {args : Arguments} {tokens rest : List Token} → WritesArguments args tokens rest → {o p : ℕ} → (more : List TokenKind) → Passed o p true false rest more → Passed (suc o) (suc p) false false tokens (arguments_tokens false args ++ more)
   arguments_pass no_arguments more follows = step follows
   arguments_pass (arguments {others = o} first others) more follows =
-      simp append_assoc (expression_passes first 0 (omega arith) {minus = false} tt (arguments_words true o ++ more) (more_arguments_pass others more follows))
+      simp append_assoc (expression_passes first 0 (omega arith) {minus = false} tt (arguments_tokens true o ++ more) (more_arguments_pass others more follows))
 
-  pub more_arguments_pass : {args : Arguments} {tokens rest : List Token} → MoreArguments args tokens rest → {o p : ℕ} → (more : List TokenKind) → Passed o p true false rest more → Passed (suc o) (suc p) true false tokens (arguments_words true args ++ more)
+  pub more_arguments_pass : {args : Arguments} {tokens rest : List Token} → MoreArguments args tokens rest → {o p : ℕ} → (more : List TokenKind) → Passed o p true false rest more → Passed (suc o) (suc p) true false tokens (arguments_tokens true args ++ more)
   more_arguments_pass no_more_arguments more follows = step follows
   more_arguments_pass (more_arguments {others = o} first others) more follows =
-      simp append_assoc (step (expression_passes first 0 (omega arith) {minus = false} tt (arguments_words true o ++ more) (more_arguments_pass others more follows)))
+      simp append_assoc (step (expression_passes first 0 (omega arith) {minus = false} tt (arguments_tokens true o ++ more) (more_arguments_pass others more follows)))

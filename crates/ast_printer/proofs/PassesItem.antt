@@ -25,21 +25,21 @@ use Rattle.twe_parser.specs.Written.{word, number}
 use Rattle.twe_parser.specs.WritesPath.{WritesCellElem, cell_name, cell_index, MoreCellElems, no_more_cell_elems, more_cell_elems, WritesCellPath, cell_root, cell_region, WritesElem, name, index, parameter, any_index, star, MoreElems, no_more_elems, more_elems, WritesPath, root, region}
 use Rattle.twe_parser.specs.Writes.{MoreNames, no_more_names, more_names, WritesInitial, not_written, initial, negative_initial, MoreParams, no_more_params, more_params, WritesParams, no_params, params, MorePaths, no_more_paths, more_paths, clause_word, WritesClause, clause, MoreClauses, no_more_clauses, more_clauses, WritesEffects, pure, clauses, return_word, WritesDecl, decl, WritesItem, regions, cell, array, grid, method, task, deterministic_task, WritesItems, no_more_items, more_items}
 use Rattle.ast_printer.specs.Text.{when}
-use Rattle.ast_printer.specs.PathWords.{elem_words, elems_words, needs_root, cell_elem_words, cell_elems_words, cell_needs_root}
-use Rattle.ast_printer.specs.ItemWords.{names_words, initial_words, params_words, paths_words, clause_words, clauses_words, effects_words, decl_words, item_words, items_words}
+use Rattle.ast_printer.specs.PathTokens.{elem_tokens, elems_tokens, needs_root, cell_elem_tokens, cell_elems_tokens, cell_needs_root}
+use Rattle.ast_printer.specs.ItemTokens.{names_tokens, initial_tokens, params_tokens, paths_tokens, clause_tokens, clauses_tokens, effects_tokens, decl_tokens, item_tokens, items_tokens}
 use Rattle.ast_printer.proofs.Passing.{Passed, FromAny, AllPass, regrouped, step, skip}
 use Rattle.ast_printer.proofs.PassesStatement.{block_passes}
 
-elem_passes : {elem : PathElem} {tokens rest : List Token} → WritesElem elem tokens rest → {o p : ℕ} → (more : List TokenKind) → FromAny o p rest more → FromAny o p tokens (elem_words elem.kind ++ more)
+elem_passes : {elem : PathElem} {tokens rest : List Token} → WritesElem elem tokens rest → {o p : ℕ} → (more : List TokenKind) → FromAny o p rest more → FromAny o p tokens (elem_tokens elem.kind ++ more)
 elem_passes name more follows ended minus = step (follows true false)
 elem_passes index more follows ended minus = step (step (step (follows true false)))
 elem_passes parameter more follows ended minus = step (step (step (follows true false)))
 elem_passes any_index more follows ended minus = step (step (step (follows true false)))
 elem_passes star more follows ended minus = step (follows false false)
 
-elems_pass : {elems : List PathElem} {tokens rest : List Token} → MoreElems elems tokens rest → {o p : ℕ} → (more : List TokenKind) → FromAny o p rest more → FromAny o p tokens (elems_words true elems ++ more)
+elems_pass : {elems : List PathElem} {tokens rest : List Token} → MoreElems elems tokens rest → {o p : ℕ} → (more : List TokenKind) → FromAny o p rest more → FromAny o p tokens (elems_tokens true elems ++ more)
 elems_pass no_more_elems more follows ended minus = follows ended minus
-elems_pass (more_elems {others = o} first others) more follows ended minus = simp append_assoc (step (elem_passes first (elems_words true o ++ more) (elems_pass others more follows) false false))
+elems_pass (more_elems {others = o} first others) more follows ended minus = simp append_assoc (step (elem_passes first (elems_tokens true o ++ more) (elems_pass others more follows) false false))
 
 -- a `Root` that is not printed, and the `:` after it
 without_root : {o p : ℕ} {minus : Bool} {place colon : Place} {tokens : List Token} {words : List TokenKind} → Passed o p false false tokens words → Passed o p false minus (word fixed.Root place ∷ word fixed.Colon colon ∷ tokens) words
@@ -47,13 +47,13 @@ without_root follows = skip refl refl refl refl refl refl (skip refl refl refl r
 
 -- the words of a path with its `Root` and its elements one by one
 abbrev path_then : Path → List TokenKind → List TokenKind
-path_then path more = when (needs_root path.elems) fixed.Root ++ (elems_words (needs_root path.elems) path.elems ++ more)
+path_then path more = when (needs_root path.elems) fixed.Root ++ (elems_tokens (needs_root path.elems) path.elems ++ more)
 
 abbrev cell_path_then : CellPath → List TokenKind → List TokenKind
-cell_path_then path more = when (cell_needs_root path.elems) fixed.Root ++ (cell_elems_words (cell_needs_root path.elems) path.elems ++ more)
+cell_path_then path more = when (cell_needs_root path.elems) fixed.Root ++ (cell_elems_tokens (cell_needs_root path.elems) path.elems ++ more)
 
 root_passes : {elems : List PathElem} {tokens rest : List Token} → MoreElems elems tokens rest → (start place : Place) {o p : ℕ} {minus : Bool} → (more : List TokenKind) → FromAny o p rest more
-    → FromAny o p tokens (elems_words true elems ++ more) → Passed o p false minus (word fixed.Root place ∷ tokens) (path_then (record { elems = elems; place = start }) more)
+    → FromAny o p tokens (elems_tokens true elems ++ more) → Passed o p false minus (word fixed.Root place ∷ tokens) (path_then (record { elems = elems; place = start }) more)
 root_passes no_more_elems start place more follows whole = step (whole false false)
 root_passes (more_elems name others) start place more follows whole = without_root (step (elems_pass others more follows true false))
 root_passes (more_elems index others) start place more follows whole = step (whole false false)
@@ -65,17 +65,17 @@ path_passes : {path : Path} {tokens rest : List Token} → WritesPath path token
 path_passes (root {place = place} elems) more follows = root_passes elems place place more follows (elems_pass elems more follows)
 path_passes (region others) more follows = step (elems_pass others more follows true false)
 
-cell_elem_passes : {elem : CellElem} {tokens rest : List Token} → WritesCellElem elem tokens rest → {o p : ℕ} → (more : List TokenKind) → FromAny o p rest more → FromAny o p tokens (cell_elem_words elem.kind ++ more)
+cell_elem_passes : {elem : CellElem} {tokens rest : List Token} → WritesCellElem elem tokens rest → {o p : ℕ} → (more : List TokenKind) → FromAny o p rest more → FromAny o p tokens (cell_elem_tokens elem.kind ++ more)
 cell_elem_passes cell_name more follows ended minus = step (follows true false)
 cell_elem_passes cell_index more follows ended minus = step (step (step (follows true false)))
 
-cell_elems_pass : {elems : List CellElem} {tokens rest : List Token} → MoreCellElems elems tokens rest → {o p : ℕ} → (more : List TokenKind) → FromAny o p rest more → FromAny o p tokens (cell_elems_words true elems ++ more)
+cell_elems_pass : {elems : List CellElem} {tokens rest : List Token} → MoreCellElems elems tokens rest → {o p : ℕ} → (more : List TokenKind) → FromAny o p rest more → FromAny o p tokens (cell_elems_tokens true elems ++ more)
 cell_elems_pass no_more_cell_elems more follows ended minus = follows ended minus
 cell_elems_pass (more_cell_elems {others = o} first others) more follows ended minus =
-    simp append_assoc (step (cell_elem_passes first (cell_elems_words true o ++ more) (cell_elems_pass others more follows) false false))
+    simp append_assoc (step (cell_elem_passes first (cell_elems_tokens true o ++ more) (cell_elems_pass others more follows) false false))
 
 cell_root_passes : {elems : List CellElem} {tokens rest : List Token} → MoreCellElems elems tokens rest → (start place : Place) {o p : ℕ} {minus : Bool} → (more : List TokenKind) → FromAny o p rest more
-    → FromAny o p tokens (cell_elems_words true elems ++ more) → Passed o p false minus (word fixed.Root place ∷ tokens) (cell_path_then (record { elems = elems; place = start }) more)
+    → FromAny o p tokens (cell_elems_tokens true elems ++ more) → Passed o p false minus (word fixed.Root place ∷ tokens) (cell_path_then (record { elems = elems; place = start }) more)
 cell_root_passes no_more_cell_elems start place more follows whole = step (whole false false)
 cell_root_passes (more_cell_elems cell_name others) start place more follows whole = without_root (step (cell_elems_pass others more follows true false))
 cell_root_passes (more_cell_elems cell_index others) start place more follows whole = step (whole false false)
@@ -84,7 +84,7 @@ cell_path_passes : {path : CellPath} {tokens rest : List Token} → WritesCellPa
 cell_path_passes (cell_root {place = place} elems) more follows = cell_root_passes elems place place more follows (cell_elems_pass elems more follows)
 cell_path_passes (cell_region others) more follows = step (cell_elems_pass others more follows true false)
 
-names_pass : {names : List Name} {tokens rest : List Token} → MoreNames names tokens rest → {o p : ℕ} → (more : List TokenKind) → FromAny o p rest more → FromAny o p tokens (names_words true names ++ more)
+names_pass : {names : List Name} {tokens rest : List Token} → MoreNames names tokens rest → {o p : ℕ} → (more : List TokenKind) → FromAny o p rest more → FromAny o p tokens (names_tokens true names ++ more)
 names_pass no_more_names more follows ended minus = follows ended minus
 names_pass (more_names others) more follows ended minus = step (step (names_pass others more follows true false))
 
@@ -120,23 +120,23 @@ small_negative (suc n) text minus small =
     by_test true true one is equal small = let exact = eqb-true (suc n) 2147483648 equal in omega arith
     by_test true false one is equal small = absurd (false≢true (sym small))
 
-initial_passes : {start : Option Initial} {tokens rest : List Token} → WritesInitial start tokens rest → {o p : ℕ} → (more : List TokenKind) → FromAny o p rest more → FromAny o p tokens (initial_words start ++ more)
+initial_passes : {start : Option Initial} {tokens rest : List Token} → WritesInitial start tokens rest → {o p : ℕ} → (more : List TokenKind) → FromAny o p rest more → FromAny o p tokens (initial_tokens start ++ more)
 initial_passes not_written more follows ended minus = follows ended minus
 initial_passes (initial {value = v}) more follows ended minus = step (same_number (unsigned_abs (value_of v)) (λ text none small. small_value v text none small) (follows true false))
 initial_passes (negative_initial {value = v}) more follows ended minus = step (step (same_number (unsigned_abs (negative_of v)) (λ text some small. small_negative v text some small) (follows true false)))
 
-more_params_pass : {names : List Name} {tokens rest : List Token} → MoreParams names tokens rest → {o p : ℕ} → (more : List TokenKind) → FromAny o p rest more → FromAny o p tokens (params_words true names ++ more)
+more_params_pass : {names : List Name} {tokens rest : List Token} → MoreParams names tokens rest → {o p : ℕ} → (more : List TokenKind) → FromAny o p rest more → FromAny o p tokens (params_tokens true names ++ more)
 more_params_pass no_more_params more follows ended minus = follows ended minus
 more_params_pass (more_params others) more follows ended minus = step (step (step (more_params_pass others more follows true false)))
 
 params_pass : {names : List Name} {tokens rest : List Token} → WritesParams names tokens rest → {o p : ℕ} → (more : List TokenKind) → FromAny o p rest more
-    → FromAny o p tokens (kinds.Fixed fixed.OpenParen ∷ (params_words false names ++ kinds.Fixed fixed.CloseParen ∷ more))
+    → FromAny o p tokens (kinds.Fixed fixed.OpenParen ∷ (params_tokens false names ++ kinds.Fixed fixed.CloseParen ∷ more))
 params_pass no_params more follows ended minus = step (step (follows true false))
 params_pass (params others) more follows ended minus = step (step (step (more_params_pass others (kinds.Fixed fixed.CloseParen ∷ more) (λ e m. step (follows true false)) true false)))
 
-paths_pass : {paths : List Path} {tokens rest : List Token} → MorePaths paths tokens rest → {o p : ℕ} → (more : List TokenKind) → FromAny o p rest more → FromAny o p tokens (paths_words true paths ++ more)
+paths_pass : {paths : List Path} {tokens rest : List Token} → MorePaths paths tokens rest → {o p : ℕ} → (more : List TokenKind) → FromAny o p rest more → FromAny o p tokens (paths_tokens true paths ++ more)
 paths_pass no_more_paths more follows ended minus = follows ended minus
-paths_pass (more_paths {others = o} first others) more follows ended minus = simp append_assoc (step (path_passes first (paths_words true o ++ more) (paths_pass others more follows)))
+paths_pass (more_paths {others = o} first others) more follows ended minus = simp append_assoc (step (path_passes first (paths_tokens true o ++ more) (paths_pass others more follows)))
 
 clause_step : (write : Bool) {o p : ℕ} {ended minus : Bool} {place : Place} {tokens : List Token} {words : List TokenKind} → Passed o p false false tokens words
     → Passed o p ended minus (word (clause_word write) place ∷ tokens) (kinds.Fixed (clause_word write) ∷ words)
@@ -148,27 +148,27 @@ return_step : (type : ReturnType) {o p : ℕ} {ended minus : Bool} {place : Plac
 return_step returns.Int follows = step follows
 return_step returns.Void follows = step follows
 
-clause_passes : {c : Clause} {tokens rest : List Token} → WritesClause c tokens rest → {o p : ℕ} → (more : List TokenKind) → FromAny o p rest more → FromAny o p tokens (clause_words c ++ more)
+clause_passes : {c : Clause} {tokens rest : List Token} → WritesClause c tokens rest → {o p : ℕ} → (more : List TokenKind) → FromAny o p rest more → FromAny o p tokens (clause_tokens c ++ more)
 clause_passes (clause {write = w} {others = o} first others) more follows ended minus =
-    simp append_assoc (clause_step w (path_passes first (paths_words true o ++ more) (paths_pass others more follows)))
+    simp append_assoc (clause_step w (path_passes first (paths_tokens true o ++ more) (paths_pass others more follows)))
 
-clauses_pass : {cs : List Clause} {tokens rest : List Token} → MoreClauses cs tokens rest → {o p : ℕ} → (more : List TokenKind) → FromAny o p rest more → FromAny o p tokens (clauses_words cs ++ more)
+clauses_pass : {cs : List Clause} {tokens rest : List Token} → MoreClauses cs tokens rest → {o p : ℕ} → (more : List TokenKind) → FromAny o p rest more → FromAny o p tokens (clauses_tokens cs ++ more)
 clauses_pass no_more_clauses more follows ended minus = follows ended minus
 clauses_pass (more_clauses {first = f} {others = o} first others) more follows ended minus =
-    regrouped (clause_words f) (clauses_words o) more (clause_passes first (clauses_words o ++ more) (clauses_pass others more follows) ended minus)
+    regrouped (clause_tokens f) (clauses_tokens o) more (clause_passes first (clauses_tokens o ++ more) (clauses_pass others more follows) ended minus)
 
-effects_pass : {cs : List Clause} {tokens rest : List Token} → WritesEffects cs tokens rest → {o p : ℕ} → (more : List TokenKind) → FromAny o p rest more → FromAny o p tokens (effects_words cs ++ more)
+effects_pass : {cs : List Clause} {tokens rest : List Token} → WritesEffects cs tokens rest → {o p : ℕ} → (more : List TokenKind) → FromAny o p rest more → FromAny o p tokens (effects_tokens cs ++ more)
 effects_pass pure more follows ended minus = step (follows false false)
 effects_pass (clauses {first = f} {others = o} first others) more follows ended minus =
-    regrouped (clause_words f) (clauses_words o) more (clause_passes first (clauses_words o ++ more) (clauses_pass others more follows) ended minus)
+    regrouped (clause_tokens f) (clauses_tokens o) more (clause_passes first (clauses_tokens o ++ more) (clauses_pass others more follows) ended minus)
 
-decl_passes : {in_task : Bool} {d : Decl} {tokens rest : List Token} → WritesDecl in_task d tokens rest → {o p : ℕ} → (more : List TokenKind) → FromAny o p rest more → FromAny o p tokens (decl_words d ++ more)
+decl_passes : {in_task : Bool} {d : Decl} {tokens rest : List Token} → WritesDecl in_task d tokens rest → {o p : ℕ} → (more : List TokenKind) → FromAny o p rest more → FromAny o p tokens (decl_tokens d ++ more)
 decl_passes (decl {type = t} names effects body) more follows ended minus =
     simp append_assoc (return_step t (step (params_pass names _ (effects_pass effects _ (λ e m. step (block_passes body more follows false false))) true false)))
 
-item_passes : {item : Item} {tokens rest : List Token} → WritesItem item tokens rest → {o p : ℕ} → (more : List TokenKind) → FromAny o p rest more → FromAny o p tokens (item_words item ++ more)
+item_passes : {item : Item} {tokens rest : List Token} → WritesItem item tokens rest → {o p : ℕ} → (more : List TokenKind) → FromAny o p rest more → FromAny o p tokens (item_tokens item ++ more)
 item_passes (regions {others = o} names) more follows ended minus =
-    step (step (regrouped (names_words true o) (kinds.Fixed fixed.Semicolon ∷ []) more (names_pass names (kinds.Fixed fixed.Semicolon ∷ more) (λ e m. step (follows false false)) true false)))
+    step (step (regrouped (names_tokens true o) (kinds.Fixed fixed.Semicolon ∷ []) more (names_pass names (kinds.Fixed fixed.Semicolon ∷ more) (λ e m. step (follows false false)) true false)))
 item_passes (cell path start) more follows ended minus =
     simp append_assoc (step (step (step (cell_path_passes path _ (initial_passes start (kinds.Fixed fixed.Semicolon ∷ more) (λ e m. step (follows false false)))))))
 item_passes (array path) more follows ended minus =
@@ -180,7 +180,7 @@ item_passes (task d) more follows ended minus = step (decl_passes d more follows
 item_passes (deterministic_task d) more follows ended minus = step (step (decl_passes d more follows false false))
 
 -- the words of a program keep the limits where its tokens do
-pub items_pass : {all : List Item} {tokens : List Token} → WritesItems all tokens → {o p : ℕ} → FromAny o p tokens (items_words all)
+pub items_pass : {all : List Item} {tokens : List Token} → WritesItems all tokens → {o p : ℕ} → FromAny o p tokens (items_tokens all)
 items_pass no_more_items ended minus = record { pass = λ text print beside passes. tt }
 items_pass (more_items {others = o} first others) ended minus =
-    item_passes first (items_words o) (items_pass others) ended minus
+    item_passes first (items_tokens o) (items_pass others) ended minus

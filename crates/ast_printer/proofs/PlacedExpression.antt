@@ -6,7 +6,7 @@ use Rattle.twe_ast.specs.Expression.{Expression, expression, Shape, Literal, Tru
 use Rattle.twe_lexer.specs.declared.fixed.Fixed.TheVariants as fixed
 use Rattle.twe_ast.specs.Precedence.{level_of}
 use Rattle.ast_printer.specs.Text.{when}
-use Rattle.ast_printer.specs.ExpressionWords.{needs_parentheses, expression_words}
+use Rattle.ast_printer.specs.ExpressionTokens.{needs_parentheses, expression_tokens}
 use Rattle.ast_printer.specs.BareExpression.{bare_name, bare_expression, bare_shape, bare_arguments, nowhere}
 use Rattle.ast_printer.proofs.Supply.{here, next, after, placed_name}
 
@@ -15,7 +15,7 @@ abbrev pub at_left : ℕ → BinOp → List Place → List Place
 at_left level op s = after (when (needs_parentheses level op) fixed.OpenParen) s
 
 abbrev pub at_operator : ℕ → BinOp → Expression → List Place → List Place
-at_operator level op left s = after (expression_words (level_of op) left) (at_left level op s)
+at_operator level op left s = after (expression_tokens (level_of op) left) (at_left level op s)
 
 abbrev mutual
   pub placed_expression : ℕ → Expression → List Place → Expression
@@ -27,7 +27,7 @@ abbrev mutual
   placed_shape level (Variable name) s = Variable (placed_name name s)
   placed_shape level (ArrayElement array index) s = ArrayElement (placed_name array s) (placed_expression 0 index (next (next s)))
   placed_shape level (GridElement array row column) s =
-      GridElement (placed_name array s) (placed_expression 0 row (next (next s))) (placed_expression 0 column (next (next (after (expression_words 0 row) (next (next s))))))
+      GridElement (placed_name array s) (placed_expression 0 row (next (next s))) (placed_expression 0 column (next (next (after (expression_tokens 0 row) (next (next s))))))
   placed_shape level (CallValue method args) s = CallValue (placed_name method s) (placed_arguments false args (next (next s)))
   placed_shape level (Negative operand) s = Negative (placed_expression 6 operand (next s))
   placed_shape level (Negation operand) s = Negation (placed_expression 6 operand (next s))
@@ -38,7 +38,7 @@ abbrev mutual
   pub placed_arguments : Bool → Arguments → List Place → Arguments
   placed_arguments later no_more s = no_more
   placed_arguments later (argument first others) s =
-      argument (placed_expression 0 first (after (when later fixed.Comma) s)) (placed_arguments true others (after (expression_words 0 first) (after (when later fixed.Comma) s)))
+      argument (placed_expression 0 first (after (when later fixed.Comma) s)) (placed_arguments true others (after (expression_tokens 0 first) (after (when later fixed.Comma) s)))
 
 mutual
   pub same_expression : (level : ℕ) (e : Expression) (s : List Place) → bare_expression (placed_expression level e s) ≡ bare_expression e
@@ -50,7 +50,7 @@ mutual
   same_shape level (Variable name) s = refl
   same_shape level (ArrayElement array index) s = ap (ArrayElement (bare_name array)) (same_expression 0 index (next (next s)))
   same_shape level (GridElement array row column) s =
-      λ i. GridElement (bare_name array) (same_expression 0 row (next (next s)) i) (same_expression 0 column (next (next (after (expression_words 0 row) (next (next s))))) i)
+      λ i. GridElement (bare_name array) (same_expression 0 row (next (next s)) i) (same_expression 0 column (next (next (after (expression_tokens 0 row) (next (next s))))) i)
   same_shape level (CallValue method args) s = ap (CallValue (bare_name method)) (same_arguments false args (next (next s)))
   same_shape level (Negative operand) s = ap Negative (same_expression 6 operand (next s))
   same_shape level (Negation operand) s = ap Negation (same_expression 6 operand (next s))
@@ -60,4 +60,4 @@ mutual
   pub same_arguments : (later : Bool) (args : Arguments) (s : List Place) → bare_arguments (placed_arguments later args s) ≡ bare_arguments args
   same_arguments later no_more s = refl
   same_arguments later (argument first others) s =
-      λ i. argument (same_expression 0 first (after (when later fixed.Comma) s) i) (same_arguments true others (after (expression_words 0 first) (after (when later fixed.Comma) s)) i)
+      λ i. argument (same_expression 0 first (after (when later fixed.Comma) s) i) (same_arguments true others (after (expression_tokens 0 first) (after (when later fixed.Comma) s)) i)

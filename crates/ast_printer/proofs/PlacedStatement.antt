@@ -6,8 +6,8 @@ use Rattle.twe_ast.specs.Expression.{Expression}
 use Rattle.twe_ast.specs.Statement.{Statement, Block, Let, Set, SetArray, SetGrid, If, While, Return, Print, Call, Make, Wait, LetWait, Statements, end_of_block, statement, Arms, arm, otherwise, no_else}
 use Rattle.twe_lexer.specs.declared.fixed.Fixed.TheVariants as fixed
 use Rattle.ast_printer.specs.Text.{when}
-use Rattle.ast_printer.specs.ExpressionWords.{expression_words}
-use Rattle.ast_printer.specs.StatementWords.{statement_words, block_words}
+use Rattle.ast_printer.specs.ExpressionTokens.{expression_tokens}
+use Rattle.ast_printer.specs.StatementTokens.{statement_tokens, block_tokens}
 use Rattle.ast_printer.specs.BareExpression.{bare_name, nowhere}
 use Rattle.ast_printer.specs.BareStatement.{bare_value, bare_statement, bare_block, bare_arms}
 use Rattle.ast_printer.proofs.Supply.{here, next, after, placed_name}
@@ -21,7 +21,7 @@ third s = next (next (next s))
 
 -- the places after an expression and the two tokens behind it
 abbrev pub past : Expression → List Place → List Place
-past e s = second (after (expression_words 0 e) s)
+past e s = second (after (expression_tokens 0 e) s)
 
 abbrev pub placed_wait : WaitCall → List Place → WaitCall
 placed_wait wait s = record { future = placed_name wait.future s; join = wait.join }
@@ -53,14 +53,14 @@ abbrev mutual
 
   pub placed_block : Statements → List Place → Statements
   placed_block (end_of_block close) s = end_of_block (here s)
-  placed_block (statement first others) s = statement (placed_statement first s) (placed_block others (after (statement_words first) s))
+  placed_block (statement first others) s = statement (placed_statement first s) (placed_block others (after (statement_tokens first) s))
 
   pub placed_arms : Bool → Arms → List Place → Arms
   placed_arms later no_else s = no_else
   placed_arms later (otherwise body) s = otherwise (placed_block body (next (after (when later fixed.Else) s)))
   placed_arms later (arm condition body others) s =
       arm (placed_expression 0 condition (second (after (when later fixed.Else) s))) (placed_block body (past condition (second (after (when later fixed.Else) s))))
-      (placed_arms true others (after (block_words body) (past condition (second (after (when later fixed.Else) s)))))
+      (placed_arms true others (after (block_tokens body) (past condition (second (after (when later fixed.Else) s)))))
 
 same_value : (value : Option Expression) (s : List Place) → bare_value (placed_value value s) ≡ bare_value value
 same_value None s = refl
@@ -86,11 +86,11 @@ mutual
 
   pub same_block : (body : Statements) (s : List Place) → bare_block (placed_block body s) ≡ bare_block body
   same_block (end_of_block close) s = refl
-  same_block (statement first others) s = λ i. statement (same_statement first s i) (same_block others (after (statement_words first) s) i)
+  same_block (statement first others) s = λ i. statement (same_statement first s i) (same_block others (after (statement_tokens first) s) i)
 
   pub same_arms : (later : Bool) (arms : Arms) (s : List Place) → bare_arms (placed_arms later arms s) ≡ bare_arms arms
   same_arms later no_else s = refl
   same_arms later (otherwise body) s = ap otherwise (same_block body (next (after (when later fixed.Else) s)))
   same_arms later (arm condition body others) s =
       λ i. arm (same_expression 0 condition (second (after (when later fixed.Else) s)) i) (same_block body (past condition (second (after (when later fixed.Else) s))) i)
-      (same_arms true others (after (block_words body) (past condition (second (after (when later fixed.Else) s)))) i)
+      (same_arms true others (after (block_tokens body) (past condition (second (after (when later fixed.Else) s)))) i)

@@ -1,4 +1,4 @@
--- Declarations and programs with every place taken away.
+-- Declarations and programs without their places.
 use Rattle.std.specs.Prelude.{◌≡◌, map}
 use Rattle.twe_ast.specs.declared.item.Ast.{Ast}
 use Rattle.twe_ast.specs.declared.item.CellDecl.{CellDecl}
@@ -55,6 +55,6 @@ bare_item (items.Cell cell) = items.Cell (bare_cell cell)
 bare_item (items.Method decl) = items.Method (bare_decl decl)
 bare_item (items.Task deterministic decl) = items.Task deterministic (bare_decl decl)
 
--- two trees are equal but for the places in them
+-- two trees are equal except for the places in them
 abbrev pub EqualButForPlaces : Ast → Ast → Type 0
 EqualButForPlaces tree other = map bare_item tree.items ≡ map bare_item other.items

@@ -1,4 +1,4 @@
--- Statements with every place taken away.
+-- Statements without their places.
 use Rattle.std.specs.Prelude.{Option, None, Some}
 use Rattle.twe_ast.specs.declared.stmt.WaitCall.{WaitCall}
 use Rattle.twe_ast.specs.Expression.{Expression}

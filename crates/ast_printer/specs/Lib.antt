@@ -1,8 +1,8 @@
 pub mod Text
-pub mod ExpressionWords
-pub mod StatementWords
-pub mod PathWords
-pub mod ItemWords
+pub mod ExpressionTokens
+pub mod StatementTokens
+pub mod PathTokens
+pub mod ItemTokens
 pub mod Enclosed
 pub mod BareExpression
 pub mod BareStatement

@@ -1,1 +1,1 @@
-pub mod SimpleWords
+pub mod SimpleTokens

@@ -1,21 +1,21 @@
-//! Expressions, with parentheses where the tree needs them.
+//! Expressions, with the parentheses that the grammar requires.
 #![tactic(auto, using(crate::proofs::Texts::append_text, std::proofs::lemmas::Grind::common_steps))]
 
 ghost use Rattle.std.specs.Prelude.{◌≡◌, ◌++◌, false, OnOk};
 ghost use Rattle.ast_printer.specs.Text.{text_of};
-ghost use Rattle.ast_printer.specs.ExpressionWords.{arguments_words, expression_words, shape_words, truth_word};
+ghost use Rattle.ast_printer.specs.ExpressionTokens.{arguments_tokens, expression_tokens, shape_tokens, truth_token};
 ghost use Rattle.twe_ast.specs.Expression.{ArrayElement, Binary, GridElement};
 ghost use Rattle.twe_io.specs.declared.place.Place.{Place};
 
-use crate::operator::operator_word;
-use crate::word::{push_fixed, push_literal, push_name, push_two, push_when};
+use crate::operator::operator_token;
+use crate::token::{push_fixed, push_literal, push_name, push_two, push_when};
 use twe_ast::{Args, BinOp, Expr, ExprKind, Name};
 use twe_io::{Bytes, Memory};
 use twe_lexer::Fixed;
 
-/// `true` or `false`.
-fn truth_word(value: bool) -> Fixed
-    ensures { result ≡ truth_word value }
+/// The token `true` or `false`.
+fn truth_token(value: bool) -> Fixed
+    ensures { result ≡ truth_token value }
 {
     if value { Fixed::True } else { Fixed::False }
 }
@@ -23,7 +23,7 @@ fn truth_word(value: bool) -> Fixed
 /// Writes an element of an array.
 #[cycle(expr)]
 pub(crate) fn push_element(array: &Name, index: &Expr, text: &mut Bytes) -> Result<(), Memory>
-    ensures { OnOk result (text.new ≡ text.old ++ text_of (shape_words 0 (ArrayElement array.now index.now))) }
+    ensures { OnOk result (text.new ≡ text.old ++ text_of (shape_tokens 0 (ArrayElement array.now index.now))) }
 {
     push_name(text, array)?;
     push_fixed(text, Fixed::OpenBracket)?;
@@ -39,7 +39,7 @@ pub(crate) fn push_grid_element(
     column: &Expr,
     text: &mut Bytes,
 ) -> Result<(), Memory>
-    ensures { OnOk result (text.new ≡ text.old ++ text_of (shape_words 0 (GridElement array.now row.now column.now))) }
+    ensures { OnOk result (text.new ≡ text.old ++ text_of (shape_tokens 0 (GridElement array.now row.now column.now))) }
 {
     push_name(text, array)?;
     push_fixed(text, Fixed::OpenBracket)?;
@@ -49,7 +49,7 @@ pub(crate) fn push_grid_element(
     push_fixed(text, Fixed::CloseBracket)
 }
 
-/// Writes an operator with its two operands that stands at a level. It is enclosed where it binds less tightly.
+/// Writes an operator with its two operands, in parentheses if its precedence is below the level.
 #[cycle(expr)]
 fn push_operands(
     op: BinOp,
@@ -58,24 +58,24 @@ fn push_operands(
     text: &mut Bytes,
     level: u8,
 ) -> Result<(), Memory>
-    ensures { (place : Place) → OnOk result (text.new ≡ text.old ++ text_of (shape_words level (Binary op left.now right.now place))) }
+    ensures { (place : Place) → OnOk result (text.new ≡ text.old ++ text_of (shape_tokens level (Binary op left.now right.now place))) }
 {
     let own = op.level();
     push_when(text, own < level, Fixed::OpenParen)?;
     push_expr(left, text, own)?;
-    push_fixed(text, operator_word(op))?;
+    push_fixed(text, operator_token(op))?;
     push_expr(right, text, own + 1)?;
     push_when(text, own < level, Fixed::CloseParen)
 }
 
-/// Writes an expression that stands at a level. An operator that binds less tightly is enclosed.
+/// Writes an expression, in parentheses if it is an operator with a precedence below the level.
 #[cycle(expr)]
 pub(crate) fn push_expr(expr: &Expr, text: &mut Bytes, level: u8) -> Result<(), Memory>
-    ensures { OnOk result (text.new ≡ text.old ++ text_of (expression_words level expr.now)) }
+    ensures { OnOk result (text.new ≡ text.old ++ text_of (expression_tokens level expr.now)) }
 {
     match &expr.kind {
         ExprKind::Lit(value) => push_literal(text, *value),
-        ExprKind::Truth(value) => push_fixed(text, truth_word(*value)),
+        ExprKind::Truth(value) => push_fixed(text, truth_token(*value)),
         ExprKind::Name(name) => push_name(text, name),
         ExprKind::At {
             array,
@@ -112,7 +112,7 @@ pub(crate) fn push_expr(expr: &Expr, text: &mut Bytes, level: u8) -> Result<(), 
 /// Writes arguments and the `)` after them.
 #[cycle(expr)]
 pub(crate) fn push_args(args: &Args, text: &mut Bytes) -> Result<(), Memory>
-    ensures { OnOk result (text.new ≡ text.old ++ text_of (arguments_words false args.now)) }
+    ensures { OnOk result (text.new ≡ text.old ++ text_of (arguments_tokens false args.now)) }
 {
     let mut later = false;
     for arg in args.items.as_slice() {

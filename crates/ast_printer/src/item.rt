@@ -5,24 +5,24 @@ ghost use Rattle.std.specs.Prelude.{◌≡◌, [], ◌∷◌, ◌++◌, false, O
 ghost use Rattle.twe_lexer.specs.declared.fixed.Fixed.TheVariants as fixed;
 ghost use Rattle.twe_lexer.specs.declared.token.TokenKind.TheVariants as kinds;
 ghost use Rattle.ast_printer.specs.Text.{text_of};
-ghost use Rattle.ast_printer.specs.ItemWords.{cell_words, clause_words, clauses_words, decl_words, effects_words, initial_words, item_words, items_words, names_words, params_words, paths_words, size_words, start_words};
+ghost use Rattle.ast_printer.specs.ItemTokens.{cell_tokens, clause_tokens, clauses_tokens, decl_tokens, effects_tokens, initial_tokens, item_tokens, items_tokens, names_tokens, params_tokens, paths_tokens, size_tokens, start_tokens};
 ghost use Rattle.twe_parser.specs.Writes.{clause_word, return_word};
 
 use crate::path::{push_bracketed, push_cell_path, push_path};
 use crate::stmt::push_block;
-use crate::word::{push_fixed, push_name, push_number, push_when};
+use crate::token::{push_fixed, push_name, push_number, push_when};
 use twe_ast::{CellDecl, CellShape, Clause, Decl, Initial, Item, Name, Path, ReturnType};
 use twe_io::{Bytes, Memory};
 use twe_lexer::Fixed;
 
-/// The word of a clause.
+/// The keyword of a clause.
 fn clause_word(write: bool) -> Fixed
     ensures { result ≡ clause_word write }
 {
     if write { Fixed::Writes } else { Fixed::Reads }
 }
 
-/// The word of what is returned.
+/// The keyword of the type of the result.
 fn return_word(returns: ReturnType) -> Fixed
     ensures { result ≡ return_word returns }
 {
@@ -34,7 +34,7 @@ fn return_word(returns: ReturnType) -> Fixed
 
 /// Writes names, with `,` between them.
 fn push_names(text: &mut Bytes, names: &[Name]) -> Result<(), Memory>
-    ensures { OnOk result (text.new ≡ text.old ++ text_of (names_words false names.now)) }
+    ensures { OnOk result (text.new ≡ text.old ++ text_of (names_tokens false names.now)) }
 {
     let mut later = false;
     for name in names {
@@ -45,9 +45,9 @@ fn push_names(text: &mut Bytes, names: &[Name]) -> Result<(), Memory>
     Ok(())
 }
 
-/// Writes how many cells there are, if they are an array or a grid.
+/// Writes the sizes of an array or a grid, and nothing for a single cell.
 fn push_size(text: &mut Bytes, shape: &CellShape) -> Result<(), Memory>
-    ensures { OnOk result (text.new ≡ text.old ++ text_of (size_words shape.now)) }
+    ensures { OnOk result (text.new ≡ text.old ++ text_of (size_tokens shape.now)) }
 {
     match shape {
         CellShape::Scalar(_) => Ok(()),
@@ -61,7 +61,7 @@ fn push_size(text: &mut Bytes, shape: &CellShape) -> Result<(), Memory>
 
 /// Writes an initial value with its sign, if one is written.
 fn push_initial(text: &mut Bytes, start: Option<Initial>) -> Result<(), Memory>
-    ensures { OnOk result (text.new ≡ text.old ++ text_of (initial_words start)) }
+    ensures { OnOk result (text.new ≡ text.old ++ text_of (initial_tokens start)) }
 {
     match start {
         None => Ok(()),
@@ -73,9 +73,9 @@ fn push_initial(text: &mut Bytes, start: Option<Initial>) -> Result<(), Memory>
     }
 }
 
-/// Writes what the cells begin as, if it is written.
+/// Writes the initial value of a cell, if the tree has one.
 fn push_start(text: &mut Bytes, shape: &CellShape) -> Result<(), Memory>
-    ensures { OnOk result (text.new ≡ text.old ++ text_of (start_words shape.now)) }
+    ensures { OnOk result (text.new ≡ text.old ++ text_of (start_tokens shape.now)) }
 {
     match shape {
         CellShape::Scalar(start) => push_initial(text, *start),
@@ -85,7 +85,7 @@ fn push_start(text: &mut Bytes, shape: &CellShape) -> Result<(), Memory>
 
 /// Writes the declaration of a cell, an array or a grid.
 fn push_cell(text: &mut Bytes, cell: &CellDecl) -> Result<(), Memory>
-    ensures { OnOk result (text.new ≡ text.old ++ text_of (cell_words cell.now)) }
+    ensures { OnOk result (text.new ≡ text.old ++ text_of (cell_tokens cell.now)) }
 {
     push_fixed(text, Fixed::Int)?;
     push_name(text, &cell.name)?;
@@ -99,7 +99,7 @@ fn push_cell(text: &mut Bytes, cell: &CellDecl) -> Result<(), Memory>
 /// Writes parameters in parentheses.
 fn push_params(text: &mut Bytes, params: &[Name]) -> Result<(), Memory>
     ensures { OnOk result (text.new ≡ text.old
-        ++ text_of (kinds.Fixed fixed.OpenParen ∷ (params_words false params.now ++ kinds.Fixed fixed.CloseParen ∷ []))) }
+        ++ text_of (kinds.Fixed fixed.OpenParen ∷ (params_tokens false params.now ++ kinds.Fixed fixed.CloseParen ∷ []))) }
 {
     push_fixed(text, Fixed::OpenParen)?;
     push_more_params(text, params)?;
@@ -108,7 +108,7 @@ fn push_params(text: &mut Bytes, params: &[Name]) -> Result<(), Memory>
 
 /// Writes parameters, with `,` between them.
 fn push_more_params(text: &mut Bytes, params: &[Name]) -> Result<(), Memory>
-    ensures { OnOk result (text.new ≡ text.old ++ text_of (params_words false params.now)) }
+    ensures { OnOk result (text.new ≡ text.old ++ text_of (params_tokens false params.now)) }
 {
     let mut later = false;
     for param in params {
@@ -122,7 +122,7 @@ fn push_more_params(text: &mut Bytes, params: &[Name]) -> Result<(), Memory>
 
 /// Writes paths, with `,` between them.
 fn push_paths(text: &mut Bytes, paths: &[Path]) -> Result<(), Memory>
-    ensures { OnOk result (text.new ≡ text.old ++ text_of (paths_words false paths.now)) }
+    ensures { OnOk result (text.new ≡ text.old ++ text_of (paths_tokens false paths.now)) }
 {
     let mut later = false;
     for path in paths {
@@ -135,7 +135,7 @@ fn push_paths(text: &mut Bytes, paths: &[Path]) -> Result<(), Memory>
 
 /// Writes a clause of effects.
 fn push_clause(text: &mut Bytes, clause: &Clause) -> Result<(), Memory>
-    ensures { OnOk result (text.new ≡ text.old ++ text_of (clause_words clause.now)) }
+    ensures { OnOk result (text.new ≡ text.old ++ text_of (clause_tokens clause.now)) }
 {
     push_fixed(text, clause_word(clause.write))?;
     push_paths(text, clause.paths.as_slice())
@@ -143,7 +143,7 @@ fn push_clause(text: &mut Bytes, clause: &Clause) -> Result<(), Memory>
 
 /// Writes clauses of effects.
 fn push_clauses(text: &mut Bytes, clauses: &[Clause]) -> Result<(), Memory>
-    ensures { OnOk result (text.new ≡ text.old ++ text_of (clauses_words clauses.now)) }
+    ensures { OnOk result (text.new ≡ text.old ++ text_of (clauses_tokens clauses.now)) }
 {
     for clause in clauses {
         push_clause(text, clause)?;
@@ -151,9 +151,9 @@ fn push_clauses(text: &mut Bytes, clauses: &[Clause]) -> Result<(), Memory>
     Ok(())
 }
 
-/// Writes the clauses of effects, or `pure` where there are none.
+/// Writes the clauses of effects, or `pure` if there are none.
 fn push_effects(text: &mut Bytes, effects: &[Clause]) -> Result<(), Memory>
-    ensures { OnOk result (text.new ≡ text.old ++ text_of (effects_words effects.now)) }
+    ensures { OnOk result (text.new ≡ text.old ++ text_of (effects_tokens effects.now)) }
 {
     if effects.is_empty() {
         push_fixed(text, Fixed::Pure)
@@ -162,9 +162,9 @@ fn push_effects(text: &mut Bytes, effects: &[Clause]) -> Result<(), Memory>
     }
 }
 
-/// Writes the declaration of a method, or what stands after the word `task`.
+/// Writes the declaration of a method, or of a task without the keyword `task`.
 fn push_decl(text: &mut Bytes, decl: &Decl) -> Result<(), Memory>
-    ensures { OnOk result (text.new ≡ text.old ++ text_of (decl_words decl.now)) }
+    ensures { OnOk result (text.new ≡ text.old ++ text_of (decl_tokens decl.now)) }
 {
     push_fixed(text, return_word(decl.returns))?;
     push_name(text, &decl.name)?;
@@ -176,7 +176,7 @@ fn push_decl(text: &mut Bytes, decl: &Decl) -> Result<(), Memory>
 
 /// Writes a declaration.
 fn push_item(text: &mut Bytes, item: &Item) -> Result<(), Memory>
-    ensures { OnOk result (text.new ≡ text.old ++ text_of (item_words item.now)) }
+    ensures { OnOk result (text.new ≡ text.old ++ text_of (item_tokens item.now)) }
 {
     match item {
         Item::Regions(names) => {
@@ -199,7 +199,7 @@ fn push_item(text: &mut Bytes, item: &Item) -> Result<(), Memory>
 
 /// Writes declarations in order.
 pub(crate) fn push_items(text: &mut Bytes, items: &[Item]) -> Result<(), Memory>
-    ensures { OnOk result (text.new ≡ text.old ++ text_of (items_words items.now)) }
+    ensures { OnOk result (text.new ≡ text.old ++ text_of (items_tokens items.now)) }
 {
     for item in items {
         push_item(text, item)?;

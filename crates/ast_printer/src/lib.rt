@@ -1,6 +1,6 @@
-//! The text of a program's tree: its tokens in order, with one space or the end of a line between two of them.
+//! Prints the tree of a program: its tokens in order, with one space or the end of a line between two of them.
 //!
-//! That the text is a program's again, and that its tree is the same but for places, is a law
+//! It is proved that the printed text is a program again, and that its tree is the same except for places
 //! (`specs/ParsesAgain.antt`). What a tree means is left to the crates above.
 #![tactic(auto)]
 
@@ -12,7 +12,7 @@ mod path;
 mod print;
 mod simple;
 mod stmt;
-mod word;
+mod token;
 
 pub use laws::parentheses_are_needed;
 pub use print::print_ast;

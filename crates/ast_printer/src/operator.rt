@@ -6,7 +6,7 @@ use twe_ast::BinOp;
 use twe_lexer::Fixed;
 
 /// The token of an operator.
-pub(crate) fn operator_word(op: BinOp) -> Fixed
+pub(crate) fn operator_token(op: BinOp) -> Fixed
     ensures { result ≡ operator op }
 {
     match op {

@@ -1,12 +1,12 @@
-//! Paths, with `Root` only where there is no name to begin with.
+//! Paths, with `Root` only if the first element is not a name.
 #![tactic(auto, using(crate::proofs::Texts::append_text, std::proofs::lemmas::Grind::common_steps))]
 
 ghost use Rattle.std.specs.Prelude.{◌≡◌, [], ◌∷◌, ◌++◌, OnOk};
 ghost use Rattle.twe_lexer.specs.declared.token.TokenKind.TheVariants as kinds;
 ghost use Rattle.ast_printer.specs.Text.{text_of};
-ghost use Rattle.ast_printer.specs.PathWords.{bracketed, cell_elem_words, cell_elems_words, cell_needs_root, cell_path_words, elem_words, elems_words, needs_root, path_words};
+ghost use Rattle.ast_printer.specs.PathTokens.{bracketed, cell_elem_tokens, cell_elems_tokens, cell_needs_root, cell_path_tokens, elem_tokens, elems_tokens, needs_root, path_tokens};
 
-use crate::word::{push_fixed, push_name, push_number, push_text, push_when};
+use crate::token::{push_fixed, push_name, push_number, push_text, push_when};
 use twe_ast::{CellElem, CellElemKind, CellPath, Path, PathElem, PathElemKind};
 use twe_io::{Bytes, Memory};
 use twe_lexer::Fixed;
@@ -22,7 +22,7 @@ pub(crate) fn push_bracketed(text: &mut Bytes, number: u32) -> Result<(), Memory
 
 /// Writes an element of a path.
 fn push_elem(text: &mut Bytes, kind: &PathElemKind) -> Result<(), Memory>
-    ensures { OnOk result (text.new ≡ text.old ++ text_of (elem_words kind.now)) }
+    ensures { OnOk result (text.new ≡ text.old ++ text_of (elem_tokens kind.now)) }
 {
     match kind {
         PathElemKind::Name(name) => push_text(text, name.as_bytes()),
@@ -41,7 +41,7 @@ fn push_elem(text: &mut Bytes, kind: &PathElemKind) -> Result<(), Memory>
     }
 }
 
-/// Whether `Root` has to stand before these elements.
+/// Whether a path of these elements is printed with `Root`.
 fn needs_root(elems: &[PathElem]) -> bool
     ensures { result ≡ needs_root elems.now }
 {
@@ -53,7 +53,7 @@ fn needs_root(elems: &[PathElem]) -> bool
 
 /// Writes a path in a clause of effects.
 pub(crate) fn push_path(text: &mut Bytes, path: &Path) -> Result<(), Memory>
-    ensures { OnOk result (text.new ≡ text.old ++ text_of (path_words path.now)) }
+    ensures { OnOk result (text.new ≡ text.old ++ text_of (path_tokens path.now)) }
 {
     let elems = path.elems.as_slice();
     let rooted = needs_root(elems);
@@ -61,9 +61,9 @@ pub(crate) fn push_path(text: &mut Bytes, path: &Path) -> Result<(), Memory>
     push_elems(text, elems, rooted)
 }
 
-/// Writes elements, where something stands before them in the path or nothing.
+/// Writes elements of a path. `later` is whether something comes before them in the path.
 fn push_elems(text: &mut Bytes, elems: &[PathElem], rooted: bool) -> Result<(), Memory>
-    ensures { OnOk result (text.new ≡ text.old ++ text_of (elems_words rooted elems.now)) }
+    ensures { OnOk result (text.new ≡ text.old ++ text_of (elems_tokens rooted elems.now)) }
 {
     let mut later = rooted;
     for elem in elems {
@@ -76,7 +76,7 @@ fn push_elems(text: &mut Bytes, elems: &[PathElem], rooted: bool) -> Result<(), 
 
 /// Writes an element of the path of a cell.
 fn push_cell_elem(text: &mut Bytes, kind: &CellElemKind) -> Result<(), Memory>
-    ensures { OnOk result (text.new ≡ text.old ++ text_of (cell_elem_words kind.now)) }
+    ensures { OnOk result (text.new ≡ text.old ++ text_of (cell_elem_tokens kind.now)) }
 {
     match kind {
         CellElemKind::Name(name) => push_text(text, name.as_bytes()),
@@ -84,7 +84,7 @@ fn push_cell_elem(text: &mut Bytes, kind: &CellElemKind) -> Result<(), Memory>
     }
 }
 
-/// Whether `Root` has to stand before these elements of the path of a cell.
+/// Whether the path of a cell of these elements is printed with `Root`.
 fn cell_needs_root(elems: &[CellElem]) -> bool
     ensures { result ≡ cell_needs_root elems.now }
 {
@@ -96,7 +96,7 @@ fn cell_needs_root(elems: &[CellElem]) -> bool
 
 /// Writes the path of a cell.
 pub(crate) fn push_cell_path(text: &mut Bytes, path: &CellPath) -> Result<(), Memory>
-    ensures { OnOk result (text.new ≡ text.old ++ text_of (cell_path_words path.now)) }
+    ensures { OnOk result (text.new ≡ text.old ++ text_of (cell_path_tokens path.now)) }
 {
     let elems = path.elems.as_slice();
     let rooted = cell_needs_root(elems);
@@ -104,9 +104,9 @@ pub(crate) fn push_cell_path(text: &mut Bytes, path: &CellPath) -> Result<(), Me
     push_cell_elems(text, elems, rooted)
 }
 
-/// Writes elements of the path of a cell, where something stands before them or nothing.
+/// Writes elements of the path of a cell. `later` is whether something comes before them in the path.
 fn push_cell_elems(text: &mut Bytes, elems: &[CellElem], rooted: bool) -> Result<(), Memory>
-    ensures { OnOk result (text.new ≡ text.old ++ text_of (cell_elems_words rooted elems.now)) }
+    ensures { OnOk result (text.new ≡ text.old ++ text_of (cell_elems_tokens rooted elems.now)) }
 {
     let mut later = rooted;
     for elem in elems {

@@ -1,6 +1,6 @@
-//! From a program's tree to a text of it.
+//! From the tree of a program to a text.
 ghost use Rattle.std.specs.Prelude.{◌≡◌, ℕ, List, IfOk};
-ghost use Rattle.ast_printer.specs.ItemWords.{printed};
+ghost use Rattle.ast_printer.specs.ItemTokens.{printed};
 ghost use Rattle.ast_printer.specs.ParsesAgain.{IsTextOf, ParsesAgain};
 
 use crate::item::push_items;
@@ -10,10 +10,10 @@ use twe_io::{Bytes, Memory};
 
 /// The text of a tree: its tokens in order, each with a space after it, and the end of a line after `{`, `}` and `;`.
 ///
-/// Parentheses round an expression stand exactly where the grammar needs them for this tree. A path that begins with a
-/// name is written without `Root`, and any other with it. Comments are no part of a tree. Where the tree is that of a text
-/// in which no rule fails, no rule fails in this one, and its tree is the same but for places. It takes time and memory
-/// linear in the text.
+/// An expression is in parentheses exactly if the grammar requires them for this tree. A path that begins with a name is
+/// written without `Root`, and any other with it. Comments are not part of a tree. If the tree is that of a text that fails
+/// no rule, the printed text fails no rule either, and its tree is the same except for places. It takes time and memory
+/// linear in the length of the printed text.
 pub fn print_ast(alloc: Global, ast: &Ast) -> Result<Bytes, Memory>
     ensures text { IfOk result (λ text. text ≡ printed ast.now) }
     ensures again { IfOk result (λ text. (source : List ℕ) → IsTextOf source ast.now → ParsesAgain text ast.now) }

@@ -1,4 +1,4 @@
-//! Statements that have no others inside them.
+//! Statements that contain no other statements.
 #![tactic(auto, using(crate::proofs::Texts::append_text, std::proofs::lemmas::Grind::common_steps))]
 
 ghost use Rattle.std.specs.Prelude.{◌≡◌, [], ◌∷◌, ◌++◌, OnOk};
@@ -7,16 +7,16 @@ ghost use Rattle.twe_lexer.specs.declared.fixed.Fixed.TheVariants as fixed;
 ghost use Rattle.twe_lexer.specs.declared.token.TokenKind.TheVariants as kinds;
 ghost use Rattle.twe_parser.specs.WritesStatement.{make_word, type_word, wait_word};
 ghost use Rattle.ast_printer.specs.Text.{text_of};
-ghost use Rattle.ast_printer.specs.StatementWords.{returned_words, statement_words, value_words, wait_words};
-ghost use Rattle.ast_printer.specs.inner.SimpleWords.{action_words, simple_words};
+ghost use Rattle.ast_printer.specs.StatementTokens.{returned_tokens, statement_tokens, value_tokens, wait_tokens};
+ghost use Rattle.ast_printer.specs.inner.SimpleTokens.{action_tokens, simple_tokens};
 
 use crate::expr::{push_args, push_element, push_expr, push_grid_element};
-use crate::word::{push_fixed, push_name, push_two, push_when};
+use crate::token::{push_fixed, push_name, push_two, push_when};
 use twe_ast::{Args, Expr, LocalType, Name, Stmt, StmtKind, WaitCall};
 use twe_io::{Bytes, Memory};
 use twe_lexer::Fixed;
 
-/// The word of a type.
+/// The keyword of a type.
 fn type_word(local_type: LocalType) -> Fixed
     ensures { result ≡ type_word local_type }
 {
@@ -26,14 +26,14 @@ fn type_word(local_type: LocalType) -> Fixed
     }
 }
 
-/// The word of a wait.
+/// The keyword of a wait.
 fn wait_word(join: bool) -> Fixed
     ensures { result ≡ wait_word join }
 {
     if join { Fixed::Join } else { Fixed::GetValue }
 }
 
-/// The word of the making of a task.
+/// The keyword that makes a task.
 fn make_word(spawned: bool) -> Fixed
     ensures { result ≡ make_word spawned }
 {
@@ -46,15 +46,15 @@ fn make_word(spawned: bool) -> Fixed
 
 /// Writes an expression and the `;` after it.
 fn push_value(value: &Expr, text: &mut Bytes) -> Result<(), Memory>
-    ensures { OnOk result (text.new ≡ text.old ++ text_of (value_words value.now)) }
+    ensures { OnOk result (text.new ≡ text.old ++ text_of (value_tokens value.now)) }
 {
     push_expr(value, text, 0)?;
     push_fixed(text, Fixed::Semicolon)
 }
 
-/// Writes what is returned, if there is something, and the `;` after it.
+/// Writes the returned value, if there is one, and the `;` after it.
 fn push_returned(value: &Option<Expr>, text: &mut Bytes) -> Result<(), Memory>
-    ensures { OnOk result (text.new ≡ text.old ++ text_of (returned_words value.now)) }
+    ensures { OnOk result (text.new ≡ text.old ++ text_of (returned_tokens value.now)) }
 {
     match value {
         None => push_fixed(text, Fixed::Semicolon),
@@ -72,9 +72,9 @@ fn push_operation(text: &mut Bytes, name: &Name, operation: Fixed) -> Result<(),
     push_fixed(text, Fixed::OpenParen)
 }
 
-/// Writes the waiting for a task and the `;` after it.
+/// Writes a wait for a task and the `;` after it.
 fn push_wait(wait: &WaitCall, text: &mut Bytes) -> Result<(), Memory>
-    ensures { OnOk result (text.new ≡ text.old ++ text_of (wait_words wait.now)) }
+    ensures { OnOk result (text.new ≡ text.old ++ text_of (wait_tokens wait.now)) }
 {
     push_operation(text, &wait.future, wait_word(wait.join))?;
     push_two(text, Fixed::CloseParen, Fixed::Semicolon)
@@ -88,7 +88,7 @@ fn push_let(
     name: &Name,
     value: &Expr,
 ) -> Result<(), Memory>
-    ensures { OnOk result (text.new ≡ text.old ++ text_of (statement_words (Let is_final local_type name.now value.now))) }
+    ensures { OnOk result (text.new ≡ text.old ++ text_of (statement_tokens (Let is_final local_type name.now value.now))) }
 {
     push_when(text, is_final, Fixed::Final)?;
     push_fixed(text, type_word(local_type))?;
@@ -99,7 +99,7 @@ fn push_let(
 
 /// Writes the assignment to a local or to a cell.
 fn push_set(text: &mut Bytes, name: &Name, value: &Expr) -> Result<(), Memory>
-    ensures { OnOk result (text.new ≡ text.old ++ text_of (statement_words (Set name.now value.now))) }
+    ensures { OnOk result (text.new ≡ text.old ++ text_of (statement_tokens (Set name.now value.now))) }
 {
     push_name(text, name)?;
     push_fixed(text, Fixed::Assign)?;
@@ -108,7 +108,7 @@ fn push_set(text: &mut Bytes, name: &Name, value: &Expr) -> Result<(), Memory>
 
 /// Writes the assignment to an element of an array.
 fn push_set_array(text: &mut Bytes, array: &Name, index: &Expr, value: &Expr) -> Result<(), Memory>
-    ensures { OnOk result (text.new ≡ text.old ++ text_of (statement_words (SetArray array.now index.now value.now))) }
+    ensures { OnOk result (text.new ≡ text.old ++ text_of (statement_tokens (SetArray array.now index.now value.now))) }
 {
     push_element(array, index, text)?;
     push_fixed(text, Fixed::Assign)?;
@@ -123,7 +123,7 @@ fn push_set_grid(
     column: &Expr,
     value: &Expr,
 ) -> Result<(), Memory>
-    ensures { OnOk result (text.new ≡ text.old ++ text_of (statement_words (SetGrid array.now row.now column.now value.now))) }
+    ensures { OnOk result (text.new ≡ text.old ++ text_of (statement_tokens (SetGrid array.now row.now column.now value.now))) }
 {
     push_grid_element(array, row, column, text)?;
     push_fixed(text, Fixed::Assign)?;
@@ -138,7 +138,7 @@ fn push_make(
     spawned: bool,
     args: &Args,
 ) -> Result<(), Memory>
-    ensures { OnOk result (text.new ≡ text.old ++ text_of (statement_words (Make future.now task.now spawned args.now))) }
+    ensures { OnOk result (text.new ≡ text.old ++ text_of (statement_tokens (Make future.now task.now spawned args.now))) }
 {
     push_fixed(text, Fixed::Future)?;
     push_name(text, future)?;
@@ -148,14 +148,14 @@ fn push_make(
     push_fixed(text, Fixed::Semicolon)
 }
 
-/// Writes the declaration of a local by the waiting for a task.
+/// Writes the declaration of a local whose initial value is that of a task.
 fn push_let_wait(
     text: &mut Bytes,
     is_final: bool,
     name: &Name,
     wait: &WaitCall,
 ) -> Result<(), Memory>
-    ensures { OnOk result (text.new ≡ text.old ++ text_of (statement_words (LetWait is_final name.now wait.now))) }
+    ensures { OnOk result (text.new ≡ text.old ++ text_of (statement_tokens (LetWait is_final name.now wait.now))) }
 {
     push_when(text, is_final, Fixed::Final)?;
     push_fixed(text, Fixed::Int)?;
@@ -164,9 +164,9 @@ fn push_let_wait(
     push_wait(wait, text)
 }
 
-/// Writes a statement that has no others inside it.
+/// Writes a statement that contains no other statements.
 pub(crate) fn push_simple(stmt: &Stmt, text: &mut Bytes) -> Result<(), Memory>
-    ensures { OnOk result (text.new ≡ text.old ++ text_of (simple_words stmt.now)) }
+    ensures { OnOk result (text.new ≡ text.old ++ text_of (simple_tokens stmt.now)) }
 {
     match &stmt.kind {
         StmtKind::Let {
@@ -198,7 +198,7 @@ pub(crate) fn push_simple(stmt: &Stmt, text: &mut Bytes) -> Result<(), Memory>
 
 /// Writes a print, a call or a task operation.
 fn push_action(stmt: &Stmt, text: &mut Bytes) -> Result<(), Memory>
-    ensures { OnOk result (text.new ≡ text.old ++ text_of (action_words stmt.now)) }
+    ensures { OnOk result (text.new ≡ text.old ++ text_of (action_tokens stmt.now)) }
 {
     match &stmt.kind {
         StmtKind::Print { value, .. } => {

@@ -3,11 +3,11 @@
 
 ghost use Rattle.std.specs.Prelude.{◌≡◌, ◌++◌, false, OnOk};
 ghost use Rattle.ast_printer.specs.Text.{text_of};
-ghost use Rattle.ast_printer.specs.StatementWords.{arms_words, block_words, statement_words};
+ghost use Rattle.ast_printer.specs.StatementTokens.{arms_tokens, block_tokens, statement_tokens};
 
 use crate::expr::push_expr;
 use crate::simple::push_simple;
-use crate::word::{push_fixed, push_two, push_when};
+use crate::token::{push_fixed, push_two, push_when};
 use twe_ast::{Arms, Block, Stmt, StmtKind};
 use twe_io::{Bytes, Memory};
 use twe_lexer::Fixed;
@@ -15,7 +15,7 @@ use twe_lexer::Fixed;
 /// Writes a statement.
 #[cycle(stmt)]
 fn push_stmt(stmt: &Stmt, text: &mut Bytes) -> Result<(), Memory>
-    ensures { OnOk result (text.new ≡ text.old ++ text_of (statement_words stmt.now)) }
+    ensures { OnOk result (text.new ≡ text.old ++ text_of (statement_tokens stmt.now)) }
 {
     match &stmt.kind {
         StmtKind::Block(body) => {
@@ -37,10 +37,10 @@ fn push_stmt(stmt: &Stmt, text: &mut Bytes) -> Result<(), Memory>
     }
 }
 
-/// Writes what stands after the `{` of a block, its `}` included.
+/// Writes the statements of a block and its `}`.
 #[cycle(stmt)]
 pub(crate) fn push_block(block: &Block, text: &mut Bytes) -> Result<(), Memory>
-    ensures { OnOk result (text.new ≡ text.old ++ text_of (block_words block.now)) }
+    ensures { OnOk result (text.new ≡ text.old ++ text_of (block_tokens block.now)) }
 {
     for stmt in block.stmts.as_slice() {
         push_stmt(stmt, text)?;
@@ -51,7 +51,7 @@ pub(crate) fn push_block(block: &Block, text: &mut Bytes) -> Result<(), Memory>
 /// Writes the arms of an `if`.
 #[cycle(stmt)]
 fn push_arms(arms: &Arms, text: &mut Bytes) -> Result<(), Memory>
-    ensures { OnOk result (text.new ≡ text.old ++ text_of (arms_words false arms.now)) }
+    ensures { OnOk result (text.new ≡ text.old ++ text_of (arms_tokens false arms.now)) }
 {
     let mut later = false;
     for arm in arms.arms.as_slice() {

@@ -1,11 +1,11 @@
-//! What is printed of a text's tree.
+//! Printed trees of texts.
 use crate::print_ast;
 use std::alloc::Global;
 use std::test::Fail;
 use twe_io::Bytes;
 use twe_parser::{ParseFail, parse};
 
-/// The text of the tree of a text.
+/// The printed tree of a text.
 fn reprinted(alloc: Global, text: &[u8]) -> Result<Bytes, ParseFail> {
     let ast = parse(alloc, text)?;
     Ok(print_ast(alloc, &ast)?)

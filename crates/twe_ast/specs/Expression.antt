@@ -1,5 +1,5 @@
--- An expression of a text, as contracts see it: the place of its first token, and what it is. Parentheses that enclose
--- it count for the place alone.
+-- Expressions as contracts see them: the place of the first token, and the shape. Parentheses that enclose an expression
+-- affect only its place.
 use Rattle.std.specs.Prelude.{ℤ, Bool}
 use Rattle.twe_io.specs.declared.place.Place.{Place}
 use Rattle.twe_ast.specs.declared.expr.BinOp.{BinOp}
@@ -24,7 +24,7 @@ mutual
     -- an operator with its two operands; the place is the operator's
     Binary : (op : BinOp) (left right : Expression) (place : Place) → Shape
 
-  -- the arguments of a call, from the left
+  -- the arguments of a call, from left to right
   pub data Arguments : Type 0 where
     no_more : Arguments
     argument : (first : Expression) (others : Arguments) → Arguments

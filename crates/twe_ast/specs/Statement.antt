@@ -1,4 +1,4 @@
--- A statement of a text, as contracts see it.
+-- Statements as contracts see them.
 use Rattle.std.specs.Prelude.{Bool, Option}
 use Rattle.twe_io.specs.declared.place.Place.{Place}
 use Rattle.twe_ast.specs.declared.name.Name.{Name}
@@ -20,20 +20,20 @@ mutual
     While : (place : Place) (condition : Expression) (body : Statements) → Statement
     Return : (place : Place) (value : Option Expression) → Statement
     Print : (place : Place) (value : Expression) → Statement
-    -- the call of a method whose value, if it has one, is dropped
+    -- the call of a method whose value, if there is one, is not used
     Call : (method : Name) (args : Arguments) → Statement
     -- the making of a task by `spawn` or by `executeLater`
     Make : (future task : Name) (spawned : Bool) (args : Arguments) → Statement
-    -- the waiting for a task, and the same with an `int` local that takes its value
+    -- a wait for a task, and the declaration of an `int` local whose initial value is that of a task
     Wait : (wait : WaitCall) → Statement
     LetWait : (is_final : Bool) (name : Name) (wait : WaitCall) → Statement
 
-  -- the statements of a block, in order, and then the place of its closing brace
+  -- the statements of a block, in order, followed by the place of its closing brace
   pub data Statements : Type 0 where
     end_of_block : (close : Place) → Statements
     statement : (first : Statement) (others : Statements) → Statements
 
-  -- the arms of an `if`, in order: each with its condition, and then the last `else`, if there is one
+  -- the arms of an `if`, in order: each with its condition, followed by the last `else`, if there is one
   pub data Arms : Type 0 where
     arm : (condition : Expression) (body : Statements) (others : Arms) → Arms
     otherwise : (body : Statements) → Arms

@@ -59,13 +59,13 @@ impl BinOp {
 #[cycle(expr)]
 #[derive(Debug, Drop)]
 pub struct Expr {
-    /// What the expression is.
+    /// The kind of the expression, with its parts.
     pub kind: ExprKind,
-    /// The place of its first token, where parentheses that enclose it count as its own.
+    /// The place of its first token, which may be a parenthesis that encloses it.
     pub place: Place,
 }
 
-/// The arguments of a call, from the left.
+/// The arguments of a call, from left to right.
 #[cycle(expr)]
 #[derive(Debug, Drop)]
 pub struct Args {
@@ -73,11 +73,11 @@ pub struct Args {
     pub items: Vec<Expr>,
 }
 
-/// What an expression is.
+/// The kind of an expression, with its parts.
 #[cycle(expr)]
 #[derive(Debug, Drop)]
 pub enum ExprKind {
-    /// An integer literal: from 0 to 2147483647, or -2147483648 where `-` and 2147483648 are written.
+    /// An integer literal: from 0 to 2147483647, or -2147483648 for `-` followed by 2147483648.
     Lit(i32),
     /// `true` or `false`.
     Truth(bool),
@@ -89,7 +89,7 @@ pub enum ExprKind {
         array: Name,
         /// The index, or the row.
         index: Box<Expr>,
-        /// The column, for a grid.
+        /// The column, if it is an element of a grid.
         second: Option<Box<Expr>>,
     },
     /// The call of a method.
@@ -99,7 +99,7 @@ pub enum ExprKind {
         /// The arguments.
         args: Args,
     },
-    /// `-` and its operand, unless they are the literal -2147483648.
+    /// `-` and its operand. `-` followed by 2147483648 is a literal instead.
     Neg(Box<Expr>),
     /// `!` and its operand.
     Not(Box<Expr>),
@@ -107,9 +107,9 @@ pub enum ExprKind {
     Bin {
         /// The operator.
         op: BinOp,
-        /// The operand before it.
+        /// The left operand.
         left: Box<Expr>,
-        /// The operand after it.
+        /// The right operand.
         right: Box<Expr>,
         /// The place of the operator.
         place: Place,

@@ -1,4 +1,4 @@
-//! What a program declares: regions, cells, methods and tasks.
+//! Declarations: regions, cells, methods and tasks.
 
 use crate::name::Name;
 use crate::path::{CellPath, Path};
@@ -8,7 +8,7 @@ use twe_io::{List, Place};
 /// The tree of a whole text.
 #[derive(Debug, Drop)]
 pub struct Ast {
-    /// What is declared, in the order of the text.
+    /// The declarations, in the order of the text.
     pub items: List<Item>,
     /// The place after the last byte of the text.
     pub end: Place,
@@ -37,16 +37,16 @@ pub enum Item {
 pub struct CellDecl {
     /// The name.
     pub name: Name,
-    /// How many cells there are, and what they begin as.
+    /// The number of cells, and their initial value.
     pub shape: CellShape,
     /// The path after `in`.
     pub path: CellPath,
 }
 
-/// How many cells a declaration makes, and what they begin as.
+/// The number of cells that a declaration makes, and their initial value.
 #[derive(Debug, Drop)]
 pub enum CellShape {
-    /// One cell, and its initial value where it is written; else it begins as 0.
+    /// One cell, and its written initial value, if there is one. Without one it is 0.
     Scalar(Option<Initial>),
     /// An array.
     Array {
@@ -74,19 +74,19 @@ pub struct Initial {
 /// The declaration of a method or of a task.
 #[derive(Debug, Drop)]
 pub struct Decl {
-    /// What it returns.
+    /// The type of its result.
     pub returns: ReturnType,
     /// The name.
     pub name: Name,
     /// The names of the parameters.
     pub params: List<Name>,
-    /// The clauses of effects in order; none where `pure` is written.
+    /// The clauses of effects, in order; empty for `pure`.
     pub effects: List<Clause>,
     /// The body.
     pub body: Block,
 }
 
-/// What a method or a task returns.
+/// The type of the result of a method or a task.
 #[derive(Clone, Copy, Debug, PartialEq, Eq)]
 pub enum ReturnType {
     /// `int`
@@ -98,7 +98,7 @@ pub enum ReturnType {
 /// A clause of effects.
 #[derive(Debug, Drop)]
 pub struct Clause {
-    /// Whether it is `writes`, and not `reads`.
+    /// Whether it is `writes` rather than `reads`.
     pub write: bool,
     /// The paths, at least one.
     pub paths: List<Path>,

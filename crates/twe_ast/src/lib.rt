@@ -1,8 +1,8 @@
-//! The tree of a program's text, as the grammar has it: names are texts, and each has its place.
+//! The syntax tree of a program. Names are texts, and each has its place.
 //!
-//! A tree says nothing of what its names mean. Parentheses leave no trace in it but the place of the expression that
-//! they enclose. Contracts see expressions as an `Expression` and blocks as `Statements`, plain data without places in
-//! memory, and everything else as the records and variants that are declared here.
+//! What the names mean is left to the crates above. The tree does not record parentheses, except in the place of the
+//! expression that they enclose. Contracts see expressions as `Expression` and blocks as `Statements`, and everything
+//! else as the records and variants that are declared here.
 #![tactic(auto)]
 
 mod expr;

@@ -1,4 +1,4 @@
-//! Names as they stand in a text.
+//! Names as they are written in a text.
 
 use twe_io::{Place, Word};
 

@@ -1,4 +1,4 @@
-//! The paths of effects and of cells, as they stand in a text. A `Root` that the path begins with is left out.
+//! The paths of effects and of cells, as they are written in a text. A `Root` at the front is left out.
 
 use crate::name::Name;
 use twe_io::{List, Place, Word};
@@ -15,13 +15,13 @@ pub struct Path {
 /// An element of a path in a clause of effects.
 #[derive(Debug, Drop)]
 pub struct PathElem {
-    /// What the element is.
+    /// The kind of the element.
     pub kind: PathElemKind,
     /// The place of its first token: the name, `[` or `*`.
     pub place: Place,
 }
 
-/// What an element of a path in a clause of effects is.
+/// The kind of an element of a path in a clause of effects.
 #[derive(Debug, Drop)]
 pub enum PathElemKind {
     /// The name of a region. Its place is the element's.
@@ -32,7 +32,7 @@ pub enum PathElemKind {
     Variable(Name),
     /// Any index: `[?]`.
     AnyIndex,
-    /// Any elements: `*`.
+    /// Any number of elements: `*`.
     Star,
 }
 
@@ -48,13 +48,13 @@ pub struct CellPath {
 /// An element of the path of a cell.
 #[derive(Debug, Drop)]
 pub struct CellElem {
-    /// What the element is.
+    /// The kind of the element.
     pub kind: CellElemKind,
     /// The place of its first token: the name or `[`.
     pub place: Place,
 }
 
-/// What an element of the path of a cell is.
+/// The kind of an element of the path of a cell.
 #[derive(Debug, Drop)]
 pub enum CellElemKind {
     /// The name of a region. Its place is the element's.

@@ -1,4 +1,4 @@
-//! Statements and blocks. Contracts see a block as `Statements`, which end with the place of its `}`.
+//! Statements and blocks. Contracts see a block as `Statements`, which end with the place of the closing brace.
 
 use crate::expr::{Args, Expr};
 use crate::name::Name;
@@ -9,11 +9,11 @@ use twe_io::Place;
 #[cycle(stmt)]
 #[derive(Debug, Drop)]
 pub struct Stmt {
-    /// What the statement is.
+    /// The kind of the statement, with its parts.
     pub kind: StmtKind,
 }
 
-/// A block: its statements in order, and where it ends.
+/// A block: its statements, in order, and the place of its closing brace.
 #[cycle(stmt)]
 #[derive(Debug, Drop)]
 pub struct Block {
@@ -29,7 +29,7 @@ pub struct Block {
 pub struct Arm {
     /// The condition.
     pub condition: Expr,
-    /// The block that belongs to it.
+    /// The block that runs if the condition is true.
     pub body: Block,
 }
 
@@ -43,7 +43,7 @@ pub struct Arms {
     pub last: Option<Block>,
 }
 
-/// The type that a local is declared with.
+/// The declared type of a local.
 #[derive(Clone, Copy, Debug, PartialEq, Eq)]
 pub enum LocalType {
     /// `int`
@@ -52,16 +52,16 @@ pub enum LocalType {
     Boolean,
 }
 
-/// The waiting for a task: `f.getValue()` or `f.join()`.
+/// A wait for a task: `f.getValue()` or `f.join()`.
 #[derive(Debug, Drop)]
 pub struct WaitCall {
     /// The name of the future.
     pub future: Name,
-    /// Whether it is `join`, and not `getValue`.
+    /// Whether it is `join` rather than `getValue`.
     pub join: bool,
 }
 
-/// What a statement is.
+/// The kind of a statement, with its parts.
 #[cycle(stmt)]
 #[derive(Debug, Drop)]
 pub enum StmtKind {
@@ -69,7 +69,7 @@ pub enum StmtKind {
     Block(Block),
     /// The declaration of a local by an expression.
     Let {
-        /// Whether `final` stands before it.
+        /// Whether it is `final`.
         is_final: bool,
         /// The type.
         local_type: LocalType,
@@ -91,7 +91,7 @@ pub enum StmtKind {
         array: Name,
         /// The index, or the row.
         index: Expr,
-        /// The column, for a grid.
+        /// The column, if it is an element of a grid.
         second: Option<Expr>,
         /// The value.
         value: Expr,
@@ -134,20 +134,20 @@ pub enum StmtKind {
         future: Name,
         /// The name of the task.
         task: Name,
-        /// Whether it is made by `spawn`, and not by `executeLater`.
+        /// Whether the task is made by `spawn` rather than `executeLater`.
         spawned: bool,
         /// The arguments.
         args: Args,
     },
-    /// The waiting for a task whose value is dropped.
+    /// A wait for a task whose value is not used.
     Wait(WaitCall),
-    /// The declaration of an `int` local by the waiting for a task.
+    /// The declaration of an `int` local whose initial value is that of a task.
     LetWait {
-        /// Whether `final` stands before it.
+        /// Whether it is `final`.
         is_final: bool,
         /// The name of the local.
         name: Name,
-        /// The waiting.
+        /// The wait.
         wait: WaitCall,
     },
 }

@@ -1,4 +1,4 @@
--- What is found at the front of a text.
+-- The first lexeme of a text.
 use Rattle.std.specs.Prelude.{◌≡◌, ℕ, ◌<◌, ◌≤◌, false, List, length, take, drop, slice_index, IsTrue}
 use Rattle.std.specs.List.{list_all}
 use Rattle.twe_lexer.specs.declared.lexeme.Lexeme.{Lexeme}
@@ -7,7 +7,7 @@ use Rattle.twe_lexer.specs.declared.lexeme.LexemeFail.TheVariants as fails
 use Rattle.twe_lexer.specs.Kinds.{token_kind}
 use Rattle.twe_lexer.specs.Lexeme.{is_allowed, IsFirstLexeme, IsUnclosedComment}
 
--- the text begins with this lexeme, all of whose bytes are allowed, and it is no comment without an end
+-- the text begins with this lexeme: all of its bytes are allowed, and it is not a comment without an end
 pub record Opens (lexeme : Lexeme) (text : List ℕ) : Type 0 where
   pub fits : lexeme.len ≤ length text
   pub first : IsFirstLexeme (take lexeme.len text) text (drop lexeme.len text)
@@ -15,7 +15,7 @@ pub record Opens (lexeme : Lexeme) (text : List ℕ) : Type 0 where
   pub closed : ¬ IsUnclosedComment (take lexeme.len text)
   pub token : lexeme.token ≡ token_kind (take lexeme.len text)
 
--- The first byte that is not allowed stands here, in the first lexeme, which is no comment without an end.
+-- The first byte that is not allowed is at this index, within the first lexeme, which is not a comment without an end.
 pub record StopsAt (at : ℕ) (text : List ℕ) : Type 0 where
   pub bytes : List ℕ
   pub rest : List ℕ
@@ -25,7 +25,7 @@ pub record StopsAt (at : ℕ) (text : List ℕ) : Type 0 where
   pub before : IsTrue (list_all is_allowed (take at text))
   pub here : is_allowed (slice_index text at) ≡ false
 
--- why there is no such lexeme
+-- why the text has no such lexeme
 abbrev pub Hinders : LexemeFail → List ℕ → Type 0
 Hinders (fails.NotAllowed at) text = StopsAt at text
 Hinders fails.Unclosed text = IsUnclosedComment text

@@ -1,4 +1,4 @@
--- Where a byte of a text stands.
+-- The places of the bytes of a text.
 use Rattle.std.specs.Prelude.{◌≡◌, ℕ, ◌+◌, ◌<◌, ◌⊎◌, Bool, false, ◌&&◌, ◌||◌, not, List, [], ◌∷◌, ◌==◌, count_by}
 use Rattle.std.specs.Str.{byte}
 use Rattle.std.specs.List.{suffix_len}
@@ -16,7 +16,7 @@ place_after before = record {
 abbrev pub Precedes : Place → Place → Type 0
 Precedes one other = (one.line < other.line) ⊎ ((one.line ≡ other.line) × (one.col < other.col))
 
--- a lexeme that is no token: a blank, or what begins as a comment
+-- a lexeme that is not a token: a blank, or one that begins as a comment does
 abbrev pub is_gap : List ℕ → Bool
 is_gap [] = false
 is_gap (code ∷ []) = is_blank code

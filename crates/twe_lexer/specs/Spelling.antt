@@ -1,4 +1,4 @@
--- How keywords and symbols are spelled.
+-- The spellings of keywords and symbols.
 use Rattle.std.specs.Prelude.{ℕ, List, [], ◌∷◌, Option, codes, bytes_eq, find}
 use Rattle.twe_lexer.specs.declared.fixed.Fixed.{Fixed}
 use Rattle.twe_lexer.specs.declared.fixed.Fixed.TheVariants as fixed
@@ -55,7 +55,7 @@ spelling fixed.Not = codes "!"
 spelling fixed.And = codes "&&"
 spelling fixed.Or = codes "||"
 
--- all of them
+-- all keywords and symbols
 abbrev pub every_fixed : List Fixed
 every_fixed =
     fixed.Region ∷ fixed.Int ∷ fixed.Boolean ∷ fixed.Void ∷ fixed.Task ∷ fixed.Deterministic ∷ fixed.Reads ∷
@@ -67,6 +67,6 @@ every_fixed =
     fixed.GreaterEqual ∷ fixed.Plus ∷ fixed.Minus ∷ fixed.Star ∷ fixed.Slash ∷ fixed.Percent ∷ fixed.Not ∷
     fixed.And ∷ fixed.Or ∷ []
 
--- the one that is spelled so, if there is one
+-- the one with this spelling, if there is one
 abbrev pub spelled : List ℕ → Option Fixed
 spelled bytes = find (λ f. bytes_eq bytes (spelling f)) every_fixed

@@ -1,20 +1,20 @@
-//! The first lexeme of a text.
+//! The length of the first lexeme of a text.
 ghost use Rattle.std.specs.Prelude.{◌≡◌, ℕ, ◌+◌, ◌<◌, ◌≤◌, ◌++◌, length, take, drop, codes, IfSome, IfNone, MatchOption, IsTrue};
 ghost use Rattle.twe_lexer.specs.Lexeme.{HasClose, is_long_symbol};
 ghost use Rattle.twe_lexer.specs.inner.Extents.{Begins, IsUnclosed};
 
 use crate::bytes::{digits_len, is_blank, is_letter, line_len, word_len};
 
-/// The first lexeme of a text.
+/// The extent of a lexeme.
 #[derive(Clone, Copy, Debug, PartialEq, Eq)]
 pub(crate) struct Extent {
-    /// How many bytes it has.
+    /// Its length in bytes.
     pub(crate) len: usize,
-    /// Whether it is a token, and no blank or comment.
+    /// Whether it is a token rather than a blank or a comment.
     pub(crate) is_token: bool,
 }
 
-/// Where the first `*/` stands, if there is one.
+/// The index of the first `*/`, or `None` if there is none.
 fn close_at(body: &[u8]) -> Option<usize>
     ensures first { IfSome result (λ at. (at + 2 ≤ length body.now) × (drop at body.now ≡ codes "*/" ++ drop (at + 2) body.now) × ¬ HasClose (take at body.now)) }
     ensures none { IfNone result (¬ HasClose body.now) }
@@ -39,7 +39,7 @@ fn starts_with_long_symbol(text: &[u8]) -> bool
         || text.starts_with(b"||")
 }
 
-/// The comment from `/*` to the first `*/`, if there is one.
+/// The extent of the comment from `/*` to the first `*/`, or `None` if there is no `*/`.
 fn block_comment(text: &[u8]) -> Option<Extent>
     requires { take 2 text.now ≡ codes "/*" }
     ensures { MatchOption result (IsUnclosed text.now) (λ extent. Begins extent text.now) }
@@ -51,7 +51,7 @@ fn block_comment(text: &[u8]) -> Option<Extent>
     })
 }
 
-/// The first lexeme, or `None` where it is a comment that is not closed.
+/// The extent of the first lexeme, or `None` if it is a comment without an end.
 pub(crate) fn first_extent(text: &[u8]) -> Option<Extent>
     requires { 0 < length text.now }
     ensures { MatchOption result (IsUnclosed text.now) (λ extent. Begins extent text.now) }

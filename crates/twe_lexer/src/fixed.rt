@@ -1,8 +1,8 @@
-//! The tokens that are always spelled alike: keywords and symbols.
+//! Keywords and symbols: the tokens with a single spelling.
 ghost use Rattle.std.specs.Prelude.{◌≡◌};
 ghost use Rattle.twe_lexer.specs.Spelling.{spelling, spelled};
 
-/// A token that has one spelling.
+/// A keyword or a symbol.
 #[derive(Clone, Copy, Debug, PartialEq, Eq)]
 pub enum Fixed {
     /// `region`
@@ -108,7 +108,7 @@ pub enum Fixed {
 }
 
 impl Fixed {
-    /// How the token is spelled.
+    /// The spelling of the token.
     pub fn spelling(self) -> &'static str
         ensures { result.now ≡ spelling self }
     {
@@ -167,7 +167,7 @@ impl Fixed {
     }
 }
 
-/// The token that is spelled so, if there is one.
+/// The keyword or symbol with this spelling, or `None` if there is none.
 pub(crate) fn spelled(text: &str) -> Option<Fixed>
     ensures { result ≡ spelled text.now }
 {

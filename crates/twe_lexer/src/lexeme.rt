@@ -1,4 +1,4 @@
-//! The lexeme at the front of a text: a token, a blank or a comment.
+//! The first lexeme of a text: a token, a blank or a comment.
 ghost use Rattle.std.specs.Prelude.{◌≡◌, ◌<◌, length, IfOk, IfErr};
 ghost use Rattle.std.specs.List.{prefix_len};
 ghost use Rattle.twe_lexer.specs.Lexeme.{is_allowed};
@@ -14,22 +14,22 @@ use twe_io::Memory;
 /// A lexeme.
 #[derive(Debug, Drop)]
 pub struct Lexeme {
-    /// How many bytes it has.
+    /// Its length in bytes.
     pub len: usize,
-    /// The token that it is, or nothing for a blank or a comment.
+    /// The kind of the token, or `None` for a blank or a comment.
     pub token: Option<TokenKind>,
 }
 
-/// Why there is no lexeme.
+/// Why a text has no first lexeme.
 #[derive(Debug, Drop, Error)]
 pub enum LexemeFail {
-    /// A byte of the lexeme may not stand in a text: the first such byte, counted from 0.
+    /// The lexeme contains a byte that is not allowed in a text. The number is the index of the first such byte.
     #[error("a byte is not allowed")]
     NotAllowed(usize),
-    /// A comment has no end.
+    /// The lexeme is a comment without an end.
     #[error("a comment has no end")]
     Unclosed,
-    /// There was not enough memory.
+    /// An allocation failed.
     #[error("out of memory")]
     OutOfMemory(Memory),
 }
@@ -45,14 +45,15 @@ impl From<Memory> for LexemeFail {
     }
 }
 
-/// How many bytes that may stand in a text stand before the first that may not.
+/// The number of bytes before the first one that is not allowed in a text.
 fn allowed_len(bytes: &[u8]) -> usize
     ensures { result ≡ prefix_len is_allowed bytes.now }
 {
     bytes.iter().take_while(|byte| is_allowed(**byte)).count()
 }
 
-/// The lexeme at the front of a text that is not empty. It takes time linear in the lexeme; only a name takes memory.
+/// The first lexeme of a text that is not empty. It takes time linear in the length of the lexeme. Only a name allocates
+/// memory.
 pub fn first_lexeme(alloc: Global, text: &[u8]) -> Result<Lexeme, LexemeFail>
     requires { 0 < length text.now }
     ensures found { IfOk result (λ lexeme. Opens lexeme text.now) }

@@ -1,6 +1,6 @@
-//! The tokens of a text: at each place the longest one, with its place, and blanks and comments left out.
+//! The lexer: it splits a text into lexemes, always the longest one, and drops blanks and comments.
 //!
-//! Every text can be cut into tokens. What a program's tokens are is left to the parser.
+//! Every text can be split into lexemes. Whether the tokens are those of a program is left to the parser.
 #![tactic(auto)]
 
 mod bytes;

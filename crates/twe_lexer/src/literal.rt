@@ -8,7 +8,7 @@ use twe_limits::MAX_LITERAL;
 /// The value that stands for every number that is too large in every position.
 const TOO_LARGE: u32 = MAX_LITERAL + 2;
 
-/// The number that the digits write, or `TOO_LARGE` if it is greater.
+/// The number with these decimal digits, or `TOO_LARGE` if it is greater.
 pub(crate) fn literal_value(digits: &[u8]) -> u32
     requires { IsTrue (is_number digits.now) }
     ensures { result ≡ min (number_of digits.now) too_large }

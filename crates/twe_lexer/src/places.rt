@@ -1,4 +1,4 @@
-//! Places in a text, counted as its bytes are read.
+//! Lines and columns of the bytes of a text.
 ghost use Rattle.std.specs.Prelude.{◌≡◌, ℕ, ◌+◌, ◌^◌, ◌<◌, List, [], ◌++◌, length};
 ghost use Rattle.twe_lexer.specs.Places.{place_after};
 
@@ -11,7 +11,7 @@ pub fn first_place() -> Place
     Place { line: 1, col: 1 }
 }
 
-/// The place after some bytes that begin at a place.
+/// The place after these bytes, of which the first is at `place`.
 pub fn place_past(mut place: Place, bytes: &[u8]) -> Place
     requires lines { place.line + length bytes.now < 2 ^ 32 }
     requires columns { place.col + length bytes.now < 2 ^ 32 }

@@ -1,4 +1,4 @@
-//! A token: what it is, and where it stands.
+//! Tokens.
 ghost use Rattle.std.specs.Prelude.{◌≡◌, IfOk, IsAscii};
 ghost use Rattle.twe_lexer.specs.Kinds.{kind_of};
 ghost use Rattle.twe_lexer.specs.Lexeme.{is_word, is_number};
@@ -12,16 +12,16 @@ use twe_io::{Memory, Place, Word};
 /// A token, and the place of its first byte.
 #[derive(Debug, Drop)]
 pub struct Token {
-    /// What it is.
+    /// Its kind, with the value of a name or a literal.
     pub kind: TokenKind,
-    /// Where it stands.
+    /// The place of its first byte.
     pub place: Place,
 }
 
-/// What a token is.
+/// The kind of a token, with the value of a name or a literal.
 #[derive(Debug, Drop)]
 pub enum TokenKind {
-    /// A name: a letter or `_`, then letters, digits and `_`, and no keyword.
+    /// A name: a letter or `_`, then letters, digits and `_`. It is not a keyword.
     Name(Word),
     /// An integer literal: its value, or 2147483649 if it is above 2147483648.
     Literal(u32),
@@ -31,7 +31,7 @@ pub enum TokenKind {
     Stray,
 }
 
-/// A letter or `_`, and then letters, digits and `_`.
+/// Whether the bytes are a letter or `_`, followed by letters, digits and `_`.
 fn is_word(bytes: &[u8]) -> bool
     ensures { result ≡ is_word bytes.now }
 {
@@ -41,7 +41,7 @@ fn is_word(bytes: &[u8]) -> bool
     }
 }
 
-/// One or more digits.
+/// Whether the bytes are one or more digits.
 fn is_number(bytes: &[u8]) -> bool
     ensures { result ≡ is_number bytes.now }
 {
@@ -52,7 +52,7 @@ fn is_number(bytes: &[u8]) -> bool
 }
 
 impl TokenKind {
-    /// What a lexeme is as a token. Its bytes are ASCII.
+    /// The kind of the token that consists of these bytes.
     pub(crate) fn new(alloc: Global, bytes: &[u8]) -> Result<Self, Memory>
         requires { IsAscii bytes.now }
         ensures { IfOk result (λ kind. kind ≡ kind_of bytes.now) }

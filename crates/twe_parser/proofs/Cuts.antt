@@ -1,4 +1,4 @@
--- How a text is cut into lexemes: in one way only.
+-- A text is split into lexemes in one way only.
 use Rattle.std.proofs.Common.{◌≡◌, ℕ, ◌+◌, ◌⊎◌, inl, inr, Bool, true, false, not, List, [], ◌∷◌, ◌++◌, length, take, drop, refl, sym, ap, ◌∙◌, subst, cond, zero-add, arith}
 use Rattle.std.specs.Prelude.{if◌then◌else◌, count_by}
 use Rattle.std.specs.List.{AllByRecursion, suffix_len, prefix_len}
@@ -43,7 +43,7 @@ pub cut_append : (one other : List (List ℕ)) (text middle rest : List ℕ) →
 cut_append [] other text middle rest is cut = subst (λ (t : List ℕ). AreFirstLexemes other t rest) (sym is) cut
 cut_append (first ∷ others) other text middle rest (later, found, cut) more = (later, found, cut_append others other later middle rest cut more)
 
--- of two cuts of a text one goes on where the other ends
+-- of two splits of a text one continues where the other ends
 pub compare_cuts : (one other : List (List ℕ)) (text rest its : List ℕ) → AreFirstLexemes one text rest → AreFirstLexemes other text its
     → ((more : List (List ℕ)) × (other ≡ one ++ more) × AreFirstLexemes more rest its) ⊎ ((more : List (List ℕ)) × (one ≡ other ++ more) × AreFirstLexemes more its rest)
 compare_cuts [] other text rest its is cut = inl (other, refl, subst (λ (t : List ℕ). AreFirstLexemes other t its) is cut)

@@ -1,321 +1,322 @@
--- What is still to be read and done can always be completed: no part that may be left out stands before a token that
--- would go on with it.
+-- Each token keeps the condition under which the stack can be completed: no nonterminal with an empty production comes
+-- before a token that would select another of its productions.
 use Rattle.std.proofs.Common.{◌≡◌, ℕ, Bool, true, false, ◌&&◌, List, [], ◌∷◌, ◌++◌, Option, None, Some, nat_le, sym, ap, ◌∙◌}
 use Rattle.std.specs.Prelude.{if◌then◌else◌}
 use Rattle.std.proofs.lemmas.Bool.{and_parts, and_from}
 use Rattle.twe_ast.specs.declared.expr.BinOp.{BinOp}
 use Rattle.twe_lexer.specs.declared.fixed.Fixed.TheVariants as fixed
 use Rattle.twe_lexer.specs.declared.token.Token.{Token}
-use Rattle.twe_parser.specs.declared.row.Row.{Row}
-use Rattle.twe_parser.specs.declared.symbol.Act.{Act}
-use Rattle.twe_parser.specs.declared.symbol.Part.{Part}
-use Rattle.twe_parser.specs.declared.symbol.Part.TheVariants as parts
+use Rattle.twe_parser.specs.declared.production.Production.{Production}
+use Rattle.twe_parser.specs.declared.symbol.Access.{Access}
+use Rattle.twe_parser.specs.declared.symbol.Action.{Action}
+use Rattle.twe_parser.specs.declared.symbol.Nonterminal.{Nonterminal}
+use Rattle.twe_parser.specs.declared.symbol.Nonterminal.TheVariants as nonterminals
 use Rattle.twe_parser.specs.declared.symbol.Symbol.{Symbol}
 use Rattle.twe_parser.specs.declared.symbol.Symbol.TheVariants as symbols
 use Rattle.twe_parser.specs.declared.symbol.Terminal.{Terminal}
 use Rattle.twe_parser.specs.declared.symbol.Terminal.TheVariants as next
-use Rattle.twe_parser.specs.declared.work.Work.{Work}
+use Rattle.twe_parser.specs.declared.value_stacks.ValueStacks.{ValueStacks}
 use Rattle.twe_parser.specs.declared.symbol.CellKind.{CellKind}
 use Rattle.twe_parser.specs.declared.symbol.CellKind.TheVariants as cells
-use Rattle.twe_parser.specs.inner.Acts.{acted}
+use Rattle.twe_parser.specs.inner.Actions.{performed}
 use Rattle.twe_parser.specs.inner.Fine.{calm, is_last, need, fine}
-use Rattle.twe_parser.specs.inner.Machine.{Machine, expected, by_row, after}
+use Rattle.twe_parser.specs.inner.Machine.{Machine, expected, by_production, after}
 use Rattle.twe_parser.specs.inner.Operators.{operator_of}
 use Rattle.twe_ast.specs.Precedence.{level_of}
-use Rattle.twe_parser.specs.inner.Rows.{row_of, otherwise, climb_from, items_row, more_regions_row, after_int_row, after_length_row, cell_path_row, cell_rest_row, cell_elem_row, initial_row, task_returns_row, params_row, more_params_row, effects_row, path_row, path_rest_row, elem_row, index_row, statements_row, local_type_row, int_value_row, after_value_name_row, after_name_row, after_index_row, awaited_row, awaited_value_row, make_row, after_arm_row, else_body_row, return_value_row, args_row, more_args_row, unary_row, after_minus_row, suffix_row, second_index_row}
+use Rattle.twe_parser.specs.inner.Productions.{production_of, epsilon_action, climb_from, items_production, more_regions_production, after_int_production, after_length_production, cell_path_production, cell_rest_production, cell_elem_production, initial_production, task_returns_production, params_production, more_params_production, effects_production, path_production, path_rest_production, elem_production, index_production, statements_production, local_type_production, int_value_production, after_value_name_production, after_name_production, after_index_production, awaited_production, awaited_value_production, make_production, after_arm_production, else_body_production, return_value_production, args_production, more_args_production, unary_production, after_minus_production, suffix_production, second_index_production}
 use Rattle.twe_parser.specs.inner.Terminals.{terminal_of, meets}
-use Rattle.twe_parser.proofs.Steps.{operator_row}
+use Rattle.twe_parser.proofs.Steps.{operator_production}
 
-abbrev FineRow : Option Row → List Symbol → Type 0
-FineRow None todo = Unit {0}
-FineRow (Some row) todo = fine (row.todo ++ todo) ≡ true
+abbrev FineProduction : Option Production → List Symbol → Type 0
+FineProduction None stack = Unit {0}
+FineProduction (Some production) stack = fine (production.right_side ++ stack) ≡ true
 
-rest_fine : (todo : List Symbol) → (calm todo && fine todo) ≡ true → fine todo ≡ true
-rest_fine todo h = (and_parts (calm todo) (fine todo) h).1
+rest_fine : (stack : List Symbol) → (calm stack && fine stack) ≡ true → fine stack ≡ true
+rest_fine stack h = (and_parts (calm stack) (fine stack) h).1
 
-twice : (todo : List Symbol) → (calm todo && fine todo) ≡ true → (calm todo && (calm todo && fine todo)) ≡ true
-twice todo h = and_from (calm todo) (calm todo && fine todo) (and_parts (calm todo) (fine todo) h).0 h
+twice : (stack : List Symbol) → (calm stack && fine stack) ≡ true → (calm stack && (calm stack && fine stack)) ≡ true
+twice stack h = and_from (calm stack) (calm stack && fine stack) (and_parts (calm stack) (fine stack) h).0 h
 
-thrice : (todo : List Symbol) → (calm todo && fine todo) ≡ true → (calm todo && (calm todo && (calm todo && fine todo))) ≡ true
-thrice todo h = and_from (calm todo) (calm todo && (calm todo && fine todo)) (and_parts (calm todo) (fine todo) h).0 (twice todo h)
+thrice : (stack : List Symbol) → (calm stack && fine stack) ≡ true → (calm stack && (calm stack && (calm stack && fine stack))) ≡ true
+thrice stack h = and_from (calm stack) (calm stack && (calm stack && fine stack)) (and_parts (calm stack) (fine stack) h).0 (twice stack h)
 
-items_fine : (terminal : Terminal) (todo : List Symbol) → (is_last todo && fine todo) ≡ true → FineRow (items_row terminal) todo
-items_fine (next.Fixed fixed.Region) todo h = h
-items_fine (next.Fixed fixed.Int) todo h = h
-items_fine (next.Fixed fixed.Void) todo h = h
-items_fine (next.Fixed fixed.Task) todo h = h
-items_fine (next.Fixed fixed.Deterministic) todo h = h
-items_fine _ todo h = tt
+items_fine : (terminal : Terminal) (stack : List Symbol) → (is_last stack && fine stack) ≡ true → FineProduction (items_production terminal) stack
+items_fine (next.Fixed fixed.Region) stack h = h
+items_fine (next.Fixed fixed.Int) stack h = h
+items_fine (next.Fixed fixed.Void) stack h = h
+items_fine (next.Fixed fixed.Task) stack h = h
+items_fine (next.Fixed fixed.Deterministic) stack h = h
+items_fine _ stack h = tt
 
-more_regions_fine : (terminal : Terminal) (todo : List Symbol) → fine todo ≡ true → FineRow (more_regions_row terminal) todo
-more_regions_fine (next.Fixed fixed.Comma) todo h = h
-more_regions_fine (next.Fixed fixed.Semicolon) todo h = h
-more_regions_fine _ todo h = tt
+more_regions_fine : (terminal : Terminal) (stack : List Symbol) → fine stack ≡ true → FineProduction (more_regions_production terminal) stack
+more_regions_fine (next.Fixed fixed.Comma) stack h = h
+more_regions_fine (next.Fixed fixed.Semicolon) stack h = h
+more_regions_fine _ stack h = tt
 
-after_int_fine : (terminal : Terminal) (todo : List Symbol) → fine todo ≡ true → FineRow (after_int_row terminal) todo
-after_int_fine (next.Fixed fixed.In) todo h = h
-after_int_fine (next.Fixed fixed.OpenBracket) todo h = h
-after_int_fine (next.Fixed fixed.OpenParen) todo h = h
-after_int_fine _ todo h = tt
+after_int_fine : (terminal : Terminal) (stack : List Symbol) → fine stack ≡ true → FineProduction (after_int_production terminal) stack
+after_int_fine (next.Fixed fixed.In) stack h = h
+after_int_fine (next.Fixed fixed.OpenBracket) stack h = h
+after_int_fine (next.Fixed fixed.OpenParen) stack h = h
+after_int_fine _ stack h = tt
 
-after_length_fine : (terminal : Terminal) (todo : List Symbol) → fine todo ≡ true → FineRow (after_length_row terminal) todo
-after_length_fine (next.Fixed fixed.In) todo h = h
-after_length_fine (next.Fixed fixed.OpenBracket) todo h = h
-after_length_fine _ todo h = tt
+after_length_fine : (terminal : Terminal) (stack : List Symbol) → fine stack ≡ true → FineProduction (after_length_production terminal) stack
+after_length_fine (next.Fixed fixed.In) stack h = h
+after_length_fine (next.Fixed fixed.OpenBracket) stack h = h
+after_length_fine _ stack h = tt
 
-cell_path_fine : (x : CellKind) (terminal : Terminal) (todo : List Symbol) → fine todo ≡ true → FineRow (cell_path_row x terminal) todo
-cell_path_fine x (next.Fixed fixed.Root) todo h = h
-cell_path_fine x next.Name todo h = h
-cell_path_fine _ _ todo h = tt
+cell_path_fine : (x : CellKind) (terminal : Terminal) (stack : List Symbol) → fine stack ≡ true → FineProduction (cell_path_production x terminal) stack
+cell_path_fine x (next.Fixed fixed.Root) stack h = h
+cell_path_fine x next.Name stack h = h
+cell_path_fine _ _ stack h = tt
 
-cell_rest_fine : (x : CellKind) (terminal : Terminal) (todo : List Symbol) → fine todo ≡ true → FineRow (cell_rest_row x terminal) todo
-cell_rest_fine x (next.Fixed fixed.Colon) todo h = h
-cell_rest_fine x (next.Fixed fixed.Semicolon) todo h = h
-cell_rest_fine cells.Scalar (next.Fixed fixed.Assign) todo h = h
-cell_rest_fine _ _ todo h = tt
+cell_rest_fine : (x : CellKind) (terminal : Terminal) (stack : List Symbol) → fine stack ≡ true → FineProduction (cell_rest_production x terminal) stack
+cell_rest_fine x (next.Fixed fixed.Colon) stack h = h
+cell_rest_fine x (next.Fixed fixed.Semicolon) stack h = h
+cell_rest_fine cells.Scalar (next.Fixed fixed.Assign) stack h = h
+cell_rest_fine _ _ stack h = tt
 
-cell_elem_fine : (terminal : Terminal) (todo : List Symbol) → fine todo ≡ true → FineRow (cell_elem_row terminal) todo
-cell_elem_fine next.Name todo h = h
-cell_elem_fine (next.Fixed fixed.OpenBracket) todo h = h
-cell_elem_fine _ todo h = tt
+cell_elem_fine : (terminal : Terminal) (stack : List Symbol) → fine stack ≡ true → FineProduction (cell_elem_production terminal) stack
+cell_elem_fine next.Name stack h = h
+cell_elem_fine (next.Fixed fixed.OpenBracket) stack h = h
+cell_elem_fine _ stack h = tt
 
-initial_fine : (terminal : Terminal) (todo : List Symbol) → fine todo ≡ true → FineRow (initial_row terminal) todo
-initial_fine (next.Fixed fixed.Minus) todo h = h
-initial_fine next.Literal todo h = h
-initial_fine _ todo h = tt
+initial_fine : (terminal : Terminal) (stack : List Symbol) → fine stack ≡ true → FineProduction (initial_production terminal) stack
+initial_fine (next.Fixed fixed.Minus) stack h = h
+initial_fine next.Literal stack h = h
+initial_fine _ stack h = tt
 
-task_returns_fine : (x : Bool) (terminal : Terminal) (todo : List Symbol) → fine todo ≡ true → FineRow (task_returns_row x terminal) todo
-task_returns_fine x (next.Fixed fixed.Int) todo h = h
-task_returns_fine x (next.Fixed fixed.Void) todo h = h
-task_returns_fine _ _ todo h = tt
+task_returns_fine : (x : Bool) (terminal : Terminal) (stack : List Symbol) → fine stack ≡ true → FineProduction (task_returns_production x terminal) stack
+task_returns_fine x (next.Fixed fixed.Int) stack h = h
+task_returns_fine x (next.Fixed fixed.Void) stack h = h
+task_returns_fine _ _ stack h = tt
 
-params_fine : (terminal : Terminal) (todo : List Symbol) → fine todo ≡ true → FineRow (params_row terminal) todo
-params_fine (next.Fixed fixed.CloseParen) todo h = h
-params_fine (next.Fixed fixed.Int) todo h = h
-params_fine _ todo h = tt
+params_fine : (terminal : Terminal) (stack : List Symbol) → fine stack ≡ true → FineProduction (params_production terminal) stack
+params_fine (next.Fixed fixed.CloseParen) stack h = h
+params_fine (next.Fixed fixed.Int) stack h = h
+params_fine _ stack h = tt
 
-more_params_fine : (terminal : Terminal) (todo : List Symbol) → fine todo ≡ true → FineRow (more_params_row terminal) todo
-more_params_fine (next.Fixed fixed.CloseParen) todo h = h
-more_params_fine (next.Fixed fixed.Comma) todo h = h
-more_params_fine _ todo h = tt
+more_params_fine : (terminal : Terminal) (stack : List Symbol) → fine stack ≡ true → FineProduction (more_params_production terminal) stack
+more_params_fine (next.Fixed fixed.CloseParen) stack h = h
+more_params_fine (next.Fixed fixed.Comma) stack h = h
+more_params_fine _ stack h = tt
 
-effects_fine : (x : Bool) (terminal : Terminal) (todo : List Symbol) → fine todo ≡ true → FineRow (effects_row x terminal) todo
-effects_fine x (next.Fixed fixed.Pure) todo h = h
-effects_fine x (next.Fixed fixed.Reads) todo h = h
-effects_fine x (next.Fixed fixed.Writes) todo h = h
-effects_fine _ _ todo h = tt
+effects_fine : (x : Bool) (terminal : Terminal) (stack : List Symbol) → fine stack ≡ true → FineProduction (effects_production x terminal) stack
+effects_fine x (next.Fixed fixed.Pure) stack h = h
+effects_fine x (next.Fixed fixed.Reads) stack h = h
+effects_fine x (next.Fixed fixed.Writes) stack h = h
+effects_fine _ _ stack h = tt
 
-path_fine : (x : Bool) (y : Bool) (terminal : Terminal) (todo : List Symbol) → fine todo ≡ true → FineRow (path_row x y terminal) todo
-path_fine x y (next.Fixed fixed.Root) todo h = h
-path_fine x y next.Name todo h = h
-path_fine _ _ _ todo h = tt
+path_fine : (x : Bool) (y : Access) (terminal : Terminal) (stack : List Symbol) → fine stack ≡ true → FineProduction (path_production x y terminal) stack
+path_fine x y (next.Fixed fixed.Root) stack h = h
+path_fine x y next.Name stack h = h
+path_fine _ _ _ stack h = tt
 
-path_rest_fine : (x : Bool) (y : Bool) (terminal : Terminal) (todo : List Symbol) → fine todo ≡ true → FineRow (path_rest_row x y terminal) todo
-path_rest_fine x y (next.Fixed fixed.Colon) todo h = h
-path_rest_fine x y (next.Fixed fixed.Comma) todo h = h
-path_rest_fine x y (next.Fixed fixed.Reads) todo h = h
-path_rest_fine x y (next.Fixed fixed.Writes) todo h = h
-path_rest_fine x y (next.Fixed fixed.OpenBrace) todo h = h
-path_rest_fine _ _ _ todo h = tt
+path_rest_fine : (x : Bool) (y : Access) (terminal : Terminal) (stack : List Symbol) → fine stack ≡ true → FineProduction (path_rest_production x y terminal) stack
+path_rest_fine x y (next.Fixed fixed.Colon) stack h = h
+path_rest_fine x y (next.Fixed fixed.Comma) stack h = h
+path_rest_fine x y (next.Fixed fixed.Reads) stack h = h
+path_rest_fine x y (next.Fixed fixed.Writes) stack h = h
+path_rest_fine x y (next.Fixed fixed.OpenBrace) stack h = h
+path_rest_fine _ _ _ stack h = tt
 
-elem_fine : (terminal : Terminal) (todo : List Symbol) → fine todo ≡ true → FineRow (elem_row terminal) todo
-elem_fine next.Name todo h = h
-elem_fine (next.Fixed fixed.OpenBracket) todo h = h
-elem_fine (next.Fixed fixed.Star) todo h = h
-elem_fine _ todo h = tt
+elem_fine : (terminal : Terminal) (stack : List Symbol) → fine stack ≡ true → FineProduction (elem_production terminal) stack
+elem_fine next.Name stack h = h
+elem_fine (next.Fixed fixed.OpenBracket) stack h = h
+elem_fine (next.Fixed fixed.Star) stack h = h
+elem_fine _ stack h = tt
 
-index_fine : (terminal : Terminal) (todo : List Symbol) → fine todo ≡ true → FineRow (index_row terminal) todo
-index_fine next.Literal todo h = h
-index_fine next.Name todo h = h
-index_fine (next.Fixed fixed.Question) todo h = h
-index_fine _ todo h = tt
+index_fine : (terminal : Terminal) (stack : List Symbol) → fine stack ≡ true → FineProduction (index_production terminal) stack
+index_fine next.Literal stack h = h
+index_fine next.Name stack h = h
+index_fine (next.Fixed fixed.Question) stack h = h
+index_fine _ stack h = tt
 
-statements_fine : (x : Bool) (terminal : Terminal) (todo : List Symbol) → fine todo ≡ true → FineRow (statements_row x terminal) todo
-statements_fine x (next.Fixed fixed.CloseBrace) todo h = h
-statements_fine x (next.Fixed fixed.OpenBrace) todo h = h
-statements_fine x (next.Fixed fixed.Final) todo h = h
-statements_fine x (next.Fixed fixed.Int) todo h = h
-statements_fine x (next.Fixed fixed.Boolean) todo h = h
-statements_fine x next.Name todo h = h
-statements_fine x (next.Fixed fixed.If) todo h = h
-statements_fine x (next.Fixed fixed.While) todo h = h
-statements_fine x (next.Fixed fixed.Return) todo h = h
-statements_fine x (next.Fixed fixed.Print) todo h = h
-statements_fine true (next.Fixed fixed.Future) todo h = h
-statements_fine _ _ todo h = tt
+statements_fine : (x : Bool) (terminal : Terminal) (stack : List Symbol) → fine stack ≡ true → FineProduction (statements_production x terminal) stack
+statements_fine x (next.Fixed fixed.CloseBrace) stack h = h
+statements_fine x (next.Fixed fixed.OpenBrace) stack h = h
+statements_fine x (next.Fixed fixed.Final) stack h = h
+statements_fine x (next.Fixed fixed.Int) stack h = h
+statements_fine x (next.Fixed fixed.Boolean) stack h = h
+statements_fine x next.Name stack h = h
+statements_fine x (next.Fixed fixed.If) stack h = h
+statements_fine x (next.Fixed fixed.While) stack h = h
+statements_fine x (next.Fixed fixed.Return) stack h = h
+statements_fine x (next.Fixed fixed.Print) stack h = h
+statements_fine true (next.Fixed fixed.Future) stack h = h
+statements_fine _ _ stack h = tt
 
-local_type_fine : (x : Bool) (terminal : Terminal) (todo : List Symbol) → fine todo ≡ true → FineRow (local_type_row x terminal) todo
-local_type_fine x (next.Fixed fixed.Int) todo h = h
-local_type_fine x (next.Fixed fixed.Boolean) todo h = h
-local_type_fine _ _ todo h = tt
+local_type_fine : (x : Bool) (terminal : Terminal) (stack : List Symbol) → fine stack ≡ true → FineProduction (local_type_production x terminal) stack
+local_type_fine x (next.Fixed fixed.Int) stack h = h
+local_type_fine x (next.Fixed fixed.Boolean) stack h = h
+local_type_fine _ _ stack h = tt
 
-int_value_fine : (x : Bool) (y : Bool) (terminal : Terminal) (todo : List Symbol) → fine todo ≡ true → FineRow (int_value_row x y terminal) todo
-int_value_fine true y next.Name todo h = h
-int_value_fine x y next.Literal todo h = h
-int_value_fine x y (next.Fixed fixed.True) todo h = h
-int_value_fine x y (next.Fixed fixed.False) todo h = h
-int_value_fine false y next.Name todo h = h
-int_value_fine x y (next.Fixed fixed.OpenParen) todo h = h
-int_value_fine x y (next.Fixed fixed.Minus) todo h = h
-int_value_fine x y (next.Fixed fixed.Not) todo h = h
-int_value_fine _ _ _ todo h = tt
+int_value_fine : (x : Bool) (y : Bool) (terminal : Terminal) (stack : List Symbol) → fine stack ≡ true → FineProduction (int_value_production x y terminal) stack
+int_value_fine true y next.Name stack h = h
+int_value_fine x y next.Literal stack h = h
+int_value_fine x y (next.Fixed fixed.True) stack h = h
+int_value_fine x y (next.Fixed fixed.False) stack h = h
+int_value_fine false y next.Name stack h = h
+int_value_fine x y (next.Fixed fixed.OpenParen) stack h = h
+int_value_fine x y (next.Fixed fixed.Minus) stack h = h
+int_value_fine x y (next.Fixed fixed.Not) stack h = h
+int_value_fine _ _ _ stack h = tt
 
-after_value_name_fine : (x : Bool) (terminal : Terminal) (todo : List Symbol) → fine todo ≡ true → FineRow (after_value_name_row x terminal) todo
-after_value_name_fine x (next.Fixed fixed.Dot) todo h = h
-after_value_name_fine x (next.Fixed fixed.Semicolon) todo h = h
-after_value_name_fine x (next.Fixed fixed.OpenParen) todo h = h
-after_value_name_fine x (next.Fixed fixed.OpenBracket) todo h = h
-after_value_name_fine x (next.Fixed fixed.Or) todo h = h
-after_value_name_fine x (next.Fixed fixed.And) todo h = h
-after_value_name_fine x (next.Fixed fixed.Equal) todo h = h
-after_value_name_fine x (next.Fixed fixed.NotEqual) todo h = h
-after_value_name_fine x (next.Fixed fixed.Less) todo h = h
-after_value_name_fine x (next.Fixed fixed.LessEqual) todo h = h
-after_value_name_fine x (next.Fixed fixed.Greater) todo h = h
-after_value_name_fine x (next.Fixed fixed.GreaterEqual) todo h = h
-after_value_name_fine x (next.Fixed fixed.Plus) todo h = h
-after_value_name_fine x (next.Fixed fixed.Minus) todo h = h
-after_value_name_fine x (next.Fixed fixed.Star) todo h = h
-after_value_name_fine x (next.Fixed fixed.Slash) todo h = h
-after_value_name_fine x (next.Fixed fixed.Percent) todo h = h
-after_value_name_fine _ _ todo h = tt
+after_value_name_fine : (x : Bool) (terminal : Terminal) (stack : List Symbol) → fine stack ≡ true → FineProduction (after_value_name_production x terminal) stack
+after_value_name_fine x (next.Fixed fixed.Dot) stack h = h
+after_value_name_fine x (next.Fixed fixed.Semicolon) stack h = h
+after_value_name_fine x (next.Fixed fixed.OpenParen) stack h = h
+after_value_name_fine x (next.Fixed fixed.OpenBracket) stack h = h
+after_value_name_fine x (next.Fixed fixed.Or) stack h = h
+after_value_name_fine x (next.Fixed fixed.And) stack h = h
+after_value_name_fine x (next.Fixed fixed.Equal) stack h = h
+after_value_name_fine x (next.Fixed fixed.NotEqual) stack h = h
+after_value_name_fine x (next.Fixed fixed.Less) stack h = h
+after_value_name_fine x (next.Fixed fixed.LessEqual) stack h = h
+after_value_name_fine x (next.Fixed fixed.Greater) stack h = h
+after_value_name_fine x (next.Fixed fixed.GreaterEqual) stack h = h
+after_value_name_fine x (next.Fixed fixed.Plus) stack h = h
+after_value_name_fine x (next.Fixed fixed.Minus) stack h = h
+after_value_name_fine x (next.Fixed fixed.Star) stack h = h
+after_value_name_fine x (next.Fixed fixed.Slash) stack h = h
+after_value_name_fine x (next.Fixed fixed.Percent) stack h = h
+after_value_name_fine _ _ stack h = tt
 
-after_name_fine : (x : Bool) (terminal : Terminal) (todo : List Symbol) → fine todo ≡ true → FineRow (after_name_row x terminal) todo
-after_name_fine x (next.Fixed fixed.Assign) todo h = h
-after_name_fine x (next.Fixed fixed.OpenBracket) todo h = h
-after_name_fine x (next.Fixed fixed.OpenParen) todo h = h
-after_name_fine true (next.Fixed fixed.Dot) todo h = h
-after_name_fine _ _ todo h = tt
+after_name_fine : (x : Bool) (terminal : Terminal) (stack : List Symbol) → fine stack ≡ true → FineProduction (after_name_production x terminal) stack
+after_name_fine x (next.Fixed fixed.Assign) stack h = h
+after_name_fine x (next.Fixed fixed.OpenBracket) stack h = h
+after_name_fine x (next.Fixed fixed.OpenParen) stack h = h
+after_name_fine true (next.Fixed fixed.Dot) stack h = h
+after_name_fine _ _ stack h = tt
 
-after_index_fine : (terminal : Terminal) (todo : List Symbol) → fine todo ≡ true → FineRow (after_index_row terminal) todo
-after_index_fine (next.Fixed fixed.Assign) todo h = h
-after_index_fine (next.Fixed fixed.OpenBracket) todo h = h
-after_index_fine _ todo h = tt
+after_index_fine : (terminal : Terminal) (stack : List Symbol) → fine stack ≡ true → FineProduction (after_index_production terminal) stack
+after_index_fine (next.Fixed fixed.Assign) stack h = h
+after_index_fine (next.Fixed fixed.OpenBracket) stack h = h
+after_index_fine _ stack h = tt
 
-awaited_fine : (terminal : Terminal) (todo : List Symbol) → fine todo ≡ true → FineRow (awaited_row terminal) todo
-awaited_fine (next.Fixed fixed.GetValue) todo h = h
-awaited_fine (next.Fixed fixed.Join) todo h = h
-awaited_fine _ todo h = tt
+awaited_fine : (terminal : Terminal) (stack : List Symbol) → fine stack ≡ true → FineProduction (awaited_production terminal) stack
+awaited_fine (next.Fixed fixed.GetValue) stack h = h
+awaited_fine (next.Fixed fixed.Join) stack h = h
+awaited_fine _ stack h = tt
 
-awaited_value_fine : (x : Bool) (terminal : Terminal) (todo : List Symbol) → fine todo ≡ true → FineRow (awaited_value_row x terminal) todo
-awaited_value_fine x (next.Fixed fixed.GetValue) todo h = h
-awaited_value_fine x (next.Fixed fixed.Join) todo h = h
-awaited_value_fine _ _ todo h = tt
+awaited_value_fine : (x : Bool) (terminal : Terminal) (stack : List Symbol) → fine stack ≡ true → FineProduction (awaited_value_production x terminal) stack
+awaited_value_fine x (next.Fixed fixed.GetValue) stack h = h
+awaited_value_fine x (next.Fixed fixed.Join) stack h = h
+awaited_value_fine _ _ stack h = tt
 
-make_fine : (terminal : Terminal) (todo : List Symbol) → fine todo ≡ true → FineRow (make_row terminal) todo
-make_fine (next.Fixed fixed.Spawn) todo h = h
-make_fine (next.Fixed fixed.ExecuteLater) todo h = h
-make_fine _ todo h = tt
+make_fine : (terminal : Terminal) (stack : List Symbol) → fine stack ≡ true → FineProduction (make_production terminal) stack
+make_fine (next.Fixed fixed.Spawn) stack h = h
+make_fine (next.Fixed fixed.ExecuteLater) stack h = h
+make_fine _ stack h = tt
 
-after_arm_fine : (x : Bool) (terminal : Terminal) (todo : List Symbol) → (calm todo && fine todo) ≡ true → FineRow (after_arm_row x terminal) todo
-after_arm_fine x (next.Fixed fixed.Else) todo h = h
-after_arm_fine _ _ todo h = tt
+after_arm_fine : (x : Bool) (terminal : Terminal) (stack : List Symbol) → (calm stack && fine stack) ≡ true → FineProduction (after_arm_production x terminal) stack
+after_arm_fine x (next.Fixed fixed.Else) stack h = h
+after_arm_fine _ _ stack h = tt
 
-else_body_fine : (x : Bool) (terminal : Terminal) (todo : List Symbol) → (calm todo && fine todo) ≡ true → FineRow (else_body_row x terminal) todo
-else_body_fine x (next.Fixed fixed.If) todo h = h
-else_body_fine x (next.Fixed fixed.OpenBrace) todo h = rest_fine todo h
-else_body_fine _ _ todo h = tt
+else_body_fine : (x : Bool) (terminal : Terminal) (stack : List Symbol) → (calm stack && fine stack) ≡ true → FineProduction (else_body_production x terminal) stack
+else_body_fine x (next.Fixed fixed.If) stack h = h
+else_body_fine x (next.Fixed fixed.OpenBrace) stack h = rest_fine stack h
+else_body_fine _ _ stack h = tt
 
-return_value_fine : (terminal : Terminal) (todo : List Symbol) → fine todo ≡ true → FineRow (return_value_row terminal) todo
-return_value_fine (next.Fixed fixed.Semicolon) todo h = h
-return_value_fine next.Literal todo h = h
-return_value_fine (next.Fixed fixed.True) todo h = h
-return_value_fine (next.Fixed fixed.False) todo h = h
-return_value_fine next.Name todo h = h
-return_value_fine (next.Fixed fixed.OpenParen) todo h = h
-return_value_fine (next.Fixed fixed.Minus) todo h = h
-return_value_fine (next.Fixed fixed.Not) todo h = h
-return_value_fine _ todo h = tt
+return_value_fine : (terminal : Terminal) (stack : List Symbol) → fine stack ≡ true → FineProduction (return_value_production terminal) stack
+return_value_fine (next.Fixed fixed.Semicolon) stack h = h
+return_value_fine next.Literal stack h = h
+return_value_fine (next.Fixed fixed.True) stack h = h
+return_value_fine (next.Fixed fixed.False) stack h = h
+return_value_fine next.Name stack h = h
+return_value_fine (next.Fixed fixed.OpenParen) stack h = h
+return_value_fine (next.Fixed fixed.Minus) stack h = h
+return_value_fine (next.Fixed fixed.Not) stack h = h
+return_value_fine _ stack h = tt
 
-args_fine : (terminal : Terminal) (todo : List Symbol) → fine todo ≡ true → FineRow (args_row terminal) todo
-args_fine (next.Fixed fixed.CloseParen) todo h = h
-args_fine next.Literal todo h = h
-args_fine (next.Fixed fixed.True) todo h = h
-args_fine (next.Fixed fixed.False) todo h = h
-args_fine next.Name todo h = h
-args_fine (next.Fixed fixed.OpenParen) todo h = h
-args_fine (next.Fixed fixed.Minus) todo h = h
-args_fine (next.Fixed fixed.Not) todo h = h
-args_fine _ todo h = tt
+args_fine : (terminal : Terminal) (stack : List Symbol) → fine stack ≡ true → FineProduction (args_production terminal) stack
+args_fine (next.Fixed fixed.CloseParen) stack h = h
+args_fine next.Literal stack h = h
+args_fine (next.Fixed fixed.True) stack h = h
+args_fine (next.Fixed fixed.False) stack h = h
+args_fine next.Name stack h = h
+args_fine (next.Fixed fixed.OpenParen) stack h = h
+args_fine (next.Fixed fixed.Minus) stack h = h
+args_fine (next.Fixed fixed.Not) stack h = h
+args_fine _ stack h = tt
 
-more_args_fine : (terminal : Terminal) (todo : List Symbol) → fine todo ≡ true → FineRow (more_args_row terminal) todo
-more_args_fine (next.Fixed fixed.CloseParen) todo h = h
-more_args_fine (next.Fixed fixed.Comma) todo h = h
-more_args_fine _ todo h = tt
+more_args_fine : (terminal : Terminal) (stack : List Symbol) → fine stack ≡ true → FineProduction (more_args_production terminal) stack
+more_args_fine (next.Fixed fixed.CloseParen) stack h = h
+more_args_fine (next.Fixed fixed.Comma) stack h = h
+more_args_fine _ stack h = tt
 
-unary_fine : (terminal : Terminal) (todo : List Symbol) → (calm todo && fine todo) ≡ true → FineRow (unary_row terminal) todo
-unary_fine next.Literal todo h = rest_fine todo h
-unary_fine (next.Fixed fixed.True) todo h = rest_fine todo h
-unary_fine (next.Fixed fixed.False) todo h = rest_fine todo h
-unary_fine next.Name todo h = h
-unary_fine (next.Fixed fixed.OpenParen) todo h = rest_fine todo h
-unary_fine (next.Fixed fixed.Minus) todo h = h
-unary_fine (next.Fixed fixed.Not) todo h = twice todo h
-unary_fine _ todo h = tt
+unary_fine : (terminal : Terminal) (stack : List Symbol) → (calm stack && fine stack) ≡ true → FineProduction (unary_production terminal) stack
+unary_fine next.Literal stack h = rest_fine stack h
+unary_fine (next.Fixed fixed.True) stack h = rest_fine stack h
+unary_fine (next.Fixed fixed.False) stack h = rest_fine stack h
+unary_fine next.Name stack h = h
+unary_fine (next.Fixed fixed.OpenParen) stack h = rest_fine stack h
+unary_fine (next.Fixed fixed.Minus) stack h = h
+unary_fine (next.Fixed fixed.Not) stack h = twice stack h
+unary_fine _ stack h = tt
 
-after_minus_fine : (terminal : Terminal) (todo : List Symbol) → (calm todo && fine todo) ≡ true → FineRow (after_minus_row terminal) todo
-after_minus_fine next.Literal todo h = rest_fine todo h
-after_minus_fine (next.Fixed fixed.True) todo h = h
-after_minus_fine (next.Fixed fixed.False) todo h = h
-after_minus_fine next.Name todo h = twice todo h
-after_minus_fine (next.Fixed fixed.OpenParen) todo h = h
-after_minus_fine (next.Fixed fixed.Minus) todo h = twice todo h
-after_minus_fine (next.Fixed fixed.Not) todo h = thrice todo h
-after_minus_fine _ todo h = tt
+after_minus_fine : (terminal : Terminal) (stack : List Symbol) → (calm stack && fine stack) ≡ true → FineProduction (after_minus_production terminal) stack
+after_minus_fine next.Literal stack h = rest_fine stack h
+after_minus_fine (next.Fixed fixed.True) stack h = h
+after_minus_fine (next.Fixed fixed.False) stack h = h
+after_minus_fine next.Name stack h = twice stack h
+after_minus_fine (next.Fixed fixed.OpenParen) stack h = h
+after_minus_fine (next.Fixed fixed.Minus) stack h = twice stack h
+after_minus_fine (next.Fixed fixed.Not) stack h = thrice stack h
+after_minus_fine _ stack h = tt
 
-suffix_fine : (terminal : Terminal) (todo : List Symbol) → (calm todo && fine todo) ≡ true → FineRow (suffix_row terminal) todo
-suffix_fine (next.Fixed fixed.OpenParen) todo h = rest_fine todo h
-suffix_fine (next.Fixed fixed.OpenBracket) todo h = h
-suffix_fine _ todo h = tt
+suffix_fine : (terminal : Terminal) (stack : List Symbol) → (calm stack && fine stack) ≡ true → FineProduction (suffix_production terminal) stack
+suffix_fine (next.Fixed fixed.OpenParen) stack h = rest_fine stack h
+suffix_fine (next.Fixed fixed.OpenBracket) stack h = h
+suffix_fine _ stack h = tt
 
-second_index_fine : (terminal : Terminal) (todo : List Symbol) → (calm todo && fine todo) ≡ true → FineRow (second_index_row terminal) todo
-second_index_fine (next.Fixed fixed.OpenBracket) todo h = rest_fine todo h
-second_index_fine _ todo h = tt
+second_index_fine : (terminal : Terminal) (stack : List Symbol) → (calm stack && fine stack) ≡ true → FineProduction (second_index_production terminal) stack
+second_index_fine (next.Fixed fixed.OpenBracket) stack h = rest_fine stack h
+second_index_fine _ stack h = tt
 
-climb_by_test : (op : BinOp) (level : ℕ) (todo : List Symbol) (test : Bool) → (calm todo && fine todo) ≡ true → FineRow (if test then Some (operator_row op level) else None) todo
-climb_by_test op level todo true h = thrice todo h
-climb_by_test op level todo false h = tt
+climb_by_test : (op : BinOp) (level : ℕ) (stack : List Symbol) (test : Bool) → (calm stack && fine stack) ≡ true → FineProduction (if test then Some (operator_production op level) else None) stack
+climb_by_test op level stack true h = thrice stack h
+climb_by_test op level stack false h = tt
 
-climb_found : (level : ℕ) (found : Option BinOp) (todo : List Symbol) → (calm todo && fine todo) ≡ true → FineRow (climb_from level found) todo
-climb_found level None todo h = tt
-climb_found level (Some op) todo h = climb_by_test op level todo (nat_le level (level_of op)) h
+climb_found : (level : ℕ) (found : Option BinOp) (stack : List Symbol) → (calm stack && fine stack) ≡ true → FineProduction (climb_from level found) stack
+climb_found level None stack h = tt
+climb_found level (Some op) stack h = climb_by_test op level stack (nat_le level (level_of op)) h
 
-row_fine : (part : Part) (terminal : Terminal) (todo : List Symbol) → (need part todo && fine todo) ≡ true → FineRow (row_of part terminal) todo
-row_fine parts.Items terminal todo h = items_fine terminal todo h
-row_fine parts.MoreRegions terminal todo h = more_regions_fine terminal todo h
-row_fine parts.AfterInt terminal todo h = after_int_fine terminal todo h
-row_fine parts.AfterLength terminal todo h = after_length_fine terminal todo h
-row_fine (parts.CellPath x) terminal todo h = cell_path_fine x terminal todo h
-row_fine (parts.CellRest x) terminal todo h = cell_rest_fine x terminal todo h
-row_fine parts.CellElem terminal todo h = cell_elem_fine terminal todo h
-row_fine parts.Initial terminal todo h = initial_fine terminal todo h
-row_fine (parts.TaskReturns x) terminal todo h = task_returns_fine x terminal todo h
-row_fine parts.Params terminal todo h = params_fine terminal todo h
-row_fine parts.MoreParams terminal todo h = more_params_fine terminal todo h
-row_fine (parts.Effects x) terminal todo h = effects_fine x terminal todo h
-row_fine (parts.Path x y) terminal todo h = path_fine x y terminal todo h
-row_fine (parts.PathRest x y) terminal todo h = path_rest_fine x y terminal todo h
-row_fine parts.Elem terminal todo h = elem_fine terminal todo h
-row_fine parts.Index terminal todo h = index_fine terminal todo h
-row_fine (parts.Statements x) terminal todo h = statements_fine x terminal todo h
-row_fine (parts.LocalType x) terminal todo h = local_type_fine x terminal todo h
-row_fine (parts.IntValue x y) terminal todo h = int_value_fine x y terminal todo h
-row_fine (parts.AfterValueName x) terminal todo h = after_value_name_fine x terminal todo h
-row_fine (parts.AfterName x) terminal todo h = after_name_fine x terminal todo h
-row_fine parts.AfterIndex terminal todo h = after_index_fine terminal todo h
-row_fine parts.Awaited terminal todo h = awaited_fine terminal todo h
-row_fine (parts.AwaitedValue x) terminal todo h = awaited_value_fine x terminal todo h
-row_fine parts.Make terminal todo h = make_fine terminal todo h
-row_fine (parts.AfterArm x) terminal todo h = after_arm_fine x terminal todo h
-row_fine (parts.ElseBody x) terminal todo h = else_body_fine x terminal todo h
-row_fine parts.ReturnValue terminal todo h = return_value_fine terminal todo h
-row_fine parts.Args terminal todo h = args_fine terminal todo h
-row_fine parts.MoreArgs terminal todo h = more_args_fine terminal todo h
-row_fine parts.Unary terminal todo h = unary_fine terminal todo h
-row_fine parts.AfterMinus terminal todo h = after_minus_fine terminal todo h
-row_fine parts.Suffix terminal todo h = suffix_fine terminal todo h
-row_fine parts.SecondIndex terminal todo h = second_index_fine terminal todo h
-row_fine (parts.Climb x) terminal todo h = climb_found x (operator_of terminal) todo h
+production_fine : (nonterminal : Nonterminal) (terminal : Terminal) (stack : List Symbol) → (need nonterminal stack && fine stack) ≡ true → FineProduction (production_of nonterminal terminal) stack
+production_fine nonterminals.Items terminal stack h = items_fine terminal stack h
+production_fine nonterminals.MoreRegions terminal stack h = more_regions_fine terminal stack h
+production_fine nonterminals.AfterInt terminal stack h = after_int_fine terminal stack h
+production_fine nonterminals.AfterLength terminal stack h = after_length_fine terminal stack h
+production_fine (nonterminals.CellPath x) terminal stack h = cell_path_fine x terminal stack h
+production_fine (nonterminals.CellRest x) terminal stack h = cell_rest_fine x terminal stack h
+production_fine nonterminals.CellElem terminal stack h = cell_elem_fine terminal stack h
+production_fine nonterminals.Initial terminal stack h = initial_fine terminal stack h
+production_fine (nonterminals.TaskReturns x) terminal stack h = task_returns_fine x terminal stack h
+production_fine nonterminals.Params terminal stack h = params_fine terminal stack h
+production_fine nonterminals.MoreParams terminal stack h = more_params_fine terminal stack h
+production_fine (nonterminals.Effects x) terminal stack h = effects_fine x terminal stack h
+production_fine (nonterminals.Path x y) terminal stack h = path_fine x y terminal stack h
+production_fine (nonterminals.PathRest x y) terminal stack h = path_rest_fine x y terminal stack h
+production_fine nonterminals.Elem terminal stack h = elem_fine terminal stack h
+production_fine nonterminals.Index terminal stack h = index_fine terminal stack h
+production_fine (nonterminals.Statements x) terminal stack h = statements_fine x terminal stack h
+production_fine (nonterminals.LocalType x) terminal stack h = local_type_fine x terminal stack h
+production_fine (nonterminals.IntValue x y) terminal stack h = int_value_fine x y terminal stack h
+production_fine (nonterminals.AfterValueName x) terminal stack h = after_value_name_fine x terminal stack h
+production_fine (nonterminals.AfterName x) terminal stack h = after_name_fine x terminal stack h
+production_fine nonterminals.AfterIndex terminal stack h = after_index_fine terminal stack h
+production_fine nonterminals.Awaited terminal stack h = awaited_fine terminal stack h
+production_fine (nonterminals.AwaitedValue x) terminal stack h = awaited_value_fine x terminal stack h
+production_fine nonterminals.Make terminal stack h = make_fine terminal stack h
+production_fine (nonterminals.AfterArm x) terminal stack h = after_arm_fine x terminal stack h
+production_fine (nonterminals.ElseBody x) terminal stack h = else_body_fine x terminal stack h
+production_fine nonterminals.ReturnValue terminal stack h = return_value_fine terminal stack h
+production_fine nonterminals.Args terminal stack h = args_fine terminal stack h
+production_fine nonterminals.MoreArgs terminal stack h = more_args_fine terminal stack h
+production_fine nonterminals.Unary terminal stack h = unary_fine terminal stack h
+production_fine nonterminals.AfterMinus terminal stack h = after_minus_fine terminal stack h
+production_fine nonterminals.Suffix terminal stack h = suffix_fine terminal stack h
+production_fine nonterminals.SecondIndex terminal stack h = second_index_fine terminal stack h
+production_fine (nonterminals.Climb x) terminal stack h = climb_found x (operator_of terminal) stack h
 
 the_machine : {machine other : Machine} → ◌≡◌ {A = Option Machine} (Some machine) (Some other) → machine ≡ other
 the_machine h = cc
@@ -323,23 +324,23 @@ the_machine h = cc
 no_machine : {machine : Machine} → ◌≡◌ {A = Option Machine} None (Some machine) → ⊥
 no_machine h = cc
 
-expected_fine : (test : Bool) (token : Token) (todo : List Symbol) (work : Work) (machine : Machine) → expected test token todo work ≡ Some machine → fine todo ≡ true → fine machine.0 ≡ true
-expected_fine true token todo work machine is h = ap (λ (m : Machine). fine m.0) (sym (the_machine is)) ∙ h
-expected_fine false token todo work machine is h = absurd (no_machine is)
+expected_fine : (test : Bool) (token : Token) (stack : List Symbol) (values : ValueStacks) (machine : Machine) → expected test token stack values ≡ Some machine → fine stack ≡ true → fine machine.0 ≡ true
+expected_fine true token stack values machine is h = ap (λ (m : Machine). fine m.0) (sym (the_machine is)) ∙ h
+expected_fine false token stack values machine is h = absurd (no_machine is)
 
-by_row_fine : (found : Option Row) (skip : Option Act) (token : Token) (todo : List Symbol) (work : Work) (left : Work → Option Machine) (machine : Machine)
-    → FineRow found todo → ((act : Act) → left (acted act work) ≡ Some machine → fine machine.0 ≡ true) → by_row found skip token todo work left ≡ Some machine → fine machine.0 ≡ true
-by_row_fine (Some row) skip token todo work left machine h others is = ap (λ (m : Machine). fine m.0) (sym (the_machine is)) ∙ h
-by_row_fine None (Some act) token todo work left machine h others is = others act is
-by_row_fine None None token todo work left machine h others is = absurd (no_machine is)
+by_production_fine : (found : Option Production) (skip : Option Action) (token : Token) (stack : List Symbol) (values : ValueStacks) (left : ValueStacks → Option Machine) (machine : Machine)
+    → FineProduction found stack → ((action : Action) → left (performed action values) ≡ Some machine → fine machine.0 ≡ true) → by_production found skip token stack values left ≡ Some machine → fine machine.0 ≡ true
+by_production_fine (Some production) skip token stack values left machine h others is = ap (λ (m : Machine). fine m.0) (sym (the_machine is)) ∙ h
+by_production_fine None (Some action) token stack values left machine h others is = others action is
+by_production_fine None None token stack values left machine h others is = absurd (no_machine is)
 
--- each token leaves it so
-pub after_fine : (token : Token) (todo : List Symbol) (work : Work) (machine : Machine) → after token todo work ≡ Some machine → fine todo ≡ true → fine machine.0 ≡ true
-after_fine token [] work machine is h = absurd (no_machine is)
-after_fine token (symbols.Name ∷ todo) work machine is h = expected_fine (meets symbols.Name (terminal_of token.kind)) token todo work machine is h
-after_fine token (symbols.Literal ∷ todo) work machine is h = expected_fine (meets symbols.Literal (terminal_of token.kind)) token todo work machine is h
-after_fine token (symbols.Token f ∷ todo) work machine is h = expected_fine (meets (symbols.Token f) (terminal_of token.kind)) token todo work machine is h
-after_fine token (symbols.Rule part ∷ todo) work machine is h =
-    by_row_fine (row_of part (terminal_of token.kind)) (otherwise part) token todo work (λ left. after token todo left) machine (row_fine part (terminal_of token.kind) todo h)
-    (λ act found. after_fine token todo (acted act work) machine found (and_parts (need part todo) (fine todo) h).1) is
-after_fine token (symbols.Do act ∷ todo) work machine is h = after_fine token todo (acted act work) machine is h
+-- each token keeps the condition
+pub after_fine : (token : Token) (stack : List Symbol) (values : ValueStacks) (machine : Machine) → after token stack values ≡ Some machine → fine stack ≡ true → fine machine.0 ≡ true
+after_fine token [] values machine is h = absurd (no_machine is)
+after_fine token (symbols.Name ∷ stack) values machine is h = expected_fine (meets symbols.Name (terminal_of token.kind)) token stack values machine is h
+after_fine token (symbols.Literal ∷ stack) values machine is h = expected_fine (meets symbols.Literal (terminal_of token.kind)) token stack values machine is h
+after_fine token (symbols.Token f ∷ stack) values machine is h = expected_fine (meets (symbols.Token f) (terminal_of token.kind)) token stack values machine is h
+after_fine token (symbols.Expand nonterminal ∷ stack) values machine is h =
+    by_production_fine (production_of nonterminal (terminal_of token.kind)) (epsilon_action nonterminal) token stack values (λ left. after token stack left) machine (production_fine nonterminal (terminal_of token.kind) stack h)
+    (λ action found. after_fine token stack (performed action values) machine found (and_parts (need nonterminal stack) (fine stack) h).1) is
+after_fine token (symbols.Perform action ∷ stack) values machine is h = after_fine token stack (performed action values) machine is h

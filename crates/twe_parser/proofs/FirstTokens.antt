@@ -1,4 +1,4 @@
--- What the first tokens of an expression can be.
+-- The first tokens of expressions.
 use Rattle.std.proofs.Common.{◌≡◌, ℕ, Bool, true, false, List, [], ◌∷◌, not, refl, sym, ap}
 use Rattle.std.proofs.lemmas.Bool.{false≢true}
 use Rattle.twe_ast.specs.declared.expr.BinOp.{BinOp}
@@ -6,17 +6,17 @@ use Rattle.twe_ast.specs.declared.expr.BinOp.TheVariants as operators
 use Rattle.twe_ast.specs.Expression.{Expression, Shape}
 use Rattle.twe_lexer.specs.declared.fixed.Fixed.TheVariants as fixed
 use Rattle.twe_lexer.specs.declared.token.Token.{Token}
-use Rattle.twe_parser.specs.declared.symbol.Act.TheVariants.{Expr, Stmt}
-use Rattle.twe_parser.specs.declared.symbol.ExprAct.TheVariants as exprs
-use Rattle.twe_parser.specs.declared.symbol.Part.TheVariants as parts
-use Rattle.twe_parser.specs.declared.symbol.StmtAct.TheVariants as stmts
+use Rattle.twe_parser.specs.declared.symbol.Action.TheVariants.{Expr, Stmt}
+use Rattle.twe_parser.specs.declared.symbol.ExprAction.TheVariants as exprs
+use Rattle.twe_parser.specs.declared.symbol.Nonterminal.TheVariants as nonterminals
+use Rattle.twe_parser.specs.declared.symbol.StmtAction.TheVariants as stmts
 use Rattle.twe_parser.specs.declared.symbol.Symbol.TheVariants as symbols
 use Rattle.twe_parser.specs.declared.symbol.Terminal.{Terminal}
 use Rattle.twe_parser.specs.declared.symbol.Terminal.TheVariants as next
 use Rattle.twe_ast.specs.declared.stmt.LocalType.TheVariants as locals
 use Rattle.twe_parser.specs.OperatorTokens.{operator}
 use Rattle.twe_parser.specs.WritesExpression.{WritesExpression, written, WritesShape, binary, negative, smallest, negation, literal, yes, no, variable, call, array, grid, parentheses}
-use Rattle.twe_parser.specs.inner.Rows.{followed, unary_row, args_row, return_value_row, int_value_row}
+use Rattle.twe_parser.specs.inner.Productions.{followed, unary_production, args_production, return_value_production, int_value_production}
 use Rattle.twe_io.specs.Stacks.{below}
 use Rattle.twe_parser.specs.inner.Terminals.{terminal_of}
 
@@ -53,12 +53,12 @@ mutual
   shape_begins (grid row column) = refl
   shape_begins (parentheses inside) = refl
 
--- so these parts go on as an operand does
-pub args_begin : (terminal : Terminal) → begins_operand terminal ≡ true → args_row terminal ≡ followed (unary_row terminal) (symbols.Rule (parts.Climb 0) ∷ symbols.Do (Expr exprs.KeepArg) ∷ symbols.Rule parts.MoreArgs ∷ [])
+-- so these nonterminals begin as an operand does
+pub args_begin : (terminal : Terminal) → begins_operand terminal ≡ true → args_production terminal ≡ followed (unary_production terminal) (symbols.Expand (nonterminals.Climb 0) ∷ symbols.Perform (Expr exprs.KeepArg) ∷ symbols.Expand nonterminals.MoreArgs ∷ [])
 args_begin (next.Fixed fixed.CloseParen) begins = absurd (false≢true begins)
 args_begin _ begins = refl
 
-pub return_begins : (terminal : Terminal) → begins_operand terminal ≡ true → return_value_row terminal ≡ followed (unary_row terminal) (symbols.Rule (parts.Climb 0) ∷ symbols.Token fixed.Semicolon ∷ symbols.Do (Stmt stmts.Return) ∷ [])
+pub return_begins : (terminal : Terminal) → begins_operand terminal ≡ true → return_value_production terminal ≡ followed (unary_production terminal) (symbols.Expand (nonterminals.Climb 0) ∷ symbols.Token fixed.Semicolon ∷ symbols.Perform (Stmt stmts.Return) ∷ [])
 return_begins (next.Fixed fixed.Semicolon) begins = absurd (false≢true begins)
 return_begins _ begins = refl
 
@@ -68,7 +68,7 @@ is_name next.Name = true
 is_name _ = false
 
 pub value_begins : (terminal : Terminal) (is_final : Bool) → is_name terminal ≡ false →
-    int_value_row true is_final terminal ≡ followed (unary_row terminal) (symbols.Rule (parts.Climb 0) ∷ symbols.Token fixed.Semicolon ∷ symbols.Do (Stmt (stmts.Let is_final locals.Int)) ∷ [])
+    int_value_production true is_final terminal ≡ followed (unary_production terminal) (symbols.Expand (nonterminals.Climb 0) ∷ symbols.Token fixed.Semicolon ∷ symbols.Perform (Stmt (stmts.Let is_final locals.Int)) ∷ [])
 value_begins next.Name is_final other = absurd (false≢true (sym other))
 value_begins _ is_final other = refl
 

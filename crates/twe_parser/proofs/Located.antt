@@ -1,4 +1,4 @@
--- Where a failure of a text can stand, once a part of the text has been read in which nothing fails.
+-- The places of failures in a text of which a part has been read without a failure.
 use Rattle.std.proofs.Common.{◌≡◌, ℕ, ◌+◌, ◌⊎◌, inl, inr, true, false, List, [], ◌∷◌, ◌++◌, length, take, refl, sym, ap, ◌∙◌, subst, arith}
 use Rattle.std.specs.List.{AllByRecursion, list_all}
 use Rattle.std.proofs.lemmas.Bool.{false≢true, and_parts}
@@ -77,7 +77,7 @@ module _ (text : List ℕ) (place : Place) (rest : List ℕ) (parser : Parser) (
   -- no token that was read fails
   no_failure : (rule : SRule) (before : List Token) (token : Token) (others : List Token) → tokens_from [] read.lexemes ≡ before ++ token ∷ others → FailsToken rule before token → ⊥
   no_failure S2 before token others is fails =
-      let begins = viable (tokens_from [] read.lexemes) parser.machine.todo parser.machine.work read.taken in
+      let begins = viable (tokens_from [] read.lexemes) parser.machine.stack parser.machine.values read.taken in
       fails.1 (
         begins.0,
         others ++ begins.1,
@@ -135,7 +135,7 @@ module _ (text : List ℕ) (place : Place) (rest : List ℕ) (parser : Parser) (
       by_cuts (inr (first ∷ more, is, (later, found, cut))) =
           absurd (all_at (λ lexeme. ¬ IsUnclosedComment lexeme) begins.lexemes first more (subst (λ (all : List (List ℕ)). AllByRecursion (λ lexeme. ¬ IsUnclosedComment lexeme) all) is read.closed) (first_unclosed first its later found comment))
 
-  -- every failure stands in the rest
+  -- every failure is in the rest
   pub located : (rule : SRule) (at : Place) → Fails text rule at → Located text rest read.lexemes rule at
   located rule at (byte before after code split bad) = in_rest (not_inside (concat read.lexemes) rest before after code read.allowed (sym (cut_split read.lexemes text rest read.cut) ∙ split) bad)
     where

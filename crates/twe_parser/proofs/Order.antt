@@ -1,4 +1,4 @@
--- Which failure of a text comes first, once a part of the text has been read in which nothing fails.
+-- The first failure of a text of which a part has been read without a failure.
 use Rattle.std.proofs.Common.{◌≡◌, ℕ, ◌<◌, ◌≤◌, inl, inr, ⊎_elim, Bool, true, false, List, [], ◌∷◌, ◌++◌, zero, suc, length, get_or, take, drop, refl, sym, ap, ◌∙◌, subst, arith}
 use Rattle.std.specs.List.{AllByRecursion, list_all, list_any}
 use Rattle.std.specs.Char.{is_ascii_digit}
@@ -22,7 +22,7 @@ use Rattle.twe_parser.specs.inner.Reading.{concat}
 use Rattle.twe_parser.proofs.Cuts.{no_lexeme, one_first, cut_split, precedes}
 use Rattle.twe_parser.proofs.Located.{FailsToken, token_of, Located, at_byte, at_token, at_end, at_comment, not_inside, first_unclosed}
 
--- bytes that are not none
+-- at least one byte
 later : (before front : List ℕ) → 0 < length front → Precedes (place_after before) (place_after (before ++ front))
 later before [] some = absurd (omega arith)
 later before (code ∷ front) some = precedes before code front

@@ -1,4 +1,4 @@
--- The parser's steps through a text, and its answers.
+-- The parser's steps through a text, and its results.
 use Rattle.std.proofs.Common.{◌≡◌, ℕ, ◌+◌, ◌-◌, ◌<◌, ◌≤◌, ◌⊎◌, inl, inr, Bool, true, false, not, ◌&&◌, ◌||◌, nat_le, nat_lt, List, [], ◌∷◌, ◌++◌, Option, None, Some, Result, Ok, Err, suc, length, get_or, take, drop, drop-cons, refl, sym, ap, ◌∙◌, subst, arith}
 use Rattle.std.specs.Prelude.{if◌then◌else◌, count_by, IfOk, IfErr}
 use Rattle.std.specs.List.{list_all, suffix_len}
@@ -43,7 +43,7 @@ no_token [] token others is = cc
 no_token (first ∷ before) token others is = cc
 
 -- nothing is read yet
-pub nothing_read : (text : List ℕ) (place : Place) (parser : Parser) → place ≡ place_after [] → ◌≡◌ {A = Machine} (parser.machine.todo, parser.machine.work) start → parser.sofar ≡ at_start → HasRead text place text parser
+pub nothing_read : (text : List ℕ) (place : Place) (parser : Parser) → place ≡ place_after [] → ◌≡◌ {A = Machine} (parser.machine.stack, parser.machine.values) start → parser.sofar ≡ at_start → HasRead text place text parser
 nothing_read text place parser place_is machine sofar = record {
   lexemes = [];
   cut = refl;
@@ -122,14 +122,14 @@ room_counted false true true n shallow is = grind (arith, nat_tests)
 room_counted false true false n shallow is = absurd (false≢true is)
 room_counted false false inside n shallow is = absurd (false≢true is)
 
--- the counts stay small where nothing is too deep
+-- the counts stay within the limits if none is exceeded
 small_after : (sofar : Sofar) (kind : TokenKind) → is_too_deep sofar kind ≡ false → sofar.open_brackets ≤ 200 → sofar.operators ≤ 200 → ((sofar_after sofar kind).open_brackets ≤ 200) × ((sofar_after sofar kind).operators ≤ 200)
 small_after sofar kind shallow brackets operators = (
   opened_small (opens kind) (closes kind) (is_too_deep sofar kind) sofar.open_brackets shallow brackets (λ is deep. room_left (opens kind) sofar.open_brackets _ shallow is),
   counted_small (ends_statement kind) (is_operator kind && nat_lt 0 sofar.open_brackets) sofar.operators operators (λ is. room_counted (opens kind && nat_le 200 sofar.open_brackets) (is_operator kind) (nat_lt 0 sofar.open_brackets) sofar.operators shallow is),
 )
 
--- the tokens after one lexeme more
+-- the tokens after one more lexeme
 gap_tokens : (lexemes : List (List ℕ)) (bytes : List ℕ) → is_gap bytes ≡ true → tokens_from [] (lexemes ++ bytes ∷ []) ≡ tokens_from [] lexemes
 gap_tokens lexemes bytes gap =
     tokens_from_append [] lexemes (bytes ∷ []) ∙ ap (λ more. tokens_from [] lexemes ++ more) (cond-true (is_gap bytes) _ _ gap) ∙ append-nil (tokens_from [] lexemes)
@@ -153,7 +153,7 @@ module _ (text : List ℕ) (place : Place) (rest : List ℕ) (parser : Parser) (
       ap (list_all is_allowed) (concat_snoc read.lexemes (take lexeme.len rest)) ∙ list_all-append is_allowed (concat read.lexemes) (take lexeme.len rest)
       ∙ and_from (list_all is_allowed (concat read.lexemes)) (list_all is_allowed (take lexeme.len rest)) read.allowed opens_it.allowed
 
-  -- a blank or a comment more
+  -- one more blank or comment
   pub gap_read : (next : Place) → Moves next → lexeme.token ≡ None → HasRead text next (drop lexeme.len rest) parser
   gap_read next moves none =
       let gap = no_kind (take lexeme.len rest) (is_gap (take lexeme.len rest)) refl (sym none ∙ opens_it.token) in
@@ -163,7 +163,7 @@ module _ (text : List ℕ) (place : Place) (rest : List ℕ) (parser : Parser) (
         place_is = next_is next moves;
         allowed = allowed_more;
         closed = all_snoc (λ l. ¬ IsUnclosedComment l) read.lexemes (take lexeme.len rest) read.closed opens_it.closed;
-        taken = subst (λ (tokens : List Token). HasTaken tokens parser.machine.todo parser.machine.work) (sym same) read.taken;
+        taken = subst (λ (tokens : List Token). HasTaken tokens parser.machine.stack parser.machine.values) (sym same) read.taken;
         limits = read.limits ∙ ap sofar_of (sym same);
         brackets = read.brackets;
         operators = read.operators;
@@ -177,7 +177,7 @@ module _ (text : List ℕ) (place : Place) (rest : List ℕ) (parser : Parser) (
   same_token : (kind : TokenKind) → lexeme.token ≡ Some kind → ◌≡◌ {A = Token} (record { kind = kind; place = place }) (token_of (concat read.lexemes) (take lexeme.len rest))
   same_token kind is = λ i. record { kind = (the_token kind is).1 i; place = read.place_is i }
 
-  -- a token more
+  -- one more token
   pub token_read : (next : Place) → Moves next → (kind : TokenKind) (parser' : Parser) → lexeme.token ≡ Some kind → Takes (record { kind = kind; place = place }) parser parser' → HasRead text next (drop lexeme.len rest) parser'
   token_read next moves kind parser' is takes =
       let token = (the_token kind is).0 in
@@ -192,8 +192,8 @@ module _ (text : List ℕ) (place : Place) (rest : List ℕ) (parser : Parser) (
         place_is = next_is next moves;
         allowed = allowed_more;
         closed = all_snoc (λ l. ¬ IsUnclosedComment l) read.lexemes (take lexeme.len rest) read.closed opens_it.closed;
-        taken = subst (λ (tokens : List Token). HasTaken tokens parser'.machine.todo parser'.machine.work) (sym same)
-            (token_more (tokens_from [] read.lexemes) parser.machine.todo parser.machine.work (record { kind = kind; place = place }) (parser'.machine.todo, parser'.machine.work) read.taken takes.machine);
+        taken = subst (λ (tokens : List Token). HasTaken tokens parser'.machine.stack parser'.machine.values) (sym same)
+            (token_more (tokens_from [] read.lexemes) parser.machine.stack parser.machine.values (record { kind = kind; place = place }) (parser'.machine.stack, parser'.machine.values) read.taken takes.machine);
         limits = takes.sofar ∙ ap (λ (s : Sofar). sofar_after s kind) read.limits ∙ sym (ap sofar_of same ∙ sofar_snoc (tokens_from [] read.lexemes) (record { kind = kind; place = place }));
         brackets = subst (λ (s : Sofar). s.open_brackets ≤ 200) (sym takes.sofar) bounds.0;
         operators = subst (λ (s : Sofar). s.operators ≤ 200) (sym takes.sofar) bounds.1;
@@ -230,14 +230,14 @@ module _ (text : List ℕ) (place : Place) (rest : List ℕ) (parser : Parser) (
         (λ its_rule its_fails. lowest its_rule (subst (λ (t : Token). FailsToken its_rule (tokens_from [] read.lexemes) t) (sym (same_token kind is)) its_fails)) other its (located text place rest parser read other its found));
   }
 
-  viable_so : (kind : TokenKind) (machine : Machine) → after (record { kind = kind; place = place }) parser.machine.todo parser.machine.work ≡ Some machine → IsViable (tokens_from [] read.lexemes ++ (record { kind = kind; place = place }) ∷ [])
+  viable_so : (kind : TokenKind) (machine : Machine) → after (record { kind = kind; place = place }) parser.machine.stack parser.machine.values ≡ Some machine → IsViable (tokens_from [] read.lexemes ++ (record { kind = kind; place = place }) ∷ [])
   viable_so kind machine is =
-      viable (tokens_from [] read.lexemes ++ (record { kind = kind; place = place }) ∷ []) machine.0 machine.1 (token_more (tokens_from [] read.lexemes) parser.machine.todo parser.machine.work (record { kind = kind; place = place }) machine read.taken is)
+      viable (tokens_from [] read.lexemes ++ (record { kind = kind; place = place }) ∷ []) machine.0 machine.1 (token_more (tokens_from [] read.lexemes) parser.machine.stack parser.machine.values (record { kind = kind; place = place }) machine read.taken is)
 
   token_by : (kind : TokenKind) (rule : SRule) → lexeme.token ≡ Some kind → RefusesBy rule (record { kind = kind; place = place }) parser → IsRefusal text rule place
   token_by kind S2 is none = refusal_at kind S2 is
       (stray (tokens_from [] read.lexemes) (record { kind = kind; place = place }) (drop lexeme.len rest) (begins_here kind is)
-      (viable (tokens_from [] read.lexemes) parser.machine.todo parser.machine.work read.taken) (stray_token (tokens_from [] read.lexemes) parser.machine.todo parser.machine.work (record { kind = kind; place = place }) read.taken none))
+      (viable (tokens_from [] read.lexemes) parser.machine.stack parser.machine.values read.taken) (stray_token (tokens_from [] read.lexemes) parser.machine.stack parser.machine.values (record { kind = kind; place = place }) read.taken none))
       lowest
     where
       lowest : (other : SRule) → FailsToken other (tokens_from [] read.lexemes) (record { kind = kind; place = place }) → 2 ≤ rank other
@@ -314,8 +314,8 @@ module _ (text : List ℕ) (end : Place) (parser : Parser) (read : HasRead text 
 
   pub end_refused : (fail : ParseFail) → EndsEarly fail end parser → Refuses fail text
   end_refused (fails.Syntax S3 place) (is, none) = subst (λ (p : Place). IsRefusal text S3 p) (sym (is ∙ end_is)) (record {
-    fails = unfinished (tokens_from [] read.lexemes) (record { lexemes = read.lexemes; cut = read.cut; same = refl }) (viable (tokens_from [] read.lexemes) parser.machine.todo parser.machine.work read.taken)
-        (not_whole (tokens_from [] read.lexemes) parser.machine.todo parser.machine.work read.taken none);
+    fails = unfinished (tokens_from [] read.lexemes) (record { lexemes = read.lexemes; cut = read.cut; same = refl }) (viable (tokens_from [] read.lexemes) parser.machine.stack parser.machine.values read.taken)
+        (not_whole (tokens_from [] read.lexemes) parser.machine.stack parser.machine.values read.taken none);
     first = λ other its found. let only = only_at_end other its (located text end [] parser read other its found) in inr (sym only.1, subst (λ (r : SRule). 3 ≤ rank r) (sym only.0) (omega arith));
   })
   end_refused (fails.Syntax _ place) early = absurd early
@@ -325,13 +325,13 @@ module _ (text : List ℕ) (end : Place) (parser : Parser) (read : HasRead text 
   end_accepted tree whole = (
     tokens_from [] read.lexemes,
     record { lexemes = read.lexemes; cut = read.cut; same = refl },
-    subst (λ (all : List Item). WritesItems all (tokens_from [] read.lexemes)) (sym whole.items) (whole_program (tokens_from [] read.lexemes) parser.machine.todo parser.machine.work whole.work read.taken whole.whole),
+    subst (λ (all : List Item). WritesItems all (tokens_from [] read.lexemes)) (sym whole.items) (whole_program (tokens_from [] read.lexemes) parser.machine.stack parser.machine.values whole.values read.taken whole.whole),
   )
 
   pub end_fails_nothing : (tree : Ast) → EndsWhole tree end parser → (rule : SRule) (place : Place) → ¬ Fails text rule place
   end_fails_nothing tree whole rule place fails_so =
       let only = only_at_end rule place (located text end [] parser read rule place fails_so) in
-      only.2 (record { items = whole.work.items; end = end }, whole_program (tokens_from [] read.lexemes) parser.machine.todo parser.machine.work whole.work read.taken whole.whole)
+      only.2 (record { items = whole.values.items; end = end }, whole_program (tokens_from [] read.lexemes) parser.machine.stack parser.machine.values whole.values read.taken whole.whole)
 
 -- the first lexeme has some bytes
 pub shrinks : (rest : List ℕ) (lexeme : Lexeme) → Opens lexeme rest → length (drop lexeme.len rest) < length rest

@@ -1,4 +1,4 @@
--- The rules of the text, and where they fail.
+-- The rules of the text, and the places where a text fails them.
 use Rattle.std.specs.Prelude.{◌≡◌, ℕ, ◌≤◌, ◌⊎◌, true, false, List, [], ◌∷◌, ◌++◌}
 use Rattle.twe_io.specs.declared.place.Place.{Place}
 use Rattle.twe_lexer.specs.declared.token.Token.{Token}
@@ -14,17 +14,17 @@ use Rattle.twe_parser.specs.Viable.{IsProgram, IsViable}
 
 -- The text fails this rule at this place.
 pub data Fails (text : List ℕ) : SRule → Place → Type 0 where
-  -- a byte that may not stand in a text
+  -- a byte that is not allowed in a text
   byte : (before after : List ℕ) (code : ℕ) → text ≡ before ++ code ∷ after → is_allowed code ≡ false → Fails text S1 (place_after before)
-  -- a token that has no place: no program's tokens begin with those up to it
+  -- a token such that a program begins with the tokens before it, but none begins with those up to it
   stray : (before : List Token) (token : Token) (rest : List ℕ) → BeginsWith text (before ++ token ∷ []) rest → IsViable before → ¬ IsViable (before ++ token ∷ []) → Fails text S2 token.place
-  -- the end of the text, where its tokens are those that a program begins with, and no program's
+  -- the end of the text, if a program begins with its tokens but they are not a whole program
   unfinished : (tokens : List Token) → BeginsWith text tokens [] → IsViable tokens → ¬ IsProgram tokens → Fails text S3 (place_after text)
   -- a literal that is too large
   too_large : (before : List Token) (token : Token) (rest : List ℕ) → BeginsWith text (before ++ token ∷ []) rest → is_too_large (sofar_of before) token.kind ≡ true → Fails text S4 token.place
-  -- a bracket that opens too deep, or an operator too many
+  -- one open bracket too many, or one operator too many
   too_deep : (before : List Token) (token : Token) (rest : List ℕ) → BeginsWith text (before ++ token ∷ []) rest → is_too_deep (sofar_of before) token.kind ≡ true → Fails text S5 token.place
-  -- a comment that has no end
+  -- a comment without an end
   unclosed : (before rest : List ℕ) (tokens : List Token) → text ≡ before ++ rest → BeginsWith text tokens rest → IsUnclosedComment rest → Fails text S6 (place_after before)
 
 abbrev pub rank : SRule → ℕ
@@ -35,11 +35,11 @@ rank S4 = 4
 rank S5 = 5
 rank S6 = 6
 
--- one failure is to be told before another: it stands earlier, or at the same place with no higher number
+-- the first failure is reported rather than the second: its place is earlier, or the same and its rule has no higher number
 abbrev pub ComesFirst : SRule → Place → SRule → Place → Type 0
 ComesFirst rule place other its = Precedes place its ⊎ ((place ≡ its) × (rank rule ≤ rank other))
 
--- the failure of the text that is told: the first one
+-- the failure that is reported: the first one
 pub record IsRefusal (text : List ℕ) (rule : SRule) (place : Place) : Type 0 where
   pub fails : Fails text rule place
   pub first : (other : SRule) (its : Place) → Fails text other its → ComesFirst rule place other its

@@ -20,7 +20,7 @@ closes (kinds.Fixed fixed.CloseParen) = true
 closes (kinds.Fixed fixed.CloseBracket) = true
 closes _ = false
 
--- the operators that are counted
+-- the operators that count towards the limit
 abbrev pub is_operator : TokenKind → Bool
 is_operator (kinds.Fixed fixed.Or) = true
 is_operator (kinds.Fixed fixed.And) = true
@@ -38,7 +38,7 @@ is_operator (kinds.Fixed fixed.Percent) = true
 is_operator (kinds.Fixed fixed.Not) = true
 is_operator _ = false
 
--- `;`, and the braces: after them another statement begins, or an arm of an `if` with a count of its own
+-- `;`, `{` and `}`: after them the count of operators restarts
 abbrev pub ends_statement : TokenKind → Bool
 ends_statement (kinds.Fixed fixed.Semicolon) = true
 ends_statement (kinds.Fixed fixed.OpenBrace) = true
@@ -59,8 +59,8 @@ abbrev pub is_minus : TokenKind → Bool
 is_minus (kinds.Fixed fixed.Minus) = true
 is_minus _ = false
 
--- Brackets that open and close; operators inside brackets, since those outside are no statement's; whether an operand
--- ended just now; and whether this was a `-` with no operand before it.
+-- The counts after one more token: the open brackets; the operators of the statement, where only those inside brackets
+-- count; whether the token can end an operand; and whether it is a `-` without an operand before it.
 abbrev pub sofar_after : Sofar → TokenKind → Sofar
 sofar_after sofar kind = record {
   open_brackets = if opens kind then sofar.open_brackets + 1 else if closes kind then sofar.open_brackets - 1 else sofar.open_brackets;
@@ -72,7 +72,7 @@ sofar_after sofar kind = record {
 abbrev pub at_start : Sofar
 at_start = record { open_brackets = 0; operators = 0; operand_ended = false; unary_minus = false }
 
--- what these tokens come to
+-- the counts after these tokens
 abbrev pub sofar_of : List Token → Sofar
 sofar_of tokens = fold (λ sofar token. sofar_after sofar token.kind) at_start tokens
 
@@ -81,6 +81,6 @@ abbrev pub is_too_large : Sofar → TokenKind → Bool
 is_too_large sofar (kinds.Literal value) = nat_lt max_literal value && not ((value == max_literal + 1) && sofar.unary_minus)
 is_too_large sofar _ = false
 
--- a bracket that opens while the largest number are open, or one operator more than a statement may have
+-- one open bracket too many, or one operator too many in a statement
 abbrev pub is_too_deep : Sofar → TokenKind → Bool
 is_too_deep sofar kind = (opens kind && nat_le max_open_brackets sofar.open_brackets) || (is_operator kind && nat_lt 0 sofar.open_brackets && nat_le max_operators sofar.operators)

@@ -1,4 +1,4 @@
--- The grammar: which tokens a program's tree is written by. One case for each production.
+-- The grammar, as a relation between trees and tokens, with one case for each production.
 use Rattle.std.specs.Prelude.{ℕ, Bool, true, false, Option, None, Some, List, [], ◌∷◌}
 use Rattle.twe_io.specs.declared.place.Place.{Place}
 use Rattle.twe_ast.specs.declared.item.Ast.{Ast}
@@ -119,6 +119,6 @@ pub data WritesItems : List Item → List Token → Type 0 where
   more_items : {first : Item} {others : List Item} {tokens more : List Token}
       → WritesItem first tokens more → WritesItems others more → WritesItems (first ∷ others) tokens
 
--- The tokens are those of the program's tree. The place of the end of the text is no token's.
+-- The tokens are those of the tree of a program. They do not determine the place of the end of the text.
 abbrev pub Writes : Ast → List Token → Type 0
 Writes tree tokens = WritesItems tree.items tokens

@@ -1,9 +1,9 @@
--- How expressions are written.
+-- The grammar of expressions.
 --
--- `WritesExpression level e tokens rest`: the tokens are those of the expression e, and then the rest. The level says
--- where the expression may stand: at level n every operator outside parentheses binds at least so tightly as those of
--- level n. So the left operand of an operator of level n stands at level n and the right one at the next, which makes
--- operators of one level associate to the left.
+-- `WritesExpression level e tokens rest`: the tokens are those of the expression e, followed by the rest. The level is a
+-- precedence: at level n every operator outside parentheses has precedence n or higher. The left operand of an operator
+-- of precedence n is an expression of level n, and the right operand one of level n + 1. So operators of the same
+-- precedence associate to the left.
 use Rattle.std.specs.Prelude.{◌≡◌, ℕ, ◌+◌, ◌≤◌, negsuc, Bool, true, false, List, ◌∷◌, ◌==◌}
 use Rattle.twe_limits.specs.Language.{max_literal}
 use Rattle.twe_io.specs.declared.place.Place.{Place}
@@ -19,13 +19,13 @@ use Rattle.twe_parser.specs.OperatorTokens.{operator}
 use Rattle.twe_parser.specs.Values.{value_of}
 use Rattle.twe_parser.specs.Written.{word, named, number}
 
--- the number after the largest literal, which after `-` is a part of one literal
+-- the number after the largest literal: together with a `-` before it, it is one literal
 abbrev pub is_smallest : TokenKind → Bool
 is_smallest (kinds.Literal value) = value == max_literal + 1
 is_smallest _ = false
 
 mutual
-  -- an expression and its place, which is that of its first token
+  -- an expression, and its place: that of its first token
   pub data WritesExpression : ℕ → Expression → List Token → List Token → Type 0 where
     written : {level : ℕ} {shape : Shape} {first : Token} {others rest : List Token} → WritesShape level shape (first ∷ others) rest
         → WritesExpression level (expression first.place shape) (first ∷ others) rest
@@ -59,12 +59,12 @@ mutual
         → WritesExpression 0 row others (word fixed.CloseBracket close ∷ word fixed.OpenBracket second ∷ more)
         → WritesExpression 0 column more (word fixed.CloseBracket last ∷ rest)
         → WritesShape level (GridElement name row column) (named name ∷ word fixed.OpenBracket opening ∷ others) rest
-    -- "(" Expr ")", which leaves no trace
+    -- "(" Expr ")", which the tree does not record
     parentheses : {level : ℕ} {shape : Shape} {place opening close : Place} {others rest : List Token}
         → WritesExpression 0 (expression place shape) others (word fixed.CloseParen close ∷ rest)
         → WritesShape level shape (word fixed.OpenParen opening ∷ others) rest
 
-  -- what stands after the "(" of arguments: [ Expr { "," Expr } ] ")"
+  -- after the "(" of arguments: [ Expr { "," Expr } ] ")"
   pub data WritesArguments : Arguments → List Token → List Token → Type 0 where
     no_arguments : {close : Place} {rest : List Token} → WritesArguments no_more (word fixed.CloseParen close ∷ rest) rest
     arguments : {first : Expression} {others : Arguments} {tokens more rest : List Token}

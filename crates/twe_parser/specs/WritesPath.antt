@@ -1,4 +1,5 @@
--- How the paths of cells and of effects are written. A `Root` at the front leaves no trace but the path's place.
+-- The grammar of the paths of cells and of effects. The tree does not record a `Root` at the front, except in the place
+-- of the path.
 use Rattle.std.specs.Prelude.{ℕ, List, [], ◌∷◌}
 use Rattle.twe_io.specs.declared.place.Place.{Place}
 use Rattle.twe_ast.specs.declared.name.Name.{Name}

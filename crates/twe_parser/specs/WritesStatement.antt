@@ -1,4 +1,5 @@
--- How statements and blocks are written. `in_task` says whether they stand in a task; task operations stand there only.
+-- The grammar of statements and blocks. `in_task` is whether they are in a task: operations on tasks are allowed only
+-- there.
 use Rattle.std.specs.Prelude.{Bool, true, false, None, Some, List, ◌∷◌}
 use Rattle.twe_io.specs.declared.place.Place.{Place}
 use Rattle.twe_ast.specs.declared.name.Name.{Name}
@@ -93,13 +94,13 @@ mutual
     final_wait : {name : Name} {call : WaitCall} {final type equals : Place} {tokens rest : List Token} → WritesWait call tokens rest
         → WritesStatement true (LetWait true name call) (word fixed.Final final ∷ word fixed.Int type ∷ named name ∷ word fixed.Assign equals ∷ tokens) rest
 
-  -- what stands after the "{" of a block: { Stmt } "}"
+  -- after the "{" of a block: { Stmt } "}"
   pub data WritesStatements : Bool → Statements → List Token → List Token → Type 0 where
     closed : {in_task : Bool} {close : Place} {rest : List Token} → WritesStatements in_task (end_of_block close) (word fixed.CloseBrace close ∷ rest) rest
     one_more : {in_task : Bool} {first : Statement} {others : Statements} {tokens more rest : List Token}
         → WritesStatement in_task first tokens more → WritesStatements in_task others more rest → WritesStatements in_task (statement first others) tokens rest
 
-  -- "if" "(" Expr ")" Block, and what may follow it
+  -- "if" "(" Expr ")" Block, and the arms after it
   pub data WritesArms : Bool → Arms → List Token → List Token → Type 0 where
     if_arm : {in_task : Bool} {condition : Expression} {body : Statements} {next : Arms} {place opening close brace : Place} {others more third rest : List Token}
         → WritesExpression 0 condition others (word fixed.CloseParen close ∷ word fixed.OpenBrace brace ∷ more)

@@ -1,16 +1,16 @@
-//! Why a text is no program's.
+//! Why a text is not a program.
 
 use thiserror::Error;
 use twe_io::{Memory, Place};
 
-/// The rules of the text.
+/// The rules of the text. The place of a failure is that of the byte, token or comment, or the end of the text for S3.
 #[derive(Clone, Copy, Debug, PartialEq, Eq)]
 pub enum SRule {
-    /// A byte may not stand in a text.
+    /// The text contains a byte that is not allowed.
     S1,
-    /// A token has no place.
+    /// No program begins with the tokens up to this one.
     S2,
-    /// The text ends too early.
+    /// The text ends before the program is whole.
     S3,
     /// A literal is too large.
     S4,
@@ -31,7 +31,7 @@ pub enum ParseFail {
         /// Where it fails.
         place: Place,
     },
-    /// There was not enough memory, or the text is too long for its places to be counted.
+    /// An allocation failed, or the text is too long for its places to be counted.
     #[error("out of memory")]
     OutOfMemory(Memory),
 }

@@ -10,12 +10,12 @@ ghost use Rattle.twe_parser.specs.Fails.{Fails};
 ghost use Rattle.twe_parser.specs.Viable.{IsProgram};
 ghost use Rattle.twe_parser.specs.Writes.{Writes};
 
-/// The tokens of a program are those of one tree only.
+/// The grammar is unambiguous: two trees with the same tokens have the same declarations.
 pub fn one_tree()
     ensures { (tokens : List Token) (tree other : Ast) → Writes tree tokens → Writes other tokens → tree.items ≡ other.items }
 {}
 
-/// A text with a token that has no place, or that ends too early, is no program's.
+/// A text that fails S2 or S3 is not a program.
 pub fn no_program()
     ensures { (text : List ℕ) (rule : SRule) (place : Place) (tokens : List Token) → Fails text rule place → (rule ≡ S2) ⊎ (rule ≡ S3) → BeginsWith text tokens [] → ¬ IsProgram tokens }
 {}

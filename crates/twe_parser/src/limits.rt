@@ -6,14 +6,14 @@ ghost use Rattle.twe_parser.specs.Limits.{opens, closes, is_operator, ends_state
 use twe_lexer::{Fixed, TokenKind};
 use twe_limits::{MAX_LITERAL, MAX_OPEN_BRACKETS, MAX_OPERATORS};
 
-/// What the limits need to know of the tokens so far.
+/// The counts for the limits, after the tokens so far.
 #[derive(Clone, Copy, Debug, PartialEq, Eq)]
 pub struct Sofar {
     /// How many brackets are open.
     pub open_brackets: u32,
     /// How many operators the statement has.
     pub operators: u32,
-    /// Whether an operand may have ended with the last token.
+    /// Whether the last token can end an operand.
     pub operand_ended: bool,
     /// Whether the last token is a unary minus.
     pub unary_minus: bool,
@@ -65,7 +65,7 @@ fn is_operator(kind: &TokenKind) -> bool
     }
 }
 
-/// Whether the operators are counted anew after the token.
+/// Whether the count of operators restarts after the token.
 fn ends_statement(kind: &TokenKind) -> bool
     ensures { result ≡ ends_statement kind.now }
 {
@@ -109,7 +109,7 @@ impl Sofar {
         }
     }
 
-    /// Whether the token is a literal that is too large here.
+    /// Whether the token is a literal that is too large in this position.
     pub(crate) fn is_too_large(self, kind: &TokenKind) -> bool
         ensures { result ≡ is_too_large self kind.now }
     {
@@ -121,7 +121,7 @@ impl Sofar {
         }
     }
 
-    /// Whether the token opens a bracket too deep, or is an operator too many.
+    /// Whether the token opens one bracket too many, or is one operator too many.
     pub(crate) fn is_too_deep(self, kind: &TokenKind) -> bool
         ensures { result ≡ is_too_deep self kind.now }
     {
@@ -159,7 +159,7 @@ impl Sofar {
         }
     }
 
-    /// After one more token, which is not too deep.
+    /// The counts after one more token.
     pub(crate) fn after(self, kind: &TokenKind) -> Self
         requires brackets { self.open_brackets ≤ max_open_brackets }
         requires operators { self.operators ≤ max_operators }

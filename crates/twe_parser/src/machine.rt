@@ -1,26 +1,27 @@
-//! The machine that reads a program token by token: what is still to be read and done, and the trees in work.
-ghost use Rattle.std.specs.Prelude.{◌≡◌, true, false, None, Some, IfOk, MatchBool, option_map};
+//! The pushdown machine that reads a program token by token.
+ghost use Rattle.std.specs.Prelude.{◌≡◌, true, false, None, Some, ◌++◌, IfOk, OnOk, MatchBool, option_map};
 ghost use Rattle.twe_parser.specs.inner.Machine.{after, finished, start};
 ghost use Rattle.twe_parser.specs.inner.Terminals.{meets};
 
-use crate::row::{otherwise, row_of};
-use crate::symbol::{Part, Symbol, Terminal, terminal_of};
-use crate::work::Work;
+use crate::production::{epsilon_action, production_of};
+use crate::symbol::{Nonterminal, Symbol, Terminal, terminal_of};
+use crate::symbols::Symbols;
+use crate::value_stacks::ValueStacks;
 use std::alloc::Global;
 use twe_ast::Item;
 use twe_io::{List, Memory, Stack};
 use twe_lexer::Token;
 
-/// What is still to be read and done, the next thing on top, and the trees in work.
+/// The state of the machine.
 #[derive(Drop)]
 pub(crate) struct Machine {
-    /// What is still to be read and done.
-    pub(crate) todo: Stack<Symbol>,
-    /// The trees in work.
-    pub(crate) work: Work,
+    /// The grammar symbols that are expected, the next one on top.
+    pub(crate) stack: Stack<Symbol>,
+    /// The semantic values of what was read.
+    pub(crate) values: ValueStacks,
 }
 
-/// Whether a token is the one that has to come.
+/// Whether a token is the one that a symbol expects.
 fn meets(symbol: Symbol, next: Terminal) -> bool
     ensures { result ≡ meets symbol next }
 {
@@ -31,45 +32,55 @@ fn meets(symbol: Symbol, next: Terminal) -> bool
     }
 }
 
+/// Pushes all symbols, so that the first one is on top.
+fn push_all(stack: &mut Stack<Symbol>, mut symbols: Symbols) -> Result<(), Memory>
+    ensures { OnOk result (stack.new ≡ symbols ++ stack.old) }
+{
+    while let Some(symbol) = symbols.pop() {
+        stack.push(symbol)?;
+    }
+    Ok(())
+}
+
 impl Machine {
-    /// A whole program has to come.
+    /// The machine before the first token: it expects a whole program.
     pub(crate) fn new(alloc: Global) -> Result<Self, Memory>
-        ensures { IfOk result (λ machine. (machine.todo, machine.work) ≡ start) }
+        ensures { IfOk result (λ machine. (machine.stack, machine.values) ≡ start) }
     {
-        let mut todo = Stack::new(alloc);
-        todo.push(Symbol::Rule(Part::Items))?;
+        let mut stack = Stack::new(alloc);
+        stack.push(Symbol::Expand(Nonterminal::Items))?;
         Ok(Machine {
-            todo,
-            work: Work::new(alloc),
+            stack,
+            values: ValueStacks::new(alloc),
         })
     }
 
-    /// Takes the next token. It is `false` where the token has no place, and nothing is known of the machine then.
+    /// Reads the next token. Returns `false` if no program goes on with it; the state of the machine is then unspecified.
     pub(crate) fn take(&mut self, alloc: Global, token: Token) -> Result<bool, Memory>
         ensures { IfOk result (λ placed. MatchBool placed
-            (after token self.old.todo self.old.work ≡ Some (self.new.todo, self.new.work))
-            (after token self.old.todo self.old.work ≡ None)) }
+            (after token self.old.stack self.old.values ≡ Some (self.new.stack, self.new.values))
+            (after token self.old.stack self.old.values ≡ None)) }
     {
         let next = terminal_of(&token.kind);
-        while let Some(symbol) = self.todo.pop() {
+        while let Some(symbol) = self.stack.pop() {
             match symbol {
-                Symbol::Do(act) => self.work.act(alloc, act)?,
-                Symbol::Rule(part) => {
-                    if let Some(row) = row_of(alloc, part, next)? {
-                        self.todo.push_all(row.todo)?;
-                        self.work.keep(token, row.mark)?;
+                Symbol::Perform(action) => self.values.perform(alloc, action)?,
+                Symbol::Expand(nonterminal) => {
+                    if let Some(production) = production_of(nonterminal, next) {
+                        push_all(&mut self.stack, production.right_side)?;
+                        self.values.keep(token, production.mark)?;
                         return Ok(true);
                     }
-                    let Some(act) = otherwise(part) else {
+                    let Some(action) = epsilon_action(nonterminal) else {
                         return Ok(false);
                     };
-                    self.work.act(alloc, act)?;
+                    self.values.perform(alloc, action)?;
                 }
                 wanted => {
                     if !meets(wanted, next) {
                         return Ok(false);
                     }
-                    self.work.keep(token, false)?;
+                    self.values.keep(token, false)?;
                     return Ok(true);
                 }
             }
@@ -77,18 +88,21 @@ impl Machine {
         Ok(false)
     }
 
-    /// The declarations of the program, if it is whole.
+    /// The declarations of the program, or `None` if the tokens so far are not a whole program.
     pub(crate) fn finish(self, alloc: Global) -> Result<Option<List<Item>>, Memory>
-        ensures { IfOk result (λ items. items ≡ option_map (λ work. work.items) (finished self.todo self.work)) }
+        ensures { IfOk result (λ items. items ≡ option_map (λ values. values.items) (finished self.stack self.values)) }
     {
-        let Machine { mut todo, mut work } = self;
-        while let Some(symbol) = todo.pop() {
+        let Machine {
+            mut stack,
+            mut values,
+        } = self;
+        while let Some(symbol) = stack.pop() {
             match symbol {
-                Symbol::Do(act) => work.act(alloc, act)?,
-                Symbol::Rule(Part::Items) => {}
+                Symbol::Perform(action) => values.perform(alloc, action)?,
+                Symbol::Expand(Nonterminal::Items) => {}
                 _ => return Ok(None),
             }
         }
-        Ok(Some(work.items))
+        Ok(Some(values.items))
     }
 }

@@ -6,7 +6,7 @@ use crate::symbol::Terminal;
 use twe_ast::BinOp;
 use twe_lexer::Fixed;
 
-/// The operator that a token is between two operands, if it is one.
+/// The operator that the token stands for between two operands, or `None` if it is no such operator.
 pub(crate) fn operator_of(next: Terminal) -> Option<BinOp>
     ensures { result ≡ operator_of next }
 {

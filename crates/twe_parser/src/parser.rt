@@ -1,4 +1,4 @@
-//! The parser's steps: a lexeme, and a token that is taken.
+//! One step of the parser: the next lexeme, and the token if it is one.
 ghost use Rattle.std.specs.Prelude.{◌≡◌, ◌+◌, ◌<◌, ◌≤◌, ◌^◌, length, IfOk, IfErr};
 ghost use Rattle.twe_lexer.specs.Front.{Opens};
 ghost use Rattle.twe_parser.specs.inner.Parsing.{RefusesLexeme};
@@ -10,7 +10,7 @@ use std::alloc::Global;
 use twe_io::{Memory, Place};
 use twe_lexer::{Lexeme, LexemeFail, Token, TokenKind, first_lexeme, place_past};
 
-/// The lexeme at the front of the rest of a text, which begins at a place.
+/// The first lexeme of the rest of a text. `place` is where the rest begins.
 pub(crate) fn lexeme_at(alloc: Global, rest: &[u8], place: Place) -> Result<Lexeme, ParseFail>
     requires some { 0 < length rest.now }
     requires lines { place.line + length rest.now < 2 ^ 32 }
@@ -32,12 +32,12 @@ pub(crate) fn lexeme_at(alloc: Global, rest: &[u8], place: Place) -> Result<Lexe
     }
 }
 
-/// The machine, and what the limits need to know of the tokens that it took.
+/// The machine, and the counts for the limits after the tokens that it has read.
 #[derive(Drop)]
 pub(crate) struct Parser {
     /// The machine.
     pub(crate) machine: Machine,
-    /// What the limits need to know.
+    /// The counts for the limits.
     pub(crate) sofar: Sofar,
 }
 
@@ -50,7 +50,7 @@ impl Parser {
 
     /// Before the first token.
     pub(crate) fn new(alloc: Global) -> Result<Self, Memory>
-        ensures machine { IfOk result (λ parser. (parser.machine.todo, parser.machine.work) ≡ start) }
+        ensures machine { IfOk result (λ parser. (parser.machine.stack, parser.machine.values) ≡ start) }
         ensures sofar { IfOk result (λ parser. parser.sofar ≡ at_start) }
     {
         Ok(Parser {
@@ -59,7 +59,8 @@ impl Parser {
         })
     }
 
-    /// Takes the next token, unless a rule fails at it. After an `Err` nothing is known of the parser.
+    /// Reads the next token, or returns the first rule that fails at it. After an `Err` the state of the parser is
+    /// unspecified.
     pub(crate) fn take(
         &mut self,
         alloc: Global,

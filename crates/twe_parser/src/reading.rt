@@ -13,9 +13,10 @@ use twe_io::Place;
 use twe_lexer::{first_place, place_past};
 
 impl Parser {
-    /// Reads a text to its end, and says where that is. After an `Err` nothing is known of the parser.
+    /// Reads a text to its end and returns the place after its last byte. After an `Err` the state of the parser is
+    /// unspecified.
     pub(crate) fn read(&mut self, alloc: Global, text: &[u8]) -> Result<Place, ParseFail>
-        requires machine { (self.old.machine.todo, self.old.machine.work) ≡ start }
+        requires machine { (self.old.machine.stack, self.old.machine.values) ≡ start }
         requires sofar { self.old.sofar ≡ at_start }
         requires short { length text.now + 1 < 2 ^ 32 }
         ensures read { IfOk result (λ end. HasRead text.now end [] self.new) }
@@ -35,7 +36,7 @@ impl Parser {
         Ok(place)
     }
 
-    /// The tree of the text that was read, if it is a whole program.
+    /// The tree of the text that was read. Refuses a text that is not a whole program by S3.
     pub(crate) fn finish(self, alloc: Global, end: Place) -> Result<Ast, ParseFail>
         ensures whole { IfOk result (λ tree. EndsWhole tree end self) }
         ensures early { IfErr result (λ fail. EndsEarly fail end self) }

@@ -1,162 +1,141 @@
-//! The rows of statements by the token that they begin with. Further statements follow each.
-ghost use Rattle.std.specs.Prelude.{◌≡◌, [], ◌∷◌, false, true, Some, IfOk};
+//! The productions of one statement and the statements after it, by the token that the statement begins with.
+ghost use Rattle.std.specs.Prelude.{◌≡◌, [], ◌∷◌, false, true, Some};
 ghost use Rattle.twe_lexer.specs.declared.fixed.Fixed.TheVariants as fixed;
-ghost use Rattle.twe_parser.specs.declared.symbol.Part.TheVariants as parts;
+ghost use Rattle.twe_parser.specs.declared.symbol.Nonterminal.TheVariants as nonterminals;
 ghost use Rattle.twe_parser.specs.declared.symbol.Symbol.TheVariants as symbols;
 ghost use Rattle.twe_parser.specs.declared.symbol.Terminal.TheVariants as terminals;
-ghost use Rattle.twe_parser.specs.inner.Rows.{statements_row};
+ghost use Rattle.twe_parser.specs.inner.Productions.{statements_production};
 
-use crate::row::{Row, marked, plain};
-use crate::symbol::Act::Stmt;
-use crate::symbol::Symbol::{Do, Name, Rule, Token};
-use crate::symbol::{Part, StmtAct};
-use std::alloc::Global;
+use crate::production::{Production, marked, plain};
+use crate::symbol::Action::Stmt;
+use crate::symbol::Symbol::{Expand, Name, Perform, Token};
+use crate::symbol::{Nonterminal, StmtAction};
 use twe_ast::LocalType;
-use twe_io::Memory;
 use twe_lexer::Fixed;
 
-/// A part that a statement goes on with.
-pub(crate) fn statement_then(
-    alloc: Global,
-    part: Part,
-    in_task: bool,
-) -> Result<Option<Row>, Memory>
-    ensures { IfOk result (λ row. row ≡ Some (record { mark = false; todo = symbols.Rule part ∷ symbols.Rule (parts.Statements in_task) ∷ [] })) }
+/// A nonterminal for the rest of the statement, and the statements after it.
+pub(crate) fn statement_then(nonterminal: Nonterminal, in_task: bool) -> Option<Production>
+    ensures { result ≡ Some (record { mark = false; right_side = symbols.Expand nonterminal ∷ symbols.Expand (nonterminals.Statements in_task) ∷ [] }) }
 {
-    plain(alloc, &[Rule(part), Rule(Part::Statements(in_task))])
+    plain(&[
+        Expand(nonterminal),
+        Expand(Nonterminal::Statements(in_task)),
+    ])
 }
 
 /// A block.
-pub(crate) fn block(alloc: Global, in_task: bool) -> Result<Option<Row>, Memory>
-    ensures { IfOk result (λ row. row ≡ statements_row in_task (terminals.Fixed fixed.OpenBrace)) }
+pub(crate) fn block(in_task: bool) -> Option<Production>
+    ensures { result ≡ statements_production in_task (terminals.Fixed fixed.OpenBrace) }
 {
-    plain(
-        alloc,
-        &[
-            Do(Stmt(StmtAct::NewBlock)),
-            Rule(Part::Statements(in_task)),
-            Do(Stmt(StmtAct::BlockStatement)),
-            Rule(Part::Statements(in_task)),
-        ],
-    )
+    plain(&[
+        Perform(Stmt(StmtAction::NewBlock)),
+        Expand(Nonterminal::Statements(in_task)),
+        Perform(Stmt(StmtAction::BlockStatement)),
+        Expand(Nonterminal::Statements(in_task)),
+    ])
 }
 
 /// The declaration of an `int` local that is not `final`.
-pub(crate) fn int_local(alloc: Global, in_task: bool) -> Result<Option<Row>, Memory>
-    ensures { IfOk result (λ row. row ≡ statements_row in_task (terminals.Fixed fixed.Int)) }
+pub(crate) fn int_local(in_task: bool) -> Option<Production>
+    ensures { result ≡ statements_production in_task (terminals.Fixed fixed.Int) }
 {
-    plain(
-        alloc,
-        &[
-            Name,
-            Token(Fixed::Assign),
-            Rule(Part::IntValue(in_task, false)),
-            Rule(Part::Statements(in_task)),
-        ],
-    )
+    plain(&[
+        Name,
+        Token(Fixed::Assign),
+        Expand(Nonterminal::IntValue {
+            in_task,
+            is_final: false,
+        }),
+        Expand(Nonterminal::Statements(in_task)),
+    ])
 }
 
 /// The declaration of a `boolean` local that is not `final`.
-pub(crate) fn boolean_local(alloc: Global, in_task: bool) -> Result<Option<Row>, Memory>
-    ensures { IfOk result (λ row. row ≡ statements_row in_task (terminals.Fixed fixed.Boolean)) }
+pub(crate) fn boolean_local(in_task: bool) -> Option<Production>
+    ensures { result ≡ statements_production in_task (terminals.Fixed fixed.Boolean) }
 {
-    plain(
-        alloc,
-        &[
-            Name,
-            Token(Fixed::Assign),
-            Rule(Part::Unary),
-            Rule(Part::Climb(0)),
-            Token(Fixed::Semicolon),
-            Do(Stmt(StmtAct::Let(false, LocalType::Boolean))),
-            Rule(Part::Statements(in_task)),
-        ],
-    )
+    plain(&[
+        Name,
+        Token(Fixed::Assign),
+        Expand(Nonterminal::Unary),
+        Expand(Nonterminal::Climb(0)),
+        Token(Fixed::Semicolon),
+        Perform(Stmt(StmtAction::Let(false, LocalType::Boolean))),
+        Expand(Nonterminal::Statements(in_task)),
+    ])
 }
 
 /// An `if`.
-pub(crate) fn if_statement(alloc: Global, in_task: bool) -> Result<Option<Row>, Memory>
-    ensures { IfOk result (λ row. row ≡ statements_row in_task (terminals.Fixed fixed.If)) }
+pub(crate) fn if_statement(in_task: bool) -> Option<Production>
+    ensures { result ≡ statements_production in_task (terminals.Fixed fixed.If) }
 {
-    plain(
-        alloc,
-        &[
-            Do(Stmt(StmtAct::NewArms)),
-            Token(Fixed::OpenParen),
-            Rule(Part::Unary),
-            Rule(Part::Climb(0)),
-            Token(Fixed::CloseParen),
-            Token(Fixed::OpenBrace),
-            Do(Stmt(StmtAct::NewBlock)),
-            Rule(Part::Statements(in_task)),
-            Do(Stmt(StmtAct::KeepArm)),
-            Rule(Part::AfterArm(in_task)),
-            Rule(Part::Statements(in_task)),
-        ],
-    )
+    plain(&[
+        Perform(Stmt(StmtAction::NewArms)),
+        Token(Fixed::OpenParen),
+        Expand(Nonterminal::Unary),
+        Expand(Nonterminal::Climb(0)),
+        Token(Fixed::CloseParen),
+        Token(Fixed::OpenBrace),
+        Perform(Stmt(StmtAction::NewBlock)),
+        Expand(Nonterminal::Statements(in_task)),
+        Perform(Stmt(StmtAction::KeepArm)),
+        Expand(Nonterminal::AfterArm(in_task)),
+        Expand(Nonterminal::Statements(in_task)),
+    ])
 }
 
 /// A `while`.
-pub(crate) fn while_statement(alloc: Global, in_task: bool) -> Result<Option<Row>, Memory>
-    ensures { IfOk result (λ row. row ≡ statements_row in_task (terminals.Fixed fixed.While)) }
+pub(crate) fn while_statement(in_task: bool) -> Option<Production>
+    ensures { result ≡ statements_production in_task (terminals.Fixed fixed.While) }
 {
-    marked(
-        alloc,
-        &[
-            Token(Fixed::OpenParen),
-            Rule(Part::Unary),
-            Rule(Part::Climb(0)),
-            Token(Fixed::CloseParen),
-            Token(Fixed::OpenBrace),
-            Do(Stmt(StmtAct::NewBlock)),
-            Rule(Part::Statements(in_task)),
-            Do(Stmt(StmtAct::While)),
-            Rule(Part::Statements(in_task)),
-        ],
-    )
+    marked(&[
+        Token(Fixed::OpenParen),
+        Expand(Nonterminal::Unary),
+        Expand(Nonterminal::Climb(0)),
+        Token(Fixed::CloseParen),
+        Token(Fixed::OpenBrace),
+        Perform(Stmt(StmtAction::NewBlock)),
+        Expand(Nonterminal::Statements(in_task)),
+        Perform(Stmt(StmtAction::While)),
+        Expand(Nonterminal::Statements(in_task)),
+    ])
 }
 
 /// A `return`.
-pub(crate) fn return_statement(alloc: Global, in_task: bool) -> Result<Option<Row>, Memory>
-    ensures { IfOk result (λ row. row ≡ statements_row in_task (terminals.Fixed fixed.Return)) }
+pub(crate) fn return_statement(in_task: bool) -> Option<Production>
+    ensures { result ≡ statements_production in_task (terminals.Fixed fixed.Return) }
 {
-    marked(
-        alloc,
-        &[Rule(Part::ReturnValue), Rule(Part::Statements(in_task))],
-    )
+    marked(&[
+        Expand(Nonterminal::ReturnValue),
+        Expand(Nonterminal::Statements(in_task)),
+    ])
 }
 
 /// A `print`.
-pub(crate) fn print_statement(alloc: Global, in_task: bool) -> Result<Option<Row>, Memory>
-    ensures { IfOk result (λ row. row ≡ statements_row in_task (terminals.Fixed fixed.Print)) }
+pub(crate) fn print_statement(in_task: bool) -> Option<Production>
+    ensures { result ≡ statements_production in_task (terminals.Fixed fixed.Print) }
 {
-    marked(
-        alloc,
-        &[
-            Token(Fixed::OpenParen),
-            Rule(Part::Unary),
-            Rule(Part::Climb(0)),
-            Token(Fixed::CloseParen),
-            Token(Fixed::Semicolon),
-            Do(Stmt(StmtAct::Print)),
-            Rule(Part::Statements(in_task)),
-        ],
-    )
+    marked(&[
+        Token(Fixed::OpenParen),
+        Expand(Nonterminal::Unary),
+        Expand(Nonterminal::Climb(0)),
+        Token(Fixed::CloseParen),
+        Token(Fixed::Semicolon),
+        Perform(Stmt(StmtAction::Print)),
+        Expand(Nonterminal::Statements(in_task)),
+    ])
 }
 
-/// The making of a task, which stands in tasks alone.
-pub(crate) fn make_statement(alloc: Global) -> Result<Option<Row>, Memory>
-    ensures { IfOk result (λ row. row ≡ statements_row true (terminals.Fixed fixed.Future)) }
+/// The making of a task, which is allowed only in tasks.
+pub(crate) fn make_statement() -> Option<Production>
+    ensures { result ≡ statements_production true (terminals.Fixed fixed.Future) }
 {
-    plain(
-        alloc,
-        &[
-            Name,
-            Token(Fixed::Assign),
-            Name,
-            Token(Fixed::Dot),
-            Rule(Part::Make),
-            Rule(Part::Statements(true)),
-        ],
-    )
+    plain(&[
+        Name,
+        Token(Fixed::Assign),
+        Name,
+        Token(Fixed::Dot),
+        Expand(Nonterminal::Make),
+        Expand(Nonterminal::Statements(true)),
+    ])
 }

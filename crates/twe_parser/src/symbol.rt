@@ -1,12 +1,13 @@
-//! What the parser has still to read and to do: tokens, parts of a program, and the making of trees from what was read.
+//! The symbols of the grammar: terminals, nonterminals, and semantic actions.
 ghost use Rattle.std.specs.Prelude.{◌≡◌};
+ghost use Rattle.twe_parser.specs.inner.Kinds.{is_write, is_join};
 ghost use Rattle.twe_parser.specs.inner.Terminals.{terminal_of};
 
 use twe_ast::{BinOp, LocalType, ReturnType};
 use twe_lexer::{Fixed, TokenKind};
 
-/// A token but for its value.
-#[derive(Clone, Copy, Debug, PartialEq, Eq)]
+/// A token without its value.
+#[derive(Clone, Copy)]
 pub(crate) enum Terminal {
     /// A name.
     Name,
@@ -14,11 +15,11 @@ pub(crate) enum Terminal {
     Literal,
     /// A keyword or a symbol.
     Fixed(Fixed),
-    /// What has no place in a program.
+    /// A byte that begins no token of the language.
     Stray,
 }
 
-/// What a token is, but for its value.
+/// The terminal that a token is.
 pub(crate) fn terminal_of(kind: &TokenKind) -> Terminal
     ensures { result ≡ terminal_of kind.now }
 {
@@ -30,25 +31,25 @@ pub(crate) fn terminal_of(kind: &TokenKind) -> Terminal
     }
 }
 
-/// One thing that is still to be read or to be done.
-#[derive(Clone, Copy, Debug, PartialEq, Eq)]
+/// A symbol on the right-hand side of a production.
+#[derive(Clone, Copy)]
 pub(crate) enum Symbol {
-    /// A name has to come.
+    /// The terminal for a name.
     Name,
-    /// An integer literal has to come.
+    /// The terminal for an integer literal.
     Literal,
-    /// This keyword or symbol has to come.
+    /// The terminal for this keyword or symbol.
     Token(Fixed),
-    /// This part of a program has to come.
-    Rule(Part),
-    /// A tree is made.
-    Do(Act),
+    /// A nonterminal, which is expanded by the next token.
+    Expand(Nonterminal),
+    /// A semantic action, which is performed without reading a token.
+    Perform(Action),
 }
 
-/// A part of a program that may begin with one of several tokens.
-#[derive(Clone, Copy, Debug, PartialEq, Eq)]
-pub(crate) enum Part {
-    /// What may come where a declaration may begin.
+/// A nonterminal. Each is named for its position: what follows a token, or what begins there.
+#[derive(Clone, Copy)]
+pub(crate) enum Nonterminal {
+    /// The declarations that are left, up to the end of the text.
     Items,
     /// After the name of a region.
     MoreRegions,
@@ -56,9 +57,9 @@ pub(crate) enum Part {
     AfterInt,
     /// After the length of an array.
     AfterLength,
-    /// Where the path of a cell begins. A cell, an array or a grid is declared.
+    /// The beginning of the path of a cell, an array or a grid.
     CellPath(CellKind),
-    /// After an element of the path of a cell. A cell, an array or a grid is declared.
+    /// After an element of the path of a cell, an array or a grid.
     CellRest(CellKind),
     /// An element of the path of a cell.
     CellElem,
@@ -72,20 +73,25 @@ pub(crate) enum Part {
     MoreParams,
     /// The effects of a method or a task. Whether it is a task's.
     Effects(bool),
-    /// Where a path of a clause begins. Whether it is a task's, and whether the clause is `writes`.
-    Path(bool, bool),
-    /// After an element of a path of a clause. Whether it is a task's, and whether the clause is `writes`.
-    PathRest(bool, bool),
+    /// The beginning of a path of a clause. Whether the clause is a task's, and what it declares.
+    Path(bool, Access),
+    /// After an element of a path of a clause. Whether the clause is a task's, and what it declares.
+    PathRest(bool, Access),
     /// An element of a path of a clause, after `:`.
     Elem,
     /// After the `[` of an element of a path.
     Index,
-    /// Where a statement may begin, or the block ends. Whether it is in a task.
+    /// The statements that are left in a block, and its `}`. Whether the block is in a task.
     Statements(bool),
     /// After `final`. Whether it is in a task.
     LocalType(bool),
-    /// The initial value of an `int` local. Whether it is in a task, and whether `final` stands before it.
-    IntValue(bool, bool),
+    /// The initial value of an `int` local.
+    IntValue {
+        /// Whether it is in a task.
+        in_task: bool,
+        /// Whether `final` stands before the declaration.
+        is_final: bool,
+    },
     /// In a task, after `int`, a name, `=` and a name. Whether `final` stands before it.
     AfterValueName(bool),
     /// After the name that a statement begins with. Whether it is in a task.
@@ -94,7 +100,7 @@ pub(crate) enum Part {
     AfterIndex,
     /// After the `.` of a wait.
     Awaited,
-    /// After the `.` of a wait whose value a local takes. Whether the local is `final`.
+    /// After the `.` of a wait that initializes a local. Whether the local is `final`.
     AwaitedValue(bool),
     /// After the `.` of the making of a task.
     Make,
@@ -108,7 +114,7 @@ pub(crate) enum Part {
     Args,
     /// After an argument.
     MoreArgs,
-    /// An operand.
+    /// An operand: an expression without an operator between two operands outside parentheses.
     Unary,
     /// After a `-` before an operand.
     AfterMinus,
@@ -116,12 +122,12 @@ pub(crate) enum Part {
     Suffix,
     /// After the index of an element.
     SecondIndex,
-    /// After an operand: an operator that binds at least so tightly.
+    /// After an operand: operators of at least this precedence, with their right operands.
     Climb(u8),
 }
 
 /// What a declaration of cells declares.
-#[derive(Clone, Copy, Debug, PartialEq, Eq)]
+#[derive(Clone, Copy)]
 pub(crate) enum CellKind {
     /// One cell.
     Scalar,
@@ -131,27 +137,63 @@ pub(crate) enum CellKind {
     Grid,
 }
 
-/// The making of a tree from what was read.
-#[derive(Clone, Copy, Debug, PartialEq, Eq)]
-pub(crate) enum Act {
-    /// Nothing is made.
-    Nothing,
-    /// An expression is made.
-    Expr(ExprAct),
-    /// A statement is made.
-    Stmt(StmtAct),
-    /// A declaration is made.
-    Item(ItemAct),
+/// What a clause of effects declares.
+#[derive(Clone, Copy)]
+pub(crate) enum Access {
+    /// The clause begins with `reads`.
+    Reads,
+    /// The clause begins with `writes`.
+    Writes,
 }
 
-/// Which expression is made.
-#[derive(Clone, Copy, Debug, PartialEq, Eq)]
-pub(crate) enum ExprAct {
-    /// A literal, whose place is kept.
+impl Access {
+    /// Whether the clause begins with `writes`.
+    pub(crate) fn is_write(self) -> bool
+        ensures { result ≡ is_write self }
+    {
+        matches!(self, Access::Writes)
+    }
+}
+
+/// The call that waits for a task.
+#[derive(Clone, Copy)]
+pub(crate) enum WaitKind {
+    /// `getValue`
+    GetValue,
+    /// `join`
+    Join,
+}
+
+impl WaitKind {
+    /// Whether the call is `join`.
+    pub(crate) fn is_join(self) -> bool
+        ensures { result ≡ is_join self }
+    {
+        matches!(self, WaitKind::Join)
+    }
+}
+
+/// A semantic action: it makes a tree of the values on the stacks.
+#[derive(Clone, Copy)]
+pub(crate) enum Action {
+    /// Does nothing.
+    Nothing,
+    /// Makes an expression.
+    Expr(ExprAction),
+    /// Makes a statement.
+    Stmt(StmtAction),
+    /// Makes a part of a declaration.
+    Item(ItemAction),
+}
+
+/// A semantic action that makes an expression.
+#[derive(Clone, Copy)]
+pub(crate) enum ExprAction {
+    /// A literal; its place is on the stack of places.
     Literal,
-    /// `true` or `false`, whose place is kept.
+    /// `true` or `false`; its place is on the stack of places.
     Truth(bool),
-    /// `-` and a literal, whose places are kept.
+    /// `-` and a literal; their places are on the stack of places.
     MinusLiteral,
     /// `-` and its operand.
     Negate,
@@ -175,12 +217,12 @@ pub(crate) enum ExprAct {
     GridElement,
 }
 
-/// Which statement is made.
-#[derive(Clone, Copy, Debug, PartialEq, Eq)]
-pub(crate) enum StmtAct {
+/// A semantic action that makes a statement.
+#[derive(Clone, Copy)]
+pub(crate) enum StmtAction {
     /// A block begins.
     NewBlock,
-    /// A block ends; the place of `}` is kept.
+    /// A block ends; the place of `}` is on the stack of places.
     CloseBlock,
     /// A block that is a statement.
     BlockStatement,
@@ -212,15 +254,15 @@ pub(crate) enum StmtAct {
     CallStatement,
     /// The making of a task: whether by `spawn`.
     Make(bool),
-    /// A wait: whether by `join`.
-    Wait(bool),
-    /// A declaration of a local by a wait: whether it is `final`, and whether the wait is a `join`.
-    LetWait(bool, bool),
+    /// A wait by one of the two calls.
+    Wait(WaitKind),
+    /// A declaration of a local by a wait: whether it is `final`, and by which call it waits.
+    LetWait(bool, WaitKind),
 }
 
-/// Which part of a declaration is made.
-#[derive(Clone, Copy, Debug, PartialEq, Eq)]
-pub(crate) enum ItemAct {
+/// A semantic action that makes a part of a declaration.
+#[derive(Clone, Copy)]
+pub(crate) enum ItemAction {
     /// A name of a list ends.
     KeepName,
     /// A declaration of regions.
@@ -245,8 +287,8 @@ pub(crate) enum ItemAct {
     ElemStar,
     /// A path of a clause ends.
     KeepPath,
-    /// A clause ends: whether it is `writes`.
-    KeepClause(bool),
+    /// A clause ends: what it declares.
+    KeepClause(Access),
     /// A declaration of a method.
     Method(ReturnType),
     /// A declaration of a task: whether it is `deterministic`, and what it returns.

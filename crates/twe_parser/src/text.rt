@@ -15,7 +15,8 @@ use twe_ast::Ast;
 use twe_io::Memory;
 
 /// The tree of a text, or the first failure of a rule of the text in the order of its bytes. It takes time and memory
-/// linear in the text. `OutOfMemory` also stands for a text of 2^32 - 1 bytes or more, whose places can't be counted.
+/// linear in the length of the text. A text of 2^32 - 1 bytes or more is refused by `OutOfMemory`, since its places
+/// can't be counted.
 pub fn parse(alloc: Global, text: &[u8]) -> Result<Ast, ParseFail>
     ensures tree { IfOk result (λ tree. (tokens : List Token) × BeginsWith text.now tokens [] × Writes tree tokens) }
     ensures end { IfOk result (λ tree. tree.end ≡ place_after text.now) }

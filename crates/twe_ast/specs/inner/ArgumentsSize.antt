@@ -1,4 +1,4 @@
--- Each argument is less deep than all together.
+-- Each argument has a smaller depth than all arguments together.
 use Rattle.std.specs.Prelude.{◌+◌, ◌≤◌, List, [], ◌∷◌}
 use Rattle.std.proofs.Common.{arith}
 use Rattle.twe_ast.specs.Expression.{Expression}

@@ -1,4 +1,4 @@
--- Each block is less deep than the arms that it is one of.
+-- Each block of an `if` has a smaller depth than its arms together.
 use Rattle.std.specs.Prelude.{◌+◌, ◌≤◌, List, [], ◌∷◌, Option, None, Some}
 use Rattle.std.proofs.Common.{arith}
 use Rattle.twe_ast.specs.Statement.{Statements}

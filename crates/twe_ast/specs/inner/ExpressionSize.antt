@@ -1,4 +1,4 @@
--- How deep an expression is, so that each of its parts is less deep.
+-- The depth of an expression, which is greater than that of each of its parts.
 use Rattle.std.specs.Prelude.{ℕ, ◌+◌, max}
 use Rattle.twe_ast.specs.Expression.{Expression, expression, Shape, Literal, Truth, Variable, ArrayElement, GridElement, CallValue, Negative, Negation, Binary, Arguments, no_more, argument}
 

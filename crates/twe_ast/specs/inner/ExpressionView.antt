@@ -1,4 +1,4 @@
--- What a node of the tree of an expression stands for.
+-- The expression that a node of the tree is seen as.
 use Rattle.std.specs.Prelude.{List, [], ◌∷◌, None, Some}
 use Rattle.twe_ast.specs.Expression.{Expression, Shape, Literal, Truth, Variable, ArrayElement, GridElement, CallValue, Negative, Negation, Binary, Arguments, no_more, argument}
 use Rattle.twe_ast.specs.declared.expr.ExprKind.{ExprKind}

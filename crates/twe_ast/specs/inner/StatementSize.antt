@@ -1,4 +1,4 @@
--- How deep statements stand in one another, so that each part of one is less deep.
+-- The depth of a statement, which is greater than that of each of its parts.
 use Rattle.std.specs.Prelude.{ℕ, ◌+◌, max}
 use Rattle.twe_ast.specs.Statement.{Statement, Block, Let, Set, SetArray, SetGrid, If, While, Return, Print, Call, Make, Wait, LetWait, Statements, end_of_block, statement, Arms, arm, otherwise, no_else}
 

@@ -1,4 +1,4 @@
--- What a node of the tree of a statement stands for.
+-- The statement that a node of the tree is seen as.
 use Rattle.std.specs.Prelude.{List, [], ◌∷◌, Option, None, Some}
 use Rattle.twe_io.specs.declared.place.Place.{Place}
 use Rattle.twe_ast.specs.Statement as seen

@@ -1,4 +1,4 @@
--- Each statement is less deep than the block that it stands in.
+-- Each statement has a smaller depth than the block that contains it.
 use Rattle.std.specs.Prelude.{◌+◌, ◌≤◌, List, [], ◌∷◌}
 use Rattle.std.proofs.Common.{arith}
 use Rattle.twe_io.specs.declared.place.Place.{Place}

@@ -1,14 +1,14 @@
--- What is still to be read and done is so that it can always be completed: no part that may be left out stands before a
--- token that would go on with it.
+-- A condition under which the symbols on the stack can be completed to a program: no nonterminal with an empty production
+-- comes before a token that would select another of its productions.
 use Rattle.std.specs.Prelude.{Bool, true, false, ◌&&◌, List, [], ◌∷◌}
 use Rattle.twe_lexer.specs.declared.fixed.Fixed.{Fixed}
 use Rattle.twe_lexer.specs.declared.fixed.Fixed.TheVariants as fixed
-use Rattle.twe_parser.specs.declared.symbol.Part.{Part}
-use Rattle.twe_parser.specs.declared.symbol.Part.TheVariants as parts
+use Rattle.twe_parser.specs.declared.symbol.Nonterminal.{Nonterminal}
+use Rattle.twe_parser.specs.declared.symbol.Nonterminal.TheVariants as nonterminals
 use Rattle.twe_parser.specs.declared.symbol.Symbol.{Symbol}
 use Rattle.twe_parser.specs.declared.symbol.Symbol.TheVariants as symbols
 
--- a keyword or a symbol that goes on with nothing before it
+-- a keyword or a symbol that selects no production of a nonterminal with an empty one
 abbrev pub harmless : Fixed → Bool
 harmless fixed.Or = false
 harmless fixed.And = false
@@ -31,37 +31,37 @@ harmless _ = true
 -- the shortest completion begins with a harmless token
 abbrev pub calm : List Symbol → Bool
 calm [] = false
-calm (symbols.Name ∷ todo) = true
-calm (symbols.Literal ∷ todo) = true
-calm (symbols.Token f ∷ todo) = harmless f
-calm (symbols.Do act ∷ todo) = calm todo
-calm (symbols.Rule parts.Items ∷ todo) = false
-calm (symbols.Rule parts.Suffix ∷ todo) = calm todo
-calm (symbols.Rule parts.SecondIndex ∷ todo) = calm todo
-calm (symbols.Rule (parts.AfterArm x) ∷ todo) = calm todo
-calm (symbols.Rule (parts.Climb x) ∷ todo) = calm todo
-calm (symbols.Rule _ ∷ todo) = true
+calm (symbols.Name ∷ stack) = true
+calm (symbols.Literal ∷ stack) = true
+calm (symbols.Token f ∷ stack) = harmless f
+calm (symbols.Perform action ∷ stack) = calm stack
+calm (symbols.Expand nonterminals.Items ∷ stack) = false
+calm (symbols.Expand nonterminals.Suffix ∷ stack) = calm stack
+calm (symbols.Expand nonterminals.SecondIndex ∷ stack) = calm stack
+calm (symbols.Expand (nonterminals.AfterArm x) ∷ stack) = calm stack
+calm (symbols.Expand (nonterminals.Climb x) ∷ stack) = calm stack
+calm (symbols.Expand _ ∷ stack) = true
 
 abbrev pub is_last : List Symbol → Bool
 is_last [] = true
-is_last (symbol ∷ todo) = false
+is_last (symbol ∷ stack) = false
 
--- what a part needs of what follows it
-abbrev pub need : Part → List Symbol → Bool
-need parts.Items todo = is_last todo
-need parts.Unary todo = calm todo
-need parts.AfterMinus todo = calm todo
-need parts.Suffix todo = calm todo
-need parts.SecondIndex todo = calm todo
-need (parts.Climb x) todo = calm todo
-need (parts.AfterArm x) todo = calm todo
-need (parts.ElseBody x) todo = calm todo
-need _ todo = true
+-- the condition of a nonterminal on the symbols below it
+abbrev pub need : Nonterminal → List Symbol → Bool
+need nonterminals.Items stack = is_last stack
+need nonterminals.Unary stack = calm stack
+need nonterminals.AfterMinus stack = calm stack
+need nonterminals.Suffix stack = calm stack
+need nonterminals.SecondIndex stack = calm stack
+need (nonterminals.Climb x) stack = calm stack
+need (nonterminals.AfterArm x) stack = calm stack
+need (nonterminals.ElseBody x) stack = calm stack
+need _ stack = true
 
 abbrev pub fine : List Symbol → Bool
 fine [] = true
-fine (symbols.Name ∷ todo) = fine todo
-fine (symbols.Literal ∷ todo) = fine todo
-fine (symbols.Token f ∷ todo) = fine todo
-fine (symbols.Rule part ∷ todo) = need part todo && fine todo
-fine (symbols.Do act ∷ todo) = fine todo
+fine (symbols.Name ∷ stack) = fine stack
+fine (symbols.Literal ∷ stack) = fine stack
+fine (symbols.Token f ∷ stack) = fine stack
+fine (symbols.Expand nonterminal ∷ stack) = need nonterminal stack && fine stack
+fine (symbols.Perform action ∷ stack) = fine stack

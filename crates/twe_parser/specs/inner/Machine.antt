@@ -1,56 +1,56 @@
--- The parser as a machine: what is still to be read and done, and what is in work.
+-- The parser as a pushdown machine: the symbols that are expected, and the semantic values.
 use Rattle.std.specs.Prelude.{Bool, true, false, List, [], ◌∷◌, ◌++◌, Option, None, Some, option_and_then}
 use Rattle.twe_lexer.specs.declared.token.Token.{Token}
-use Rattle.twe_parser.specs.declared.row.Row.{Row}
-use Rattle.twe_parser.specs.declared.symbol.Act.{Act}
-use Rattle.twe_parser.specs.declared.symbol.Part.TheVariants as parts
+use Rattle.twe_parser.specs.declared.production.Production.{Production}
+use Rattle.twe_parser.specs.declared.symbol.Action.{Action}
+use Rattle.twe_parser.specs.declared.symbol.Nonterminal.TheVariants as nonterminals
 use Rattle.twe_parser.specs.declared.symbol.Symbol.{Symbol}
 use Rattle.twe_parser.specs.declared.symbol.Symbol.TheVariants as symbols
-use Rattle.twe_parser.specs.declared.work.Work.{Work}
-use Rattle.twe_parser.specs.inner.Acts.{acted}
-use Rattle.twe_parser.specs.inner.Rows.{row_of, otherwise}
+use Rattle.twe_parser.specs.declared.value_stacks.ValueStacks.{ValueStacks}
+use Rattle.twe_parser.specs.inner.Actions.{performed}
+use Rattle.twe_parser.specs.inner.Productions.{production_of, epsilon_action}
 use Rattle.twe_parser.specs.inner.Terminals.{terminal_of, meets}
-use Rattle.twe_parser.specs.inner.Works.{kept, idle}
+use Rattle.twe_parser.specs.inner.ValueStacks.{kept, no_values}
 
 abbrev pub Machine : Type 0
-Machine = List Symbol × Work
+Machine = List Symbol × ValueStacks
 
--- at the start a whole program has to come
+-- the machine before the first token
 abbrev pub start : Machine
-start = (symbols.Rule parts.Items ∷ [], idle)
+start = (symbols.Expand nonterminals.Items ∷ [], no_values)
 
--- a token that has to come is there, or is not
-abbrev pub expected : Bool → Token → List Symbol → Work → Option Machine
-expected true token todo work = Some (todo, kept token false work)
-expected false token todo work = None
+-- the machine after a token that is the expected one, or is not
+abbrev pub expected : Bool → Token → List Symbol → ValueStacks → Option Machine
+expected true token stack values = Some (stack, kept token false values)
+expected false token stack values = None
 
--- The machine after a token, or nothing where the token has no place. The continuation says what is done where the part
--- is left out.
-abbrev pub by_row : Option Row → Option Act → Token → List Symbol → Work → (Work → Option Machine) → Option Machine
-by_row (Some row) skip token todo work left_out = Some (row.todo ++ todo, kept token row.mark work)
-by_row None (Some act) token todo work left_out = left_out (acted act work)
-by_row None None token todo work left_out = None
+-- The machine after a token, or `None` if no program goes on with it. `left_out` is the continuation after the empty
+-- production.
+abbrev pub by_production : Option Production → Option Action → Token → List Symbol → ValueStacks → (ValueStacks → Option Machine) → Option Machine
+by_production (Some production) skip token stack values left_out = Some (production.right_side ++ stack, kept token production.mark values)
+by_production None (Some action) token stack values left_out = left_out (performed action values)
+by_production None None token stack values left_out = None
 
-abbrev pub after : Token → List Symbol → Work → Option Machine
-after token [] work = None
-after token (symbols.Name ∷ todo) work = expected (meets symbols.Name (terminal_of token.kind)) token todo work
-after token (symbols.Literal ∷ todo) work = expected (meets symbols.Literal (terminal_of token.kind)) token todo work
-after token (symbols.Token f ∷ todo) work = expected (meets (symbols.Token f) (terminal_of token.kind)) token todo work
-after token (symbols.Rule part ∷ todo) work =
-    by_row (row_of part (terminal_of token.kind)) (otherwise part) token todo work (λ left. after token todo left)
-after token (symbols.Do act ∷ todo) work = after token todo (acted act work)
+abbrev pub after : Token → List Symbol → ValueStacks → Option Machine
+after token [] values = None
+after token (symbols.Name ∷ stack) values = expected (meets symbols.Name (terminal_of token.kind)) token stack values
+after token (symbols.Literal ∷ stack) values = expected (meets symbols.Literal (terminal_of token.kind)) token stack values
+after token (symbols.Token f ∷ stack) values = expected (meets (symbols.Token f) (terminal_of token.kind)) token stack values
+after token (symbols.Expand nonterminal ∷ stack) values =
+    by_production (production_of nonterminal (terminal_of token.kind)) (epsilon_action nonterminal) token stack values (λ left. after token stack left)
+after token (symbols.Perform action ∷ stack) values = after token stack (performed action values)
 
--- what is in work at the end of the text, where the program is whole
-abbrev pub finished : List Symbol → Work → Option Work
-finished [] work = Some work
-finished (symbols.Name ∷ todo) work = None
-finished (symbols.Literal ∷ todo) work = None
-finished (symbols.Token f ∷ todo) work = None
-finished (symbols.Rule parts.Items ∷ todo) work = finished todo work
-finished (symbols.Rule part ∷ todo) work = None
-finished (symbols.Do act ∷ todo) work = finished todo (acted act work)
+-- the semantic values at the end of the text, if the program is whole
+abbrev pub finished : List Symbol → ValueStacks → Option ValueStacks
+finished [] values = Some values
+finished (symbols.Name ∷ stack) values = None
+finished (symbols.Literal ∷ stack) values = None
+finished (symbols.Token f ∷ stack) values = None
+finished (symbols.Expand nonterminals.Items ∷ stack) values = finished stack values
+finished (symbols.Expand nonterminal ∷ stack) values = None
+finished (symbols.Perform action ∷ stack) values = finished stack (performed action values)
 
--- what is in work at the end of these tokens, where they complete the program
-abbrev pub result_from : List Token → List Symbol → Work → Option Work
-result_from [] todo work = finished todo work
-result_from (token ∷ tokens) todo work = option_and_then (λ machine. result_from tokens machine.0 machine.1) (after token todo work)
+-- the semantic values after these tokens, if they complete the program
+abbrev pub result_from : List Token → List Symbol → ValueStacks → Option ValueStacks
+result_from [] stack values = finished stack values
+result_from (token ∷ tokens) stack values = option_and_then (λ machine. result_from tokens machine.0 machine.1) (after token stack values)

@@ -1,4 +1,4 @@
--- Which operator a token is between two operands.
+-- The operator that a terminal stands for between two operands, if it is one.
 use Rattle.std.specs.Prelude.{Option, None, Some}
 use Rattle.twe_ast.specs.declared.expr.BinOp.{BinOp}
 use Rattle.twe_ast.specs.declared.expr.BinOp.TheVariants as operators

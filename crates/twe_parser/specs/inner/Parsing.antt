@@ -1,4 +1,4 @@
--- Why there is no lexeme at the front of the rest of a text that begins at a place.
+-- Why the rest of a text, which begins at this place, has no first lexeme.
 use Rattle.std.specs.Prelude.{◌≡◌, ℕ, List, ◌++◌, take}
 use Rattle.twe_io.specs.declared.place.Place.{Place}
 use Rattle.twe_lexer.specs.Front.{StopsAt}

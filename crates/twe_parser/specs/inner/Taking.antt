@@ -1,4 +1,4 @@
--- What the parser does with a token.
+-- One token of the parser.
 use Rattle.std.specs.Prelude.{◌≡◌, true, false, None, Some}
 use Rattle.twe_lexer.specs.declared.token.Token.{Token}
 use Rattle.twe_parser.specs.declared.fail.ParseFail.{ParseFail}
@@ -9,18 +9,18 @@ use Rattle.twe_parser.specs.declared.parser.Parser.{Parser}
 use Rattle.twe_parser.specs.Limits.{sofar_after, is_too_large, is_too_deep}
 use Rattle.twe_parser.specs.inner.Machine.{Machine, after}
 
--- the token has a place, and no limit is met
+-- the parser reads the token: the machine takes it, and no limit is exceeded
 pub record Takes (token : Token) (old new : Parser) : Type 0 where
-  pub machine : after token old.machine.todo old.machine.work ≡ Some (new.machine.todo, new.machine.work)
+  pub machine : after token old.machine.stack old.machine.values ≡ Some (new.machine.stack, new.machine.values)
   pub sofar : new.sofar ≡ sofar_after old.sofar token.kind
   pub small : is_too_large old.sofar token.kind ≡ false
   pub shallow : is_too_deep old.sofar token.kind ≡ false
 
 abbrev pub RefusesBy : SRule → Token → Parser → Type 0
-RefusesBy S2 token old = after token old.machine.todo old.machine.work ≡ None
-RefusesBy S4 token old = ((next : Machine) × (after token old.machine.todo old.machine.work ≡ Some next)) × (is_too_large old.sofar token.kind ≡ true)
+RefusesBy S2 token old = after token old.machine.stack old.machine.values ≡ None
+RefusesBy S4 token old = ((next : Machine) × (after token old.machine.stack old.machine.values ≡ Some next)) × (is_too_large old.sofar token.kind ≡ true)
 RefusesBy S5 token old =
-    ((next : Machine) × (after token old.machine.todo old.machine.work ≡ Some next)) × (is_too_large old.sofar token.kind ≡ false) × (is_too_deep old.sofar token.kind ≡ true)
+    ((next : Machine) × (after token old.machine.stack old.machine.values ≡ Some next)) × (is_too_large old.sofar token.kind ≡ false) × (is_too_deep old.sofar token.kind ≡ true)
 RefusesBy _ token old = ⊥
 
 abbrev pub RefusesToken : ParseFail → Token → Parser → Type 0

@@ -1,4 +1,4 @@
--- What a token is, but for its value.
+-- The terminals of tokens.
 use Rattle.std.specs.Prelude.{Bool, true, false, bytes_eq}
 use Rattle.twe_lexer.specs.declared.fixed.Fixed.{Fixed}
 use Rattle.twe_lexer.specs.declared.token.TokenKind.{TokenKind}
@@ -18,7 +18,7 @@ terminal_of kinds.Stray = next.Stray
 abbrev pub same_fixed : Fixed → Fixed → Bool
 same_fixed f g = bytes_eq (spelling f) (spelling g)
 
--- a token is the one that has to come
+-- the terminal is the one that the symbol expects
 abbrev pub meets : Symbol → Terminal → Bool
 meets symbols.Name next.Name = true
 meets symbols.Literal next.Literal = true

@@ -3,7 +3,7 @@ use Rattle.std.specs.Prelude.{false}
 use Rattle.twe_ast.specs.inner.ExpressionSize.{depth, depth_of_all}
 use Rattle.twe_ast.specs.inner.ExpressionView.{arguments_of}
 use Rattle.ast_printer.specs.Text.{text_of}
-use Rattle.ast_printer.specs.ExpressionWords.{arguments_words}
+use Rattle.ast_printer.specs.ExpressionTokens.{arguments_tokens}
 use Rattle.ast_printer.proofs.expr.+expr.Given as goal
 
 -- what is written inside an expression is less deep
@@ -25,4 +25,4 @@ decreases-push_args l = 2 * depth_of_all l.args.now
 -- what is written, and what is left, are all
 abbrev pub invariant-push_args-loop-arg : goal.invariant-push_args-loop-arg
 invariant-push_args-loop-arg l =
-    l.text ++ text_of (arguments_words l.later (arguments_of (drop l.arg-index l.arg-items))) ≡ l.fn.text ++ text_of (arguments_words false l.args)
+    l.text ++ text_of (arguments_tokens l.later (arguments_of (drop l.arg-index l.arg-items))) ≡ l.fn.text ++ text_of (arguments_tokens false l.args)

@@ -7,7 +7,7 @@ use Rattle.twe_lexer.specs.declared.token.Token.{Token}
 use Rattle.twe_ast.specs.Precedence.{level_of}
 use Rattle.twe_parser.specs.WritesExpression.{WritesShape, binary, parentheses}
 use Rattle.ast_printer.specs.Enclosed.{BeginsEnclosed}
-use Rattle.ast_printer.specs.ExpressionWords.{needs_parentheses}
+use Rattle.ast_printer.specs.ExpressionTokens.{needs_parentheses}
 use Rattle.ast_printer.proofs.laws.parentheses_are_needed.Goals as goal
 
 begins : (level : ℕ) (op : BinOp) (left right : Expression) (place : Place) (tokens rest : List Token) → needs_parentheses level op ≡ true → WritesShape level (Binary op left right place) tokens rest → BeginsEnclosed tokens

@@ -1,15 +1,15 @@
-//! Words: how each is written, and what stands after it.
+//! Tokens: the bytes of each, and the space or the end of a line after it.
 ghost use Rattle.std.specs.Prelude.{◌≡◌, [], ◌∷◌, ◌++◌, unsigned_abs, OnOk};
 ghost use Rattle.twe_lexer.specs.declared.token.TokenKind.TheVariants as kinds;
 ghost use Rattle.ast_printer.specs.Text.{gap_after, text_of, when};
-ghost use Rattle.ast_printer.specs.ExpressionWords.{literal_words};
+ghost use Rattle.ast_printer.specs.ExpressionTokens.{literal_tokens};
 
 use itoa::Buffer;
 use twe_ast::Name;
 use twe_io::{Bytes, Memory};
 use twe_lexer::Fixed;
 
-/// What stands after a keyword or a symbol: the end of the line after `{`, `}` and `;`, else a space.
+/// The byte after a keyword or a symbol: the end of a line after `{`, `}` and `;`, else a space.
 fn gap_after(fixed: Fixed) -> u8
     ensures { result ≡ gap_after (kinds.Fixed fixed) }
 {
@@ -27,7 +27,7 @@ pub(crate) fn push_fixed(text: &mut Bytes, fixed: Fixed) -> Result<(), Memory>
     text.push(gap_after(fixed))
 }
 
-/// Writes a keyword or a symbol where it stands there.
+/// Writes a keyword or a symbol if the condition is true.
 pub(crate) fn push_when(text: &mut Bytes, stands: bool, fixed: Fixed) -> Result<(), Memory>
     ensures { OnOk result (text.new ≡ text.old ++ text_of (when stands fixed)) }
 {
@@ -69,9 +69,9 @@ pub(crate) fn push_number(text: &mut Bytes, number: u32) -> Result<(), Memory>
     text.push(b' ')
 }
 
-/// Writes a literal: its digits, after `-` where it is below zero.
+/// Writes a literal: its digits, after `-` if it is negative.
 pub(crate) fn push_literal(text: &mut Bytes, value: i32) -> Result<(), Memory>
-    ensures { OnOk result (text.new ≡ text.old ++ text_of (literal_words value)) }
+    ensures { OnOk result (text.new ≡ text.old ++ text_of (literal_tokens value)) }
 {
     push_when(text, value < 0, Fixed::Minus)?;
     push_number(text, value.unsigned_abs())

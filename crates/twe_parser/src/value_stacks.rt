@@ -1,11 +1,11 @@
-//! The trees that the parser has in work: what was read and is not yet part of a greater tree.
+//! The stacks of semantic values: the names, numbers and trees that are not yet part of a larger tree.
 //!
-//! The table of rows is such that no act finds its stacks empty. Where one were, a stand-in would be taken.
+//! No semantic action finds a stack that it pops empty. If one did, it would use a dummy value.
 ghost use Rattle.std.specs.Prelude.{◌≡◌, OnOk, IfOk};
-ghost use Rattle.twe_parser.specs.inner.Works.{nowhere, nothing, nameless, no_block, idle, kept};
-ghost use Rattle.twe_parser.specs.inner.Acts.{acted};
+ghost use Rattle.twe_parser.specs.inner.ValueStacks.{nowhere, nothing, nameless, no_block, no_values, kept};
+ghost use Rattle.twe_parser.specs.inner.Actions.{performed};
 
-use crate::symbol::Act;
+use crate::symbol::Action;
 use std::alloc::Global;
 use twe_ast::{Arm, Block, CellElem, Clause, Expr, ExprKind, Item, Name, Path, PathElem, Stmt};
 use twe_io::{List, Memory, Place, Stack, Word};
@@ -15,14 +15,14 @@ mod exprs;
 mod items;
 mod stmts;
 
-/// What was read and is not yet part of a greater tree.
+/// The semantic values that are not yet part of a larger tree.
 #[derive(Drop)]
-pub(crate) struct Work {
+pub(crate) struct ValueStacks {
     /// Names.
     pub(crate) names: Stack<Name>,
     /// The values of literals.
     pub(crate) numbers: Stack<u32>,
-    /// Places that were kept.
+    /// The places of tokens that an action will use.
     pub(crate) places: Stack<Place>,
     /// Expressions.
     pub(crate) exprs: Stack<Expr>,
@@ -48,14 +48,14 @@ pub(crate) struct Work {
     pub(crate) items: List<Item>,
 }
 
-/// A place that stands in for one.
+/// The dummy place.
 fn nowhere() -> Place
     ensures { result ≡ nowhere }
 {
     Place { line: 0, col: 0 }
 }
 
-/// An expression that stands in for one.
+/// The dummy expression.
 fn nothing() -> Expr
     ensures { result ≡ nothing }
 {
@@ -65,7 +65,7 @@ fn nothing() -> Expr
     }
 }
 
-/// A name that stands in for one.
+/// The dummy name.
 fn nameless(alloc: Global) -> Name
     ensures { result ≡ nameless }
 {
@@ -75,7 +75,7 @@ fn nameless(alloc: Global) -> Name
     }
 }
 
-/// A block that stands in for one.
+/// The dummy block.
 fn no_block(alloc: Global) -> Block
     ensures { result ≡ no_block }
 {
@@ -85,12 +85,12 @@ fn no_block(alloc: Global) -> Block
     }
 }
 
-impl Work {
-    /// Nothing is in work. It takes no memory.
+impl ValueStacks {
+    /// No values. It allocates nothing.
     pub(crate) fn new(alloc: Global) -> Self
-        ensures { result ≡ idle }
+        ensures { result ≡ no_values }
     {
-        Work {
+        ValueStacks {
             names: Stack::new(alloc),
             numbers: Stack::new(alloc),
             places: Stack::new(alloc),
@@ -108,7 +108,7 @@ impl Work {
         }
     }
 
-    /// Keeps what a token says: a name, a number, and its place where it is marked.
+    /// Pushes the value of a token, if it is a name or a literal, and its place if `mark` is set.
     pub(crate) fn keep(&mut self, token: Token, mark: bool) -> Result<(), Memory>
         ensures { OnOk result (self.new ≡ kept token mark self.old) }
     {
@@ -123,15 +123,15 @@ impl Work {
         }
     }
 
-    /// Makes a tree of what is in work.
-    pub(crate) fn act(&mut self, alloc: Global, act: Act) -> Result<(), Memory>
-        ensures { OnOk result (self.new ≡ acted act self.old) }
+    /// Performs a semantic action.
+    pub(crate) fn perform(&mut self, alloc: Global, action: Action) -> Result<(), Memory>
+        ensures { OnOk result (self.new ≡ performed action self.old) }
     {
-        match act {
-            Act::Nothing => Ok(()),
-            Act::Expr(act) => self.act_expr(alloc, act),
-            Act::Stmt(act) => self.act_stmt(alloc, act),
-            Act::Item(act) => self.act_item(alloc, act),
+        match action {
+            Action::Nothing => Ok(()),
+            Action::Expr(action) => self.perform_expr(alloc, action),
+            Action::Stmt(action) => self.perform_stmt(alloc, action),
+            Action::Item(action) => self.perform_item(alloc, action),
         }
     }
 }

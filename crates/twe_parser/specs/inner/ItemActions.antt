@@ -1,4 +1,4 @@
--- The making of declarations.
+-- The semantic actions that make declarations.
 use Rattle.std.specs.Prelude.{ℕ, List, [], ◌∷◌, ◌++◌, Bool, true, false, None, Some}
 use Rattle.twe_ast.specs.declared.item.CellShape.{CellShape}
 use Rattle.twe_ast.specs.declared.item.CellShape.TheVariants as shapes
@@ -13,18 +13,19 @@ use Rattle.twe_ast.specs.declared.path.PathElem.{PathElem}
 use Rattle.twe_ast.specs.declared.path.PathElemKind.TheVariants as elem_kinds
 use Rattle.twe_parser.specs.declared.symbol.CellKind.{CellKind}
 use Rattle.twe_parser.specs.declared.symbol.CellKind.TheVariants as cells
-use Rattle.twe_parser.specs.declared.symbol.ItemAct.{ItemAct}
-use Rattle.twe_parser.specs.declared.symbol.ItemAct.TheVariants as acts
-use Rattle.twe_parser.specs.declared.work.Work.{Work}
+use Rattle.twe_parser.specs.declared.symbol.ItemAction.{ItemAction}
+use Rattle.twe_parser.specs.declared.symbol.ItemAction.TheVariants as actions
+use Rattle.twe_parser.specs.declared.value_stacks.ValueStacks.{ValueStacks}
 use Rattle.twe_io.specs.Stacks.{top, below}
 use Rattle.twe_parser.specs.Values.{value_of, negative_of}
-use Rattle.twe_parser.specs.inner.Works.{nowhere, nameless, no_block}
+use Rattle.twe_parser.specs.inner.Kinds.{is_write}
+use Rattle.twe_parser.specs.inner.ValueStacks.{nowhere, nameless, no_block}
 
 -- one more declaration
-abbrev pub with_item : Item → Work → Work
+abbrev pub with_item : Item → ValueStacks → ValueStacks
 with_item item w = record w { items = w.items ++ item ∷ [] }
 
--- what is declared with these numbers, and the numbers that are left
+-- the shape of cells with these sizes, and the numbers that are left
 abbrev pub shape_from : CellKind → List ℕ → CellShape
 shape_from cells.Scalar numbers = shapes.Scalar None
 shape_from cells.Array numbers = shapes.Array (top numbers 0)
@@ -39,42 +40,42 @@ abbrev pub initial_of : Bool → ℕ → Initial
 initial_of true n = record { minus = true; value = negative_of n }
 initial_of false n = record { minus = false; value = value_of n }
 
--- the declaration of cells of this shape, whose name and path are in work
-abbrev pub with_cell : CellShape → Work → Work
+-- the stacks after a declaration of cells of this shape
+abbrev pub with_cell : CellShape → ValueStacks → ValueStacks
 with_cell shape w = with_item (items.Cell (record { name = top w.names nameless; shape = shape; path = record { elems = w.cell_elems; place = top w.places nowhere } }))
     (record w { names = below w.names; places = below w.places; cell_elems = [] })
 
--- the declaration of a method or a task that is in work
-abbrev pub decl_from : ReturnType → Work → Decl
+-- the declaration of a method or a task from the stacks
+abbrev pub decl_from : ReturnType → ValueStacks → Decl
 decl_from returns w = record { returns = returns; name = top w.names nameless; params = w.listed; effects = w.clauses; body = top w.blocks no_block }
 
-abbrev pub without_decl : Work → Work
+abbrev pub without_decl : ValueStacks → ValueStacks
 without_decl w = record w { names = below w.names; listed = []; clauses = []; blocks = below w.blocks }
 
-abbrev pub with_elem : PathElem → Work → Work
+abbrev pub with_elem : PathElem → ValueStacks → ValueStacks
 with_elem elem w = record w { elems = w.elems ++ elem ∷ [] }
 
-abbrev pub with_cell_elem : CellElem → Work → Work
+abbrev pub with_cell_elem : CellElem → ValueStacks → ValueStacks
 with_cell_elem elem w = record w { cell_elems = w.cell_elems ++ elem ∷ [] }
 
-abbrev pub act_item : ItemAct → Work → Work
-act_item acts.KeepName w = record w { listed = w.listed ++ top w.names nameless ∷ []; names = below w.names }
-act_item acts.Regions w = with_item (items.Regions w.listed) (record w { listed = [] })
-act_item acts.CellElemName w =
+abbrev pub perform_item : ItemAction → ValueStacks → ValueStacks
+perform_item actions.KeepName w = record w { listed = w.listed ++ top w.names nameless ∷ []; names = below w.names }
+perform_item actions.Regions w = with_item (items.Regions w.listed) (record w { listed = [] })
+perform_item actions.CellElemName w =
     let name = top w.names nameless in with_cell_elem (record { kind = cell_elem_kinds.Name name.text; place = name.place }) (record w { names = below w.names })
-act_item acts.CellElemIndex w =
+perform_item actions.CellElemIndex w =
     with_cell_elem (record { kind = cell_elem_kinds.Index (top w.numbers 0); place = top w.places nowhere }) (record w { numbers = below w.numbers; places = below w.places })
-act_item (acts.Cell kind) w = with_cell (shape_from kind w.numbers) (record w { numbers = left_from kind w.numbers })
-act_item (acts.CellInitial minus) w = with_cell (shapes.Scalar (Some (initial_of minus (top w.numbers 0)))) (record w { numbers = below w.numbers })
-act_item acts.ElemName w =
+perform_item (actions.Cell kind) w = with_cell (shape_from kind w.numbers) (record w { numbers = left_from kind w.numbers })
+perform_item (actions.CellInitial minus) w = with_cell (shapes.Scalar (Some (initial_of minus (top w.numbers 0)))) (record w { numbers = below w.numbers })
+perform_item actions.ElemName w =
     let name = top w.names nameless in with_elem (record { kind = elem_kinds.Name name.text; place = name.place }) (record w { names = below w.names })
-act_item acts.ElemIndex w =
+perform_item actions.ElemIndex w =
     with_elem (record { kind = elem_kinds.Index (top w.numbers 0); place = top w.places nowhere }) (record w { numbers = below w.numbers; places = below w.places })
-act_item acts.ElemVariable w =
+perform_item actions.ElemVariable w =
     with_elem (record { kind = elem_kinds.Variable (top w.names nameless); place = top w.places nowhere }) (record w { names = below w.names; places = below w.places })
-act_item acts.ElemAny w = with_elem (record { kind = elem_kinds.AnyIndex; place = top w.places nowhere }) (record w { places = below w.places })
-act_item acts.ElemStar w = with_elem (record { kind = elem_kinds.Star; place = top w.places nowhere }) (record w { places = below w.places })
-act_item acts.KeepPath w = record w { paths = w.paths ++ (record { elems = w.elems; place = top w.places nowhere }) ∷ []; elems = []; places = below w.places }
-act_item (acts.KeepClause write) w = record w { clauses = w.clauses ++ (record { write = write; paths = w.paths }) ∷ []; paths = [] }
-act_item (acts.Method returns) w = with_item (items.Method (decl_from returns w)) (without_decl w)
-act_item (acts.Task deterministic returns) w = with_item (items.Task deterministic (decl_from returns w)) (without_decl w)
+perform_item actions.ElemAny w = with_elem (record { kind = elem_kinds.AnyIndex; place = top w.places nowhere }) (record w { places = below w.places })
+perform_item actions.ElemStar w = with_elem (record { kind = elem_kinds.Star; place = top w.places nowhere }) (record w { places = below w.places })
+perform_item actions.KeepPath w = record w { paths = w.paths ++ (record { elems = w.elems; place = top w.places nowhere }) ∷ []; elems = []; places = below w.places }
+perform_item (actions.KeepClause access) w = record w { clauses = w.clauses ++ (record { write = is_write access; paths = w.paths }) ∷ []; paths = [] }
+perform_item (actions.Method returns) w = with_item (items.Method (decl_from returns w)) (without_decl w)
+perform_item (actions.Task deterministic returns) w = with_item (items.Task deterministic (decl_from returns w)) (without_decl w)

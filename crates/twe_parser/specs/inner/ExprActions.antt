@@ -1,15 +1,15 @@
--- The making of expressions.
+-- The semantic actions that make expressions.
 use Rattle.std.specs.Prelude.{ℕ, ◌+◌, negsuc, [], ◌∷◌, ◌++◌, ◌==◌, if◌then◌else◌}
 use Rattle.twe_limits.specs.Language.{max_literal}
 use Rattle.twe_io.specs.declared.place.Place.{Place}
 use Rattle.twe_ast.specs.Expression.{Expression, expression, Shape, Literal, Truth, Variable, ArrayElement, GridElement, CallValue, Negative, Negation, Binary}
 use Rattle.twe_ast.specs.inner.ExpressionView.{arguments_of}
-use Rattle.twe_parser.specs.declared.symbol.ExprAct.{ExprAct}
-use Rattle.twe_parser.specs.declared.symbol.ExprAct.TheVariants as acts
-use Rattle.twe_parser.specs.declared.work.Work.{Work}
+use Rattle.twe_parser.specs.declared.symbol.ExprAction.{ExprAction}
+use Rattle.twe_parser.specs.declared.symbol.ExprAction.TheVariants as actions
+use Rattle.twe_parser.specs.declared.value_stacks.ValueStacks.{ValueStacks}
 use Rattle.twe_io.specs.Stacks.{top, below}
 use Rattle.twe_parser.specs.Values.{value_of}
-use Rattle.twe_parser.specs.inner.Works.{nowhere, nothing, nameless}
+use Rattle.twe_parser.specs.inner.ValueStacks.{nowhere, nothing, nameless}
 
 abbrev pub place_of : Expression → Place
 place_of (expression place shape) = place
@@ -17,60 +17,60 @@ place_of (expression place shape) = place
 abbrev pub moved : Place → Expression → Expression
 moved place (expression old shape) = expression place shape
 
--- `-` and then a literal that stands here
+-- `-` followed by a literal at this place
 abbrev pub after_minus : Place → ℕ → Shape
 after_minus place n = if n == max_literal + 1 then Literal (negsuc max_literal) else Negative (expression place (Literal (value_of n)))
 
-abbrev pub act_expr : ExprAct → Work → Work
-act_expr acts.Literal w = record w {
+abbrev pub perform_expr : ExprAction → ValueStacks → ValueStacks
+perform_expr actions.Literal w = record w {
   exprs = expression (top w.places nowhere) (Literal (value_of (top w.numbers 0))) ∷ w.exprs;
   places = below w.places;
   numbers = below w.numbers;
 }
-act_expr (acts.Truth value) w = record w {
+perform_expr (actions.Truth value) w = record w {
   exprs = expression (top w.places nowhere) (Truth value) ∷ w.exprs;
   places = below w.places;
 }
-act_expr acts.MinusLiteral w = record w {
+perform_expr actions.MinusLiteral w = record w {
   exprs = expression (top (below w.places) nowhere) (after_minus (top w.places nowhere) (top w.numbers 0)) ∷ w.exprs;
   places = below (below w.places);
   numbers = below w.numbers;
 }
-act_expr acts.Negate w = record w {
+perform_expr actions.Negate w = record w {
   exprs = expression (top w.places nowhere) (Negative (top w.exprs nothing)) ∷ below w.exprs;
   places = below w.places;
 }
-act_expr acts.Not w = record w {
+perform_expr actions.Not w = record w {
   exprs = expression (top w.places nowhere) (Negation (top w.exprs nothing)) ∷ below w.exprs;
   places = below w.places;
 }
-act_expr acts.Variable w = record w {
+perform_expr actions.Variable w = record w {
   exprs = (let name = top w.names nameless in expression name.place (Variable name)) ∷ w.exprs;
   names = below w.names;
 }
-act_expr acts.Enclose w = record w {
+perform_expr actions.Enclose w = record w {
   exprs = moved (top w.places nowhere) (top w.exprs nothing) ∷ below w.exprs;
   places = below w.places;
 }
-act_expr (acts.Binary op) w = record w {
+perform_expr (actions.Binary op) w = record w {
   exprs = (let left = top (below w.exprs) nothing in expression (place_of left) (Binary op left (top w.exprs nothing) (top w.places nowhere))) ∷ below (below w.exprs);
   places = below w.places;
 }
-act_expr acts.NewArgs w = record w { args = [] ∷ w.args }
-act_expr acts.KeepArg w = record w {
+perform_expr actions.NewArgs w = record w { args = [] ∷ w.args }
+perform_expr actions.KeepArg w = record w {
   args = (top w.args [] ++ top w.exprs nothing ∷ []) ∷ below w.args;
   exprs = below w.exprs;
 }
-act_expr acts.CallValue w = record w {
+perform_expr actions.CallValue w = record w {
   exprs = (let name = top w.names nameless in expression name.place (CallValue name (arguments_of (top w.args [])))) ∷ w.exprs;
   names = below w.names;
   args = below w.args;
 }
-act_expr acts.Element w = record w {
+perform_expr actions.Element w = record w {
   exprs = (let name = top w.names nameless in expression name.place (ArrayElement name (top w.exprs nothing))) ∷ below w.exprs;
   names = below w.names;
 }
-act_expr acts.GridElement w = record w {
+perform_expr actions.GridElement w = record w {
   exprs = (let name = top w.names nameless in expression name.place (GridElement name (top (below w.exprs) nothing) (top w.exprs nothing))) ∷ below (below w.exprs);
   names = below w.names;
 }

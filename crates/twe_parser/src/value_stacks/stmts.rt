@@ -1,45 +1,45 @@
-//! The making of statements.
+//! The semantic actions that make statements.
 ghost use Rattle.std.specs.Prelude.{◌≡◌, OnOk};
 ghost use Rattle.twe_ast.specs.inner.StatementView.{statement_of};
-ghost use Rattle.twe_parser.specs.declared.symbol.StmtAct.TheVariants as acts;
-ghost use Rattle.twe_parser.specs.inner.StmtActs.{act_stmt};
-ghost use Rattle.twe_parser.specs.inner.Works.{with_statement};
+ghost use Rattle.twe_parser.specs.declared.symbol.StmtAction.TheVariants as actions;
+ghost use Rattle.twe_parser.specs.inner.StmtActions.{perform_stmt};
+ghost use Rattle.twe_parser.specs.inner.ValueStacks.{with_statement};
 
-use crate::symbol::StmtAct;
-use crate::work::{Work, nameless, no_block, nothing, nowhere};
+use crate::symbol::{StmtAction, WaitKind};
+use crate::value_stacks::{ValueStacks, nameless, no_block, nothing, nowhere};
 use std::alloc::Global;
 use twe_ast::{Args, Arm, Arms, Block, LocalType, Stmt, StmtKind, WaitCall};
 use twe_io::{List, Memory};
 
-impl Work {
-    /// Makes a statement of what is in work.
-    pub(crate) fn act_stmt(&mut self, alloc: Global, act: StmtAct) -> Result<(), Memory>
-        ensures { OnOk result (self.new ≡ act_stmt act self.old) }
+impl ValueStacks {
+    /// Performs a semantic action that makes a statement.
+    pub(crate) fn perform_stmt(&mut self, alloc: Global, action: StmtAction) -> Result<(), Memory>
+        ensures { OnOk result (self.new ≡ perform_stmt action self.old) }
     {
-        match act {
-            StmtAct::NewBlock => self.lists.push(List::new(alloc)),
-            StmtAct::CloseBlock => self.close_block(alloc),
-            StmtAct::BlockStatement => self.block_statement(alloc),
-            StmtAct::Let(is_final, local_type) => self.let_local(alloc, is_final, local_type),
-            StmtAct::Set => self.set(alloc),
-            StmtAct::SetArray => self.set_array(alloc),
-            StmtAct::SetGrid => self.set_grid(alloc),
-            StmtAct::NewArms => self.arms.push(List::new(alloc)),
-            StmtAct::KeepArm => self.keep_arm(alloc),
-            StmtAct::CloseIf => self.close_if(alloc),
-            StmtAct::CloseIfElse => self.close_if_else(alloc),
-            StmtAct::While => self.while_turns(alloc),
-            StmtAct::Return => self.return_value(alloc),
-            StmtAct::ReturnNothing => self.return_nothing(alloc),
-            StmtAct::Print => self.print(alloc),
-            StmtAct::CallStatement => self.call_statement(alloc),
-            StmtAct::Make(spawned) => self.make(alloc, spawned),
-            StmtAct::Wait(join) => self.wait(alloc, join),
-            StmtAct::LetWait(is_final, join) => self.let_wait(alloc, is_final, join),
+        match action {
+            StmtAction::NewBlock => self.lists.push(List::new(alloc)),
+            StmtAction::CloseBlock => self.close_block(alloc),
+            StmtAction::BlockStatement => self.block_statement(alloc),
+            StmtAction::Let(is_final, local_type) => self.let_local(alloc, is_final, local_type),
+            StmtAction::Set => self.set(alloc),
+            StmtAction::SetArray => self.set_array(alloc),
+            StmtAction::SetGrid => self.set_grid(alloc),
+            StmtAction::NewArms => self.arms.push(List::new(alloc)),
+            StmtAction::KeepArm => self.keep_arm(alloc),
+            StmtAction::CloseIf => self.close_if(alloc),
+            StmtAction::CloseIfElse => self.close_if_else(alloc),
+            StmtAction::While => self.while_turns(alloc),
+            StmtAction::Return => self.return_value(alloc),
+            StmtAction::ReturnNothing => self.return_nothing(alloc),
+            StmtAction::Print => self.print(alloc),
+            StmtAction::CallStatement => self.call_statement(alloc),
+            StmtAction::Make(spawned) => self.make(alloc, spawned),
+            StmtAction::Wait(kind) => self.wait(alloc, kind),
+            StmtAction::LetWait(is_final, kind) => self.let_wait(alloc, is_final, kind),
         }
     }
 
-    /// Puts a statement at the end of the innermost open block.
+    /// Appends a statement to the innermost open block.
     fn push_stmt(&mut self, alloc: Global, kind: StmtKind) -> Result<(), Memory>
         ensures { OnOk result (self.new ≡ with_statement (statement_of kind) self.old) }
     {
@@ -49,7 +49,7 @@ impl Work {
     }
 
     fn close_block(&mut self, alloc: Global) -> Result<(), Memory>
-        ensures { OnOk result (self.new ≡ act_stmt acts.CloseBlock self.old) }
+        ensures { OnOk result (self.new ≡ perform_stmt actions.CloseBlock self.old) }
     {
         let close = self.places.pop_or(nowhere());
         let stmts = self.lists.pop_or(List::new(alloc)).into_vec();
@@ -57,7 +57,7 @@ impl Work {
     }
 
     fn block_statement(&mut self, alloc: Global) -> Result<(), Memory>
-        ensures { OnOk result (self.new ≡ act_stmt acts.BlockStatement self.old) }
+        ensures { OnOk result (self.new ≡ perform_stmt actions.BlockStatement self.old) }
     {
         let body = self.blocks.pop_or(no_block(alloc));
         self.push_stmt(alloc, StmtKind::Block(body))
@@ -69,7 +69,7 @@ impl Work {
         is_final: bool,
         local_type: LocalType,
     ) -> Result<(), Memory>
-        ensures { OnOk result (self.new ≡ act_stmt (acts.Let is_final local_type) self.old) }
+        ensures { OnOk result (self.new ≡ perform_stmt (actions.Let is_final local_type) self.old) }
     {
         let name = self.names.pop_or(nameless(alloc));
         let value = self.exprs.pop_or(nothing());
@@ -85,7 +85,7 @@ impl Work {
     }
 
     fn set(&mut self, alloc: Global) -> Result<(), Memory>
-        ensures { OnOk result (self.new ≡ act_stmt acts.Set self.old) }
+        ensures { OnOk result (self.new ≡ perform_stmt actions.Set self.old) }
     {
         let name = self.names.pop_or(nameless(alloc));
         let value = self.exprs.pop_or(nothing());
@@ -93,7 +93,7 @@ impl Work {
     }
 
     fn set_array(&mut self, alloc: Global) -> Result<(), Memory>
-        ensures { OnOk result (self.new ≡ act_stmt acts.SetArray self.old) }
+        ensures { OnOk result (self.new ≡ perform_stmt actions.SetArray self.old) }
     {
         let array = self.names.pop_or(nameless(alloc));
         let value = self.exprs.pop_or(nothing());
@@ -110,7 +110,7 @@ impl Work {
     }
 
     fn set_grid(&mut self, alloc: Global) -> Result<(), Memory>
-        ensures { OnOk result (self.new ≡ act_stmt acts.SetGrid self.old) }
+        ensures { OnOk result (self.new ≡ perform_stmt actions.SetGrid self.old) }
     {
         let array = self.names.pop_or(nameless(alloc));
         let value = self.exprs.pop_or(nothing());
@@ -128,7 +128,7 @@ impl Work {
     }
 
     fn keep_arm(&mut self, alloc: Global) -> Result<(), Memory>
-        ensures { OnOk result (self.new ≡ act_stmt acts.KeepArm self.old) }
+        ensures { OnOk result (self.new ≡ perform_stmt actions.KeepArm self.old) }
     {
         let condition = self.exprs.pop_or(nothing());
         let body = self.blocks.pop_or(no_block(alloc));
@@ -138,14 +138,14 @@ impl Work {
     }
 
     fn close_if(&mut self, alloc: Global) -> Result<(), Memory>
-        ensures { OnOk result (self.new ≡ act_stmt acts.CloseIf self.old) }
+        ensures { OnOk result (self.new ≡ perform_stmt actions.CloseIf self.old) }
     {
         let arms = self.arms.pop_or(List::new(alloc)).into_vec();
         self.push_stmt(alloc, StmtKind::If(Arms { arms, last: None }))
     }
 
     fn close_if_else(&mut self, alloc: Global) -> Result<(), Memory>
-        ensures { OnOk result (self.new ≡ act_stmt acts.CloseIfElse self.old) }
+        ensures { OnOk result (self.new ≡ perform_stmt actions.CloseIfElse self.old) }
     {
         let body = self.blocks.pop_or(no_block(alloc));
         let arms = self.arms.pop_or(List::new(alloc)).into_vec();
@@ -159,7 +159,7 @@ impl Work {
     }
 
     fn while_turns(&mut self, alloc: Global) -> Result<(), Memory>
-        ensures { OnOk result (self.new ≡ act_stmt acts.While self.old) }
+        ensures { OnOk result (self.new ≡ perform_stmt actions.While self.old) }
     {
         let place = self.places.pop_or(nowhere());
         let condition = self.exprs.pop_or(nothing());
@@ -175,7 +175,7 @@ impl Work {
     }
 
     fn return_value(&mut self, alloc: Global) -> Result<(), Memory>
-        ensures { OnOk result (self.new ≡ act_stmt acts.Return self.old) }
+        ensures { OnOk result (self.new ≡ perform_stmt actions.Return self.old) }
     {
         let place = self.places.pop_or(nowhere());
         let value = self.exprs.pop_or(nothing());
@@ -189,14 +189,14 @@ impl Work {
     }
 
     fn return_nothing(&mut self, alloc: Global) -> Result<(), Memory>
-        ensures { OnOk result (self.new ≡ act_stmt acts.ReturnNothing self.old) }
+        ensures { OnOk result (self.new ≡ perform_stmt actions.ReturnNothing self.old) }
     {
         let place = self.places.pop_or(nowhere());
         self.push_stmt(alloc, StmtKind::Return { place, value: None })
     }
 
     fn print(&mut self, alloc: Global) -> Result<(), Memory>
-        ensures { OnOk result (self.new ≡ act_stmt acts.Print self.old) }
+        ensures { OnOk result (self.new ≡ perform_stmt actions.Print self.old) }
     {
         let place = self.places.pop_or(nowhere());
         let value = self.exprs.pop_or(nothing());
@@ -204,7 +204,7 @@ impl Work {
     }
 
     fn call_statement(&mut self, alloc: Global) -> Result<(), Memory>
-        ensures { OnOk result (self.new ≡ act_stmt acts.CallStatement self.old) }
+        ensures { OnOk result (self.new ≡ perform_stmt actions.CallStatement self.old) }
     {
         let method = self.names.pop_or(nameless(alloc));
         let items = self.args.pop_or(List::new(alloc)).into_vec();
@@ -218,7 +218,7 @@ impl Work {
     }
 
     fn make(&mut self, alloc: Global, spawned: bool) -> Result<(), Memory>
-        ensures { OnOk result (self.new ≡ act_stmt (acts.Make spawned) self.old) }
+        ensures { OnOk result (self.new ≡ perform_stmt (actions.Make spawned) self.old) }
     {
         let task = self.names.pop_or(nameless(alloc));
         let future = self.names.pop_or(nameless(alloc));
@@ -234,18 +234,20 @@ impl Work {
         )
     }
 
-    fn wait(&mut self, alloc: Global, join: bool) -> Result<(), Memory>
-        ensures { OnOk result (self.new ≡ act_stmt (acts.Wait join) self.old) }
+    fn wait(&mut self, alloc: Global, kind: WaitKind) -> Result<(), Memory>
+        ensures { OnOk result (self.new ≡ perform_stmt (actions.Wait kind) self.old) }
     {
         let future = self.names.pop_or(nameless(alloc));
+        let join = kind.is_join();
         self.push_stmt(alloc, StmtKind::Wait(WaitCall { future, join }))
     }
 
-    fn let_wait(&mut self, alloc: Global, is_final: bool, join: bool) -> Result<(), Memory>
-        ensures { OnOk result (self.new ≡ act_stmt (acts.LetWait is_final join) self.old) }
+    fn let_wait(&mut self, alloc: Global, is_final: bool, kind: WaitKind) -> Result<(), Memory>
+        ensures { OnOk result (self.new ≡ perform_stmt (actions.LetWait is_final kind) self.old) }
     {
         let future = self.names.pop_or(nameless(alloc));
         let name = self.names.pop_or(nameless(alloc));
+        let join = kind.is_join();
         let wait = WaitCall { future, join };
         self.push_stmt(
             alloc,

@@ -1,27 +1,27 @@
-//! The making of expressions.
+//! The semantic actions that make expressions.
 ghost use Rattle.std.specs.Prelude.{◌≡◌, OnOk, IfOk, List, ℕ, ◌∷◌};
 ghost use Rattle.twe_ast.specs.Expression.{Shape, expression};
 ghost use Rattle.twe_ast.specs.inner.ExpressionView.{shape_of};
-ghost use Rattle.twe_parser.specs.declared.symbol.ExprAct.TheVariants as acts;
-ghost use Rattle.twe_parser.specs.inner.ExprActs.{act_expr, after_minus};
+ghost use Rattle.twe_parser.specs.declared.symbol.ExprAction.TheVariants as actions;
+ghost use Rattle.twe_parser.specs.inner.ExprActions.{perform_expr, after_minus};
 ghost use Rattle.twe_parser.specs.Values.{value_of};
-ghost use Rattle.twe_parser.specs.inner.Works.{with_expr};
+ghost use Rattle.twe_parser.specs.inner.ValueStacks.{with_expr};
 
-use crate::symbol::ExprAct;
-use crate::work::{Work, nameless, nothing, nowhere};
+use crate::symbol::ExprAction;
+use crate::value_stacks::{ValueStacks, nameless, nothing, nowhere};
 use std::alloc::Global;
 use twe_ast::{Args, BinOp, Expr, ExprKind};
 use twe_io::{List, Memory, Place};
 use twe_limits::MAX_LITERAL;
 
-/// The value of a literal that stands alone; -2147483648 for one that is too large.
+/// The value of a literal without a sign, or -2147483648 if it is too large.
 pub(crate) fn value_of(number: u32) -> i32
     ensures { result ≡ value_of number }
 {
     i32::try_from(number).unwrap_or(i32::MIN)
 }
 
-/// `-` and a literal that stands at a place.
+/// The expression of `-` and a literal at this place.
 fn after_minus(alloc: Global, place: Place, number: u32) -> Result<ExprKind, Memory>
     ensures { IfOk result (λ kind. shape_of kind ≡ after_minus place number) }
 {
@@ -35,25 +35,25 @@ fn after_minus(alloc: Global, place: Place, number: u32) -> Result<ExprKind, Mem
     Ok(ExprKind::Neg(Box::new(alloc, literal)?))
 }
 
-impl Work {
-    /// Makes an expression of what is in work.
-    pub(crate) fn act_expr(&mut self, alloc: Global, act: ExprAct) -> Result<(), Memory>
-        ensures { OnOk result (self.new ≡ act_expr act self.old) }
+impl ValueStacks {
+    /// Performs a semantic action that makes an expression.
+    pub(crate) fn perform_expr(&mut self, alloc: Global, action: ExprAction) -> Result<(), Memory>
+        ensures { OnOk result (self.new ≡ perform_expr action self.old) }
     {
-        match act {
-            ExprAct::Literal => self.literal(),
-            ExprAct::Truth(value) => self.truth(value),
-            ExprAct::MinusLiteral => self.minus_literal(alloc),
-            ExprAct::Negate => self.negate(alloc),
-            ExprAct::Not => self.not(alloc),
-            ExprAct::Variable => self.variable(alloc),
-            ExprAct::Enclose => self.enclose(),
-            ExprAct::Binary(op) => self.binary(alloc, op),
-            ExprAct::NewArgs => self.args.push(List::new(alloc)),
-            ExprAct::KeepArg => self.keep_arg(alloc),
-            ExprAct::CallValue => self.call_value(alloc),
-            ExprAct::Element => self.element(alloc),
-            ExprAct::GridElement => self.grid_element(alloc),
+        match action {
+            ExprAction::Literal => self.literal(),
+            ExprAction::Truth(value) => self.truth(value),
+            ExprAction::MinusLiteral => self.minus_literal(alloc),
+            ExprAction::Negate => self.negate(alloc),
+            ExprAction::Not => self.not(alloc),
+            ExprAction::Variable => self.variable(alloc),
+            ExprAction::Enclose => self.enclose(),
+            ExprAction::Binary(op) => self.binary(alloc, op),
+            ExprAction::NewArgs => self.args.push(List::new(alloc)),
+            ExprAction::KeepArg => self.keep_arg(alloc),
+            ExprAction::CallValue => self.call_value(alloc),
+            ExprAction::Element => self.element(alloc),
+            ExprAction::GridElement => self.grid_element(alloc),
         }
     }
 
@@ -64,7 +64,7 @@ impl Work {
     }
 
     fn literal(&mut self) -> Result<(), Memory>
-        ensures { OnOk result (self.new ≡ act_expr acts.Literal self.old) }
+        ensures { OnOk result (self.new ≡ perform_expr actions.Literal self.old) }
     {
         let place = self.places.pop_or(nowhere());
         let number = self.numbers.pop_or(0);
@@ -72,14 +72,14 @@ impl Work {
     }
 
     fn truth(&mut self, value: bool) -> Result<(), Memory>
-        ensures { OnOk result (self.new ≡ act_expr (acts.Truth value) self.old) }
+        ensures { OnOk result (self.new ≡ perform_expr (actions.Truth value) self.old) }
     {
         let place = self.places.pop_or(nowhere());
         self.push_expr(place, ExprKind::Truth(value))
     }
 
     fn minus_literal(&mut self, alloc: Global) -> Result<(), Memory>
-        ensures { OnOk result (self.new ≡ act_expr acts.MinusLiteral self.old) }
+        ensures { OnOk result (self.new ≡ perform_expr actions.MinusLiteral self.old) }
     {
         let place = self.places.pop_or(nowhere());
         let minus = self.places.pop_or(nowhere());
@@ -88,7 +88,7 @@ impl Work {
     }
 
     fn negate(&mut self, alloc: Global) -> Result<(), Memory>
-        ensures { OnOk result (self.new ≡ act_expr acts.Negate self.old) }
+        ensures { OnOk result (self.new ≡ perform_expr actions.Negate self.old) }
     {
         let place = self.places.pop_or(nowhere());
         let operand = self.exprs.pop_or(nothing());
@@ -96,7 +96,7 @@ impl Work {
     }
 
     fn not(&mut self, alloc: Global) -> Result<(), Memory>
-        ensures { OnOk result (self.new ≡ act_expr acts.Not self.old) }
+        ensures { OnOk result (self.new ≡ perform_expr actions.Not self.old) }
     {
         let place = self.places.pop_or(nowhere());
         let operand = self.exprs.pop_or(nothing());
@@ -104,14 +104,14 @@ impl Work {
     }
 
     fn variable(&mut self, alloc: Global) -> Result<(), Memory>
-        ensures { OnOk result (self.new ≡ act_expr acts.Variable self.old) }
+        ensures { OnOk result (self.new ≡ perform_expr actions.Variable self.old) }
     {
         let name = self.names.pop_or(nameless(alloc));
         self.push_expr(name.place, ExprKind::Name(name))
     }
 
     fn enclose(&mut self) -> Result<(), Memory>
-        ensures { OnOk result (self.new ≡ act_expr acts.Enclose self.old) }
+        ensures { OnOk result (self.new ≡ perform_expr actions.Enclose self.old) }
     {
         let place = self.places.pop_or(nowhere());
         let Expr { kind, place: _ } = self.exprs.pop_or(nothing());
@@ -119,7 +119,7 @@ impl Work {
     }
 
     fn binary(&mut self, alloc: Global, op: BinOp) -> Result<(), Memory>
-        ensures { OnOk result (self.new ≡ act_expr (acts.Binary op) self.old) }
+        ensures { OnOk result (self.new ≡ perform_expr (actions.Binary op) self.old) }
     {
         let right = self.exprs.pop_or(nothing());
         let left = self.exprs.pop_or(nothing());
@@ -139,7 +139,7 @@ impl Work {
     }
 
     fn keep_arg(&mut self, alloc: Global) -> Result<(), Memory>
-        ensures { OnOk result (self.new ≡ act_expr acts.KeepArg self.old) }
+        ensures { OnOk result (self.new ≡ perform_expr actions.KeepArg self.old) }
     {
         let argument = self.exprs.pop_or(nothing());
         let mut args = self.args.pop_or(List::new(alloc));
@@ -148,7 +148,7 @@ impl Work {
     }
 
     fn call_value(&mut self, alloc: Global) -> Result<(), Memory>
-        ensures { OnOk result (self.new ≡ act_expr acts.CallValue self.old) }
+        ensures { OnOk result (self.new ≡ perform_expr actions.CallValue self.old) }
     {
         let method = self.names.pop_or(nameless(alloc));
         let args = self.args.pop_or(List::new(alloc));
@@ -159,7 +159,7 @@ impl Work {
     }
 
     fn element(&mut self, alloc: Global) -> Result<(), Memory>
-        ensures { OnOk result (self.new ≡ act_expr acts.Element self.old) }
+        ensures { OnOk result (self.new ≡ perform_expr actions.Element self.old) }
     {
         let array = self.names.pop_or(nameless(alloc));
         let index = Box::new(alloc, self.exprs.pop_or(nothing()))?;
@@ -174,7 +174,7 @@ impl Work {
     }
 
     fn grid_element(&mut self, alloc: Global) -> Result<(), Memory>
-        ensures { OnOk result (self.new ≡ act_expr acts.GridElement self.old) }
+        ensures { OnOk result (self.new ≡ perform_expr actions.GridElement self.old) }
     {
         let array = self.names.pop_or(nameless(alloc));
         let column = Box::new(alloc, self.exprs.pop_or(nothing()))?;

@@ -1,14 +1,14 @@
-//! The making of declarations.
+//! The semantic actions that make declarations.
 ghost use Rattle.std.specs.Prelude.{◌≡◌, OnOk};
-ghost use Rattle.twe_parser.specs.declared.symbol.ItemAct.TheVariants as acts;
-ghost use Rattle.twe_parser.specs.inner.ItemActs.{act_item, with_item, with_cell, with_elem, with_cell_elem, shape_from, left_from, initial_of, decl_from, without_decl};
+ghost use Rattle.twe_parser.specs.declared.symbol.ItemAction.TheVariants as actions;
+ghost use Rattle.twe_parser.specs.inner.ItemActions.{perform_item, with_item, with_cell, with_elem, with_cell_elem, shape_from, left_from, initial_of, decl_from, without_decl};
 ghost use Rattle.twe_parser.specs.Values.{negative_of};
 ghost use Rattle.twe_io.specs.Stacks.{top, below};
-ghost use Rattle.twe_parser.specs.inner.Works.{nowhere};
+ghost use Rattle.twe_parser.specs.inner.ValueStacks.{nowhere};
 
-use crate::symbol::{CellKind, ItemAct};
-use crate::work::exprs::value_of;
-use crate::work::{Work, nameless, no_block, nowhere};
+use crate::symbol::{Access, CellKind, ItemAction};
+use crate::value_stacks::exprs::value_of;
+use crate::value_stacks::{ValueStacks, nameless, no_block, nowhere};
 use std::alloc::Global;
 use std::mem;
 use twe_ast::{
@@ -18,7 +18,7 @@ use twe_ast::{
 use twe_io::{List, Memory};
 use twe_limits::MAX_LITERAL;
 
-/// The value of a literal after `-`; -2147483648 for one that is too large.
+/// The value of a literal after `-`, or -2147483648 if it is too large.
 fn negative_of(number: u32) -> i32
     ensures { result ≡ negative_of number }
 {
@@ -41,46 +41,46 @@ fn initial_of(minus: bool, number: u32) -> Initial
     Initial { minus, value }
 }
 
-impl Work {
-    /// Makes a part of a declaration of what is in work.
-    pub(crate) fn act_item(&mut self, alloc: Global, act: ItemAct) -> Result<(), Memory>
-        ensures { OnOk result (self.new ≡ act_item act self.old) }
+impl ValueStacks {
+    /// Performs a semantic action that makes a part of a declaration.
+    pub(crate) fn perform_item(&mut self, alloc: Global, action: ItemAction) -> Result<(), Memory>
+        ensures { OnOk result (self.new ≡ perform_item action self.old) }
     {
-        match act {
-            ItemAct::KeepName => self.keep_name(alloc),
-            ItemAct::Regions => self.regions(alloc),
-            ItemAct::CellElemName => self.cell_elem_name(alloc),
-            ItemAct::CellElemIndex => self.cell_elem_index(),
-            ItemAct::Cell(kind) => self.cell(alloc, kind),
-            ItemAct::CellInitial(minus) => self.cell_initial(alloc, minus),
-            ItemAct::ElemName => self.elem_name(alloc),
-            ItemAct::ElemIndex => self.elem_index(),
-            ItemAct::ElemVariable => self.elem_variable(alloc),
-            ItemAct::ElemAny => self.push_elem(PathElemKind::AnyIndex),
-            ItemAct::ElemStar => self.push_elem(PathElemKind::Star),
-            ItemAct::KeepPath => self.keep_path(alloc),
-            ItemAct::KeepClause(write) => self.keep_clause(alloc, write),
-            ItemAct::Method(returns) => self.method(alloc, returns),
-            ItemAct::Task(deterministic, returns) => self.task(alloc, deterministic, returns),
+        match action {
+            ItemAction::KeepName => self.keep_name(alloc),
+            ItemAction::Regions => self.regions(alloc),
+            ItemAction::CellElemName => self.cell_elem_name(alloc),
+            ItemAction::CellElemIndex => self.cell_elem_index(),
+            ItemAction::Cell(kind) => self.cell(alloc, kind),
+            ItemAction::CellInitial(minus) => self.cell_initial(alloc, minus),
+            ItemAction::ElemName => self.elem_name(alloc),
+            ItemAction::ElemIndex => self.elem_index(),
+            ItemAction::ElemVariable => self.elem_variable(alloc),
+            ItemAction::ElemAny => self.push_elem(PathElemKind::AnyIndex),
+            ItemAction::ElemStar => self.push_elem(PathElemKind::Star),
+            ItemAction::KeepPath => self.keep_path(alloc),
+            ItemAction::KeepClause(access) => self.keep_clause(alloc, access),
+            ItemAction::Method(returns) => self.method(alloc, returns),
+            ItemAction::Task(deterministic, returns) => self.task(alloc, deterministic, returns),
         }
     }
 
     fn keep_name(&mut self, alloc: Global) -> Result<(), Memory>
-        ensures { OnOk result (self.new ≡ act_item acts.KeepName self.old) }
+        ensures { OnOk result (self.new ≡ perform_item actions.KeepName self.old) }
     {
         let name = self.names.pop_or(nameless(alloc));
         self.listed.push(name)
     }
 
     fn regions(&mut self, alloc: Global) -> Result<(), Memory>
-        ensures { OnOk result (self.new ≡ act_item acts.Regions self.old) }
+        ensures { OnOk result (self.new ≡ perform_item actions.Regions self.old) }
     {
         let names = mem::replace(&mut self.listed, List::new(alloc));
         self.items.push(Item::Regions(names))
     }
 
     fn cell_elem_name(&mut self, alloc: Global) -> Result<(), Memory>
-        ensures { OnOk result (self.new ≡ act_item acts.CellElemName self.old) }
+        ensures { OnOk result (self.new ≡ perform_item actions.CellElemName self.old) }
     {
         let name = self.names.pop_or(nameless(alloc));
         self.cell_elems.push(CellElem {
@@ -90,14 +90,14 @@ impl Work {
     }
 
     fn cell_elem_index(&mut self) -> Result<(), Memory>
-        ensures { OnOk result (self.new ≡ act_item acts.CellElemIndex self.old) }
+        ensures { OnOk result (self.new ≡ perform_item actions.CellElemIndex self.old) }
     {
         let kind = CellElemKind::Index(self.numbers.pop_or(0));
         let place = self.places.pop_or(nowhere());
         self.cell_elems.push(CellElem { kind, place })
     }
 
-    /// What is declared with the numbers in work.
+    /// The shape of cells of this kind, with the sizes from the stack of numbers.
     fn shape(&mut self, kind: CellKind) -> CellShape
         ensures shape { result ≡ shape_from kind self.old.numbers }
         ensures left { self.new ≡ record self.old { numbers = left_from kind self.old.numbers } }
@@ -126,21 +126,21 @@ impl Work {
     }
 
     fn cell(&mut self, alloc: Global, kind: CellKind) -> Result<(), Memory>
-        ensures { OnOk result (self.new ≡ act_item (acts.Cell kind) self.old) }
+        ensures { OnOk result (self.new ≡ perform_item (actions.Cell kind) self.old) }
     {
         let shape = self.shape(kind);
         self.push_cell(alloc, shape)
     }
 
     fn cell_initial(&mut self, alloc: Global, minus: bool) -> Result<(), Memory>
-        ensures { OnOk result (self.new ≡ act_item (acts.CellInitial minus) self.old) }
+        ensures { OnOk result (self.new ≡ perform_item (actions.CellInitial minus) self.old) }
     {
         let initial = initial_of(minus, self.numbers.pop_or(0));
         self.push_cell(alloc, CellShape::Scalar(Some(initial)))
     }
 
     fn elem_name(&mut self, alloc: Global) -> Result<(), Memory>
-        ensures { OnOk result (self.new ≡ act_item acts.ElemName self.old) }
+        ensures { OnOk result (self.new ≡ perform_item actions.ElemName self.old) }
     {
         let name = self.names.pop_or(nameless(alloc));
         self.elems.push(PathElem {
@@ -149,7 +149,7 @@ impl Work {
         })
     }
 
-    /// Puts an element at the end of the path, at the place that was kept.
+    /// Appends an element to the path. Its place is the top one of the stack of places.
     fn push_elem(&mut self, kind: PathElemKind) -> Result<(), Memory>
         ensures { OnOk result (self.new ≡ with_elem (record { kind = kind; place = top self.old.places nowhere }) (record self.old { places = below self.old.places })) }
     {
@@ -158,35 +158,36 @@ impl Work {
     }
 
     fn elem_index(&mut self) -> Result<(), Memory>
-        ensures { OnOk result (self.new ≡ act_item acts.ElemIndex self.old) }
+        ensures { OnOk result (self.new ≡ perform_item actions.ElemIndex self.old) }
     {
         let index = self.numbers.pop_or(0);
         self.push_elem(PathElemKind::Index(index))
     }
 
     fn elem_variable(&mut self, alloc: Global) -> Result<(), Memory>
-        ensures { OnOk result (self.new ≡ act_item acts.ElemVariable self.old) }
+        ensures { OnOk result (self.new ≡ perform_item actions.ElemVariable self.old) }
     {
         let name = self.names.pop_or(nameless(alloc));
         self.push_elem(PathElemKind::Variable(name))
     }
 
     fn keep_path(&mut self, alloc: Global) -> Result<(), Memory>
-        ensures { OnOk result (self.new ≡ act_item acts.KeepPath self.old) }
+        ensures { OnOk result (self.new ≡ perform_item actions.KeepPath self.old) }
     {
         let elems = mem::replace(&mut self.elems, List::new(alloc));
         let place = self.places.pop_or(nowhere());
         self.paths.push(Path { elems, place })
     }
 
-    fn keep_clause(&mut self, alloc: Global, write: bool) -> Result<(), Memory>
-        ensures { OnOk result (self.new ≡ act_item (acts.KeepClause write) self.old) }
+    fn keep_clause(&mut self, alloc: Global, access: Access) -> Result<(), Memory>
+        ensures { OnOk result (self.new ≡ perform_item (actions.KeepClause access) self.old) }
     {
         let paths = mem::replace(&mut self.paths, List::new(alloc));
+        let write = access.is_write();
         self.clauses.push(Clause { write, paths })
     }
 
-    /// Takes out the declaration of a method or a task.
+    /// Removes the parts of a declaration of a method or a task, and returns the declaration.
     fn take_decl(&mut self, alloc: Global, returns: ReturnType) -> Decl
         ensures decl { result ≡ decl_from returns self.old }
         ensures left { self.new ≡ without_decl self.old }
@@ -201,7 +202,7 @@ impl Work {
     }
 
     fn method(&mut self, alloc: Global, returns: ReturnType) -> Result<(), Memory>
-        ensures { OnOk result (self.new ≡ act_item (acts.Method returns) self.old) }
+        ensures { OnOk result (self.new ≡ perform_item (actions.Method returns) self.old) }
     {
         let decl = self.take_decl(alloc, returns);
         self.items.push(Item::Method(decl))
@@ -213,7 +214,7 @@ impl Work {
         deterministic: bool,
         returns: ReturnType,
     ) -> Result<(), Memory>
-        ensures { OnOk result (self.new ≡ act_item (acts.Task deterministic returns) self.old) }
+        ensures { OnOk result (self.new ≡ perform_item (actions.Task deterministic returns) self.old) }
     {
         let decl = self.take_decl(alloc, returns);
         self.items.push(Item::Task {
