@@ -6,6 +6,7 @@ use Rattle.std.specs.List.{Contains, flat_map, list_any}
 use Rattle.std.specs.Prelude.{codes}
 use Rattle.std.specs.Str.{bytes_eq}
 use Rattle.std.specs.Cmp.Lexicographic.{bytes_decides}
+use Rattle.twe_limits.specs.Language.{max_effects, max_parameters, max_path_elements}
 use Rattle.twe_io.specs.declared.place.Place.{Place}
 use Rattle.twe_ast.specs.declared.item.Ast.{Ast}
 use Rattle.twe_ast.specs.declared.item.CellDecl.{CellDecl}
@@ -195,15 +196,15 @@ module _ (ast : Ast) where
 
   -- the parts of the failures of a declaration
   module _ (decl : Decl) (there : Contains (decls_of ast) decl) where
-    in_params : (name : Name) → StandsAfter 4 decl.params name → IsIn (failure N7 name.place) (failures_in ast)
+    in_params : (name : Name) → StandsAfter max_parameters decl.params name → IsIn (failure N7 name.place) (failures_in ast)
     in_params name h =
-        in_decl decl there (failure N7 name.place) (in-left (failure N7 name.place) (failures_of_place N7 (fifth_name decl.params)) _ (in-over (λ (n : Name). n.place) decl.params 4 N7 name h))
+        in_decl decl there (failure N7 name.place) (in-left (failure N7 name.place) (failures_of_place N7 (fifth_name decl.params)) _ (in-over (λ (n : Name). n.place) decl.params max_parameters N7 name h))
 
-    in_paths : (path : Path) → StandsAfter 8 (paths_of decl) path → IsIn (failure N7 path.place) (failures_in ast)
+    in_paths : (path : Path) → StandsAfter max_effects (paths_of decl) path → IsIn (failure N7 path.place) (failures_in ast)
     in_paths path h =
         in_decl decl there (failure N7 path.place)
         (in-right (failure N7 path.place) (failures_of_place N7 (fifth_name decl.params)) _
-        (in-left (failure N7 path.place) (failures_of_place N7 (ninth_path (paths_of decl))) _ (in-over (λ (p : Path). p.place) (paths_of decl) 8 N7 path h)))
+        (in-left (failure N7 path.place) (failures_of_place N7 (ninth_path (paths_of decl))) _ (in-over (λ (p : Path). p.place) (paths_of decl) max_effects N7 path h)))
 
     in_path : (path : Path) → Contains (paths_of decl) path → (f : NameFailure) → IsIn f (path_failures path) → IsIn f (failures_in ast)
     in_path path among f h =
@@ -247,10 +248,10 @@ module _ (ast : Ast) where
       inl (in_constant locals returns name asked.Target (seens.Local (local_kinds.Variable number type true)) there is refl)
   fails-listed rule place (rules.too_many_cells cell goes) = inr (cell, goes, refl)
   fails-listed rule place (rules.long_cell_path cell elem there after) =
-      inl (in_cell cell there (failure N7 elem.place) (in-over (λ (e : CellElem). e.place) cell.path.elems 32 N7 elem after))
+      inl (in_cell cell there (failure N7 elem.place) (in-over (λ (e : CellElem). e.place) cell.path.elems max_path_elements N7 elem after))
   fails-listed rule place (rules.long_path decl path elem there among after) =
       inl (in_path decl there path among (failure N7 elem.place)
-      (in-left (failure N7 elem.place) (failures_of_place N7 (long_elem path.elems)) _ (in-over (λ (e : PathElem). e.place) path.elems 32 N7 elem after)))
+      (in-left (failure N7 elem.place) (failures_of_place N7 (long_elem path.elems)) _ (in-over (λ (e : PathElem). e.place) path.elems max_path_elements N7 elem after)))
   fails-listed rule place (rules.too_many_effects decl path there after) = inl (in_paths decl there path after)
   fails-listed rule place (rules.too_many_params decl name there after) = inl (in_params decl there name after)
   fails-listed rule place (rules.no_main none) = inl (in_main none)

@@ -6,6 +6,7 @@ use Rattle.std.specs.List.{Contains, flat_map, list_any}
 use Rattle.std.specs.Prelude.{codes}
 use Rattle.std.specs.Str.{bytes_eq}
 use Rattle.std.specs.Cmp.Lexicographic.{bytes_decides}
+use Rattle.twe_limits.specs.Language.{max_effects, max_parameters, max_path_elements}
 use Rattle.twe_io.specs.declared.place.Place.{Place}
 use Rattle.twe_ast.specs.declared.item.Ast.{Ast}
 use Rattle.twe_ast.specs.declared.item.Decl.{Decl}
@@ -143,7 +144,7 @@ module _ (ast : Ast) where
   path-fails : (decl : Decl) (path : Path) → Contains (decls_of ast) decl → Contains (paths_of decl) path → (f : NameFailure) → IsIn f (path_failures path) → FailsName ast f.rule f.place
   path-fails decl path there among f h =
       elim (in-cases f (failures_of_place N7 (long_elem path.elems)) (failures_of_place N9 (second_star false path.elems)) h) [
-        | inl x ↦ let d = over-in (λ (elem : PathElem). elem.place) path.elems 32 N7 f x in at ast f N7 d.0.place d.2 (rules.long_path decl path d.0 there among d.1)
+        | inl x ↦ let d = over-in (λ (elem : PathElem). elem.place) path.elems max_path_elements N7 f x in at ast f N7 d.0.place d.2 (rules.long_path decl path d.0 there among d.1)
         | inr x ↦ let d = star-in path.elems N9 f x in at ast f N9 d.0.place d.2 (rules.second_star decl path d.0 there among d.1)
       ]
 
@@ -154,9 +155,9 @@ module _ (ast : Ast) where
       let inside : List NameFailure = clauses_failures decl.effects in
       let end : List NameFailure = failure_if (lacks_return decl) N5 (close_of decl.body) in
       elim (in-cases f params (paths ++ (inside ++ end)) h) [
-        | inl x ↦ let d = over-in (λ (name : Name). name.place) decl.params 4 N7 f x in at ast f N7 d.0.place d.2 (rules.too_many_params decl d.0 there d.1)
+        | inl x ↦ let d = over-in (λ (name : Name). name.place) decl.params max_parameters N7 f x in at ast f N7 d.0.place d.2 (rules.too_many_params decl d.0 there d.1)
         | inr y ↦ elim (in-cases f paths (inside ++ end) y) [
-          | inl x ↦ let d = over-in (λ (path : Path). path.place) (paths_of decl) 8 N7 f x in at ast f N7 d.0.place d.2 (rules.too_many_effects decl d.0 there d.1)
+          | inl x ↦ let d = over-in (λ (path : Path). path.place) (paths_of decl) max_effects N7 f x in at ast f N7 d.0.place d.2 (rules.too_many_effects decl d.0 there d.1)
           | inr z ↦ elim (in-cases f inside end z) [
             | inl x ↦ let d = clauses-in decl.effects f x in path-fails decl d.0 there (in-contains (paths_of decl) d.0 d.1) f d.2
             | inr x ↦
@@ -170,7 +171,7 @@ module _ (ast : Ast) where
   other-fails : (item : Item) → IsIn item ast.items → (f : NameFailure) → IsIn f (item_failures item) → FailsName ast f.rule f.place
   other-fails (items.Regions names) there f h = absurd h
   other-fails (items.Cell cell) there f h =
-      let d = over-in (λ (elem : CellElem). elem.place) cell.path.elems 32 N7 f h in
+      let d = over-in (λ (elem : CellElem). elem.place) cell.path.elems max_path_elements N7 f h in
       let among : IsIn cell (cells_of ast.items) = in-flat_map cells_of_item ast.items (items.Cell cell) cell there (inl refl) in
       at ast f N7 d.0.place d.2 (rules.long_cell_path cell d.0 (in-contains (cells_of ast.items) cell among) d.1)
   other-fails (items.Method decl) there f h =

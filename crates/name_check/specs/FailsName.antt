@@ -1,6 +1,7 @@
 -- The rules of names: where a tree fails them, and which failure is the first.
 use Rattle.std.specs.Prelude.{◌≡◌, ◌⊎◌, ℕ, ◌<◌, ◌≤◌, ◌==◌, Bool, true, false, not, List, [], ◌∷◌, ◌++◌, Option, None, Some, codes, Contains}
 use Rattle.twe_io.specs.declared.place.Place.{Place}
+use Rattle.twe_limits.specs.Language.{max_effects, max_parameters, max_path_elements}
 use Rattle.first_failure.specs.declared.failure.Failure.{Failure}
 use Rattle.first_failure.specs.Order as order
 use Rattle.twe_ast.specs.declared.item.Ast.{Ast}
@@ -116,17 +117,17 @@ pub data FailsName (ast : Ast) : NRule → Place → Type 0 where
       → seen (globals_of ast) locals name.text ≡ Some (seens.Local (local_kinds.Variable number type true)) → FailsName ast N6 name.place
   -- a declaration brings the number of cells, or that of nodes, over its limit
   too_many_cells : (cell : CellDecl) → GoesOver (cells_of ast.items) cell → FailsName ast N7 cell.name.place
-  -- the 33rd element of the path of a cell or of an effect
+  -- an element of the path of a cell or of an effect exceeds the limit on elements
   long_cell_path : (cell : CellDecl) (elem : CellElem)
-      → Contains (cells_of ast.items) cell → StandsAfter 32 cell.path.elems elem → FailsName ast N7 elem.place
+      → Contains (cells_of ast.items) cell → StandsAfter max_path_elements cell.path.elems elem → FailsName ast N7 elem.place
   long_path : (decl : Decl) (path : Path) (elem : PathElem)
-      → Contains (decls_of ast) decl → Contains (paths_of decl) path → StandsAfter 32 path.elems elem → FailsName ast N7 elem.place
-  -- the 9th effect of a declaration
+      → Contains (decls_of ast) decl → Contains (paths_of decl) path → StandsAfter max_path_elements path.elems elem → FailsName ast N7 elem.place
+  -- an effect exceeds the limit on effects of a declaration
   too_many_effects : (decl : Decl) (path : Path)
-      → Contains (decls_of ast) decl → StandsAfter 8 (paths_of decl) path → FailsName ast N7 path.place
-  -- the 5th parameter
+      → Contains (decls_of ast) decl → StandsAfter max_effects (paths_of decl) path → FailsName ast N7 path.place
+  -- a parameter exceeds the limit on parameters
   too_many_params : (decl : Decl) (name : Name)
-      → Contains (decls_of ast) decl → StandsAfter 4 decl.params name → FailsName ast N7 name.place
+      → Contains (decls_of ast) decl → StandsAfter max_parameters decl.params name → FailsName ast N7 name.place
   -- there is no `task void main()`
   no_main : ¬ HasMain ast → FailsName ast N8 ast.end
   -- a path has a second `*`

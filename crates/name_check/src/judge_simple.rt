@@ -1,6 +1,7 @@
 //! The rules of names in statements that have no others inside them.
 ghost use Rattle.std.specs.Prelude.{◌≡◌, not, OnOk};
-ghost use Rattle.name_check.specs.Stands.{target_type};
+ghost use Rattle.twe_ast.specs.Statement.{Return};
+ghost use Rattle.name_check.specs.Stands.{sites_in, target_type};
 ghost use Rattle.name_check.specs.inner.Failures.{first_of_sites, is_void};
 ghost use Rattle.name_check.specs.inner.Room.{HasRoom};
 ghost use Rattle.name_check.specs.inner.Simple.{after_simple, set_sites, simple_sites, task_sites};
@@ -14,8 +15,8 @@ use crate::seen::{Asked, Local, Seen};
 use crate::uses::{judge_declared, judge_use};
 use first_failure::{Failure, report_if};
 use std::alloc::Global;
-use twe_ast::{LocalType, ReturnType, Stmt, StmtKind};
-use twe_io::Memory;
+use twe_ast::{Expr, LocalType, ReturnType, Stmt, StmtKind};
+use twe_io::{Memory, Place};
 
 /// What an assigned value has to be: of the local's type, and else an `int`.
 fn target_type(seen: Option<Seen>) -> LocalType
@@ -123,6 +124,27 @@ fn judge_set(
     }
 }
 
+/// Notes the failures of a `return`, which stands at this place.
+#[tactic(auto, using(crate::proofs::FirstSites::sites))]
+fn judge_return(
+    place: Place,
+    value: &Option<Expr>,
+    globals: &Globals,
+    returns: ReturnType,
+    here: &Here,
+    first: &mut Option<Failure<NRule>>,
+)
+    ensures { first.new ≡ first_of_sites globals.now first.old (sites_in globals.now returns here.now (Return place value.now)) }
+{
+    match value {
+        None => report_if(first, !is_void(returns), NRule::N3, place),
+        Some(value) => {
+            report_if(first, is_void(returns), NRule::N3, value.place);
+            judge_expr(value, Some(LocalType::Int), globals, &here.locals, first);
+        }
+    }
+}
+
 /// Notes the failures of a statement that has no others inside it.
 #[tactic(auto, using(crate::proofs::FirstSites::sites))]
 pub fn judge_simple(
@@ -145,15 +167,8 @@ pub fn judge_simple(
             judge_declared(name, globals, locals, first);
             judge_expr(value, Some(*local_type), globals, locals, first);
         }
-        StmtKind::Return { place, value: None } => {
-            report_if(first, !is_void(returns), NRule::N3, *place);
-        }
-        StmtKind::Return {
-            value: Some(value),
-            ..
-        } => {
-            report_if(first, is_void(returns), NRule::N3, value.place);
-            judge_expr(value, Some(LocalType::Int), globals, locals, first);
+        StmtKind::Return { place, value } => {
+            judge_return(*place, value, globals, returns, here, first);
         }
         StmtKind::Print { value, .. } => {
             judge_expr(value, Some(LocalType::Int), globals, locals, first);

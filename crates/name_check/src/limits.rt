@@ -13,6 +13,7 @@ use crate::rule::NRule;
 use first_failure::{Failure, report_if};
 use twe_ast::{CellElem, Clause, Decl, Name, Path, PathElem, PathElemKind};
 use twe_io::{List, Place};
+use twe_limits::{MAX_EFFECTS, MAX_PARAMETERS, MAX_PATH_ELEMENTS};
 
 /// Notes the failure of the rule at the place, if there is one.
 pub fn report_at(first: &mut Option<Failure<NRule>>, rule: NRule, place: Option<Place>)
@@ -23,41 +24,41 @@ pub fn report_at(first: &mut Option<Failure<NRule>>, rule: NRule, place: Option<
     }
 }
 
-/// The place of the 5th of these names, if there is one.
+/// The place of the first parameter that exceeds the limit on parameters, if there is one.
 fn fifth_name(names: &List<Name>) -> Option<Place>
     ensures { result ≡ failures.fifth_name names.now }
 {
-    match names.get(4) {
+    match names.get(MAX_PARAMETERS) {
         Some(name) => Some(name.place),
         None => None,
     }
 }
 
-/// The place of the 33rd element of the path of an effect, if there is one.
+/// The place of the first element of an effect's path that exceeds the limit on elements, if there is one.
 fn long_elem(elems: &List<PathElem>) -> Option<Place>
     ensures { result ≡ failures.long_elem elems.now }
 {
-    match elems.get(32) {
+    match elems.get(MAX_PATH_ELEMENTS) {
         Some(elem) => Some(elem.place),
         None => None,
     }
 }
 
-/// The place of the 33rd element of the path of a cell, if there is one.
+/// The place of the first element of a cell's path that exceeds the limit on elements, if there is one.
 fn long_cell_elem(elems: &List<CellElem>) -> Option<Place>
     ensures { result ≡ failures.long_cell_elem elems.now }
 {
-    match elems.get(32) {
+    match elems.get(MAX_PATH_ELEMENTS) {
         Some(elem) => Some(elem.place),
         None => None,
     }
 }
 
-/// The place of the 9th path of the clauses, if there is one.
+/// The place of the first path of the clauses that exceeds the limit on effects, if there is one.
 fn ninth_path(clauses: &[Clause]) -> Option<Place>
     ensures { result ≡ failures.ninth_path (flat_map (λ (clause : EffectClause). clause.paths) clauses.now) }
 {
-    let mut left = 8;
+    let mut left = MAX_EFFECTS;
     for clause in clauses {
         match clause.paths.get(left) {
             Some(path) => return Some(path.place),

@@ -3,6 +3,7 @@ use Rattle.std.proofs.Common.{◌≡◌, ◌≤◌, ℕ, ◌+◌, Bool, true, fa
 use Rattle.std.specs.List.{AllByRecursion, flat_map}
 use Rattle.std.proofs.lemmas.List.{length-map}
 use Rattle.std.proofs.lemmas.Bool.{and_parts, false≢true}
+use Rattle.twe_limits.specs.Language.{max_effects, max_parameters, max_path_elements}
 use Rattle.twe_ast.specs.declared.item.Clause.{Clause}
 use Rattle.twe_ast.specs.declared.item.Decl.{Decl}
 use Rattle.twe_ast.specs.declared.name.Name.{Name}
@@ -31,9 +32,9 @@ use Rattle.twe_names.proofs.Waits.{params-made, all-follow}
 
 -- a declaration keeps the limits on parameters, effects and the elements of paths
 pub record KeepsLimits (decl : Decl) : Type 0 where
-  pub params : length decl.params ≤ 4
-  pub effects : length (paths_of decl) ≤ 8
-  pub paths : AllByRecursion (λ (path : Path). length path.elems ≤ 32) (paths_of decl)
+  pub params : length decl.params ≤ max_parameters
+  pub effects : length (paths_of decl) ≤ max_effects
+  pub paths : AllByRecursion (λ (path : Path). length path.elems ≤ max_path_elements) (paths_of decl)
 
 params-there : (p : Program) (vars : ℕ) (futures : List Declared) (number : ℕ) (names : List Name) → number + length names ≤ vars
     → AllLocalsThere p vars futures (params_from number names)

@@ -4,6 +4,7 @@ use Rattle.std.specs.List.{AllByRecursion, flat_map, list_any}
 use Rattle.std.proofs.lemmas.List.Concat.{flat_map-append}
 use Rattle.region_paths.specs.declared.elements.Elem.{Elem}
 use Rattle.effect_sets.specs.declared.effects.Effect.{Effect}
+use Rattle.twe_limits.specs.Language.{max_path_elements}
 use Rattle.twe_io.specs.declared.place.Place.{Place}
 use Rattle.twe_ast.specs.declared.item.Clause.{Clause}
 use Rattle.twe_ast.specs.declared.item.ReturnType.{ReturnType}
@@ -115,7 +116,7 @@ module _ (p : Program) (globals : List GlobalName) (globals_there : GlobalsThere
         all-append (ElementFits (length p.regions) count) (elem_of_kind globals params elem.kind) (elems_of globals params elems)
         (elem-fits elem.kind elem.place (all-front P one more h)) (elems-fit elems (all-back P one more h))
 
-    path-fits : (path : Path) → length path.elems ≤ 32 → AsksClean globals params returns (asks_of_path path)
+    path-fits : (path : Path) → length path.elems ≤ max_path_elements → AsksClean globals params returns (asks_of_path path)
         → PathFits (length p.regions) count (path_of globals params path)
     path-fits path short h =
         let P = ElementFits (length p.regions) count in
@@ -133,7 +134,7 @@ module _ (p : Program) (globals : List GlobalName) (globals_there : GlobalsThere
     abbrev EffectFits : Effect → Type 0
     EffectFits e = PathFits (length p.regions) count e.path
 
-    paths-fit : (write : Bool) (paths : List Path) → AllByRecursion (λ (path : Path). length path.elems ≤ 32) paths
+    paths-fit : (write : Bool) (paths : List Path) → AllByRecursion (λ (path : Path). length path.elems ≤ max_path_elements) paths
         → AsksClean globals params returns (flat_map asks_of_path paths)
         → AllByRecursion EffectFits (map (λ (path : Path). record { write = write; path = path_of globals params path }) paths)
     paths-fit write [] short h = tt
@@ -143,13 +144,13 @@ module _ (p : Program) (globals : List GlobalName) (globals_there : GlobalsThere
         let more = flat_map asks_of_path paths in
         (path-fits path short.0 (all-front P one more h), paths-fit write paths short.1 (all-back P one more h))
 
-    pub clauses-fit : (clauses : List Clause) → AllByRecursion (λ (path : Path). length path.elems ≤ 32) (flat_map (λ (clause : Clause). clause.paths) clauses)
+    pub clauses-fit : (clauses : List Clause) → AllByRecursion (λ (path : Path). length path.elems ≤ max_path_elements) (flat_map (λ (clause : Clause). clause.paths) clauses)
         → AsksClean globals params returns (flat_map asks_of_clause clauses)
         → AllByRecursion EffectFits (flat_map (effects_of_clause globals params) clauses)
     clauses-fit [] short h = tt
     clauses-fit (clause ∷ clauses) short h =
         let P = AskClean globals params returns in
-        let S = λ (path : Path). length path.elems ≤ 32 in
+        let S = λ (path : Path). length path.elems ≤ max_path_elements in
         let one = asks_of_clause clause in
         let more = flat_map asks_of_clause clauses in
         let paths = flat_map (λ (c : Clause). c.paths) clauses in

@@ -4,7 +4,7 @@ use Rattle.std.specs.List.{AllByRecursion, flat_map}
 use Rattle.std.proofs.lemmas.List.{length-map}
 use Rattle.std.proofs.lemmas.Bool.{cases_lt}
 use Rattle.twe_io.specs.declared.place.Place.{Place}
-use Rattle.twe_limits.specs.Language.{max_cells}
+use Rattle.twe_limits.specs.Language.{max_cells, max_effects, max_parameters, max_path_elements}
 use Rattle.twe_ast.specs.declared.item.Ast.{Ast}
 use Rattle.twe_ast.specs.declared.item.CellDecl.{CellDecl}
 use Rattle.twe_ast.specs.declared.item.Decl.{Decl}
@@ -64,7 +64,7 @@ cells-clean globals (items.Task deterministic decl ∷ others) h =
     cells-clean globals others (all-back (SiteClean globals) (sites_of_decl globals decl) (flat_map (sites_of_item globals) others) h)
 
 cells-fit : (p : Program) (globals : List GlobalName) → GlobalsThere p globals → (first : ℕ) (cells : List CellDecl)
-    → AllByRecursion (λ (cell : CellDecl). length cell.path.elems ≤ 32) cells
+    → AllByRecursion (λ (cell : CellDecl). length cell.path.elems ≤ max_path_elements) cells
     → AllByRecursion (λ (cell : CellDecl). AllClean globals (sites_at [] return_types.Void (asks_of_cell_path cell.path))) cells
     → AllByRecursion (CellFits (length p.regions)) (cells_from globals first cells)
 cells-fit p globals globals_there first [] short clean = tt
@@ -74,7 +74,7 @@ cells-fit p globals globals_there first (cell ∷ cells) short clean = (
         cell-elems-fit p globals globals_there cell.path.elems return_types.Void
         (asks-clean globals [] return_types.Void (asks_of_cell_path cell.path) clean.0);
     no_star = refl;
-    short = let few : length cell.path.elems ≤ 32 = short.0 in subst (λ (n : ℕ). n ≤ 32) (sym (length-map cell.path.elems _)) few;
+    short = let few : length cell.path.elems ≤ max_path_elements = short.0 in subst (λ (n : ℕ). n ≤ max_path_elements) (sym (length-map cell.path.elems _)) few;
   },
   cells-fit p globals globals_there (first + size_of (dims_of cell.shape)) cells short.1 clean.1,
 )
@@ -118,15 +118,15 @@ module _ (p : Program) (globals : List GlobalName) (globals_there : GlobalsThere
 module _ (ast : Ast) (none : ¬ FailsSome ast) where
   limits-kept : (decl : Decl) → Contains (decls_of ast) decl → KeepsLimits decl
   limits-kept decl there = record {
-    params = no_longer 4 decl.params (λ name h. none (_, _, too_many_params decl name there h));
-    effects = no_longer 8 (paths_of decl) (λ path h. none (_, _, too_many_effects decl path there h));
+    params = no_longer max_parameters decl.params (λ name h. none (_, _, too_many_params decl name there h));
+    effects = no_longer max_effects (paths_of decl) (λ path h. none (_, _, too_many_effects decl path there h));
     paths =
-        contained-all (λ (path : Path). length path.elems ≤ 32) (paths_of decl)
-        (λ path in_decl. no_longer 32 path.elems (λ elem h. none (_, _, long_path decl path elem there in_decl h)));
+        contained-all (λ (path : Path). length path.elems ≤ max_path_elements) (paths_of decl)
+        (λ path in_decl. no_longer max_path_elements path.elems (λ elem h. none (_, _, long_path decl path elem there in_decl h)));
   }
 
-  cell-short : (cell : CellDecl) → Contains (cells_of ast.items) cell → length cell.path.elems ≤ 32
-  cell-short cell there = no_longer 32 cell.path.elems (λ elem h. none (_, _, long_cell_path cell elem there h))
+  cell-short : (cell : CellDecl) → Contains (cells_of ast.items) cell → length cell.path.elems ≤ max_path_elements
+  cell-short cell there = no_longer max_path_elements cell.path.elems (λ elem h. none (_, _, long_cell_path cell elem there h))
 
 makes-none : (ast : Ast) → IsFromText ast → (item : Item) → Contains ast.items item → MakesNone item
 makes-none ast from_text (items.Regions names) there = tt
@@ -147,7 +147,7 @@ well_formed ast from_text keeps =
     record {
       console = refl;
       cells =
-          cells-fit p globals there 0 cells (contained-all (λ (cell : CellDecl). length cell.path.elems ≤ 32) cells (cell-short ast none))
+          cells-fit p globals there 0 cells (contained-all (λ (cell : CellDecl). length cell.path.elems ≤ max_path_elements) cells (cell-short ast none))
           (cells-clean globals ast.items clean);
       numbered = cells-count globals 0 cells;
       few_cells = subst (λ (n : ℕ). n ≤ max_cells) (sym (made-same globals 0 cells)) within.0;

@@ -2,6 +2,7 @@
 use Rattle.std.specs.Prelude.{Bool, true, false, not, ◌&&◌, if◌then◌else◌, List, [], ◌∷◌, ◌++◌, Option, None, Some, slice_get}
 use Rattle.std.specs.Option.{option_map}
 use Rattle.twe_io.specs.declared.place.Place.{Place}
+use Rattle.twe_limits.specs.Language.{max_effects, max_parameters, max_path_elements}
 use Rattle.twe_ast.specs.declared.item.Clause.{Clause}
 use Rattle.twe_ast.specs.declared.item.Decl.{Decl}
 use Rattle.twe_ast.specs.declared.item.Item.{Item}
@@ -22,18 +23,19 @@ abbrev pub failures_of_place : NRule → Option Place → List NameFailure
 failures_of_place rule None = []
 failures_of_place rule (Some place) = record { rule = rule; place = place } ∷ []
 
--- the places of the 5th parameter, the 9th path, and the 33rd element of a path of an effect or of a cell
+-- the places of the first parameter, the first path, and the first element of a path of an effect or of a cell that exceed
+-- their limits
 abbrev pub fifth_name : List Name → Option Place
-fifth_name names = option_map (λ (name : Name). name.place) (slice_get names 4)
+fifth_name names = option_map (λ (name : Name). name.place) (slice_get names max_parameters)
 
 abbrev pub ninth_path : List Path → Option Place
-ninth_path paths = option_map (λ (path : Path). path.place) (slice_get paths 8)
+ninth_path paths = option_map (λ (path : Path). path.place) (slice_get paths max_effects)
 
 abbrev pub long_elem : List PathElem → Option Place
-long_elem elems = option_map (λ (elem : PathElem). elem.place) (slice_get elems 32)
+long_elem elems = option_map (λ (elem : PathElem). elem.place) (slice_get elems max_path_elements)
 
 abbrev pub long_cell_elem : List CellElem → Option Place
-long_cell_elem elems = option_map (λ (elem : CellElem). elem.place) (slice_get elems 32)
+long_cell_elem elems = option_map (λ (elem : CellElem). elem.place) (slice_get elems max_path_elements)
 
 -- the place of the second `*`, or of the first, where one was there before
 abbrev pub second_star : Bool → List PathElem → Option Place
