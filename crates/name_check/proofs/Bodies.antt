@@ -11,12 +11,12 @@ use Rattle.twe_ast.specs.inner.StatementView.{statements_of, arms_of, last_of}
 use Rattle.twe_ast.specs.inner.StatementSize.{depth_of_all, depth_of_arms}
 use Rattle.name_check.specs.Ends.{close_of}
 use Rattle.name_check.specs.declared.names.GlobalName.{GlobalName}
-use Rattle.name_check.specs.declared.scope.Here.{Here}
+use Rattle.name_check.specs.declared.scope.BodyScope.{BodyScope}
 use Rattle.name_check.specs.FailsName.{NameFailure}
-use Rattle.name_check.specs.Here.{after, after_all, after_arms, after_block}
+use Rattle.name_check.specs.BodyScope.{after, after_all, after_arms, after_block}
 use Rattle.name_check.specs.Size.{statements_in_all, statements_in_arms}
 use Rattle.name_check.specs.Asks.{asks_of}
-use Rattle.name_check.specs.Stands.{Site, sites_at, sites_in, sites_in_all, sites_in_arms}
+use Rattle.name_check.specs.Sites.{Site, sites_at, sites_in, sites_in_all, sites_in_arms}
 use Rattle.name_check.specs.inner.Failures.{first_of_asks, first_of_sites}
 use Rattle.name_check.specs.inner.Room.{HasRoom}
 use Rattle.name_check.proofs.FirstSites.{first_of_expression, first_of_sites-append}
@@ -44,16 +44,16 @@ next_arm items last i item below is = ap (λ xs. arms_of xs last) (drop_more ite
 pub no_arm : (items : List Arm) (last : Option Statements) (i : ℕ) → length items ≤ i → arms_of (drop i items) last ≡ last_of last
 no_arm items last i past = ap (λ xs. arms_of xs last) (drop_all i items past)
 
-module _ (globals : List GlobalName) (returns : ReturnType) (here new : Here) (first now : Option NameFailure) where
+module _ (globals : List GlobalName) (returns : ReturnType) (here new : BodyScope) (first now : Option NameFailure) where
   -- one statement of a block on
   module _ (block rest : Statements) (stmt : Statement) (is : block ≡ statement stmt rest) (passed : new ≡ after globals here stmt) where
-    pub block_passed : (all : Here) → after_all globals here block ≡ all → after_all globals new rest ≡ all
+    pub block_passed : (all : BodyScope) → after_all globals here block ≡ all → after_all globals new rest ≡ all
     block_passed all h = ap (λ x. after_all globals x rest) passed ∙ (ap (after_all globals here) (sym is) ∙ h)
 
-    pub block_noted : now ≡ first_of_sites globals first (sites_in globals returns here stmt) → (all : Option NameFailure)
+    pub block_reported : now ≡ first_of_sites globals first (sites_in globals returns here stmt) → (all : Option NameFailure)
         → first_of_sites globals first (sites_in_all globals returns here block) ≡ all → first_of_sites globals now (sites_in_all globals returns new rest) ≡ all
-    block_noted noted all h =
-        ap (λ f. first_of_sites globals f (sites_in_all globals returns new rest)) noted
+    block_reported reported all h =
+        ap (λ f. first_of_sites globals f (sites_in_all globals returns new rest)) reported
         ∙ (ap (λ x. first_of_sites globals (first_of_sites globals first (sites_in globals returns here stmt)) (sites_in_all globals returns x rest)) passed
         ∙ (sym (first_of_sites-append globals first (sites_in globals returns here stmt) (sites_in_all globals returns (after globals here stmt) rest))
         ∙ (ap (λ b. first_of_sites globals first (sites_in_all globals returns here b)) (sym is) ∙ h)))
@@ -68,21 +68,21 @@ pub last_arm : (items : List Arm) (body : Statements) → depth_of_all body + 1 
 last_arm [] body = omega arith
 last_arm (first ∷ others) body = omega (arith, last_arm others body)
 
-module _ (globals : List GlobalName) (returns : ReturnType) (here new : Here) (first between now : Option NameFailure) where
+module _ (globals : List GlobalName) (returns : ReturnType) (here new : BodyScope) (first between now : Option NameFailure) where
   -- one arm of an `if` on
   module _ (arms rest : Arms) (condition : Expression) (body : Statements) (is : arms ≡ arm condition body rest) (passed : new ≡ after_block globals here body) where
-    pub arms_passed : (all : Here) → after_arms globals here arms ≡ all → after_arms globals new rest ≡ all
+    pub arms_passed : (all : BodyScope) → after_arms globals here arms ≡ all → after_arms globals new rest ≡ all
     arms_passed all h = ap (λ x. after_arms globals x rest) passed ∙ (ap (after_arms globals here) (sym is) ∙ h)
 
-    pub arms_noted : between ≡ first_of_asks globals here.locals first (asks_of globals here.locals (Some Boolean) condition)
+    pub arms_reported : between ≡ first_of_asks globals here.locals first (asks_of globals here.locals (Some Boolean) condition)
         → now ≡ first_of_sites globals between (sites_in_all globals returns here body) → (all : Option NameFailure)
         → first_of_sites globals first (sites_in_arms globals returns here arms) ≡ all → first_of_sites globals now (sites_in_arms globals returns new rest) ≡ all
-    arms_noted before noted all h =
+    arms_reported before reported all h =
         let asked : List Site = sites_at here.locals returns (asks_of globals here.locals (Some Boolean) condition) in
         let inside : List Site = sites_in_all globals returns here body in
         let others : List Site = sites_in_arms globals returns (after_block globals here body) rest in
         let e1 : between ≡ first_of_sites globals first asked = before ∙ sym (first_of_expression globals here.locals returns first (Some Boolean) condition) in
-        let e2 : now ≡ first_of_sites globals (first_of_sites globals first asked) inside = noted ∙ ap (λ f. first_of_sites globals f inside) e1 in
+        let e2 : now ≡ first_of_sites globals (first_of_sites globals first asked) inside = reported ∙ ap (λ f. first_of_sites globals f inside) e1 in
         ap (λ f. first_of_sites globals f (sites_in_arms globals returns new rest)) e2
         ∙ (ap (λ x. first_of_sites globals (first_of_sites globals (first_of_sites globals first asked) inside) (sites_in_arms globals returns x rest)) passed
         ∙ (sym (first_of_sites-append globals (first_of_sites globals first asked) inside others)

@@ -25,25 +25,25 @@ use Rattle.cell_limits.specs.GoesOver.{cells_of, cells_of_item, GoesOver}
 use Rattle.name_check.specs.declared.rule.NRule.{NRule}
 use Rattle.name_check.specs.declared.rule.NRule.TheVariants.{N1, N2, N3, N4, N5, N6, N7, N8, N9}
 use Rattle.name_check.specs.FailsName.{NameFailure}
-use Rattle.name_check.specs.declared.seen.Asked.{Asked}
-use Rattle.name_check.specs.declared.seen.Asked.TheVariants as asked
-use Rattle.name_check.specs.declared.seen.Global.TheVariants as global_kinds
-use Rattle.name_check.specs.declared.seen.Local.TheVariants as local_kinds
-use Rattle.name_check.specs.declared.seen.Seen.{Seen}
-use Rattle.name_check.specs.declared.seen.Seen.TheVariants as seens
+use Rattle.name_check.specs.declared.binding.NameUse.{NameUse}
+use Rattle.name_check.specs.declared.binding.NameUse.TheVariants as name_use
+use Rattle.name_check.specs.declared.binding.Global.TheVariants as global_kinds
+use Rattle.name_check.specs.declared.binding.Local.TheVariants as local_kinds
+use Rattle.name_check.specs.declared.binding.Binding.{Binding}
+use Rattle.name_check.specs.declared.binding.Binding.TheVariants as bindings
 use Rattle.name_check.specs.declared.names.GlobalName.{GlobalName}
 use Rattle.name_check.specs.declared.scope.LocalName.{LocalName}
-use Rattle.name_check.specs.Names.{globals_of, seen}
+use Rattle.name_check.specs.Names.{globals_of, binding_of}
 use Rattle.name_check.specs.Types.{same_type, type_of}
 use Rattle.name_check.specs.Asks.{Ask, uses, needs, declares, returns_value, returns_nothing, place_of}
-use Rattle.name_check.specs.Stands.{Site, sites_of, sites_of_item}
+use Rattle.name_check.specs.Sites.{Site, sites_of, sites_of_item}
 use Rattle.name_check.specs.Ends.{one_ends, close_of}
 use Rattle.name_check.specs.Limits.{StandsAfter, decls_of, decls_of_item, paths_of}
 use Rattle.name_check.specs.FailsName as rules
-use Rattle.name_check.specs.FailsName.{FailsName, Asks, HasMain, IsDeclaredAgain, seen_as, fits}
+use Rattle.name_check.specs.FailsName.{FailsName, Asks, HasMain, IsDeclaredAgain, binding_as, fits}
 use Rattle.name_check.specs.inner.Failures.{lacks_value, has_other_count, assigns_constant, failures_of_use, differs, failures_by, failures_at, is_void}
 use Rattle.first_failure.specs.First.{failure_if}
-use Rattle.name_check.specs.inner.OtherFailures.{failures_of_place, fifth_name, ninth_path, long_elem, path_failures, clauses_failures, lacks_return, decl_failures, item_failures}
+use Rattle.name_check.specs.inner.OtherFailures.{failures_of_place, parameter_over_limit, path_over_limit, element_over_limit, path_failures, clauses_failures, lacks_return, decl_failures, item_failures}
 use Rattle.name_check.specs.inner.Whole.{is_again, again_failures, is_main_item}
 use Rattle.first_failure.proofs.Firsts.{in-if}
 use Rattle.name_check.proofs.Elements.{failure, in-over, in-star, in-clauses}
@@ -107,8 +107,8 @@ module _ (ast : Ast) where
       in_item d.0 d.1 f (cell_item cell d.0 d.2 f h)
 
   -- the parts of the failures of a use of a name that is seen
-  module _ (locals : List LocalName) (returns : ReturnType) (name : Name) (asks : Asked) (other : Seen)
-      (there : Asks ast locals returns (uses name asks)) (is : seen_as (globals_of ast) locals asks name.text ≡ Some other) where
+  module _ (locals : List LocalName) (returns : ReturnType) (name : Name) (asks : NameUse) (other : Binding)
+      (there : Asks ast locals returns (uses name asks)) (is : binding_as (globals_of ast) locals asks name.text ≡ Some other) where
     in_use : (f : NameFailure) → IsIn f (failures_of_use asks (Some other) name.place) → IsIn f (failures_in ast)
     in_use f h = in_site locals returns (uses name asks) there f (subst (λ o. IsIn f (failures_of_use asks o name.place)) (sym is) h)
 
@@ -198,27 +198,27 @@ module _ (ast : Ast) where
   module _ (decl : Decl) (there : Contains (decls_of ast) decl) where
     in_params : (name : Name) → StandsAfter max_parameters decl.params name → IsIn (failure N7 name.place) (failures_in ast)
     in_params name h =
-        in_decl decl there (failure N7 name.place) (in-left (failure N7 name.place) (failures_of_place N7 (fifth_name decl.params)) _ (in-over (λ (n : Name). n.place) decl.params max_parameters N7 name h))
+        in_decl decl there (failure N7 name.place) (in-left (failure N7 name.place) (failures_of_place N7 (parameter_over_limit decl.params)) _ (in-over (λ (n : Name). n.place) decl.params max_parameters N7 name h))
 
     in_paths : (path : Path) → StandsAfter max_effects (paths_of decl) path → IsIn (failure N7 path.place) (failures_in ast)
     in_paths path h =
         in_decl decl there (failure N7 path.place)
-        (in-right (failure N7 path.place) (failures_of_place N7 (fifth_name decl.params)) _
-        (in-left (failure N7 path.place) (failures_of_place N7 (ninth_path (paths_of decl))) _ (in-over (λ (p : Path). p.place) (paths_of decl) max_effects N7 path h)))
+        (in-right (failure N7 path.place) (failures_of_place N7 (parameter_over_limit decl.params)) _
+        (in-left (failure N7 path.place) (failures_of_place N7 (path_over_limit (paths_of decl))) _ (in-over (λ (p : Path). p.place) (paths_of decl) max_effects N7 path h)))
 
     in_path : (path : Path) → Contains (paths_of decl) path → (f : NameFailure) → IsIn f (path_failures path) → IsIn f (failures_in ast)
     in_path path among f h =
         in_decl decl there f
-        (in-right f (failures_of_place N7 (fifth_name decl.params)) _
-        (in-right f (failures_of_place N7 (ninth_path (paths_of decl))) _
+        (in-right f (failures_of_place N7 (parameter_over_limit decl.params)) _
+        (in-right f (failures_of_place N7 (path_over_limit (paths_of decl))) _
         (in-left f (clauses_failures decl.effects) _ (in-clauses decl.effects path f (contains-in (paths_of decl) path among) h))))
 
     in_end : decl.returns ≡ return_types.Int → one_ends decl.body ≡ false → IsIn (failure N5 (close_of decl.body)) (failures_in ast)
     in_end int ends =
         let f : NameFailure = failure N5 (close_of decl.body) in
         in_decl decl there f
-        (in-right f (failures_of_place N7 (fifth_name decl.params)) _
-        (in-right f (failures_of_place N7 (ninth_path (paths_of decl))) _
+        (in-right f (failures_of_place N7 (parameter_over_limit decl.params)) _
+        (in-right f (failures_of_place N7 (path_over_limit (paths_of decl))) _
         (in-right f (clauses_failures decl.effects) _
         (in-if (lacks_return decl) N5 (close_of decl.body)
         (true-both (not (is_void decl.returns)) (not (one_ends decl.body)) (ap (λ r. not (is_void r)) int) (false-not (one_ends decl.body) ends))))))
@@ -228,33 +228,33 @@ module _ (ast : Ast) where
       inl (in_site locals returns (uses name asks) there (failure N1 name.place) (subst (λ o. IsIn (failure N1 name.place) (failures_of_use asks o name.place)) (sym none) (inl refl)))
   fails-listed rule place (rules.declared_again name again) = inl (in_again name again)
   fails-listed rule place (rules.hides locals returns name other there is) =
-      inl (in_site locals returns (declares name) there (failure N2 name.place) (in-if (is_some (seen (globals_of ast) locals name.text)) N2 name.place (ap (λ o. is_some o) is)))
+      inl (in_site locals returns (declares name) there (failure N2 name.place) (in-if (is_some (binding_of (globals_of ast) locals name.text)) N2 name.place (ap (λ o. is_some o) is)))
   fails-listed rule place (rules.other_kind locals returns name asks other there is unfit) = inl (in_kind locals returns name asks other there is unfit)
   fails-listed rule place (rules.other_type locals returns type other value there is differ) =
       inl (in_site locals returns (needs type value) there (failure N3 (place_of value))
       (in-if (differs type (type_of (globals_of ast) locals value)) N3 (place_of value) (ap (differs type) is ∙ differ-not_same type other differ)))
   fails-listed rule place (rules.void_method locals returns name args number params there is) =
-      inl (in_value locals returns name (asked.Method args true) (seens.Global (global_kinds.Method number params return_types.Void)) there is refl)
+      inl (in_value locals returns name (name_use.Method args true) (bindings.Global (global_kinds.Method number params return_types.Void)) there is refl)
   fails-listed rule place (rules.void_task locals returns name join spawned number there is) =
-      inl (in_value locals returns name (asked.Future join true) (seens.Local (local_kinds.Future number spawned true)) there is refl)
+      inl (in_value locals returns name (name_use.Future join true) (bindings.Local (local_kinds.Future number spawned true)) there is refl)
   fails-listed rule place (rules.value_for_nothing locals place' there) = inl (in_site locals return_types.Void (returns_value place') there (failure N3 place') (inl refl))
   fails-listed rule place (rules.nothing_for_value locals place' there) = inl (in_site locals return_types.Int (returns_nothing place') there (failure N3 place') (inl refl))
   fails-listed rule place (rules.other_count_of_method locals returns its name args number params valued there is differ) =
-      inl (in_count locals returns name (asked.Method args valued) (seens.Global (global_kinds.Method number params its)) there is (not_equal params args differ))
+      inl (in_count locals returns name (name_use.Method args valued) (bindings.Global (global_kinds.Method number params its)) there is (not_equal params args differ))
   fails-listed rule place (rules.other_count_of_task locals returns its name args number params there is differ) =
-      inl (in_count locals returns name (asked.Task args) (seens.Global (global_kinds.Task number params its)) there is (not_equal params args differ))
+      inl (in_count locals returns name (name_use.Task args) (bindings.Global (global_kinds.Task number params its)) there is (not_equal params args differ))
   fails-listed rule place (rules.no_return decl there int ends) = inl (in_end decl there int ends)
   fails-listed rule place (rules.assigned locals returns name number type there is) =
-      inl (in_constant locals returns name asked.Target (seens.Local (local_kinds.Variable number type true)) there is refl)
+      inl (in_constant locals returns name name_use.Target (bindings.Local (local_kinds.Variable number type true)) there is refl)
   fails-listed rule place (rules.too_many_cells cell goes) = inr (cell, goes, refl)
   fails-listed rule place (rules.long_cell_path cell elem there after) =
       inl (in_cell cell there (failure N7 elem.place) (in-over (λ (e : CellElem). e.place) cell.path.elems max_path_elements N7 elem after))
   fails-listed rule place (rules.long_path decl path elem there among after) =
       inl (in_path decl there path among (failure N7 elem.place)
-      (in-left (failure N7 elem.place) (failures_of_place N7 (long_elem path.elems)) _ (in-over (λ (e : PathElem). e.place) path.elems max_path_elements N7 elem after)))
+      (in-left (failure N7 elem.place) (failures_of_place N7 (element_over_limit path.elems)) _ (in-over (λ (e : PathElem). e.place) path.elems max_path_elements N7 elem after)))
   fails-listed rule place (rules.too_many_effects decl path there after) = inl (in_paths decl there path after)
   fails-listed rule place (rules.too_many_params decl name there after) = inl (in_params decl there name after)
   fails-listed rule place (rules.no_main none) = inl (in_main none)
   fails-listed rule place (rules.second_star decl path elem there among star) =
       inl (in_path decl there path among (failure N9 elem.place)
-      (in-right (failure N9 elem.place) (failures_of_place N7 (long_elem path.elems)) _ (in-star path.elems N9 elem star)))
+      (in-right (failure N9 elem.place) (failures_of_place N7 (element_over_limit path.elems)) _ (in-star path.elems N9 elem star)))

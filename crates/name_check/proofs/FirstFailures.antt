@@ -41,11 +41,11 @@ first_of_four first a b c d =
     ∙ (first_from-append (first_from first a) b (c ++ d) ∙ first_from-append (first_from (first_from first a) b) c d)
 
 -- what each thing of a list asks for, one thing on
-pub each_noted : {X : Type 0} (f : X → List Ask) (globals : List GlobalName) (locals : List LocalName) (items : List X) (i : ℕ) (item : X) → i < length items → get_or items i item ≡ item
+pub each_reported : {X : Type 0} (f : X → List Ask) (globals : List GlobalName) (locals : List LocalName) (items : List X) (i : ℕ) (item : X) → i < length items → get_or items i item ≡ item
     → (first now all : Option NameFailure) → now ≡ first_of_asks globals locals first (f item)
     → first_of_asks globals locals first (flat_map f (drop i items)) ≡ all → first_of_asks globals locals now (flat_map f (drop (i + 1) items)) ≡ all
-each_noted f globals locals items i item below is first now all noted so_far =
+each_reported f globals locals items i item below is first now all reported so_far =
     let next = drop_more items i item below ∙ ap (λ x. x ∷ drop (i + 1) items) is in
-    ap (λ o. first_of_asks globals locals o (flat_map f (drop (i + 1) items))) noted
+    ap (λ o. first_of_asks globals locals o (flat_map f (drop (i + 1) items))) reported
     ∙ (sym (first_of_asks-append globals locals first (f item) (flat_map f (drop (i + 1) items)))
     ∙ (ap (λ xs. first_of_asks globals locals first (flat_map f xs)) (sym next) ∙ so_far))

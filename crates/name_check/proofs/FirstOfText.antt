@@ -38,12 +38,12 @@ module _ (ast : Ast) where
 
   pub first_of_text : (found first : Option NameFailure) (over : Option Place) → found ≡ first_from None (failures_in ast) → IsFirstOver ast.items over
       → first ≡ first_from found (failures_of_place N7 over) → IsFirst first
-  first_of_text found first over gathered is noted =
+  first_of_text found first over gathered is reported =
       let No : NameFailure → Type 0 = λ f. ⊥ in
       let In : NameFailure → Type 0 = λ f. No f ⊎ IsIn f (failures_in ast) in
       let All : NameFailure → Type 0 = λ f. In f ⊎ IsIn f (failures_of_place N7 over) in
       let h1 : IsFirstOf number_of In found = subst (IsFirstOf number_of In) (sym gathered) (first_from-first number_of No None (failures_in ast) (λ f h. h)) in
-      let h2 : IsFirstOf number_of All first = subst (IsFirstOf number_of All) (sym noted) (first_from-first number_of In found (failures_of_place N7 over) h1) in
+      let h2 : IsFirstOf number_of All first = subst (IsFirstOf number_of All) (sym reported) (first_from-first number_of In found (failures_of_place N7 over) h1) in
       first-said number_of (FailsName ast) first
       (first-same number_of All (λ f. FailsName ast f.rule f.place)
       (λ f q. elim q [ inl r ↦ elim r [ inl none ↦ absurd none | inr x ↦ listed-fails ast f x ] | inr x ↦ over-fails over is f x ])

@@ -16,7 +16,7 @@ use Rattle.twe_ast.specs.declared.path.CellElemKind.TheVariants as cell_kinds
 use Rattle.twe_ast.specs.declared.path.PathElem.{PathElem}
 use Rattle.twe_ast.specs.declared.path.PathElemKind.{PathElemKind}
 use Rattle.twe_ast.specs.declared.path.PathElemKind.TheVariants as elem_kinds
-use Rattle.name_check.specs.Stands.{Site, sites_at, asks_of_kind, asks_of_cell_kind, asks_of_path, asks_of_clause}
+use Rattle.name_check.specs.Sites.{Site, sites_at, asks_of_kind, asks_of_cell_kind, asks_of_path, asks_of_clause}
 use Rattle.name_check.specs.inner.Elements.{asks_of_elem, asks_of_cell_elem}
 use Rattle.name_check.specs.inner.First.{first_from}
 use Rattle.name_check.specs.inner.Failures.{first_of_asks, first_of_sites, failures_at, failures_here}

@@ -7,7 +7,7 @@ use Rattle.name_check.specs.declared.names.GlobalName.{GlobalName}
 use Rattle.name_check.specs.declared.rule.NRule.TheVariants.{N8}
 use Rattle.name_check.specs.FailsName.{NameFailure}
 use Rattle.name_check.specs.Names.{globals_of}
-use Rattle.name_check.specs.Stands.{Site, sites_of_item}
+use Rattle.name_check.specs.Sites.{Site, sites_of_item}
 use Rattle.name_check.specs.inner.Failures.{failures_at, first_of_sites}
 use Rattle.first_failure.specs.First.{failure_if}
 use Rattle.name_check.specs.inner.First.{first_from}

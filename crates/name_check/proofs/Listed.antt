@@ -25,25 +25,25 @@ use Rattle.cell_limits.specs.GoesOver.{cells_of, cells_of_item}
 use Rattle.name_check.specs.declared.rule.NRule.{NRule}
 use Rattle.name_check.specs.declared.rule.NRule.TheVariants.{N1, N2, N3, N4, N5, N6, N7, N8, N9}
 use Rattle.name_check.specs.FailsName.{NameFailure}
-use Rattle.name_check.specs.declared.seen.Asked.{Asked}
-use Rattle.name_check.specs.declared.seen.Asked.TheVariants as asked
-use Rattle.name_check.specs.declared.seen.Global.TheVariants as global_kinds
-use Rattle.name_check.specs.declared.seen.Local.TheVariants as local_kinds
-use Rattle.name_check.specs.declared.seen.Seen.{Seen}
-use Rattle.name_check.specs.declared.seen.Seen.TheVariants as seens
+use Rattle.name_check.specs.declared.binding.NameUse.{NameUse}
+use Rattle.name_check.specs.declared.binding.NameUse.TheVariants as name_use
+use Rattle.name_check.specs.declared.binding.Global.TheVariants as global_kinds
+use Rattle.name_check.specs.declared.binding.Local.TheVariants as local_kinds
+use Rattle.name_check.specs.declared.binding.Binding.{Binding}
+use Rattle.name_check.specs.declared.binding.Binding.TheVariants as bindings
 use Rattle.name_check.specs.declared.names.GlobalName.{GlobalName}
 use Rattle.name_check.specs.declared.scope.LocalName.{LocalName}
-use Rattle.name_check.specs.Names.{globals_of, seen}
+use Rattle.name_check.specs.Names.{globals_of, binding_of}
 use Rattle.name_check.specs.Types.{same_type, type_of}
 use Rattle.name_check.specs.Asks.{Ask, uses, needs, declares, returns_value, returns_nothing, place_of}
-use Rattle.name_check.specs.Stands.{Site, sites_of, sites_of_item}
+use Rattle.name_check.specs.Sites.{Site, sites_of, sites_of_item}
 use Rattle.name_check.specs.Ends.{one_ends, close_of}
 use Rattle.name_check.specs.Limits.{decls_of, decls_of_item, paths_of}
 use Rattle.name_check.specs.FailsName as rules
-use Rattle.name_check.specs.FailsName.{FailsName, Asks, HasMain, seen_as, fits}
+use Rattle.name_check.specs.FailsName.{FailsName, Asks, HasMain, binding_as, fits}
 use Rattle.name_check.specs.inner.Failures.{lacks_value, has_other_count, assigns_constant, failures_of_use, differs, failures_by, failures_at, is_void}
 use Rattle.first_failure.specs.First.{failure_if}
-use Rattle.name_check.specs.inner.OtherFailures.{failures_of_place, fifth_name, ninth_path, long_elem, second_star, path_failures, clauses_failures, lacks_return, decl_failures, item_failures}
+use Rattle.name_check.specs.inner.OtherFailures.{failures_of_place, parameter_over_limit, path_over_limit, element_over_limit, second_star, path_failures, clauses_failures, lacks_return, decl_failures, item_failures}
 use Rattle.name_check.specs.inner.Whole.{is_again, again_failures, is_main_item}
 use Rattle.first_failure.proofs.Firsts.{if-in}
 use Rattle.name_check.proofs.Elements.{failure, over-in, star-in, clauses-in}
@@ -74,27 +74,27 @@ int_is return_types.Int h = refl
 
 module _ (ast : Ast) where
   module _ (locals : List LocalName) (returns : ReturnType) (name : Name) where
-    value-fails : (asks : Asked) (other : Seen) → Asks ast locals returns (uses name asks) → seen_as (globals_of ast) locals asks name.text ≡ Some other
+    value-fails : (asks : NameUse) (other : Binding) → Asks ast locals returns (uses name asks) → binding_as (globals_of ast) locals asks name.text ≡ Some other
         → lacks_value asks other ≡ true → FailsName ast N3 name.place
-    value-fails (asked.Method args true) (seens.Global (global_kinds.Method number params return_types.Void)) there is h = rules.void_method locals returns name args number params there is
-    value-fails (asked.Future join true) (seens.Local (local_kinds.Future number spawned true)) there is h = rules.void_task locals returns name join spawned number there is
+    value-fails (name_use.Method args true) (bindings.Global (global_kinds.Method number params return_types.Void)) there is h = rules.void_method locals returns name args number params there is
+    value-fails (name_use.Future join true) (bindings.Local (local_kinds.Future number spawned true)) there is h = rules.void_task locals returns name join spawned number there is
     value-fails _ _ there is h = absurd (false≢true h)
 
-    count-fails : (asks : Asked) (other : Seen) → Asks ast locals returns (uses name asks) → seen_as (globals_of ast) locals asks name.text ≡ Some other
+    count-fails : (asks : NameUse) (other : Binding) → Asks ast locals returns (uses name asks) → binding_as (globals_of ast) locals asks name.text ≡ Some other
         → has_other_count asks other ≡ true → FailsName ast N4 name.place
-    count-fails (asked.Method args valued) (seens.Global (global_kinds.Method number params its)) there is h =
+    count-fails (name_use.Method args valued) (bindings.Global (global_kinds.Method number params its)) there is h =
         rules.other_count_of_method locals returns its name args number params valued there is (other_number params args h)
-    count-fails (asked.Task args) (seens.Global (global_kinds.Task number params its)) there is h =
+    count-fails (name_use.Task args) (bindings.Global (global_kinds.Task number params its)) there is h =
         rules.other_count_of_task locals returns its name args number params there is (other_number params args h)
     count-fails _ _ there is h = absurd (false≢true h)
 
-    constant-fails : (asks : Asked) (other : Seen) → Asks ast locals returns (uses name asks) → seen_as (globals_of ast) locals asks name.text ≡ Some other
+    constant-fails : (asks : NameUse) (other : Binding) → Asks ast locals returns (uses name asks) → binding_as (globals_of ast) locals asks name.text ≡ Some other
         → assigns_constant asks other ≡ true → FailsName ast N6 name.place
-    constant-fails asked.Target (seens.Local (local_kinds.Variable number type constant)) there is h =
-        rules.assigned locals returns name number type there (is ∙ ap (λ c. Some (seens.Local (local_kinds.Variable number type c))) h)
+    constant-fails name_use.Target (bindings.Local (local_kinds.Variable number type constant)) there is h =
+        rules.assigned locals returns name number type there (is ∙ ap (λ c. Some (bindings.Local (local_kinds.Variable number type c))) h)
     constant-fails _ _ there is h = absurd (false≢true h)
 
-    use-fails : (asks : Asked) → Asks ast locals returns (uses name asks) → (o : Option Seen) → seen_as (globals_of ast) locals asks name.text ≡ o
+    use-fails : (asks : NameUse) → Asks ast locals returns (uses name asks) → (o : Option Binding) → binding_as (globals_of ast) locals asks name.text ≡ o
         → (f : NameFailure) → IsIn f (failures_of_use asks o name.place) → FailsName ast f.rule f.place
     use-fails asks there None is f h = at ast f N1 name.place (if-in true N1 name.place f h).1 (rules.unknown locals returns name asks there is)
     use-fails asks there (Some other) is f h =
@@ -122,15 +122,15 @@ module _ (ast : Ast) where
       at ast f N3 (place_of value) d.1 (rules.other_type locals returns type other value there is (differ type other (not-true (same_type (Some type) (Some other)) d.0)))
 
   declared-fails : (locals : List LocalName) (returns : ReturnType) (name : Name) → Asks ast locals returns (declares name)
-      → (o : Option Seen) → seen (globals_of ast) locals name.text ≡ o → (f : NameFailure) → IsIn f (failure_if (is_some o) N2 name.place) → FailsName ast f.rule f.place
+      → (o : Option Binding) → binding_of (globals_of ast) locals name.text ≡ o → (f : NameFailure) → IsIn f (failure_if (is_some o) N2 name.place) → FailsName ast f.rule f.place
   declared-fails locals returns name there None is f h = absurd h
   declared-fails locals returns name there (Some other) is f h = at ast f N2 name.place (if-in true N2 name.place f h).1 (rules.hides locals returns name other there is)
 
   ask-fails : (locals : List LocalName) (returns : ReturnType) (ask : Ask) → Asks ast locals returns ask
       → (f : NameFailure) → IsIn f (failures_by (globals_of ast) locals returns ask) → FailsName ast f.rule f.place
-  ask-fails locals returns (uses name asks) there f h = use-fails locals returns name asks there (seen_as (globals_of ast) locals asks name.text) refl f h
+  ask-fails locals returns (uses name asks) there f h = use-fails locals returns name asks there (binding_as (globals_of ast) locals asks name.text) refl f h
   ask-fails locals returns (needs type value) there f h = need-fails locals returns type value there (type_of (globals_of ast) locals value) refl f h
-  ask-fails locals returns (declares name) there f h = declared-fails locals returns name there (seen (globals_of ast) locals name.text) refl f h
+  ask-fails locals returns (declares name) there f h = declared-fails locals returns name there (binding_of (globals_of ast) locals name.text) refl f h
   ask-fails locals returns (returns_value place) there f h =
       let d = if-in (is_void returns) N3 place f h in
       at ast f N3 place d.1 (rules.value_for_nothing locals place (subst (λ r. Asks ast locals r (returns_value place)) (void_is returns d.0) there))
@@ -143,15 +143,15 @@ module _ (ast : Ast) where
 
   path-fails : (decl : Decl) (path : Path) → Contains (decls_of ast) decl → Contains (paths_of decl) path → (f : NameFailure) → IsIn f (path_failures path) → FailsName ast f.rule f.place
   path-fails decl path there among f h =
-      elim (in-cases f (failures_of_place N7 (long_elem path.elems)) (failures_of_place N9 (second_star false path.elems)) h) [
+      elim (in-cases f (failures_of_place N7 (element_over_limit path.elems)) (failures_of_place N9 (second_star false path.elems)) h) [
         | inl x ↦ let d = over-in (λ (elem : PathElem). elem.place) path.elems max_path_elements N7 f x in at ast f N7 d.0.place d.2 (rules.long_path decl path d.0 there among d.1)
         | inr x ↦ let d = star-in path.elems N9 f x in at ast f N9 d.0.place d.2 (rules.second_star decl path d.0 there among d.1)
       ]
 
   decl-fails : (decl : Decl) → Contains (decls_of ast) decl → (f : NameFailure) → IsIn f (decl_failures decl) → FailsName ast f.rule f.place
   decl-fails decl there f h =
-      let params : List NameFailure = failures_of_place N7 (fifth_name decl.params) in
-      let paths : List NameFailure = failures_of_place N7 (ninth_path (paths_of decl)) in
+      let params : List NameFailure = failures_of_place N7 (parameter_over_limit decl.params) in
+      let paths : List NameFailure = failures_of_place N7 (path_over_limit (paths_of decl)) in
       let inside : List NameFailure = clauses_failures decl.effects in
       let end : List NameFailure = failure_if (lacks_return decl) N5 (close_of decl.body) in
       elim (in-cases f params (paths ++ (inside ++ end)) h) [

@@ -54,9 +54,9 @@ module _ (clauses : List Clause) (i : ℕ) (clause : Clause) (below : i < length
   pub paths_fit : (left : ℕ) → slice_get clause.paths left ≡ None → length clause.paths ≤ left
   paths_fit left none = got_past clause.paths left none
 
-  pub clauses_noted : (first now all : Option NameFailure) → now ≡ first_from first (paths_failures clause.paths)
+  pub clauses_reported : (first now all : Option NameFailure) → now ≡ first_from first (paths_failures clause.paths)
       → first_from first (clauses_failures (drop i clauses)) ≡ all → first_from now (clauses_failures (drop (i + 1) clauses)) ≡ all
-  clauses_noted first now all noted so_far =
-      ap (λ f. first_from f (clauses_failures (drop (i + 1) clauses))) noted
+  clauses_reported first now all reported so_far =
+      ap (λ f. first_from f (clauses_failures (drop (i + 1) clauses))) reported
       ∙ (sym (first_from-append first (paths_failures clause.paths) (clauses_failures (drop (i + 1) clauses)))
       ∙ (ap (λ xs. first_from first (clauses_failures xs)) (sym next) ∙ so_far))

@@ -2,13 +2,13 @@
 use Rattle.std.proofs.Common.{◌≡◌, ℕ, ◌+◌, length, take, List, arith}
 use Rattle.twe_ast.specs.Statement.{Statement, Statements}
 use Rattle.name_check.specs.declared.names.GlobalName.{GlobalName}
-use Rattle.name_check.specs.declared.scope.Here.{Here}
-use Rattle.name_check.specs.Here.{after, after_all, after_block, counted}
+use Rattle.name_check.specs.declared.scope.BodyScope.{BodyScope}
+use Rattle.name_check.specs.BodyScope.{after, after_all, after_block, counted}
 use Rattle.name_check.specs.Size.{statements_in, statements_in_all}
 use Rattle.name_check.specs.inner.Room.{HasRoom}
 use Rattle.name_check.proofs.Walks.{Passes, passes, passes_all, passes-block, passes-take}
 
-module _ (a b : Here) (m n : ℕ) (room : HasRoom a (m + n)) where
+module _ (a b : BodyScope) (m n : ℕ) (room : HasRoom a (m + n)) where
   pub room_before : HasRoom a m
   room_before = record { points = omega arith; vars = omega arith; futures = omega arith }
 
@@ -16,10 +16,10 @@ module _ (a b : Here) (m n : ℕ) (room : HasRoom a (m + n)) where
   room_past h = record { points = omega arith; vars = omega arith; futures = omega arith }
 
 -- inside a statement that is counted
-pub room_inside : (here : Here) (n : ℕ) → HasRoom here (n + 1) → HasRoom (counted here) n
+pub room_inside : (here : BodyScope) (n : ℕ) → HasRoom here (n + 1) → HasRoom (counted here) n
 room_inside here n room = record { points = omega arith; vars = omega arith; futures = omega arith }
 
-module _ (globals : List GlobalName) (here : Here) where
+module _ (globals : List GlobalName) (here : BodyScope) where
   -- after a statement, and after a block
   pub room_after : (s : Statement) (n : ℕ) → HasRoom here (statements_in s + n) → HasRoom (after globals here s) n
   room_after s n room = room_past here (after globals here s) (statements_in s) n room (passes globals here s)

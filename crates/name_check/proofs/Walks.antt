@@ -4,12 +4,12 @@ use Rattle.std.proofs.Math.Seq.{take-append_seam}
 use Rattle.twe_ast.specs.Statement.{Statement, Block, Let, Set, SetArray, SetGrid, If, While, Return, Print, Call, Make, Wait, LetWait, Statements, end_of_block, statement, Arms, arm, otherwise, no_else}
 use Rattle.name_check.specs.declared.names.GlobalName.{GlobalName}
 use Rattle.name_check.specs.declared.scope.LocalName.{LocalName}
-use Rattle.name_check.specs.declared.scope.Here.{Here}
-use Rattle.name_check.specs.Here.{counted, leaving, after, after_all, after_arms}
+use Rattle.name_check.specs.declared.scope.BodyScope.{BodyScope}
+use Rattle.name_check.specs.BodyScope.{counted, leaving, after, after_all, after_arms}
 use Rattle.name_check.specs.Size.{statements_in, statements_in_all, statements_in_arms}
 
 -- from one place to a later one there are so many statements
-pub record Passes (before later : Here) (count : ℕ) : Type 0 where
+pub record Passes (before later : BodyScope) (count : ℕ) : Type 0 where
   pub points : later.points ≡ before.points + count
   pub vars_more : before.vars ≤ later.vars
   pub vars : later.vars ≤ before.vars + count
@@ -22,7 +22,7 @@ append-nothing : (xs : List LocalName) → xs ≡ xs ++ []
 append-nothing [] = refl
 append-nothing (x ∷ xs) = ap (λ ys. x ∷ ys) (append-nothing xs)
 
-pub passes-none : (here : Here) → Passes here here 0
+pub passes-none : (here : BodyScope) → Passes here here 0
 passes-none here = record {
   points = omega arith;
   vars_more = omega arith;
@@ -34,7 +34,7 @@ passes-none here = record {
 }
 
 -- one way after another
-pub passes-then : (a b c : Here) (first second count : ℕ) → count ≡ first + second → Passes a b first → Passes b c second → Passes a c count
+pub passes-then : (a b c : BodyScope) (first second count : ℕ) → count ≡ first + second → Passes a b first → Passes b c second → Passes a c count
 passes-then a b c first second count sum p q = record {
   points = omega (arith, p.points, q.points);
   vars_more = omega (arith, p.vars_more, q.vars_more);
@@ -46,7 +46,7 @@ passes-then a b c first second count sum p q = record {
 }
 
 -- a block is passed, and what it declares is seen no more
-pub passes-block : (here inside : Here) (count : ℕ) → Passes here inside count → Passes here (leaving here inside) count
+pub passes-block : (here inside : BodyScope) (count : ℕ) → Passes here inside count → Passes here (leaving here inside) count
 passes-block here inside count p = record {
   points = p.points;
   vars_more = p.vars_more;
@@ -57,7 +57,7 @@ passes-block here inside count p = record {
   locals = append-nothing here.locals;
 }
 
-passes-one : (here : Here) → Passes here (counted here) 1
+passes-one : (here : BodyScope) → Passes here (counted here) 1
 passes-one here = record {
   points = refl;
   vars_more = omega arith;
@@ -68,7 +68,7 @@ passes-one here = record {
   locals = append-nothing here.locals;
 }
 
-passes-variable : (here : Here) (name : LocalName) → Passes here (record (counted here) { locals = here.locals ++ name ∷ []; vars = here.vars + 1 }) 1
+passes-variable : (here : BodyScope) (name : LocalName) → Passes here (record (counted here) { locals = here.locals ++ name ∷ []; vars = here.vars + 1 }) 1
 passes-variable here name = record {
   points = refl;
   vars_more = omega arith;
@@ -79,7 +79,7 @@ passes-variable here name = record {
   locals = refl;
 }
 
-passes-future : (here : Here) (name : LocalName) → Passes here (record (counted here) { locals = here.locals ++ name ∷ []; futures = here.futures + 1 }) 1
+passes-future : (here : BodyScope) (name : LocalName) → Passes here (record (counted here) { locals = here.locals ++ name ∷ []; futures = here.futures + 1 }) 1
 passes-future here name = record {
   points = refl;
   vars_more = omega arith;
@@ -90,11 +90,11 @@ passes-future here name = record {
   locals = refl;
 }
 
-passes-nested : (here later : Here) (count : ℕ) → Passes (counted here) later count → Passes here later (count + 1)
+passes-nested : (here later : BodyScope) (count : ℕ) → Passes (counted here) later count → Passes here later (count + 1)
 passes-nested here later count p = passes-then here (counted here) later 1 count (count + 1) (omega arith) (passes-one here) p
 
 mutual
-  pub passes : (globals : List GlobalName) (here : Here) (s : Statement) → Passes here (after globals here s) (statements_in s)
+  pub passes : (globals : List GlobalName) (here : BodyScope) (s : Statement) → Passes here (after globals here s) (statements_in s)
   passes globals here (Block body) = passes-nested here _ _ (passes-block (counted here) _ _ (passes_all globals (counted here) body))
   passes globals here (Let is_final local_type name value) = passes-variable here _
   passes globals here (If arms) = passes-nested here _ _ (passes_arms globals (counted here) arms)
@@ -109,20 +109,20 @@ mutual
   passes globals here (Call method args) = passes-one here
   passes globals here (Wait wait) = passes-one here
 
-  pub passes_all : (globals : List GlobalName) (here : Here) (body : Statements) → Passes here (after_all globals here body) (statements_in_all body)
+  pub passes_all : (globals : List GlobalName) (here : BodyScope) (body : Statements) → Passes here (after_all globals here body) (statements_in_all body)
   passes_all globals here (end_of_block close) = passes-none here
   passes_all globals here (statement first others) =
       passes-then here (after globals here first) (after_all globals (after globals here first) others) (statements_in first) (statements_in_all others) _ refl
       (passes globals here first) (passes_all globals (after globals here first) others)
 
-  pub passes_arms : (globals : List GlobalName) (here : Here) (arms : Arms) → Passes here (after_arms globals here arms) (statements_in_arms arms)
+  pub passes_arms : (globals : List GlobalName) (here : BodyScope) (arms : Arms) → Passes here (after_arms globals here arms) (statements_in_arms arms)
   passes_arms globals here (arm condition body others) =
-      let next : Here = leaving here (after_all globals here body) in
+      let next : BodyScope = leaving here (after_all globals here body) in
       passes-then here next (after_arms globals next others) (statements_in_all body) (statements_in_arms others) _ refl
       (passes-block here (after_all globals here body) (statements_in_all body) (passes_all globals here body)) (passes_arms globals next others)
   passes_arms globals here (otherwise body) = passes-block here (after_all globals here body) (statements_in_all body) (passes_all globals here body)
   passes_arms globals here no_else = passes-none here
 
 -- what was seen before is what is seen first later
-pub passes-take : (before later : Here) (count : ℕ) → Passes before later count → take (length before.locals) later.locals ≡ before.locals
+pub passes-take : (before later : BodyScope) (count : ℕ) → Passes before later count → take (length before.locals) later.locals ≡ before.locals
 passes-take before later count p = ap (take (length before.locals)) p.locals ∙ take-append_seam before.locals p.more

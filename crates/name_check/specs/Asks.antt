@@ -1,25 +1,25 @@
--- What a text asks for at a place: a name that stands for something, an expression of some type, a name that is new, and
--- a value where one is returned.
+-- What a text needs at a place: a name with a binding of some kind, an expression of some type, a name that is new, or a
+-- value that is returned.
 use Rattle.std.specs.Prelude.{true, List, [], ◌∷◌, ◌++◌, Option, None, Some}
 use Rattle.twe_io.specs.declared.place.Place.{Place}
 use Rattle.twe_ast.specs.declared.name.Name.{Name}
 use Rattle.twe_ast.specs.declared.stmt.LocalType.{LocalType}
 use Rattle.twe_ast.specs.declared.stmt.LocalType.TheVariants.{Int, Boolean}
 use Rattle.twe_ast.specs.Expression.{Expression, expression, Shape, Literal, Truth, Variable, ArrayElement, GridElement, CallValue, Negative, Negation, Binary, Arguments, no_more, argument}
-use Rattle.name_check.specs.declared.seen.Asked.{Asked}
-use Rattle.name_check.specs.declared.seen.Asked.TheVariants as asked
+use Rattle.name_check.specs.declared.binding.NameUse.{NameUse}
+use Rattle.name_check.specs.declared.binding.NameUse.TheVariants as name_use
 use Rattle.name_check.specs.declared.names.GlobalName.{GlobalName}
 use Rattle.name_check.specs.declared.scope.LocalName.{LocalName}
 use Rattle.name_check.specs.Types.{count_of, left_need, right_need, type_of}
 
 pub data Ask : Type 0 where
   -- a name is used
-  uses : (name : Name) (asked : Asked) → Ask
-  -- an expression stands where this type is needed
+  uses : (name : Name) (name_use : NameUse) → Ask
+  -- this type is needed of an expression
   needs : (type : LocalType) (value : Expression) → Ask
   -- a parameter, a local or a future gets this name
   declares : (name : Name) → Ask
-  -- a value is returned, which begins here; or none is, by a `return` that stands here
+  -- a value is returned, which begins here; or none is, by a `return` here
   returns_value : (place : Place) → Ask
   returns_nothing : (place : Place) → Ask
 
@@ -30,7 +30,7 @@ need (Some type) value = needs type value ∷ []
 abbrev pub place_of : Expression → Place
 place_of (expression place shape) = place
 
--- what an expression asks for that stands where this type is needed, if one is
+-- what an expression needs of which this type is needed, if one is
 abbrev mutual
   pub asks_of : List GlobalName → List LocalName → Option LocalType → Expression → List Ask
   asks_of globals locals type (expression place shape) = asks_inside globals locals shape ++ need type (expression place shape)
@@ -38,11 +38,11 @@ abbrev mutual
   pub asks_inside : List GlobalName → List LocalName → Shape → List Ask
   asks_inside globals locals (Literal value) = []
   asks_inside globals locals (Truth value) = []
-  asks_inside globals locals (Variable name) = uses name asked.Value ∷ []
-  asks_inside globals locals (ArrayElement array index) = uses array (asked.Array 1) ∷ asks_of globals locals (Some Int) index
+  asks_inside globals locals (Variable name) = uses name name_use.Value ∷ []
+  asks_inside globals locals (ArrayElement array index) = uses array (name_use.Array 1) ∷ asks_of globals locals (Some Int) index
   asks_inside globals locals (GridElement array row column) =
-      uses array (asked.Array 2) ∷ (asks_of globals locals (Some Int) row ++ asks_of globals locals (Some Int) column)
-  asks_inside globals locals (CallValue method args) = uses method (asked.Method (count_of args) true) ∷ asks_of_all globals locals args
+      uses array (name_use.Array 2) ∷ (asks_of globals locals (Some Int) row ++ asks_of globals locals (Some Int) column)
+  asks_inside globals locals (CallValue method args) = uses method (name_use.Method (count_of args) true) ∷ asks_of_all globals locals args
   asks_inside globals locals (Negative operand) = asks_of globals locals (Some Int) operand
   asks_inside globals locals (Negation operand) = asks_of globals locals (Some Boolean) operand
   asks_inside globals locals (Binary op left right place) =

@@ -8,7 +8,7 @@ use Rattle.name_check.specs.declared.whole.CheckedNames.TheVariants.{Accepted, R
 use Rattle.name_check.specs.FailsName.{FailsName, IsFirstFailure}
 use Rattle.name_check.specs.Names.{globals_of}
 
--- no rule of names fails and these are the names of the whole program, or this is the first failure
+-- no rule of names fails and these are the global names, or this is the first failure
 abbrev pub IsCheckOf : Ast → CheckedNames → Type 0
 IsCheckOf ast (Accepted globals) = (globals ≡ globals_of ast) × ((rule : NRule) (place : Place) → ¬ FailsName ast rule place)
 IsCheckOf ast (Refused failure) = IsFirstFailure ast failure.rule failure.place

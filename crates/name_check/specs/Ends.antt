@@ -9,8 +9,8 @@ abbrev pub is_true : Expression → Bool
 is_true (expression place (Truth true)) = true
 is_true _ = false
 
--- A statement ends where it is a `return`, a block of which some statement ends, an `if` with a last `else` all of whose
--- blocks end, or a `while` whose condition is the literal `true`.
+-- A statement ends the body if it is a `return`, a block of which some statement ends it, an `if` with a last `else` all of
+-- whose blocks end it, or a `while` whose condition is the literal `true`.
 abbrev mutual
   pub ends : Statement → Bool
   ends (Block body) = one_ends body

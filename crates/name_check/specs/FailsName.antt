@@ -18,47 +18,47 @@ use Rattle.twe_ast.specs.declared.stmt.LocalType.{LocalType}
 use Rattle.twe_ast.specs.Expression.{Expression}
 use Rattle.name_check.specs.declared.rule.NRule.{NRule}
 use Rattle.name_check.specs.declared.rule.NRule.TheVariants.{N1, N2, N3, N4, N5, N6, N7, N8, N9}
-use Rattle.name_check.specs.declared.seen.Asked.{Asked}
-use Rattle.name_check.specs.declared.seen.Asked.TheVariants as asked
-use Rattle.name_check.specs.declared.seen.Global.TheVariants as global_kinds
-use Rattle.name_check.specs.declared.seen.Local.TheVariants as local_kinds
-use Rattle.name_check.specs.declared.seen.Seen.{Seen}
-use Rattle.name_check.specs.declared.seen.Seen.TheVariants as seens
+use Rattle.name_check.specs.declared.binding.NameUse.{NameUse}
+use Rattle.name_check.specs.declared.binding.NameUse.TheVariants as name_use
+use Rattle.name_check.specs.declared.binding.Global.TheVariants as global_kinds
+use Rattle.name_check.specs.declared.binding.Local.TheVariants as local_kinds
+use Rattle.name_check.specs.declared.binding.Binding.{Binding}
+use Rattle.name_check.specs.declared.binding.Binding.TheVariants as bindings
 use Rattle.name_check.specs.declared.names.GlobalName.{GlobalName}
 use Rattle.name_check.specs.declared.scope.LocalName.{LocalName}
-use Rattle.name_check.specs.Names.{globals_of, first_local, seen, seen_as_local}
+use Rattle.name_check.specs.Names.{globals_of, first_local, binding_of, binding_of_local}
 use Rattle.name_check.specs.Types.{type_of}
 use Rattle.name_check.specs.Asks.{Ask, uses, needs, declares, returns_value, returns_nothing, place_of}
-use Rattle.name_check.specs.Stands.{sites_of}
+use Rattle.name_check.specs.Sites.{sites_of}
 use Rattle.name_check.specs.Ends.{one_ends, close_of}
 use Rattle.cell_limits.specs.GoesOver.{cells_of, GoesOver}
 use Rattle.name_check.specs.Limits.{decls_of, paths_of, StandsAfter, IsSecondStar}
 
--- the text asks for this, where these names are seen, in a declaration that returns this
+-- the text needs this while these names are in scope, in a declaration that returns this
 abbrev pub Asks : Ast → List LocalName → ReturnType → Ask → Type 0
 Asks ast locals returns ask = Contains (sites_of ast) (record { locals = locals; returns = returns; ask = ask })
 
--- What a name stands for where it is used. As an index in the path of an effect only a parameter is seen.
-abbrev pub seen_as : List GlobalName → List LocalName → Asked → List ℕ → Option Seen
-seen_as globals locals asked.Parameter text = seen_as_local (first_local text locals)
-seen_as globals locals _ text = seen globals locals text
+-- The binding of a name for this use. As an index in the path of an effect only parameters are in scope.
+abbrev pub binding_as : List GlobalName → List LocalName → NameUse → List ℕ → Option Binding
+binding_as globals locals name_use.Parameter text = binding_of_local (first_local text locals)
+binding_as globals locals _ text = binding_of globals locals text
 
--- what a name stands for is of the kind that its use asks for, an array with so many indexes
-abbrev pub fits : Asked → Seen → Bool
-fits asked.Region (seens.Global (global_kinds.Region number)) = true
-fits asked.Parameter (seens.Local (local_kinds.Variable number local_type constant)) = true
-fits asked.Value (seens.Local (local_kinds.Variable number local_type constant)) = true
-fits asked.Value (seens.Global (global_kinds.Cells number indexes)) = indexes == 0
-fits asked.Target (seens.Local (local_kinds.Variable number local_type constant)) = true
-fits asked.Target (seens.Global (global_kinds.Cells number indexes)) = indexes == 0
-fits (asked.Array given) (seens.Global (global_kinds.Cells number indexes)) = indexes == given
-fits (asked.Method args valued) (seens.Global (global_kinds.Method number params returns)) = true
-fits (asked.Task args) (seens.Global (global_kinds.Task number params returns)) = true
-fits (asked.Future true valued) (seens.Local (local_kinds.Future number spawned void)) = spawned
-fits (asked.Future false valued) (seens.Local (local_kinds.Future number spawned void)) = not spawned
+-- the binding is of the kind that the use needs; an array has the number of indexes that are given
+abbrev pub fits : NameUse → Binding → Bool
+fits name_use.Region (bindings.Global (global_kinds.Region number)) = true
+fits name_use.Parameter (bindings.Local (local_kinds.Variable number local_type constant)) = true
+fits name_use.Value (bindings.Local (local_kinds.Variable number local_type constant)) = true
+fits name_use.Value (bindings.Global (global_kinds.Cells number indexes)) = indexes == 0
+fits name_use.Target (bindings.Local (local_kinds.Variable number local_type constant)) = true
+fits name_use.Target (bindings.Global (global_kinds.Cells number indexes)) = indexes == 0
+fits (name_use.Array given) (bindings.Global (global_kinds.Cells number indexes)) = indexes == given
+fits (name_use.Method args valued) (bindings.Global (global_kinds.Method number params returns)) = true
+fits (name_use.Task args) (bindings.Global (global_kinds.Task number params returns)) = true
+fits (name_use.Future true valued) (bindings.Local (local_kinds.Future number spawned void)) = spawned
+fits (name_use.Future false valued) (bindings.Local (local_kinds.Future number spawned void)) = not spawned
 fits _ _ = false
 
--- the tree declares this name for the whole program after one of the same text, or it is `Console`
+-- the tree declares this global name after one of the same text, or it is `Console`
 pub record IsDeclaredAgain (ast : Ast) (this : GlobalName) : Type 0 where
   pub before : List GlobalName
   pub after : List GlobalName
@@ -76,45 +76,45 @@ pub record HasMain (ast : Ast) : Type 0 where
 
 -- The tree fails this rule at this place.
 pub data FailsName (ast : Ast) : NRule → Place → Type 0 where
-  -- a name is used that is not seen there
-  unknown : (locals : List LocalName) (returns : ReturnType) (name : Name) (asks : Asked)
-      → Asks ast locals returns (uses name asks) → seen_as (globals_of ast) locals asks name.text ≡ None → FailsName ast N1 name.place
-  -- a name of the whole program is declared a second time, or is `Console`
+  -- a name is used that is not in scope
+  unknown : (locals : List LocalName) (returns : ReturnType) (name : Name) (asks : NameUse)
+      → Asks ast locals returns (uses name asks) → binding_as (globals_of ast) locals asks name.text ≡ None → FailsName ast N1 name.place
+  -- a global name is declared a second time, or is `Console`
   declared_again : (name : GlobalName) → IsDeclaredAgain ast name → FailsName ast N2 name.place
-  -- a parameter, local or future gets a name that is seen there
-  hides : (locals : List LocalName) (returns : ReturnType) (name : Name) (other : Seen)
-      → Asks ast locals returns (declares name) → seen (globals_of ast) locals name.text ≡ Some other → FailsName ast N2 name.place
-  -- a name that is seen has another kind than its use asks for, or an array another number of indexes
-  other_kind : (locals : List LocalName) (returns : ReturnType) (name : Name) (asks : Asked) (other : Seen)
-      → Asks ast locals returns (uses name asks) → seen_as (globals_of ast) locals asks name.text ≡ Some other → fits asks other ≡ false → FailsName ast N3 name.place
+  -- a parameter, local or future gets a name that is in scope
+  hides : (locals : List LocalName) (returns : ReturnType) (name : Name) (other : Binding)
+      → Asks ast locals returns (declares name) → binding_of (globals_of ast) locals name.text ≡ Some other → FailsName ast N2 name.place
+  -- a name is bound to another kind than its use needs, or to an array with another number of indexes
+  other_kind : (locals : List LocalName) (returns : ReturnType) (name : Name) (asks : NameUse) (other : Binding)
+      → Asks ast locals returns (uses name asks) → binding_as (globals_of ast) locals asks name.text ≡ Some other → fits asks other ≡ false → FailsName ast N3 name.place
   -- an expression has another type than is needed
   other_type : (locals : List LocalName) (returns : ReturnType) (type other : LocalType) (value : Expression)
       → Asks ast locals returns (needs type value) → type_of (globals_of ast) locals value ≡ Some other → ¬ (type ≡ other) → FailsName ast N3 (place_of value)
-  -- a method that returns nothing stands in an expression
+  -- a method that returns nothing is called in an expression
   void_method : (locals : List LocalName) (returns : ReturnType) (name : Name) (args number params : ℕ)
-      → Asks ast locals returns (uses name (asked.Method args true))
-      → seen (globals_of ast) locals name.text ≡ Some (seens.Global (global_kinds.Method number params return_types.Void)) → FailsName ast N3 name.place
+      → Asks ast locals returns (uses name (name_use.Method args true))
+      → binding_of (globals_of ast) locals name.text ≡ Some (bindings.Global (global_kinds.Method number params return_types.Void)) → FailsName ast N3 name.place
   -- a value is taken from a task that returns nothing
   void_task : (locals : List LocalName) (returns : ReturnType) (name : Name) (join spawned : Bool) (number : ℕ)
-      → Asks ast locals returns (uses name (asked.Future join true))
-      → seen (globals_of ast) locals name.text ≡ Some (seens.Local (local_kinds.Future number spawned true)) → FailsName ast N3 name.place
+      → Asks ast locals returns (uses name (name_use.Future join true))
+      → binding_of (globals_of ast) locals name.text ≡ Some (bindings.Local (local_kinds.Future number spawned true)) → FailsName ast N3 name.place
   -- a body that returns nothing has a `return` with a value
   value_for_nothing : (locals : List LocalName) (place : Place) → Asks ast locals return_types.Void (returns_value place) → FailsName ast N3 place
   -- a body that returns a value has a `return` without one
   nothing_for_value : (locals : List LocalName) (place : Place) → Asks ast locals return_types.Int (returns_nothing place) → FailsName ast N3 place
   -- a method is called, or a task made, with another number of arguments than it has parameters
   other_count_of_method : (locals : List LocalName) (returns its : ReturnType) (name : Name) (args number params : ℕ) (valued : Bool)
-      → Asks ast locals returns (uses name (asked.Method args valued))
-      → seen (globals_of ast) locals name.text ≡ Some (seens.Global (global_kinds.Method number params its)) → ¬ (params ≡ args) → FailsName ast N4 name.place
+      → Asks ast locals returns (uses name (name_use.Method args valued))
+      → binding_of (globals_of ast) locals name.text ≡ Some (bindings.Global (global_kinds.Method number params its)) → ¬ (params ≡ args) → FailsName ast N4 name.place
   other_count_of_task : (locals : List LocalName) (returns its : ReturnType) (name : Name) (args number params : ℕ)
-      → Asks ast locals returns (uses name (asked.Task args))
-      → seen (globals_of ast) locals name.text ≡ Some (seens.Global (global_kinds.Task number params its)) → ¬ (params ≡ args) → FailsName ast N4 name.place
+      → Asks ast locals returns (uses name (name_use.Task args))
+      → binding_of (globals_of ast) locals name.text ≡ Some (bindings.Global (global_kinds.Task number params its)) → ¬ (params ≡ args) → FailsName ast N4 name.place
   -- a body that returns a value can end without a `return`
   no_return : (decl : Decl) → Contains (decls_of ast) decl → decl.returns ≡ return_types.Int → one_ends decl.body ≡ false → FailsName ast N5 (close_of decl.body)
   -- a parameter or a `final` local is assigned
   assigned : (locals : List LocalName) (returns : ReturnType) (name : Name) (number : ℕ) (type : LocalType)
-      → Asks ast locals returns (uses name asked.Target)
-      → seen (globals_of ast) locals name.text ≡ Some (seens.Local (local_kinds.Variable number type true)) → FailsName ast N6 name.place
+      → Asks ast locals returns (uses name name_use.Target)
+      → binding_of (globals_of ast) locals name.text ≡ Some (bindings.Local (local_kinds.Variable number type true)) → FailsName ast N6 name.place
   -- a declaration brings the number of cells, or that of nodes, over its limit
   too_many_cells : (cell : CellDecl) → GoesOver (cells_of ast.items) cell → FailsName ast N7 cell.name.place
   -- an element of the path of a cell or of an effect exceeds the limit on elements
@@ -149,6 +149,6 @@ number_of N9 = 9
 abbrev pub NameFailure : Type 0
 NameFailure = Failure NRule
 
--- the failure comes before all others
+-- the failure that comes before all others
 abbrev pub IsFirstFailure : Ast → NRule → Place → Type 0
 IsFirstFailure ast rule place = order.IsFirstFailure number_of (FailsName ast) rule place

@@ -1,8 +1,8 @@
 pub mod Names
-pub mod Here
+pub mod BodyScope
 pub mod Types
 pub mod Asks
-pub mod Stands
+pub mod Sites
 pub mod Ends
 pub mod Limits
 pub mod Size

@@ -1,4 +1,4 @@
--- The limits on what a text declares, and the places where it goes over one.
+-- The limits on what a text declares, and the places that exceed one.
 use Rattle.std.specs.Prelude.{◌≡◌, ℕ, Bool, true, false, List, [], ◌∷◌, ◌++◌, length, count_by, flat_map}
 use Rattle.twe_ast.specs.declared.item.Ast.{Ast}
 use Rattle.twe_ast.specs.declared.item.Item.{Item}
@@ -23,7 +23,7 @@ decls_of ast = flat_map decls_of_item ast.items
 abbrev pub paths_of : Decl → List Path
 paths_of decl = flat_map (λ (clause : Clause). clause.paths) decl.effects
 
--- after so many others in a list stands this one
+-- the list has this item after `count` others
 pub record StandsAfter {A : Type 0} (count : ℕ) (items : List A) (item : A) : Type 0 where
   pub before : List A
   pub after : List A

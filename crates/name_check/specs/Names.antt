@@ -1,4 +1,4 @@
--- What names stand for: those of the whole program, which are seen everywhere, and those inside a declaration.
+-- The bindings of names: of global names, which are in scope everywhere, and of names inside a declaration.
 use Rattle.std.specs.Prelude.{ℕ, ◌+◌, bytes_eq, if◌then◌else◌, List, [], ◌∷◌, ◌++◌, Option, None, Some, length, codes}
 use Rattle.twe_ast.specs.declared.name.Name.{Name}
 use Rattle.twe_ast.specs.declared.item.Ast.{Ast}
@@ -8,20 +8,20 @@ use Rattle.twe_ast.specs.declared.item.CellShape.{CellShape}
 use Rattle.twe_ast.specs.declared.item.CellShape.TheVariants as shapes
 use Rattle.name_check.specs.declared.names.GlobalName.{GlobalName}
 use Rattle.name_check.specs.declared.scope.LocalName.{LocalName}
-use Rattle.name_check.specs.declared.seen.Global.{Global}
-use Rattle.name_check.specs.declared.seen.Global.TheVariants as global_kinds
-use Rattle.name_check.specs.declared.seen.Local.{Local}
-use Rattle.name_check.specs.declared.seen.Seen.{Seen}
-use Rattle.name_check.specs.declared.seen.Seen.TheVariants as seens
+use Rattle.name_check.specs.declared.binding.Global.{Global}
+use Rattle.name_check.specs.declared.binding.Global.TheVariants as global_kinds
+use Rattle.name_check.specs.declared.binding.Local.{Local}
+use Rattle.name_check.specs.declared.binding.Binding.{Binding}
+use Rattle.name_check.specs.declared.binding.Binding.TheVariants as bindings
 
--- how many regions, declarations of cells, methods and tasks there are before an item
+-- the numbers of regions, declarations of cells, methods and tasks before an item
 pub record Before : Type 0 where
   pub regions : ℕ
   pub cells : ℕ
   pub methods : ℕ
   pub tasks : ℕ
 
--- at the start of a text `Console` is there
+-- at the start of a text there is `Console`
 abbrev pub at_start : Before
 at_start = record { regions = 1; cells = 0; methods = 0; tasks = 0 }
 
@@ -30,12 +30,12 @@ indexes_of (shapes.Scalar initial) = 0
 indexes_of (shapes.Array elements) = 1
 indexes_of (shapes.Grid rows columns) = 2
 
--- regions are numbered on
+-- regions, with their numbers
 abbrev pub regions_from : ℕ → List Name → List GlobalName
 regions_from number [] = []
 regions_from number (name ∷ names) = record { text = name.text; place = name.place; global = global_kinds.Region number } ∷ regions_from (number + 1) names
 
--- what an item declares, where so many are before it
+-- what an item declares, if these are before it
 abbrev pub declared_by : Before → Item → List GlobalName
 declared_by before (items.Regions names) = regions_from before.regions names
 declared_by before (items.Cell cell) =
@@ -55,11 +55,11 @@ abbrev pub globals_from : Before → List Item → List GlobalName
 globals_from before [] = []
 globals_from before (item ∷ others) = declared_by before item ++ globals_from (past before item) others
 
--- the names that a text declares for the whole program, in the order of the text
+-- the global names that a text declares, in the order of the text
 abbrev pub globals_of : Ast → List GlobalName
 globals_of ast = globals_from at_start ast.items
 
--- what the first of these of that name stands for
+-- the binding of the first of these of that name
 abbrev pub first_global : List ℕ → List GlobalName → Option Global
 first_global text [] = None
 first_global text (first ∷ others) = if bytes_eq text first.text then Some first.global else first_global text others
@@ -68,22 +68,22 @@ abbrev pub first_local : List ℕ → List LocalName → Option Local
 first_local text [] = None
 first_local text (first ∷ others) = if bytes_eq text first.text then Some first.local else first_local text others
 
--- what a name stands for in the whole program: `Console` is a region beforehand, and of declarations the first counts
+-- the global binding of a name: `Console` is a region beforehand, and of several declarations the first counts
 abbrev pub global_of : List GlobalName → List ℕ → Option Global
 global_of globals text = if bytes_eq text (codes "Console") then Some (global_kinds.Region 0) else first_global text globals
 
-abbrev pub seen_as_local : Option Local → Option Seen
-seen_as_local None = None
-seen_as_local (Some local) = Some (seens.Local local)
+abbrev pub binding_of_local : Option Local → Option Binding
+binding_of_local None = None
+binding_of_local (Some local) = Some (bindings.Local local)
 
-abbrev pub seen_as_global : Option Global → Option Seen
+abbrev pub seen_as_global : Option Global → Option Binding
 seen_as_global None = None
-seen_as_global (Some global) = Some (seens.Global global)
+seen_as_global (Some global) = Some (bindings.Global global)
 
-abbrev pub either : Option Local → Option Global → Option Seen
+abbrev pub either : Option Local → Option Global → Option Binding
 either None global = seen_as_global global
-either (Some local) global = Some (seens.Local local)
+either (Some local) global = Some (bindings.Local local)
 
--- what a name stands for where these names are seen
-abbrev pub seen : List GlobalName → List LocalName → List ℕ → Option Seen
-seen globals locals text = either (first_local text locals) (global_of globals text)
+-- the binding of a name if these names are in scope
+abbrev pub binding_of : List GlobalName → List LocalName → List ℕ → Option Binding
+binding_of globals locals text = either (first_local text locals) (global_of globals text)

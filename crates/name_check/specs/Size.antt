@@ -6,7 +6,7 @@ use Rattle.twe_ast.specs.declared.item.Item.TheVariants as items
 use Rattle.twe_ast.specs.declared.item.Decl.{Decl}
 use Rattle.twe_ast.specs.Statement.{Statement, Block, If, While, Statements, end_of_block, statement, Arms, arm, otherwise, no_else}
 
--- how many statements there are, in all parts
+-- the number of statements, in all parts
 abbrev mutual
   pub statements_in : Statement → ℕ
   statements_in (Block body) = statements_in_all body + 1

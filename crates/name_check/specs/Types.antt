@@ -6,15 +6,15 @@ use Rattle.twe_ast.specs.declared.item.ReturnType.TheVariants as return_types
 use Rattle.twe_ast.specs.declared.stmt.LocalType.{LocalType}
 use Rattle.twe_ast.specs.declared.stmt.LocalType.TheVariants.{Int, Boolean}
 use Rattle.twe_ast.specs.Expression.{Expression, expression, Shape, Literal, Truth, Variable, ArrayElement, GridElement, CallValue, Negative, Negation, Binary, Arguments, no_more, argument}
-use Rattle.name_check.specs.declared.seen.Global.TheVariants as global_kinds
-use Rattle.name_check.specs.declared.seen.Local.TheVariants as local_kinds
-use Rattle.name_check.specs.declared.seen.Seen.{Seen}
-use Rattle.name_check.specs.declared.seen.Seen.TheVariants as seens
+use Rattle.name_check.specs.declared.binding.Global.TheVariants as global_kinds
+use Rattle.name_check.specs.declared.binding.Local.TheVariants as local_kinds
+use Rattle.name_check.specs.declared.binding.Binding.{Binding}
+use Rattle.name_check.specs.declared.binding.Binding.TheVariants as bindings
 use Rattle.name_check.specs.declared.names.GlobalName.{GlobalName}
 use Rattle.name_check.specs.declared.scope.LocalName.{LocalName}
-use Rattle.name_check.specs.Names.{seen}
+use Rattle.name_check.specs.Names.{binding_of}
 
--- how many arguments there are
+-- the number of arguments
 abbrev pub count_of : Arguments → ℕ
 count_of no_more = 0
 count_of (argument first others) = count_of others + 1
@@ -33,13 +33,13 @@ left_need ops.Equal = None
 left_need ops.NotEqual = None
 left_need _ = Some Int
 
--- what it needs on its right, where the left operand is of this type: for `==` and `!=` the same
+-- what it needs on its right, if its left operand has this type: for `==` and `!=` the same type
 abbrev pub right_need : BinOp → Option LocalType → Option LocalType
 right_need ops.Equal left = left
 right_need ops.NotEqual left = left
 right_need op left = left_need op
 
--- what an operator gives
+-- the type of the value of an operator
 abbrev pub gives : BinOp → LocalType
 gives ops.Add = Int
 gives ops.Sub = Int
@@ -48,20 +48,20 @@ gives ops.Div = Int
 gives ops.Rem = Int
 gives _ = Boolean
 
--- the type of a name that stands as a value: a scalar cell's is `int`
-abbrev pub type_of_name : Option Seen → Option LocalType
-type_of_name (Some (seens.Local (local_kinds.Variable number local_type constant))) = Some local_type
-type_of_name (Some (seens.Global (global_kinds.Cells number indexes))) = if indexes == 0 then Some Int else None
+-- the type of a name that is used as a value: a scalar cell's is `int`
+abbrev pub type_of_name : Option Binding → Option LocalType
+type_of_name (Some (bindings.Local (local_kinds.Variable number local_type constant))) = Some local_type
+type_of_name (Some (bindings.Global (global_kinds.Cells number indexes))) = if indexes == 0 then Some Int else None
 type_of_name _ = None
 
--- the type of an element of an array or a grid with so many indexes
-abbrev pub type_of_element : Option Seen → ℕ → Option LocalType
-type_of_element (Some (seens.Global (global_kinds.Cells number indexes))) given = if indexes == given then Some Int else None
+-- the type of an element of an array or a grid with `given` indexes
+abbrev pub type_of_element : Option Binding → ℕ → Option LocalType
+type_of_element (Some (bindings.Global (global_kinds.Cells number indexes))) given = if indexes == given then Some Int else None
 type_of_element _ given = None
 
--- the type of a call with so many arguments: that of what the method returns
-abbrev pub type_of_call : Option Seen → ℕ → Option LocalType
-type_of_call (Some (seens.Global (global_kinds.Method number params return_types.Int))) given = if params == given then Some Int else None
+-- the type of a call with `given` arguments: that of what the method returns
+abbrev pub type_of_call : Option Binding → ℕ → Option LocalType
+type_of_call (Some (bindings.Global (global_kinds.Method number params return_types.Int))) given = if params == given then Some Int else None
 type_of_call _ given = None
 
 abbrev pub type_if : Bool → Option LocalType → Option LocalType
@@ -78,7 +78,7 @@ agrees (Some need) type = same_type (Some need) type
 abbrev pub operands_agree : BinOp → Option LocalType → Option LocalType → Bool
 operands_agree op left right = agrees (left_need op) left && agrees (right_need op left) right
 
--- The type of an expression. There is none where a rule fails inside it.
+-- The type of an expression. There is none if a rule fails inside it.
 abbrev mutual
   pub type_of : List GlobalName → List LocalName → Expression → Option LocalType
   type_of globals locals (expression place shape) = type_of_shape globals locals shape
@@ -86,14 +86,14 @@ abbrev mutual
   pub type_of_shape : List GlobalName → List LocalName → Shape → Option LocalType
   type_of_shape globals locals (Literal value) = Some Int
   type_of_shape globals locals (Truth value) = Some Boolean
-  type_of_shape globals locals (Variable name) = type_of_name (seen globals locals name.text)
+  type_of_shape globals locals (Variable name) = type_of_name (binding_of globals locals name.text)
   type_of_shape globals locals (ArrayElement array index) =
-      type_if (same_type (type_of globals locals index) (Some Int)) (type_of_element (seen globals locals array.text) 1)
+      type_if (same_type (type_of globals locals index) (Some Int)) (type_of_element (binding_of globals locals array.text) 1)
   type_of_shape globals locals (GridElement array row column) =
       type_if (same_type (type_of globals locals row) (Some Int) && same_type (type_of globals locals column) (Some Int))
-      (type_of_element (seen globals locals array.text) 2)
+      (type_of_element (binding_of globals locals array.text) 2)
   type_of_shape globals locals (CallValue method args) =
-      type_if (are_ints globals locals args) (type_of_call (seen globals locals method.text) (count_of args))
+      type_if (are_ints globals locals args) (type_of_call (binding_of globals locals method.text) (count_of args))
   type_of_shape globals locals (Negative operand) = type_if (same_type (type_of globals locals operand) (Some Int)) (Some Int)
   type_of_shape globals locals (Negation operand) = type_if (same_type (type_of globals locals operand) (Some Boolean)) (Some Boolean)
   type_of_shape globals locals (Binary op left right place) =

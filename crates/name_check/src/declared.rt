@@ -4,13 +4,13 @@ ghost use Rattle.name_check.specs.Names.{declared_by, globals_of, indexes_of, pa
 ghost use Rattle.name_check.specs.Size.{IsCountable, size_of_item};
 ghost use Rattle.name_check.specs.inner.Counts.{HaveRoom, before_of, method_of, task_of};
 
+use crate::binding::Global;
 use crate::names::Globals;
-use crate::seen::Global;
 use std::alloc;
 use twe_ast::{Ast, CellShape, Decl, Item, Name};
 use twe_io::Memory;
 
-/// How many regions, declarations of cells, methods and tasks there are before an item, `Console` among the regions.
+/// The numbers of regions, declarations of cells, methods and tasks before an item. `Console` counts as a region.
 #[derive(Debug, Drop)]
 struct Counts {
     regions: u32,

@@ -1,4 +1,4 @@
-//! Where names stand first in a list: a map from a name to its first place.
+//! A map from each name of a list to the first place where the list has it.
 ghost use Rattle.std.specs.Prelude.{◌≡◌, OnOk, OnErr};
 ghost use Rattle.std.specs.BTreeMap.{get_by_text};
 ghost use Rattle.name_check.specs.inner.Firsts.{AddsFirst, DropsFirst, HaveSameFirsts};
@@ -17,7 +17,7 @@ pub fn first_place(firsts: &BTreeMap<String, u32>, text: &Word) -> Option<usize>
     }
 }
 
-/// Puts in a name that stands at this place, after all others. After `Memory` the map is as before.
+/// Adds a name at this place, which is after all others. If it fails, the map is as before.
 pub fn add_first(
     firsts: &mut BTreeMap<String, u32>,
     alloc: Global,
@@ -35,7 +35,7 @@ pub fn add_first(
     Ok(())
 }
 
-/// Takes out a name that stands at this place, if it is the first place of that name. It takes no memory.
+/// Removes the name at this place, if it is the first place of that name. It takes no memory.
 pub fn drop_first(firsts: &mut BTreeMap<String, u32>, text: &Word, place: usize)
     ensures { DropsFirst text.now place firsts.old firsts.new }
 {

@@ -7,15 +7,15 @@ ghost use Rattle.name_check.specs.declared.rule.NRule.TheVariants.{N7 as N7_};
 ghost use Rattle.name_check.specs.inner.First.{first_from};
 ghost use Rattle.name_check.specs.inner.OtherFailures as failures;
 
+use crate::check_simple::is_void;
 use crate::ends::{block_ends, close_of};
-use crate::judge_simple::is_void;
 use crate::rule::NRule;
 use first_failure::{Failure, report_if};
 use twe_ast::{CellElem, Clause, Decl, Name, Path, PathElem, PathElemKind};
 use twe_io::{List, Place};
 use twe_limits::{MAX_EFFECTS, MAX_PARAMETERS, MAX_PATH_ELEMENTS};
 
-/// Notes the failure of the rule at the place, if there is one.
+/// Reports the failure of the rule at the place, if there is one.
 pub fn report_at(first: &mut Option<Failure<NRule>>, rule: NRule, place: Option<Place>)
     ensures { first.new ≡ first_from first.old (failures.failures_of_place rule place) }
 {
@@ -25,8 +25,8 @@ pub fn report_at(first: &mut Option<Failure<NRule>>, rule: NRule, place: Option<
 }
 
 /// The place of the first parameter that exceeds the limit on parameters, if there is one.
-fn fifth_name(names: &List<Name>) -> Option<Place>
-    ensures { result ≡ failures.fifth_name names.now }
+fn parameter_over_limit(names: &List<Name>) -> Option<Place>
+    ensures { result ≡ failures.parameter_over_limit names.now }
 {
     match names.get(MAX_PARAMETERS) {
         Some(name) => Some(name.place),
@@ -35,8 +35,8 @@ fn fifth_name(names: &List<Name>) -> Option<Place>
 }
 
 /// The place of the first element of an effect's path that exceeds the limit on elements, if there is one.
-fn long_elem(elems: &List<PathElem>) -> Option<Place>
-    ensures { result ≡ failures.long_elem elems.now }
+fn element_over_limit(elems: &List<PathElem>) -> Option<Place>
+    ensures { result ≡ failures.element_over_limit elems.now }
 {
     match elems.get(MAX_PATH_ELEMENTS) {
         Some(elem) => Some(elem.place),
@@ -45,8 +45,8 @@ fn long_elem(elems: &List<PathElem>) -> Option<Place>
 }
 
 /// The place of the first element of a cell's path that exceeds the limit on elements, if there is one.
-fn long_cell_elem(elems: &List<CellElem>) -> Option<Place>
-    ensures { result ≡ failures.long_cell_elem elems.now }
+fn cell_element_over_limit(elems: &List<CellElem>) -> Option<Place>
+    ensures { result ≡ failures.cell_element_over_limit elems.now }
 {
     match elems.get(MAX_PATH_ELEMENTS) {
         Some(elem) => Some(elem.place),
@@ -55,8 +55,8 @@ fn long_cell_elem(elems: &List<CellElem>) -> Option<Place>
 }
 
 /// The place of the first path of the clauses that exceeds the limit on effects, if there is one.
-fn ninth_path(clauses: &[Clause]) -> Option<Place>
-    ensures { result ≡ failures.ninth_path (flat_map (λ (clause : EffectClause). clause.paths) clauses.now) }
+fn path_over_limit(clauses: &[Clause]) -> Option<Place>
+    ensures { result ≡ failures.path_over_limit (flat_map (λ (clause : EffectClause). clause.paths) clauses.now) }
 {
     let mut left = MAX_EFFECTS;
     for clause in clauses {
@@ -94,24 +94,24 @@ fn second_star(elems: &[PathElem]) -> Option<Place>
     None
 }
 
-/// Notes the failures of the lengths and the stars of paths.
+/// Checks the lengths and the stars of paths.
 #[tactic(auto, using(crate::proofs::FirstFailures::firsts))]
-fn judge_paths(paths: &[Path], first: &mut Option<Failure<NRule>>)
+fn check_paths(paths: &[Path], first: &mut Option<Failure<NRule>>)
     ensures { first.new ≡ first_from first.old (failures.paths_failures paths.now) }
 {
     for path in paths {
-        report_at(first, NRule::N7, long_elem(&path.elems));
+        report_at(first, NRule::N7, element_over_limit(&path.elems));
         report_at(first, NRule::N9, second_star(path.elems.as_slice()));
     }
 }
 
-/// The same for the paths of clauses.
+/// Checks the lengths and the stars of the paths of clauses.
 #[tactic(auto, using(crate::proofs::FirstFailures::firsts))]
-fn judge_clauses(clauses: &[Clause], first: &mut Option<Failure<NRule>>)
+fn check_clauses(clauses: &[Clause], first: &mut Option<Failure<NRule>>)
     ensures { first.new ≡ first_from first.old (failures.clauses_failures clauses.now) }
 {
     for clause in clauses {
-        judge_paths(clause.paths.as_slice(), first);
+        check_paths(clause.paths.as_slice(), first);
     }
 }
 
@@ -122,21 +122,21 @@ fn lacks_return(decl: &Decl) -> bool
     !is_void(decl.returns) && !block_ends(&decl.body)
 }
 
-/// Notes the failures of how much a method or a task declares, of the stars in its effects, and of a body that can end
-/// without a `return` where a value is returned.
+/// Checks the limits on a method or a task, the stars in its effects, and that its body ends with a `return` if it returns
+/// a value.
 #[tactic(auto, using(crate::proofs::FirstFailures::firsts))]
-pub fn judge_limits(decl: &Decl, first: &mut Option<Failure<NRule>>)
+pub fn check_limits(decl: &Decl, first: &mut Option<Failure<NRule>>)
     ensures { first.new ≡ first_from first.old (failures.decl_failures decl.now) }
 {
-    report_at(first, NRule::N7, fifth_name(&decl.params));
-    report_at(first, NRule::N7, ninth_path(decl.effects.as_slice()));
-    judge_clauses(decl.effects.as_slice(), first);
+    report_at(first, NRule::N7, parameter_over_limit(&decl.params));
+    report_at(first, NRule::N7, path_over_limit(decl.effects.as_slice()));
+    check_clauses(decl.effects.as_slice(), first);
     report_if(first, lacks_return(decl), NRule::N5, close_of(&decl.body));
 }
 
-/// Notes the failure of the length of the path of a cell.
-pub fn judge_cell_limit(elems: &List<CellElem>, first: &mut Option<Failure<NRule>>)
-    ensures { first.new ≡ first_from first.old (failures.failures_of_place N7_ (failures.long_cell_elem elems.now)) }
+/// Checks the length of the path of a cell.
+pub fn check_cell_limit(elems: &List<CellElem>, first: &mut Option<Failure<NRule>>)
+    ensures { first.new ≡ first_from first.old (failures.failures_of_place N7_ (failures.cell_element_over_limit elems.now)) }
 {
-    report_at(first, NRule::N7, long_cell_elem(elems));
+    report_at(first, NRule::N7, cell_element_over_limit(elems));
 }

@@ -1,21 +1,21 @@
-//! What a name stands for at a place.
+//! The binding of a name at a place.
 ghost use Rattle.std.specs.Prelude.{◌≡◌};
-ghost use Rattle.name_check.specs.Names.{seen};
+ghost use Rattle.name_check.specs.Names.{binding_of};
 
+use crate::binding::Binding;
 use crate::names::Globals;
 use crate::scope::Locals;
-use crate::seen::Seen;
 use twe_io::Word;
 
-/// What a name stands for where these names are seen: a parameter, a local or a future, and else something of the
-/// whole program. It takes no memory.
-pub fn look_up(globals: &Globals, locals: &Locals, text: &Word) -> Option<Seen>
-    ensures { result ≡ seen globals.now locals.now text.now }
+/// The binding of a name if these names are in scope: a parameter, a local or a future, or else a global one. It takes no
+/// memory.
+pub fn look_up(globals: &Globals, locals: &Locals, text: &Word) -> Option<Binding>
+    ensures { result ≡ binding_of globals.now locals.now text.now }
 {
     match locals.local(text) {
-        Some(local) => Some(Seen::Local(local)),
+        Some(local) => Some(Binding::Local(local)),
         None => match globals.global(text) {
-            Some(global) => Some(Seen::Global(global)),
+            Some(global) => Some(Binding::Global(global)),
             None => None,
         },
     }

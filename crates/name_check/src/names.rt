@@ -1,4 +1,4 @@
-//! The names of the whole program, in the order in which they are declared.
+//! The global names of a program, in the order in which they are declared.
 ghost use Rattle.std.specs.Prelude.{◌≡◌, ◌≤◌, [], ◌∷◌, ◌++◌, bytes_eq, length, take, OnOk};
 ghost use Rattle.std.specs.List.{list_any};
 ghost use Rattle.name_check.specs.declared.names.GlobalName.{GlobalName as Entry};
@@ -6,9 +6,9 @@ ghost use Rattle.name_check.specs.inner.First.{first_from};
 ghost use Rattle.name_check.specs.inner.Whole.{again_failures, is_again};
 ghost use Rattle.name_check.specs.Names.{global_of};
 
+use crate::binding::Global;
 use crate::firsts::{add_first, first_place};
 use crate::rule::NRule;
-use crate::seen::Global;
 use first_failure::{Failure, report_if};
 use std::alloc;
 use std::collections::BTreeMap;
@@ -16,18 +16,18 @@ use std::marker::Model;
 use twe_ast::Name;
 use twe_io::{Memory, Place, Word};
 
-/// A name of the whole program, and what it stands for.
+/// A global name, and its binding.
 #[derive(Debug, Drop)]
 pub struct GlobalName {
     /// The name.
     pub text: Word,
     /// The place where it is declared.
     pub place: Place,
-    /// What it stands for.
+    /// Its binding.
     pub global: Global,
 }
 
-/// Names of the whole program, in the order in which they are declared. Contracts see the list of them.
+/// Global names, in the order in which they are declared. Contracts see the list of them.
 #[derive(Debug, Drop)]
 pub struct Globals {
     entries: Vec<GlobalName>,
@@ -57,7 +57,7 @@ impl Globals {
         }
     }
 
-    /// Puts a name after the others.
+    /// Adds a name after the others.
     pub(crate) fn push(
         &mut self,
         alloc: alloc::Global,
@@ -81,8 +81,7 @@ impl Globals {
         Ok(())
     }
 
-    /// What a name stands for in the whole program: the region `Console`, or what the first declaration of that name
-    /// gives it. It takes no memory.
+    /// The global binding of a name: the region `Console`, or that of the first declaration of the name. It takes no memory.
     pub fn global(&self, text: &Word) -> Option<Global>
         ensures { result ≡ global_of self.now text.now }
     {
@@ -95,7 +94,7 @@ impl Globals {
         }
     }
 
-    /// Whether a name stands among the first `count` names. It takes no memory.
+    /// Whether a name is one of the first `count` names. It takes no memory.
     fn stands_among_first(&self, text: &Word, count: usize) -> bool
         requires { count ≤ length self.now }
         ensures { result ≡ list_any (λ (entry : Entry). bytes_eq text.now entry.text) (take count self.now) }
@@ -106,7 +105,7 @@ impl Globals {
         }
     }
 
-    /// Whether a name is `Console`, or stands among the first `count` names. It takes no memory.
+    /// Whether a name is `Console` or one of the first `count` names. It takes no memory.
     fn is_again(&self, entry: &GlobalName, count: usize) -> bool
         requires { count ≤ length self.now }
         ensures { result ≡ is_again (take count self.now) entry.now }
@@ -114,8 +113,8 @@ impl Globals {
         entry.text.as_str() == "Console" || self.stands_among_first(&entry.text, count)
     }
 
-    /// Notes the failures of names that are `Console`, or stand after one of the same text.
-    pub(crate) fn judge_again(&self, first: &mut Option<Failure<NRule>>)
+    /// Reports each name that is `Console` or is declared a second time.
+    pub(crate) fn check_again(&self, first: &mut Option<Failure<NRule>>)
         ensures { first.new ≡ first_from first.old (again_failures [] self.now) }
     {
         for index in 0..self.entries.len() {

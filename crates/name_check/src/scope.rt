@@ -1,26 +1,26 @@
-//! What is seen at a place of a declaration.
+//! The scope at a place of a declaration.
 ghost use Rattle.std.specs.Prelude.{◌≡◌, [], ◌∷◌, ◌++◌, ◌-◌, OnOk, length, take};
 ghost use Rattle.name_check.specs.Names.{first_local};
 ghost use Rattle.name_check.specs.inner.Parameters.{parameter};
 
+use crate::binding::Local;
 use crate::firsts::{add_first, drop_first, first_place};
-use crate::seen::Local;
 use std::alloc::Global;
 use std::collections::BTreeMap;
 use std::marker::Model;
 use twe_ast::LocalType;
 use twe_io::{Memory, Word};
 
-/// A name inside a declaration, and what it stands for.
+/// A name inside a declaration, and its binding.
 #[derive(Debug, Drop)]
 pub struct LocalName {
     /// The name.
     pub text: Word,
-    /// What it stands for.
+    /// Its binding.
     pub local: Local,
 }
 
-/// Parameters, locals and futures that are seen, in the order of the text. Contracts see the list of them.
+/// The parameters, locals and futures in scope, in the order of the text. Contracts see the list of them.
 #[derive(Debug, Drop)]
 pub struct Locals {
     entries: Vec<LocalName>,
@@ -40,7 +40,7 @@ impl Model for Locals {
 }
 
 impl Locals {
-    /// Nothing is seen. It takes no memory.
+    /// An empty scope. It takes no memory.
     pub fn new(alloc: Global) -> Self
         ensures { result ≡ [] }
     {
@@ -50,14 +50,14 @@ impl Locals {
         }
     }
 
-    /// How many are seen.
+    /// The number of names in scope.
     pub(crate) fn len(&self) -> usize
         ensures { result ≡ length self.now }
     {
         self.entries.len()
     }
 
-    /// Puts a name after the others.
+    /// Adds a name after the others.
     pub(crate) fn push(&mut self, alloc: Global, text: &Word, local: Local) -> Result<(), Memory>
         ensures { OnOk result (self.new ≡ self.old ++ record { text = text.now; local = local } ∷ []) }
     {
@@ -75,7 +75,7 @@ impl Locals {
         Ok(())
     }
 
-    /// Puts a parameter of this number after the others.
+    /// Adds a parameter of this number after the others.
     pub(crate) fn push_parameter(
         &mut self,
         alloc: Global,
@@ -92,7 +92,7 @@ impl Locals {
         self.push(alloc, text, local)
     }
 
-    /// Takes out the last name, if there is one. It takes no memory.
+    /// Removes the last name, if there is one. It takes no memory.
     fn pop(&mut self)
         ensures { self.new ≡ take (length self.old - 1) self.old }
     {
@@ -101,7 +101,7 @@ impl Locals {
         }
     }
 
-    /// Takes out all but the first `count` names. It takes no memory.
+    /// Removes all but the first `count` names. It takes no memory.
     pub(crate) fn keep(&mut self, count: usize)
         ensures { self.new ≡ take count self.old }
     {
@@ -110,7 +110,7 @@ impl Locals {
         }
     }
 
-    /// What the first of these names that is this one stands for. It takes no memory.
+    /// The binding of the first of these names that is this one. It takes no memory.
     pub fn local(&self, text: &Word) -> Option<Local>
         ensures { result ≡ first_local text.now self.now }
     {
@@ -124,13 +124,13 @@ impl Locals {
 /// A place in a declaration: what is seen there, and how much of the declaration comes before, what is no longer seen
 /// among it.
 #[derive(Debug, Drop)]
-pub struct Here {
-    /// The parameters, locals and futures that are seen.
+pub struct BodyScope {
+    /// The parameters, locals and futures in scope.
     pub locals: Locals,
-    /// How many statements come before.
+    /// The number of statements before.
     pub points: u32,
-    /// How many parameters and locals come before.
+    /// The number of parameters and locals before.
     pub vars: u32,
-    /// How many futures come before.
+    /// The number of futures before.
     pub futures: u32,
 }

@@ -3,7 +3,7 @@ ghost use Rattle.std.specs.Prelude.{◌≡◌, ◌&&◌, Some};
 ghost use Rattle.twe_ast.specs.declared.stmt.LocalType.TheVariants.{Int as IntType};
 ghost use Rattle.name_check.specs.Types as types;
 
-use crate::seen::{Global, Local, Seen};
+use crate::binding::{Binding, Global, Local};
 use twe_ast::{BinOp, LocalType, ReturnType};
 
 /// Whether there is a type, and it is this one.
@@ -35,7 +35,7 @@ pub fn left_need(op: BinOp) -> Option<LocalType>
     }
 }
 
-/// What an operator needs on its right, where the left operand is of this type.
+/// What an operator needs on its right, if its left operand has this type.
 pub fn right_need(op: BinOp, left: Option<LocalType>) -> Option<LocalType>
     ensures { result ≡ types.right_need op left }
 {
@@ -45,7 +45,7 @@ pub fn right_need(op: BinOp, left: Option<LocalType>) -> Option<LocalType>
     }
 }
 
-/// The type of what an operator gives.
+/// The type of the value of an operator.
 fn gives(op: BinOp) -> LocalType
     ensures { result ≡ types.gives op }
 {
@@ -80,7 +80,7 @@ pub fn binary_type(
     }
 }
 
-/// The type of an operator with one operand, which has to be of this type, and gives it.
+/// The type of an operator whose one operand and whose value have this type.
 pub fn unary_type(wanted: LocalType, operand: Option<LocalType>) -> Option<LocalType>
     ensures { result ≡ types.type_if (types.same_type operand (Some wanted)) (Some wanted) }
 {
@@ -91,36 +91,36 @@ pub fn unary_type(wanted: LocalType, operand: Option<LocalType>) -> Option<Local
     }
 }
 
-/// The type of a name that stands as a value.
-pub fn name_type(seen: Option<Seen>) -> Option<LocalType>
-    ensures { result ≡ types.type_of_name seen }
+/// The type of a name that is used as a value.
+pub fn name_type(binding: Option<Binding>) -> Option<LocalType>
+    ensures { result ≡ types.type_of_name binding }
 {
-    match seen {
-        Some(Seen::Local(Local::Variable { local_type, .. })) => Some(local_type),
-        Some(Seen::Global(Global::Cells { indexes: 0, .. })) => Some(LocalType::Int),
+    match binding {
+        Some(Binding::Local(Local::Variable { local_type, .. })) => Some(local_type),
+        Some(Binding::Global(Global::Cells { indexes: 0, .. })) => Some(LocalType::Int),
         _ => None,
     }
 }
 
-/// The type of an element of an array or a grid with so many indexes, if these are numbers.
-pub fn element_type(seen: Option<Seen>, given: u8, numbers: bool) -> Option<LocalType>
-    ensures { result ≡ types.type_if numbers (types.type_of_element seen given) }
+/// The type of an element of an array or a grid with `given` indexes, if these are numbers.
+pub fn element_type(binding: Option<Binding>, given: u8, numbers: bool) -> Option<LocalType>
+    ensures { result ≡ types.type_if numbers (types.type_of_element binding given) }
 {
-    match seen {
-        Some(Seen::Global(Global::Cells { indexes, .. })) if indexes == given && numbers => {
+    match binding {
+        Some(Binding::Global(Global::Cells { indexes, .. })) if indexes == given && numbers => {
             Some(LocalType::Int)
         }
         _ => None,
     }
 }
 
-/// The type of a call with so many arguments, if these are numbers.
-pub fn call_type(seen: Option<Seen>, given: usize, numbers: bool) -> Option<LocalType>
-    ensures { result ≡ types.type_if numbers (types.type_of_call seen given) }
+/// The type of a call with `given` arguments, if these are numbers.
+pub fn call_type(binding: Option<Binding>, given: usize, numbers: bool) -> Option<LocalType>
+    ensures { result ≡ types.type_if numbers (types.type_of_call binding given) }
 {
-    match seen {
+    match binding {
         Some(
-            Seen::Global(
+            Binding::Global(
                 Global::Method {
                     params,
                     returns: ReturnType::Int,

@@ -1,4 +1,4 @@
-//! The first failure of a text.
+//! The check of the names of a tree.
 ghost use Rattle.std.specs.Prelude.{◌≡◌, ◌<◌, ◌^◌, IfOk, MatchOption, OnOk};
 ghost use Rattle.std.specs.List.{list_any, sum_by};
 ghost use Rattle.twe_io.specs.declared.place.Place.{Place as Somewhere};
@@ -9,8 +9,8 @@ ghost use Rattle.name_check.specs.Checked.{IsCheckOf};
 ghost use Rattle.name_check.specs.Size.{IsCountable, size_of_item};
 ghost use Rattle.name_check.specs.inner.Whole.{first_but_nodes, first_in_items, is_main, is_main_item};
 
-use crate::judge_decl::judge_item;
-use crate::judge_simple::is_void;
+use crate::check_decl::check_item;
+use crate::check_simple::is_void;
 use crate::limits::report_at;
 use crate::names::Globals;
 use crate::rule::NRule;
@@ -27,7 +27,7 @@ fn is_main(decl: &Decl) -> bool
     decl.name.text.as_str() == "main" && decl.params.len() == 0 && is_void(decl.returns)
 }
 
-/// Whether an item is such a task.
+/// Whether an item is the task `main`.
 fn is_main_item(item: &Item) -> bool
     ensures { result ≡ is_main_item item.now }
 {
@@ -37,7 +37,7 @@ fn is_main_item(item: &Item) -> bool
     }
 }
 
-/// Whether one of the items is such a task.
+/// Whether one of the items is the task `main`.
 fn has_main(items: &[Item]) -> bool
     ensures { result ≡ list_any is_main_item items.now }
 {
@@ -49,8 +49,8 @@ fn has_main(items: &[Item]) -> bool
     false
 }
 
-/// Notes the failures inside items.
-fn judge_items(
+/// Checks items.
+fn check_items(
     items: &[Item],
     alloc: Global,
     globals: &Globals,
@@ -60,12 +60,12 @@ fn judge_items(
     ensures { OnOk result (first.new ≡ first_in_items globals.now first.old items.now) }
 {
     for item in items {
-        judge_item(item, alloc, globals, first)?;
+        check_item(item, alloc, globals, first)?;
     }
     Ok(())
 }
 
-/// The first failure of a text with these global names, but for that of how many cells and nodes there are.
+/// The first failure of a text with these global names, except for the limits on cells and nodes.
 fn first_but_nodes(
     alloc: Global,
     ast: &Ast,
@@ -76,8 +76,8 @@ fn first_but_nodes(
     ensures { IfOk result (λ found. found ≡ first_but_nodes ast.now) }
 {
     let mut first = None;
-    judge_items(ast.items.as_slice(), alloc, globals, &mut first)?;
-    globals.judge_again(&mut first);
+    check_items(ast.items.as_slice(), alloc, globals, &mut first)?;
+    globals.check_again(&mut first);
     report_if(
         &mut first,
         !has_main(ast.items.as_slice()),

@@ -1,10 +1,10 @@
--- The causes of the answers.
+-- The causes of the errors of `read_program`.
 use Rattle.std.specs.Prelude.{ℕ, List}
 use Rattle.twe_frontend.specs.declared.read.FrontFail.{FrontFail}
 use Rattle.twe_frontend.specs.declared.read.FrontFail.TheVariants.{Refused, OutOfMemory}
 use Rattle.twe_frontend.specs.Accepted.{IsRefusal}
 
--- the cause of an answer other than Ok: the refusal of the text; that memory ran out has none
+-- the cause of an error: the refusal of the text; nothing is said of want of memory
 abbrev pub HasCause : List ℕ → FrontFail → Type 0
 HasCause text (Refused refusal) = IsRefusal text refusal
 HasCause text (OutOfMemory memory) = Unit {0}

@@ -1,4 +1,4 @@
-//! What holds of each tree that a text is parsed to. Nothing here does anything when it runs.
+//! A law of each tree that a text is parsed to.
 ghost use Rattle.std.specs.Prelude.{◌+◌, ◌<◌, ◌^◌, ℕ, List, [], length};
 ghost use Rattle.twe_io.specs.declared.place.Place.{Place};
 ghost use Rattle.twe_ast.specs.declared.item.Ast.{Ast};

@@ -1,7 +1,7 @@
 //! The front of the checker: from a text to its program, or to the one refusal of the text.
 //!
-//! A rule of the text that fails comes before every rule of names, and that before every rule on effects. The crates
-//! below say each of the three; this one puts them together.
+//! A rule of the text that fails comes before every rule of names, and that before every rule on effects. The crates below
+//! check each of the three kinds; this one puts them together.
 #![tactic(auto)]
 
 mod from_text;

@@ -64,7 +64,7 @@ fn tree_of(alloc: Global, text: &[u8]) -> Result<Ast, FrontFail>
     }
 }
 
-/// What a text means that keeps the rules of the text and those of names.
+/// The meaning of a text that keeps the rules of the text and those of names.
 fn meaning_of(alloc: Global, text: &[u8]) -> Result<Prog, FrontFail>
     ensures meaning { IfOk result (IsMeaningOf text.now) }
     ensures refused { IfErr result (HasCause text.now) }
@@ -80,9 +80,9 @@ fn meaning_of(alloc: Global, text: &[u8]) -> Result<Prog, FrontFail>
     }
 }
 
-/// The program of a text, or the one refusal of the text: of all rules that fail, a rule of the text before every rule of
-/// names, and that before every rule on effects, and of one class the first in the text. `OutOfMemory` also stands for a
-/// text of 2^32 - 1 bytes or more, whose places can't be counted.
+/// The program of a text, or its one refusal: the first failure of a rule of the text, or else the first of a rule of names,
+/// or else the first of a rule on effects. `OutOfMemory` is also returned for a text of 2^32 - 1 bytes or more, whose places
+/// can't be counted.
 pub fn read_program(alloc: Global, text: &[u8]) -> Result<Prog, FrontFail>
     ensures accepted { IfOk result (Accepted text.now) }
     ensures refused { IfErr result (HasCause text.now) }

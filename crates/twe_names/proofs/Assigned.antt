@@ -8,22 +8,22 @@ use Rattle.twe_ast.specs.declared.stmt.LocalType.TheVariants as types
 use Rattle.twe_ast.specs.Statement.{Statement, Block, Let, Set, SetArray, SetGrid, If, While, Return, Print, Call, Make, Wait, LetWait, Statements, end_of_block, statement, Arms, arm, otherwise, no_else}
 use Rattle.twe_program.specs.Expression.{Expression}
 use Rattle.twe_program.specs.Params.{SetsFrom, AllSetFrom, ArmsSetFrom}
-use Rattle.name_check.specs.declared.seen.Asked.TheVariants as asked
-use Rattle.name_check.specs.declared.seen.Local.{Local}
-use Rattle.name_check.specs.declared.seen.Local.TheVariants as local_kinds
-use Rattle.name_check.specs.declared.seen.Seen.{Seen}
-use Rattle.name_check.specs.declared.seen.Seen.TheVariants as seens
+use Rattle.name_check.specs.declared.binding.NameUse.TheVariants as name_use
+use Rattle.name_check.specs.declared.binding.Local.{Local}
+use Rattle.name_check.specs.declared.binding.Local.TheVariants as local_kinds
+use Rattle.name_check.specs.declared.binding.Binding.{Binding}
+use Rattle.name_check.specs.declared.binding.Binding.TheVariants as bindings
 use Rattle.name_check.specs.declared.names.GlobalName.{GlobalName}
-use Rattle.name_check.specs.declared.scope.Here.{Here}
-use Rattle.name_check.specs.Names.{seen}
-use Rattle.name_check.specs.Here.{counted, after, after_block, params_from}
+use Rattle.name_check.specs.declared.scope.BodyScope.{BodyScope}
+use Rattle.name_check.specs.Names.{binding_of}
+use Rattle.name_check.specs.BodyScope.{counted, after, after_block, params_from}
 use Rattle.name_check.specs.Asks.{asks_of}
-use Rattle.name_check.specs.Stands.{sites_at, sites_in, sites_in_all, sites_in_arms}
+use Rattle.name_check.specs.Sites.{sites_at, sites_in, sites_in_all, sites_in_arms}
 use Rattle.twe_names.specs.BodyMeaning.{expression_of, set_of, statement_of, statements_of, arms_of}
 use Rattle.twe_names.proofs.Lists.{all-front, all-back}
 use Rattle.twe_names.proofs.Numbered.{numbered, numbered_all}
 use Rattle.twe_names.proofs.Clean.{UseClean, SiteClean, AllClean}
-use Rattle.twe_names.proofs.SeenLocals.{AllLocals, HoldsOfSeen, seen-holds, with-one, arms-hold}
+use Rattle.twe_names.proofs.BoundLocals.{AllLocals, HoldsOfSeen, binding_of-holds, with-one, arms-hold}
 
 -- a local that may be assigned has this number or a higher one
 abbrev pub FreeFrom : ℕ → Local → Type 0
@@ -35,17 +35,17 @@ pub params-free : (n number : ℕ) (names : List Name) → AllLocals (FreeFrom n
 params-free n number [] = tt
 params-free n number (name ∷ names) = (λ e. absurd (true≢false e), params-free n (number + 1) names)
 
-set-from : (n point : ℕ) (o : Option Seen) (value : Expression) (place : Place) → UseClean asked.Target o → HoldsOfSeen (FreeFrom n) o → SetsFrom n (set_of point o value place)
+set-from : (n point : ℕ) (o : Option Binding) (value : Expression) (place : Place) → UseClean name_use.Target o → HoldsOfSeen (FreeFrom n) o → SetsFrom n (set_of point o value place)
 set-from n point None value place may free = absurd may
-set-from n point (Some (seens.Global global)) value place may free = tt
-set-from n point (Some (seens.Local (local_kinds.Variable number type constant))) value place may free = free may
-set-from n point (Some (seens.Local (local_kinds.Future number spawned void))) value place may free = absurd may
+set-from n point (Some (bindings.Global global)) value place may free = tt
+set-from n point (Some (bindings.Local (local_kinds.Variable number type constant))) value place may free = free may
+set-from n point (Some (bindings.Local (local_kinds.Future number spawned void))) value place may free = absurd may
 
 module _ (globals : List GlobalName) (returns : ReturnType) (n : ℕ) where
-  abbrev Free : Here → Type 0
+  abbrev Free : BodyScope → Type 0
   Free here = AllLocals (FreeFrom n) here.locals
 
-  after-free : (here : Here) (s : Statement) → Free here → n ≤ here.vars → Free (after globals here s)
+  after-free : (here : BodyScope) (s : Statement) → Free here → n ≤ here.vars → Free (after globals here s)
   after-free here (Block body) free below = free
   after-free here (Let is_final local_type name value) free below = with-one (FreeFrom n) here.locals _ free (λ e. below)
   after-free here (Set name value) free below = free
@@ -61,11 +61,11 @@ module _ (globals : List GlobalName) (returns : ReturnType) (n : ℕ) where
   after-free here (LetWait is_final name wait) free below = with-one (FreeFrom n) here.locals _ free (λ e. below)
 
   mutual
-    sets : (here : Here) (s : Statement) → Free here → n ≤ here.vars → AllClean globals (sites_in globals returns here s) → SetsFrom n (statement_of globals here s)
+    sets : (here : BodyScope) (s : Statement) → Free here → n ≤ here.vars → AllClean globals (sites_in globals returns here s) → SetsFrom n (statement_of globals here s)
     sets here (Block body) free below clean = all-set (counted here) body free below clean
     sets here (Let is_final local_type name value) free below clean = tt
     sets here (Set name value) free below clean =
-        set-from n here.points (seen globals here.locals name.text) (expression_of globals here.locals value) name.place clean.0 (seen-holds (FreeFrom n) globals here.locals name.text free)
+        set-from n here.points (binding_of globals here.locals name.text) (expression_of globals here.locals value) name.place clean.0 (binding_of-holds (FreeFrom n) globals here.locals name.text free)
     sets here (SetArray array index value) free below clean = tt
     sets here (SetGrid array row column value) free below clean = tt
     sets here (If arms) free below clean = arms-set (counted here) arms free below clean
@@ -79,7 +79,7 @@ module _ (globals : List GlobalName) (returns : ReturnType) (n : ℕ) where
     sets here (Wait wait) free below clean = tt
     sets here (LetWait is_final name wait) free below clean = tt
 
-    pub all-set : (here : Here) (s : Statements) → Free here → n ≤ here.vars → AllClean globals (sites_in_all globals returns here s) → AllSetFrom n (statements_of globals here s)
+    pub all-set : (here : BodyScope) (s : Statements) → Free here → n ≤ here.vars → AllClean globals (sites_in_all globals returns here s) → AllSetFrom n (statements_of globals here s)
     all-set here (end_of_block close) free below clean = tt
     all-set here (statement first others) free below clean =
         let next = after globals here first in
@@ -90,7 +90,7 @@ module _ (globals : List GlobalName) (returns : ReturnType) (n : ℕ) where
           all-set next others (after-free here first free below) later (all-back (SiteClean globals) own more clean),
         )
 
-    arms-set : (here : Here) (s : Arms) → Free here → n ≤ here.vars → AllClean globals (sites_in_arms globals returns here s) → ArmsSetFrom n (arms_of globals here s)
+    arms-set : (here : BodyScope) (s : Arms) → Free here → n ≤ here.vars → AllClean globals (sites_in_arms globals returns here s) → ArmsSetFrom n (arms_of globals here s)
     arms-set here (arm condition body others) free below clean =
         let next = after_block globals here body in
         let own = sites_at here.locals returns (asks_of globals here.locals (Some types.Boolean) condition) in

@@ -10,8 +10,8 @@ use Rattle.twe_program.specs.Statement.{Statement, Statements, no_more, statemen
 use Rattle.twe_program.specs.declared.stmt.Arm.{Arm}
 use Rattle.twe_program.specs.inner.StatementView.{arms_of, last_of}
 use Rattle.name_check.specs.declared.names.GlobalName.{GlobalName}
-use Rattle.name_check.specs.declared.scope.Here.{Here}
-use Rattle.name_check.specs.Here.{after, after_all, after_arms, after_block}
+use Rattle.name_check.specs.declared.scope.BodyScope.{BodyScope}
+use Rattle.name_check.specs.BodyScope.{after, after_all, after_arms, after_block}
 use Rattle.name_check.specs.Size.{statements_in, statements_in_all, statements_in_arms}
 use Rattle.name_check.specs.inner.Room.{HasRoom}
 use Rattle.name_check.proofs.Rooms.{room_before, room_after, room_after_block}
@@ -32,7 +32,7 @@ prepend_none [] = refl
 prepend_none (first ∷ more) = ap (statement first) (prepend_none more)
 
 -- From the start of a block so many statements are made, and these are left. The room is that for what is left.
-pub record Made (globals : List GlobalName) (start : Here) (whole : ast.Statements) (here : Here) (made : List Statement) (left : ast.Statements) : Type 0 where
+pub record Made (globals : List GlobalName) (start : BodyScope) (whole : ast.Statements) (here : BodyScope) (made : List Statement) (left : ast.Statements) : Type 0 where
   pub meant : prepend made (meaning.statements_of globals here left) ≡ meaning.statements_of globals start whole
   pub walked : after_all globals here left ≡ after_all globals start whole
   pub room : HasRoom here (statements_in_all left)
@@ -41,7 +41,7 @@ drop-next : {A : Type 0} (xs : List A) (i : ℕ) (x : A) → i < length xs → x
 drop-next xs i x there is = rw add-one (drop-cons xs i x there ∙ ap (λ y. y ∷ drop (suc i) xs) (sym is))
 
 -- at the start none is made
-pub made-none : (globals : List GlobalName) (start : Here) (whole left : ast.Statements) (made : List Statement) → left ≡ whole → made ≡ []
+pub made-none : (globals : List GlobalName) (start : BodyScope) (whole left : ast.Statements) (made : List Statement) → left ≡ whole → made ≡ []
     → HasRoom start (statements_in_all whole) → Made globals start whole start made left
 made-none globals start whole left made left-is none room = record {
   meant = ap (λ xs. prepend xs (meaning.statements_of globals start left)) none ∙ ap (meaning.statements_of globals start) left-is;
@@ -53,7 +53,7 @@ left-now : (items : List ast.Statement) (i : ℕ) (first : ast.Statement) (close
     → written.statements_of (drop i items) close ≡ ast.statement first (written.statements_of (drop (i + 1) items) close)
 left-now items i first close there is = ap (λ xs. written.statements_of xs close) (drop-next items i first there is)
 
-module _ (globals : List GlobalName) (start : Here) (whole : ast.Statements) (here : Here) (made : List Statement) (items : List ast.Statement) (i : ℕ) (close : Place)
+module _ (globals : List GlobalName) (start : BodyScope) (whole : ast.Statements) (here : BodyScope) (made : List Statement) (items : List ast.Statement) (i : ℕ) (close : Place)
     (so_far : Made globals start whole here made (written.statements_of (drop i items) close)) where
   module _ (first : ast.Statement) (there : i < length items) (is : first ≡ get_or items i first) where
     abbrev rest : ast.Statements
@@ -67,7 +67,7 @@ module _ (globals : List GlobalName) (start : Here) (whole : ast.Statements) (he
     made-room = room_before here here (statements_in first) (statements_in_all (written.statements_of (drop (i + 1) items) close)) with-first.room
 
     -- the next statement is made
-    pub made-next : (next : Statement) (later : Here) (more : List Statement) → next ≡ meaning.statement_of globals here first
+    pub made-next : (next : Statement) (later : BodyScope) (more : List Statement) → next ≡ meaning.statement_of globals here first
         → later ≡ after globals here first → more ≡ made ++ next ∷ []
         → Made globals start whole later more (written.statements_of (drop (i + 1) items) close)
     made-next next later more next-is later-is more-is = record {
@@ -107,13 +107,13 @@ prepend_arms_last [] last = refl
 prepend_arms_last (first ∷ more) last = ap (arm first.condition first.body) (prepend_arms_last more last)
 
 -- From the start of an `if` so many arms are made, and these are left.
-pub record MadeArms (globals : List GlobalName) (start : Here) (whole : ast.Arms) (here : Here) (made : List Arm) (left : ast.Arms) : Type 0 where
+pub record MadeArms (globals : List GlobalName) (start : BodyScope) (whole : ast.Arms) (here : BodyScope) (made : List Arm) (left : ast.Arms) : Type 0 where
   pub meant : prepend_arms made (meaning.arms_of globals here left) ≡ meaning.arms_of globals start whole
   pub walked : after_arms globals here left ≡ after_arms globals start whole
   pub room : HasRoom here (statements_in_arms left)
 
 -- at the start none is made
-pub made_arms-none : (globals : List GlobalName) (start : Here) (whole left : ast.Arms) (made : List Arm) → left ≡ whole → made ≡ []
+pub made_arms-none : (globals : List GlobalName) (start : BodyScope) (whole left : ast.Arms) (made : List Arm) → left ≡ whole → made ≡ []
     → HasRoom start (statements_in_arms whole) → MadeArms globals start whole start made left
 made_arms-none globals start whole left made left-is none room = record {
   meant = ap (λ xs. prepend_arms xs (meaning.arms_of globals start left)) none ∙ ap (meaning.arms_of globals start) left-is;
@@ -121,7 +121,7 @@ made_arms-none globals start whole left made left-is none room = record {
   room = subst (λ s. HasRoom start (statements_in_arms s)) (sym left-is) room;
 }
 
-module _ (globals : List GlobalName) (start : Here) (whole : ast.Arms) (here : Here) (made : List Arm) (items : List written_arm.Arm) (i : ℕ) (last : Option ast.Statements)
+module _ (globals : List GlobalName) (start : BodyScope) (whole : ast.Arms) (here : BodyScope) (made : List Arm) (items : List written_arm.Arm) (i : ℕ) (last : Option ast.Statements)
     (so_far : MadeArms globals start whole here made (written.arms_of (drop i items) last)) where
   module _ (first : written_arm.Arm) (there : i < length items) (is : first ≡ get_or items i first) where
     abbrev left : ast.Arms
@@ -135,7 +135,7 @@ module _ (globals : List GlobalName) (start : Here) (whole : ast.Arms) (here : H
     made_arms-room = room_before here here (statements_in_all first.body) (statements_in_arms left) with-arm.room
 
     -- the next arm is made
-    pub made_arms-next : (next : Arm) (later : Here) (more : List Arm) → next.condition ≡ meaning.expression_of globals here.locals first.condition
+    pub made_arms-next : (next : Arm) (later : BodyScope) (more : List Arm) → next.condition ≡ meaning.expression_of globals here.locals first.condition
         → next.body ≡ meaning.statements_of globals here first.body → later ≡ after_block globals here first.body → more ≡ made ++ next ∷ []
         → MadeArms globals start whole later more (written.arms_of (drop (i + 1) items) last)
     made_arms-next next later more condition-is body-is later-is more-is = record {
@@ -177,5 +177,5 @@ module _ (globals : List GlobalName) (start : Here) (whole : ast.Arms) (here : H
           → arms_of made (Some block) ≡ meaning.arms_of globals start whole
       made_arms_last-meant block is = sym (prepend_arms_last made (Some block)) ∙ (ap (λ b. prepend_arms made (last_of (Some b))) is ∙ one-last.meant)
 
-      pub made_arms_last-walked : (later : Here) → later ≡ after_block globals here body → later ≡ after_arms globals start whole
+      pub made_arms_last-walked : (later : BodyScope) → later ≡ after_block globals here body → later ≡ after_arms globals start whole
       made_arms_last-walked later is = is ∙ one-last.walked

@@ -5,10 +5,10 @@ use Rattle.twe_ast.specs.declared.item.Decl.{Decl}
 use Rattle.twe_ast.specs.Statement.{Statement, Statements}
 use Rattle.twe_ast.specs.inner.StatementView.{statements_of}
 use Rattle.name_check.specs.declared.names.GlobalName.{GlobalName}
-use Rattle.name_check.specs.declared.scope.Here.{Here}
+use Rattle.name_check.specs.declared.scope.BodyScope.{BodyScope}
 use Rattle.name_check.specs.Ends.{close_of}
-use Rattle.name_check.specs.Here.{after_all}
-use Rattle.name_check.specs.Stands.{at_body}
+use Rattle.name_check.specs.BodyScope.{after_all}
+use Rattle.name_check.specs.Sites.{at_body}
 use Rattle.name_check.proofs.Walks.{passes_all}
 use Rattle.twe_names.specs.inner.Numbers.{IsSmallDecl}
 
@@ -21,10 +21,10 @@ pub close_is : (items : List Statement) (close : Place) (body : Statements) → 
 close_is items close body is = close_of-statements_of items close ∙ ap close_of is
 
 -- the point at the end of a body can be numbered
-pub points_fit : (globals : List GlobalName) (decl : Decl) (start end : Here) → IsSmallDecl decl → start ≡ at_body decl
+pub points_fit : (globals : List GlobalName) (decl : Decl) (start end : BodyScope) → IsSmallDecl decl → start ≡ at_body decl
     → end ≡ after_all globals start decl.body → end.points + 1 < 2 ^ 32
 points_fit globals decl start end small start-is end-is =
     let walked = passes_all globals start decl.body in
-    let all = ap (λ (here : Here). here.points) end-is in
-    let none = ap (λ (here : Here). here.points) start-is in
+    let all = ap (λ (here : BodyScope). here.points) end-is in
+    let none = ap (λ (here : BodyScope). here.points) start-is in
     omega (arith, walked.points, all, none, small.size)

@@ -13,9 +13,9 @@ use Rattle.twe_program.specs.Program.{Program}
 use Rattle.twe_program.specs.Numbering.{Declared, futures_of_all}
 use Rattle.twe_program.specs.WellFormed.{IsNumbered, DeclFits, MethodFits}
 use Rattle.name_check.specs.declared.names.GlobalName.{GlobalName}
-use Rattle.name_check.specs.declared.scope.Here.{Here}
-use Rattle.name_check.specs.Here.{counted, after, after_all, after_arms, after_block, params_from, params_of}
-use Rattle.name_check.specs.Stands.{sites_at, sites_of_params, sites_in_all, sites_of_decl, at_body, asks_of_clause}
+use Rattle.name_check.specs.declared.scope.BodyScope.{BodyScope}
+use Rattle.name_check.specs.BodyScope.{counted, after, after_all, after_arms, after_block, params_from, params_of}
+use Rattle.name_check.specs.Sites.{sites_at, sites_of_params, sites_in_all, sites_of_decl, at_body, asks_of_clause}
 use Rattle.name_check.specs.Limits.{paths_of}
 use Rattle.twe_names.specs.FromText.{makes_none, all_make_none, arms_make_none}
 use Rattle.twe_names.specs.PathMeaning.{effects_of_clause}
@@ -52,7 +52,7 @@ module _ (globals : List GlobalName) where
       length-append one more ∙ ap₂ (λ a b. a + b) (length-map clause.paths _) (effects-length decl clauses) ∙ sym (length-append clause.paths others)
 
   mutual
-    made-none : (here : Here) (s : Statement) → makes_none s ≡ true → (after globals here s).futures ≡ here.futures
+    made-none : (here : BodyScope) (s : Statement) → makes_none s ≡ true → (after globals here s).futures ≡ here.futures
     made-none here (Block body) h = made-none_all (counted here) body h
     made-none here (Let is_final local_type name value) h = refl
     made-none here (Set name value) h = refl
@@ -67,13 +67,13 @@ module _ (globals : List GlobalName) where
     made-none here (Wait wait) h = refl
     made-none here (LetWait is_final name wait) h = refl
 
-    made-none_all : (here : Here) (s : Statements) → all_make_none s ≡ true → (after_all globals here s).futures ≡ here.futures
+    made-none_all : (here : BodyScope) (s : Statements) → all_make_none s ≡ true → (after_all globals here s).futures ≡ here.futures
     made-none_all here (end_of_block close) h = refl
     made-none_all here (statement first others) h =
         let both = and_parts (makes_none first) (all_make_none others) h in
         made-none_all (after globals here first) others both.1 ∙ made-none here first both.0
 
-    made-none_arms : (here : Here) (s : Arms) → arms_make_none s ≡ true → (after_arms globals here s).futures ≡ here.futures
+    made-none_arms : (here : BodyScope) (s : Arms) → arms_make_none s ≡ true → (after_arms globals here s).futures ≡ here.futures
     made-none_arms here (arm condition body others) h =
         let both = and_parts (all_make_none body) (arms_make_none others) h in
         made-none_arms (after_block globals here body) others both.1 ∙ made-none_all here body both.0

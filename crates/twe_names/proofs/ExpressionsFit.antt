@@ -10,14 +10,14 @@ use Rattle.twe_program.specs.declared.program.Decl.{Decl}
 use Rattle.twe_program.specs.Program.{Program}
 use Rattle.twe_program.specs.Numbering.{Declared}
 use Rattle.twe_program.specs.Fitting.{Scope, TakesIndexes, TakesArguments, ReturnsValue, ExpressionFits, ArgumentsFit, count_of}
-use Rattle.name_check.specs.declared.seen.Asked.TheVariants as asked
-use Rattle.name_check.specs.declared.seen.Global.TheVariants as global_kinds
-use Rattle.name_check.specs.declared.seen.Local.TheVariants as local_kinds
-use Rattle.name_check.specs.declared.seen.Seen.{Seen}
-use Rattle.name_check.specs.declared.seen.Seen.TheVariants as seens
+use Rattle.name_check.specs.declared.binding.NameUse.TheVariants as name_use
+use Rattle.name_check.specs.declared.binding.Global.TheVariants as global_kinds
+use Rattle.name_check.specs.declared.binding.Local.TheVariants as local_kinds
+use Rattle.name_check.specs.declared.binding.Binding.{Binding}
+use Rattle.name_check.specs.declared.binding.Binding.TheVariants as bindings
 use Rattle.name_check.specs.declared.names.GlobalName.{GlobalName}
 use Rattle.name_check.specs.declared.scope.LocalName.{LocalName}
-use Rattle.name_check.specs.Names.{seen}
+use Rattle.name_check.specs.Names.{binding_of}
 use Rattle.name_check.specs.Types as names
 use Rattle.name_check.specs.Types.{left_need, right_need, type_of}
 use Rattle.name_check.specs.Asks.{need, asks_of, asks_inside, asks_of_all}
@@ -25,7 +25,7 @@ use Rattle.twe_names.specs.BodyMeaning.{cells_number, method_number, value_of, e
 use Rattle.twe_names.specs.Meaning.{returns_value}
 use Rattle.twe_names.proofs.Lists.{all-front, all-back}
 use Rattle.twe_names.proofs.Clean.{UseClean, AskClean, AsksClean}
-use Rattle.twe_names.proofs.There.{DeclThere, SeenThere, GlobalsThere, AllLocalsThere, seen-there}
+use Rattle.twe_names.proofs.There.{DeclThere, SeenThere, GlobalsThere, AllLocalsThere, binding_of-there}
 
 -- what a body stands in
 abbrev pub scope_with : Program → ℕ → List Declared → Bool → Scope
@@ -43,49 +43,49 @@ module _ (p : Program) (vars : ℕ) (futures : List Declared) (int : Bool) where
   abbrev scope : Scope
   scope = scope_with p vars futures int
 
-  value-fits : (o : Option Seen) (place : Place) → UseClean asked.Value o → SeenThere p vars futures o → ExpressionFits scope (value_of o place)
+  value-fits : (o : Option Binding) (place : Place) → UseClean name_use.Value o → SeenThere p vars futures o → ExpressionFits scope (value_of o place)
   value-fits None place h k = absurd h
-  value-fits (Some (seens.Local (local_kinds.Variable number type constant))) place h k = k
-  value-fits (Some (seens.Local (local_kinds.Future number spawned void))) place h k = absurd h
-  value-fits (Some (seens.Global (global_kinds.Region number))) place h k = absurd h
-  value-fits (Some (seens.Global (global_kinds.Cells number indexes))) place h k = subst (TakesIndexes (slice_get p.cells number)) h k
-  value-fits (Some (seens.Global (global_kinds.Method number params returns))) place h k = absurd h
-  value-fits (Some (seens.Global (global_kinds.Task number params returns))) place h k = absurd h
+  value-fits (Some (bindings.Local (local_kinds.Variable number type constant))) place h k = k
+  value-fits (Some (bindings.Local (local_kinds.Future number spawned void))) place h k = absurd h
+  value-fits (Some (bindings.Global (global_kinds.Region number))) place h k = absurd h
+  value-fits (Some (bindings.Global (global_kinds.Cells number indexes))) place h k = subst (TakesIndexes (slice_get p.cells number)) h k
+  value-fits (Some (bindings.Global (global_kinds.Method number params returns))) place h k = absurd h
+  value-fits (Some (bindings.Global (global_kinds.Task number params returns))) place h k = absurd h
 
-  pub indexes-fit : (given : ℕ) (o : Option Seen) → UseClean (asked.Array given) o → SeenThere p vars futures o
+  pub indexes-fit : (given : ℕ) (o : Option Binding) → UseClean (name_use.Array given) o → SeenThere p vars futures o
       → TakesIndexes (slice_get p.cells (cells_number o)) given
   indexes-fit given None h k = absurd h
-  indexes-fit given (Some (seens.Local (local_kinds.Variable number type constant))) h k = absurd h
-  indexes-fit given (Some (seens.Local (local_kinds.Future number spawned void))) h k = absurd h
-  indexes-fit given (Some (seens.Global (global_kinds.Region number))) h k = absurd h
-  indexes-fit given (Some (seens.Global (global_kinds.Cells number indexes))) h k = subst (TakesIndexes (slice_get p.cells number)) h k
-  indexes-fit given (Some (seens.Global (global_kinds.Method number params returns))) h k = absurd h
-  indexes-fit given (Some (seens.Global (global_kinds.Task number params returns))) h k = absurd h
+  indexes-fit given (Some (bindings.Local (local_kinds.Variable number type constant))) h k = absurd h
+  indexes-fit given (Some (bindings.Local (local_kinds.Future number spawned void))) h k = absurd h
+  indexes-fit given (Some (bindings.Global (global_kinds.Region number))) h k = absurd h
+  indexes-fit given (Some (bindings.Global (global_kinds.Cells number indexes))) h k = subst (TakesIndexes (slice_get p.cells number)) h k
+  indexes-fit given (Some (bindings.Global (global_kinds.Method number params returns))) h k = absurd h
+  indexes-fit given (Some (bindings.Global (global_kinds.Task number params returns))) h k = absurd h
 
-  pub call-fits : (args : ℕ) (valued : Bool) (o : Option Seen) → UseClean (asked.Method args valued) o → SeenThere p vars futures o
+  pub call-fits : (args : ℕ) (valued : Bool) (o : Option Binding) → UseClean (name_use.Method args valued) o → SeenThere p vars futures o
       → TakesArguments (slice_get p.methods (method_number o)) args × (valued ≡ true → ReturnsValue (slice_get p.methods (method_number o)))
   call-fits args valued None h k = absurd h
-  call-fits args valued (Some (seens.Local (local_kinds.Variable number type constant))) h k = absurd h
-  call-fits args valued (Some (seens.Local (local_kinds.Future number spawned void))) h k = absurd h
-  call-fits args valued (Some (seens.Global (global_kinds.Region number))) h k = absurd h
-  call-fits args valued (Some (seens.Global (global_kinds.Cells number indexes))) h k = absurd h
-  call-fits args valued (Some (seens.Global (global_kinds.Method number params returns))) h k =
+  call-fits args valued (Some (bindings.Local (local_kinds.Variable number type constant))) h k = absurd h
+  call-fits args valued (Some (bindings.Local (local_kinds.Future number spawned void))) h k = absurd h
+  call-fits args valued (Some (bindings.Global (global_kinds.Region number))) h k = absurd h
+  call-fits args valued (Some (bindings.Global (global_kinds.Cells number indexes))) h k = absurd h
+  call-fits args valued (Some (bindings.Global (global_kinds.Method number params returns))) h k =
       (arguments-there (slice_get p.methods number) params args returns k h.0, λ e. value-there (slice_get p.methods number) params returns k (h.1 e))
-  call-fits args valued (Some (seens.Global (global_kinds.Task number params returns))) h k = absurd h
+  call-fits args valued (Some (bindings.Global (global_kinds.Task number params returns))) h k = absurd h
 
   module _ (globals : List GlobalName) (globals_there : GlobalsThere p globals) (locals : List LocalName) (locals_there : AllLocalsThere p vars futures locals) (returns : ReturnType) where
-    there : (text : List ℕ) → SeenThere p vars futures (seen globals locals text)
-    there text = seen-there p vars futures globals locals globals_there locals_there text
+    there : (text : List ℕ) → SeenThere p vars futures (binding_of globals locals text)
+    there text = binding_of-there p vars futures globals locals globals_there locals_there text
 
     pub arguments-counted : (args : ast.Arguments) → count_of (arguments_of globals locals args) ≡ names.count_of args
     arguments-counted ast.no_more = refl
     arguments-counted (ast.argument first others) = ap (λ n. n + 1) (arguments-counted others)
 
-    pub call-taken : (method : List ℕ) (args : ast.Arguments) (valued : Bool) → UseClean (asked.Method (names.count_of args) valued) (seen globals locals method)
-        → TakesArguments (slice_get p.methods (method_number (seen globals locals method))) (count_of (arguments_of globals locals args))
-        × (valued ≡ true → ReturnsValue (slice_get p.methods (method_number (seen globals locals method))))
+    pub call-taken : (method : List ℕ) (args : ast.Arguments) (valued : Bool) → UseClean (name_use.Method (names.count_of args) valued) (binding_of globals locals method)
+        → TakesArguments (slice_get p.methods (method_number (binding_of globals locals method))) (count_of (arguments_of globals locals args))
+        × (valued ≡ true → ReturnsValue (slice_get p.methods (method_number (binding_of globals locals method))))
     call-taken method args valued h =
-        let o = seen globals locals method in
+        let o = binding_of globals locals method in
         let fit = call-fits (names.count_of args) valued o h (there method) in
         (subst (TakesArguments (slice_get p.methods (method_number o))) (sym (arguments-counted args)) fit.0, fit.1)
 
@@ -98,13 +98,13 @@ module _ (p : Program) (vars : ℕ) (futures : List Declared) (int : Bool) where
       shape-fits : (e : ast.Shape) → AsksClean globals locals returns (asks_inside globals locals e) → ExpressionFits scope (shape_of globals locals e)
       shape-fits (ast.Literal value) h = tt
       shape-fits (ast.Truth value) h = tt
-      shape-fits (ast.Variable name) h = value-fits (seen globals locals name.text) name.place h.0 (there name.text)
+      shape-fits (ast.Variable name) h = value-fits (binding_of globals locals name.text) name.place h.0 (there name.text)
       shape-fits (ast.ArrayElement array index) h =
-          (indexes-fit 1 (seen globals locals array.text) h.0 (there array.text), expression-fits index (Some types.Int) h.1)
+          (indexes-fit 1 (binding_of globals locals array.text) h.0 (there array.text), expression-fits index (Some types.Int) h.1)
       shape-fits (ast.GridElement array row column) h =
           let rows = asks_of globals locals (Some types.Int) row in
           let columns = asks_of globals locals (Some types.Int) column in (
-            indexes-fit 2 (seen globals locals array.text) h.0 (there array.text),
+            indexes-fit 2 (binding_of globals locals array.text) h.0 (there array.text),
             expression-fits row (Some types.Int) (all-front (AskClean globals locals returns) rows columns h.1),
             expression-fits column (Some types.Int) (all-back (AskClean globals locals returns) rows columns h.1),
           )

@@ -5,7 +5,7 @@ pub mod Lists
 pub mod Numbered
 pub mod Clean
 pub mod There
-pub mod SeenLocals
+pub mod BoundLocals
 pub mod ExpressionsFit
 pub mod Rooms
 pub mod StatementsFit

@@ -10,8 +10,8 @@ use Rattle.twe_ast.specs.declared.item.ReturnType.TheVariants as return_types
 use Rattle.twe_program.specs.declared.program.Decl.{Decl}
 use Rattle.twe_program.specs.WellFormed.{IsMain}
 use Rattle.name_check.specs.declared.names.GlobalName.{GlobalName}
-use Rattle.name_check.specs.declared.seen.Global.{Global}
-use Rattle.name_check.specs.declared.seen.Global.TheVariants as global_kinds
+use Rattle.name_check.specs.declared.binding.Global.{Global}
+use Rattle.name_check.specs.declared.binding.Global.TheVariants as global_kinds
 use Rattle.name_check.specs.Names.{Before, at_start, declared_by, past, globals_from, globals_of, first_global, seen_as_global}
 use Rattle.name_check.specs.FailsName.{IsDeclaredAgain, HasMain}
 use Rattle.twe_names.specs.BodyMeaning.{task_number}

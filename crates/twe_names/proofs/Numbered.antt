@@ -7,12 +7,12 @@ use Rattle.twe_io.specs.declared.place.Place.{Place}
 use Rattle.twe_program.specs.Expression.{Expression}
 use Rattle.twe_program.specs.Numbering.{CountUp, Declared, points_of, points_of_all, points_of_arms, locals_of, locals_of_all, locals_of_arms, futures_of, futures_of_all, futures_of_arms}
 use Rattle.name_check.specs.declared.names.GlobalName.{GlobalName}
-use Rattle.name_check.specs.declared.scope.Here.{Here}
-use Rattle.name_check.specs.declared.seen.Local.TheVariants as local_kinds
-use Rattle.name_check.specs.declared.seen.Seen.{Seen}
-use Rattle.name_check.specs.declared.seen.Seen.TheVariants as seens
-use Rattle.name_check.specs.Names.{seen}
-use Rattle.name_check.specs.Here.{counted, leaving, with_variable, after, after_all, after_arms, after_block}
+use Rattle.name_check.specs.declared.scope.BodyScope.{BodyScope}
+use Rattle.name_check.specs.declared.binding.Local.TheVariants as local_kinds
+use Rattle.name_check.specs.declared.binding.Binding.{Binding}
+use Rattle.name_check.specs.declared.binding.Binding.TheVariants as bindings
+use Rattle.name_check.specs.Names.{binding_of}
+use Rattle.name_check.specs.BodyScope.{counted, leaving, with_variable, after, after_all, after_arms, after_block}
 use Rattle.twe_names.specs.BodyMeaning.{set_of, statement_of, statements_of, arms_of, expression_of}
 use Rattle.twe_names.proofs.Lists.{count_up-append}
 
@@ -20,7 +20,7 @@ abbrev pub numbers_of : List Declared → List ℕ
 numbers_of futures = map (λ (f : Declared). f.future) futures
 
 -- between two places of a body these points, locals and futures are numbered
-pub record Numbered (from to : Here) (points locals : List ℕ) (futures : List Declared) : Type 0 where
+pub record Numbered (from to : BodyScope) (points locals : List ℕ) (futures : List Declared) : Type 0 where
   pub points_up : CountUp from.points points
   pub points_end : to.points ≡ from.points + length points
   pub locals_up : CountUp from.vars locals
@@ -42,7 +42,7 @@ up-join n m xs ys h e k = count_up-append n xs ys h (subst (λ k. CountUp k ys) 
 end-join : {X : Type 0} (n m k : ℕ) (xs ys : List X) → m ≡ n + length xs → k ≡ m + length ys → k ≡ n + length (xs ++ ys)
 end-join n m k xs ys e f = simp length-append (omega arith)
 
-numbered-join : (a b c : Here) (ps qs ls ms : List ℕ) (fs gs : List Declared)
+numbered-join : (a b c : BodyScope) (ps qs ls ms : List ℕ) (fs gs : List Declared)
     → Numbered a b ps ls fs → Numbered b c qs ms gs → Numbered a c (ps ++ qs) (ls ++ ms) (fs ++ gs)
 numbered-join a b c ps qs ls ms fs gs h k = record {
   points_up = up-join a.points b.points ps qs h.points_up h.points_end k.points_up;
@@ -56,7 +56,7 @@ numbered-join a b c ps qs ls ms fs gs h k = record {
 }
 
 -- where nothing is declared
-numbered-none : (here : Here) → Numbered here here [] [] []
+numbered-none : (here : BodyScope) → Numbered here here [] [] []
 numbered-none here = record {
   points_up = tt;
   points_end = omega arith;
@@ -67,7 +67,7 @@ numbered-none here = record {
 }
 
 -- one statement that declares nothing
-numbered-one : (here : Here) → Numbered here (counted here) (here.points ∷ []) [] []
+numbered-one : (here : BodyScope) → Numbered here (counted here) (here.points ∷ []) [] []
 numbered-one here = record {
   points_up = (refl, tt);
   points_end = refl;
@@ -77,7 +77,7 @@ numbered-one here = record {
   futures_end = omega arith;
 }
 
-numbered-leaving : (outside a b : Here) (ps ls : List ℕ) (fs : List Declared) → Numbered a b ps ls fs → Numbered a (leaving outside b) ps ls fs
+numbered-leaving : (outside a b : BodyScope) (ps ls : List ℕ) (fs : List Declared) → Numbered a b ps ls fs → Numbered a (leaving outside b) ps ls fs
 numbered-leaving outside a b ps ls fs h = record {
   points_up = h.points_up;
   points_end = h.points_end;
@@ -88,15 +88,15 @@ numbered-leaving outside a b ps ls fs h = record {
 }
 
 -- the statement, and then what is inside it
-numbered-inside : (here to : Here) (ps ls : List ℕ) (fs : List Declared) → Numbered (counted here) to ps ls fs → Numbered here to (here.points ∷ ps) ls fs
+numbered-inside : (here to : BodyScope) (ps ls : List ℕ) (fs : List Declared) → Numbered (counted here) to ps ls fs → Numbered here to (here.points ∷ ps) ls fs
 numbered-inside here to ps ls fs h = numbered-join here (counted here) to (here.points ∷ []) ps [] ls [] fs (numbered-one here) h
 
-numbered-block : (here to : Here) (ps ls : List ℕ) (fs : List Declared)
+numbered-block : (here to : BodyScope) (ps ls : List ℕ) (fs : List Declared)
     → Numbered (counted here) to ps ls fs → Numbered here (leaving (counted here) to) (here.points ∷ ps) ls fs
 numbered-block here to ps ls fs h =
     numbered-inside here (leaving (counted here) to) ps ls fs (numbered-leaving (counted here) (counted here) to ps ls fs h)
 
-numbered-variable : (here : Here) (text : List ℕ) (type : LocalType) (constant : Bool)
+numbered-variable : (here : BodyScope) (text : List ℕ) (type : LocalType) (constant : Bool)
     → Numbered here (with_variable (counted here) text type constant) (here.points ∷ []) (here.vars ∷ []) []
 numbered-variable here text type constant = record {
   points_up = (refl, tt);
@@ -107,23 +107,23 @@ numbered-variable here text type constant = record {
   futures_end = omega arith;
 }
 
-numbered-set : (here : Here) (o : Option Seen) (value : Expression) (place : Place)
+numbered-set : (here : BodyScope) (o : Option Binding) (value : Expression) (place : Place)
     → Numbered here (counted here) (points_of (set_of here.points o value place)) (locals_of (set_of here.points o value place)) (futures_of (set_of here.points o value place))
 numbered-set here None value place = numbered-one here
-numbered-set here (Some (seens.Global global)) value place = numbered-one here
-numbered-set here (Some (seens.Local (local_kinds.Variable number type constant))) value place = numbered-one here
-numbered-set here (Some (seens.Local (local_kinds.Future number spawned void))) value place = numbered-one here
+numbered-set here (Some (bindings.Global global)) value place = numbered-one here
+numbered-set here (Some (bindings.Local (local_kinds.Variable number type constant))) value place = numbered-one here
+numbered-set here (Some (bindings.Local (local_kinds.Future number spawned void))) value place = numbered-one here
 
 module _ (globals : List GlobalName) where
   mutual
-    pub numbered : (here : Here) (s : Statement)
+    pub numbered : (here : BodyScope) (s : Statement)
         → Numbered here (after globals here s) (points_of (statement_of globals here s)) (locals_of (statement_of globals here s)) (futures_of (statement_of globals here s))
     numbered here (Block body) =
         let inner = statements_of globals (counted here) body in
         numbered-block here (after_all globals (counted here) body) (points_of_all inner) (locals_of_all inner) (futures_of_all inner) (numbered_all (counted here) body)
     numbered here (Let is_final local_type name value) = numbered-variable here name.text local_type is_final
     numbered here (Set name value) =
-        numbered-set here (seen globals here.locals name.text) (expression_of globals here.locals value) name.place
+        numbered-set here (binding_of globals here.locals name.text) (expression_of globals here.locals value) name.place
     numbered here (SetArray array index value) = numbered-one here
     numbered here (SetGrid array row column value) = numbered-one here
     numbered here (If arms) =
@@ -146,7 +146,7 @@ module _ (globals : List GlobalName) where
     numbered here (Wait wait) = numbered-one here
     numbered here (LetWait is_final name wait) = numbered-variable here name.text types.Int is_final
 
-    pub numbered_all : (here : Here) (s : Statements)
+    pub numbered_all : (here : BodyScope) (s : Statements)
         → Numbered here (after_all globals here s) (points_of_all (statements_of globals here s)) (locals_of_all (statements_of globals here s)) (futures_of_all (statements_of globals here s))
     numbered_all here (end_of_block close) = numbered-none here
     numbered_all here (statement first others) =
@@ -156,7 +156,7 @@ module _ (globals : List GlobalName) where
         numbered-join here next (after_all globals next others) (points_of one) (points_of_all more) (locals_of one) (locals_of_all more)
         (futures_of one) (futures_of_all more) (numbered here first) (numbered_all next others)
 
-    pub numbered_arms : (here : Here) (s : Arms)
+    pub numbered_arms : (here : BodyScope) (s : Arms)
         → Numbered here (after_arms globals here s) (points_of_arms (arms_of globals here s)) (locals_of_arms (arms_of globals here s)) (futures_of_arms (arms_of globals here s))
     numbered_arms here (arm condition body others) =
         let next = after_block globals here body in

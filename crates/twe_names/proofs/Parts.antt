@@ -10,7 +10,7 @@ use Rattle.twe_limits.specs.Language.{max_cells}
 use Rattle.twe_program.specs.WellFormed.{IsWellFormed}
 use Rattle.cell_limits.specs.GoesOver.{cells_of}
 use Rattle.name_check.specs.declared.names.GlobalName.{GlobalName}
-use Rattle.name_check.specs.Names.{globals_of, seen}
+use Rattle.name_check.specs.Names.{globals_of, binding_of}
 use Rattle.twe_names.specs.BodyMeaning.{task_number}
 use Rattle.twe_names.specs.FromText.{IsFromText}
 use Rattle.twe_names.specs.Meaning.{cells_from, methods_of_item, program_of, regions_of_item, tasks_of_item}
@@ -33,7 +33,7 @@ module _ (ast : Ast) (items : List Item) (globals : List GlobalName) (items-are 
         (cells-are : cells ≡ cells_from globals 0 (cells_of items))
         (methods-are : methods ≡ flat_map (methods_of_item globals) items)
         (tasks-are : tasks ≡ flat_map (tasks_of_item globals) items)
-        (main-is : main ≡ task_number (seen globals [] (codes "main"))) where
+        (main-is : main ≡ task_number (binding_of globals [] (codes "main"))) where
       abbrev made : Program
       made = record { regions = regions; cells = cells; methods = methods; tasks = tasks; main = main }
 
@@ -46,7 +46,7 @@ module _ (ast : Ast) (items : List Item) (globals : List GlobalName) (items-are 
           (methods-are ∙ ap (λ gs. flat_map (methods_of_item gs) items) globals-are ∙ ap (flat_map (methods_of_item (globals_of ast))) items-are)
           ∙ ap (λ ts. record (program_of ast) { tasks = ts; main = main })
           (tasks-are ∙ ap (λ gs. flat_map (tasks_of_item gs) items) globals-are ∙ ap (flat_map (tasks_of_item (globals_of ast))) items-are)
-          ∙ ap (λ m. record (program_of ast) { main = m }) (main-is ∙ ap (λ gs. task_number (seen gs [] (codes "main"))) globals-are)
+          ∙ ap (λ m. record (program_of ast) { main = m }) (main-is ∙ ap (λ gs. task_number (binding_of gs [] (codes "main"))) globals-are)
 
       pub well-formed-made : IsWellFormed (program_of ast) → IsWellFormed (record { regions = regions; cells = cells; methods = methods; tasks = tasks; main = main })
       well-formed-made wf = subst IsWellFormed (sym program-made) wf

@@ -17,22 +17,22 @@ use Rattle.twe_ast.specs.declared.path.CellElemKind.{CellElemKind}
 use Rattle.twe_ast.specs.declared.path.CellElemKind.TheVariants as cell_kinds
 use Rattle.twe_program.specs.Program.{Program}
 use Rattle.twe_program.specs.WellFormed.{ElementFits, CellElementFits, PathFits}
-use Rattle.name_check.specs.declared.seen.Asked.TheVariants as asked
-use Rattle.name_check.specs.declared.seen.Global.{Global}
-use Rattle.name_check.specs.declared.seen.Global.TheVariants as global_kinds
-use Rattle.name_check.specs.declared.seen.Local.{Local}
-use Rattle.name_check.specs.declared.seen.Local.TheVariants as local_kinds
+use Rattle.name_check.specs.declared.binding.NameUse.TheVariants as name_use
+use Rattle.name_check.specs.declared.binding.Global.{Global}
+use Rattle.name_check.specs.declared.binding.Global.TheVariants as global_kinds
+use Rattle.name_check.specs.declared.binding.Local.{Local}
+use Rattle.name_check.specs.declared.binding.Local.TheVariants as local_kinds
 use Rattle.name_check.specs.declared.names.GlobalName.{GlobalName}
 use Rattle.name_check.specs.declared.scope.LocalName.{LocalName}
-use Rattle.name_check.specs.Names.{first_local, global_of, either, seen_as_local, seen_as_global}
-use Rattle.name_check.specs.Stands.{asks_of_kind, asks_of_path, asks_of_clause, asks_of_cell_kind}
+use Rattle.name_check.specs.Names.{first_local, global_of, either, binding_of_local, seen_as_global}
+use Rattle.name_check.specs.Sites.{asks_of_kind, asks_of_path, asks_of_clause, asks_of_cell_kind}
 use Rattle.name_check.specs.Limits.{is_star, is_star_kind}
 use Rattle.twe_names.specs.PathMeaning.{region_number, param_number, elem_of_kind, elems_of, before_star, after_star, path_of, effects_of_clause, elem_of_cell_kind}
 use Rattle.twe_names.proofs.Lists.{all-append, all-front, all-back}
 use Rattle.twe_names.proofs.Clean.{UseClean, AskClean, AsksClean}
 use Rattle.twe_names.proofs.There.{SeenThere, AllLocalsThere, GlobalsThere, chosen, global-there}
 
-region-there : (p : Program) (o : Option Global) → UseClean asked.Region (seen_as_global o) → SeenThere p 0 [] (seen_as_global o) → region_number o < length p.regions
+region-there : (p : Program) (o : Option Global) → UseClean name_use.Region (seen_as_global o) → SeenThere p 0 [] (seen_as_global o) → region_number o < length p.regions
 region-there p None h k = absurd h
 region-there p (Some (global_kinds.Region number)) h k = k
 region-there p (Some (global_kinds.Cells number indexes)) h k = absurd h
@@ -40,20 +40,20 @@ region-there p (Some (global_kinds.Method number params returns)) h k = absurd h
 region-there p (Some (global_kinds.Task number params returns)) h k = absurd h
 
 -- where a region is asked for, no local has the name
-not_local : (l : Option Local) (g : Option Global) → UseClean asked.Region (either l g) → UseClean asked.Region (seen_as_global g)
+not_local : (l : Option Local) (g : Option Global) → UseClean name_use.Region (either l g) → UseClean name_use.Region (seen_as_global g)
 not_local None g h = h
 not_local (Some (local_kinds.Variable number type constant)) g h = absurd h
 not_local (Some (local_kinds.Future number spawned void)) g h = absurd h
 
-param-there : (vars : ℕ) (p : Program) (o : Option Local) → UseClean asked.Parameter (seen_as_local o) → SeenThere p vars [] (seen_as_local o) → param_number o < vars
+param-there : (vars : ℕ) (p : Program) (o : Option Local) → UseClean name_use.Parameter (binding_of_local o) → SeenThere p vars [] (binding_of_local o) → param_number o < vars
 param-there vars p None h k = absurd h
 param-there vars p (Some (local_kinds.Variable number type constant)) h k = k
 param-there vars p (Some (local_kinds.Future number spawned void)) h k = absurd h
 
-local-there : (p : Program) (vars : ℕ) (text : List ℕ) (locals : List LocalName) → AllLocalsThere p vars [] locals → SeenThere p vars [] (seen_as_local (first_local text locals))
+local-there : (p : Program) (vars : ℕ) (text : List ℕ) (locals : List LocalName) → AllLocalsThere p vars [] locals → SeenThere p vars [] (binding_of_local (first_local text locals))
 local-there p vars text [] h = tt
 local-there p vars text (l ∷ ls) h =
-    chosen (λ (o : Option Local). SeenThere p vars [] (seen_as_local o)) (bytes_eq text l.text) (Some l.local) (first_local text ls) h.0 (local-there p vars text ls h.1)
+    chosen (λ (o : Option Local). SeenThere p vars [] (binding_of_local o)) (bytes_eq text l.text) (Some l.local) (first_local text ls) h.0 (local-there p vars text ls h.1)
 
 -- the elements of a beginning, and then the others
 take-rest : {X : Type 0} (k : ℕ) (xs : List X) → take k xs ++ drop (length (take k xs)) xs ≡ xs

@@ -6,15 +6,15 @@ use Rattle.twe_program.specs.declared.program.Decl.{Decl}
 use Rattle.twe_program.specs.Program.{Program}
 use Rattle.twe_program.specs.Numbering.{Declared}
 use Rattle.twe_program.specs.Fitting.{TakesIndexes, ReturnsValue}
-use Rattle.name_check.specs.declared.seen.Global.{Global}
-use Rattle.name_check.specs.declared.seen.Global.TheVariants as global_kinds
-use Rattle.name_check.specs.declared.seen.Local.{Local}
-use Rattle.name_check.specs.declared.seen.Local.TheVariants as local_kinds
-use Rattle.name_check.specs.declared.seen.Seen.{Seen}
-use Rattle.name_check.specs.declared.seen.Seen.TheVariants as seens
+use Rattle.name_check.specs.declared.binding.Global.{Global}
+use Rattle.name_check.specs.declared.binding.Global.TheVariants as global_kinds
+use Rattle.name_check.specs.declared.binding.Local.{Local}
+use Rattle.name_check.specs.declared.binding.Local.TheVariants as local_kinds
+use Rattle.name_check.specs.declared.binding.Binding.{Binding}
+use Rattle.name_check.specs.declared.binding.Binding.TheVariants as bindings
 use Rattle.name_check.specs.declared.names.GlobalName.{GlobalName}
 use Rattle.name_check.specs.declared.scope.LocalName.{LocalName}
-use Rattle.name_check.specs.Names.{first_global, first_local, global_of, seen, either, seen_as_global}
+use Rattle.name_check.specs.Names.{first_global, first_local, global_of, binding_of, either, seen_as_global}
 use Rattle.twe_names.specs.Meaning.{returns_value}
 
 -- there is such a declaration, with so many parameters, that returns this
@@ -38,10 +38,10 @@ abbrev pub LocalThere : Program → ℕ → List Declared → Local → Type 0
 LocalThere p vars futures (local_kinds.Variable number local_type constant) = number < vars
 LocalThere p vars futures (local_kinds.Future number spawned void) = FutureThere p (slice_get futures number) spawned void
 
-abbrev pub SeenThere : Program → ℕ → List Declared → Option Seen → Type 0
+abbrev pub SeenThere : Program → ℕ → List Declared → Option Binding → Type 0
 SeenThere p vars futures None = Unit {0}
-SeenThere p vars futures (Some (seens.Local local)) = LocalThere p vars futures local
-SeenThere p vars futures (Some (seens.Global global)) = GlobalThere p global
+SeenThere p vars futures (Some (bindings.Local local)) = LocalThere p vars futures local
+SeenThere p vars futures (Some (bindings.Global global)) = GlobalThere p global
 
 abbrev pub AllGlobalsThere : Program → List GlobalName → Type 0
 AllGlobalsThere p globals = AllByRecursion (λ (g : GlobalName). GlobalThere p g.global) globals
@@ -60,7 +60,7 @@ chosen P true x y h k = h
 chosen P false x y h k = k
 
 module _ (p : Program) (vars : ℕ) (futures : List Declared) where
-  abbrev There : Option Seen → Type 0
+  abbrev There : Option Binding → Type 0
   There o = SeenThere p vars futures o
 
   first-there : (text : List ℕ) (globals : List GlobalName) → AllGlobalsThere p globals → There (seen_as_global (first_global text globals))
@@ -80,6 +80,6 @@ module _ (p : Program) (vars : ℕ) (futures : List Declared) where
       chosen (λ (o : Option Local). There (either o (global_of globals text))) (bytes_eq text l.text) (Some l.local) (first_local text ls)
       k.0 (either-there globals h text ls k.1)
 
-  pub seen-there : (globals : List GlobalName) (locals : List LocalName) → GlobalsThere p globals → AllLocalsThere p vars futures locals
-      → (text : List ℕ) → There (seen globals locals text)
-  seen-there globals locals h k text = either-there globals h text locals k
+  pub binding_of-there : (globals : List GlobalName) (locals : List LocalName) → GlobalsThere p globals → AllLocalsThere p vars futures locals
+      → (text : List ℕ) → There (binding_of globals locals text)
+  binding_of-there globals locals h k text = either-there globals h text locals k

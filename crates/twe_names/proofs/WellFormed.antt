@@ -18,7 +18,7 @@ use Rattle.cell_limits.specs.GoesOver.{cells_of}
 use Rattle.name_check.specs.declared.rule.NRule.{NRule}
 use Rattle.name_check.specs.declared.names.GlobalName.{GlobalName}
 use Rattle.name_check.specs.Names.{globals_of}
-use Rattle.name_check.specs.Stands.{sites_at, sites_of_item, sites_of_decl, asks_of_cell_path}
+use Rattle.name_check.specs.Sites.{sites_at, sites_of_item, sites_of_decl, asks_of_cell_path}
 use Rattle.name_check.specs.Limits.{decls_of, decls_of_item, paths_of, StandsAfter}
 use Rattle.name_check.specs.FailsName.{FailsName, declared_again, too_many_cells, long_cell_path, long_path, too_many_effects, too_many_params, no_main}
 use Rattle.twe_names.specs.FromText.{IsFromText, all_make_none}

@@ -18,9 +18,9 @@ use Rattle.twe_program.specs.declared.program.Dims.TheVariants.{Scalar, Row, Gri
 use Rattle.twe_program.specs.Program.{Program, size_of}
 use Rattle.cell_limits.specs.GoesOver.{cells_of}
 use Rattle.name_check.specs.declared.names.GlobalName.{GlobalName}
-use Rattle.name_check.specs.Names.{globals_of, seen}
-use Rattle.name_check.specs.Here.{after_all}
-use Rattle.name_check.specs.Stands.{at_body}
+use Rattle.name_check.specs.Names.{globals_of, binding_of}
+use Rattle.name_check.specs.BodyScope.{after_all}
+use Rattle.name_check.specs.Sites.{at_body}
 use Rattle.name_check.specs.Ends.{close_of}
 use Rattle.twe_names.specs.BodyMeaning.{statements_of, task_number}
 use Rattle.twe_names.specs.PathMeaning.{summary_of, cell_path_of}
@@ -35,12 +35,12 @@ dims_of (shapes.Scalar initial) = Scalar
 dims_of (shapes.Array elements) = Row elements
 dims_of (shapes.Grid rows columns) = Grid rows columns
 
--- the initial value of a cell, which is 0 where none is written
+-- the initial value of a cell, which is 0 if none is written
 abbrev pub initial_of : CellShape → ℤ
 initial_of (shapes.Scalar (Some initial)) = initial.value
 initial_of _ = pos 0
 
--- a declaration of cells, where so many cells are declared before it
+-- a declaration of cells, before which `first` cells are declared
 abbrev pub cell_of : List GlobalName → ℕ → written_cell.CellDecl → CellDecl
 cell_of globals first cell = record {
   name = cell.name.text;
@@ -97,5 +97,5 @@ program_of ast = record {
   cells = cells_from (globals_of ast) 0 (cells_of ast.items);
   methods = flat_map (methods_of_item (globals_of ast)) ast.items;
   tasks = flat_map (tasks_of_item (globals_of ast)) ast.items;
-  main = task_number (seen (globals_of ast) [] (codes "main"));
+  main = task_number (binding_of (globals_of ast) [] (codes "main"));
 }

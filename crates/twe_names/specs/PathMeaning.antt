@@ -16,17 +16,17 @@ use Rattle.twe_ast.specs.declared.path.CellPath.{CellPath}
 use Rattle.twe_ast.specs.declared.path.CellElem.{CellElem}
 use Rattle.twe_ast.specs.declared.path.CellElemKind.{CellElemKind}
 use Rattle.twe_ast.specs.declared.path.CellElemKind.TheVariants as cell_kinds
-use Rattle.name_check.specs.declared.seen.Global.{Global}
-use Rattle.name_check.specs.declared.seen.Global.TheVariants as global_kinds
-use Rattle.name_check.specs.declared.seen.Local.{Local}
-use Rattle.name_check.specs.declared.seen.Local.TheVariants as local_kinds
+use Rattle.name_check.specs.declared.binding.Global.{Global}
+use Rattle.name_check.specs.declared.binding.Global.TheVariants as global_kinds
+use Rattle.name_check.specs.declared.binding.Local.{Local}
+use Rattle.name_check.specs.declared.binding.Local.TheVariants as local_kinds
 use Rattle.name_check.specs.declared.names.GlobalName.{GlobalName}
 use Rattle.name_check.specs.declared.scope.LocalName.{LocalName}
 use Rattle.name_check.specs.Names.{first_local, global_of}
-use Rattle.name_check.specs.Here.{params_of}
+use Rattle.name_check.specs.BodyScope.{params_of}
 use Rattle.name_check.specs.Limits.{is_star}
 
--- the number of a region; 0 where a rule of names fails, as in the other definitions of numbers
+-- the number of a region; 0 if a rule of names fails there, as in the other definitions of numbers
 abbrev pub region_number : Option Global → ℕ
 region_number (Some (global_kinds.Region number)) = number
 region_number _ = 0

@@ -1,4 +1,4 @@
-//! What the declarations of cells mean.
+//! The resolver, for declarations of cells.
 ghost use Rattle.std.specs.Prelude.{◌≡◌, ◌≤◌, All, IfOk};
 ghost use Rattle.twe_limits.specs.Language.{max_cells};
 ghost use Rattle.cell_limits.specs.GoesOver.{cells_of};
@@ -13,7 +13,7 @@ use twe_ast::{CellDecl as Written, CellShape, Item};
 use twe_io::{List, Memory};
 use twe_program::{CellDecl, Dims};
 
-/// How many cells a declaration makes, and how they are indexed.
+/// The number of cells that a declaration makes, and how they are indexed.
 fn dims(shape: &CellShape) -> Dims
     ensures { result ≡ dims_of shape.now }
 {
@@ -27,7 +27,7 @@ fn dims(shape: &CellShape) -> Dims
     }
 }
 
-/// The initial value of each cell, which is 0 where none is written.
+/// The initial value of each cell, which is 0 if none is written.
 fn initial(shape: &CellShape) -> i32
     ensures { result ≡ initial_of shape.now }
 {
@@ -37,7 +37,7 @@ fn initial(shape: &CellShape) -> i32
     }
 }
 
-/// What a declaration of cells means, where so many cells are declared before it.
+/// The meaning of a declaration of cells, before which `first` cells are declared.
 fn cell(alloc: Global, globals: &Globals, first: u32, written: &Written) -> Result<CellDecl, Memory>
     requires { IsSmallCellPath written.now.path }
     ensures { IfOk result (λ cell. cell ≡ cell_of globals.now first written.now) }
@@ -52,7 +52,7 @@ fn cell(alloc: Global, globals: &Globals, first: u32, written: &Written) -> Resu
     })
 }
 
-/// What the declarations of cells among the items mean.
+/// The meaning of the declarations of cells among the items.
 pub fn cells(alloc: Global, globals: &Globals, items: &[Item]) -> Result<List<CellDecl>, Memory>
     requires small { All IsSmallItem items.now }
     requires few { cells_made (cells_from globals.now 0 (cells_of items.now)) ≤ max_cells }

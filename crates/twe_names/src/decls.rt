@@ -1,7 +1,7 @@
-//! What the declarations of methods and tasks mean.
+//! The resolver, for declarations of methods and tasks.
 ghost use Rattle.std.specs.Prelude.{◌≡◌, ◌++◌, All, IfOk, OnOk};
 ghost use Rattle.std.specs.List.{flat_map};
-ghost use Rattle.name_check.specs.Stands.{at_body};
+ghost use Rattle.name_check.specs.Sites.{at_body};
 ghost use Rattle.twe_names.specs.Meaning.{body_of, decl_of, returns_value};
 ghost use Rattle.twe_names.specs.PathMeaning.{effects_of_clause};
 ghost use Rattle.twe_names.specs.inner.Numbers.{IsSmallClause, IsSmallDecl};
@@ -9,7 +9,7 @@ ghost use Rattle.twe_names.specs.inner.Numbers.{IsSmallClause, IsSmallDecl};
 use crate::paths::effect_path;
 use crate::statements::statements;
 use effect_sets::{Effect, Effects, Summary};
-use name_check::{Globals, Here, Locals};
+use name_check::{BodyScope, Globals, Locals};
 use std::alloc::Global;
 use twe_ast::{Clause, Decl as Written, ReturnType};
 use twe_io::Memory;
@@ -53,12 +53,12 @@ fn summary(
     Ok(Summary { effects })
 }
 
-/// What the body of a declaration means, from its start on.
+/// The meaning of the body of a declaration, from the scope at its start.
 #[tactic(auto, using(crate::proofs::Closing::close_is))]
 fn body(
     alloc: Global,
     globals: &Globals,
-    mut start: Here,
+    mut start: BodyScope,
     written: &Written,
 ) -> Result<Body, Memory>
     requires start { start ≡ at_body written.now }
@@ -85,7 +85,7 @@ fn returns_value(returns: ReturnType) -> bool
     }
 }
 
-/// What a declaration means.
+/// The meaning of a declaration.
 pub fn declaration(
     alloc: Global,
     globals: &Globals,
@@ -96,7 +96,7 @@ pub fn declaration(
     ensures { IfOk result (λ decl. decl ≡ decl_of globals.now deterministic written.now) }
 {
     let name = written.name.text.copy(alloc)?;
-    let start = Here::at_body(alloc, written)?;
+    let start = BodyScope::at_body(alloc, written)?;
     let summary = summary(alloc, globals, &start.locals, written.effects.as_slice())?;
     let body = body(alloc, globals, start, written)?;
     Ok(Decl {

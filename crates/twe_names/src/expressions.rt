@@ -1,4 +1,4 @@
-//! What expressions mean where these names are seen.
+//! The resolver, for expressions.
 ghost use Rattle.std.specs.Prelude.{◌≡◌, IfOk};
 ghost use Rattle.twe_names.specs.BodyMeaning.{arguments_of, expression_of};
 
@@ -10,7 +10,7 @@ use twe_ast::{Args as WrittenArgs, Expr as Written, ExprKind as Kind};
 use twe_io::Memory;
 use twe_program::{Args, Expr};
 
-/// What an expression means.
+/// The meaning of an expression if these names are in scope.
 #[cycle(expr)]
 pub fn expression(
     written: &Written,
@@ -63,7 +63,7 @@ pub fn expression(
     }
 }
 
-/// What the arguments of a call mean.
+/// The meaning of the arguments of a call.
 #[cycle(expr)]
 #[tactic(auto, using(crate::proofs::Arguments::all_arguments))]
 pub fn arguments(

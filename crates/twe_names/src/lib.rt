@@ -1,4 +1,4 @@
-//! The names of a text become numbers: each tree is its program, or its first failure of a rule of names.
+//! The resolver: a tree becomes its program, in which names are numbers, or its first failure of a rule of names.
 #![tactic(auto)]
 
 mod cells;

@@ -50,7 +50,7 @@ pub fn grid_element(
     Ok(Expr { kind })
 }
 
-/// The call of a method.
+/// A call of a method.
 pub fn call(method: u32, args: Args, place: Place) -> Expr
     ensures { result ≡ CallValue method args place }
 {

@@ -1,53 +1,53 @@
-//! The numbers of what names stand for. Each is 0 where a rule of names fails.
+//! The numbers of bindings. Each is 0 if a rule of names fails there.
 ghost use Rattle.std.specs.Prelude.{◌≡◌};
 ghost use Rattle.twe_names.specs.BodyMeaning.{cells_number, future_number, is_fixed, method_number, task_number, value_of};
 
-use name_check::{Global, Local, Seen};
+use name_check::{Binding, Global, Local};
 use twe_ast::LocalType;
 use twe_io::Place;
 use twe_program::{Expr, ExprKind};
 
 /// The number of a declaration of cells.
-pub fn cells_number(seen: Option<Seen>) -> u32
-    ensures { result ≡ cells_number seen }
+pub fn cells_number(binding: Option<Binding>) -> u32
+    ensures { result ≡ cells_number binding }
 {
-    match seen {
-        Some(Seen::Global(Global::Cells { number, .. })) => number,
+    match binding {
+        Some(Binding::Global(Global::Cells { number, .. })) => number,
         _ => 0,
     }
 }
 
 /// The number of a method.
-pub fn method_number(seen: Option<Seen>) -> u32
-    ensures { result ≡ method_number seen }
+pub fn method_number(binding: Option<Binding>) -> u32
+    ensures { result ≡ method_number binding }
 {
-    match seen {
-        Some(Seen::Global(Global::Method { number, .. })) => number,
+    match binding {
+        Some(Binding::Global(Global::Method { number, .. })) => number,
         _ => 0,
     }
 }
 
 /// The number of a task.
-pub fn task_number(seen: Option<Seen>) -> u32
-    ensures { result ≡ task_number seen }
+pub fn task_number(binding: Option<Binding>) -> u32
+    ensures { result ≡ task_number binding }
 {
-    match seen {
-        Some(Seen::Global(Global::Task { number, .. })) => number,
+    match binding {
+        Some(Binding::Global(Global::Task { number, .. })) => number,
         _ => 0,
     }
 }
 
 /// The number of a future.
-pub fn future_number(seen: Option<Seen>) -> u32
-    ensures { result ≡ future_number seen }
+pub fn future_number(binding: Option<Binding>) -> u32
+    ensures { result ≡ future_number binding }
 {
-    match seen {
-        Some(Seen::Local(Local::Future { number, .. })) => number,
+    match binding {
+        Some(Binding::Local(Local::Future { number, .. })) => number,
         _ => 0,
     }
 }
 
-/// Whether a parameter or a local stands as itself in an index: it is an `int` that may not be assigned.
+/// Whether a parameter or a local is itself in an index: it is an `int` that may not be assigned.
 fn is_fixed(local_type: LocalType, constant: bool) -> bool
     ensures { result ≡ is_fixed local_type constant }
 {
@@ -57,13 +57,13 @@ fn is_fixed(local_type: LocalType, constant: bool) -> bool
     }
 }
 
-/// What a name means that stands as a value.
-pub fn named_value(seen: Option<Seen>, place: Place) -> Expr
-    ensures { result ≡ value_of seen place }
+/// The meaning of a name that is used as a value.
+pub fn named_value(binding: Option<Binding>, place: Place) -> Expr
+    ensures { result ≡ value_of binding place }
 {
-    match seen {
+    match binding {
         Some(
-            Seen::Local(
+            Binding::Local(
                 Local::Variable {
                     number,
                     local_type,

@@ -1,4 +1,4 @@
-//! What the paths of effects and of cells mean.
+//! The resolver, for paths of effects and of cells.
 ghost use Rattle.std.specs.Prelude.{◌≡◌, ◌++◌, length, All, IfOk, OnOk};
 ghost use Rattle.std.specs.List.{list_any};
 ghost use Rattle.twe_ast.specs.declared.path.PathElem.{PathElem as Written};
@@ -34,7 +34,7 @@ fn param(params: &Locals, text: &Word) -> u32
     }
 }
 
-/// Adds what an element of the path of an effect means, unless it is a `*`.
+/// Adds the meaning of an element of the path of an effect, unless it is a `*`.
 fn add_element(
     elems: &mut Elems,
     globals: &Globals,
@@ -53,7 +53,7 @@ fn add_element(
     }
 }
 
-/// What the elements of the path of an effect mean.
+/// The meaning of the elements of the path of an effect.
 fn elements(
     alloc: alloc::Global,
     globals: &Globals,
@@ -80,7 +80,7 @@ fn is_star(elem: &PathElem) -> bool
     }
 }
 
-/// How many elements stand before the first `*`.
+/// The number of elements before the first `*`.
 fn count_before_star(written: &[PathElem]) -> usize
     ensures { result ≡ length (before_star written.now) }
 {
@@ -94,7 +94,7 @@ fn has_star(written: &[PathElem]) -> bool
     written.iter().any(|e| is_star(e))
 }
 
-/// What the path of an effect means, where these are the parameters.
+/// The meaning of the path of an effect of a declaration with these parameters.
 pub fn effect_path(
     alloc: alloc::Global,
     globals: &Globals,
@@ -111,7 +111,7 @@ pub fn effect_path(
     Ok(region_paths::Path::new(elems, has_star(written), tail))
 }
 
-/// What an element of the path of a cell means.
+/// The meaning of an element of the path of a cell.
 fn cell_element(globals: &Globals, kind: &CellElemKind) -> Elem
     requires { IsSmallInCell kind.now }
     ensures { result ≡ elem_of_cell_kind globals.now kind.now }
@@ -122,7 +122,7 @@ fn cell_element(globals: &Globals, kind: &CellElemKind) -> Elem
     }
 }
 
-/// What the path of a cell means.
+/// The meaning of the path of a cell.
 pub fn cell_path(
     alloc: alloc::Global,
     globals: &Globals,

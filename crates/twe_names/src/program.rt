@@ -1,8 +1,8 @@
-//! The program that a tree means.
+//! The resolver, for a whole tree.
 ghost use Rattle.std.specs.Prelude.{◌≡◌, ◌++◌, [], ◌∷◌, All, IfOk, OnOk, codes};
 ghost use Rattle.std.specs.List.{flat_map};
 ghost use Rattle.twe_program.specs.WellFormed.{IsWellFormed};
-ghost use Rattle.name_check.specs.Names.{globals_of, seen};
+ghost use Rattle.name_check.specs.Names.{globals_of, binding_of};
 ghost use Rattle.twe_names.specs.BodyMeaning.{task_number};
 ghost use Rattle.twe_names.specs.FromText.{IsFromText};
 ghost use Rattle.twe_names.specs.Meaning.{methods_of_item, program_of, regions_of_item, tasks_of_item};
@@ -41,7 +41,7 @@ fn regions(alloc: Global, items: &[Item]) -> Result<List<Word>, Memory>
     Ok(regions)
 }
 
-/// Adds the method that an item declares, if it does.
+/// Adds the method that an item declares, if it declares one.
 fn add_method(
     methods: &mut List<Decl>,
     alloc: Global,
@@ -69,7 +69,7 @@ fn methods(alloc: Global, globals: &Globals, items: &[Item]) -> Result<List<Decl
     Ok(methods)
 }
 
-/// Adds the task that an item declares, if it does.
+/// Adds the task that an item declares, if it declares one.
 fn add_task(
     tasks: &mut List<Decl>,
     alloc: Global,
@@ -102,13 +102,13 @@ fn tasks(alloc: Global, globals: &Globals, items: &[Item]) -> Result<List<Decl>,
 
 /// The number of the task `main`.
 fn main_task(alloc: Global, globals: &Globals) -> Result<u32, Memory>
-    ensures { IfOk result (λ main. main ≡ task_number (seen globals.now [] (codes "main"))) }
+    ensures { IfOk result (λ main. main ≡ task_number (binding_of globals.now [] (codes "main"))) }
 {
     let name = Word::from_text(alloc, "main")?;
     Ok(task_number(look_up(globals, &Locals::new(alloc), &name)))
 }
 
-/// The program that a tree means which fails no rule of names.
+/// The program of a tree that fails no rule of names.
 #[tactic(auto, using(crate::proofs::Small::small_items))]
 pub fn program(alloc: Global, ast: &Ast, globals: &Globals) -> Result<Prog, Memory>
     requires text { IsFromText ast.now }

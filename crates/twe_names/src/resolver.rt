@@ -15,8 +15,8 @@ use std::alloc::Global;
 use twe_ast::Ast;
 use twe_program::Prog;
 
-/// The program that the tree of a text means. It is Ok exactly where no rule of names fails, and otherwise, memory
-/// permitting, names the failure that comes first in the text, and at one place the one with the lowest number.
+/// The program that the tree of a text means. It is Ok exactly if no rule of names fails. Otherwise, if memory suffices, it
+/// returns the failure that comes first in the text, and at one place the one with the lowest number.
 pub fn resolve(alloc: Global, ast: &Ast) -> Result<Prog, NameFail>
     requires { IsFromText ast.now }
     ensures meant { IfOk result (λ p. p ≡ program_of ast.now) }

@@ -1,24 +1,24 @@
-//! What the statements mean that have no others inside them and declare nothing.
+//! The resolver, for statements that have no others inside them and declare nothing.
 ghost use Rattle.std.specs.Prelude.{◌≡◌, true, IfOk, Option};
 ghost use Rattle.twe_program.specs.Statement.{SetArray, SetGrid, Wait};
-ghost use Rattle.name_check.specs.Names.{seen};
+ghost use Rattle.name_check.specs.Names.{binding_of};
 ghost use Rattle.twe_names.specs.BodyMeaning.{cells_number, expression_of, future_number, set_of, statement_of, value_if};
 ghost use Rattle.twe_names.specs.inner.Kinds.{is_simple};
 
 use crate::expressions::{arguments, expression};
 use crate::numbers::{cells_number, future_number, method_number};
-use name_check::{Globals, Here, Local, Locals, Seen, look_up};
+use name_check::{Binding, BodyScope, Globals, Local, Locals, look_up};
 use std::alloc::Global;
 use twe_ast::{Expr as WrittenExpr, Name, Stmt as Written, StmtKind as Kind, WaitCall};
 use twe_io::{Memory, Place};
 use twe_program::{Expr, Stmt, StmtKind};
 
-/// The assignment of a value to what a name stands for.
-fn assignment(point: u32, seen: Option<Seen>, value: Expr, place: Place) -> Stmt
-    ensures { result ≡ set_of point seen value place }
+/// The assignment of a value to the binding of a name.
+fn assignment(point: u32, binding: Option<Binding>, value: Expr, place: Place) -> Stmt
+    ensures { result ≡ set_of point binding value place }
 {
-    match seen {
-        Some(Seen::Local(Local::Variable { number, .. })) => Stmt {
+    match binding {
+        Some(Binding::Local(Local::Variable { number, .. })) => Stmt {
             point,
             kind: StmtKind::Set { var: number, value },
         },
@@ -37,23 +37,23 @@ fn assignment(point: u32, seen: Option<Seen>, value: Expr, place: Place) -> Stmt
 fn array_assignment(
     alloc: Global,
     globals: &Globals,
-    here: &Here,
+    scope: &BodyScope,
     array: &Name,
     index: &WrittenExpr,
     value: &WrittenExpr,
 ) -> Result<Stmt, Memory>
-    ensures { IfOk result (λ s. s ≡ SetArray here.now.points (cells_number (seen globals.now here.now.locals array.now.text))
-        (expression_of globals.now here.now.locals index.now) (expression_of globals.now here.now.locals value.now) array.now.place) }
+    ensures { IfOk result (λ s. s ≡ SetArray scope.now.points (cells_number (binding_of globals.now scope.now.locals array.now.text))
+        (expression_of globals.now scope.now.locals index.now) (expression_of globals.now scope.now.locals value.now) array.now.place) }
 {
     let kind = StmtKind::SetAt {
-        array: cells_number(look_up(globals, &here.locals, &array.text)),
-        index: expression(index, alloc, globals, &here.locals)?,
+        array: cells_number(look_up(globals, &scope.locals, &array.text)),
+        index: expression(index, alloc, globals, &scope.locals)?,
         second: None,
-        value: expression(value, alloc, globals, &here.locals)?,
+        value: expression(value, alloc, globals, &scope.locals)?,
         place: array.place,
     };
     Ok(Stmt {
-        point: here.points,
+        point: scope.points,
         kind,
     })
 }
@@ -62,25 +62,25 @@ fn array_assignment(
 fn grid_assignment(
     alloc: Global,
     globals: &Globals,
-    here: &Here,
+    scope: &BodyScope,
     array: &Name,
     row: &WrittenExpr,
     column: &WrittenExpr,
     value: &WrittenExpr,
 ) -> Result<Stmt, Memory>
-    ensures { IfOk result (λ s. s ≡ SetGrid here.now.points (cells_number (seen globals.now here.now.locals array.now.text))
-        (expression_of globals.now here.now.locals row.now) (expression_of globals.now here.now.locals column.now)
-        (expression_of globals.now here.now.locals value.now) array.now.place) }
+    ensures { IfOk result (λ s. s ≡ SetGrid scope.now.points (cells_number (binding_of globals.now scope.now.locals array.now.text))
+        (expression_of globals.now scope.now.locals row.now) (expression_of globals.now scope.now.locals column.now)
+        (expression_of globals.now scope.now.locals value.now) array.now.place) }
 {
     let kind = StmtKind::SetAt {
-        array: cells_number(look_up(globals, &here.locals, &array.text)),
-        index: expression(row, alloc, globals, &here.locals)?,
-        second: Some(expression(column, alloc, globals, &here.locals)?),
-        value: expression(value, alloc, globals, &here.locals)?,
+        array: cells_number(look_up(globals, &scope.locals, &array.text)),
+        index: expression(row, alloc, globals, &scope.locals)?,
+        second: Some(expression(column, alloc, globals, &scope.locals)?),
+        value: expression(value, alloc, globals, &scope.locals)?,
         place: array.place,
     };
     Ok(Stmt {
-        point: here.points,
+        point: scope.points,
         kind,
     })
 }
@@ -100,7 +100,7 @@ fn returned(
     }
 }
 
-/// The waiting for a task, and the local that takes its value, if one does.
+/// The statement that waits for a task, with the local that takes its value, if one does.
 pub fn waiting(
     globals: &Globals,
     locals: &Locals,
@@ -108,7 +108,7 @@ pub fn waiting(
     wait: &WaitCall,
     into: Option<u32>,
 ) -> Stmt
-    ensures { result ≡ Wait point (future_number (seen globals.now locals.now wait.now.future.text)) wait.now.join into wait.now.future.place }
+    ensures { result ≡ Wait point (future_number (binding_of globals.now locals.now wait.now.future.text)) wait.now.join into wait.now.future.place }
 {
     let kind = StmtKind::Wait {
         future: future_number(look_up(globals, locals, &wait.future.text)),
@@ -119,36 +119,36 @@ pub fn waiting(
     Stmt { point, kind }
 }
 
-/// What such a statement means.
+/// The meaning of a statement that has no others inside it and declares nothing.
 pub fn simple_statement(
     written: &Written,
     alloc: Global,
     globals: &Globals,
-    here: &Here,
+    scope: &BodyScope,
 ) -> Result<Stmt, Memory>
     requires { is_simple written.now ≡ true }
-    ensures { IfOk result (λ s. s ≡ statement_of globals.now here.now written.now) }
+    ensures { IfOk result (λ s. s ≡ statement_of globals.now scope.now written.now) }
 {
-    let point = here.points;
-    let locals = &here.locals;
+    let point = scope.points;
+    let locals = &scope.locals;
     match &written.kind {
         Kind::Set { name, value } => {
-            let seen = look_up(globals, locals, &name.text);
+            let binding = look_up(globals, locals, &name.text);
             let value = expression(value, alloc, globals, locals)?;
-            Ok(assignment(point, seen, value, name.place))
+            Ok(assignment(point, binding, value, name.place))
         }
         Kind::SetAt {
             array,
             index,
             second: None,
             value,
-        } => array_assignment(alloc, globals, here, array, index, value),
+        } => array_assignment(alloc, globals, scope, array, index, value),
         Kind::SetAt {
             array,
             index,
             second: Some(column),
             value,
-        } => grid_assignment(alloc, globals, here, array, index, column, value),
+        } => grid_assignment(alloc, globals, scope, array, index, column, value),
         Kind::Return { value, .. } => {
             let kind = StmtKind::Return(returned(value, alloc, globals, locals)?);
             Ok(Stmt { point, kind })

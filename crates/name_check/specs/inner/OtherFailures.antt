@@ -1,4 +1,4 @@
--- The failures that are no use of a name: limits, ends of bodies and second stars.
+-- The failures that no use of a name causes: of limits, ends of bodies and second stars.
 use Rattle.std.specs.Prelude.{Bool, true, false, not, ◌&&◌, if◌then◌else◌, List, [], ◌∷◌, ◌++◌, Option, None, Some, slice_get}
 use Rattle.std.specs.Option.{option_map}
 use Rattle.twe_io.specs.declared.place.Place.{Place}
@@ -25,26 +25,26 @@ failures_of_place rule (Some place) = record { rule = rule; place = place } ∷ 
 
 -- the places of the first parameter, the first path, and the first element of a path of an effect or of a cell that exceed
 -- their limits
-abbrev pub fifth_name : List Name → Option Place
-fifth_name names = option_map (λ (name : Name). name.place) (slice_get names max_parameters)
+abbrev pub parameter_over_limit : List Name → Option Place
+parameter_over_limit names = option_map (λ (name : Name). name.place) (slice_get names max_parameters)
 
-abbrev pub ninth_path : List Path → Option Place
-ninth_path paths = option_map (λ (path : Path). path.place) (slice_get paths max_effects)
+abbrev pub path_over_limit : List Path → Option Place
+path_over_limit paths = option_map (λ (path : Path). path.place) (slice_get paths max_effects)
 
-abbrev pub long_elem : List PathElem → Option Place
-long_elem elems = option_map (λ (elem : PathElem). elem.place) (slice_get elems max_path_elements)
+abbrev pub element_over_limit : List PathElem → Option Place
+element_over_limit elems = option_map (λ (elem : PathElem). elem.place) (slice_get elems max_path_elements)
 
-abbrev pub long_cell_elem : List CellElem → Option Place
-long_cell_elem elems = option_map (λ (elem : CellElem). elem.place) (slice_get elems max_path_elements)
+abbrev pub cell_element_over_limit : List CellElem → Option Place
+cell_element_over_limit elems = option_map (λ (elem : CellElem). elem.place) (slice_get elems max_path_elements)
 
--- the place of the second `*`, or of the first, where one was there before
+-- the place of the second `*`, or of the first if there was one before
 abbrev pub second_star : Bool → List PathElem → Option Place
 second_star before [] = None
 second_star false (elem ∷ elems) = second_star (is_star elem) elems
 second_star true (elem ∷ elems) = if is_star elem then Some elem.place else second_star true elems
 
 abbrev pub path_failures : Path → List NameFailure
-path_failures path = failures_of_place N7 (long_elem path.elems) ++ failures_of_place N9 (second_star false path.elems)
+path_failures path = failures_of_place N7 (element_over_limit path.elems) ++ failures_of_place N9 (second_star false path.elems)
 
 abbrev pub paths_failures : List Path → List NameFailure
 paths_failures [] = []
@@ -60,12 +60,12 @@ lacks_return decl = not (is_void decl.returns) && not (one_ends decl.body)
 
 abbrev pub decl_failures : Decl → List NameFailure
 decl_failures decl =
-    failures_of_place N7 (fifth_name decl.params)
-    ++ (failures_of_place N7 (ninth_path (paths_of decl))
+    failures_of_place N7 (parameter_over_limit decl.params)
+    ++ (failures_of_place N7 (path_over_limit (paths_of decl))
     ++ (clauses_failures decl.effects ++ failure_if (lacks_return decl) N5 (close_of decl.body)))
 
 abbrev pub item_failures : Item → List NameFailure
 item_failures (items.Regions names) = []
-item_failures (items.Cell cell) = failures_of_place N7 (long_cell_elem cell.path.elems)
+item_failures (items.Cell cell) = failures_of_place N7 (cell_element_over_limit cell.path.elems)
 item_failures (items.Method decl) = decl_failures decl
 item_failures (items.Task deterministic decl) = decl_failures decl

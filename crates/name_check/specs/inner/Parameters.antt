@@ -1,7 +1,7 @@
--- What is seen of a parameter.
+-- The name of a parameter with its binding.
 use Rattle.std.specs.Prelude.{ℕ, List, true}
 use Rattle.twe_ast.specs.declared.stmt.LocalType.TheVariants as types
-use Rattle.name_check.specs.declared.seen.Local.TheVariants as local_kinds
+use Rattle.name_check.specs.declared.binding.Local.TheVariants as local_kinds
 use Rattle.name_check.specs.declared.scope.LocalName.{LocalName}
 
 abbrev pub parameter : List ℕ → ℕ → LocalName

@@ -3,30 +3,30 @@ use Rattle.std.specs.Prelude.{List, []}
 use Rattle.twe_ast.specs.declared.item.ReturnType.{ReturnType}
 use Rattle.twe_ast.specs.Statement.{Statement, Block, Set, SetArray, SetGrid, If, While, Make, Wait, LetWait}
 use Rattle.name_check.specs.declared.names.GlobalName.{GlobalName}
-use Rattle.name_check.specs.declared.scope.Here.{Here}
-use Rattle.name_check.specs.Here.{after}
-use Rattle.name_check.specs.Stands.{Site, sites_in}
+use Rattle.name_check.specs.declared.scope.BodyScope.{BodyScope}
+use Rattle.name_check.specs.BodyScope.{after}
+use Rattle.name_check.specs.Sites.{Site, sites_in}
 
-abbrev pub simple_sites : List GlobalName → ReturnType → Here → Statement → List Site
+abbrev pub simple_sites : List GlobalName → ReturnType → BodyScope → Statement → List Site
 simple_sites globals returns here (Block body) = []
 simple_sites globals returns here (If arms) = []
 simple_sites globals returns here (While place condition body) = []
 simple_sites globals returns here s = sites_in globals returns here s
 
-abbrev pub after_simple : List GlobalName → Here → Statement → Here
+abbrev pub after_simple : List GlobalName → BodyScope → Statement → BodyScope
 after_simple globals here (Block body) = here
 after_simple globals here (If arms) = here
 after_simple globals here (While place condition body) = here
 after_simple globals here s = after globals here s
 
 -- the statements that assign a value, and those that make a task or wait for one
-abbrev pub set_sites : List GlobalName → ReturnType → Here → Statement → List Site
+abbrev pub set_sites : List GlobalName → ReturnType → BodyScope → Statement → List Site
 set_sites globals returns here (Set name value) = sites_in globals returns here (Set name value)
 set_sites globals returns here (SetArray array index value) = sites_in globals returns here (SetArray array index value)
 set_sites globals returns here (SetGrid array row column value) = sites_in globals returns here (SetGrid array row column value)
 set_sites globals returns here _ = []
 
-abbrev pub task_sites : List GlobalName → ReturnType → Here → Statement → List Site
+abbrev pub task_sites : List GlobalName → ReturnType → BodyScope → Statement → List Site
 task_sites globals returns here (Make future task spawned args) = sites_in globals returns here (Make future task spawned args)
 task_sites globals returns here (Wait wait) = sites_in globals returns here (Wait wait)
 task_sites globals returns here (LetWait is_final name wait) = sites_in globals returns here (LetWait is_final name wait)

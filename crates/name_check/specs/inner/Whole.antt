@@ -1,4 +1,4 @@
--- The failures of a whole text but for that of how many cells and nodes there are, and the first of them.
+-- The failures of a whole text except for the limits on cells and nodes, and the first of them.
 use Rattle.std.specs.Prelude.{◌==◌, Bool, false, not, ◌&&◌, ◌||◌, bytes_eq, codes, List, [], ◌∷◌, ◌++◌, length, Option, None}
 use Rattle.std.specs.List.{list_any}
 use Rattle.twe_ast.specs.declared.item.Ast.{Ast}
@@ -9,7 +9,7 @@ use Rattle.name_check.specs.declared.names.GlobalName.{GlobalName}
 use Rattle.name_check.specs.declared.rule.NRule.TheVariants.{N2, N8}
 use Rattle.name_check.specs.FailsName.{NameFailure}
 use Rattle.name_check.specs.Names.{globals_of}
-use Rattle.name_check.specs.Stands.{sites_of_item}
+use Rattle.name_check.specs.Sites.{sites_of_item}
 use Rattle.name_check.specs.inner.Failures.{first_of_sites, is_void}
 use Rattle.first_failure.specs.First.{failure_if}
 use Rattle.name_check.specs.inner.First.{first_from}

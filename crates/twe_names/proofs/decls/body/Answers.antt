@@ -5,4 +5,4 @@ use Rattle.twe_names.proofs.decls.body.Goals as goal
 
 pub overflow_add-result : goal.overflow_add-result
 overflow_add-result c =
-    omega (arith, points_fit c.args.globals.now c.args.written.now c.args.start c.statements.new.here c.requires.small c.requires.start c.in_ok-block.ensures.walked)
+    omega (arith, points_fit c.args.globals.now c.args.written.now c.args.start c.statements.new.scope c.requires.small c.requires.start c.in_ok-block.ensures.walked)

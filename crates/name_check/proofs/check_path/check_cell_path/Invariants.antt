@@ -1,0 +1,10 @@
+use Rattle.std.proofs.Common.{◌≡◌, drop}
+use Rattle.std.specs.List.{flat_map}
+use Rattle.name_check.specs.inner.Elements.{asks_of_cell_elem}
+use Rattle.name_check.specs.inner.Failures.{first_of_asks}
+use Rattle.name_check.proofs.check_path.check_cell_path.Given as goal
+
+-- the first so far and what is left give the first of all
+abbrev pub invariant-loop-elem : goal.invariant-loop-elem
+invariant-loop-elem l =
+    first_of_asks l.globals l.locals l.first (flat_map asks_of_cell_elem (drop l.elem-index l.elems)) ≡ first_of_asks l.globals l.locals l.fn.first (flat_map asks_of_cell_elem l.elems)

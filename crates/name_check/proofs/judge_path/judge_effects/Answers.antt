@@ -1,9 +1,0 @@
-use Rattle.std.proofs.Common.{sym}
-use Rattle.name_check.specs.Stands.{asks_of_clause}
-use Rattle.name_check.proofs.FirstFailures.{each_noted}
-use Rattle.name_check.proofs.judge_path.judge_effects.Goals as goal
-
-pub loop-clause-preserved : goal.loop-clause-preserved
-loop-clause-preserved c =
-    each_noted asks_of_clause c.args.globals.now c.args.locals.now c.args.clauses.now c.loop-clause.clause-index c.clause-item.result c.loop-clause-test.true (sym c.clause-item.is)
-    c.loop-clause.first c.judge_clause.new.first _ c.judge_clause.ensures c.loop-clause.invariant
