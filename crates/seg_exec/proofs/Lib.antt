@@ -1,13 +1,14 @@
 pub mod Accesses
 pub mod Bounds
 pub mod CellNumbers
-pub mod Children
 pub mod Determined
 pub mod Falling
 pub mod PlainLists
 pub mod Reaching
 pub mod Remains
+pub mod Rooms
 pub mod Segments
 pub mod Simulation
 pub mod Whole
+pub mod Without
 pub mod Witnesses

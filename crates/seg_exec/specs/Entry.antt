@@ -8,6 +8,7 @@ use Rattle.twe_program.specs.Program.{Program}
 use Rattle.seg_exec.specs.declared.frame.OpenBody.{OpenBody}
 use Rattle.seg_exec.specs.declared.frame.Frame.{Frame}
 use Rattle.seg_exec.specs.declared.frame.Next.TheVariants.{Go}
+use Rattle.seg_exec.specs.Children.{no_children}
 use Rattle.seg_exec.specs.Meaning.{vars_at_start}
 
 -- the number of futures of a body
@@ -27,7 +28,7 @@ frame_of decl task args = record {
   body = Some (entry_body decl args);
   fuel = 0;
   futures = replicate (future_count_of decl) None;
-  out = [];
+  out = no_children;
   next = Go;
   value = pos 0;
   prints = [];

@@ -24,8 +24,8 @@ body_with into value (Some body) = Some (record body { vars = vars_with into val
 abbrev pub given_by : Next → Frame → ℤ → Frame
 given_by Go frame value = frame
 given_by (Get on into) frame value = record frame { body = body_with into value frame.body; next = Go }
-given_by (Join on into) frame value = record frame { body = body_with into value frame.body; out = without on frame.out; next = Go }
-given_by (Closing on) frame value = record frame { out = without on frame.out; next = Go }
+given_by (Join on into) frame value = record frame { body = body_with into value frame.body; out = record frame.out { items = without on frame.out.items }; next = Go }
+given_by (Closing on) frame value = record frame { out = record frame.out { items = without on frame.out.items }; next = Go }
 given_by Ended frame value = frame
 
 abbrev pub given : Frame → ℤ → Frame

@@ -1,6 +1,7 @@
 pub mod Access
 pub mod Arithmetic
 pub mod Cells
+pub mod Children
 pub mod Entry
 pub mod Giving
 pub mod Meaning

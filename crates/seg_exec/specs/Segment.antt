@@ -1,5 +1,5 @@
 -- The meaning of a segment: what a task executes from where it stands up to its next task operation or its end.
-use Rattle.std.specs.Prelude.{◌≡◌, ℕ, ◌+◌, ℤ, pos, Bool, true, false, List, [], ◌∷◌, ◌++◌, Option, None, Some, slice_get}
+use Rattle.std.specs.Prelude.{◌≡◌, ◌<◌, ℕ, ◌+◌, ℤ, pos, Bool, true, false, List, [], ◌∷◌, ◌++◌, Option, None, Some, slice_get}
 use Rattle.twe_program.specs.Program.{Program}
 use Rattle.seg_exec.specs.declared.frame.OpenBody.{OpenBody}
 use Rattle.seg_exec.specs.declared.frame.Frame.{Frame}
@@ -10,6 +10,7 @@ use Rattle.seg_exec.specs.declared.operation.Operation.{Operation}
 use Rattle.seg_exec.specs.declared.operation.Operation.TheVariants as operations
 use Rattle.seg_exec.specs.declared.stop.Stop.{Stop}
 use Rattle.seg_exec.specs.declared.stop.Stop.TheVariants as ends
+use Rattle.seg_exec.specs.Children.{Children}
 use Rattle.seg_exec.specs.Access.{Access, Agrees, Follows, MayAll, Ways, after, printed}
 use Rattle.seg_exec.specs.Entry.{effects_at, entry_frame}
 use Rattle.seg_exec.specs.Meaning.{body_of, done_within}
@@ -42,10 +43,10 @@ closing_stop (child ∷ others) value = ends.Joins child
 
 abbrev pub at_end : Frame → ℤ → Store → Stopped
 at_end frame value s = record {
-  frame = record (with_store frame None s) { next = closing frame.out; value = value };
+  frame = record (with_store frame None s) { next = closing frame.out.items; value = value };
   cells = s.cells;
   accesses = s.accesses;
-  stop = closing_stop frame.out value;
+  stop = closing_stop frame.out.items value;
 }
 
 -- the task that a future stands for; each future that a task waits for stands for one
@@ -71,6 +72,23 @@ abbrev pub operation_next : Frame → Operation → Next
 operation_next frame (operations.Make future task args spawned place) = Go
 operation_next frame (operations.Wait future join into) = waiting join (task_of (slice_get frame.futures future)) into
 
+-- a make that spawns has room reserved for one more child, so that the child's number can be added without taking memory
+abbrev pub room_to_spawn : Bool → ℕ → ℕ
+room_to_spawn true room = 1
+room_to_spawn false room = room
+
+abbrev pub operation_room : Operation → ℕ → ℕ
+operation_room (operations.Make future task args spawned place) room = room_to_spawn spawned room
+operation_room (operations.Wait future join into) room = room
+
+abbrev pub operation_out : Operation → Children → Children
+operation_out operation out = record out { room = operation_room operation out.room }
+
+-- after a stop at a make that spawns, the frame has room for one more child
+abbrev pub HasRoomToSpawn : Stop → Frame → Type 0
+HasRoomToSpawn (ends.Make child args effects spawned future place) frame = spawned ≡ true → 0 < frame.out.room
+HasRoomToSpawn _ frame = Unit {0}
+
 -- what a segment leaves, by how the rest of the body ends
 abbrev pub stopped_by : Program → Frame → Flow → Stopped
 stopped_by p frame (goes s) = at_end frame (pos 0) s
@@ -82,7 +100,7 @@ stopped_by p frame (fails kind place s) = record {
   stop = ends.Fault kind place;
 }
 stopped_by p frame (stops operation positions s) = record {
-  frame = record (with_store frame (Some (open_body positions s)) s) { next = operation_next frame operation };
+  frame = record (with_store frame (Some (open_body positions s)) s) { next = operation_next frame operation; out = operation_out operation frame.out };
   cells = s.cells;
   accesses = s.accesses;
   stop = operation_stop p frame operation;

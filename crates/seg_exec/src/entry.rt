@@ -4,6 +4,7 @@ ghost use Rattle.region_paths.specs.declared.elements.Elem.TheVariants.{Index};
 ghost use Rattle.seg_exec.specs.Entry.{effects_at, entry_body, entry_frame, frame_of, future_count_of};
 
 use crate::call::vars_at_start;
+use crate::children::Children;
 use crate::frame::{Frame, Next, OpenBody, Position};
 use effect_sets::{Effects, Summary};
 use region_paths::Elem;
@@ -45,7 +46,7 @@ fn frame_of(alloc: Global, decl: Option<&Decl>, task: u32, args: Ints) -> Result
         body: Some(body),
         fuel: 0,
         futures: List::from(futures),
-        out: List::new(alloc),
+        out: Children::new(alloc),
         next: Next::Go,
         value: 0,
         prints: Ints::new(alloc),

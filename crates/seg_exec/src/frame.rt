@@ -1,5 +1,6 @@
 //! The frame of a task: what it keeps between its segments.
 
+use crate::children::Children;
 use twe_io::{Ints, List};
 
 /// How far a block of a body has been executed.
@@ -64,7 +65,7 @@ pub struct Frame {
     /// For each future of the body, the task that it stands for; none before that task is made.
     pub futures: List<Option<u32>>,
     /// The children that are not yet joined, in the order in which they were spawned.
-    pub out: List<u32>,
+    pub out: Children,
     /// What the task does next.
     pub next: Next,
     /// The value that the body returned.

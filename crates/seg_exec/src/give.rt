@@ -1,38 +1,8 @@
 //! How a frame that waits takes the value of the awaited task.
-ghost use Rattle.std.specs.Prelude.{◌≡◌, ◌==◌};
-ghost use Rattle.std.specs.List.{position};
-ghost use Rattle.seg_exec.specs.Giving.{body_with, given, without};
+ghost use Rattle.std.specs.Prelude.{◌≡◌};
+ghost use Rattle.seg_exec.specs.Giving.{body_with, given};
 
 use crate::frame::{Frame, Next, OpenBody};
-use std::alloc::Global;
-use std::mem;
-use twe_io::List;
-
-/// The place of a child among the children, if it is there.
-fn place_of(children: &[u32], child: u32) -> Option<usize>
-    ensures { result ≡ position (λ x. x == child) children.now }
-{
-    children.iter().position(|x| *x == child)
-}
-
-/// Removes a child from a vector of children, if it is there.
-fn remove_child(items: &mut Vec<u32>, child: u32)
-    ensures { items.new.items ≡ without child items.old.items }
-{
-    let Some(at) = place_of(items.as_slice(), child) else {
-        return;
-    };
-    let _ = items.remove(at);
-}
-
-/// Removes a child from the children, if it is there. It takes no memory.
-fn take_out(alloc: Global, children: &mut List<u32>, child: u32)
-    ensures { children.new ≡ without child children.old }
-{
-    let mut items = mem::replace(children, List::new(alloc)).into_vec();
-    remove_child(&mut items, child);
-    *children = List::from(items);
-}
 
 /// Assigns the value to the variable that takes it, if one does.
 fn put(body: &mut Option<OpenBody>, into: Option<u32>, value: i32)
@@ -54,7 +24,7 @@ impl Frame {
     /// Gives a frame that waits the value of the awaited task. The variable that takes the value is assigned, a child
     /// that was joined is removed from the unjoined children, and the frame can run its next segment. A frame that does
     /// not wait stays as it is. It takes no memory.
-    pub fn give(&mut self, alloc: Global, value: i32)
+    pub fn give(&mut self, value: i32)
         ensures { self.new ≡ given self.old value }
     {
         match self.next {
@@ -66,11 +36,11 @@ impl Frame {
             }
             Next::Join { on, into } => {
                 put(&mut self.body, into, value);
-                take_out(alloc, &mut self.out, on);
+                self.out.remove(on);
                 self.next = Next::Go;
             }
             Next::Closing { on } => {
-                take_out(alloc, &mut self.out, on);
+                self.out.remove(on);
                 self.next = Next::Go;
             }
         }

@@ -8,7 +8,7 @@ ghost use Rattle.seg_exec.specs.declared.stop.Stop.{Stop};
 ghost use Rattle.seg_exec.specs.Access.{Agrees, after};
 ghost use Rattle.seg_exec.specs.Meaning.{done_within};
 ghost use Rattle.seg_exec.specs.Plain.{ListFollows, list_ways};
-ghost use Rattle.seg_exec.specs.Segment.{AgreesWithItself, CarriesOut, IsSegment, MayCarryOut, segment};
+ghost use Rattle.seg_exec.specs.Segment.{AgreesWithItself, CarriesOut, HasRoomToSpawn, IsSegment, MayCarryOut, segment};
 ghost use Rattle.seg_exec.specs.Store.{Store};
 
 /// A statement does the same under each bound on turns and calls that is above the fuel that is left.
@@ -38,4 +38,10 @@ pub fn a_segment_is_determined_by_its_reads()
     ensures own { (p : Program) (frame : Frame) (cells : List ℤ) → AgreesWithItself cells (segment p frame cells) }
     ensures other { (p : Program) (frame : Frame) (cells other : List ℤ) → Agrees other (segment p frame cells).accesses
         → segment p frame other ≡ record (segment p frame cells) { cells = after other (segment p frame cells).accesses } }
+{}
+
+/// After a segment that stops at a make that spawns, the frame has room for one more child.
+pub fn a_spawn_has_room()
+    ensures { (p : Program) (frame : Frame) (cells : List ℤ)
+        → HasRoomToSpawn (segment p frame cells).stop (segment p frame cells).frame }
 {}

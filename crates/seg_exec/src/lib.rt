@@ -9,6 +9,7 @@ mod arithmetic;
 mod begin;
 mod call;
 mod cells;
+mod children;
 mod continuation;
 mod elements;
 mod entry;
@@ -30,10 +31,11 @@ mod unfold;
 mod values;
 
 pub use cells::Cells;
+pub use children::Children;
 pub use entry::{effects_at, entry_frame};
 pub use frame::{Frame, Next, OpenBody, Position};
 pub use laws::{
-    a_segment_is_determined_by_its_reads, accesses_are_of_the_program,
+    a_segment_is_determined_by_its_reads, a_spawn_has_room, accesses_are_of_the_program,
     larger_bounds_change_nothing, over_a_list_it_is_the_segment,
 };
 pub use operation::Operation;

@@ -1,14 +1,15 @@
 //! The execution of one segment of a task.
-ghost use Rattle.std.specs.Prelude.{◌≡◌, IfOk, length, option_map, slice_get};
+ghost use Rattle.std.specs.Prelude.{◌≡◌, IfOk, OnOk, length, option_map, slice_get};
 ghost use Rattle.twe_program.specs.Program.{cell_count};
 ghost use Rattle.seg_exec.specs.Access.{ways_of};
-ghost use Rattle.seg_exec.specs.Segment.{CarriesOut, IsSegment, MayCarryOut, closing_stop, operation_next, operation_stop, task_of};
+ghost use Rattle.seg_exec.specs.Segment.{CarriesOut, HasRoomToSpawn, IsSegment, MayCarryOut, closing_stop, operation_next, operation_out, operation_stop, task_of};
 ghost use Rattle.seg_exec.specs.inner.Finished.{ended_with, finished};
 ghost use Rattle.seg_exec.specs.inner.Unfolded.{config_at};
 ghost use Rattle.seg_exec.specs.inner.Views.{config_of};
 
 use crate::call::statements;
 use crate::cells::Cells;
+use crate::children::Children;
 use crate::entry::{effects_at, entry_frame};
 use crate::frame::{Frame, Next, OpenBody};
 use crate::machine::Machine;
@@ -49,6 +50,21 @@ fn next_of(frame: &Frame, operation: &Operation) -> Next
     }
 }
 
+/// Reserves room for one more child if the operation spawns one.
+fn reserve_for(out: &mut Children, operation: &Operation) -> Result<(), Memory>
+    ensures { OnOk result (out.new ≡ operation_out operation.now out.old) }
+{
+    match operation {
+        Operation::Make { spawned, .. } => {
+            if *spawned {
+                out.reserve_one()?;
+            }
+        }
+        Operation::Wait { .. } => {}
+    }
+    Ok(())
+}
+
 /// The stop at a task operation.
 fn stop_of(alloc: Global, p: &Prog, frame: &Frame, operation: Operation) -> Result<Stop, Memory>
     ensures { IfOk result (λ stop. stop ≡ operation_stop p.now frame.now operation) }
@@ -82,7 +98,7 @@ fn stop_of(alloc: Global, p: &Prog, frame: &Frame, operation: Operation) -> Resu
 /// Ends the body of a task with a value. If it has unjoined children, it waits to join the first; else it is done.
 fn end(alloc: Global, frame: &mut Frame, value: i32) -> Stop
     ensures frame { frame.new ≡ ended_with frame.old value }
-    ensures stop { result ≡ closing_stop frame.old.out value }
+    ensures stop { result ≡ closing_stop frame.old.out.items value }
 {
     frame.body = None;
     frame.value = value;
@@ -125,6 +141,7 @@ fn finish(
                 open_blocks: positions.into_list(),
             });
             frame.next = next_of(frame, &operation);
+            reserve_for(&mut frame.out, &operation)?;
             stop_of(alloc, p, frame, operation)
         }
     }
@@ -153,8 +170,9 @@ fn machine_at<'a>(alloc: Global, p: &'a Prog, frame: &Frame) -> Result<Option<Ma
 /// body has ended already, the task waits to join the next of its unjoined children, or is done if it has none. Printed
 /// numbers go to the frame's list.
 ///
-/// The accesses are exactly those of the segment's meaning, each by the rule of the cells. After `Memory` nothing is
-/// known of the frame and the cells.
+/// The accesses are exactly those of the segment's meaning, each by the rule of the cells. After a stop at a make that
+/// spawns, the frame has room for one more child: whoever makes the task adds its number without taking memory. After
+/// `Memory` nothing is known of the frame and the cells.
 pub fn run_segment<C: Cells>(
     alloc: Global,
     p: &Prog,
@@ -162,7 +180,8 @@ pub fn run_segment<C: Cells>(
     cells: &mut C,
 ) -> Result<Stop, Memory>
     requires { MayCarryOut p.now (ways_of C.known C.may_read C.may_write C.rule) frame.old cells.old }
-    ensures { IfOk result (λ stop. CarriesOut p.now C.rule frame.old cells.old stop frame.new cells.new) }
+    ensures segment { IfOk result (λ stop. CarriesOut p.now C.rule frame.old cells.old stop frame.new cells.new) }
+    ensures room { IfOk result (λ stop. HasRoomToSpawn stop frame.new) }
 {
     match machine_at(alloc, p, frame)? {
         None => {
@@ -177,8 +196,8 @@ pub fn run_segment<C: Cells>(
     }
 }
 
-/// Executes one segment of a task over a plain list with the cells of the program. After `Memory` nothing is known of the
-/// frame and the cells.
+/// Executes one segment of a task over a plain list with the cells of the program. After a stop at a make that spawns,
+/// the frame has room for one more child. After `Memory` nothing is known of the frame and the cells.
 pub fn run_segment_over_list(
     alloc: Global,
     p: &Prog,
@@ -188,6 +207,7 @@ pub fn run_segment_over_list(
     requires { length cells.old ≡ cell_count p.now }
     ensures segment { IfOk result (λ stop. IsSegment p.now frame.old cells.old stop frame.new cells.new) }
     ensures cells { IfOk result (λ stop. length cells.new ≡ length cells.old) }
+    ensures room { IfOk result (λ stop. HasRoomToSpawn stop frame.new) }
 {
     let _main = p.main;
     run_segment(alloc, p, frame, cells)

@@ -21,6 +21,7 @@ use Rattle.seg_exec.specs.declared.frame.Next.{Next}
 use Rattle.seg_exec.specs.declared.frame.Next.TheVariants.{Go, Get, Join, Closing, Ended}
 use Rattle.seg_exec.specs.declared.stop.Stop.{Stop}
 use Rattle.seg_exec.specs.declared.stop.Stop.TheVariants as ends
+use Rattle.seg_exec.specs.Children.{Children}
 use Rattle.seg_exec.specs.Entry.{entry_frame, frame_of}
 use Rattle.seg_exec.specs.Giving.{given, given_by}
 use Rattle.seg_exec.specs.Meaning.{body_of}
@@ -188,7 +189,7 @@ module _ (p : Program) (frame : Frame) (cells : List ℤ) (ready : IsReady p fra
       declared = make_fits.0.0;
     }
 
-    pub ready_made : (task : ℕ) (out : List ℕ) → IsReady p (record after { futures = slice_set after.futures future (Some task); out = out })
+    pub ready_made : (task : ℕ) (out : Children) → IsReady p (record after { futures = slice_set after.futures future (Some task); out = out })
     ready_made task out =
         let below : future < length (futures_at p frame.decl) = slice_get_within (futures_at p frame.decl) future _ make_fits.0.0 in
         let room : future < length frame.futures = omega (arith, below, ready.futures) in

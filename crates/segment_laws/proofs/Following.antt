@@ -63,12 +63,12 @@ module _ (p : Program) (frame : Frame) where
 
   stopped_follows : (path : Path) (f : Flow) → FlowLeads (left_of p frame) no_more then_left f → Follows path (stopped_by p frame f)
   stopped_follows path (goes s) h = record {
-    stop = closing_stop_follows (stopped_by p frame (goes s)).frame path frame.out (pos 0);
-    next = closing_next_follows (stopped_by p frame (goes s)).frame path frame.out;
+    stop = closing_stop_follows (stopped_by p frame (goes s)).frame path frame.out.items (pos 0);
+    next = closing_next_follows (stopped_by p frame (goes s)).frame path frame.out.items;
   }
   stopped_follows path (returns value s) h = record {
-    stop = closing_stop_follows (stopped_by p frame (returns value s)).frame path frame.out value;
-    next = closing_next_follows (stopped_by p frame (returns value s)).frame path frame.out;
+    stop = closing_stop_follows (stopped_by p frame (returns value s)).frame path frame.out.items value;
+    next = closing_next_follows (stopped_by p frame (returns value s)).frame path frame.out.items;
   }
   stopped_follows path (fails kind place s) h = record { stop = tt; next = tt }
   stopped_follows path (stops (operations.Make future task values spawned place) positions s) h =

@@ -14,11 +14,12 @@ use Rattle.seg_exec.specs.Entry.{effects_at, entry_frame}
 use Rattle.seg_exec.specs.Meaning.{body_of, done_within}
 use Rattle.seg_exec.specs.Segment.{closing, closing_stop, flow_of, operation_next, operation_stop, segment, stopped_by, store_at}
 use Rattle.seg_exec.specs.Store.{Flow, goes, returns, fails, stops}
+use Rattle.seg_exec.proofs.Rooms.{flow_has_room}
 use Rattle.segment_laws.specs.Keeps.{NextAfter, SegmentKeeps, StopBefore}
 use Rattle.segment_laws.proofs.Keeping.{FlowKept, resumed_kept, within_kept}
 
 -- at the end of the body
-end_next : (out : List ℕ) (value : ℤ) (after : Frame) → after.next ≡ closing out → after.body ≡ None → after.out ≡ out → after.value ≡ value → NextAfter (closing_stop out value) after
+end_next : (out : List ℕ) (value : ℤ) (after : Frame) → after.next ≡ closing out → after.body ≡ None → after.out.items ≡ out → after.value ≡ value → NextAfter (closing_stop out value) after
 end_next [] value after n c o v = (n, c, o, v)
 end_next (child ∷ others) value after n c o v = inr (record { next = n; body = c; others = others; out = o })
 
@@ -60,32 +61,35 @@ module _ (p : Program) (frame : Frame) (cells : List ℤ) where
     decl = refl;
     futures = refl;
     out = refl;
+    room = flow_has_room p frame (goes s);
     cells = h.0;
     fuel = h.1;
-    made = λ child args effects spawned future place e. absurd (no_make frame.out (pos 0) child args effects spawned future place e);
-    got = λ on into e. absurd (no_get frame.out on into e);
-    joined = λ on into e. absurd (no_join frame.out on into e);
-    next = end_next frame.out (pos 0) (stopped_by p frame (goes s)).frame refl refl refl refl;
-    stop = end_stop frame.out (pos 0);
+    made = λ child args effects spawned future place e. absurd (no_make frame.out.items (pos 0) child args effects spawned future place e);
+    got = λ on into e. absurd (no_get frame.out.items on into e);
+    joined = λ on into e. absurd (no_join frame.out.items on into e);
+    next = end_next frame.out.items (pos 0) (stopped_by p frame (goes s)).frame refl refl refl refl;
+    stop = end_stop frame.out.items (pos 0);
   }
   stopped_keeps (returns v s) h = record {
     task = refl;
     decl = refl;
     futures = refl;
     out = refl;
+    room = flow_has_room p frame (returns v s);
     cells = h.0;
     fuel = h.1;
-    made = λ child args effects spawned future place e. absurd (no_make frame.out v child args effects spawned future place e);
-    got = λ on into e. absurd (no_get frame.out on into e);
-    joined = λ on into e. absurd (no_join frame.out on into e);
-    next = end_next frame.out v (stopped_by p frame (returns v s)).frame refl refl refl refl;
-    stop = end_stop frame.out v;
+    made = λ child args effects spawned future place e. absurd (no_make frame.out.items v child args effects spawned future place e);
+    got = λ on into e. absurd (no_get frame.out.items on into e);
+    joined = λ on into e. absurd (no_join frame.out.items on into e);
+    next = end_next frame.out.items v (stopped_by p frame (returns v s)).frame refl refl refl refl;
+    stop = end_stop frame.out.items v;
   }
   stopped_keeps (fails kind place s) h = record {
     task = refl;
     decl = refl;
     futures = refl;
     out = refl;
+    room = flow_has_room p frame (fails kind place s);
     cells = h.0;
     fuel = h.1;
     made = λ child args effects spawned future at e. absurd (cc);
@@ -99,6 +103,7 @@ module _ (p : Program) (frame : Frame) (cells : List ℤ) where
     decl = refl;
     futures = refl;
     out = refl;
+    room = flow_has_room p frame (stops operation positions s);
     cells = h.0;
     fuel = omega (arith, h.1);
     made = λ child args effects spawned future place e. h.1;

@@ -8,6 +8,7 @@ ghost use Rattle.cover_flow.specs.ControlPath.{Path};
 ghost use Rattle.seg_exec.specs.declared.frame.Frame.{Frame};
 ghost use Rattle.seg_exec.specs.declared.frame.Next.TheVariants.{Ended, Get, Join};
 ghost use Rattle.seg_exec.specs.declared.stop.Stop.TheVariants.{Make, Waits};
+ghost use Rattle.seg_exec.specs.Children.{Children};
 ghost use Rattle.seg_exec.specs.Entry.{entry_frame};
 ghost use Rattle.seg_exec.specs.Giving.{given};
 ghost use Rattle.seg_exec.specs.Meaning.{body_of};
@@ -18,8 +19,8 @@ ghost use Rattle.segment_laws.specs.Operations.{ComesToMake, ComesToWait};
 ghost use Rattle.segment_laws.specs.Ready.{AwaitsMade, IsReady, MakesDeclared};
 
 /// A segment keeps the number, the declaration, the futures and the unjoined children of its frame, and the number of
-/// cells. It never adds fuel, and takes at least a unit if it stops at a task operation. What the task does next follows
-/// from how the segment stopped, and conversely.
+/// cells. It has room for one more child if it stops at a make that spawns. It never adds fuel, and takes at least a unit
+/// if it stops at a task operation. What the task does next follows from how the segment stopped, and conversely.
 pub fn segments_keep()
     ensures { (p : Program) (frame : Frame) (cells : List ℤ) → SegmentKeeps frame cells (segment p frame cells) }
 {}
@@ -73,6 +74,6 @@ pub fn waits_are_of_made_tasks()
     ensures made { (p : Program) (frame : Frame) (cells : List ℤ) → IsReady p frame
         → (child : Frame) (args : List ℤ) (effects : Summary) (spawned : Bool) (future : ℕ) (place : Place)
         → (segment p frame cells).stop ≡ Make child args effects spawned future place
-        → (task : ℕ) (out : List ℕ)
+        → (task : ℕ) (out : Children)
         → IsReady p (record (segment p frame cells).frame { futures = slice_set (segment p frame cells).frame.futures future (Some task); out = out }) }
 {}

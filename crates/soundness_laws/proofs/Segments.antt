@@ -89,8 +89,8 @@ module _ (p : Program) (args : List ℤ) (es : List Effect) where
   operation_keeps decl is_task frame (operations.Wait future join into) h = waiting_keeps join (task_of (slice_get frame.futures future))
 
   left_by : (decl : Decl) → Contains p.tasks decl → (frame : Frame) (f : Flow) → FlowKeeps p decl es args f → Left frame.decl (stopped_by p frame f)
-  left_by decl is_task frame (goes s) h = record { each = h.each; begins = tt; next = closing_from frame.out; same = refl; stop = closing_keeps frame.out _ }
-  left_by decl is_task frame (returns value s) h = record { each = h.each; begins = tt; next = closing_from frame.out; same = refl; stop = closing_keeps frame.out value }
+  left_by decl is_task frame (goes s) h = record { each = h.each; begins = tt; next = closing_from frame.out.items; same = refl; stop = closing_keeps frame.out.items _ }
+  left_by decl is_task frame (returns value s) h = record { each = h.each; begins = tt; next = closing_from frame.out.items; same = refl; stop = closing_keeps frame.out.items value }
   left_by decl is_task frame (fails kind place s) h = record { each = h; begins = tt; next = tt; same = refl; stop = tt }
   left_by decl is_task frame (stops operation positions s) h = record {
     each = h.0.each;
@@ -107,7 +107,7 @@ module _ (p : Program) (wf : IsWellFormed p) (effects : KeepsEffects p) where
   body_left_of args frame None found takes body begins cells = absurd takes
   body_left_of args frame (Some decl) found takes None begins cells =
       let es = (effects_of (Some decl) args).effects in
-      record { each = tt; begins = tt; next = closing_from p args es frame.out; same = refl; stop = closing_keeps p args es frame.out frame.value }
+      record { each = tt; begins = tt; next = closing_from p args es frame.out.items; same = refl; stop = closing_keeps p args es frame.out.items frame.value }
   body_left_of args frame (Some decl) found takes (Some body) begins cells =
       let sound : Sound p decl = task_sound p wf effects frame.decl decl found in
       let is_task = in-contains p.tasks decl (got-in p.tasks frame.decl decl found) in

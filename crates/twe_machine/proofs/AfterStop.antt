@@ -71,7 +71,7 @@ module _ (p : Program) (lim : Bounds) (rows : List TaskRow) (t : ℕ) where
       joined = λ is. absurd (cc (was.joined is, enabled));
     }
 
-    pub done_stands : (value : ℤ) → frame.next ≡ Ended → frame.out ≡ [] → RowStands p lim rows t (done_row row frame value)
+    pub done_stands : (value : ℤ) → frame.next ≡ Ended → frame.out.items ≡ [] → RowStands p lim rows t (done_row row frame value)
     done_stands value is none = record {
       frame = emptied_stands frame stands;
       ready = ready_emptied;

@@ -111,13 +111,13 @@ module _ (p : Program) (lim : Bounds) (rows : List TaskRow) (t : ℕ) (frame : F
         ]
       ]
 
-  pub maker_stands : ¬ IsIn (length rows) frame.out → FrameStands p lim (rows ++ new ∷ []) t (making_frame future spawned (length rows) frame)
+  pub maker_stands : ¬ IsIn (length rows) frame.out.items → FrameStands p lim (rows ++ new ∷ []) t (making_frame future spawned (length rows) frame)
   maker_stands fresh = record {
     number = stands.number;
     fuel = stands.fuel;
     futures = stands_for;
     apart = futures_apart;
-    once = out_with_once spawned (length rows) frame.out stands.once fresh;
+    once = out_with_once spawned (length rows) frame.out.items stands.once fresh;
     getting = λ on into is. absurd (cc (go, is));
     joining = λ on into is. absurd (cc (go, is));
     closing = λ on is. absurd (cc (go, is));

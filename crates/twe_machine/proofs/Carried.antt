@@ -40,11 +40,11 @@ given_keeps (Join on into) frame value = record { task = refl; decl = refl; fuel
 given_keeps (Closing on) frame value = record { task = refl; decl = refl; fuel = refl; futures = refl; prints = refl }
 given_keeps Ended frame value = record { task = refl; decl = refl; fuel = refl; futures = refl; prints = refl }
 
-given_once : (next : Next) (frame : Frame) (value : ℤ) → EachOnce frame.out → EachOnce (given_by next frame value).out
+given_once : (next : Next) (frame : Frame) (value : ℤ) → EachOnce frame.out.items → EachOnce (given_by next frame value).out.items
 given_once Go frame value once = once
 given_once (Get on into) frame value once = once
-given_once (Join on into) frame value once = without_once frame.out on once
-given_once (Closing on) frame value once = without_once frame.out on once
+given_once (Join on into) frame value once = without_once frame.out.items on once
+given_once (Closing on) frame value once = without_once frame.out.items on once
 given_once Ended frame value once = once
 
 -- What comes next after a segment.
@@ -72,7 +72,7 @@ declared_as None declared spawned is h = absurd h
 declared_as (Some other) declared spawned is h = let same : other ≡ declared = cc in ap (λ (d : Declared). d.spawned) (sym same) ∙ h
 
 module _ (p : Program) (lim : Bounds) (rows : List TaskRow) (all : AllStand p lim rows) (t : ℕ) (row : TaskRow) (stands : RowStands p lim rows t row)
-    (children : ChildrenAre rows t row.frame.out) (value : ℤ) (cells : List ℤ) where
+    (children : ChildrenAre rows t row.frame.out.items) (value : ℤ) (cells : List ℤ) where
   abbrev before : Frame
   before = given row.frame value
 
@@ -110,7 +110,7 @@ module _ (p : Program) (lim : Bounds) (rows : List TaskRow) (all : AllStand p li
       }
 
   -- an unjoined child was made after the task
-  child_made : (on : ℕ) → IsIn on row.frame.out → IsMadeAfter rows t (Some t) on
+  child_made : (on : ℕ) → IsIn on row.frame.out.items → IsMadeAfter rows t (Some t) on
   child_made on h =
       let child = (children on).0 h in record {
         row = child.row;
@@ -122,7 +122,7 @@ module _ (p : Program) (lim : Bounds) (rows : List TaskRow) (all : AllStand p li
 
   closing_child : (on : ℕ) → IsClosing after.frame on → IsMadeAfter rows t (Some t) on
   closing_child on closing =
-      let there : IsIn on after.frame.out = subst (IsIn on) (sym closing.out) (inl refl) in
+      let there : IsIn on after.frame.out.items = subst (IsIn on) (sym closing.out) (inl refl) in
       child_made on (given_out row.frame.next row.frame value on (subst (IsIn on) keeps.out there))
 
   is_closing : (on : ℕ) → after.frame.next ≡ Closing on → IsClosing after.frame on

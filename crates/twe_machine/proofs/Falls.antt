@@ -128,7 +128,7 @@ admitted_falls lim st t made =
 
 module _ (p : Program) (lim : Bounds) (st : State) (t : ℕ) (keeps : (frame : Frame) (cells : List ℤ) → SegmentKeeps frame cells (segment p frame cells)) (counts : CountsMade lim st) where
   -- what the segment of a task leaves of its work
-  spent : (row : TaskRow) → row.status ≡ Enabled → row.out ≡ row.frame.out → ClosesFirst row.frame
+  spent : (row : TaskRow) → row.status ≡ Enabled → row.out ≡ row.frame.out.items → ClosesFirst row.frame
       → let after = segment p (ready_frame st.tasks row.frame) st.cells in IsSpent row after.frame after.stop
   spent row enabled out closes =
       let before = ready_frame st.tasks row.frame in
@@ -136,8 +136,8 @@ module _ (p : Program) (lim : Bounds) (st : State) (t : ℕ) (keeps : (frame : F
       let k : SegmentKeeps before st.cells after = keeps before st.cells in
       let gave : giving.Taken row.frame before = giving.taken row.frame _ closes in
       let fuel : before.fuel ≡ row.frame.fuel = gave.fuel in
-      let same : length after.frame.out ≡ length before.out = ap length k.out in
-      let had : children_left row.frame.next (length row.frame.out) ≡ children_left row.frame.next (length row.out) = ap (λ (l : List ℕ). children_left row.frame.next (length l)) (sym out) in
+      let same : length after.frame.out.items ≡ length before.out.items = ap length k.out in
+      let had : children_left row.frame.next (length row.frame.out.items) ≡ children_left row.frame.next (length row.out) = ap (λ (l : List ℕ). children_left row.frame.next (length l)) (sym out) in
       record {
         left = record { enabled = enabled; fuel = omega (arith, k.fuel, fuel); out = omega (arith, gave.out, same, had) };
         made = λ child args effects spawned future place e. omega (arith, k.made child args effects spawned future place e, fuel);
@@ -147,7 +147,7 @@ module _ (p : Program) (lim : Bounds) (st : State) (t : ℕ) (keeps : (frame : F
       }
 
   -- a run of one segment
-  ran_falls : (row : TaskRow) → slice_get st.tasks t ≡ Some row → row.status ≡ Enabled → row.out ≡ row.frame.out → ClosesFirst row.frame
+  ran_falls : (row : TaskRow) → slice_get st.tasks t ≡ Some row → row.status ≡ Enabled → row.out ≡ row.frame.out.items → ClosesFirst row.frame
       → weight lim (ran p lim st t (slice_get st.tasks t)).0 < weight lim st
   ran_falls row found enabled out closes =
       let after = segment p (ready_frame st.tasks row.frame) st.cells in
@@ -155,7 +155,7 @@ module _ (p : Program) (lim : Bounds) (st : State) (t : ℕ) (keeps : (frame : F
       let falls = stopped_falls lim later t row found (joined_child row.out (link_of st.links t).waits) after.frame after.stop (spent row enabled out closes) counts in
       rw found falls
 
-  pub falls : (kind : Kind) → MayTake st kind t → ((row : TaskRow) → slice_get st.tasks t ≡ Some row → (row.out ≡ row.frame.out) × ClosesFirst row.frame)
+  pub falls : (kind : Kind) → MayTake st kind t → ((row : TaskRow) → slice_get st.tasks t ≡ Some row → (row.out ≡ row.frame.out.items) × ClosesFirst row.frame)
       → weight lim (result_by_kind p lim st kind t).0 < weight lim st
   falls Admit may rows = admitted_falls lim st t may.0
   falls Run may rows = let row = may.0 in let facts = rows row.0 row.1 in ran_falls row.0 row.1 row.2 facts.0 facts.1

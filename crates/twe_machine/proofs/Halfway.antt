@@ -12,6 +12,7 @@ use Rattle.seg_exec.specs.declared.frame.Frame.{Frame}
 use Rattle.seg_exec.specs.declared.frame.Next.TheVariants.{Ended}
 use Rattle.seg_exec.specs.declared.stop.Stop.{Stop}
 use Rattle.seg_exec.specs.declared.stop.Stop.TheVariants as stops
+use Rattle.seg_exec.specs.Children.{Children}
 use Rattle.seg_exec.specs.Giving.{given, given_by}
 use Rattle.seg_exec.specs.Segment.{Stopped, segment}
 use Rattle.segment_laws.specs.Keeps.{NextAfter}
@@ -43,7 +44,7 @@ pub record Carries (p : Program) (row : TaskRow) (frame : Frame) (stop : Stop) :
       → stop ≡ stops.Make child args effects spawned future place → MakesDeclared p frame child args effects spawned future
   pub made : (child : Frame) (args : List ℤ) (effects : Summary) (spawned : Bool) (future : ℕ) (place : Place)
       → stop ≡ stops.Make child args effects spawned future place
-      → (task : ℕ) (out : List ℕ) → IsReady p (record frame { futures = slice_set frame.futures future (Some task); out = out })
+      → (task : ℕ) (out : Children) → IsReady p (record frame { futures = slice_set frame.futures future (Some task); out = out })
 
 pub carries : (p : Program) (row : TaskRow) → IsReady p row.frame → (value : ℤ) (cells : List ℤ)
     → let after = segment p (given row.frame value) cells in Carries p row after.frame after.stop
@@ -70,7 +71,7 @@ carries p row ready value cells =
 
 -- the state once the join was taken
 pub record Halfway (p : Program) (lim : Bounds) (st : State) (t : ℕ) (row : TaskRow) (frame : Frame) : Type 0 where
-  pub almost : Almost p lim st.tasks t row frame.out
+  pub almost : Almost p lim st.tasks t row frame.out.items
   pub frame_stands : FrameStands p lim st.tasks t frame
   pub counts : Counts lim st.tasks st.asked st.first_fault
   pub number : st.asked + 1 < lim.tasks → st.asked + 1 ≡ length st.tasks
@@ -97,13 +98,13 @@ module _ (p : Program) (lim : Bounds) (st : State) (stands : Stands p lim st) (t
   own_stands : RowStands p lim st.tasks t row
   own_stands = stands.rows t row found
 
-  own_children : ChildrenAre st.tasks t row.frame.out
+  own_children : ChildrenAre st.tasks t row.frame.out.items
   own_children = subst (ChildrenAre st.tasks t) own_stands.out (children_of p lim st stands t row found)
 
   pub left_stands : FrameStands p lim st.tasks t after.frame
   left_stands = segment_stands p lim st.tasks stands.rows t row own_stands own_children value st.cells
 
-  halfway_by : (child : Option ℕ) → AfterJoin p lim st.tasks (rows_joined st.tasks child) t row after.frame.out → Halfway p lim (state_after_join (record st { cells = after.cells }) child) t row after.frame
+  halfway_by : (child : Option ℕ) → AfterJoin p lim st.tasks (rows_joined st.tasks child) t row after.frame.out.items → Halfway p lim (state_after_join (record st { cells = after.cells }) child) t row after.frame
   halfway_by None join = record {
     almost = record { stand = join.stand; own = join.own; children = join.children; own_children = join.own_children };
     frame_stands = left_stands;
@@ -135,7 +136,7 @@ module _ (p : Program) (lim : Bounds) (st : State) (stands : Stands p lim st) (t
   pub halfway : ((u : ℕ) → ¬ WaitsFor st.links t u) → Halfway p lim (state_after_join (record st { cells = after.cells }) (joined_child row.out (link_of st.links t).waits)) t row after.frame
   halfway free =
       let join = after_join p lim st.tasks stands.rows (children_of p lim st stands) t row found (awaited_done free) value in
-      let same_out : after.frame.out ≡ (given_by row.frame.next row.frame value).out = (segment_keeps p (ready_frame st.tasks row.frame) st.cells).out in
+      let same_out : after.frame.out.items ≡ (given_by row.frame.next row.frame value).out.items = (segment_keeps p (ready_frame st.tasks row.frame) st.cells).out in
       subst (λ (waits : Option ℕ). Halfway p lim (state_after_join (record st { cells = after.cells }) (joined_child row.out waits)) t row after.frame) (sym waits_is)
       (halfway_by (joined_child row.out (awaited row.frame.next))
       (subst (AfterJoin p lim st.tasks (rows_joined st.tasks (joined_child row.out (awaited row.frame.next))) t row) (sym same_out) join))

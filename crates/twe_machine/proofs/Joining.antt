@@ -47,9 +47,9 @@ child_by : (out : List ℕ) (on : ℕ) (b : Bool) → list_any (λ k. nat_eq k o
 child_by out on true is = inr (record { on = on; waited = refl; some = refl; there = any_in out on is; rest = refl })
 child_by out on false is = inl (record { none = refl; same = without_none out on (none_in out on is) })
 
-module _ (p : Program) (lim : Bounds) (rows : List TaskRow) (t : ℕ) (frame : Frame) (stands : FrameStands p lim rows t frame) (children : ChildrenAre rows t frame.out) where
+module _ (p : Program) (lim : Bounds) (rows : List TaskRow) (t : ℕ) (frame : Frame) (stands : FrameStands p lim rows t frame) (children : ChildrenAre rows t frame.out.items) where
   -- no child is waited for by a `get`
-  not_got : (on : ℕ) (into : Option ℕ) → frame.next ≡ Get on into → ¬ IsIn on frame.out
+  not_got : (on : ℕ) (into : Option ℕ) → frame.next ≡ Get on into → ¬ IsIn on frame.out.items
   not_got on into is h =
       let made = stands.getting on into is in
       let child = (children on).0 h in
@@ -58,11 +58,11 @@ module _ (p : Program) (lim : Bounds) (rows : List TaskRow) (t : ℕ) (frame : F
       cc (made.parent_is, parent)
 
   pub taking : (next : Next) → frame.next ≡ next → (value : ℤ)
-      → NoJoin frame.out (joined_child frame.out (awaited next)) (given_by next frame value).out ⊎ JoinOf (awaited next) frame.out (joined_child frame.out (awaited next)) (given_by next frame value).out
+      → NoJoin frame.out.items (joined_child frame.out.items (awaited next)) (given_by next frame value).out.items ⊎ JoinOf (awaited next) frame.out.items (joined_child frame.out.items (awaited next)) (given_by next frame value).out.items
   taking Go is value = inl (record { none = refl; same = refl })
-  taking (Get on into) is value = inl (record { none = no_child_by frame.out on (list_any (λ k. nat_eq k on) frame.out) refl (not_got on into is); same = refl })
-  taking (Join on into) is value = child_by frame.out on (list_any (λ k. nat_eq k on) frame.out) refl
-  taking (Closing on) is value = child_by frame.out on (list_any (λ k. nat_eq k on) frame.out) refl
+  taking (Get on into) is value = inl (record { none = no_child_by frame.out.items on (list_any (λ k. nat_eq k on) frame.out.items) refl (not_got on into is); same = refl })
+  taking (Join on into) is value = child_by frame.out.items on (list_any (λ k. nat_eq k on) frame.out.items) refl
+  taking (Closing on) is value = child_by frame.out.items on (list_any (λ k. nat_eq k on) frame.out.items) refl
   taking Ended is value = inl (record { none = refl; same = refl })
 
 -- The rows after it.
@@ -195,18 +195,18 @@ module _ (p : Program) (lim : Bounds) (rows : List TaskRow) (all : AllStand p li
       subst (λ (after : List TaskRow). AfterJoin p lim rows after t row out) (sym is)
       (child_joined join.on mine.row mine.there mine.parent (done join.on mine.row join.waited mine.there) ((all join.on mine.row mine.there).parent t mine.parent) once out join.rest)
 
-  pub after_join : (value : ℤ) → let child = joined_child row.out (awaited row.frame.next) in let out = (given_by row.frame.next row.frame value).out in
+  pub after_join : (value : ℤ) → let child = joined_child row.out (awaited row.frame.next) in let out = (given_by row.frame.next row.frame value).out.items in
       AfterJoin p lim rows (rows_joined rows child) t row out
   after_join value =
       let stands : RowStands p lim rows t row = all t row found in
-      let children : ChildrenAre rows t row.frame.out = subst (ChildrenAre rows t) stands.out (each t row found) in
+      let children : ChildrenAre rows t row.frame.out.items = subst (ChildrenAre rows t) stands.out (each t row found) in
       let once : EachOnce row.out = subst EachOnce (sym stands.out) stands.frame.once in
-      let out = (given_by row.frame.next row.frame value).out in
+      let out = (given_by row.frame.next row.frame value).out.items in
       let child = λ (ms : List ℕ). joined_child ms (awaited row.frame.next) in
       subst (λ (ms : List ℕ). AfterJoin p lim rows (rows_joined rows (child ms)) t row out) (sym stands.out) (
       elim (taking p lim rows t row.frame stands.frame children row.frame.next refl value) [
-        | inl same ↦ none_joined (child row.frame.out) out (record { none = same.none; same = same.same ∙ sym stands.out })
-        | inr join ↦ some_joined (child row.frame.out) out once (record {
+        | inl same ↦ none_joined (child row.frame.out.items) out (record { none = same.none; same = same.same ∙ sym stands.out })
+        | inr join ↦ some_joined (child row.frame.out.items) out once (record {
           on = join.on;
           waited = join.waited;
           some = join.some;

@@ -14,7 +14,7 @@ use Rattle.twe_machine.proofs.Places.{set_other, set_cases, map_set, map_index}
 
 -- the unjoined children of a row are those of its frame, and were made after its task
 pub record OutUp (t : ℕ) (row : TaskRow) : Type 0 where
-  pub same : row.out ≡ row.frame.out
+  pub same : row.out ≡ row.frame.out.items
   pub up : (c : ℕ) → IsIn c row.out → t < c
 
 pub record Linked (lim : Bounds) (st : State) : Type 0 where

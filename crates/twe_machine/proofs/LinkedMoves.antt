@@ -91,12 +91,12 @@ out_with_up t number true out above up c h =
 
 -- a task that is made has not begun
 abbrev pub StopFresh : Stop → Type 0
-StopFresh (stops.Make child args effects spawned future place) = (child.next ≡ Go) × (child.out ≡ [])
+StopFresh (stops.Make child args effects spawned future place) = (child.next ≡ Go) × (child.out.items ≡ [])
 StopFresh _ = Unit {0}
 
-module _ (lim : Bounds) (t : ℕ) (row : TaskRow) (frame : Frame) (enabled : row.status ≡ Enabled) (ups : (c : ℕ) → IsIn c frame.out → t < c) where
+module _ (lim : Bounds) (t : ℕ) (row : TaskRow) (frame : Frame) (enabled : row.status ≡ Enabled) (ups : (c : ℕ) → IsIn c frame.out.items → t < c) where
   made_linked : (st : State) (future : ℕ) (spawned : Bool) (child : Frame) (args : List ℤ) (effects : Summary) → slice_get st.tasks t ≡ Some row
-      → child.next ≡ Go → child.out ≡ [] → st.asked + 1 < lim.tasks → Linked lim st → Linked lim (state_after_make lim st t row frame future spawned child args effects)
+      → child.next ≡ Go → child.out.items ≡ [] → st.asked + 1 < lim.tasks → Linked lim st → Linked lim (state_after_make lim st t row frame future spawned child args effects)
   made_linked st future spawned child args effects found go none few linked =
       let number = st.asked + 1 in
       let parent = parent_of t spawned in
@@ -112,12 +112,12 @@ module _ (lim : Bounds) (t : ℕ) (row : TaskRow) (frame : Frame) (enabled : row
       record {
         links = (λ i. wait i ++ new_link_of lim number parent child args effects go i ∷ []) ∙ sym (map-append link_of_row rows (new ∷ []));
         number = λ more. omega (arith, is, as_many, length-append rows (new ∷ []));
-        outs = put_outs rows new (set_outs st.tasks t going linked.outs (record { same = refl; up = out_with_up t number spawned frame.out above ups }))
+        outs = put_outs rows new (set_outs st.tasks t going linked.outs (record { same = refl; up = out_with_up t number spawned frame.out.items above ups }))
             (record { same = sym none; up = λ c h. absurd h });
       }
 
   stopped_linked_make : (b : Bool) (st : State) (child : Frame) (args : List ℤ) (effects : Summary) (spawned : Bool) (future : ℕ) (place : Place)
-      → nat_lt (st.asked + 1) lim.tasks ≡ b → slice_get st.tasks t ≡ Some row → child.next ≡ Go → child.out ≡ [] → Linked lim st
+      → nat_lt (st.asked + 1) lim.tasks ≡ b → slice_get st.tasks t ≡ Some row → child.next ≡ Go → child.out.items ≡ [] → Linked lim st
       → Linked lim (cond {A = State × End} b (state_after_make lim st t row frame future spawned child args effects, ends.Made (st.asked + 1))
       (state_after_fault (state_after_asking st) t row (stopped_frame frame) TaskLimit place, ends.Fault TaskLimit place)).0
   stopped_linked_make true st child args effects spawned future place is found go none linked =

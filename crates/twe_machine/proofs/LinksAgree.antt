@@ -35,11 +35,11 @@ pub status_of : (st : State) (t : ℕ) (row : TaskRow) (status : TaskStatus) →
 status_of st t row status (other, found, is) here = ap (λ (r : TaskRow). r.status) (got_one (slice_get st.tasks t) here found) ∙ is
 
 -- what is left of the unjoined children once an awaited value was taken were unjoined children before
-pub given_out : (next : Next) (frame : Frame) (value : ℤ) (c : ℕ) → IsIn c (given_by next frame value).out → IsIn c frame.out
+pub given_out : (next : Next) (frame : Frame) (value : ℤ) (c : ℕ) → IsIn c (given_by next frame value).out.items → IsIn c frame.out.items
 given_out Go frame value c h = h
 given_out (Get on into) frame value c h = h
-given_out (Join on into) frame value c h = without_in frame.out on c h
-given_out (Closing on) frame value c h = without_in frame.out on c h
+given_out (Join on into) frame value c h = without_in frame.out.items on c h
+given_out (Closing on) frame value c h = without_in frame.out.items on c h
 given_out Ended frame value c h = h
 
 same_links : (rows : List TaskRow) (t : ℕ) (row new : TaskRow) → slice_get rows t ≡ Some row → link_of_row new ≡ link_of_row row
@@ -54,7 +54,7 @@ module _ (p : Program) (lim : Bounds) where
   segment_fresh : (frame : Frame) (cells : List ℤ) (stop : Stop) → (segment p frame cells).stop ≡ stop → StopFresh stop
   segment_fresh frame cells (stops.Make child args effects spawned future place) is =
       let comes = makes_follow p frame cells [] child args effects spawned future place is in
-      (ap (λ (f : Frame). f.next) comes.child_is, ap (λ (f : Frame). f.out) comes.child_is)
+      (ap (λ (f : Frame). f.next) comes.child_is, ap (λ (f : Frame). f.out.items) comes.child_is)
   segment_fresh frame cells (stops.Waits on) is = tt
   segment_fresh frame cells (stops.Joins on) is = tt
   segment_fresh frame cells (stops.Done value) is = tt
@@ -68,7 +68,7 @@ module _ (p : Program) (lim : Bounds) where
       let st0 : State = record st { cells = after.cells } in
       let child = joined_child row.out (link_of st0.links t).waits in
       let up : OutUp t row = linked.outs t row e in
-      let ups : (c : ℕ) → IsIn c after.frame.out → t < c =
+      let ups : (c : ℕ) → IsIn c after.frame.out.items → t < c =
       λ c h. up.up c (subst (IsIn c) (sym up.same)
       (given_out row.frame.next row.frame (awaited_value st.tasks (awaited row.frame.next)) c (subst (IsIn c) (segment_keeps p before st.cells).out h))) in
       let apart : (c : ℕ) → child ≡ Some c → t ≢ c = λ c is same. let above : t < c = up.up c (child_in row.out (link_of st0.links t).waits c is) in omega arith in

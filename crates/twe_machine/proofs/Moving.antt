@@ -17,9 +17,10 @@ use Rattle.seg_exec.specs.Entry.{effects_at, entry_frame}
 use Rattle.segment_laws.specs.Ready.{IsReady, MakesDeclared, futures_at}
 use Rattle.twe_machine.specs.declared.state.FirstFault.{FirstFault}
 use Rattle.twe_machine.specs.declared.state.State.{State}
+use Rattle.seg_exec.specs.Children.{Children}
 use Rattle.twe_machine.specs.declared.state.TaskRow.{TaskRow}
 use Rattle.twe_machine.specs.declared.state.TaskStatus.TheVariants.{Enabled, Faulted}
-use Rattle.twe_machine.specs.Moves.{new_row, parent_of, status_at_start, out_with, making_frame, going_row, done_row, state_after_make, state_after_storing, state_after_finish, first_fault_of}
+use Rattle.twe_machine.specs.Moves.{new_row, parent_of, status_at_start, children_with, out_with, making_frame, going_row, done_row, state_after_make, state_after_storing, state_after_finish, first_fault_of}
 use Rattle.twe_machine.proofs.AfterStop.{going_stands}
 use Rattle.twe_machine.proofs.Almost.{Almost, AllSettled, set_settled, put_almost}
 use Rattle.twe_machine.proofs.Beginning.{new_stands, maker_stands}
@@ -57,7 +58,7 @@ module _ (p : Program) (lim : Bounds) (well : IsWellFormed p) (t : ℕ) (row : T
   no_fault_yet is = cc (enabled)
 
   -- The task has made one of this declaration with these arguments.
-  module _ (rows : List TaskRow) (almost : Almost p lim rows t row frame.out) (stands : FrameStands p lim rows t frame) (go : frame.next ≡ Go)
+  module _ (rows : List TaskRow) (almost : Almost p lim rows t row frame.out.items) (stands : FrameStands p lim rows t frame) (go : frame.next ≡ Go)
       (decl : frame.decl ≡ row.frame.decl) (future : ℕ) (spawned : Bool) (task : ℕ) (args : List ℤ) (takes : TakesArguments (slice_get p.tasks task) (length args))
       (declared : slice_get (futures_at p frame.decl) future ≡ Some (record { future = future; task = task; spawned = spawned }))
       (ready : IsReady p (making_frame future spawned (length rows) frame)) where
@@ -73,8 +74,8 @@ module _ (p : Program) (lim : Bounds) (well : IsWellFormed p) (t : ℕ) (row : T
     longer : length rows < length (rows ++ child_row ∷ [])
     longer = omega (arith, length-append rows (child_row ∷ []))
 
-    put : Almost p lim (rows ++ child_row ∷ []) t row (out_with spawned (length rows) frame.out)
-    put = put_almost p lim rows t row frame.out almost child_row spawned refl refl refl
+    put : Almost p lim (rows ++ child_row ∷ []) t row (out_with spawned (length rows) frame.out.items)
+    put = put_almost p lim rows t row frame.out.items almost child_row spawned refl refl refl
         (new_stands p lim (rows ++ child_row ∷ []) (length rows) well task args (parent_of t spawned) takes (parent_below t (length rows) spawned below))
 
     stands_for : StandsFor p (rows ++ child_row ∷ []) t frame.decl future (length rows)
@@ -85,7 +86,7 @@ module _ (p : Program) (lim : Bounds) (well : IsWellFormed p) (t : ℕ) (row : T
       task = refl;
     }
 
-    fresh : ¬ IsIn (length rows) frame.out
+    fresh : ¬ IsIn (length rows) frame.out.items
     fresh h =
         let child = (almost.own_children (length rows)).0 h in
         let less : length rows < length rows = slice_get_within rows (length rows) child.row child.there in
@@ -98,7 +99,7 @@ module _ (p : Program) (lim : Bounds) (well : IsWellFormed p) (t : ℕ) (row : T
     made_settled : AllSettled p lim (slice_set rows t going ++ child_row ∷ [])
     made_settled =
         subst (AllSettled p lim) (set_put rows child_row going t below)
-        (set_settled p lim (rows ++ child_row ∷ []) t row going (out_with spawned (length rows) frame.out) put (same_task row going refl refl refl refl) refl refl going_on)
+        (set_settled p lim (rows ++ child_row ∷ []) t row going (out_with spawned (length rows) frame.out.items) put (same_task row going refl refl refl refl) refl refl going_on)
 
     made_counts : (asked : ℕ) (first : Option FirstFault) → Counts lim rows asked first → asked + 1 ≡ length rows → asked + 1 < lim.tasks
         → Counts lim (slice_set rows t going ++ child_row ∷ []) (asked + 1) first
@@ -110,39 +111,39 @@ module _ (p : Program) (lim : Bounds) (well : IsWellFormed p) (t : ℕ) (row : T
   module _ (st : State) (half : Halfway p lim st t row frame) where
     pub going_kept : RowStands p lim st.tasks t (going_row row frame) → Kept p lim (state_after_storing st t frame (going_row row frame))
     going_kept stands = record {
-      settled = set_settled p lim st.tasks t row (going_row row frame) frame.out half.almost (same_task row (going_row row frame) refl refl refl refl) refl refl stands;
+      settled = set_settled p lim st.tasks t row (going_row row frame) frame.out.items half.almost (same_task row (going_row row frame) refl refl refl refl) refl refl stands;
       counts = set_counts lim st.tasks st.asked st.first_fault half.counts t row (going_row row frame) half.almost.own no_fault_yet no_fault_yet;
       cells = half.cells;
     }
 
     pub done_kept : (value : ℤ) → RowStands p lim st.tasks t (done_row row frame value) → Kept p lim (state_after_finish st t row frame value)
     done_kept value stands = record {
-      settled = set_settled p lim st.tasks t row (done_row row frame value) frame.out half.almost (same_task row (done_row row frame value) refl refl refl refl) refl refl stands;
+      settled = set_settled p lim st.tasks t row (done_row row frame value) frame.out.items half.almost (same_task row (done_row row frame value) refl refl refl refl) refl refl stands;
       counts = set_counts lim st.tasks st.asked st.first_fault half.counts t row (done_row row frame value) half.almost.own no_fault_yet (λ is. cc (is));
       cells = half.cells;
     }
 
     -- a fault, before which the task may have asked for one more task; the frame is the one that the segment left, or
     -- what is left of it
-    pub fault_kept : (new : TaskRow) → IsSameTask row new → new.joined ≡ row.joined → new.out ≡ frame.out → new.status ≡ Faulted → RowStands p lim st.tasks t new
+    pub fault_kept : (new : TaskRow) → IsSameTask row new → new.joined ≡ row.joined → new.out ≡ frame.out.items → new.status ≡ Faulted → RowStands p lim st.tasks t new
         → (asked : ℕ) → asked ≤ st.asked + 1 → (kind : FaultKind) (place : Place) (links : List Link) (prints : List ℤ)
         → Kept p lim (record { cells = st.cells; tasks = slice_set st.tasks t new; links = links; prints = prints; asked = asked; first_fault = first_fault_of st.first_fault t kind place })
     fault_kept new same joined out is stands asked more kind place links prints = record {
-      settled = set_settled p lim st.tasks t row new frame.out half.almost same joined out stands;
+      settled = set_settled p lim st.tasks t row new frame.out.items half.almost same joined out stands;
       counts = fault_counts lim st.tasks st.asked st.first_fault half.counts t row new half.almost.own no_fault_yet is asked more kind place;
       cells = half.cells;
     }
 
     -- a task is made
     pub make_kept : (child : Frame) (args : List ℤ) (effects : Summary) (spawned : Bool) (future : ℕ) → MakesDeclared p frame child args effects spawned future
-        → frame.next ≡ Go → frame.decl ≡ row.frame.decl → ((task : ℕ) (out : List ℕ) → IsReady p (record frame { futures = slice_set frame.futures future (Some task); out = out }))
+        → frame.next ≡ Go → frame.decl ≡ row.frame.decl → ((task : ℕ) (out : Children) → IsReady p (record frame { futures = slice_set frame.futures future (Some task); out = out }))
         → st.asked + 1 < lim.tasks → Kept p lim (state_after_make lim st t row frame future spawned child args effects)
     make_kept child args effects spawned future declared go decl ready few =
         let rows = st.tasks in
         let is : st.asked + 1 ≡ length rows = half.number few in
         let task = declared.task in
-        let settled = made_settled rows half.almost half.frame_stands go decl future spawned task args declared.takes declared.declared (ready (length rows) (out_with spawned (length rows) frame.out)) in
-        let counts = made_counts rows half.almost half.frame_stands go decl future spawned task args declared.takes declared.declared (ready (length rows) (out_with spawned (length rows) frame.out))
+        let settled = made_settled rows half.almost half.frame_stands go decl future spawned task args declared.takes declared.declared (ready (length rows) (children_with spawned (length rows) frame.out)) in
+        let counts = made_counts rows half.almost half.frame_stands go decl future spawned task args declared.takes declared.declared (ready (length rows) (children_with spawned (length rows) frame.out))
         st.asked st.first_fault half.counts is few in
         let family = λ (number : ℕ) (c : Frame) (e : Summary).
         slice_set rows t (going_row row (making_frame future spawned number frame)) ++ new_row lim number (parent_of t spawned) c args e ∷ [] in

@@ -131,10 +131,10 @@ run_settled p lim st t row rows frame after stop cells moved here out taken carr
 pub run_settles : (p : Program) (lim : Bounds) (st : State) (t : ℕ) (row : TaskRow) (rows : List TaskRow) (frame after : Frame) (stop : Stop) (cells : List ℤ)
     → slice_get st.tasks t ≡ Some row → rows ≡ slice_set st.tasks t (without_frame row) → frame ≡ ready_frame st.tasks row.frame
     → IsSegment p frame st.cells stop after cells → SettlesAfter p lim st t
-    → MaySettle lim (record st { cells = cells; tasks = rows }) t after.next
+    → MaySettle lim (record st { cells = cells; tasks = rows }) t after stop
 run_settles p lim st t row rows frame after stop cells here out taken carried settles =
     let is : IsSegment p (ready_frame st.tasks row.frame) st.cells stop after cells = subst (λ (f : Frame). IsSegment p f st.cells stop after cells) taken carried in
-    let s : MaySettle lim st t after.next = subst (λ (f : Frame). MaySettle lim st t f.next) is.0 (settles row here) in
+    let s : MaySettle lim st t after stop = subst (λ (at : Frame × Stop). MaySettle lim st t at.0 at.1) (λ i. (is.0 i, is.2 i)) (settles row here) in
     let count : length rows ≡ length st.tasks = ap length out ∙ simp length-set in
     record {
       there = omega (arith, s.there, count);
@@ -142,4 +142,5 @@ run_settles p lim st t row rows frame after stop cells here out taken carried se
       number = λ below. s.number below ∙ sym count;
       few = s.few;
       above = λ on waits. let a = s.above on waits in (a.0, omega (arith, a.1, count));
+      room = s.room;
     }

@@ -11,7 +11,9 @@ use Rattle.twe_program.specs.WellFormed.{IsWellFormed}
 use Rattle.seg_exec.specs.declared.frame.Frame.{Frame}
 use Rattle.seg_exec.specs.declared.frame.Next.{Next}
 use Rattle.seg_exec.specs.declared.frame.Next.TheVariants.{Go, Get, Join, Closing, Ended}
+use Rattle.seg_exec.specs.declared.stop.Stop.{Stop}
 use Rattle.seg_exec.specs.Segment.{segment}
+use Rattle.seg_exec.proofs.Rooms.{spawns_have_room}
 use Rattle.twe_machine.specs.declared.state.State.{State}
 use Rattle.twe_machine.specs.declared.state.TaskRow.{TaskRow}
 use Rattle.twe_machine.specs.Moves.{MaySettle, ready_frame}
@@ -50,29 +52,31 @@ few_asked p lim st within stands =
     omega (arith, most, limit, stands.asked, within.tasks_most)
 
 pub stands_settle : (p : Program) (lim : Bounds) (st : State) (t : ℕ) (row : TaskRow) → IsWithin lim.fuel lim.tasks → Stands p lim st → IsRow st t row
-    → MaySettle lim st t (segment p (ready_frame st.tasks row.frame) st.cells).frame.next
+    → let after = segment p (ready_frame st.tasks row.frame) st.cells in MaySettle lim st t after.frame after.stop
 stands_settle p lim st t row within stands found = record {
   there = slice_get_within st.tasks t row found;
   linked = as_many_links p lim st stands;
   number = stands.number;
   few = few_asked p lim st within stands;
   above = awaited_above p lim st.tasks t (segment p (ready_frame st.tasks row.frame) st.cells).frame (left_stands p lim st stands t row found);
+  room = spawns_have_room p (ready_frame st.tasks row.frame) st.cells;
 }
 
 -- what the next segment of a task leaves may be settled
 pub may_settle : (p : Program) (lim : Bounds) (st : State) (t : ℕ) (row : TaskRow) → IsWellFormed p → IsWithin lim.fuel lim.tasks → IsReached p lim st → IsRow st t row
-    → MaySettle lim st t (segment p (ready_frame st.tasks row.frame) st.cells).frame.next
+    → let after = segment p (ready_frame st.tasks row.frame) st.cells in MaySettle lim st t after.frame after.stop
 may_settle p lim st t row well within reached found = stands_settle p lim st t row within (reached_stands p lim st well reached) found
 
 -- the state may be another with as many rows and links, in which as many tasks were asked for
-pub settles_with : (lim : Bounds) (st other : State) (t : ℕ) (next : Next) → other.asked ≡ st.asked → length other.tasks ≡ length st.tasks → length other.links ≡ length st.links
-    → MaySettle lim st t next → MaySettle lim other t next
-settles_with lim st other t next asked rows links may = record {
+pub settles_with : (lim : Bounds) (st other : State) (t : ℕ) (frame : Frame) (stop : Stop) → other.asked ≡ st.asked → length other.tasks ≡ length st.tasks → length other.links ≡ length st.links
+    → MaySettle lim st t frame stop → MaySettle lim other t frame stop
+settles_with lim st other t frame stop asked rows links may = record {
   there = omega (arith, rows, may.there);
   linked = links ∙ (may.linked ∙ sym rows);
   number = λ few. asked_number few;
   few = omega (arith, asked, may.few);
   above = λ on some. let a = may.above on some in (a.0, omega (arith, rows, a.1));
+  room = may.room;
 } where
   asked_number : other.asked + 1 < lim.tasks → other.asked + 1 ≡ length other.tasks
   asked_number few = let less : st.asked + 1 < lim.tasks = omega (arith, asked, few) in omega (arith, asked, rows, may.number less)

@@ -14,17 +14,17 @@ use Rattle.twe_machine.proofs.Weight.{children_left, weight_at, work_of, row_wei
 pub record IsLeft (row : TaskRow) (frame : Frame) : Type 0 where
   pub enabled : row.status ≡ Enabled
   pub fuel : frame.fuel ≤ row.frame.fuel
-  pub out : length frame.out ≤ children_left row.frame.next (length row.out)
+  pub out : length frame.out.items ≤ children_left row.frame.next (length row.out)
 
 pub enabled_weight : (row : TaskRow) (frame : Frame) → IsLeft row frame → row_weight row ≡ work_of row + 1
 enabled_weight row frame left = ap (λ (s : TaskStatus). weight_at s (work_of row)) left.enabled
 
 -- the weight of a row that goes on
 going_weight : (row : TaskRow) (frame : Frame) (next : Next) → IsLeft row frame → frame.next ≡ next
-    → row_weight (going_row row frame) ≡ 2 * frame.fuel + children_left next (length frame.out) + 1
+    → row_weight (going_row row frame) ≡ 2 * frame.fuel + children_left next (length frame.out.items) + 1
 going_weight row frame next left is =
-    ap (λ (s : TaskStatus). weight_at s (2 * frame.fuel + children_left frame.next (length frame.out))) left.enabled
-    ∙ ap (λ (n : Next). 2 * frame.fuel + children_left n (length frame.out) + 1) is
+    ap (λ (s : TaskStatus). weight_at s (2 * frame.fuel + children_left frame.next (length frame.out.items))) left.enabled
+    ∙ ap (λ (n : Next). 2 * frame.fuel + children_left n (length frame.out.items) + 1) is
 
 -- it has stopped at a getValue
 pub got_weight : (row : TaskRow) (frame : Frame) (on : ℕ) (into : Option ℕ) → IsLeft row frame → frame.next ≡ Get on into → frame.fuel < row.frame.fuel
@@ -42,7 +42,7 @@ join_weight row frame on into left is less =
 pub closing_weight : (row : TaskRow) (frame : Frame) (on : ℕ) → IsLeft row frame → IsClosing frame on
     → row_weight (going_row row frame) < row_weight row
 closing_weight row frame on left closing =
-    let some : length frame.out ≡ 1 + length closing.others = ap length closing.out ∙ omega arith in
+    let some : length frame.out.items ≡ 1 + length closing.others = ap length closing.out ∙ omega arith in
     omega (arith, going_weight row frame (Closing on) left closing.next, enabled_weight row frame left, left.out, left.fuel)
 
 length_out_with : (spawned : Bool) (child : ℕ) (out : List ℕ) → length (out_with spawned child out) ≤ length out + 1
@@ -54,7 +54,7 @@ pub made_weight : (row : TaskRow) (frame : Frame) (future number : ℕ) (spawned
     → row_weight (going_row row (making_frame future spawned number frame)) < row_weight row
 made_weight row frame future number spawned left is less =
     let maker = making_frame future spawned number frame in
-    let weighs : row_weight (going_row row maker) ≡ 2 * frame.fuel + length (out_with spawned number frame.out) + 1 =
-    ap (λ (s : TaskStatus). weight_at s (2 * frame.fuel + children_left frame.next (length (out_with spawned number frame.out)))) left.enabled
-    ∙ ap (λ (n : Next). 2 * frame.fuel + children_left n (length (out_with spawned number frame.out)) + 1) is in
-    omega (arith, weighs, length_out_with spawned number frame.out, enabled_weight row frame left, left.out)
+    let weighs : row_weight (going_row row maker) ≡ 2 * frame.fuel + length (out_with spawned number frame.out.items) + 1 =
+    ap (λ (s : TaskStatus). weight_at s (2 * frame.fuel + children_left frame.next (length (out_with spawned number frame.out.items)))) left.enabled
+    ∙ ap (λ (n : Next). 2 * frame.fuel + children_left n (length (out_with spawned number frame.out.items)) + 1) is in
+    omega (arith, weighs, length_out_with spawned number frame.out.items, enabled_weight row frame left, left.out)

@@ -49,7 +49,7 @@ pub record FrameStands (p : Program) (lim : Bounds) (rows : List TaskRow) (t : �
   pub fuel : frame.fuel ≤ lim.fuel
   pub futures : (f u : ℕ) → slice_get frame.futures f ≡ Some (Some u) → StandsFor p rows t frame.decl f u
   pub apart : (f g u : ℕ) → slice_get frame.futures f ≡ Some (Some u) → slice_get frame.futures g ≡ Some (Some u) → f ≡ g
-  pub once : EachOnce frame.out
+  pub once : EachOnce frame.out.items
   pub getting : (on : ℕ) (into : Option ℕ) → frame.next ≡ Get on into → IsMadeAfter rows t None on
   pub joining : (on : ℕ) (into : Option ℕ) → frame.next ≡ Join on into → IsMadeAfter rows t (Some t) on
   pub closing : (on : ℕ) → frame.next ≡ Closing on → IsClosing frame on
@@ -68,7 +68,7 @@ pub record RowStands (p : Program) (lim : Bounds) (rows : List TaskRow) (t : ℕ
   pub frame : FrameStands p lim rows t row.frame
   pub ready : IsReady p row.frame
   pub decl : row.frame.decl ≡ row.decl
-  pub out : row.out ≡ row.frame.out
+  pub out : row.out ≡ row.frame.out.items
   pub prints : row.frame.prints ≡ []
   pub count : TakesArguments (slice_get p.tasks row.decl) (length row.args)
   pub effects : row.effects ≡ effects_at p row.decl row.args

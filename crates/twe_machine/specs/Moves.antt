@@ -1,5 +1,5 @@
 -- The state after a move, and the state that a run starts in.
-use Rattle.std.specs.Prelude.{◌++◌, ◌+◌, ◌==◌, ◌<◌, ◌≡◌, ◌^◌, ℕ, ℤ, pos, Bool, true, false, List, [], ◌∷◌, length, replicate, Option, None, Some, nat_lt, if◌then◌else◌, slice_get, slice_set}
+use Rattle.std.specs.Prelude.{◌++◌, ◌+◌, ◌-◌, ◌==◌, ◌<◌, ◌≡◌, ◌^◌, ℕ, ℤ, pos, Bool, true, false, List, [], ◌∷◌, length, replicate, Option, None, Some, nat_lt, if◌then◌else◌, slice_get, slice_set}
 use Rattle.std.specs.List.{list_any}
 use Rattle.std.specs.Option.{ForSome}
 use Rattle.twe_io.specs.declared.place.Place.{Place}
@@ -17,13 +17,13 @@ use Rattle.wait_graph.specs.Link.{link_of, new_link, with_wait, with_joined, wit
 use Rattle.twe_program.specs.declared.program.CellDecl.{CellDecl}
 use Rattle.twe_program.specs.Program.{Program, size_of}
 use Rattle.seg_exec.specs.declared.frame.Frame.{Frame}
-use Rattle.seg_exec.specs.declared.frame.Next.{Next}
 use Rattle.seg_exec.specs.declared.frame.Next.TheVariants.{Ended}
 use Rattle.seg_exec.specs.declared.stop.Stop.{Stop}
 use Rattle.seg_exec.specs.declared.stop.Stop.TheVariants as stops
+use Rattle.seg_exec.specs.Children.{Children}
 use Rattle.seg_exec.specs.Entry.{entry_frame, effects_at}
 use Rattle.seg_exec.specs.Giving.{given}
-use Rattle.seg_exec.specs.Segment.{segment}
+use Rattle.seg_exec.specs.Segment.{HasRoomToSpawn, segment}
 use Rattle.twe_machine.specs.declared.state.FirstFault.{FirstFault}
 use Rattle.twe_machine.specs.declared.state.State.{State}
 use Rattle.twe_machine.specs.declared.state.TaskRow.{TaskRow}
@@ -73,9 +73,17 @@ abbrev pub out_with : Bool → ℕ → List ℕ → List ℕ
 out_with true child out = out ++ child ∷ []
 out_with false child out = out
 
+-- the child takes the room that was reserved for it
+abbrev pub room_with : Bool → ℕ → ℕ
+room_with true room = room - 1
+room_with false room = room
+
+abbrev pub children_with : Bool → ℕ → Children → Children
+children_with spawned child out = record { items = out_with spawned child out.items; room = room_with spawned out.room }
+
 -- the frame of a task after it has made this one: the future stands for the new task
 abbrev pub making_frame : ℕ → Bool → ℕ → Frame → Frame
-making_frame future spawned child frame = record frame { futures = slice_set frame.futures future (Some child); out = out_with spawned child frame.out }
+making_frame future spawned child frame = record frame { futures = slice_set frame.futures future (Some child); out = children_with spawned child frame.out }
 
 -- The end of a segment.
 
@@ -89,13 +97,13 @@ stopped_frame frame = record frame { body = None; next = Ended }
 
 -- the row of a task that is unfinished, that is done with a value, and that has met a fault
 abbrev pub going_row : TaskRow → Frame → TaskRow
-going_row row frame = record row { frame = frame_without_prints frame; out = frame.out }
+going_row row frame = record row { frame = frame_without_prints frame; out = frame.out.items }
 
 abbrev pub done_row : TaskRow → Frame → ℤ → TaskRow
-done_row row frame value = record row { frame = frame_without_prints frame; out = frame.out; status = status.Done; value = value }
+done_row row frame value = record row { frame = frame_without_prints frame; out = frame.out.items; status = status.Done; value = value }
 
 abbrev pub faulted_row : TaskRow → Frame → TaskRow
-faulted_row row frame = record row { frame = frame_without_prints frame; out = frame.out; status = status.Faulted }
+faulted_row row frame = record row { frame = frame_without_prints frame; out = frame.out.items; status = status.Faulted }
 
 -- the first fault of a run stays the first
 abbrev pub first_fault_of : Option FirstFault → ℕ → FaultKind → Place → Option FirstFault
@@ -217,11 +225,13 @@ start_of p lim = record {
   first_fault = None;
 }
 
--- A segment of t may be settled if `next` comes next in its frame: there is a link for each row; a task that may
--- still be made gets the number of the next row; and a task that t will wait for is there and has a higher number.
-pub record MaySettle (lim : Bounds) (st : State) (t : ℕ) (next : Next) : Type 0 where
+-- A segment of t may be settled if it left this frame and stopped in this way: there is a link for each row; a task
+-- that may still be made gets the number of the next row; a task that t will wait for is there and has a higher number;
+-- and the frame has room for a spawned child.
+pub record MaySettle (lim : Bounds) (st : State) (t : ℕ) (frame : Frame) (stop : Stop) : Type 0 where
   pub there : t < length st.tasks
   pub linked : length st.links ≡ length st.tasks
   pub number : st.asked + 1 < lim.tasks → st.asked + 1 ≡ length st.tasks
   pub few : st.asked + 1 < 2 ^ 32
-  pub above : ForSome (awaited next) (λ on. (t < on) × (on < length st.tasks))
+  pub above : ForSome (awaited frame.next) (λ on. (t < on) × (on < length st.tasks))
+  pub room : HasRoomToSpawn stop frame

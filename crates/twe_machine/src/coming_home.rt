@@ -8,7 +8,7 @@ ghost use Rattle.twe_machine.specs.Rows.{IsRow, awaited};
 use crate::state::State;
 use seg_exec::{Frame, Next};
 use std::alloc::Global;
-use twe_io::{Ints, Memory};
+use twe_io::{Ints, List, Memory};
 
 /// The task that the next operation waits for, if it is a wait.
 pub(crate) fn awaited(next: Next) -> Option<u32>
@@ -46,7 +46,7 @@ pub(crate) fn come_home(alloc: Global, st: &mut State, t: u32, frame: Frame) -> 
     let mut frame = frame;
     st.links.set_wait(t, awaited(frame.next));
     take_prints(alloc, &mut st.prints, &mut frame)?;
-    let out = frame.out.copy(alloc)?;
+    let out = List::from_slice(alloc, frame.out.as_slice())?;
     let row = st.tasks.item_mut(t as usize);
     row.frame = frame;
     row.out = out;

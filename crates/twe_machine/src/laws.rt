@@ -101,5 +101,5 @@ pub fn done_tasks_stay_done()
 pub fn segments_may_be_settled()
     ensures { (p : Program) (lim : Bounds) (st : State) (t : ℕ) (row : TaskRow) → IsWellFormed p
         → IsWithin lim.fuel lim.tasks → IsReached p lim st → IsRow st t row
-        → MaySettle lim st t (next_segment p st row).frame.next }
+        → MaySettle lim st t (next_segment p st row).frame (next_segment p st row).stop }
 {}

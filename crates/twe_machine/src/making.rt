@@ -1,16 +1,16 @@
 //! Making a task.
-ghost use Rattle.std.specs.Prelude.{◌≡◌, ◌+◌, ◌-◌, ◌^◌, ◌<◌, ◌++◌, ◌∷◌, [], length, Some, IfOk, OnOk, slice_set};
+ghost use Rattle.std.specs.Prelude.{◌≡◌, ◌+◌, ◌-◌, ◌^◌, ◌<◌, ◌++◌, ◌∷◌, [], length, true, Some, IfOk, OnOk, slice_set};
 ghost use Rattle.std.specs.Option.{ForSome};
 ghost use Rattle.wait_graph.specs.Link.{new_link};
 ghost use Rattle.twe_machine.specs.declared.state.TaskRow.{TaskRow};
-ghost use Rattle.twe_machine.specs.Moves.{MaySettle, state_after_make, making_frame, new_row, out_with, stop_result};
+ghost use Rattle.twe_machine.specs.Moves.{MaySettle, children_with, making_frame, new_row, state_after_make, stop_result};
 ghost use Rattle.twe_machine.specs.Rows.{IsRow, awaited};
 
 use crate::coming_home::come_home;
 use crate::new_task::{NewTask, new_row, parent_of};
 use crate::state::State;
 use crate::task_end::{fail, without_rest};
-use seg_exec::{Frame, Stop};
+use seg_exec::{Children, Frame, Stop};
 use seg_journal::{End, FaultKind, Limits};
 use std::alloc::Global;
 use twe_io::{List, Memory, Place};
@@ -36,22 +36,23 @@ fn set_future(futures: &mut List<Option<u32>>, future: u32, task: u32)
     }
 }
 
-/// Adds a spawned child after the other children.
-fn add_child(out: &mut List<u32>, child: u32, spawned: bool) -> Result<(), Memory>
-    ensures { OnOk result (out.new ≡ out_with spawned child out.old) }
+/// Adds a spawned child after the other children, in the room that was reserved for it. It takes no memory.
+fn add_child(out: &mut Children, child: u32, spawned: bool)
+    requires { spawned ≡ true → 0 < out.old.room }
+    ensures { out.new ≡ children_with spawned child out.old }
 {
     if spawned {
-        out.push(child)?;
+        out.push_within(child);
     }
-    Ok(())
 }
 
-/// Records a new task in the frame of its maker.
-fn note(frame: &mut Frame, child: u32, future: u32, spawned: bool) -> Result<(), Memory>
-    ensures { OnOk result (frame.new ≡ making_frame future spawned child frame.old) }
+/// Records a new task in the frame of its maker. It takes no memory.
+fn note(frame: &mut Frame, child: u32, future: u32, spawned: bool)
+    requires { spawned ≡ true → 0 < frame.old.out.room }
+    ensures { frame.new ≡ making_frame future spawned child frame.old }
 {
     set_future(&mut frame.futures, future, child);
-    add_child(&mut frame.out, child, spawned)
+    add_child(&mut frame.out, child, spawned);
 }
 
 /// Adds a task after the others.
@@ -89,6 +90,7 @@ fn make(
     requires above { ForSome (awaited frame.next) (λ on. (t < on) × (on < length st.old.tasks)) }
     requires number { st.old.asked + 1 ≡ length st.old.tasks }
     requires room { length st.old.tasks < 2 ^ 32 - 1 }
+    requires child_room { how.spawned ≡ true → 0 < frame.out.room }
     ensures state { OnOk result ((row : TaskRow) → IsRow st.old t row
         → st.new ≡ state_after_make lim st.old t row frame how.future how.spawned task.frame task.args task.effects) }
     ensures number { IfOk result (λ child. child ≡ st.old.asked + 1) }
@@ -96,7 +98,7 @@ fn make(
     let mut frame = frame;
     st.asked += 1;
     let child = st.asked;
-    note(&mut frame, child, how.future, how.spawned)?;
+    note(&mut frame, child, how.future, how.spawned);
     come_home(alloc, st, t, frame)?;
     add_task(alloc, lim, st, parent_of(t, how.spawned), task)?;
     Ok(child)
@@ -113,7 +115,7 @@ pub(crate) fn ask(
     task: NewTask,
     how: Asking,
 ) -> Result<End, Memory>
-    requires { MaySettle lim st.old t frame.next }
+    requires { MaySettle lim st.old t frame (Stop.Make task.frame task.args task.effects how.spawned how.future how.place) }
     ensures { IfOk result (λ end. (row : TaskRow) → IsRow st.old t row
         → (st.new, end) ≡ stop_result lim st.old t row frame (Stop.Make task.frame task.args task.effects how.spawned how.future how.place)) }
 {

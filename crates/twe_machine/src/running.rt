@@ -9,7 +9,7 @@ ghost use Rattle.twe_machine.specs.inner.Settling.{SettlesAfter, no_frame, witho
 use crate::coming_home::awaited;
 use crate::settling::settle;
 use crate::state::{State, TaskRow};
-use seg_exec::{Frame, Next, run_segment_over_list};
+use seg_exec::{Children, Frame, Next, run_segment_over_list};
 use seg_journal::{End, Limits};
 use std::alloc::Global;
 use std::mem;
@@ -42,7 +42,7 @@ fn take_ready(alloc: Global, rows: &mut List<TaskRow>, t: u32) -> Frame
 {
     let mut frame = mem::replace(&mut rows.item_mut(t as usize).frame, no_frame(alloc));
     let value = awaited_value(rows, awaited(frame.next));
-    frame.give(alloc, value);
+    frame.give(value);
     frame
 }
 
@@ -56,7 +56,7 @@ fn no_frame(alloc: Global) -> Frame
         body: None,
         fuel: 0,
         futures: List::new(alloc),
-        out: List::new(alloc),
+        out: Children::new(alloc),
         next: Next::Ended,
         value: 0,
         prints: Ints::new(alloc),

@@ -28,7 +28,7 @@ pub fn settle(
     frame: Frame,
     stop: Stop,
 ) -> Result<End, Memory>
-    requires { MaySettle lim st.old t frame.next }
+    requires { MaySettle lim st.old t frame stop }
     ensures { IfOk result (λ end. (st.new, end) ≡ settling_result lim st.old t (slice_get st.old.tasks t) frame stop) }
 {
     take_join(st, t);
@@ -44,7 +44,7 @@ fn stop_task(
     frame: Frame,
     stop: Stop,
 ) -> Result<End, Memory>
-    requires { MaySettle lim st.old t frame.next }
+    requires { MaySettle lim st.old t frame stop }
     ensures { IfOk result (λ end. (row : TaskRow) → IsRow st.old t row
         → (st.new, end) ≡ stop_result lim st.old t row frame stop) }
 {

@@ -185,7 +185,7 @@ module _ (p : Program) (keeps : KeepsEffects p) (decl : Decl) (st : State) (fram
     module _ (new : State) (number : ℕ) (go : (after p frame value cells).next ≡ Go)
         (rows : (u : ℕ) (b : TaskRow) → IsRow new u b → ((u ≡ number) × (b.effects ≡ effects)) ⊎ ((a : TaskRow) × IsRow st u a × (b.effects ≡ a.effects)))
         (fresh : (a : TaskRow) → ¬ IsRow st number a)
-        (there : (u : ℕ) → IsIn u (still_out frame.next frame.out) → (a : TaskRow) × IsRow st u a) where
+        (there : (u : ℕ) → IsIn u (still_out frame.next frame.out.items) → (a : TaskRow) × IsRow st u a) where
       abbrev made : Frame
       made = making_frame future spawned number (after p frame value cells)
 
@@ -196,7 +196,7 @@ module _ (p : Program) (keeps : KeepsEffects p) (decl : Decl) (st : State) (fram
       ]
 
       -- a child that was out before
-      of_old : (u : ℕ) (b : TaskRow) → IsIn u (after p frame value cells).out → IsRow new u b → ChildOut p made.decl made.futures past u b.effects
+      of_old : (u : ℕ) (b : TaskRow) → IsIn u (after p frame value cells).out.items → IsRow new u b → ChildOut p made.decl made.futures past u b.effects
       of_old u b here is =
           let inside = subst (IsIn u) (after_out p frame value cells) here in
           elim (rows u b is) [
@@ -224,8 +224,8 @@ module _ (p : Program) (keeps : KeepsEffects p) (decl : Decl) (st : State) (fram
         path = past;
         reached = subst (λ (n : ℕ). Reached (body_of (slice_get p.tasks n)) left past) (sym (after_decl p frame value cells)) reached_past;
         children = λ u b here is.
-            let inside = subst (λ (n : Next). IsIn u (still_out n made.out)) go here in
-            elim (in_out spawned u (after p frame value cells).out inside) [
+            let inside = subst (λ (n : Next). IsIn u (still_out n made.out.items)) go here in
+            elim (in_out spawned u (after p frame value cells).out.items inside) [
               | inl old ↦ of_old u b old is
               | inr last ↦ of_new u b last.0 last.1 is
             ];

@@ -61,7 +61,7 @@ module _ (p : Program) (frame : Frame) (value : ℤ) (cells : List ℤ) where
   kept : SegmentKeeps (given frame value) cells (segment p (given frame value) cells)
   kept = segment_keeps p (given frame value) cells
 
-  pub after_out : (after p frame value cells).out ≡ still_out frame.next frame.out
+  pub after_out : (after p frame value cells).out.items ≡ still_out frame.next frame.out.items
   after_out = kept.out ∙ given_out frame value
 
   pub after_futures : (after p frame value cells).futures ≡ frame.futures

@@ -49,7 +49,7 @@ module _ (p : Program) (st : State) (frame : Frame) (value : ℤ) (cells : List 
       (others, operation ∷ comes.later, (refl, refl), (refl, refl))
 
   -- a child that is out afterwards was out before, and its future is not the joined one
-  child_past : (u : ℕ) (b : TaskRow) → IsIn u (after p frame value cells).out → (join ≡ true → u ≢ on) → IsRow new u b
+  child_past : (u : ℕ) (b : TaskRow) → IsIn u (after p frame value cells).out.items → (join ≡ true → u ≢ on) → IsRow new u b
       → ChildOut p (after p frame value cells).decl (after p frame value cells).futures past u b.effects
   unfolding past
   child_past u b here other is =
@@ -66,8 +66,8 @@ module _ (p : Program) (st : State) (frame : Frame) (value : ℤ) (cells : List 
       (stays_out join (comes.future == c.future) (out_after c.future comes.later) not_same
       (still_out_at p st frame value on_path (Wait comes.point comes.future join into comes.place) (left_of p (after p frame value cells)) comes.later comes.passes c.future c.out))
 
-  pub waited : ((u : ℕ) → IsIn u (still_out (after p frame value cells).next (after p frame value cells).out)
-      → IsIn u (after p frame value cells).out × (join ≡ true → u ≢ on)) → OnPath p new.tasks (after p frame value cells)
+  pub waited : ((u : ℕ) → IsIn u (still_out (after p frame value cells).next (after p frame value cells).out.items)
+      → IsIn u (after p frame value cells).out.items × (join ≡ true → u ≢ on)) → OnPath p new.tasks (after p frame value cells)
   waited outs = record {
     path = past;
     reached = subst (λ (n : ℕ). Reached (body_of (slice_get p.tasks n)) (left_of p (after p frame value cells)) past) (sym (after_decl p frame value cells)) reached_past;
@@ -80,12 +80,12 @@ module _ (p : Program) (st : State) (frame : Frame) (value : ℤ) (cells : List 
   pub got : (after p frame value cells).next ≡ Get on into → OnPath p new.tasks (after p frame value cells)
   got next =
       waited p st frame value cells on_path new continues false on into (gets_follow p (given frame value) cells on_path.path on into next)
-      (λ u here. (subst (λ (n : Next). IsIn u (still_out n (after p frame value cells).out)) next here, λ no. absurd (cc)))
+      (λ u here. (subst (λ (n : Next). IsIn u (still_out n (after p frame value cells).out.items)) next here, λ no. absurd (cc)))
 
-  pub joined_one : ((u : ℕ) → IsIn u (without u (after p frame value cells).out) → ⊥) → (after p frame value cells).next ≡ Join on into → OnPath p new.tasks (after p frame value cells)
+  pub joined_one : ((u : ℕ) → IsIn u (without u (after p frame value cells).out.items) → ⊥) → (after p frame value cells).next ≡ Join on into → OnPath p new.tasks (after p frame value cells)
   joined_one once next =
       waited p st frame value cells on_path new continues true on into (joins_follow p (given frame value) cells on_path.path on into next)
       (λ u here.
-      let out = (after p frame value cells).out in
+      let out = (after p frame value cells).out.items in
       let inside : IsIn u (without on out) = subst (λ (n : Next). IsIn u (still_out n out)) next here in
       (in_without u on out inside, λ is_join same. once u (subst (λ (x : ℕ). IsIn u (without x out)) (sym same) inside)))

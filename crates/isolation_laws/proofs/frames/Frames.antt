@@ -55,7 +55,7 @@ pub record ChildOut (p : Program) (decl : ℕ) (futures : List (Option ℕ)) (pa
 pub record OnPath (p : Program) (rows : List TaskRow) (frame : Frame) : Type 0 where
   pub path : Path
   pub reached : Reached (body_of (slice_get p.tasks frame.decl)) (left_of p frame) path
-  pub children : (u : ℕ) (b : TaskRow) → IsIn u (still_out frame.next frame.out) → slice_get rows u ≡ Some b → ChildOut p frame.decl frame.futures path u b.effects
+  pub children : (u : ℕ) (b : TaskRow) → IsIn u (still_out frame.next frame.out.items) → slice_get rows u ≡ Some b → ChildOut p frame.decl frame.futures path u b.effects
 
 -- each frame whose body has not ended is on a path
 abbrev pub FramesOnPaths : Program → State → Type 0
@@ -64,7 +64,7 @@ FramesOnPaths p st = (t : ℕ) (row : TaskRow) → IsRow st t row → ¬ (row.fr
 -- The fields of a frame once it has taken the value.
 
 module _ (frame : Frame) (value : ℤ) where
-  out_by : (next : Next) → (given_by next frame value).out ≡ still_out next frame.out
+  out_by : (next : Next) → (given_by next frame value).out.items ≡ still_out next frame.out.items
   out_by Go = refl
   out_by (Get on into) = refl
   out_by (Join on into) = refl
@@ -78,7 +78,7 @@ module _ (frame : Frame) (value : ℤ) where
   futures_by (Closing on) = refl
   futures_by Ended = refl
 
-  pub given_out : (given frame value).out ≡ still_out frame.next frame.out
+  pub given_out : (given frame value).out.items ≡ still_out frame.next frame.out.items
   given_out = out_by frame.next
 
   pub given_futures : (given frame value).futures ≡ frame.futures

@@ -55,9 +55,9 @@ module _ (p : Program) (lim : Bounds) (st : State) (stands : Stands p lim st) wh
       omega arith
 
   -- a child that is out has a row
-  pub child_there : (t : ℕ) (row : TaskRow) → IsRow st t row → (u : ℕ) → IsIn u (still_out row.frame.next row.frame.out) → (a : TaskRow) × IsRow st u a
+  pub child_there : (t : ℕ) (row : TaskRow) → IsRow st t row → (u : ℕ) → IsIn u (still_out row.frame.next row.frame.out.items) → (a : TaskRow) × IsRow st u a
   child_there t row is u here =
-      let inside = in-contains row.frame.out u (still_in row.frame.next u row.frame.out here) in
+      let inside = in-contains row.frame.out.items u (still_in row.frame.next u row.frame.out.items here) in
       let child = (stands.children t row is u).0 (subst (λ (out : List ℕ). Contains out u) (sym (stands.rows t row is).out) inside) in
       (child.row, child.there)
 

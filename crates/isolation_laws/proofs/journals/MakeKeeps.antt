@@ -97,7 +97,7 @@ module _ (p : Program) (wf : IsWellFormed p) (keeps : KeepsEffects p) (lim : Bou
       (segment_spawns p wf keeps row.args (given row.frame value) runs cells child args effects future place spawn e here)
 
   -- its effects do not interfere with those of a child that is out
-  apart_from_out : spawned ≡ true → (d : ℕ) (b : TaskRow) → IsRow between d b → IsIn d (after p row.frame value cells).out → ¬ SomeInterfere effects.effects b.effects.effects
+  apart_from_out : spawned ≡ true → (d : ℕ) (b : TaskRow) → IsRow between d b → IsIn d (after p row.frame value cells).out.items → ¬ SomeInterfere effects.effects b.effects.effects
   apart_from_out is_spawned d b is here some =
       let a = continues d b is in
       let path = own_path p keeps lim st stands kept o t row is_t value cells child args effects spawned future place stop number counted in
@@ -107,7 +107,7 @@ module _ (p : Program) (wf : IsWellFormed p) (keeps : KeepsEffects p) (lim : Bou
       (subst (λ (s : Summary). SomeInterfere effects.effects s.effects) a.2.effects some)
 
   module _ (agree : LinksAgree (with_row between added))
-      (listed : (d : ℕ) (b : TaskRow) → IsRow (with_row between added) d b → b.parent ≡ Some t → b.joined ≡ false → Contains frame.out d) where
+      (listed : (d : ℕ) (b : TaskRow) → IsRow (with_row between added) d b → b.parent ≡ Some t → b.joined ≡ false → Contains frame.out.items d) where
     agree_mid : LinksAgree between
     agree_mid = agree_before between added agree
 
@@ -117,8 +117,8 @@ module _ (p : Program) (wf : IsWellFormed p) (keeps : KeepsEffects p) (lim : Bou
     -- nor with those of any other unjoined child
     apart : spawned ≡ true → (d : ℕ) (b : TaskRow) → IsRow between d b → b.parent ≡ Some t → b.joined ≡ false → ¬ SomeInterfere effects.effects b.effects.effects
     apart is_spawned d b is of free =
-        let out = (after p row.frame value cells).out in
-        let there = contains-in frame.out d (listed d b (get_before_added between.tasks (added ∷ []) d b is) of free) in
+        let out = (after p row.frame value cells).out.items in
+        let there = contains-in frame.out.items d (listed d b (get_before_added between.tasks (added ∷ []) d b is) of free) in
         let either = in-cases d out (number ∷ []) (subst (λ (s : Bool). IsIn d (out_with s number out)) is_spawned there) in
         elim either [
           | inl before ↦ apart_from_out is_spawned d b is before

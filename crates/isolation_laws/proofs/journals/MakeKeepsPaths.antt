@@ -44,7 +44,7 @@ on_path_entry p rows task args number fuel = record {
 
 -- a frame whose children were there before stays on its path
 on_path_added : (p : Program) (old mid : State) (row : TaskRow) (frame : Frame) → Continues old mid → length mid.tasks ≡ length old.tasks
-    → ((u : ℕ) → IsIn u (still_out frame.next frame.out) → (a : TaskRow) × IsRow old u a) → OnPath p old.tasks frame → OnPath p (with_row mid row).tasks frame
+    → ((u : ℕ) → IsIn u (still_out frame.next frame.out.items) → (a : TaskRow) × IsRow old u a) → OnPath p old.tasks frame → OnPath p (with_row mid row).tasks frame
 on_path_added p old mid row frame continues same there on_path =
     let in_mid = on_path_later p old mid frame continues on_path in
     record {

@@ -114,10 +114,10 @@ module _ (p : Program) (wf : IsWellFormed p) (keeps : KeepsEffects p) (lim : Bou
   runs : RunsWith p row.args frame
   runs = segment_later p wf keeps row.args (ready_frame old.tasks row.frame) (given_runs p row.args row.frame (old_kept.runs t row is_t) value) old.cells
 
-  once : (u : ℕ) → IsIn u (without u frame.out) → ⊥
+  once : (u : ℕ) → IsIn u (without u frame.out.items) → ⊥
   once u here =
       let out = after_out p row.frame value old.cells in
-      none_twice frame.out u (subst EachOnce (sym out) (still_once row.frame.next row.frame.out (old_stands.rows t row is_t).frame.once)) here
+      none_twice frame.out.items u (subst EachOnce (sym out) (still_once row.frame.next row.frame.out.items (old_stands.rows t row is_t).frame.once)) here
 
   next_is : (s : Stop) → stop ≡ s → NextAfter s frame
   next_is s is = subst (λ (x : Stop). NextAfter x frame) is keeping.next

@@ -90,12 +90,12 @@ module _ (p : Program) (wf : IsWellFormed p) (keeps : KeepsEffects p) (lim : Bou
   will_join t c row is may joins =
       (joins, (WaitsForNobody-waits st.links t).0 may.1 c (ap (λ (l : Link). l.waits) (link_there st stands.links t row is) ∙ joins_waited row.frame.next c joins))
 
-  child_out : (t c : ℕ) (row : TaskRow) → IsRow st t row → MayRun st t → SpawnedBy st.links c t → ¬ WillJoin st row c → IsIn c (still_out row.frame.next row.frame.out)
+  child_out : (t c : ℕ) (row : TaskRow) → IsRow st t row → MayRun st t → SpawnedBy st.links c t → ¬ WillJoin st row c → IsIn c (still_out row.frame.next row.frame.out.items)
   child_out t c row is may by other =
       let found = spawned_row st stands.links c t by in
       let known : IsChild st.tasks t c = record { row = found.0; there = found.1; parent = found.2; unjoined = found.3 } in
       let listed = subst (λ (out : List ℕ). Contains out c) (stands.rows t row is).out ((stands.children t row is c).1 known) in
-      still_other row.frame.next c row.frame.out (λ joins. other (will_join t c row is may joins)) (contains-in row.frame.out c listed)
+      still_other row.frame.next c row.frame.out.items (λ joins. other (will_join t c row is may joins)) (contains-in row.frame.out.items c listed)
 
   -- if a task may run, none of its accesses interferes with an effect of another unjoined child
   pub spared : (t c : ℕ) (row child : TaskRow) → IsRow st t row → IsRow st c child → MayRun st t → SpawnedBy st.links c t → ¬ WillJoin st row c

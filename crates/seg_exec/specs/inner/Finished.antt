@@ -7,13 +7,13 @@ use Rattle.seg_exec.specs.declared.stop.Stop.{Stop}
 use Rattle.seg_exec.specs.declared.stop.Stop.TheVariants.{Fault}
 use Rattle.seg_exec.specs.declared.request.Ending.{Ending}
 use Rattle.seg_exec.specs.declared.request.Ending.TheVariants.{Returned, Faulted, Suspended}
-use Rattle.seg_exec.specs.Segment.{closing, closing_stop, operation_next, operation_stop}
+use Rattle.seg_exec.specs.Segment.{closing, closing_stop, operation_next, operation_out, operation_stop}
 
 abbrev pub ended_with : Frame → ℤ → Frame
-ended_with frame value = record frame { body = None; next = closing frame.out; value = value }
+ended_with frame value = record frame { body = None; next = closing frame.out.items; value = value }
 
 abbrev pub finished : Program → Frame → List ℤ → Ending → Frame × Stop
-finished p frame vars (Returned value) = (ended_with frame value, closing_stop frame.out value)
+finished p frame vars (Returned value) = (ended_with frame value, closing_stop frame.out.items value)
 finished p frame vars (Faulted kind place) = (record frame { body = None; next = Ended }, Fault kind place)
 finished p frame vars (Suspended operation positions) =
-    (record frame { body = Some (record { vars = vars; open_blocks = positions }); next = operation_next frame operation }, operation_stop p frame operation)
+    (record frame { body = Some (record { vars = vars; open_blocks = positions }); next = operation_next frame operation; out = operation_out operation frame.out }, operation_stop p frame operation)

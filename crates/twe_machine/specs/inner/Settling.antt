@@ -4,6 +4,7 @@ use Rattle.twe_limits.specs.Limits.{Bounds}
 use Rattle.twe_program.specs.Program.{Program}
 use Rattle.seg_exec.specs.declared.frame.Frame.{Frame}
 use Rattle.seg_exec.specs.declared.frame.Next.TheVariants.{Ended}
+use Rattle.seg_exec.specs.Children.{no_children}
 use Rattle.seg_exec.specs.Segment.{segment}
 use Rattle.twe_machine.specs.declared.state.State.{State}
 use Rattle.twe_machine.specs.declared.state.TaskRow.{TaskRow}
@@ -18,7 +19,7 @@ no_frame = record {
   body = None;
   fuel = 0;
   futures = [];
-  out = [];
+  out = no_children;
   next = Ended;
   value = pos 0;
   prints = [];
@@ -31,4 +32,4 @@ without_frame row = record row { frame = no_frame }
 -- the frame that the next segment of t leaves may be settled
 abbrev pub SettlesAfter : Program → Bounds → State → ℕ → Type 0
 SettlesAfter p lim st t =
-    (row : TaskRow) → IsRow st t row → MaySettle lim st t (segment p (ready_frame st.tasks row.frame) st.cells).frame.next
+    (row : TaskRow) → IsRow st t row → let after = segment p (ready_frame st.tasks row.frame) st.cells in MaySettle lim st t after.frame after.stop

@@ -13,8 +13,8 @@ run_segment-requires c =
 
 pub returns-clause-segment : goal.returns-clause-segment
 returns-clause-segment c =
-    if_ok_map c.run_segment.result (λ stop done. plain_segment c.args.p.now c.args.frame.now c.run_segment.new.frame c.args.cells.now c.run_segment.new.cells stop done) c.run_segment.ensures
+    if_ok_map c.run_segment.result (λ stop done. plain_segment c.args.p.now c.args.frame.now c.run_segment.new.frame c.args.cells.now c.run_segment.new.cells stop done) c.run_segment.ensures.segment
 
 pub returns-clause-cells : goal.returns-clause-cells
 returns-clause-cells c =
-    if_ok_map c.run_segment.result (λ stop done. plain_length c.args.p.now c.args.frame.now c.run_segment.new.frame c.args.cells.now c.run_segment.new.cells stop done) c.run_segment.ensures
+    if_ok_map c.run_segment.result (λ stop done. plain_length c.args.p.now c.args.frame.now c.run_segment.new.frame c.args.cells.now c.run_segment.new.cells stop done) c.run_segment.ensures.segment

@@ -14,6 +14,7 @@ stop_task-requires c =
       number = λ below. omega (arith, j.rows, j.asked, c.requires.number (omega (arith, j.asked)));
       few = omega (arith, j.asked);
       above = λ on waits. let a = c.requires.above on waits in (a.0, omega (arith, a.1, j.rows));
+      room = c.requires.room;
     }
 
 pub returns : goal.returns
