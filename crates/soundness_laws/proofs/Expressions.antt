@@ -18,6 +18,7 @@ use Rattle.effect_sets.specs.Access.{SomeCoversAccess}
 use Rattle.effect_sets.specs.Covers.{covers}
 use Rattle.effect_sets.specs.Filled.{fill_summary, effect_under}
 use Rattle.twe_ast.specs.declared.expr.BinOp.{BinOp}
+use Rattle.twe_limits.specs.Language.{max_active_calls}
 use Rattle.twe_program.specs.declared.program.Decl.{Decl}
 use Rattle.twe_program.specs.Program.{Program}
 use Rattle.twe_program.specs.Expression.{Expression, Literal, Truth, Variable, CellValue, ArrayElement, GridElement, CallValue, Negative, Negation, Binary, Arguments, argument}
@@ -182,7 +183,7 @@ module _ (p : Program) (wf : IsWellFormed p) (methods : (i : ℕ) (decl : Decl) 
       → (place : Place) (s : Store) → s.vars ≡ vars → Each p es s.accesses → GivenKeeps p es vars AnyValue (called below p method values place s)
   called_kept method written values stand takes covered place s same each =
       give_kept p es vars AnyValue AnyValue (unit_taken place s) _ (unit_kept p es vars place s same each)
-      (λ unit s1 same1 each1 q. entered_kept method written values stand (nat_le 1000 s1.calls) (slice_get p.methods method) refl takes covered place s1 same1 each1)
+      (λ unit s1 same1 each1 q. entered_kept method written values stand (nat_le max_active_calls s1.calls) (slice_get p.methods method) refl takes covered place s1 same1 each1)
 
   mutual
     pub value_kept : (point : ℕ) (e : Expression) → AllDeclared p decl (acts_of p point e) → ExpressionFits (scope_of p decl) e

@@ -11,6 +11,7 @@ use Rattle.effect_sets.specs.Access.{Access as PathAccess, CoversAccess, SomeCov
 use Rattle.effect_sets.specs.Filled.{effect_under, fill_effect, fill_summary}
 use Rattle.effect_sets.proofs.Accesses.{within-covers}
 use Rattle.effect_sets.proofs.Filling.{fill_effect-within}
+use Rattle.twe_limits.specs.Language.{max_active_calls}
 use Rattle.twe_program.specs.declared.program.Decl.{Decl}
 use Rattle.twe_program.specs.Fitting.{TakesArguments}
 use Rattle.twe_program.specs.Program.{Program}
@@ -135,4 +136,4 @@ module _ (p : Program) (wf : IsWellFormed p) (effects : KeepsEffects p) (below :
       → (place : Place) (s : Store) → s.vars ≡ vars → EachSpares p es s.accesses → GivenSpares p es vars AnyValue (called below p method values place s)
   called_spares method written values vars stand takes spare place s same each =
       give_spares p es vars AnyValue AnyValue (unit_taken place s) _ (unit_spares p es vars place s same each)
-      (λ unit s1 same1 each1 q. entered_spares method written values vars stand (nat_le 1000 s1.calls) (slice_get p.methods method) refl takes spare place s1 same1 each1)
+      (λ unit s1 same1 each1 q. entered_spares method written values vars stand (nat_le max_active_calls s1.calls) (slice_get p.methods method) refl takes spare place s1 same1 each1)
