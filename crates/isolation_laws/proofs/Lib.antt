@@ -6,11 +6,13 @@
 --
 -- From other crates these proofs take mostly the lemmas of public laws: those of wait_graph, effect_sets and
 -- segment_laws, and of soundness_laws those on segments. Beside these they use:
---   the invariant of the machine (twe_machine: Standing, ReachedStands);
+--   the invariant of the machine (twe_machine: Standing, ReachedStands), and what a move does to rows (Halfway, OtherRows,
+--     Places);
 --   that control paths can be followed backwards (cover_flow: SteppingBack), and that a segment only follows them
 --     (segment_laws: Leading, LeftLeading, Quiet);
 --   what accepted bodies keep to when they run (soundness_laws: Sound, Expressions, Statements, CellPaths, Declared);
---   facts about members of lists (effect_check and twe_machine: Members, region_paths: Lists).
+--   facts about members of lists (effect_check and twe_machine: Members, region_paths: Lists);
+--   that the test on filled paths finds what lies within another (region_paths: Outside).
 
 -- Effects and accesses alone: what interferes with what, and when an access spares the effects of a task.
 pub mod effects
@@ -26,3 +28,5 @@ pub mod journals
 pub mod sparing
 -- The laws of tasks that may run: their accesses are covered, and those of two tasks do not conflict.
 pub mod running
+-- What admission by the effect tree asks of the tasks of a state.
+pub mod admission

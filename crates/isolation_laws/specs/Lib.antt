@@ -1,3 +1,4 @@
+pub mod Admission
 pub mod Conflicts
 pub mod CoveredNow
 pub mod Rows

@@ -9,7 +9,8 @@ ghost use Rattle.twe_program.specs.Program.{Program};
 ghost use Rattle.twe_program.specs.WellFormed.{IsWellFormed};
 ghost use Rattle.soundness_laws.specs.KeepsEffects.{KeepsEffects};
 ghost use Rattle.twe_machine.specs.declared.state.State.{State};
-ghost use Rattle.twe_machine.specs.Runs.{AlwaysIsolated, IsReached, Legal};
+ghost use Rattle.twe_machine.specs.Runs.{AlwaysIsolated, IsReached, Legal, state_after};
+ghost use Rattle.isolation_laws.specs.Admission.{ChildrenInside, LastMakersAreFree, MadeTasksAreAlone, ParentsAreEnabledOrFaulted, WaitersAreEnabled};
 ghost use Rattle.isolation_laws.specs.Conflicts.{AccessesAreCovered, AlwaysCovered, MoversApart};
 ghost use Rattle.isolation_laws.specs.Rows.{ChildrenApart, RowsKeepToDeclarations};
 ghost use Rattle.isolation_laws.specs.Within.{AlwaysWithin, SpawnedWithin};
@@ -55,4 +56,24 @@ pub fn tasks_that_may_run_do_not_conflict()
         → (lim : Bounds) (st : State) → IsReached p lim st → AccessesAreCovered p st }
     ensures movers { (p : Program) → IsWellFormed p → KeepsEffects p
         → (lim : Bounds) (st : State) → IsReached p lim st → MoversApart p st }
+{}
+
+/// In each reached state, the tasks meet the conditions that admission by the effect tree asks of them. Each effect of an
+/// unjoined child lies inside one effect of its parent, by the test on paths. A task whose next operation is a wait is
+/// enabled. A task that has an unjoined child is enabled, or has met a fault. A task that is not admitted yet has no
+/// parent and no unjoined child, and waits for nobody. After a legal journal, a task whose last entry made a task waits
+/// for nobody. Two more conditions are laws of their own: isolation (`accepted_runs_are_isolated`), and that unjoined
+/// children of one task do not interfere (`children_stay_within_and_apart`).
+pub fn states_are_fit_for_admission()
+    ensures inside { (p : Program) → IsWellFormed p → KeepsEffects p
+        → (lim : Bounds) (st : State) → IsReached p lim st → ChildrenInside st }
+    ensures waiters { (p : Program) → IsWellFormed p
+        → (lim : Bounds) (st : State) → IsReached p lim st → WaitersAreEnabled st }
+    ensures parents { (p : Program) → IsWellFormed p
+        → (lim : Bounds) (st : State) → IsReached p lim st → ParentsAreEnabledOrFaulted st }
+    ensures made { (p : Program) → IsWellFormed p
+        → (lim : Bounds) (st : State) → IsReached p lim st → MadeTasksAreAlone st }
+    ensures last_makers { (p : Program) → IsWellFormed p
+        → (lim : Bounds) (journal : List Entry) → Legal p lim journal
+        → LastMakersAreFree journal (state_after p lim journal) }
 {}

@@ -8,6 +8,6 @@ mod laws;
 
 pub use laws::{
     accepted_runs_are_isolated, beginnings_of_legal_journals_are_legal,
-    children_stay_within_and_apart, tasks_keep_to_their_declarations,
+    children_stay_within_and_apart, states_are_fit_for_admission, tasks_keep_to_their_declarations,
     tasks_that_may_run_do_not_conflict,
 };
