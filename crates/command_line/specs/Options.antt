@@ -1,4 +1,4 @@
--- The options that may follow `run`. A setting takes a number: it is the next word, or it follows `=` in the same word. A
+-- The options that may follow `run` and `replay`. A setting takes a number: it is the next word, or it follows `=` in the same word. A
 -- number is digits alone, so it never begins with `-`. The flag `--journal` takes no number.
 use Rattle.std.specs.Prelude.{◌≡◌, ◌≤◌, ◌+◌, ◌++◌, ℕ, Bool, true, false, List, [], ◌∷◌, length, Option, Some, codes, nat_lt, slice_index_or, if◌then◌else◌}
 use Rattle.command_line.specs.declared.options.Setting.{Setting}

@@ -1,4 +1,4 @@
-//! The options of `run`.
+//! The options of `run` and `replay`.
 ghost use Rattle.std.specs.Prelude.{◌≡◌, None, Some};
 ghost use Rattle.command_line.specs.Options.{number_for, spelled};
 ghost use Rattle.command_line.specs.inner.Reading.{nothing, with_number, with_flag, setting_part, part_of, next, taken, read};

@@ -1,7 +1,7 @@
 -- The numbers of the statuses.
 use Rattle.std.specs.Prelude.{ℕ}
 use Rattle.twe_cli.specs.declared.status.Status.{Status}
-use Rattle.twe_cli.specs.declared.status.Status.TheVariants.{Done, Refused, Usage, Fault, Stuck, ReadFault, WriteFault, Memory, TooLong}
+use Rattle.twe_cli.specs.declared.status.Status.TheVariants.{Done, Refused, Usage, Fault, Stuck, ReadFault, WriteFault, Memory, TooLong, BadJournal, Unfinished}
 
 abbrev pub code_of : Status → ℕ
 code_of Done = 0
@@ -13,3 +13,5 @@ code_of ReadFault = 5
 code_of WriteFault = 6
 code_of Memory = 7
 code_of TooLong = 8
+code_of BadJournal = 9
+code_of Unfinished = 10

@@ -1,11 +1,13 @@
 -- The run theorem: what a run of a program is, and what the book of a call has.
-use Rattle.std.specs.Prelude.{◌≡◌, List, [], None, Some}
+use Rattle.std.specs.Prelude.{◌≡◌, ◌≢◌, List, [], None, Some, map}
 use Rattle.seg_journal.specs.declared.journal.Entry.{Entry}
+use Rattle.seg_journal.specs.declared.moves.Move.{Move}
+use Rattle.seg_journal.specs.Spelling.{move_of}
 use Rattle.twe_limits.specs.Limits.{Bounds}
 use Rattle.twe_frontend.specs.declared.refusal.Refusal.{Refusal}
 use Rattle.twe_program.specs.Program.{Program}
 use Rattle.twe_machine.specs.declared.ending.Outcome.{Outcome}
-use Rattle.twe_machine.specs.declared.ending.Outcome.TheVariants.{AllDone}
+use Rattle.twe_machine.specs.declared.ending.Outcome.TheVariants.{AllDone, Unfinished}
 use Rattle.twe_machine.specs.declared.state.State.{State}
 use Rattle.twe_machine.specs.LowestFirst.{LowestFirst}
 use Rattle.twe_machine.specs.Runs.{Legal, state_after, IsOutcome, EachOnce, EachAtMostOnce, AlwaysIsolated}
@@ -16,10 +18,10 @@ abbrev pub EachAsOften : Outcome → List Entry → State → Type 0
 EachAsOften AllDone journal st = EachOnce journal st
 EachAsOften _ journal st = EachAtMostOnce journal
 
--- The book has the program, the journal and the outcome of a run. The sequential machine allows each entry of the journal
--- after those before it, and the journal is the lowest-first one. If all tasks are done, each was made, enabled and ended
--- exactly once, and else at most once. At every moment, of two tasks that may run and interfere, one yields to the other.
-pub record HasRun (p : Program) (lim : Bounds) (outcome : Outcome) (book : Book) : Type 0 where
+-- The book has the program, a legal journal and its outcome: the sequential machine allows each entry of the journal after
+-- those before it. If all tasks are done, each was made, enabled and ended exactly once, and else at most once. At every
+-- moment, of two tasks that may run and interfere, one yields to the other.
+pub record HasJournal (p : Program) (lim : Bounds) (outcome : Outcome) (book : Book) : Type 0 where
   pub program : book.prog ≡ Some p
   pub not_refused : book.refusal ≡ None
   pub legal : Legal p lim book.journal
@@ -27,7 +29,18 @@ pub record HasRun (p : Program) (lim : Bounds) (outcome : Outcome) (book : Book)
   pub ended : IsOutcome (state_after p lim book.journal) outcome
   pub often : EachAsOften outcome book.journal (state_after p lim book.journal)
   pub isolated : AlwaysIsolated p lim book.journal
+
+-- The book has a run of the program. Its journal is the lowest-first one, and the run is over: there was a fault, or no move
+-- is legal.
+pub record HasRun (p : Program) (lim : Bounds) (outcome : Outcome) (book : Book) : Type 0 where
+  pub has : HasJournal p lim outcome book
   pub lowest : LowestFirst p lim book.journal
+  pub over : outcome ≢ Unfinished
+
+-- The book has the replay of these moves.
+pub record HasReplay (p : Program) (lim : Bounds) (moves : List Move) (outcome : Outcome) (book : Book) : Type 0 where
+  pub has : HasJournal p lim outcome book
+  pub replays : map move_of book.journal ≡ moves
 
 -- an empty book
 pub record IsNew (book : Book) : Type 0 where

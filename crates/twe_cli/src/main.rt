@@ -4,6 +4,9 @@
 
 mod answer;
 mod book;
+mod input;
+mod laws;
+mod replaying;
 mod running;
 mod single;
 mod status;

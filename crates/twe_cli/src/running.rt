@@ -1,11 +1,11 @@
 //! The run of an accepted program, and the answer to it.
 ghost use Rattle.std.specs.Prelude.{◌≡◌, IfOk};
 ghost use Rattle.soundness_laws.specs.KeepsEffects.{KeepsEffects};
-ghost use Rattle.twe_machine.specs.LowestFirst.{IsOver};
 ghost use Rattle.twe_machine.specs.Runs.{IsReachable, IsOutcome};
 ghost use Rattle.twe_report.specs.Texts as texts;
-ghost use Rattle.twe_cli.specs.Answers.{AnswersRun, after_prints, on_out, with_journal};
+ghost use Rattle.twe_cli.specs.Answers.{AnswersRun, after_prints, on_err, on_out, with_journal};
 ghost use Rattle.twe_cli.specs.Theorem.{IsNew};
+ghost use Rattle.twe_cli.specs.declared.status.Status.TheVariants.{Unfinished};
 ghost use Rattle.twe_cli.specs.inner.Given.{IsAnswerOfRun};
 ghost use Rattle.twe_machine.specs.declared.ending.Outcome.TheVariants as outcomes;
 
@@ -20,7 +20,7 @@ use twe_io::{Bytes, Memory};
 use twe_limits::Limits;
 use twe_machine::{Outcome, State, outcome};
 use twe_program::Prog;
-use twe_report::{fault_text, journal_part, prints_text, result_text, stuck_text};
+use twe_report::{fault_text, journal_part, prints_text, result_text, stuck_text, unfinished_text};
 
 /// Runs a program and returns the answer to its run, with the journal if `journal` is true. Afterwards the book has the
 /// program, the journal and the outcome.
@@ -38,7 +38,7 @@ pub(crate) fn run_program(
     accepted_runs_are_isolated();
     let (entries, st) = run_lowest(alloc, &p, lim)?;
     let ended = outcome(&p, &st);
-    let plain = answer_run(alloc, &p, &st, ended)?;
+    let plain = answer_run(alloc, &p, &st, st.prints.as_slice(), ended)?;
     let answer = add_journal(alloc, plain, journal, lim, &entries)?;
     book.outcome = Some(ended);
     book.journal = entries;
@@ -46,22 +46,28 @@ pub(crate) fn run_program(
     Ok(answer)
 }
 
-/// The answer to a run that is over and has ended so in this state: its result; or, after a fault or if it is stuck, the
-/// printed numbers, with the fault or the cycle of the tasks that hold one another up.
-fn answer_run(alloc: Global, p: &Prog, st: &State, ended: Outcome) -> Result<Answer, Memory>
+/// The answer to a run that has come to this state, by its outcome: its result; or, after a fault or if it is stuck, the
+/// numbers that were printed up to the first fault, with the fault or the cycle of the tasks that hold one another up; or, if
+/// it can go on, how many tasks are not done.
+pub(crate) fn answer_run(
+    alloc: Global,
+    p: &Prog,
+    st: &State,
+    prints: &[i32],
+    ended: Outcome,
+) -> Result<Answer, Memory>
     requires reachable { IsReachable p.now st.now }
     requires outcome { IsOutcome st.now ended }
-    requires over { IsOver st.now }
-    ensures { IfOk result (AnswersRun p.now st.now st.now.prints ended) }
+    ensures { IfOk result (AnswersRun p.now st.now prints.now ended) }
 {
     match ended {
         Outcome::AllDone => answer_done(alloc, p, st),
         Outcome::Fault { task, kind, place } => {
             let line = fault_text(alloc, task, kind, place)?;
-            answer_prints(alloc, st, Status::Fault, line)
+            answer_prints(alloc, prints, Status::Fault, line)
         }
-        Outcome::Stuck => answer_stuck(alloc, p, st),
-        Outcome::Unfinished => unreachable!(),
+        Outcome::Stuck => answer_stuck(alloc, p, st, prints),
+        Outcome::Unfinished => answer_unfinished(alloc, st),
     }
 }
 
@@ -73,23 +79,35 @@ fn answer_done(alloc: Global, p: &Prog, st: &State) -> Result<Answer, Memory>
 }
 
 /// The answer to a run that is stuck in this state.
-fn answer_stuck(alloc: Global, p: &Prog, st: &State) -> Result<Answer, Memory>
+fn answer_stuck(alloc: Global, p: &Prog, st: &State, prints: &[i32]) -> Result<Answer, Memory>
     requires reachable { IsReachable p.now st.now }
     requires stuck { IsOutcome st.now outcomes.Stuck }
-    ensures { IfOk result (AnswersRun p.now st.now st.now.prints outcomes.Stuck) }
+    ensures { IfOk result (AnswersRun p.now st.now prints.now outcomes.Stuck) }
 {
     let cycle = stuck_cycle(alloc, p, st)?;
     let line = stuck_text(alloc, &cycle)?;
-    answer_prints(alloc, st, Status::Stuck, line)
+    answer_prints(alloc, prints, Status::Stuck, line)
+}
+
+/// The answer to a run that can go on in this state.
+fn answer_unfinished(alloc: Global, st: &State) -> Result<Answer, Memory>
+    ensures { IfOk result (λ answer. answer ≡ on_err Unfinished (texts.unfinished_text st.now)) }
+{
+    Ok(Answer::on_err(alloc, Status::Unfinished, unfinished_text(alloc, st)?))
 }
 
 /// An answer with the printed numbers on out, and this line on err.
-fn answer_prints(alloc: Global, st: &State, status: Status, line: Bytes) -> Result<Answer, Memory>
-    ensures { IfOk result (λ answer. answer ≡ after_prints status st.now.prints line) }
+fn answer_prints(
+    alloc: Global,
+    prints: &[i32],
+    status: Status,
+    line: Bytes,
+) -> Result<Answer, Memory>
+    ensures { IfOk result (λ answer. answer ≡ after_prints status prints.now line) }
 {
     Ok(Answer {
         status,
-        out: prints_text(alloc, st.prints.as_slice())?,
+        out: prints_text(alloc, prints)?,
         err: line,
     })
 }

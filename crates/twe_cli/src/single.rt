@@ -1,5 +1,5 @@
-//! One command: it reads the text of a program, checks it, runs it if the command asks for that, and writes the answer. All
-//! of it happens on the calling thread.
+//! One command: it reads the text of a program, checks it, runs it or replays a journal on it if the command asks for that,
+//! and writes the answer. All of it happens on the calling thread.
 ghost use Rattle.std.specs.Prelude.{◌≡◌, ◌≤◌, length, Some, IfOk, OnOk};
 ghost use Rattle.twe_limits.specs.Language.{max_text_bytes};
 ghost use Rattle.twe_cli.specs.Answers.{Due, Answers, on_err, on_out};
@@ -12,6 +12,8 @@ ghost use Rattle.soundness_laws.specs.KeepsEffects.{KeepsEffects};
 
 use crate::answer::{Answer, tell};
 use crate::book::Book;
+use crate::input::texts_of;
+use crate::replaying::replay_program;
 use crate::running::run_program;
 use crate::status::Status;
 use command_line::Command;
@@ -22,8 +24,8 @@ use twe_limits::MAX_TEXT_BYTES;
 use twe_program::Prog;
 use twe_report::{accepted_text, read_fault_text, refusal_text, too_long_text};
 
-/// Carries out a command: reads the text of a program from the source, checks it, runs it if the command asks for that, and
-/// writes the answer.
+/// Carries out a command: reads the text of a program from the source, checks it, runs it or replays a journal on it if the
+/// command asks for that, and writes the answer.
 ///
 /// `Answers` says what each status means and what is written with it. Afterwards the book has the program, the journal of
 /// its run and how the run ended, or the refusal of the text. After `Memory` nothing was written, and nothing more is
@@ -53,11 +55,11 @@ fn answer_read(
     book: &mut Book,
 ) -> Result<Answer, Memory>
     requires new { IsNew book.old }
-    requires short { IfOk read (λ text. length text ≤ max_text_bytes) }
+    requires short { IfOk read (λ input. length input ≤ max_text_bytes) }
     ensures { IfOk result (AnswersRead cmd.now read book.new) }
 {
     match read {
-        Ok(text) => answer_text(alloc, cmd, text.as_slice(), book),
+        Ok(input) => answer_input(alloc, cmd, input.as_slice(), book),
         Err(ReadFail::ReadFault) => Ok(Answer::on_err(
             alloc,
             Status::ReadFault,
@@ -68,28 +70,44 @@ fn answer_read(
     }
 }
 
-/// The answer to a text.
-fn answer_text(alloc: Global, cmd: &Command, text: &[u8], book: &mut Book) -> Result<Answer, Memory>
+/// The answer to an input.
+fn answer_input(
+    alloc: Global,
+    cmd: &Command,
+    input: &[u8],
+    book: &mut Book,
+) -> Result<Answer, Memory>
     requires new { IsNew book.old }
-    requires short { length text.now ≤ max_text_bytes }
-    ensures { IfOk result (Due cmd.now text.now book.new) }
+    requires short { length input.now ≤ max_text_bytes }
+    ensures { IfOk result (Due cmd.now input.now book.new) }
 {
-    match read_program(alloc, text) {
-        Ok(p) => answer_program(alloc, cmd, p, book),
+    let (program, journal) = texts_of(cmd, input);
+    match read_program(alloc, program) {
+        Ok(p) => answer_program(alloc, cmd, p, journal, book),
         Err(FrontFail::Refused(refusal)) => refuse(alloc, refusal, book),
         Err(FrontFail::OutOfMemory(memory)) => Err(memory),
     }
 }
 
-/// The answer to a text that is accepted and has this program.
-fn answer_program(alloc: Global, cmd: &Command, p: Prog, book: &mut Book) -> Result<Answer, Memory>
+/// The answer to an input whose program text is accepted and has this program, and whose journal text is this.
+fn answer_program(
+    alloc: Global,
+    cmd: &Command,
+    p: Prog,
+    journal: &[u8],
+    book: &mut Book,
+) -> Result<Answer, Memory>
     requires new { IsNew book.old }
     requires keeps { KeepsEffects p }
-    ensures { IfOk result (IsDueFor cmd.now p book.new) }
+    ensures { IfOk result (IsDueFor cmd.now p journal.now book.new) }
 {
     match *cmd {
         Command::Check => accept(alloc, p, book),
-        Command::Run { lim, journal } => run_program(alloc, lim, journal, p, book),
+        Command::Run {
+            lim,
+            journal: asked,
+        } => run_program(alloc, lim, asked, p, book),
+        Command::Replay { lim } => replay_program(alloc, lim, p, journal, book),
     }
 }
 

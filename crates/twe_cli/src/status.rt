@@ -23,6 +23,10 @@ pub enum Status {
     Memory,
     /// The source has more bytes than a text may have.
     TooLong,
+    /// A line of the journal is no move, or its move is not legal.
+    BadJournal,
+    /// The journal was replayed, and its run can go on.
+    Unfinished,
 }
 
 impl Status {
@@ -40,6 +44,8 @@ impl Status {
             Status::WriteFault => 6,
             Status::Memory => 7,
             Status::TooLong => 8,
+            Status::BadJournal => 9,
+            Status::Unfinished => 10,
         }
     }
 }

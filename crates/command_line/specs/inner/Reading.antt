@@ -1,8 +1,9 @@
 -- The reading of the command line, word by word.
-use Rattle.std.specs.Prelude.{ℕ, true, false, List, [], ◌∷◌, length, take, drop, Option, None, Some, codes, bytes_eq, unwrap_or, is_some, if◌then◌else◌}
+use Rattle.std.specs.Prelude.{◌||◌, ℕ, true, false, List, [], ◌∷◌, length, take, drop, Option, None, Some, codes, bytes_eq, unwrap_or, is_some, if◌then◌else◌}
 use Rattle.std.specs.Option.{option_and_then, option_map, option_or}
+use Rattle.twe_limits.specs.Limits.{Bounds}
 use Rattle.command_line.specs.declared.command.Command.{Command}
-use Rattle.command_line.specs.declared.command.Command.TheVariants.{Check, Run}
+use Rattle.command_line.specs.declared.command.Command.TheVariants.{Check, Run, Replay}
 use Rattle.command_line.specs.declared.options.Setting.{Setting}
 use Rattle.command_line.specs.declared.options.Setting.TheVariants.{Workers, Fuel, Tasks}
 use Rattle.command_line.specs.declared.options.Part.{Part}
@@ -64,12 +65,23 @@ read given None [] = Some given
 read given (Some setting) [] = None
 read given wanted (word ∷ words) = option_and_then (λ (sofar : Sofar). read sofar.given sofar.wanted words) (next given wanted word)
 
+-- the limits that the values give
+abbrev pub limits_given : Given → Bounds
+limits_given given = record { fuel = unwrap_or given.fuel default_fuel; tasks = unwrap_or given.tasks default_tasks }
+
 -- the command `run` with these values
 abbrev pub run_as : Given → Command
-run_as given = Run (record { fuel = unwrap_or given.fuel default_fuel; tasks = unwrap_or given.tasks default_tasks }) given.journal
+run_as given = Run (limits_given given) given.journal
 
 abbrev pub run_with : Option Given → Option Command
 run_with given = option_map run_as given
+
+-- the command `replay` with these values, if they are limits alone
+abbrev pub replay_as : Given → Option Command
+replay_as given = if is_some given.workers || given.journal then None else Some (Replay (limits_given given))
+
+abbrev pub replay_with : Option Given → Option Command
+replay_with given = option_and_then replay_as given
 
 -- `check` takes no other word
 abbrev pub check_with : List (List ℕ) → Option Command
@@ -81,4 +93,5 @@ command_of [] = None
 command_of (word ∷ words) =
     if bytes_eq word (codes "check") then check_with words
     else if bytes_eq word (codes "run") then run_with (read nothing None words)
+    else if bytes_eq word (codes "replay") then replay_with (read nothing None words)
     else None

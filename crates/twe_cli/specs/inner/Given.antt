@@ -1,19 +1,26 @@
 -- The answers to a read, to an accepted program and to a run, apart from how they came about.
-use Rattle.std.specs.Prelude.{◌≡◌, ℕ, Bool, List, Result, Ok, Err}
+use Rattle.std.specs.Prelude.{◌≡◌, ℕ, ℤ, Bool, List, Result, Ok, Err}
 use Rattle.twe_io.specs.declared.whole.ReadFail.{ReadFail}
 use Rattle.twe_io.specs.declared.whole.ReadFail.TheVariants as reads
 use Rattle.twe_limits.specs.Limits.{Bounds}
 use Rattle.twe_program.specs.Program.{Program}
 use Rattle.twe_frontend.specs.Accepted.{Accepted}
 use Rattle.twe_machine.specs.declared.ending.Outcome.{Outcome}
+use Rattle.twe_machine.specs.declared.state.State.{State}
+use Rattle.twe_machine.specs.Replays.{IsReplay}
 use Rattle.twe_machine.specs.Runs.{state_after, counted}
 use Rattle.twe_report.specs.Texts.{read_fault_text, too_long_text}
 use Rattle.twe_cli.specs.declared.answer.Answer.{Answer}
 use Rattle.twe_cli.specs.declared.book.Book.{Book}
 use Rattle.command_line.specs.declared.command.Command.{Command}
 use Rattle.twe_cli.specs.declared.status.Status.TheVariants.{ReadFault, TooLong}
-use Rattle.twe_cli.specs.Answers.{Due, AnswersRun, on_err, with_journal}
-use Rattle.twe_cli.specs.Theorem.{HasRun, IsNew}
+use Rattle.twe_cli.specs.Answers.{Due, AnswersReplay, AnswersRun, on_err, with_journal}
+use Rattle.twe_cli.specs.Theorem.{HasReplay, HasRun, IsNew}
+use Rattle.twe_cli.specs.Input.{program_text, journal_text}
+use Rattle.seg_journal.specs.declared.journal.Entry.{Entry}
+use Rattle.seg_journal.specs.declared.moves.Move.{Move}
+use Rattle.seg_journal.specs.declared.text.JournalText.{JournalText}
+use Rattle.seg_journal.specs.Spelling.{Spells}
 
 -- the answer to what the reading of the source came to; there is none if memory ran out
 abbrev pub AnswersRead : Command → Result (List ℕ) ReadFail → Book → Answer → Type 0
@@ -22,9 +29,24 @@ AnswersRead command (Err reads.ReadFault) book answer = IsNew book × (answer �
 AnswersRead command (Err reads.TooLong) book answer = IsNew book × (answer ≡ on_err TooLong too_long_text)
 AnswersRead command (Err (reads.OutOfMemory memory)) book answer = ⊥
 
--- the answer to each text that is accepted and has this program
-abbrev pub IsDueFor : Command → Program → Book → Answer → Type 0
-IsDueFor command p book answer = (text : List ℕ) → Accepted text p → Due command text book answer
+-- the answer to each input whose program text is accepted and has this program, and which has this journal text
+abbrev pub IsDueFor : Command → Program → List ℕ → Book → Answer → Type 0
+IsDueFor command p journal book answer =
+    (input : List ℕ) → Accepted (program_text command input) p → journal ≡ journal_text command input → Due command input book answer
+
+-- the answer to each journal text in which this was found
+abbrev pub AnswersFound : Program → Bounds → JournalText → Book → Answer → Type 0
+AnswersFound p lim found book answer = (text : List ℕ) → Spells text found.head found.moves → AnswersReplay p lim text book answer
+
+-- the book has the replay of these moves, and this is the answer to it
+abbrev pub IsAnswerOfReplay : Program → Bounds → List Move → Book → Answer → Type 0
+IsAnswerOfReplay p lim moves book answer =
+    (outcome : Outcome) × HasReplay p lim moves outcome book
+    × AnswersRun p (state_after p lim book.journal) (state_after p lim (counted book.journal)).prints outcome answer
+
+-- these are the numbers that the moves print
+abbrev pub ArePrintsAfter : Program → Bounds → List Move → List ℤ → Type 0
+ArePrintsAfter p lim moves prints = (journal : List Entry) × (st : State) × IsReplay p lim moves journal st × (prints ≡ st.prints)
 
 -- the book has a run, and this is the answer to it
 pub record IsAnswerOfRun (p : Program) (lim : Bounds) (asked : Bool) (book : Book) (answer : Answer) : Type 0 where

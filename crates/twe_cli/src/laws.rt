@@ -1,0 +1,27 @@
+//! A law of journals that are written.
+ghost use Rattle.std.specs.Prelude.{◌≡◌, ◌++◌, ℕ, List, true};
+ghost use Rattle.twe_limits.specs.Limits.{Bounds, IsWithin};
+ghost use Rattle.twe_program.specs.Program.{Program};
+ghost use Rattle.twe_program.specs.WellFormed.{IsWellFormed};
+ghost use Rattle.twe_frontend.specs.Accepted.{Accepted};
+ghost use Rattle.twe_report.specs.Texts.{journal_part};
+ghost use Rattle.command_line.specs.declared.command.Command.TheVariants.{Run, Replay};
+ghost use Rattle.twe_cli.specs.declared.answer.Answer.{Answer};
+ghost use Rattle.twe_cli.specs.declared.book.Book.{Book};
+ghost use Rattle.twe_cli.specs.Answers.{Due, with_journal};
+ghost use Rattle.twe_cli.specs.Input.{HasNoMark, ends_line};
+
+use twe_frontend::{one_program, refused_or_accepted};
+
+/// A journal that `run --journal` has written replays to the same bytes. Let an accepted text end with a line end and have
+/// no line that is exactly `%%`. If the text with the journal that its run has written after it is the input of `replay`,
+/// then the answer of the run is that of `replay`, with the journal after its lines. The options of `replay` do not matter.
+pub fn written_journals_replay()
+    ensures { (text : List ℕ) (lim other : Bounds) (p : Program) (run book : Book) (ran answer : Answer)
+        → IsWellFormed p → IsWithin lim.fuel lim.tasks → ends_line text ≡ true → HasNoMark text → Accepted text p
+        → Due (Run lim true) text run ran → Due (Replay other) (text ++ journal_part lim run.journal) book answer
+        → ran ≡ with_journal true lim run.journal answer }
+{
+    one_program();
+    refused_or_accepted();
+}
