@@ -11,6 +11,7 @@ use Rattle.twe_machine.specs.declared.ending.Outcome.TheVariants.{AllDone, Unfin
 use Rattle.twe_machine.specs.declared.state.State.{State}
 use Rattle.twe_machine.specs.LowestFirst.{LowestFirst}
 use Rattle.twe_machine.specs.Runs.{Legal, state_after, IsOutcome, EachOnce, EachAtMostOnce, AlwaysIsolated}
+use Rattle.isolation_laws.specs.Conflicts.{AlwaysCovered}
 use Rattle.twe_cli.specs.declared.book.Book.{Book}
 
 -- each task was made, enabled and ended exactly once if all tasks are done, and else at most once
@@ -20,7 +21,8 @@ EachAsOften _ journal st = EachAtMostOnce journal
 
 -- The book has the program, a legal journal and its outcome: the sequential machine allows each entry of the journal after
 -- those before it. If all tasks are done, each was made, enabled and ended exactly once, and else at most once. At every
--- moment, of two tasks that may run and interfere, one yields to the other.
+-- moment, of two tasks that may run and interfere, one yields to the other, and each access that a task may make in its next
+-- segment is covered for it.
 pub record HasJournal (p : Program) (lim : Bounds) (outcome : Outcome) (book : Book) : Type 0 where
   pub program : book.prog ≡ Some p
   pub not_refused : book.refusal ≡ None
@@ -29,6 +31,7 @@ pub record HasJournal (p : Program) (lim : Bounds) (outcome : Outcome) (book : B
   pub ended : IsOutcome (state_after p lim book.journal) outcome
   pub often : EachAsOften outcome book.journal (state_after p lim book.journal)
   pub isolated : AlwaysIsolated p lim book.journal
+  pub covered : AlwaysCovered p lim book.journal
 
 -- The book has a run of the program. Its journal is the lowest-first one, and the run is over: there was a fault, or no move
 -- is legal.

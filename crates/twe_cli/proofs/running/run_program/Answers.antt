@@ -28,11 +28,12 @@ returns c =
     let is = c.outcome-ended.ensures in
     let isolation = c.accepted_runs_are_isolated.ensures in
     let isolated = isolation.isolated p (subst IsWellFormed c.p.view_is c.p.invariant) c.requires.keeps lim journal ran.legal in
+    let covered = isolation.covered p (subst IsWellFormed c.p.view_is c.p.invariant) c.requires.keeps lim journal ran.legal in
     record {
       outcome = ended;
       plain = plain;
       run = record {
-        has = has_journal p lim journal st ended (record { legal = ran.legal; same = ran.state }) is ran.once ran.at_most_once isolated _ refl c.requires.new.refusal refl refl;
+        has = has_journal p lim journal st ended (record { legal = ran.legal; same = ran.state }) is ran.once ran.at_most_once isolated covered _ refl c.requires.new.refusal refl refl;
         lowest = ran.lowest;
         over = ran.ended ended is;
       };
