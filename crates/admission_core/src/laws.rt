@@ -1,0 +1,47 @@
+//! The laws of the core, for every tree of paths, every number of workers and every order of events.
+ghost use Rattle.std.specs.Prelude.{◌≡◌, ℕ, List};
+ghost use Rattle.region_paths.specs.declared.elements.Elem.{Elem};
+ghost use Rattle.prefix_tree.specs.Nodes.{IsTreeOfPaths};
+ghost use Rattle.admission_core.specs.Tasks.{Task, Made, IsTask};
+ghost use Rattle.admission_core.specs.Conditions.{MeetsConditions};
+ghost use Rattle.admission_core.specs.States.{State};
+ghost use Rattle.admission_core.specs.Entries.{AllStand};
+ghost use Rattle.admission_core.specs.Rule.{DescentsSawPass, EnabledStand, FinishedAreFree, IsQuiet, IsReached, IsStart, LocksAreHeldOnce, OthersYieldTo, RecordsYield, UnplacedAreBorn, WalksSawPass};
+
+/// The start of a run is quiet, so events may lead from it.
+pub fn a_run_starts_quiet()
+    ensures { (nodes : List (List Elem)) (s : State) → IsStart s → IsQuiet nodes s }
+{}
+
+/// The rule of admission holds in each state that events lead to.
+pub fn events_keep_the_rule()
+    // Of two live tasks that have records that interfere, one yields to the other.
+    ensures records { (nodes : List (List Elem)) (s : State) → IsTreeOfPaths nodes → IsReached nodes s → RecordsYield s }
+    // For a descent, each record strictly above its last node passes.
+    ensures descents { (nodes : List (List Elem)) (s : State) → IsTreeOfPaths nodes → IsReached nodes s
+        → DescentsSawPass nodes s }
+    // For a walk, each record strictly above its last node, and each at or below a finished node, passes.
+    ensures walks { (nodes : List (List Elem)) (s : State) → IsTreeOfPaths nodes → IsReached nodes s
+        → WalksSawPass nodes s }
+    // No lock of a finished node of a walk is held.
+    ensures finished { (nodes : List (List Elem)) (s : State) → IsTreeOfPaths nodes → IsReached nodes s
+        → FinishedAreFree nodes s }
+    // No lock is held by two workers.
+    ensures locks { (nodes : List (List Elem)) (s : State) → IsTreeOfPaths nodes → IsReached nodes s
+        → LocksAreHeldOnce s }
+    // An enabled task has a record for each effect, unless it is a spawned child that is still to be placed.
+    ensures enabled { (nodes : List (List Elem)) (s : State) → IsTreeOfPaths nodes → IsReached nodes s
+        → EnabledStand nodes s }
+    ensures unplaced { (nodes : List (List Elem)) (s : State) → IsTreeOfPaths nodes → IsReached nodes s
+        → UnplacedAreBorn s.tasks }
+    // The tasks keep meeting what the core asks of them. An admission is no exception: the tasks stay isolated.
+    ensures conditions { (nodes : List (List Elem)) (s : State) → IsTreeOfPaths nodes → IsReached nodes s
+        → MeetsConditions s.tasks }
+{}
+
+/// If all records of a task that is still to be admitted stand, each other enabled task that interferes with it yields to
+/// it.
+pub fn a_placed_task_may_be_admitted()
+    ensures { (nodes : List (List Elem)) (s : State) (t : ℕ) (task : Task) → IsTreeOfPaths nodes → IsReached nodes s
+        → IsTask s.tasks t task → task.status ≡ Made → AllStand nodes s.records t task → OthersYieldTo s.tasks t }
+{}
