@@ -36,11 +36,11 @@ module _ (nodes : List (List Elem)) (tree : IsTreeOfPaths nodes) (s : State) (ke
   by_records q other e f apart is_q enabled has_e has_f i (inl unplaced) =
       let up = parent_stands nodes tree s kept q other e is_q unplaced has_e in
       let own = records f has_f in
-      let yields = kept.pairs (record { task = up.born.p; effect = up.effect; node = up.node }) (record { task = t; effect = f; node = own.0 }) up.stands own.2 up.live live (mutual_interference f up.effect (up.covers f (mutual_interference e f i))) in
-      let same : up.born.p ≡ t =
+      let yields = kept.pairs (record { task = up.born.maker; effect = up.effect; node = up.node }) (record { task = t; effect = f; node = own.0 }) up.stands own.2 up.live live (mutual_interference f up.effect (up.covers f (mutual_interference e f i))) in
+      let same : up.born.maker ≡ t =
       ⊎_elim
-      (λ (first : YieldsTo s.tasks.links up.born.p t). yields_to_none_made s.tasks kept.given up.born.p t up.nobody (task, is, made) first)
-      (λ (second : YieldsTo s.tasks.links t up.born.p). made_yields s.tasks kept.given t up.born.p (task, is, made) second)
+      (λ (first : YieldsTo s.tasks.links up.born.maker t). yields_to_none_made s.tasks kept.given up.born.maker t up.nobody (task, is, made) first)
+      (λ (second : YieldsTo s.tasks.links t up.born.maker). made_yields s.tasks kept.given t up.born.maker (task, is, made) second)
       yields in
       absurd (made_not_enabled s.tasks t (task, is, made) (up.born.parent, subst (λ (x : ℕ). IsTask s.tasks x up.born.parent) same up.born.is, up.born.active))
   by_records q other e f apart is_q enabled has_e has_f i (inr placed) =

@@ -24,27 +24,27 @@ pub record ParentStands (nodes : List (List Elem)) (s : State) (c : ℕ) (child 
   pub born : IsBorn s.tasks c child
   pub effect : Effect
   pub node : ℕ
-  pub live : IsLive s.tasks born.p
-  pub nobody : WaitsForNobody s.tasks.links born.p
+  pub live : IsLive s.tasks born.maker
+  pub nobody : WaitsForNobody s.tasks.links born.maker
   pub place : IsPlaceOf nodes effect node
   pub covers : (x : Effect) → Interferes x e → Interferes x effect
   pub higher : (m : ℕ) → IsPlaceOf nodes e m → IsAbove nodes node m
-  pub stands : IsAmong (record { task = born.p; effect = effect; node = node }) s.records
+  pub stands : IsAmong (record { task = born.maker; effect = effect; node = node }) s.records
 
 module _ (nodes : List (List Elem)) (tree : IsTreeOfPaths nodes) (s : State) (kept : Kept nodes s) where
   pub parent_stands : (c : ℕ) (child : Task) (e : Effect) → IsTask s.tasks c child → child.unplaced ≡ true → Contains child.effects e → ParentStands nodes s c child e
   parent_stands c child e is unplaced has =
       let born = kept.born c child is unplaced in
-      let d = kept.given.inside c born.p child born.parent is born.is born.spawned e has in
-      let stands = kept.full born.p born.parent born.is born.active born.placed d.0 d.1 in
+      let d = kept.given.inside c born.maker child born.parent is born.is born.spawned e has in
+      let stands = kept.full born.maker born.parent born.is born.active born.placed d.0 d.1 in
       record {
         born = born;
         effect = d.0;
         node = stands.0;
-        live = enabled_live s.tasks born.p born.parent born.is born.active;
-        nobody = kept.given.maker born.p c born.parent born.is born.made;
+        live = enabled_live s.tasks born.maker born.parent born.is born.active;
+        nobody = kept.given.maker born.maker c born.parent born.is born.made;
         place = stands.1;
-        covers = λ x i. covered_more x d.0 e (filled_among born.parent.effects d.0 (kept.given.filled born.p born.parent born.is) d.1) (filled_among child.effects e (kept.given.filled c child is) has) d.2 i;
+        covers = λ x i. covered_more x d.0 e (filled_among born.parent.effects d.0 (kept.given.filled born.maker born.parent born.is) d.1) (filled_among child.effects e (kept.given.filled c child is) has) d.2 i;
         higher = λ m at. covering_place nodes tree e d.0 m stands.0 at stands.1 d.2;
         stands = stands.2;
       }
@@ -65,7 +65,7 @@ module _ (nodes : List (List Elem)) (tree : IsTreeOfPaths nodes) (s : State) (ke
     up = parent_stands c child e is unplaced has
 
     abbrev parent_record : Record
-    parent_record = record { task = up.born.p; effect = up.effect; node = up.node }
+    parent_record = record { task = up.born.maker; effect = up.effect; node = up.node }
 
     -- the parent would have to yield to a task that is to be admitted
     no_attempt : (v : ℕ) (b : Activity) (u : ℕ) (f : Effect) → s.activities v ≡ Some b → b.purpose ≡ Admit u f → IsPast nodes b.stage place → Interferes e f → ⊥
@@ -76,7 +76,7 @@ module _ (nodes : List (List Elem)) (tree : IsTreeOfPaths nodes) (s : State) (ke
         (λ (higher : IsPast nodes b.stage up.node).
         let pass = subst (λ (x : Purpose). PassesFor s.tasks x parent_record) purpose (g.seen parent_record up.stands higher) in
         let yield = pass up.live (mutual_interference f up.effect (up.covers f (mutual_interference e f i))) in
-        let same = yields_to_none_made s.tasks kept.given up.born.p u up.nobody (mine.0, mine.1, mine.2) yield in
+        let same = yields_to_none_made s.tasks kept.given up.born.maker u up.nobody (mine.0, mine.1, mine.2) yield in
         made_not_enabled s.tasks u (mine.0, mine.1, mine.2) (up.born.parent, subst (λ (x : ℕ). IsTask s.tasks x up.born.parent) same up.born.is, up.born.active))
         (λ (low : IsUnderFinished nodes b.stage place). kept.shut v w b low.0 place is_b low.1 low.2 (own, active, inl refl))
         (past_higher nodes tree b.stage place up.node (up.higher place going.place) past)
@@ -92,6 +92,6 @@ module _ (nodes : List (List Elem)) (tree : IsTreeOfPaths nodes) (s : State) (ke
         (record { task = (child, is, has); place = going.place })
         (λ q among q_live live i.
         let home = (kept.home q among).task in
-        yields_by_parent s.tasks kept.given c up.born.p q.task child home.0 e q.effect up.born.spawned up.nobody is has home.1 home.2 i
+        yields_by_parent s.tasks kept.given c up.born.maker q.task child home.0 e q.effect up.born.spawned up.nobody is has home.1 home.2 i
         (kept.pairs q parent_record among up.stands q_live up.live (up.covers q.effect i)))
         (λ v b is_b past. for_each v b b.purpose is_b refl past)

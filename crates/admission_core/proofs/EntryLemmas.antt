@@ -52,7 +52,7 @@ module _ (nodes : List (List Elem)) (s : State) (kept : Kept nodes s) (after : T
       → ((v : ℕ) (b : Activity) → s.activities v ≡ Some b → old.status ≡ Made → old.turn ≡ Taken v → ⊥)
       → (new.status ≡ Enabled → new.unplaced ≡ false → AllStand nodes s.records t old)
       → (new.unplaced ≡ true → ⊥)
-      → ((c : ℕ) (child : Task) → IsTask s.tasks c child → child.unplaced ≡ true → (born : IsBorn s.tasks c child) → born.p ≡ t → ⊥)
+      → ((c : ℕ) (child : Task) → IsTask s.tasks c child → child.unplaced ≡ true → (born : IsBorn s.tasks c child) → born.maker ≡ t → ⊥)
       → Kept nodes (record s { tasks = after })
   turn_keeps isolated none stand placed childless =
       change_keeps nodes s kept after later t old new is becomes effects
@@ -75,7 +75,7 @@ module _ (nodes : List (List Elem)) (s : State) (kept : Kept nodes s) (after : T
           (cases_eq x t)
 
   -- the born child's parent is this task
-  parent_is : (c : ℕ) (child : Task) (born : IsBorn s.tasks c child) → born.p ≡ t → born.parent ≡ old
+  parent_is : (c : ℕ) (child : Task) (born : IsBorn s.tasks c child) → born.maker ≡ t → born.parent ≡ old
   parent_is c child born same = one_task s.tasks t born.parent old (subst (λ (x : ℕ). IsTask s.tasks x born.parent) same born.is) is
 
 module _ (nodes : List (List Elem)) (tree : IsTreeOfPaths nodes) (s : State) (kept : Kept nodes s) (after : Tasks) where

@@ -70,8 +70,8 @@ module _ (nodes : List (List Elem)) (s : State) (kept : Kept nodes s) (after : T
     abbrev base : List Link
     base = with_wait (links_joined s.tasks.links joins) t waits
 
-    abbrev maker : Task
-    maker = record task { made = Some c }
+    abbrev maker_task : Task
+    maker_task = record task { made = Some c }
 
     not_child : (u : ℕ) (a : Task) → IsTask s.tasks u a → u ≢ c
     not_child u a is_a same = not_some (sym h.fresh ∙ subst (λ (x : ℕ). IsTask s.tasks x a) same is_a)
@@ -80,10 +80,10 @@ module _ (nodes : List (List Elem)) (s : State) (kept : Kept nodes s) (after : T
     stays u a other is_a = h.others u other (not_child u a is_a) ∙ is_a
 
     -- a task after it is the maker, the child, or was there before
-    came_from : (u : ℕ) (b : Task) → IsTask after u b → ((u ≡ t) × (maker ≡ b)) ⊎ (((u ≡ c) × (new_task w effects spawned ≡ b)) ⊎ ((u ≢ t) × IsTask s.tasks u b))
+    came_from : (u : ℕ) (b : Task) → IsTask after u b → ((u ≡ t) × (maker_task ≡ b)) ⊎ (((u ≡ c) × (new_task w effects spawned ≡ b)) ⊎ ((u ≢ t) × IsTask s.tasks u b))
     came_from u b is_b =
         ⊎_elim
-        (λ (same : u ≡ t). inl (same, one_task after t maker b h.maker (subst (λ (x : ℕ). IsTask after x b) same is_b)))
+        (λ (same : u ≡ t). inl (same, one_task after t maker_task b h.maker (subst (λ (x : ℕ). IsTask after x b) same is_b)))
         (λ (other : u ≢ t).
         inr
         (⊎_elim
@@ -105,7 +105,7 @@ module _ (nodes : List (List Elem)) (s : State) (kept : Kept nodes s) (after : T
           ⊎_elim
           (λ (same : u ≡ t).
           let one = one_task s.tasks t task a h.may.is (subst (λ (x : ℕ). IsTask s.tasks x a) same is_a) in
-          (maker, subst (λ (x : ℕ). IsTask after x maker) (sym same) h.maker, ap (λ (x : Task). x.effects) one))
+          (maker_task, subst (λ (x : ℕ). IsTask after x maker_task) (sym same) h.maker, ap (λ (x : Task). x.effects) one))
           (λ (other : u ≢ t). (a, stays u a other is_a, refl))
           (cases_eq u t);
       live = make_live;
@@ -140,8 +140,8 @@ module _ (nodes : List (List Elem)) (s : State) (kept : Kept nodes s) (after : T
     born_child : (x : Bool) → spawned ≡ x → (new_task w effects spawned).unplaced ≡ true → IsBorn after c (new_task w effects spawned)
     born_child true is unplaced = record {
       enabled = ap (λ (x : Bool). (new_task w effects x).status) is;
-      p = t;
-      parent = maker;
+      maker = t;
+      parent = maker_task;
       spawned = child_of (ap (λ (x : Bool). parent_if x t) is);
       is = h.maker;
       active = h.may.enabled;
@@ -155,7 +155,7 @@ module _ (nodes : List (List Elem)) (s : State) (kept : Kept nodes s) (after : T
     make_born : UnplacedAreBorn after
     make_born u child is_u unplaced =
         ⊎_elim
-        (λ (same : (u ≡ t) × (maker ≡ child)). absurd (false≢true (sym h.may.placed ∙ ap (λ (x : Task). x.unplaced) same.1 ∙ unplaced)))
+        (λ (same : (u ≡ t) × (maker_task ≡ child)). absurd (false≢true (sym h.may.placed ∙ ap (λ (x : Task). x.unplaced) same.1 ∙ unplaced)))
         (λ (rest : ((u ≡ c) × (new_task w effects spawned ≡ child)) ⊎ ((u ≢ t) × IsTask s.tasks u child)).
         ⊎_elim
         (λ (own : (u ≡ c) × (new_task w effects spawned ≡ child)).
@@ -163,16 +163,16 @@ module _ (nodes : List (List Elem)) (s : State) (kept : Kept nodes s) (after : T
         (subst (λ (x : Task). IsBorn after c x) own.1 (born_child spawned refl (ap (λ (x : Task). x.unplaced) own.1 ∙ unplaced))))
         (λ (old : (u ≢ t) × IsTask s.tasks u child).
         let born = kept.born u child old.1 unplaced in
-        let other : born.p ≢ t = λ same. false≢true (sym (h.may.children u child (subst (λ (x : ℕ). SpawnedBy s.tasks.links u x) same born.spawned) old.1) ∙ unplaced) in
+        let other : born.maker ≢ t = λ same. false≢true (sym (h.may.children u child (subst (λ (x : ℕ). SpawnedBy s.tasks.links u x) same born.spawned) old.1) ∙ unplaced) in
         record {
           enabled = born.enabled;
-          p = born.p;
+          maker = born.maker;
           parent = born.parent;
           spawned =
-              subst (λ (ls : List Link). SpawnedBy ls u born.p) (sym h.links)
-              (added_spawned base (parent_if spawned t) u born.p
-              (segment_spawned s.tasks kept.given t h.may.ready joins waits h.joined u born.p (enabled_live s.tasks u child old.1 born.enabled) born.spawned));
-          is = stays born.p born.parent other born.is;
+              subst (λ (ls : List Link). SpawnedBy ls u born.maker) (sym h.links)
+              (added_spawned base (parent_if spawned t) u born.maker
+              (segment_spawned s.tasks kept.given t h.may.ready joins waits h.joined u born.maker (enabled_live s.tasks u child old.1 born.enabled) born.spawned));
+          is = stays born.maker born.parent other born.is;
           active = born.active;
           placed = born.placed;
           made = born.made;
@@ -185,7 +185,7 @@ module _ (nodes : List (List Elem)) (s : State) (kept : Kept nodes s) (after : T
     make_full : EnabledStand nodes (record s { tasks = after })
     make_full u b is_u enabled at_rest =
         ⊎_elim
-        (λ (same : (u ≡ t) × (maker ≡ b)).
+        (λ (same : (u ≡ t) × (maker_task ≡ b)).
         let stands = kept.full t task h.may.is h.may.enabled h.may.placed in
         subst (λ (x : ℕ). AllStand nodes s.records x b) (sym same.0) (subst (λ (x : Task). AllStand nodes s.records t x) same.1 stands))
         (λ (rest : ((u ≡ c) × (new_task w effects spawned ≡ b)) ⊎ ((u ≢ t) × IsTask s.tasks u b)).

@@ -95,7 +95,7 @@ module _ (nodes : List (List Elem)) (s : State) (kept : Kept nodes s) (after : T
         → ((v : ℕ) (b : Activity) → s.activities v ≡ Some b → old.status ≡ Made → old.turn ≡ Taken v → ⊥)
         → (new.status ≡ Enabled → new.unplaced ≡ false → AllStand nodes s.records t old)
         → (new.unplaced ≡ true → ⊥)
-        → ((c : ℕ) (child : Task) → IsTask s.tasks c child → child.unplaced ≡ true → (born : IsBorn s.tasks c child) → born.p ≡ t → ⊥)
+        → ((c : ℕ) (child : Task) → IsTask s.tasks c child → child.unplaced ≡ true → (born : IsBorn s.tasks c child) → born.maker ≡ t → ⊥)
         → ((c p : ℕ) (child : Task) → IsTask s.tasks c child → child.status ≡ Enabled → SpawnedBy s.tasks.links c p → SpawnedBy after.links c p)
         → Kept nodes (record s { tasks = after })
     change_keeps given none stand placed childless spawned =
@@ -115,10 +115,10 @@ module _ (nodes : List (List Elem)) (s : State) (kept : Kept nodes s) (after : T
         let born = kept.born c child other.1 unplaced in
         record {
           enabled = born.enabled;
-          p = born.p;
+          maker = born.maker;
           parent = born.parent;
-          spawned = spawned c born.p child other.1 born.enabled born.spawned;
-          is = becomes.others born.p (childless c child other.1 unplaced born) ∙ born.is;
+          spawned = spawned c born.maker child other.1 born.enabled born.spawned;
+          is = becomes.others born.maker (childless c child other.1 unplaced born) ∙ born.is;
           active = born.active;
           placed = born.placed;
           made = born.made;

@@ -83,10 +83,10 @@ EnabledStand nodes s =
 -- turn has the parent's turn, and the parent is enabled and has all of its own records.
 pub record IsBorn (ts : Tasks) (c : ℕ) (child : Task) : Type 0 where
   pub enabled : child.status ≡ Enabled
-  pub p : ℕ
+  pub maker : ℕ
   pub parent : Task
-  pub spawned : SpawnedBy ts.links c p
-  pub is : IsTask ts p parent
+  pub spawned : SpawnedBy ts.links c maker
+  pub is : IsTask ts maker parent
   pub active : parent.status ≡ Enabled
   pub placed : parent.unplaced ≡ false
   pub made : parent.made ≡ Some c

@@ -32,6 +32,8 @@ pub fn events_keep_the_rule()
     // An enabled task has a record for each effect, unless it is a spawned child that is still to be placed.
     ensures enabled { (nodes : List (List Elem)) (s : State) → IsTreeOfPaths nodes → IsReached nodes s
         → EnabledStand nodes s }
+    // Such a child is enabled. Its parent's last entry made it, the worker that has its first turn has the parent's turn,
+    // and the parent is enabled and placed.
     ensures unplaced { (nodes : List (List Elem)) (s : State) → IsTreeOfPaths nodes → IsReached nodes s
         → UnplacedAreBorn s.tasks }
     // The tasks keep meeting what the core asks of them. An admission is no exception: the tasks stay isolated.
