@@ -1,0 +1,19 @@
+//! The law that connects the states of runs to the core of admission.
+ghost use Rattle.std.specs.Prelude.{List};
+ghost use Rattle.seg_journal.specs.declared.journal.Entry.{Entry};
+ghost use Rattle.twe_limits.specs.Limits.{Bounds};
+ghost use Rattle.twe_program.specs.Program.{Program};
+ghost use Rattle.twe_program.specs.WellFormed.{IsWellFormed};
+ghost use Rattle.soundness_laws.specs.KeepsEffects.{KeepsEffects};
+ghost use Rattle.twe_machine.specs.Runs.{Legal, state_after};
+ghost use Rattle.admission_core.specs.Tasks.{Tasks};
+ghost use Rattle.admission_core.specs.Conditions.{MeetsConditions};
+ghost use Rattle.admission_laws.specs.TasksOf.{AreTasksOf};
+
+/// After each legal journal of an accepted program, its tasks meet the conditions that the core of admission asks for,
+/// whoever has their turns and whichever are still to be placed.
+pub fn runs_meet_the_conditions()
+    ensures { (p : Program) → IsWellFormed p → KeepsEffects p → (lim : Bounds) (journal : List Entry)
+        → Legal p lim journal → (tasks : Tasks) → AreTasksOf journal (state_after p lim journal) tasks
+        → MeetsConditions tasks }
+{}
