@@ -1,0 +1,31 @@
+-- How the laws of this crate are proved, in the order in which to read the files. Each uses only those above it.
+--
+-- From other crates these proofs take the lemmas of public laws (wait_graph, effect_sets, segment_laws, twe_machine,
+-- isolation_laws), and beside these: the invariant of the machine and what a move does to rows (twe_machine: Standing,
+-- ReachedStands, Later, LaterStates, OtherRows, Places), and the invariant of isolation with the control paths of frames
+-- (isolation_laws: journals/Invariant, frames, paths, effects).
+
+-- The state before each entry of a journal; what stays from there to a later entry.
+pub mod JournalPlaces
+-- The segments below a task: what they access lies within its effects, and it is not done before them.
+pub mod Trees
+-- Of two segments of one task the later one has the higher number.
+pub mod SegmentNumbers
+-- Conflicting accesses below a task are in the order of the ranks.
+pub mod RankOrder
+-- The row of a task that a move made, and the next operation of a task that moved.
+pub mod NewTasks
+-- Deterministic bodies: they spawn deterministic tasks only, and get no value.
+pub mod BodyRules
+-- So it is in each reached state: deterministic tasks wait only for deterministic tasks that they spawned.
+pub mod Forks
+-- Each task that has a parent was spawned by a segment of it.
+pub mod Spawners
+-- Each segment of a task below another has one rank below that one, and each rank is of one segment.
+pub mod RankLaws
+-- While a deterministic task is enabled, tasks that are not below it spare its effects.
+pub mod LeftAlone
+-- Lists alone: two orders that agree on each pair of some elements have these in one order.
+pub mod ListOrders
+-- So if two orders of segments agree on conflicts, each segment finds the same values in both.
+pub mod SameValues

@@ -1,0 +1,5 @@
+use Rattle.determinism_laws.proofs.RankOrder.{conflicts_keep_ranks}
+use Rattle.determinism_laws.proofs.laws.conflicts_keep_the_elision_order.Goals as goal
+
+pub returns : goal.returns
+returns c = conflicts_keep_ranks

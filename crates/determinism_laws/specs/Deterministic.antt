@@ -1,0 +1,29 @@
+-- What the word `deterministic` of a declaration means while its tasks run: they fork and join.
+use Rattle.std.specs.Prelude.{◌≡◌, ℕ, Some, IsTrue, slice_get}
+use Rattle.wait_graph.specs.Waiting.{SpawnedBy, WaitsFor}
+use Rattle.effect_check.specs.Acts.{is_deterministic}
+use Rattle.twe_program.specs.Program.{Program}
+use Rattle.twe_machine.specs.declared.state.State.{State}
+use Rattle.twe_machine.specs.declared.state.TaskRow.{TaskRow}
+use Rattle.twe_machine.specs.Rows.{IsRow, awaited}
+
+-- the task of this row is of a deterministic declaration
+abbrev pub IsDeterministic : Program → TaskRow → Type 0
+IsDeterministic p row = IsTrue (is_deterministic (slice_get p.tasks row.decl))
+
+-- each task that a deterministic task spawned is deterministic, joined or not
+abbrev pub ChildrenAreDeterministic : Program → State → Type 0
+ChildrenAreDeterministic p st =
+    (c t : ℕ) (child row : TaskRow) → IsRow st c child → IsRow st t row → child.parent ≡ Some t → IsDeterministic p row → IsDeterministic p child
+
+-- a deterministic task waits only for tasks that it spawned: the next operation of its frame, if it is a wait, is for one
+-- of them
+abbrev pub WaitsAreForChildren : Program → State → Type 0
+WaitsAreForChildren p st =
+    (t on : ℕ) (row : TaskRow) → IsRow st t row → IsDeterministic p row → awaited row.frame.next ≡ Some on
+    → (child : TaskRow) × IsRow st on child × (child.parent ≡ Some t)
+
+-- and while that task is not done, it is an unjoined child
+abbrev pub WaitsAreForUnjoined : Program → State → Type 0
+WaitsAreForUnjoined p st =
+    (t on : ℕ) (row : TaskRow) → IsRow st t row → IsDeterministic p row → WaitsFor st.links t on → SpawnedBy st.links on t

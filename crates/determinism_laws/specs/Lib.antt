@@ -1,0 +1,5 @@
+pub mod Deterministic
+pub mod ElisionOrder
+pub mod Orders
+pub mod Ranks
+pub mod Segments

@@ -1,0 +1,67 @@
+//! Laws of runs of a program that keeps the rules on effects: what deterministic tasks do, and in which order conflicting
+//! accesses below a task come.
+ghost use Rattle.std.specs.Prelude.{ℕ, List};
+ghost use Rattle.seg_journal.specs.declared.journal.Entry.{Entry};
+ghost use Rattle.twe_limits.specs.Limits.{Bounds};
+ghost use Rattle.twe_program.specs.Program.{Program};
+ghost use Rattle.twe_program.specs.WellFormed.{IsWellFormed};
+ghost use Rattle.soundness_laws.specs.KeepsEffects.{KeepsEffects};
+ghost use Rattle.twe_machine.specs.declared.state.State.{State};
+ghost use Rattle.twe_machine.specs.declared.state.TaskRow.{TaskRow};
+ghost use Rattle.twe_machine.specs.Rows.{IsRow};
+ghost use Rattle.twe_machine.specs.Runs.{IsReached, Legal, state_after};
+ghost use Rattle.determinism_laws.specs.Deterministic.{ChildrenAreDeterministic, IsDeterministic, WaitsAreForChildren, WaitsAreForUnjoined};
+ghost use Rattle.determinism_laws.specs.ElisionOrder.{ConflictsKeepRanks, KeepsElisionOrder};
+ghost use Rattle.determinism_laws.specs.Ranks.{AllHaveRanks, OneRankEach, OneSegmentEach, SegmentsAreInOrder};
+ghost use Rattle.determinism_laws.specs.Orders.{AgreeOn, FindSameValues, HaveSameWriters, LeaveSameCells, PrintAlike, SegmentAccesses, SegmentsConflict};
+
+/// In each reached state, all tasks that a deterministic task spawned are deterministic, joined or not. A deterministic task
+/// waits only for tasks that it spawned; while such a task is not done, it is an unjoined child.
+pub fn deterministic_tasks_fork_and_join()
+    ensures children { (p : Program) → IsWellFormed p → KeepsEffects p
+        → (lim : Bounds) (st : State) → IsReached p lim st → ChildrenAreDeterministic p st }
+    ensures waits { (p : Program) → IsWellFormed p → KeepsEffects p
+        → (lim : Bounds) (st : State) → IsReached p lim st → WaitsAreForChildren p st }
+    ensures unjoined { (p : Program) → IsWellFormed p → KeepsEffects p
+        → (lim : Bounds) (st : State) → IsReached p lim st → WaitsAreForUnjoined p st }
+{}
+
+/// In every legal journal, each segment of a task and of the tasks below it has exactly one rank, and each rank is that of
+/// one segment. Of two segments one comes first by rank. So the ranks are an order of these segments.
+pub fn ranks_order_the_segments()
+    ensures all { (p : Program) → IsWellFormed p → KeepsEffects p
+        → (lim : Bounds) (journal : List Entry) → Legal p lim journal → (t : ℕ) → AllHaveRanks p lim journal t }
+    ensures one_rank { (p : Program) → IsWellFormed p → KeepsEffects p
+        → (lim : Bounds) (journal : List Entry) → Legal p lim journal → (t : ℕ) → OneRankEach p lim journal t }
+    ensures one_segment { (p : Program) → IsWellFormed p → KeepsEffects p
+        → (lim : Bounds) (journal : List Entry) → Legal p lim journal → (t : ℕ) → OneSegmentEach p lim journal t }
+    ensures in_order { (p : Program) → IsWellFormed p → KeepsEffects p
+        → (lim : Bounds) (journal : List Entry) → Legal p lim journal → (t : ℕ) → SegmentsAreInOrder p lim journal t }
+{}
+
+/// In every legal journal, of two segments of a task and of the tasks below it that make conflicting accesses, the earlier
+/// in the journal is the earlier in the order in which sequential code would execute them.
+pub fn conflicts_keep_the_elision_order()
+    ensures { (p : Program) → IsWellFormed p → KeepsEffects p
+        → (lim : Bounds) (journal : List Entry) → Legal p lim journal → (t : ℕ) → ConflictsKeepRanks p lim journal t }
+{}
+
+/// Every legal journal keeps the elision order of each deterministic task: conflicting accesses below the task are in the
+/// order of sequential code, all accesses there lie within its effects, and while it is enabled no other task makes an
+/// access that interferes with one of them.
+pub fn deterministic_tasks_keep_the_elision_order()
+    ensures { (p : Program) → IsWellFormed p → KeepsEffects p
+        → (lim : Bounds) (journal : List Entry) → Legal p lim journal
+        → (t : ℕ) (row : TaskRow) → IsRow (state_after p lim journal) t row → IsDeterministic p row
+        → KeepsElisionOrder p lim journal t row }
+{}
+
+/// If two orders of the same segments agree on each pair of segments with conflicting accesses, each segment has the same
+/// last writer before it, in each cell that it accesses, and all writers before that one are the same, too. So it finds the
+/// same value there. At the end each cell has the same value, and the segments that print came in the same order.
+pub fn orders_that_agree_on_conflicts_give_the_same_values()
+    ensures writers { (p : Program) (xs ys : List SegmentAccesses) → AgreeOn (SegmentsConflict p) xs ys → HaveSameWriters xs ys }
+    ensures values { (p : Program) (xs ys : List SegmentAccesses) → AgreeOn (SegmentsConflict p) xs ys → FindSameValues xs ys }
+    ensures cells { (p : Program) (xs ys : List SegmentAccesses) → AgreeOn (SegmentsConflict p) xs ys → LeaveSameCells xs ys }
+    ensures prints { (p : Program) (xs ys : List SegmentAccesses) → AgreeOn (SegmentsConflict p) xs ys → PrintAlike xs ys }
+{}
