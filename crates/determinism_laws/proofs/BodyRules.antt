@@ -79,10 +79,10 @@ module _ (p : Program) (keeps : KeepsEffects p) (lim : Bounds) (st : State) (sta
   abbrev value : ℤ
   value = awaited_value st.tasks (awaited row.frame.next)
 
-  found : (decl : Decl) × (slice_get p.tasks row.frame.decl ≡ Some decl)
+  pub found : (decl : Decl) × (slice_get p.tasks row.frame.decl ≡ Some decl)
   found = taker (slice_get p.tasks row.frame.decl) (length row.args) (kept.runs t row is_t).count
 
-  listed : Contains p.tasks found.0
+  pub listed : Contains p.tasks found.0
   listed = in-contains p.tasks found.0 (got-in p.tasks row.frame.decl found.0 found.1)
 
   deterministic : IsTrue (found.0).deterministic
@@ -93,7 +93,7 @@ module _ (p : Program) (keeps : KeepsEffects p) (lim : Bounds) (st : State) (sta
   abbrev left : Statements
   left = left_of p (after p row.frame value st.cells)
 
-  in_body : (operation : Statement) (later : Path) → Reached (body_of (slice_get p.tasks row.frame.decl)) (statement operation left) later
+  pub in_body : (operation : Statement) (later : Path) → Reached (body_of (slice_get p.tasks row.frame.decl)) (statement operation left) later
       → Reached (found.0).body.block (statement operation left) later
   in_body operation later reached = subst (λ (o : Option Decl). Reached (body_of o) (statement operation left) later) found.1 reached
 

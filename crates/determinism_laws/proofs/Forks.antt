@@ -1,8 +1,9 @@
 -- In each reached state, what deterministic tasks spawned is deterministic, and they wait only for what they spawned.
-use Rattle.std.proofs.Common.{◌≡◌, ◌≢◌, ◌≤◌, ◌<◌, ℕ, zero, suc, Bool, true, false, IsTrue, List, [], ◌∷◌, ◌++◌, length, Option, None, Some, inl, inr, refl, sym, ap, ◌∙◌, subst, arith}
+use Rattle.std.proofs.Common.{◌≡◌, ◌≢◌, ◌⊎◌, ◌≤◌, ◌<◌, ℕ, zero, suc, Bool, true, false, IsTrue, List, [], ◌∷◌, ◌++◌, length, Contains, Option, None, Some, inl, inr, refl, sym, ap, ◌∙◌, subst, arith}
 use Rattle.std.specs.Prelude.{slice_get}
-use Rattle.std.proofs.lemmas.Bool.{cases_Bool, cases_eq, cases_lt}
+use Rattle.std.proofs.lemmas.Bool.{cases_eq, cases_lt}
 use Rattle.effect_check.specs.Acts.{is_deterministic}
+use Rattle.effect_check.proofs.Members.{IsIn, in-contains}
 use Rattle.seg_journal.specs.declared.journal.Entry.{Entry}
 use Rattle.seg_journal.specs.declared.moves.Kind.{Kind}
 use Rattle.seg_journal.specs.declared.moves.Kind.TheVariants.{Admit, Run}
@@ -12,18 +13,21 @@ use Rattle.twe_program.specs.WellFormed.{IsWellFormed}
 use Rattle.seg_exec.specs.declared.frame.Frame.{Frame}
 use Rattle.seg_exec.specs.declared.frame.Next.{Next}
 use Rattle.seg_exec.specs.declared.frame.Next.TheVariants.{Go, Get, Join, Closing, Ended}
+use Rattle.seg_exec.specs.declared.stop.Stop.{Stop}
+use Rattle.seg_exec.specs.declared.stop.Stop.TheVariants as ends
 use Rattle.seg_exec.specs.Entry.{effects_at, entry_frame}
 use Rattle.seg_exec.specs.Giving.{given}
+use Rattle.segment_laws.specs.Keeps.{IsClosing, NextAfter}
 use Rattle.segment_laws.proofs.Following.{makes_follow}
+use Rattle.segment_laws.proofs.SegmentKept.{segment_keeps}
 use Rattle.soundness_laws.specs.KeepsEffects.{KeepsEffects}
 use Rattle.wait_graph.specs.declared.tasks.Link.{Link}
 use Rattle.twe_machine.specs.declared.state.State.{State}
 use Rattle.twe_machine.specs.declared.state.TaskRow.{TaskRow}
-use Rattle.twe_machine.specs.declared.state.TaskStatus.TheVariants.{Done}
 use Rattle.seg_journal.specs.declared.moves.Move.{Move}
 use Rattle.twe_machine.specs.Legal.{MayMove, MayTake}
-use Rattle.twe_machine.specs.Moves.{awaited_value, move_result, new_row, parent_of, result_by_kind, start_of}
-use Rattle.twe_machine.specs.Rows.{IsRow, awaited, is_done_status}
+use Rattle.twe_machine.specs.Moves.{awaited_value, frame_without_prints, making_frame, move_result, new_row, parent_of, ready_frame, result_by_kind, start_of}
+use Rattle.twe_machine.specs.Rows.{IsRow, awaited}
 use Rattle.twe_machine.specs.Runs.{IsReached, LegalFrom, entry_of, replayed}
 use Rattle.twe_machine.proofs.Later.{Later}
 use Rattle.twe_machine.proofs.LaterStates.{taken_later}
@@ -35,14 +39,22 @@ use Rattle.twe_machine.proofs.Standing.{Stands}
 use Rattle.isolation_laws.proofs.journals.Invariant.{Kept}
 use Rattle.isolation_laws.proofs.journals.Journals.{reached_kept}
 use Rattle.isolation_laws.proofs.rows.LinksOfRows.{link_there}
-use Rattle.determinism_laws.specs.Deterministic.{ChildrenAreDeterministic, IsDeterministic, WaitsAreForChildren, WaitsAreForUnjoined}
+use Rattle.determinism_laws.specs.Deterministic.{ChildrenAreDeterministic, IsDeterministic, WaitsAreForChildren}
 use Rattle.determinism_laws.proofs.BodyRules.{makes_deterministic, never_gets}
-use Rattle.determinism_laws.proofs.NewTasks.{NextAfterMove, move_next, move_row}
+use Rattle.determinism_laws.proofs.NewTasks.{FrameAfter, FrameAfterMove, left_by, move_frame, move_row}
+use Rattle.determinism_laws.proofs.OutFrames.{OutOnPath, joins_child, out_after_join, out_after_spawn, out_at_entry}
 
--- The invariant: the children of a deterministic task are deterministic, and its next operation is not to get a value.
+-- The frame of a deterministic task: its next operation is not to get a value, a written join is of an unjoined child, and
+-- the futures that are out stand for unjoined children.
+pub record ForkFrame (p : Program) (frame : Frame) : Type 0 where
+  pub no_gets : (on : ℕ) (into : Option ℕ) → ¬ (frame.next ≡ Get on into)
+  pub joins : (on : ℕ) (into : Option ℕ) → frame.next ≡ Join on into → IsIn on frame.out.items
+  pub out : ¬ (frame.body ≡ None) → OutOnPath p frame
+
+-- The invariant: the children of a deterministic task are deterministic, and its frame forks and joins.
 pub record Forks (p : Program) (st : State) : Type 0 where
   pub children : ChildrenAreDeterministic p st
-  pub no_gets : (t : ℕ) (row : TaskRow) → IsRow st t row → IsDeterministic p row → (on : ℕ) (into : Option ℕ) → ¬ (row.frame.next ≡ Get on into)
+  pub frames : (t : ℕ) (row : TaskRow) → IsRow st t row → IsDeterministic p row → ForkFrame p row.frame
 
 -- whether a row is of a deterministic task depends on its declaration alone
 pub same_flag : (p : Program) (a b : TaskRow) → a.decl ≡ b.decl → IsDeterministic p a → IsDeterministic p b
@@ -94,61 +106,125 @@ module _ (p : Program) (wf : IsWellFormed p) (keeps : KeepsEffects p) (lim : Bou
         | inr past ↦ new_child c q child row past is_c is_q of flag
       ]
 
-  -- the next operation of a task that moved
-  own_next : (k : Kind) → (row now : TaskRow) → IsRow st t row → IsDeterministic p row → NextAfterMove p st k row now → (on : ℕ) (into : Option ℕ) → ¬ (now.frame.next ≡ Get on into)
-  own_next Admit row now is flag same on into get = forks.no_gets t row is flag on into (sym same ∙ get)
-  own_next Run row now is flag (inl same) on into get = never_gets p keeps lim st stands kept t row is flag on into (sym same ∙ get)
-  own_next Run row now is flag (inr ended) on into get = let both : Ended ≡ Get on into = sym ended ∙ get in absurd (cc)
+  -- the frame of a task that moved
+
+  abbrev left : TaskRow → Frame
+  left row = (left_by p st row).frame
+
+  waiting : (row : TaskRow) → IsRow st t row → IsDeterministic p row → (stop : Stop) → (left_by p st row).stop ≡ stop → NextAfter stop (left row)
+  waiting row is flag stop e = subst (λ (s : Stop). NextAfter s (left row)) e (segment_keeps p (ready_frame st.tasks row.frame) st.cells).next
+
+  known : (row : TaskRow) → IsRow st t row → IsDeterministic p row → ¬ (row.frame.body ≡ None) → OutOnPath p row.frame
+  known row is flag = (forks.frames t row is flag).out
+
+  -- a frame that goes on, waits for nobody, or has ended
+  calm : (frame : Frame) (next : Next) → frame.next ≡ next → awaited next ≡ None → (¬ (frame.body ≡ None) → OutOnPath p frame) → ForkFrame p frame
+  calm frame next is none out = record {
+    no_gets = λ on into get. let some = ap awaited (sym is ∙ get) in cc (some, none);
+    joins = λ on into join. let some = ap awaited (sym is ∙ join) in absurd (cc (some, none));
+    out = out;
+  }
+
+  ended_frame : (frame : Frame) (next : Next) → frame.next ≡ next → awaited next ≡ None → frame.body ≡ None → ForkFrame p frame
+  ended_frame frame next is none body = calm frame next is none (λ some. absurd (some body))
+
+  joining : (row : TaskRow) → (is : IsRow st t row) → (flag : IsDeterministic p row) → (on : ℕ) → ((into : Option ℕ) × ((left row).next ≡ Join on into)) ⊎ IsClosing (left row) on
+      → ForkFrame p (frame_without_prints (left row))
+  joining row is flag on (inl next) = record {
+    no_gets = λ other into get. let both : Join on next.0 ≡ Get other into = sym next.1 ∙ get in cc (both);
+    joins = λ other into join. joins_child p keeps lim st stands kept t row is flag (known row is flag) other into join;
+    out = λ some. out_after_join p keeps lim st stands kept t row is flag (known row is flag) on next.0 next.1;
+  }
+  joining row is flag on (inr closing) = record {
+    no_gets = λ other into get. let both : Closing on ≡ Get other into = sym closing.next ∙ get in cc (both);
+    joins = λ other into join. let both : Closing on ≡ Join other into = sym closing.next ∙ join in absurd (cc (both));
+    out = λ some. absurd (some closing.body);
+  }
+
+  -- what a segment leaves, by how it stopped
+  left_frame : (row now : TaskRow) → IsRow st t row → IsDeterministic p row → (stop : Stop) → (left_by p st row).stop ≡ stop → FrameAfter stop (left row) now → ForkFrame p now.frame
+  left_frame row now is flag (ends.Make child args effects spawned future place) e (inl made) =
+      let only = makes_deterministic p keeps lim st stands kept t row is flag child args effects spawned future place e in
+      let stop = e ∙ ap (λ (b : Bool). ends.Make child args effects b future place) only.0 in
+      let next = waiting row is flag (ends.Make child args effects spawned future place) e in
+      let maker = frame_without_prints (making_frame future true made.0 (left row)) in
+      let fork = calm maker Go next refl (λ some. out_after_spawn p keeps lim st stands kept t row is flag (known row is flag) made.0 child args effects future place stop) in
+      subst (ForkFrame p) (sym (made.1 ∙ ap (λ (b : Bool). frame_without_prints (making_frame future b made.0 (left row))) only.0)) fork
+  left_frame row now is flag (ends.Make child args effects spawned future place) e (inr faulted) = ended_frame now.frame Ended faulted.1 refl faulted.0
+  left_frame row now is flag (ends.Waits on) e same =
+      let next = waiting row is flag (ends.Waits on) e in
+      absurd (never_gets p keeps lim st stands kept t row is flag on next.0 next.1)
+  left_frame row now is flag (ends.Joins on) e same = subst (ForkFrame p) (sym same) (joining row is flag on (waiting row is flag (ends.Joins on) e))
+  left_frame row now is flag (ends.Done value) e same =
+      let next = waiting row is flag (ends.Done value) e in
+      subst (ForkFrame p) (sym same) (ended_frame (frame_without_prints (left row)) Ended next.0 refl next.1)
+  left_frame row now is flag (ends.Fault kind_of place) e same =
+      let next = waiting row is flag (ends.Fault kind_of place) e in
+      subst (ForkFrame p) (sym same) (ended_frame (frame_without_prints (left row)) Ended next.0 refl next.1)
+
+  own_frame : (k : Kind) → (row now : TaskRow) → IsRow st t row → IsDeterministic p row → FrameAfterMove p st k row now → ForkFrame p now.frame
+  own_frame Admit row now is flag same = subst (ForkFrame p) (sym same) (forks.frames t row is flag)
+  own_frame Run row now is flag after = left_frame row now is flag (left_by p st row).stop refl after
 
   -- a row of another task
-  other_next : (u : ℕ) (a b : TaskRow) → u ≢ t → IsRow st u a → IsRow new u b → b.frame ≡ a.frame
-  other_next u a b other before after =
+  other_frame : (u : ℕ) (a b : TaskRow) → u ≢ t → IsRow st u a → IsRow new u b → b.frame ≡ a.frame
+  other_frame u a b other before after =
       elim (row_after p lim st t u other a before kind) [
         | inl stays ↦ ap (λ (r : TaskRow). r.frame) (got_one (slice_get new.tasks u) after stays.1)
         | inr marked ↦ ap (λ (r : TaskRow). r.frame) (got_one (slice_get new.tasks u) after marked.1)
       ]
 
   -- a new row begins with its body
-  new_next : (u : ℕ) (b : TaskRow) → length st.tasks ≤ u → IsRow new u b → b.frame.next ≡ Go
-  new_next u b past after =
+  new_frame : (u : ℕ) (b : TaskRow) → length st.tasks ≤ u → IsRow new u b → ForkFrame p b.frame
+  new_frame u b past after =
       let made = move_row p lim st stands t kind u past b after in
       let makes = made.makes in
       let value = awaited_value st.tasks (awaited made.row.frame.next) in
       let comes = makes_follow p (given made.row.frame value) st.cells [] makes.child makes.args makes.effects makes.spawned makes.future makes.place makes.stops_at in
-      makes.next ∙ ap (λ (f : Frame). f.next) comes.child_is
+      let first = record (entry_frame p comes.task makes.args) { task = u; fuel = makes.fuel } in
+      let same : b.frame ≡ first = makes.frame ∙ ap (λ (f : Frame). record f { task = u; fuel = makes.fuel }) comes.child_is in
+      subst (ForkFrame p) (sym same) (calm first Go refl refl (λ some. out_at_entry p comes.task makes.args u makes.fuel))
 
-  old_gets : (u : ℕ) (a b : TaskRow) → IsRow st u a → IsRow new u b → IsDeterministic p b → (on : ℕ) (into : Option ℕ) → ¬ (b.frame.next ≡ Get on into)
-  old_gets u a b before after flag on into get =
+  old_frame : (u : ℕ) (a b : TaskRow) → IsRow st u a → IsRow new u b → IsDeterministic p b → ForkFrame p b.frame
+  old_frame u a b before after flag =
       let was = same_flag p b a (same_task u a b before after).0 flag in
       elim (cases_eq u t) [
         | inl own ↦
             let before_t = subst (λ (n : ℕ). IsRow st n a) own before in
             let after_t = subst (λ (n : ℕ). IsRow new n b) own after in
-            own_next kind a b before_t was (move_next p lim st stands t kind may a b before_t after_t) on into get
-        | inr other ↦ forks.no_gets u a before was on into (sym (ap (λ (f : Frame). f.next) (other_next u a b other before after)) ∙ get)
+            own_frame kind a b before_t was (move_frame p lim st stands t kind may a b before_t after_t)
+        | inr other ↦ subst (ForkFrame p) (sym (other_frame u a b other before after)) (forks.frames u a before was)
       ]
 
-  no_gets_new : (u : ℕ) (b : TaskRow) → IsRow new u b → IsDeterministic p b → (on : ℕ) (into : Option ℕ) → ¬ (b.frame.next ≡ Get on into)
-  no_gets_new u b after flag on into get =
+  frames_new : (u : ℕ) (b : TaskRow) → IsRow new u b → IsDeterministic p b → ForkFrame p b.frame
+  frames_new u b after flag =
       elim (cases_lt u (length st.tasks)) [
-        | inl before ↦ let a = below_there st.tasks u before in old_gets u a.0 b a.1 after flag on into get
-        | inr past ↦ let both : Go ≡ Get on into = sym (new_next u b past after) ∙ get in absurd (cc)
+        | inl before ↦ let a = below_there st.tasks u before in old_frame u a.0 b a.1 after flag
+        | inr past ↦ new_frame u b past after
       ]
 
   pub move_forks : Forks p new
-  move_forks = record { children = children_new; no_gets = no_gets_new }
+  move_forks = record { children = children_new; frames = frames_new }
 
 module _ (p : Program) (wf : IsWellFormed p) (keeps : KeepsEffects p) (lim : Bounds) where
-  first_next : (t : ℕ) (row : TaskRow) → IsRow (start_of p lim) t row → (row.frame.next ≡ Go) × (row.parent ≡ None)
-  first_next zero row is =
-      let same : new_row lim 0 None (entry_frame p p.main []) [] (effects_at p p.main []) ≡ row = cc in
-      (sym (ap (λ (r : TaskRow). r.frame.next) same), sym (ap (λ (r : TaskRow). r.parent) same))
-  first_next (suc t) row is = absurd (cc (is))
+  abbrev first : TaskRow
+  first = new_row lim 0 None (entry_frame p p.main []) [] (effects_at p p.main [])
+
+  first_is : (t : ℕ) (row : TaskRow) → IsRow (start_of p lim) t row → first ≡ row
+  first_is zero row is = let same : first ≡ row = cc in same
+  first_is (suc t) row is = absurd (cc (is))
+
+  first_frame : ForkFrame p first.frame
+  first_frame = record {
+    no_gets = λ on into get. cc (get);
+    joins = λ on into join. absurd (cc (join));
+    out = λ some. out_at_entry p p.main [] 0 lim.fuel;
+  }
 
   start_forks : Forks p (start_of p lim)
   start_forks = record {
-    children = λ c t child row is_c is_t of. let none = (first_next c child is_c).1 in absurd (cc (none, of));
-    no_gets = λ t row is flag on into get. let go = (first_next t row is).0 in absurd (cc (go, get));
+    children = λ c t child row is_c is_t of. let none = ap (λ (r : TaskRow). r.parent) (first_is c child is_c) in absurd (cc (none, of));
+    frames = λ t row is flag. subst (λ (r : TaskRow). ForkFrame p r.frame) (first_is t row is) first_frame;
   }
 
   reached_more : (st : State) (mv : Move) → IsReached p lim st → MayMove st mv → IsReached p lim (move_result p lim st mv).0
@@ -175,7 +251,7 @@ module _ (p : Program) (wf : IsWellFormed p) (keeps : KeepsEffects p) (lim : Bou
   child_awaited : (st : State) → IsReached p lim st → (t on : ℕ) (row : TaskRow) → IsRow st t row → IsDeterministic p row
       → (next : Next) → row.frame.next ≡ next → awaited next ≡ Some on → (child : TaskRow) × IsRow st on child × (child.parent ≡ Some t)
   child_awaited st reached t on row is flag Go e waits = absurd (cc (waits))
-  child_awaited st reached t on row is flag (Get other into) e waits = absurd ((reached_forks st reached).no_gets t row is flag other into e)
+  child_awaited st reached t on row is flag (Get other into) e waits = absurd (((reached_forks st reached).frames t row is flag).no_gets other into e)
   child_awaited st reached t on row is flag (Join other into) e waits =
       let made = ((reached_stands p lim st wf reached).rows t row is).frame.joining other into e in
       let same : other ≡ on = cc (waits) in
@@ -186,22 +262,28 @@ module _ (p : Program) (wf : IsWellFormed p) (keeps : KeepsEffects p) (lim : Bou
       (made.row, subst (λ (n : ℕ). IsRow st n made.row) same made.there, made.parent_is)
   child_awaited st reached t on row is flag Ended e waits = absurd (cc (waits))
 
-  pub waits_for_children : (st : State) → IsReached p lim st → WaitsAreForChildren p st
-  waits_for_children st reached t on row is flag waits = child_awaited st reached t on row is flag row.frame.next refl waits
+  pub awaited_row : (st : State) → IsReached p lim st → (t on : ℕ) (row : TaskRow) → IsRow st t row → IsDeterministic p row
+      → awaited row.frame.next ≡ Some on → (child : TaskRow) × IsRow st on child × (child.parent ≡ Some t)
+  awaited_row st reached t on row is flag waits = child_awaited st reached t on row is flag row.frame.next refl waits
 
-  pub waits_for_unjoined : (st : State) → IsReached p lim st → WaitsAreForUnjoined p st
-  waits_for_unjoined st reached t on row is flag wait =
+  -- each child that is waited for is unjoined
+  child_listed : (st : State) → IsReached p lim st → (t on : ℕ) (row : TaskRow) → IsRow st t row → IsDeterministic p row
+      → (next : Next) → row.frame.next ≡ next → awaited next ≡ Some on → IsIn on row.frame.out.items
+  child_listed st reached t on row is flag Go e waits = absurd (cc (waits))
+  child_listed st reached t on row is flag (Get other into) e waits = absurd (((reached_forks st reached).frames t row is flag).no_gets other into e)
+  child_listed st reached t on row is flag (Join other into) e waits =
+      let same : other ≡ on = cc (waits) in
+      subst (λ (n : ℕ). IsIn n row.frame.out.items) same (((reached_forks st reached).frames t row is flag).joins other into e)
+  child_listed st reached t on row is flag (Closing other) e waits =
+      let same : other ≡ on = cc (waits) in
+      let closing = ((reached_stands p lim st wf reached).rows t row is).frame.closing other e in
+      subst (λ (n : ℕ). IsIn n row.frame.out.items) same (subst (IsIn other) (sym closing.out) (inl refl))
+  child_listed st reached t on row is flag Ended e waits = absurd (cc (waits))
+
+  pub waits_for_children : (st : State) → IsReached p lim st → WaitsAreForChildren p st
+  waits_for_children st reached t on row is flag waits =
       let stands = reached_stands p lim st wf reached in
-      let own = link_there st stands.links t row is in
-      let child = waits_for_children st reached t on row is flag (sym (ap (λ (l : Link). l.waits) own) ∙ wait.waits) in
-      let link = link_there st stands.links on child.0 child.1 in
-      record {
-        parent = ap (λ (l : Link). l.parent) link ∙ child.2;
-        unjoined = elim (cases_Bool child.0.joined) [
-          | inl joined ↦
-              let done : child.0.status ≡ Done = (stands.rows on child.0 child.1).joined joined in
-              let both : true ≡ false = sym (ap is_done_status done) ∙ (sym (ap (λ (l : Link). l.done) link) ∙ wait.undone) in
-              absurd (cc)
-          | inr free ↦ ap (λ (l : Link). l.joined) link ∙ free
-        ];
-      }
+      let listed = in-contains row.frame.out.items on (child_listed st reached t on row is flag row.frame.next refl waits) in
+      let child = (stands.children t row is on).0 (subst (λ (out : List ℕ). Contains out on) (sym (stands.rows t row is).out) listed) in
+      let link = link_there st stands.links on child.row child.there in
+      record { parent = ap (λ (l : Link). l.parent) link ∙ child.parent; unjoined = ap (λ (l : Link). l.joined) link ∙ child.unjoined }

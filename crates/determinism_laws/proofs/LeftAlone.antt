@@ -39,7 +39,7 @@ use Rattle.determinism_laws.specs.Deterministic.{IsDeterministic}
 use Rattle.determinism_laws.specs.ElisionOrder.{IsLeftAlone, KeepsElisionOrder, StaysWithin}
 use Rattle.determinism_laws.specs.Ranks.{IsBelow}
 use Rattle.determinism_laws.specs.Segments.{SegmentMakes, number_of_segment, state_before}
-use Rattle.determinism_laws.proofs.Forks.{children_deterministic, same_flag, waits_for_children}
+use Rattle.determinism_laws.proofs.Forks.{children_deterministic, same_flag, awaited_row}
 use Rattle.determinism_laws.proofs.JournalPlaces.{later_end, reached_at, stands_at}
 use Rattle.determinism_laws.proofs.RankOrder.{conflicts_keep_ranks}
 use Rattle.determinism_laws.proofs.Spawners.{below_parent}
@@ -79,7 +79,7 @@ module _ (p : Program) (wf : IsWellFormed p) (keeps : KeepsEffects p) (lim : Bou
   below_waits n i t u row is flag (more {b = on} wait chain) below =
       let reached = reached_at p wf lim journal legal n in
       let own = link_there (st n) (stands_at p wf lim journal legal n).links t row is in
-      let child = waits_for_children p wf keeps lim (st n) reached t on row is flag (sym (ap (λ (l : Link). l.waits) own) ∙ wait.waits) in
+      let child = awaited_row p wf keeps lim (st n) reached t on row is flag (sym (ap (λ (l : Link). l.waits) own) ∙ wait.waits) in
       let child_flag = children_deterministic p wf keeps lim (st n) reached on t child.0 row child.1 is child.2 flag in
       below_parent p wf lim journal legal n t on i child.0 child.1 child.2 (below_waits n i on u child.0 child.1 child_flag chain below)
 

@@ -13,10 +13,12 @@ pub mod Trees
 pub mod SegmentNumbers
 -- Conflicting accesses below a task are in the order of the ranks.
 pub mod RankOrder
--- The row of a task that a move made, and the next operation of a task that moved.
+-- The row of a task that a move made, and the frame of a task that moved.
 pub mod NewTasks
 -- Deterministic bodies: they spawn deterministic tasks only, and get no value.
 pub mod BodyRules
+-- The futures that are out in a deterministic body stand for unjoined children; a join is of one of them.
+pub mod OutFrames
 -- So it is in each reached state: deterministic tasks wait only for deterministic tasks that they spawned.
 pub mod Forks
 -- Each task that has a parent was spawned by a segment of it.

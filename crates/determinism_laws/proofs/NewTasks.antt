@@ -1,5 +1,5 @@
--- What a move makes: a row that was not there before is the one of the task that the entry made. And what the next
--- operation of the task that moves is afterwards.
+-- What a move makes: a row that was not there before is the one of the task that the entry made. And the frame of
+-- the task that moves.
 use Rattle.std.proofs.Common.{◌≡◌, ◌⊎◌, ◌≤◌, ◌<◌, ◌+◌, ◌++◌, ℕ, ℤ, Bool, true, false, cond, List, [], ◌∷◌, length, Option, None, Some, inl, inr, refl, sym, ap, ◌∙◌, subst, arith, nat_lt, length-set, ltb-true}
 use Rattle.std.specs.Prelude.{slice_get, slice_set}
 use Rattle.std.proofs.lemmas.Option.{slice_get_within}
@@ -21,7 +21,7 @@ use Rattle.seg_exec.specs.Segment.{Stopped, segment}
 use Rattle.twe_machine.specs.declared.state.State.{State}
 use Rattle.twe_machine.specs.declared.state.TaskRow.{TaskRow}
 use Rattle.twe_machine.specs.Legal.{MayTake}
-use Rattle.twe_machine.specs.Moves.{admitted, admitted_row, done_row, faulted_row, going_row, joined_child, making_frame, new_row, parent_of, ran, ready_frame, result_by_kind, state_after_asking, state_after_fault, state_after_join, state_after_make, stop_result, stopped_frame}
+use Rattle.twe_machine.specs.Moves.{admitted, admitted_row, done_row, faulted_row, frame_without_prints, going_row, joined_child, making_frame, new_row, parent_of, ran, ready_frame, result_by_kind, state_after_asking, state_after_fault, state_after_join, state_after_make, stop_result, stopped_frame}
 use Rattle.twe_machine.specs.Rows.{IsRow}
 use Rattle.twe_machine.proofs.Halfway.{halfway}
 use Rattle.twe_machine.proofs.JoinedWeight.{length_joined}
@@ -42,14 +42,10 @@ pub record MakesRow (t c : ℕ) (stop : Stop) (end : End) (row : TaskRow) : Type
   pub decl : row.decl ≡ child.decl
   pub parent : row.parent ≡ parent_of t spawned
   pub next : row.frame.next ≡ child.next
-
--- the next operation after a stop: it is that of the frame that the segment left, or the task has ended
-abbrev pub NextIs : Frame → TaskRow → Type 0
-NextIs frame row = (row.frame.next ≡ frame.next) ⊎ (row.frame.next ≡ Ended)
+  pub fuel : ℕ
+  pub frame : row.frame ≡ record child { task = c; fuel = fuel }
 
 module _ (lim : Bounds) (st : State) (t : ℕ) (row : TaskRow) (frame : Frame) where
-  -- A row that was not there before.
-
   module _ (number : st.asked + 1 < lim.tasks → st.asked + 1 ≡ length st.tasks) (c : ℕ) (past : length st.tasks ≤ c) (new : TaskRow) where
     none_set : (changed : TaskRow) → slice_get (slice_set st.tasks t changed) c ≡ Some new → ⊥
     none_set changed here =
@@ -80,6 +76,8 @@ module _ (lim : Bounds) (st : State) (t : ℕ) (row : TaskRow) (frame : Frame) w
                 decl = sym (ap (λ (r : TaskRow). r.decl) last.1);
                 parent = sym (ap (λ (r : TaskRow). r.parent) last.1);
                 next = sym (ap (λ (r : TaskRow). r.frame.next) last.1);
+                fuel = lim.fuel;
+                frame = sym (ap (λ (r : TaskRow). r.frame) last.1) ∙ ap (λ (n : ℕ). record child { task = n; fuel = lim.fuel }) (sym same);
               }
         ]
     made_row false e child args effects spawned future place here = absurd (none_set (faulted_row row (stopped_frame frame)) here)
@@ -91,30 +89,42 @@ module _ (lim : Bounds) (st : State) (t : ℕ) (row : TaskRow) (frame : Frame) w
     stop_row (stops.Done value) here = absurd (none_set (done_row row frame value) here)
     stop_row (stops.Fault kind place) here = absurd (none_set (faulted_row row frame) here)
 
-  -- The row of t itself.
+-- The frame of t after a stop: what the segment left, with the new task in it if it made one; or the task has ended.
 
-  module _ (there : IsRow st t row) (new : TaskRow) where
-    set_is : (changed : TaskRow) → slice_get (slice_set st.tasks t changed) t ≡ Some new → changed ≡ new
-    set_is changed here = got_one (slice_get (slice_set st.tasks t changed) t) (set_same st.tasks t row changed there) here
+abbrev pub FrameAfter : Stop → Frame → TaskRow → Type 0
+FrameAfter (stops.Make child args effects spawned future place) frame new =
+    ((number : ℕ) × (new.frame ≡ frame_without_prints (making_frame future spawned number frame))) ⊎ ((new.frame.body ≡ None) × (new.frame.next ≡ Ended))
+FrameAfter (stops.Waits on) frame new = new.frame ≡ frame_without_prints frame
+FrameAfter (stops.Joins on) frame new = new.frame ≡ frame_without_prints frame
+FrameAfter (stops.Done value) frame new = new.frame ≡ frame_without_prints frame
+FrameAfter (stops.Fault kind place) frame new = new.frame ≡ frame_without_prints frame
 
-    next_made : (b : Bool) → (child : Frame) (args : List ℤ) (effects : Summary) (spawned : Bool) (future : ℕ) (place : Place)
-        → IsRow (cond {A = State × End} b (state_after_make lim st t row frame future spawned child args effects, ends.Made (st.asked + 1))
-        (state_after_fault (state_after_asking st) t row (stopped_frame frame) TaskLimit place, ends.Fault TaskLimit place)).0 t new → NextIs frame new
-    next_made true child args effects spawned future place here =
-        let going = going_row row (making_frame future spawned (st.asked + 1) frame) in
-        let added = new_row lim (st.asked + 1) (parent_of t spawned) child args effects in
-        let own = put_before (slice_set st.tasks t going) added t going (set_same st.tasks t row going there) in
-        let same : going ≡ new = got_one (slice_get (slice_set st.tasks t going ++ added ∷ []) t) own here in
-        inl (sym (ap (λ (r : TaskRow). r.frame.next) same))
-    next_made false child args effects spawned future place here =
-        inr (sym (ap (λ (r : TaskRow). r.frame.next) (set_is (faulted_row row (stopped_frame frame)) here)))
+module _ (lim : Bounds) (st : State) (t : ℕ) (row : TaskRow) (frame : Frame) (there : IsRow st t row) (new : TaskRow) where
+  set_frame : (changed : TaskRow) → slice_get (slice_set st.tasks t changed) t ≡ Some new → new.frame ≡ changed.frame
+  set_frame changed here =
+      sym (ap (λ (r : TaskRow). r.frame) (got_one (slice_get (slice_set st.tasks t changed) t) (set_same st.tasks t row changed there) here))
 
-    next_stopped : (stop : Stop) → IsRow (stop_result lim st t row frame stop).0 t new → NextIs frame new
-    next_stopped (stops.Make child args effects spawned future place) here = next_made (nat_lt (st.asked + 1) lim.tasks) child args effects spawned future place here
-    next_stopped (stops.Waits on) here = inl (sym (ap (λ (r : TaskRow). r.frame.next) (set_is (going_row row frame) here)))
-    next_stopped (stops.Joins on) here = inl (sym (ap (λ (r : TaskRow). r.frame.next) (set_is (going_row row frame) here)))
-    next_stopped (stops.Done value) here = inl (sym (ap (λ (r : TaskRow). r.frame.next) (set_is (done_row row frame value) here)))
-    next_stopped (stops.Fault kind place) here = inl (sym (ap (λ (r : TaskRow). r.frame.next) (set_is (faulted_row row frame) here)))
+  made_frame : (b : Bool) → (child : Frame) (args : List ℤ) (effects : Summary) (spawned : Bool) (future : ℕ) (place : Place)
+      → IsRow (cond {A = State × End} b (state_after_make lim st t row frame future spawned child args effects, ends.Made (st.asked + 1))
+      (state_after_fault (state_after_asking st) t row (stopped_frame frame) TaskLimit place, ends.Fault TaskLimit place)).0 t new
+      → FrameAfter (stops.Make child args effects spawned future place) frame new
+  made_frame true child args effects spawned future place here =
+      let going = going_row row (making_frame future spawned (st.asked + 1) frame) in
+      let added = new_row lim (st.asked + 1) (parent_of t spawned) child args effects in
+      let own = put_before (slice_set st.tasks t going) added t going (set_same st.tasks t row going there) in
+      let same : going ≡ new = got_one (slice_get (slice_set st.tasks t going ++ added ∷ []) t) own here in
+      inl (st.asked + 1, sym (ap (λ (r : TaskRow). r.frame) same))
+  made_frame false child args effects spawned future place here =
+      let same = set_frame (faulted_row row (stopped_frame frame)) here in
+      inr (ap (λ (f : Frame). f.body) same, ap (λ (f : Frame). f.next) same)
+
+  stopped_row_frame : (stop : Stop) → IsRow (stop_result lim st t row frame stop).0 t new → FrameAfter stop frame new
+  stopped_row_frame (stops.Make child args effects spawned future place) here =
+      made_frame (nat_lt (st.asked + 1) lim.tasks) child args effects spawned future place here
+  stopped_row_frame (stops.Waits on) here = set_frame (going_row row frame) here
+  stopped_row_frame (stops.Joins on) here = set_frame (going_row row frame) here
+  stopped_row_frame (stops.Done value) here = set_frame (done_row row frame value) here
+  stopped_row_frame (stops.Fault kind place) here = set_frame (faulted_row row frame) here
 
 -- The same of a move.
 
@@ -129,11 +139,10 @@ pub record MoveMakesRow (p : Program) (st : State) (kind : Kind) (t c : ℕ) (en
   pub there : IsRow st t row
   pub makes : MakesRow t c (left_by p st row).stop end new
 
--- after a move of t, its next operation is the one that its segment left, or the task has ended; an admission changes
--- nothing
-abbrev pub NextAfterMove : Program → State → Kind → TaskRow → TaskRow → Type 0
-NextAfterMove p st Admit row new = new.frame.next ≡ row.frame.next
-NextAfterMove p st Run row new = NextIs (left_by p st row).frame new
+-- its frame after a move
+abbrev pub FrameAfterMove : Program → State → Kind → TaskRow → TaskRow → Type 0
+FrameAfterMove p st Admit row new = new.frame ≡ row.frame
+FrameAfterMove p st Run row new = FrameAfter (left_by p st row).stop (left_by p st row).frame new
 
 module _ (p : Program) (lim : Bounds) (st : State) (stands : Stands p lim st) (t : ℕ) where
   asked_joined : (s : State) (o : Option ℕ) → (s.asked + 1 < lim.tasks → s.asked + 1 ≡ length s.tasks)
@@ -169,24 +178,24 @@ module _ (p : Program) (lim : Bounds) (st : State) (stands : Stands p lim st) (t
   move_row Admit c past new here = absurd (admitted_none c past new (slice_get st.tasks t) here)
   move_row Run c past new here = ran_row c past new (slice_get st.tasks t) refl here
 
-  ran_next : (may : MayTake st Run t) (row new : TaskRow) (found : Option TaskRow) → slice_get st.tasks t ≡ found → found ≡ Some row
-      → IsRow (ran p lim st t found).0 t new → NextIs (left_by p st row).frame new
-  ran_next may row new None e is here = absurd (cc (is))
-  ran_next may row new (Some other) e is here =
+  ran_frame : (may : MayTake st Run t) (row new : TaskRow) (found : Option TaskRow) → slice_get st.tasks t ≡ found → found ≡ Some row
+      → IsRow (ran p lim st t found).0 t new → FrameAfterMove p st Run row new
+  ran_frame may row new None e is here = absurd (cc (is))
+  ran_frame may row new (Some other) e is here =
       let same : other ≡ row = cc (is) in
       let left = left_by p st other in
       let later : State = record st { cells = left.cells } in
       let child = joined_child other.out (link_of st.links t).waits in
-      subst (λ (r : TaskRow). NextIs (left_by p st r).frame new) same
-      (next_stopped lim (state_after_join later child) t other left.frame (halfway p lim st stands t other e may.1).almost.own new left.stop here)
+      subst (λ (r : TaskRow). FrameAfterMove p st Run r new) same
+      (stopped_row_frame lim (state_after_join later child) t other left.frame (halfway p lim st stands t other e may.1).almost.own new left.stop here)
 
-  admitted_next : (row new : TaskRow) (found : Option TaskRow) → slice_get st.tasks t ≡ found → found ≡ Some row → IsRow (admitted st t found) t new → new.frame.next ≡ row.frame.next
-  admitted_next row new None e is here = absurd (cc (is))
-  admitted_next row new (Some other) e is here =
+  admitted_frame : (row new : TaskRow) (found : Option TaskRow) → slice_get st.tasks t ≡ found → found ≡ Some row → IsRow (admitted st t found) t new → new.frame ≡ row.frame
+  admitted_frame row new None e is here = absurd (cc (is))
+  admitted_frame row new (Some other) e is here =
       let same : other ≡ row = cc (is) in
       let set : admitted_row other ≡ new = got_one (slice_get (slice_set st.tasks t (admitted_row other)) t) (set_same st.tasks t other (admitted_row other) e) here in
-      sym (ap (λ (r : TaskRow). r.frame.next) set) ∙ ap (λ (r : TaskRow). r.frame.next) same
+      sym (ap (λ (r : TaskRow). r.frame) set) ∙ ap (λ (r : TaskRow). r.frame) same
 
-  pub move_next : (kind : Kind) → MayTake st kind t → (row new : TaskRow) → IsRow st t row → IsRow (result_by_kind p lim st kind t).0 t new → NextAfterMove p st kind row new
-  move_next Admit may row new there here = admitted_next row new (slice_get st.tasks t) refl there here
-  move_next Run may row new there here = ran_next may row new (slice_get st.tasks t) refl there here
+  pub move_frame : (kind : Kind) → MayTake st kind t → (row new : TaskRow) → IsRow st t row → IsRow (result_by_kind p lim st kind t).0 t new → FrameAfterMove p st kind row new
+  move_frame Admit may row new there here = admitted_frame row new (slice_get st.tasks t) refl there here
+  move_frame Run may row new there here = ran_frame may row new (slice_get st.tasks t) refl there here

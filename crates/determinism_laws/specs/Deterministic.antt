@@ -1,6 +1,6 @@
 -- What the word `deterministic` of a declaration means while its tasks run: they fork and join.
 use Rattle.std.specs.Prelude.{◌≡◌, ℕ, Some, IsTrue, slice_get}
-use Rattle.wait_graph.specs.Waiting.{SpawnedBy, WaitsFor}
+use Rattle.wait_graph.specs.Waiting.{SpawnedBy}
 use Rattle.effect_check.specs.Acts.{is_deterministic}
 use Rattle.twe_program.specs.Program.{Program}
 use Rattle.twe_machine.specs.declared.state.State.{State}
@@ -16,14 +16,8 @@ abbrev pub ChildrenAreDeterministic : Program → State → Type 0
 ChildrenAreDeterministic p st =
     (c t : ℕ) (child row : TaskRow) → IsRow st c child → IsRow st t row → child.parent ≡ Some t → IsDeterministic p row → IsDeterministic p child
 
--- a deterministic task waits only for tasks that it spawned: the next operation of its frame, if it is a wait, is for one
--- of them
+-- a deterministic task waits only for its own unjoined children: if the next operation of its frame is a wait, it is the
+-- join of one of them, written or at the end of the body, whether the child is done by now or not
 abbrev pub WaitsAreForChildren : Program → State → Type 0
 WaitsAreForChildren p st =
-    (t on : ℕ) (row : TaskRow) → IsRow st t row → IsDeterministic p row → awaited row.frame.next ≡ Some on
-    → (child : TaskRow) × IsRow st on child × (child.parent ≡ Some t)
-
--- and while that task is not done, it is an unjoined child
-abbrev pub WaitsAreForUnjoined : Program → State → Type 0
-WaitsAreForUnjoined p st =
-    (t on : ℕ) (row : TaskRow) → IsRow st t row → IsDeterministic p row → WaitsFor st.links t on → SpawnedBy st.links on t
+    (t on : ℕ) (row : TaskRow) → IsRow st t row → IsDeterministic p row → awaited row.frame.next ≡ Some on → SpawnedBy st.links on t

@@ -10,20 +10,18 @@ ghost use Rattle.twe_machine.specs.declared.state.State.{State};
 ghost use Rattle.twe_machine.specs.declared.state.TaskRow.{TaskRow};
 ghost use Rattle.twe_machine.specs.Rows.{IsRow};
 ghost use Rattle.twe_machine.specs.Runs.{IsReached, Legal, state_after};
-ghost use Rattle.determinism_laws.specs.Deterministic.{ChildrenAreDeterministic, IsDeterministic, WaitsAreForChildren, WaitsAreForUnjoined};
+ghost use Rattle.determinism_laws.specs.Deterministic.{ChildrenAreDeterministic, IsDeterministic, WaitsAreForChildren};
 ghost use Rattle.determinism_laws.specs.ElisionOrder.{ConflictsKeepRanks, KeepsElisionOrder};
 ghost use Rattle.determinism_laws.specs.Ranks.{AllHaveRanks, OneRankEach, OneSegmentEach, SegmentsAreInOrder};
 ghost use Rattle.determinism_laws.specs.Orders.{AgreeOn, FindSameValues, HaveSameWriters, LeaveSameCells, PrintAlike, SegmentAccesses, SegmentsConflict};
 
 /// In each reached state, all tasks that a deterministic task spawned are deterministic, joined or not. A deterministic task
-/// waits only for tasks that it spawned; while such a task is not done, it is an unjoined child.
+/// waits only for its own unjoined children: each of its waits is the join of one of them, written or at its end.
 pub fn deterministic_tasks_fork_and_join()
     ensures children { (p : Program) → IsWellFormed p → KeepsEffects p
         → (lim : Bounds) (st : State) → IsReached p lim st → ChildrenAreDeterministic p st }
     ensures waits { (p : Program) → IsWellFormed p → KeepsEffects p
         → (lim : Bounds) (st : State) → IsReached p lim st → WaitsAreForChildren p st }
-    ensures unjoined { (p : Program) → IsWellFormed p → KeepsEffects p
-        → (lim : Bounds) (st : State) → IsReached p lim st → WaitsAreForUnjoined p st }
 {}
 
 /// In every legal journal, each segment of a task and of the tasks below it has exactly one rank, and each rank is that of
