@@ -2,12 +2,12 @@
 use Rattle.std.proofs.Common.{◌≡◌, ◌<◌, ℕ, Bool, true, false, List, [], length, replicate, inl, inr, refl, sym, ap, ◌∙◌, subst, arith}
 use Rattle.std.proofs.lemmas.List.{get_or-replicate, length-replicate}
 use Rattle.twe_program.specs.declared.program.Body.{Body}
-use Rattle.cover_flow.specs.declared.seen.Seen.{Seen}
+use Rattle.cover_flow.specs.declared.facts.Fact.{Fact}
 use Rattle.cover_flow.specs.ControlPath.{Path, end_of, ControlPath}
 use Rattle.cover_flow.specs.Out.{out_after}
 use Rattle.cover_flow.specs.inner.After.{nowhere, at_start, after_all}
 use Rattle.cover_flow.specs.inner.Marked.{noted, marked_all, row_of}
-use Rattle.cover_flow.proofs.SeenLaws.{has, nowhere-has}
+use Rattle.cover_flow.proofs.FactLaws.{has, nowhere-has}
 use Rattle.cover_flow.proofs.AfterLaws.{after_all-goes, through_all-after}
 use Rattle.cover_flow.proofs.Notes.{has_at, noted_here, noted_keeps, noted_from}
 use Rattle.cover_flow.proofs.MarkedLaws.{length-marked_all, comes_all-marked, marked_all-goes}
@@ -23,8 +23,8 @@ start_is false h = refl
 pub row-path : (body : Body) (f point : ℕ) (b : Bool) → point < body.points → has_at b (row_of body f) point ≡ true → SomePath body point f b
 row-path body f point b there h =
     let end = end_of body in
-    let empty : List Seen = replicate body.points nowhere in
-    let inner : List Seen = marked_all f end body.block at_start empty in
+    let empty : List Fact = replicate body.points nowhere in
+    let inner : List Fact = marked_all f end body.block at_start empty in
     let long : point < length empty = omega (arith, length-replicate body.points nowhere) in
     let inside : point < length inner = omega (arith, length-marked_all f end body.block at_start empty) in
     elim (noted_from b inner point end (after_all f body.block at_start) inside h) [
@@ -42,9 +42,9 @@ pub path-row : (body : Body) (f point : ℕ) (b : Bool) → point < body.points 
 path-row body f point b there some =
     let end = end_of body in
     let path = some.0 in
-    let empty : List Seen = replicate body.points nowhere in
-    let inner : List Seen = marked_all f end body.block at_start empty in
-    let last : Seen = after_all f body.block at_start in
+    let empty : List Fact = replicate body.points nowhere in
+    let inner : List Fact = marked_all f end body.block at_start empty in
+    let last : Fact = after_all f body.block at_start in
     let long : point < length empty = omega (arith, length-replicate body.points nowhere) in
     let inside : point < length inner = omega (arith, length-marked_all f end body.block at_start empty) in
     let shown : has_at (out_after f path) (noted inner end last) point ≡ true = elim some.1 [

@@ -1,2 +1,5 @@
 pub mod After
 pub mod Marked
+pub mod Words
+pub mod Transfers
+pub mod MarkedWords

@@ -1,90 +1,131 @@
-//! The dataflow facts of one future at each point within statements.
+//! The facts of 64 futures at each point within statements.
 ghost use Rattle.std.specs.Prelude.{◌≡◌};
-ghost use Rattle.cover_flow.specs.inner.After.{after, after_all, after_one};
-ghost use Rattle.cover_flow.specs.inner.Marked.{marked, marked_all, marked_one, noted};
+ghost use Rattle.cover_flow.specs.inner.MarkedWords.{led, led_all, led_one, led_simple, left, left_all, left_one, marked_words, marked_words_all, marked_words_one, noted_words};
+ghost use Rattle.cover_flow.specs.inner.Words.{none_come};
 
-use crate::after::{after_block, after_statement};
-use crate::seen::Seen;
+use crate::facts::{Facts, mask};
+use crate::transfer::Transfer;
+use twe_io::Stack;
 use twe_program::{Arms, Block, Stmt, StmtKind};
 
-/// The future that is followed, and the point to which a return goes.
+/// The futures that are followed, and the point to which a return goes.
 #[derive(Clone, Copy)]
 pub struct Walk {
-    /// The number of the future.
-    pub future: u32,
+    /// The number of the first of the 64 futures.
+    pub first: u32,
     /// The point at the end of the body.
     pub end: u32,
 }
 
-/// Joins a fact into that of a point, if the row has the point.
-pub fn note(row: &mut [Seen], point: u32, seen: Seen)
-    ensures { row.new ≡ noted row.old point seen }
+/// Joins facts into those of a point, if the rows have the point.
+pub fn note(rows: &mut [Facts], point: u32, facts: Facts)
+    ensures { rows.new ≡ noted_words rows.old point facts }
 {
     let at = point as usize;
-    if at < row.len() {
-        row[at] = row[at].joined(seen);
+    if at < rows.len() {
+        rows[at] = rows[at].joined(facts);
     }
 }
 
-/// Joins the facts at each point within a statement into the row, and those of its returns into the end. Returns the fact
-/// after the statement.
+/// The facts after a statement that has no others inside it, and is no return.
+fn after_simple(stmt: &Stmt, first: u32, facts: Facts) -> Facts
+    ensures { result ≡ led_simple first stmt.now facts }
+{
+    match &stmt.kind {
+        StmtKind::Make {
+            future,
+            spawned: true,
+            ..
+        } => facts.put_out(mask(first, *future)),
+        StmtKind::Wait {
+            future,
+            join: true,
+            ..
+        } => facts.taken_in(mask(first, *future)),
+        _ => facts,
+    }
+}
+
+/// Joins the facts at each point within a statement into the rows, and those of its returns into the end. It takes the
+/// turns of its loops from the stack. Returns the facts after the statement.
 #[cycle(mark)]
-pub fn mark_statement(row: &mut [Seen], stmt: &Stmt, walk: Walk, seen: Seen) -> Seen
-    ensures after { result ≡ after walk.future stmt.now seen }
-    ensures row { row.new ≡ marked walk.future walk.end stmt.now seen row.old }
+pub fn mark_statement(
+    rows: &mut [Facts],
+    turns: &mut Stack<Transfer>,
+    stmt: &Stmt,
+    walk: Walk,
+    facts: Facts,
+) -> Facts
+    ensures after { result ≡ led walk.first stmt.now facts turns.old }
+    ensures rows { rows.new ≡ marked_words walk.first walk.end stmt.now facts turns.old rows.old }
+    ensures turns { turns.new ≡ left stmt.now turns.old }
 {
     match &stmt.kind {
         StmtKind::Block(body) => {
-            note(row, stmt.point, seen);
-            mark_block(row, body, walk, seen)
+            note(rows, stmt.point, facts);
+            mark_block(rows, turns, body, walk, facts)
         }
         StmtKind::If(arms) => {
-            note(row, stmt.point, seen);
-            mark_arms(row, arms, walk, seen)
+            note(rows, stmt.point, facts);
+            mark_arms(rows, turns, arms, walk, facts)
         }
         StmtKind::While { body, .. } => {
-            let head = seen.joined(after_block(body, walk.future, seen));
-            note(row, stmt.point, head);
-            mark_block(row, body, walk, head);
+            let head = turns.pop_or(Transfer::unchanged()).enter(facts);
+            note(rows, stmt.point, head);
+            mark_block(rows, turns, body, walk, head);
             head
         }
         StmtKind::Return(_) => {
-            note(row, stmt.point, seen);
-            note(row, walk.end, seen);
-            Seen::nowhere()
+            note(rows, stmt.point, facts);
+            note(rows, walk.end, facts);
+            Facts::nowhere()
         }
         _ => {
-            note(row, stmt.point, seen);
-            after_statement(stmt, walk.future, seen)
+            note(rows, stmt.point, facts);
+            after_simple(stmt, walk.first, facts)
         }
     }
 }
 
 /// Does the same for the statements of a block.
 #[cycle(mark)]
-pub fn mark_block(row: &mut [Seen], block: &Block, walk: Walk, seen: Seen) -> Seen
-    ensures after { result ≡ after_all walk.future block.now seen }
-    ensures row { row.new ≡ marked_all walk.future walk.end block.now seen row.old }
+pub fn mark_block(
+    rows: &mut [Facts],
+    turns: &mut Stack<Transfer>,
+    block: &Block,
+    walk: Walk,
+    facts: Facts,
+) -> Facts
+    ensures after { result ≡ led_all walk.first block.now facts turns.old }
+    ensures rows { rows.new ≡ marked_words_all walk.first walk.end block.now facts turns.old rows.old }
+    ensures turns { turns.new ≡ left_all block.now turns.old }
 {
-    let mut seen = seen;
+    let mut facts = facts;
     for stmt in block.stmts.as_slice() {
-        seen = mark_statement(row, stmt, walk, seen);
+        facts = mark_statement(rows, turns, stmt, walk, facts);
     }
-    seen
+    facts
 }
 
 /// Does the same for the branches.
 #[cycle(mark)]
-fn mark_arms(row: &mut [Seen], arms: &Arms, walk: Walk, seen: Seen) -> Seen
-    ensures after { result ≡ after_one walk.future arms.now seen }
-    ensures row { row.new ≡ marked_one walk.future walk.end arms.now seen row.old }
+fn mark_arms(
+    rows: &mut [Facts],
+    turns: &mut Stack<Transfer>,
+    arms: &Arms,
+    walk: Walk,
+    facts: Facts,
+) -> Facts
+    ensures after { result ≡ led_one walk.first none_come arms.now facts turns.old }
+    ensures rows { rows.new ≡ marked_words_one walk.first walk.end arms.now facts turns.old rows.old }
+    ensures turns { turns.new ≡ left_one arms.now turns.old }
 {
-    let mut after = Seen::nowhere();
+    let mut after = Facts::nowhere();
     for arm in arms.arms.as_slice() {
-        after = after.joined(mark_block(row, &arm.body, walk, seen));
+        after = after.joined(mark_block(rows, turns, &arm.body, walk, facts));
     }
     match &arms.last {
-        Some(body) => after.joined(mark_block(row, body, walk, seen)),
-        None => after.joined(seen),
+        Some(body) => after.joined(mark_block(rows, turns, body, walk, facts)),
+        None => after.joined(facts),
     }
 }

@@ -47,13 +47,13 @@ task-more p wf i there task is first later h judges =
     let range = body-in_range p task fits in
     let acts = acts_in_all p task.body.block in
     let P : EffectFailure → Type 0 = OneFails (TaskFailure p) (take i p.tasks) in
-    let xs : List EffectFailure = task_failures task judges.futures acts in
+    let xs : List EffectFailure = task_failures task judges.groups acts in
     let all : IsFirstOf (λ f. P f ⊎ IsIn f xs) later = subst (IsFirstOf (λ f. P f ⊎ IsIn f xs)) (sym judges.judged) (first_from-first number_of P first xs h) in
     first-same number_of (λ f. P f ⊎ IsIn f xs) (OneFails (TaskFailure p) (take (i + 1) p.tasks))
-    (λ f q. one-more (TaskFailure p) p.tasks i there task is f (elim q [ inl before ↦ inl before | inr x ↦ inr (listed-fails p task judges.futures judges.flow judges.spawns range f x) ]))
+    (λ f q. one-more (TaskFailure p) p.tasks i there task is f (elim q [ inl before ↦ inl before | inr x ↦ inr (listed-fails p task range judges.groups judges.are f x) ]))
     (λ f found. elim (more-one (TaskFailure p) p.tasks i there task is f found) [
       | inl before ↦ inl before
-      | inr x ↦ inr (fails-listed p task judges.futures judges.flow judges.spawns range f.rule f.place x)
+      | inr x ↦ inr (fails-listed p task range judges.groups judges.are judges.followed f.rule f.place x)
     ])
     later all
 

@@ -1,3 +1,4 @@
+pub mod Marks
 pub mod Failures
 pub mod First
 pub mod Parts

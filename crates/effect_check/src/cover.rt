@@ -1,11 +1,12 @@
-//! Whether effects are covered at a point of a body.
+//! Whether effects are inside declared ones, and whether they are free of the tasks that may be out.
 ghost use Rattle.std.specs.Prelude.{◌≡◌, not};
 ghost use Rattle.std.specs.List.{list_all, list_any};
 ghost use Rattle.effect_sets.specs.Covers.{covers};
 ghost use Rattle.effect_sets.specs.Interference.{statically_interferes};
-ghost use Rattle.effect_check.specs.inner.Failures.{all_covered, all_inside, bars, covered};
+ghost use Rattle.effect_check.specs.inner.Failures.{HasMarks, all_free, all_inside, bars, free, others_of};
 
 use crate::futures::{Futures, Spawn};
+use crate::marks::{Marks, marks_of, meet};
 use cover_flow::Points;
 use effect_sets::{Effect, Summary, covers, interferes};
 
@@ -34,15 +35,65 @@ fn bars(points: &Points, point: u32, effect: &Effect, spawn: &Spawn) -> bool
     points.may(point, spawn.future) && interferes_with_some(effect, &spawn.effects)
 }
 
-/// Whether no spawned task that may be out at the point interferes with the effect.
-fn is_free(futures: &Futures, point: u32, effect: &Effect) -> bool
-    ensures { result ≡ list_all (λ spawn. not (bars futures.now.points point effect.now spawn)) futures.now.spawns }
+/// Whether none of the spawned tasks bars the effect.
+fn none_bars(futures: &Futures, point: u32, effect: &Effect) -> bool
+    ensures { result ≡ free futures.now point effect.now }
 {
     futures
         .spawns
         .as_slice()
         .iter()
         .all(|spawn| !bars(&futures.points, point, effect, spawn))
+}
+
+/// The marks of the effects that may interfere with the effect: a read interferes with no read.
+fn others_of(futures: &Futures, effect: &Effect) -> Marks
+    ensures { result ≡ others_of futures.now effect.now }
+{
+    if effect.write {
+        futures.all
+    } else {
+        futures.writes
+    }
+}
+
+/// Whether none of the spawned tasks bars the effect, by the marks if these tell.
+fn is_free_there(futures: &Futures, point: u32, effect: &Effect) -> bool
+    requires { HasMarks futures.now }
+    ensures { result ≡ free futures.now point effect.now }
+{
+    let others = others_of(futures, effect);
+    let marks = marks_of(effect);
+    if meet(others, marks) {
+        none_bars(futures, point, effect)
+    } else {
+        true
+    }
+}
+
+/// Whether no spawned task that may be out at the point interferes with the effect.
+pub fn is_free(futures: &Futures, point: u32, effect: &Effect) -> bool
+    requires { HasMarks futures.now }
+    ensures { result ≡ free futures.now point effect.now }
+{
+    if futures.points.some_may(point) {
+        is_free_there(futures, point, effect)
+    } else {
+        true
+    }
+}
+
+/// Whether each of the effects is free in this sense.
+pub fn are_free(futures: &Futures, point: u32, effects: &Summary) -> bool
+    requires { HasMarks futures.now }
+    ensures { result ≡ all_free futures.now point effects.now }
+{
+    for effect in effects.effects.as_slice() {
+        if !is_free(futures, point, effect) {
+            return false;
+        }
+    }
+    true
 }
 
 /// Whether the effect is inside a declared one.
@@ -61,23 +112,4 @@ pub fn are_inside(summary: &Summary, effects: &Summary) -> bool
         .as_slice()
         .iter()
         .all(|effect| is_inside(summary, effect))
-}
-
-/// Whether the effect is covered at the point: it is inside a declared one, and no spawned task that may be out there
-/// interferes with it.
-pub fn is_covered(summary: &Summary, futures: &Futures, point: u32, effect: &Effect) -> bool
-    ensures { result ≡ covered summary.now futures.now point effect.now }
-{
-    is_inside(summary, effect) && is_free(futures, point, effect)
-}
-
-/// Whether each of the effects is covered at the point.
-pub fn are_covered(summary: &Summary, futures: &Futures, point: u32, effects: &Summary) -> bool
-    ensures { result ≡ all_covered summary.now futures.now point effects.now }
-{
-    effects
-        .effects
-        .as_slice()
-        .iter()
-        .all(|effect| is_covered(summary, futures, point, effect))
 }

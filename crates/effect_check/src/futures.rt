@@ -1,8 +1,9 @@
 //! The futures of a body: the points at which each may be out, and the effects of the spawned tasks.
 ghost use Rattle.std.specs.Prelude.{◌≡◌, ◌++◌, IfOk, OnOk};
-ghost use Rattle.effect_check.specs.inner.Failures.{spawn_of, spawns_among};
+ghost use Rattle.effect_check.specs.inner.Failures.{followed, spawn_of, spawns_among};
 
 use crate::act::{Act, ActKind};
+use crate::marks::Marks;
 use cover_flow::Points;
 use effect_sets::Summary;
 use std::alloc::Global;
@@ -17,13 +18,30 @@ pub struct Spawn {
     pub effects: Summary,
 }
 
-/// What the rules need to know of the futures of a body.
+impl Spawn {
+    /// An equal spawn in its own memory.
+    fn copy(&self, alloc: Global) -> Result<Spawn, Memory>
+        ensures { IfOk result (λ spawn. spawn ≡ self.now) }
+    {
+        let effects = self.effects.copy(alloc)?;
+        Ok(Spawn {
+            future: self.future,
+            effects,
+        })
+    }
+}
+
+/// What the rules need to know of 64 futures of a body.
 #[derive(Debug, Drop)]
 pub struct Futures {
     /// The points at which each may be out, and at which each surely is.
     pub points: Points,
-    /// The spawns of the body.
+    /// The spawns into them.
     pub spawns: List<Spawn>,
+    /// The marks of the effects of the spawned tasks.
+    pub all: Marks,
+    /// The marks of those that write.
+    pub writes: Marks,
 }
 
 /// Adds the act if it is a spawn.
@@ -56,4 +74,17 @@ pub fn spawns_among(alloc: Global, acts: &[Act]) -> Result<List<Spawn>, Memory>
         add_spawn(alloc, &mut spawns, &act.kind)?;
     }
     Ok(spawns)
+}
+
+/// The spawns into the futures that are followed.
+pub fn followed(alloc: Global, points: &Points, spawns: &[Spawn]) -> Result<List<Spawn>, Memory>
+    ensures { IfOk result (λ some. some ≡ followed points.now spawns.now) }
+{
+    let mut some = List::new(alloc);
+    for spawn in spawns {
+        if points.follows(spawn.future) {
+            some.push(spawn.copy(alloc)?)?;
+        }
+    }
+    Ok(some)
 }

@@ -10,6 +10,7 @@ mod collect;
 mod cover;
 mod futures;
 mod judge;
+mod marks;
 mod rule;
 mod whole;
 

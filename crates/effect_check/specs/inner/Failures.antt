@@ -1,24 +1,26 @@
 -- The failures of a body, listed from what it does and from the answers on its futures.
-use Rattle.std.specs.Prelude.{◌≡◌, ◌==◌, nat_lt, ℕ, Bool, true, false, not, ◌&&◌, ◌||◌, if◌then◌else◌, List, [], ◌∷◌, ◌++◌, Option, None, Some}
-use Rattle.std.specs.List.{list_any, list_all}
-use Rattle.twe_io.specs.declared.place.Place.{Place}
+use Rattle.std.specs.Prelude.{◌≡◌, ◌<◌, ℕ, Bool, true, false, not, ◌&&◌, if◌then◌else◌, IsTrue, List, [], ◌∷◌, ◌++◌, Option}
+use Rattle.std.specs.List.{list_any, list_all, AllByRecursion}
 use Rattle.first_failure.specs.First.{failure_if}
 use Rattle.first_failure.specs.First as failures
 use Rattle.effect_sets.specs.declared.effects.Effect.{Effect}
 use Rattle.effect_sets.specs.declared.effects.Summary.{Summary}
 use Rattle.effect_sets.specs.Covers.{covers}
 use Rattle.effect_sets.specs.Interference.{statically_interferes}
+use Rattle.twe_program.specs.declared.program.Body.{Body}
 use Rattle.twe_program.specs.declared.program.Decl.{Decl}
 use Rattle.twe_program.specs.Program.{Program}
-use Rattle.cover_flow.specs.Flow.{Table, IsFlowOf, may_at, surely_at}
+use Rattle.cover_flow.specs.declared.answers.Points.{Points}
+use Rattle.cover_flow.specs.Flow.{IsFlowOf, is_among, may_at, surely_at}
 use Rattle.effect_check.specs.declared.act.Act.{Act}
 use Rattle.effect_check.specs.declared.act.ActKind.{ActKind}
 use Rattle.effect_check.specs.declared.act.ActKind.TheVariants.{Touch, Call, Make, Wait}
-use Rattle.effect_check.specs.declared.rule.ERule.{ERule}
 use Rattle.effect_check.specs.declared.rule.ERule.TheVariants.{E1, E2, E3, E4, E5, E6, E7, E8}
 use Rattle.effect_check.specs.declared.futures.Spawn.{Spawn}
 use Rattle.effect_check.specs.declared.futures.Futures.{Futures}
+use Rattle.effect_check.specs.declared.marks.Marks.{Marks}
 use Rattle.effect_check.specs.Acts.{acts_in_all}
+use Rattle.effect_check.specs.inner.Marks.{marks_of_all, no_marks}
 use Rattle.effect_check.specs.FailsEffect.{EffectFailure, number_of}
 
 -- the act as a spawn, if it is one
@@ -30,34 +32,66 @@ abbrev pub spawns_among : List Act → List Spawn
 spawns_among [] = []
 spawns_among (act ∷ acts) = spawn_of act.kind ++ spawns_among acts
 
+-- those into futures that are followed
+abbrev pub followed : Points → List Spawn → List Spawn
+followed points [] = []
+followed points (spawn ∷ spawns) = if is_among points.first spawn.future then spawn ∷ followed points spawns else followed points spawns
+
+-- it has the marks of the effects of the spawned tasks, and of those that write
+pub record HasMarks (futures : Futures) : Type 0 where
+  pub all : futures.all ≡ marks_of_all false no_marks futures.spawns
+  pub writes : futures.writes ≡ marks_of_all true no_marks futures.spawns
+
+-- the marks of the effects that may interfere with the effect: a read interferes with no read
+abbrev pub others_of : Futures → Effect → Marks
+others_of futures effect = if effect.write then futures.all else futures.writes
+
 -- the spawned task may be out, and interferes
-abbrev pub bars : Table → ℕ → Effect → Spawn → Bool
-bars table point effect spawn = may_at table point spawn.future && list_any (λ other. statically_interferes effect other) spawn.effects.effects
+abbrev pub bars : Points → ℕ → Effect → Spawn → Bool
+bars points point effect spawn = may_at points point spawn.future && list_any (λ other. statically_interferes effect other) spawn.effects.effects
 
-abbrev pub covered : Summary → Futures → ℕ → Effect → Bool
-covered summary futures point effect = covers summary effect && list_all (λ spawn. not (bars futures.points point effect spawn)) futures.spawns
+-- no spawned task that may be out interferes
+abbrev pub free : Futures → ℕ → Effect → Bool
+free futures point effect = list_all (λ spawn. not (bars futures.points point effect spawn)) futures.spawns
 
-abbrev pub all_covered : Summary → Futures → ℕ → Summary → Bool
-all_covered summary futures point effects = list_all (λ effect. covered summary futures point effect) effects.effects
+abbrev pub all_free : Futures → ℕ → Summary → Bool
+all_free futures point effects = list_all (λ effect. free futures point effect) effects.effects
 
 abbrev pub all_inside : Summary → Summary → Bool
 all_inside summary effects = list_all (λ effect. covers summary effect) effects.effects
 
--- the failures of a task at something that it does
-abbrev pub task_failures_at : Decl → Futures → ℕ → ActKind → List EffectFailure
-task_failures_at task futures point (Touch effect place) = failure_if (not (covered task.summary futures point effect)) E1 place
-task_failures_at task futures point (Call effects place) = failure_if (not (all_covered task.summary futures point effects)) E2 place
-task_failures_at task futures point (Make future true deterministic effects future_place place) =
-    failure_if (may_at futures.points point future) E5 future_place
-    ++ failure_if (not (all_covered task.summary futures point effects)) E3 place
-    ++ failure_if (task.deterministic && not deterministic) E7 place
-task_failures_at task futures point (Make future false deterministic effects future_place place) = failure_if task.deterministic E6 place
-task_failures_at task futures point (Wait future true place) = failure_if (not (surely_at futures.points point future)) E4 place
-task_failures_at task futures point (Wait future false place) = failure_if task.deterministic E6 place
+-- the failures of a task at something that it does, apart from those that futures make
+abbrev pub declared_failures_at : Decl → ActKind → List EffectFailure
+declared_failures_at task (Touch effect place) = failure_if (not (covers task.summary effect)) E1 place
+declared_failures_at task (Call effects place) = failure_if (not (all_inside task.summary effects)) E2 place
+declared_failures_at task (Make future true deterministic effects future_place place) =
+    failure_if (not (all_inside task.summary effects)) E3 place ++ failure_if (task.deterministic && not deterministic) E7 place
+declared_failures_at task (Make future false deterministic effects future_place place) = failure_if task.deterministic E6 place
+declared_failures_at task (Wait future true place) = []
+declared_failures_at task (Wait future false place) = failure_if task.deterministic E6 place
 
-abbrev pub task_failures : Decl → Futures → List Act → List EffectFailure
-task_failures task futures [] = []
-task_failures task futures (act ∷ acts) = task_failures_at task futures act.point act.kind ++ task_failures task futures acts
+abbrev pub declared_failures : Decl → List Act → List EffectFailure
+declared_failures task [] = []
+declared_failures task (act ∷ acts) = declared_failures_at task act.kind ++ declared_failures task acts
+
+-- the failures that the futures make at something that a task does
+abbrev pub future_failures_at : Futures → ℕ → ActKind → List EffectFailure
+future_failures_at futures point (Touch effect place) = failure_if (not (free futures point effect)) E1 place
+future_failures_at futures point (Call effects place) = failure_if (not (all_free futures point effects)) E2 place
+future_failures_at futures point (Make future true deterministic effects future_place place) =
+    failure_if (may_at futures.points point future) E5 future_place ++ failure_if (not (all_free futures point effects)) E3 place
+future_failures_at futures point (Make future false deterministic effects future_place place) = []
+future_failures_at futures point (Wait future true place) = failure_if (not (surely_at futures.points point future)) E4 place
+future_failures_at futures point (Wait future false place) = []
+
+abbrev pub future_failures : Futures → List Act → List EffectFailure
+future_failures futures [] = []
+future_failures futures (act ∷ acts) = future_failures_at futures act.point act.kind ++ future_failures futures acts
+
+-- the failures of a task, with those that groups of futures make
+abbrev pub task_failures : Decl → List Futures → List Act → List EffectFailure
+task_failures task [] acts = declared_failures task acts
+task_failures task (futures ∷ groups) acts = task_failures task groups acts ++ future_failures futures acts
 
 -- the failures of a method at something that it does
 abbrev pub method_failures_at : Decl → ActKind → List EffectFailure
@@ -73,12 +107,37 @@ method_failures method (act ∷ acts) = method_failures_at method act.kind ++ me
 abbrev pub first_from : Option EffectFailure → List EffectFailure → Option EffectFailure
 first_from first others = failures.first_from number_of first others
 
--- the first failure after those of a task are reported
-pub record JudgesTask (p : Program) (task : Decl) (first later : Option EffectFailure) : Type 0 where
-  pub futures : Futures
+-- what the analysis of the task's body says of 64 futures, and the spawns into them
+pub record IsGroupOf (p : Program) (task : Decl) (futures : Futures) : Type 0 where
   pub flow : IsFlowOf futures.points task.body
-  pub spawns : futures.spawns ≡ spawns_among (acts_in_all p task.body.block)
-  pub judged : later ≡ first_from first (task_failures task futures (acts_in_all p task.body.block))
+  pub spawns : futures.spawns ≡ followed futures.points (spawns_among (acts_in_all p task.body.block))
+
+-- the first failure after those are reported that these 64 futures make at the acts of a body
+pub record JudgesGroup (body : Body) (acts : List Act) (spawns : List Spawn) (start : ℕ) (first later : Option EffectFailure) : Type 0 where
+  pub futures : Futures
+  pub flow : IsFlowOf futures.points body
+  pub start_is : futures.points.first ≡ start
+  pub spawns_are : futures.spawns ≡ followed futures.points spawns
+  pub judged : later ≡ first_from first (future_failures futures acts)
+
+-- each is a group of the task's futures
+abbrev pub AreGroupsOf : Program → Decl → List Futures → Type 0
+AreGroupsOf p task groups = AllByRecursion (IsGroupOf p task) groups
+
+-- each of the first futures is followed in one of the groups
+abbrev pub AreFollowed : ℕ → List Futures → Type 0
+AreFollowed count groups = (f : ℕ) → f < count → IsTrue (list_any (λ futures. is_among futures.points.first f) groups)
+
+-- the first failure after those of a task are reported that are declared, and those that the first futures make
+pub record JudgesFirst (p : Program) (task : Decl) (count : ℕ) (first later : Option EffectFailure) : Type 0 where
+  pub groups : List Futures
+  pub are : AreGroupsOf p task groups
+  pub followed : AreFollowed count groups
+  pub judged : later ≡ first_from first (task_failures task groups (acts_in_all p task.body.block))
+
+-- the first failure after those of a task are reported
+abbrev pub JudgesTask : Program → Decl → Option EffectFailure → Option EffectFailure → Type 0
+JudgesTask p task first later = JudgesFirst p task task.body.futures first later
 
 -- the first failure after those of a method are reported
 abbrev pub JudgesMethod : Program → Decl → Option EffectFailure → Option EffectFailure → Type 0
