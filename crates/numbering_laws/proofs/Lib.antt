@@ -1,0 +1,6 @@
+-- a wait is for a future that stands for a task
+pub mod WaitsStand
+-- segments of renumbered frames
+pub mod Renumbered
+-- renumbered frames between their segments
+pub mod BetweenSegments

@@ -1,0 +1,34 @@
+//! Laws of the numbers of tasks: nothing that a task does depends on them.
+ghost use Rattle.std.specs.Prelude.{◌≡◌, ℕ, ℤ, Bool, List};
+ghost use Rattle.twe_program.specs.Program.{Program};
+ghost use Rattle.seg_exec.specs.declared.frame.Frame.{Frame};
+ghost use Rattle.seg_exec.specs.Entry.{entry_frame};
+ghost use Rattle.seg_exec.specs.Giving.{given};
+ghost use Rattle.seg_exec.specs.Segment.{segment};
+ghost use Rattle.segment_laws.specs.Ready.{IsReady};
+ghost use Rattle.twe_machine.specs.Moves.{frame_without_prints, making_frame};
+ghost use Rattle.numbering_laws.specs.Renumbering.{AgreeOn, Numbering, SameButNumbers, TellsApart, frame_renumbered, stopped_renumbered};
+
+/// A segment does the same whatever the numbers of the tasks are. Of two frames that are the same but for these numbers,
+/// the segments over the same cells leave frames that are the same but for them. They make the same accesses, with the
+/// same values, print the same numbers and stop at the same place, with the new number of a task that they wait for.
+pub fn segments_do_not_see_numbers()
+    ensures { (p : Program) (to : Numbering) (frame other : Frame) (cells : List ℤ) → IsReady p frame
+        → SameButNumbers to frame other → segment p other cells ≡ stopped_renumbered to (segment p frame cells) }
+{}
+
+/// Frames that are the same but for the numbers of the tasks stay so before their first segments, when they take a value,
+/// when their prints are taken out, and when a future stands for a new task. They are the same too by each other
+/// numbering that agrees on the tasks of the frame.
+pub fn frames_keep_their_numbers()
+    ensures entry { (p : Program) (to : Numbering) (task number fuel : ℕ) (args : List ℤ)
+        → SameButNumbers to (record (entry_frame p task args) { task = number; fuel = fuel }) (record (entry_frame p task args) { task = to number; fuel = fuel }) }
+    ensures given { (to : Numbering) (frame other : Frame) (value : ℤ) → TellsApart to frame → SameButNumbers to frame other
+        → SameButNumbers to (given frame value) (given other value) }
+    ensures printed { (to : Numbering) (frame other : Frame) → SameButNumbers to frame other
+        → SameButNumbers to (frame_without_prints frame) (frame_without_prints other) }
+    ensures made { (to : Numbering) (frame other : Frame) (future child : ℕ) (spawned : Bool) → SameButNumbers to frame other
+        → SameButNumbers to (making_frame future spawned child frame) (making_frame future spawned (to child) other) }
+    ensures agree { (to renumber : Numbering) (frame other : Frame) → AgreeOn to renumber frame → SameButNumbers to frame other
+        → SameButNumbers renumber frame other }
+{}

@@ -1,0 +1,6 @@
+//! Laws of the numbers of tasks: segments do the same whatever the numbers of the tasks are.
+#![tactic(auto)]
+
+mod laws;
+
+pub use laws::{frames_keep_their_numbers, segments_do_not_see_numbers};
