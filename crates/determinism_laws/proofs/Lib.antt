@@ -31,3 +31,9 @@ pub mod LeftAlone
 pub mod ListOrders
 -- So if two orders of segments agree on conflicts, each segment finds the same values in both.
 pub mod SameValues
+-- While a deterministic task is enabled, the cells under its effects change by the segments below it alone.
+pub mod OwnCells
+-- The segments below a task can be listed.
+pub mod Listing
+-- So these segments, executed in the order of their ranks, find the values that they found in the journal.
+pub mod RankExecution

@@ -54,16 +54,16 @@ module _ (p : Program) (wf : IsWellFormed p) (keeps : KeepsEffects p) (lim : Bou
   final_reached : IsReached p lim final
   final_reached = record { journal = journal; legal = legal; same = refl }
 
-  final_stands : Stands p lim final
+  pub final_stands : Stands p lim final
   final_stands = reached_stands p lim final wf final_reached
 
-  one_parent : (c q r : ℕ) → HasParent final c q → HasParent final c r → r ≡ q
+  pub one_parent : (c q r : ℕ) → HasParent final c q → HasParent final c r → r ≡ q
   one_parent c q r a b =
       let same : a.0 ≡ b.0 = got_one (slice_get final.tasks c) a.1 b.1 in
       let both : Some q ≡ Some r = sym a.2 ∙ (ap (λ (x : TaskRow). x.parent) same ∙ b.2) in
       cc
 
-  parent_below : (c q : ℕ) → HasParent final c q → q < c
+  pub parent_below : (c q : ℕ) → HasParent final c q → q < c
   parent_below c q a = (final_stands.rows c a.0 a.1).parent q a.2
 
   chain_below : {c q : ℕ} → Chain (HasParent final) c q → q ≤ c
@@ -77,13 +77,13 @@ module _ (p : Program) (wf : IsWellFormed p) (keeps : KeepsEffects p) (lim : Bou
   spawn_parent t n c spawn = (spawn.child, spawn.there, spawn.parent)
 
   -- the task of a segment below c has c as an ancestor
-  ancestor : (rank : List ℕ) (c i u : ℕ) → HasRank p lim journal c i rank → IsSegment journal u i → Chain (HasParent final) u c
+  pub ancestor : (rank : List ℕ) (c i u : ℕ) → HasRank p lim journal c i rank → IsSegment journal u i → Chain (HasParent final) u c
   ancestor [] c i u has segment = absurd has
   ancestor (number ∷ []) c i u has segment = subst (λ (x : ℕ). Chain (HasParent final) u x) (one_segment journal u c i segment has.0) none
   ancestor (number ∷ next ∷ others) c i u has segment =
       Chain-push (ancestor (next ∷ others) has.1 i u has.4 segment) (spawn_parent c has.0 has.1 has.2)
 
-  segment_at : (rank : List ℕ) (c i : ℕ) → HasRank p lim journal c i rank → (u : ℕ) × IsSegment journal u i
+  pub segment_at : (rank : List ℕ) (c i : ℕ) → HasRank p lim journal c i rank → (u : ℕ) × IsSegment journal u i
   segment_at [] c i has = absurd has
   segment_at (number ∷ []) c i has = (c, has.0)
   segment_at (number ∷ next ∷ others) c i has = segment_at (next ∷ others) has.1 i has.4
@@ -162,7 +162,7 @@ module _ (p : Program) (wf : IsWellFormed p) (keeps : KeepsEffects p) (lim : Bou
       let spawn = spawner p wf lim journal legal parent s first.0 first.1 first.2 in
       below_more t parent i above (number_of_segment journal parent spawn.0 ∷ number ∷ others, (spawn.0, s, spawn.1, refl, has))
 
-  all_have_ranks : (t : ℕ) → AllHaveRanks p lim journal t
+  pub all_have_ranks : (t : ℕ) → AllHaveRanks p lim journal t
   all_have_ranks t i s segment below = below_more t s i below (number_of_segment journal s i ∷ [], (segment, refl))
 
 pub ranks_once : (p : Program) → IsWellFormed p → KeepsEffects p → (lim : Bounds) (journal : List Entry) → Legal p lim journal → (t : ℕ) → OneSegmentEach p lim journal t

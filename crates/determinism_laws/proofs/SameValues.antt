@@ -32,7 +32,7 @@ set_alike_at xs ys c other v e = elim (cases_eq c other) [
 ]
 
 -- a segment leaves the same value in a cell if it finds the same
-after_alike : (accesses : List Access) (xs ys : List ℤ) (c : ℕ) → slice_get xs c ≡ slice_get ys c → slice_get (after xs accesses) c ≡ slice_get (after ys accesses) c
+pub after_alike : (accesses : List Access) (xs ys : List ℤ) (c : ℕ) → slice_get xs c ≡ slice_get ys c → slice_get (after xs accesses) c ≡ slice_get (after ys accesses) c
 after_alike [] xs ys c e = e
 after_alike (Reads cell value ∷ earlier) xs ys c e = after_alike earlier xs ys c e
 after_alike (Writes cell value ∷ earlier) xs ys c e = set_alike_at (after xs earlier) (after ys earlier) c cell value (after_alike earlier xs ys c e)
@@ -43,7 +43,7 @@ or_false true b e = absurd (cc)
 or_false false b e = (refl, e)
 
 -- and the one that it finds if it does not write the cell
-unwritten : (accesses : List Access) (xs : List ℤ) (c : ℕ) → list_any (is_write_of c) accesses ≡ false → slice_get (after xs accesses) c ≡ slice_get xs c
+pub unwritten : (accesses : List Access) (xs : List ℤ) (c : ℕ) → list_any (is_write_of c) accesses ≡ false → slice_get (after xs accesses) c ≡ slice_get xs c
 unwritten [] xs c e = refl
 unwritten (Reads cell value ∷ earlier) xs c e = unwritten earlier xs c e
 unwritten (Writes cell value ∷ earlier) xs c e =

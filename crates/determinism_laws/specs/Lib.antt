@@ -3,3 +3,4 @@ pub mod ElisionOrder
 pub mod Orders
 pub mod Ranks
 pub mod Segments
+pub mod Sequential

@@ -13,6 +13,7 @@ ghost use Rattle.twe_machine.specs.Runs.{IsReached, Legal, state_after};
 ghost use Rattle.determinism_laws.specs.Deterministic.{ChildrenAreDeterministic, IsDeterministic, WaitsAreForChildren};
 ghost use Rattle.determinism_laws.specs.ElisionOrder.{ConflictsKeepRanks, KeepsElisionOrder};
 ghost use Rattle.determinism_laws.specs.Ranks.{AllHaveRanks, OneRankEach, OneSegmentEach, SegmentsAreInOrder};
+ghost use Rattle.determinism_laws.specs.Sequential.{ExecutesInRankOrder, SegmentsCanBeListed};
 ghost use Rattle.determinism_laws.specs.Orders.{AgreeOn, FindSameValues, HaveSameWriters, LeaveSameCells, PrintAlike, SegmentAccesses, SegmentsConflict};
 
 /// In each reached state, all tasks that a deterministic task spawned are deterministic, joined or not. A deterministic task
@@ -62,4 +63,18 @@ pub fn orders_that_agree_on_conflicts_give_the_same_values()
     ensures values { (p : Program) (xs ys : List SegmentAccesses) → AgreeOn (SegmentsConflict p) xs ys → FindSameValues xs ys }
     ensures cells { (p : Program) (xs ys : List SegmentAccesses) → AgreeOn (SegmentsConflict p) xs ys → LeaveSameCells xs ys }
     ensures prints { (p : Program) (xs ys : List SegmentAccesses) → AgreeOn (SegmentsConflict p) xs ys → PrintAlike xs ys }
+{}
+
+/// The segments of a task and of the tasks below it, among any entries of a legal journal, can be listed in the order of the
+/// journal. Take those of a deterministic task, among entries before which it is enabled, and execute them in the order of
+/// sequential code, on the cells as they were before these entries. In each cell that it accesses each segment finds the
+/// value that it found in the journal. At the end each cell under the effects of the task has the value that it has after
+/// the entries, and the segments that print came in the order of the journal.
+pub fn deterministic_tasks_execute_in_rank_order()
+    ensures listed { (p : Program) → IsWellFormed p → KeepsEffects p
+        → (lim : Bounds) (journal : List Entry) → Legal p lim journal → (t : ℕ) → SegmentsCanBeListed p lim journal t }
+    ensures alike { (p : Program) → IsWellFormed p → KeepsEffects p
+        → (lim : Bounds) (journal : List Entry) → Legal p lim journal
+        → (t : ℕ) (row : TaskRow) → IsRow (state_after p lim journal) t row → IsDeterministic p row
+        → ExecutesInRankOrder p lim journal t row }
 {}
