@@ -1,0 +1,67 @@
+-- The turns of an execution with a stack of its own: a turn carries out one segment.
+use Rattle.std.specs.Prelude.{◌≡◌, ℕ, ℤ, Bool, true, false, List, [], ◌∷◌, length, nat_lt, if◌then◌else◌}
+use Rattle.twe_io.specs.declared.place.Place.{Place}
+use Rattle.twe_limits.specs.Limits.{Bounds}
+use Rattle.twe_limits.specs.declared.fault.FaultKind.{FaultKind}
+use Rattle.twe_limits.specs.declared.fault.FaultKind.TheVariants.{TaskLimit}
+use Rattle.twe_program.specs.Program.{Program}
+use Rattle.seg_exec.specs.declared.frame.Frame.{Frame}
+use Rattle.seg_exec.specs.declared.stop.Stop.{Stop}
+use Rattle.seg_exec.specs.declared.stop.Stop.TheVariants as stops
+use Rattle.seg_exec.specs.Giving.{given}
+use Rattle.seg_exec.specs.Segment.{Stopped, segment}
+use Rattle.twe_machine.specs.Moves.{frame_without_prints, making_frame}
+use Rattle.seq_elide.specs.declared.fail.ElideFail.{ElideFail}
+use Rattle.seq_elide.specs.declared.fail.ElideFail.TheVariants as fail
+use Rattle.seq_elide.specs.declared.progress.Progress.{Progress}
+use Rattle.seq_elide.specs.declared.turn.Turn.{Turn}
+use Rattle.seq_elide.specs.declared.turn.Turn.TheVariants as turn
+use Rattle.seq_elide.specs.Elision.{first_frame, is_child, kept_value, with_segment, with_task, with_value}
+
+-- how a turn ends
+pub data Turned : Type 0 where
+  -- the next segment is one of this frame, whose callers wait for its task to end, the innermost first
+  goes_to : (callers : List Frame) (frame : Frame) (progress : Progress) → Turned
+  -- the first task has ended
+  ended : (value : ℤ) (progress : Progress) → Turned
+  faulted : (kind : FaultKind) (place : Place) → Turned
+  strayed : Turned
+
+abbrev pub turn_at_spawn : Bounds → List Frame → Frame → Frame → ℕ → Place → Progress → Turned
+turn_at_spawn lim callers frame child future place s =
+    let number = length s.values in
+    if nat_lt number lim.tasks
+    then goes_to (making_frame future true number frame ∷ callers) (first_frame lim number child) (with_task s)
+    else faulted TaskLimit place
+
+abbrev pub turn_at_make : Bounds → Bool → List Frame → Frame → Frame → ℕ → Place → Progress → Turned
+turn_at_make lim true callers frame child future place s = turn_at_spawn lim callers frame child future place s
+turn_at_make lim false callers frame child future place s = strayed
+
+abbrev pub turn_at_join : List Frame → Frame → ℕ → Progress → Turned
+turn_at_join callers frame on s = if is_child on frame then goes_to callers (given frame (kept_value s on)) s else strayed
+
+abbrev pub turn_at_end : List Frame → ℤ → Progress → Turned
+turn_at_end [] value s = ended value s
+turn_at_end (caller ∷ callers) value s = goes_to callers caller s
+
+abbrev pub turn_at_stop : Bounds → List Frame → Frame → Stop → Progress → Turned
+turn_at_stop lim callers frame (stops.Make child args effects spawned future place) s = turn_at_make lim spawned callers frame child future place s
+turn_at_stop lim callers frame (stops.Waits on) s = strayed
+turn_at_stop lim callers frame (stops.Joins on) s = turn_at_join callers frame on s
+turn_at_stop lim callers frame (stops.Done value) s = turn_at_end callers value (with_value frame value s)
+turn_at_stop lim callers frame (stops.Fault kind place) s = faulted kind place
+
+abbrev pub turn_after : Bounds → List Frame → Progress → Stopped → Turned
+turn_after lim callers s after = turn_at_stop lim callers (frame_without_prints after.frame) after.stop (with_segment s after)
+
+-- the code's turn, with the callers and the progress that it leaves, is this one
+abbrev pub IsTurn : Turned → Turn → List Frame → Progress → Type 0
+IsTurn turned (turn.Goes frame) callers s = turned ≡ goes_to callers frame s
+IsTurn turned (turn.Ended value) callers s = turned ≡ ended value s
+
+-- and so is its failure
+abbrev pub IsFailure : Turned → ElideFail → Type 0
+IsFailure turned (fail.Fault kind place) = turned ≡ faulted kind place
+IsFailure turned fail.NotForkJoin = turned ≡ strayed
+IsFailure turned (fail.OutOfMemory memory) = Unit {0}
