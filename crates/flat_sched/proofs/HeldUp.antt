@@ -88,7 +88,7 @@ waits_or_not_by links t (Some u) e =
     (λ undone. inr (u, record { waits = e; undone = undone }))
     (cases_Bool (link_of links u).done)
 
-waits_or_not : (links : List Link) (t : ℕ) → WaitsForNobody links t ⊎ ((u : ℕ) × WaitsFor links t u)
+pub waits_or_not : (links : List Link) (t : ℕ) → WaitsForNobody links t ⊎ ((u : ℕ) × WaitsFor links t u)
 waits_or_not links t = waits_or_not_by links t (link_of links t).waits refl
 
 -- if P cannot be refuted at any number below n, it cannot be refuted at all of them at once

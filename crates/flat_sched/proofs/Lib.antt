@@ -1,6 +1,12 @@
 pub mod Faults
+pub mod FirstBooks
 pub mod Going
 pub mod HeldUp
 pub mod Holders
 pub mod SoFar
 pub mod Sound
+pub mod Listing
+pub mod Places
+pub mod LookedAt
+pub mod NotedMoves
+pub mod Step

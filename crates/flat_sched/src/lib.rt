@@ -2,12 +2,16 @@
 //! run is stuck, the cycle of tasks that keep one another from going on says why.
 #![tactic(auto)]
 
+mod active;
+mod books;
 mod held;
 mod laws;
+mod lists;
+mod looking;
 mod lowest_run;
+mod noting;
+mod ready;
 mod stuck;
-#[cfg(test)]
-mod tests;
 
 pub use held::held_by;
 pub use laws::{one_stuck_cycle, stuck_cycles_have_true_edges};

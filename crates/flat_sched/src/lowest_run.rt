@@ -1,18 +1,24 @@
 //! The lowest-first run of a program: at each step the move of the lowest-numbered task that has one.
-ghost use Rattle.std.specs.Prelude.{◌≡◌, ◌≤◌, ◌<◌, ◌↔◌, ◌+◌, ◌*◌, ℕ, [], ◌∷◌, ◌++◌, length, IfOk, IfSome, IfNone, IsTrue, OnOk};
+ghost use Rattle.std.specs.Prelude.{◌≡◌, ◌≤◌, ◌+◌, ◌*◌, [], ◌∷◌, ◌++◌, length, None, IfOk, IfSome, IfNone, OnOk};
 ghost use Rattle.twe_machine.specs.declared.ending.Outcome.TheVariants.{AllDone, Unfinished};
-ghost use Rattle.twe_machine.specs.declared.state.TaskStatus.TheVariants.{Done};
+ghost use Rattle.twe_limits.specs.Limits.{Bounds};
+ghost use Rattle.twe_program.specs.Program.{Program};
 ghost use Rattle.twe_machine.specs.Legal.{MayMove};
 ghost use Rattle.twe_machine.specs.LowestFirst.{IsLowest, IsOver, LowestFirst};
-ghost use Rattle.twe_machine.specs.Moves.{move_result};
-ghost use Rattle.twe_machine.specs.Rows.{HasStatus};
+ghost use Rattle.twe_machine.specs.Moves.{move_result, start_of};
 ghost use Rattle.twe_machine.specs.Runs.{IsReachable, IsReached, Legal, state_after, IsOutcome, EachOnce, EachAtMostOnce, counted, entry_of};
+ghost use Rattle.flat_sched.specs.inner.Books.{Keeps};
+ghost use Rattle.flat_sched.specs.inner.Lists.{IsReady};
 
+use crate::books::Books;
+use crate::looking::look;
+use crate::noting::note;
 use seg_journal::{Entry, Journal, Limits, Move};
 use std::alloc::Global;
 use twe_io::Memory;
 use twe_machine::{
-    State, TaskStatus, each_thing_happens_once, journals_are_short, lowest_from, start, step,
+    State, each_thing_happens_once, effects_are_filled, journals_are_short, links_agree, start,
+    step,
 };
 use twe_program::Prog;
 
@@ -36,52 +42,63 @@ pub fn run_lowest(alloc: Global, p: &Prog, lim: Limits) -> Result<(Journal, Stat
     let (_main, _fuel) = (p.main, lim.fuel);
     let mut st = start(alloc, p, lim)?;
     let mut journal = Journal::new(alloc);
-    let mut done = 0;
-    'moves: while let Some(mv) = next_move(p, &st, done) {
-        take(alloc, p, lim, &mut st, &mut journal, mv)?;
-        done = count_done(&st, done);
+    let mut books = first_books(alloc)?;
+    'moves: while let Some(mv) = next_move(alloc, p, &st, &mut books)? {
+        take(alloc, p, lim, &mut st, &mut books, &mut journal, mv)?;
     }
     Ok((journal, st))
 }
 
-/// How many tasks from task 0 on are done, up to the first one that isn't. All tasks below `known` are done, so it
-/// skips them.
-fn count_done(st: &State, known: u32) -> u32
-    requires { (t : ℕ) → t < known → HasStatus st.now t Done }
-    ensures done { (t : ℕ) → t < result → HasStatus st.now t Done }
-    ensures grows { known ≤ result }
-    ensures all { result < length st.now.links → ¬ HasStatus st.now result Done }
+/// The books of a run that has not begun. Task 0 is to be looked at.
+fn first_books(alloc: Global) -> Result<Books, Memory>
+    ensures { IfOk result (λ books. (p : Program) (lim : Bounds) → Keeps (start_of p lim) books) }
 {
-    let mut t = known;
-    'counting: while t < st.links.task_count() && is_done(st, t) {
-        t += 1;
-    }
-    t
+    let mut books = Books::new(alloc);
+    books.ready.add(0)?;
+    Ok(books)
 }
 
-/// Whether a task is done.
-fn is_done(st: &State, t: u32) -> bool
-    ensures { IsTrue result ↔ HasStatus st.now t Done }
-{
-    match st.tasks.get(t as usize) {
-        None => false,
-        Some(row) => matches!(row.status, TaskStatus::Done),
-    }
-}
-
-/// The move of the lowest-numbered task that has one, and `None` after a fault or if no move is legal. All tasks
-/// below `done` are done.
-fn next_move(p: &Prog, st: &State, done: u32) -> Option<Move>
+/// The move of the lowest-numbered task that has one, and `None` after a fault or if no move is legal.
+fn next_move(alloc: Global, p: &Prog, st: &State, books: &mut Books) -> Result<Option<Move>, Memory>
     requires reachable { IsReachable p.now st.now }
-    requires done { (t : ℕ) → t < done → HasStatus st.now t Done }
-    ensures lowest { IfSome result (IsLowest st.now) }
-    ensures unfinished { IfSome result (λ _. IsOutcome st.now Unfinished) }
-    ensures over { IfNone result (IsOver st.now) }
+    requires keeps { st.now.first_fault ≡ None → Keeps st.now books.old }
+    ensures lowest { IfOk result (λ next. IfSome next (IsLowest st.now)) }
+    ensures unfinished { IfOk result (λ next. IfSome next (λ _. IsOutcome st.now Unfinished)) }
+    ensures over { IfOk result (λ next. IfNone next (IsOver st.now)) }
+    ensures keeps { OnOk result (st.now.first_fault ≡ None → Keeps st.now books.new) }
+    ensures ready { IfOk result (λ next. IfSome next (λ mv. IsReady books.new.ready mv.task)) }
 {
     if st.first_fault.is_some() {
-        return None;
+        return Ok(None);
     }
-    lowest_from(p, st, done)
+    lowest_ready(alloc, p, st, books)
+}
+
+/// The move of the lowest-numbered task that has one, if a move is legal. Each task that is looked at and has none is
+/// no longer to be looked at.
+fn lowest_ready(
+    alloc: Global,
+    p: &Prog,
+    st: &State,
+    books: &mut Books,
+) -> Result<Option<Move>, Memory>
+    requires reachable { IsReachable p.now st.now }
+    requires keeps { Keeps st.now books.old }
+    ensures lowest { IfOk result (λ next. IfSome next (IsLowest st.now)) }
+    ensures none { IfOk result (λ next. IfNone next ((mv : Move) → ¬ MayMove st.now mv)) }
+    ensures keeps { OnOk result (Keeps st.now books.new) }
+    ensures ready { IfOk result (λ next. IfSome next (λ mv. IsReady books.new.ready mv.task)) }
+{
+    links_agree();
+    effects_are_filled();
+    let _main = p.main;
+    'looking: while let Some(t) = books.ready.lowest() {
+        if let Some(mv) = look(alloc, st, books, t)? {
+            return Ok(Some(mv));
+        }
+        books.ready.drop_lowest();
+    }
+    Ok(None)
 }
 
 /// Takes a legal move in a reached state, and appends its entry to the run's journal.
@@ -90,15 +107,25 @@ fn take(
     p: &Prog,
     lim: Limits,
     st: &mut State,
+    books: &mut Books,
     journal: &mut Journal,
     mv: Move,
 ) -> Result<(), Memory>
     requires reached { IsReached p.now lim st.old }
     requires legal { MayMove st.old mv }
+    requires keeps { Keeps st.old books.old }
+    requires ready { IsReady books.old.ready mv.task }
     ensures entered { OnOk result (journal.new ≡ journal.old ++ entry_of p.now lim st.old mv ∷ []) }
     ensures state { OnOk result (st.new ≡ (move_result p.now lim st.old mv).0) }
+    ensures keeps { OnOk result (st.new.first_fault ≡ None → Keeps st.new books.new) }
 {
+    let _main = p.main;
+    let before = st.links.task_count();
     let end = step(alloc, p, lim, st, mv)?;
     journal.push(Entry { mv, end })?;
+    if st.first_fault.is_some() {
+        return Ok(());
+    }
+    note(alloc, st, books, mv, before)?;
     Ok(())
 }

@@ -1,13 +1,16 @@
-use Rattle.std.proofs.Common.{◌≡◌, ◌+◌, List, [], ◌∷◌, ◌++◌, ap, length, length-append, sym, subst, arith}
+use Rattle.std.proofs.Common.{◌≡◌, ◌+◌, List, [], ◌∷◌, ◌++◌, Option, ap, length, length-append, sym, subst, arith}
+use Rattle.std.specs.Prelude.{IfNone, IfSome}
 use Rattle.seg_journal.specs.declared.journal.Entry.{Entry}
+use Rattle.seg_journal.specs.declared.moves.Move.{Move}
+use Rattle.twe_machine.specs.declared.ending.Outcome.TheVariants.{Unfinished}
+use Rattle.twe_machine.specs.LowestFirst.{IsLowest, IsOver}
+use Rattle.flat_sched.specs.inner.Books.{Keeps}
+use Rattle.flat_sched.specs.inner.Lists.{IsReady}
 use Rattle.twe_limits.specs.Limits.{Bounds, IsWithin}
 use Rattle.twe_program.specs.WellFormed.{IsWellFormed}
 use Rattle.twe_machine.specs.declared.state.State.{State}
-use Rattle.twe_machine.specs.declared.state.TaskStatus.TheVariants.{Done}
 use Rattle.twe_machine.specs.Moves.{move_result}
-use Rattle.twe_machine.specs.Rows.{HasStatus}
-use Rattle.twe_machine.specs.Runs.{AllTasksDone, EachOnce, entry_of}
-use Rattle.twe_machine.proofs.DoneStays.{done_stays}
+use Rattle.twe_machine.specs.Runs.{AllTasksDone, EachOnce, IsOutcome, entry_of}
 use Rattle.flat_sched.proofs.Going.{IsGoing, at_start, ended_lowest, goes_on, run_goes_on}
 use Rattle.flat_sched.proofs.lowest_run.run_lowest.Goals as goal
 
@@ -16,18 +19,20 @@ pub moves-init : goal.moves-init
 moves-init c = record {
   going = subst (λ (journal : List Entry). IsGoing c.args.p.now c.args.lim journal c.in_ok-st.st) (sym c.new-journal.ensures)
       (subst (λ (st : State). IsGoing c.args.p.now c.args.lim [] st) (sym c.in_ok-st.ensures) (at_start c.args.p.now c.args.lim));
-  done = λ t below. absurd (omega (arith, below));
+  keeps = λ free. subst (λ (st : State). Keeps st c.in_ok-books.books) (sym c.in_ok-st.ensures) (c.in_ok-books.ensures c.args.p.now c.args.lim);
 }
 
 -- each move adds an entry, and a legal journal has room for it
 pub moves-smaller : goal.moves-smaller
 moves-smaller c =
     let p = c.args.p.now in
+    let low = subst (λ (o : Option Move). IfSome o (IsLowest c.moves.st)) c.in-Some.is c.in_ok-mv.ensures.lowest in
+    let unfinished = subst (λ (o : Option Move). IfSome o (λ (m : Move). IsOutcome c.moves.st Unfinished)) c.in-Some.is c.in_ok-mv.ensures.unfinished in
     let journal = c.moves.journal in
     let entry = entry_of p c.args.lim c.moves.st c.in-Some.mv in
     let well : IsWellFormed p = subst IsWellFormed c.p.view_is c.p.invariant in
     let within : IsWithin c.args.lim.fuel c.args.lim.tasks = subst (λ (lim : Bounds). IsWithin lim.fuel lim.tasks) c.lim.view_is c.lim.invariant in
-    let legal = (run_goes_on p c.args.lim journal c.moves.st c.in-Some.mv c.moves.invariant.going c.in-Some.ensures.unfinished c.in-Some.ensures.lowest).legal in
+    let legal = (run_goes_on p c.args.lim journal c.moves.st c.in-Some.mv c.moves.invariant.going unfinished low).legal in
     let short = c.journals_are_short.ensures p c.args.lim (journal ++ entry ∷ []) well within legal in
     let one : length (journal ++ entry ∷ []) ≡ length journal + 1 = length-append journal (entry ∷ []) in
     let is : length c.take.new.journal ≡ length (journal ++ entry ∷ []) = ap length c.in_ok-take.ensures.entered in
@@ -37,23 +42,29 @@ moves-smaller c =
 pub moves-preserved : goal.moves-preserved
 moves-preserved c =
     let p = c.args.p.now in
-    let more = goes_on p c.args.lim c.moves.journal c.moves.st c.in-Some.mv c.moves.invariant.going c.in-Some.ensures.unfinished c.in-Some.ensures.lowest in
+    let low = subst (λ (o : Option Move). IfSome o (IsLowest c.moves.st)) c.in-Some.is c.in_ok-mv.ensures.lowest in
+    let unfinished = subst (λ (o : Option Move). IfSome o (λ (m : Move). IsOutcome c.moves.st Unfinished)) c.in-Some.is c.in_ok-mv.ensures.unfinished in
+    let more = goes_on p c.args.lim c.moves.journal c.moves.st c.in-Some.mv c.moves.invariant.going unfinished low in
     record {
       going = subst (λ (st : State). IsGoing p c.args.lim c.take.new.journal st) (sym c.in_ok-take.ensures.state)
           (subst (λ (journal : List Entry). IsGoing p c.args.lim journal (move_result p c.args.lim c.moves.st c.in-Some.mv).0) (sym c.in_ok-take.ensures.entered) more);
-      done = c.count_done-done.ensures.done;
+      keeps = c.in_ok-take.ensures.keeps;
     }
 
--- the tasks that are done stay so
-pub count_done-done-requires : goal.count_done-done-requires
-count_done-done-requires c = λ t below.
-    let mv = c.in-Some.mv in
-    let stays = done_stays c.args.p.now c.args.lim c.moves.st mv.kind mv.task t c.in-Some.ensures.lowest.legal (c.moves.invariant.done t below) in
-    subst (λ (st : State). HasStatus st t Done) (sym c.in_ok-take.ensures.state) stays
+-- the books name the task of the move
+pub take-requires-clause-ready : goal.take-requires-clause-ready
+take-requires-clause-ready c =
+    subst (λ (o : Option Move). IfSome o (λ (m : Move). IsReady c.next_move.new.books.ready m.task)) c.in-Some.is c.in_ok-mv.ensures.ready
+
+pub take-requires-clause-keeps : goal.take-requires-clause-keeps
+take-requires-clause-keeps c =
+    let unfinished = subst (λ (o : Option Move). IfSome o (λ (m : Move). IsOutcome c.moves.st Unfinished)) c.in-Some.is c.in_ok-mv.ensures.unfinished in
+    c.in_ok-mv.ensures.keeps unfinished.0
 
 -- what the run has been in the end
 pub returns-clause-lowest : goal.returns-clause-lowest
-returns-clause-lowest c = ended_lowest c.args.p.now c.args.lim c.moves.journal c.moves.st c.moves.invariant.going c.in_default.ensures.over
+returns-clause-lowest c = ended_lowest c.args.p.now c.args.lim c.moves.journal c.moves.st c.moves.invariant.going
+    (subst (λ (o : Option Move). IfNone o (IsOver c.moves.st)) c.in_default.is c.in_ok-mv.ensures.over)
 
 pub returns-clause-once : goal.returns-clause-once
 returns-clause-once c = λ all.

@@ -1,11 +1,10 @@
-use Rattle.std.proofs.Common.{◌<◌, ◌-◌, ◌*◌, ◌+◌, ℕ, length}
-use Rattle.twe_machine.specs.declared.state.TaskStatus.TheVariants.{Done}
-use Rattle.twe_machine.specs.Rows.{HasStatus}
+use Rattle.std.proofs.Common.{◌≡◌, ◌-◌, ◌*◌, ◌+◌, ℕ, None, length}
+use Rattle.flat_sched.specs.inner.Books.{Keeps}
 use Rattle.flat_sched.proofs.Going.{IsGoing}
 use Rattle.flat_sched.proofs.lowest_run.run_lowest.Given as goal
 
 abbrev pub invariant-moves : goal.invariant-moves
-invariant-moves l = record { going : IsGoing l.p l.lim l.journal l.st; done : (t : ℕ) → t < l.done → HasStatus l.st t Done }
+invariant-moves l = record { going : IsGoing l.p l.lim l.journal l.st; keeps : l.st.first_fault ≡ None → Keeps l.st l.books }
 
 -- how many more entries the journal may have
 abbrev pub decreases-moves : goal.decreases-moves

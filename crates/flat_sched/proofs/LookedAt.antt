@@ -1,0 +1,105 @@
+-- What the books say of the tasks that are looked at.
+use Rattle.std.proofs.Common.{◌≡◌, ◌≢◌, ◌⊎◌, ◌<◌, ◌≤◌, inl, inr, ℕ, zero, suc, List, [], ◌∷◌, ◌++◌, length, take, Option, Some, None, false, refl, sym, ap, ◌∙◌, subst, arith}
+use Rattle.std.specs.Prelude.{slice_get}
+use Rattle.std.specs.List.{Contains}
+use Rattle.std.proofs.lemmas.Bool.{cases_eq, cases_lt, false≢true}
+use Rattle.seg_journal.specs.declared.moves.Kind.{Kind}
+use Rattle.seg_journal.specs.declared.moves.Kind.TheVariants.{Admit, Run}
+use Rattle.wait_graph.specs.Chain.{none}
+use Rattle.wait_graph.specs.Link.{link_of}
+use Rattle.wait_graph.specs.Waiting.{WaitsFor, WaitsOn, YieldsTo}
+use Rattle.wait_graph.proofs.ChainLemmas.{Chain-append}
+use Rattle.twe_machine.proofs.LinksAgree.{status_of}
+use Rattle.twe_machine.specs.declared.state.State.{State}
+use Rattle.twe_machine.specs.declared.state.TaskRow.{TaskRow}
+use Rattle.twe_machine.specs.declared.state.TaskStatus.TheVariants.{Made, Enabled}
+use Rattle.twe_machine.specs.Legal.{Interfere, IsBar, MayRun, MayTake}
+use Rattle.twe_machine.specs.Rows.{HasStatus, IsRow}
+use Rattle.flat_sched.specs.inner.Books.{IsHeldBack, IsPath, Keeps}
+use Rattle.flat_sched.specs.inner.Lists.{IsListed, IsReady}
+use Rattle.flat_sched.proofs.Places.{got_contained}
+use Rattle.flat_sched.specs.declared.active.Active.{Active}
+use Rattle.flat_sched.specs.declared.books.Books.{Books}
+
+-- a task with a legal move is to be looked at
+pub ready_of : (st : State) (b : Books) → Keeps st b → (kind : Kind) (t : ℕ) → MayTake st kind t → IsReady b.ready t
+ready_of st b keeps Admit t may =
+    elim (keeps.made t may.0) [
+      | inl look ↦ look
+      | inr held ↦ let bar = held.bar in absurd (bar.3 (may.1 held.holder bar.0 bar.1 bar.2))
+    ]
+ready_of st b keeps Run t may = keeps.runs t may
+
+held_on : (st : State) (b after : Books) (t : ℕ) → ((u x : ℕ) → IsListed b.held u x → IsListed after.held u x) → IsHeldBack st b t → IsHeldBack st after t
+held_on st b after t grows h = record { holder = h.holder; bar = h.bar; listed = grows h.holder t h.listed }
+
+held_at : (st : State) (b : Books) (t u : ℕ) → t ≡ u → IsHeldBack st b t → IsHeldBack st b u
+held_at st b t u is h = subst (λ (n : ℕ). IsHeldBack st b n) is h
+
+-- a task without a legal move need not be looked at, if it was put on the list of a bar
+pub keeps_without : (st : State) (b : Books) (ready : List ℕ) (t : ℕ) → Keeps st b → ((u : ℕ) → u ≢ t → IsReady b.ready u → IsReady ready u)
+    → ((kind : Kind) → ¬ MayTake st kind t) → (HasStatus st t Made → IsHeldBack st b t) → Keeps st (record b { ready = ready })
+keeps_without st b ready t keeps others no_move held = record {
+  runs = λ u run. elim (cases_eq u t) [
+    | inl is ↦ absurd (no_move Run (subst (λ (n : ℕ). MayRun st n) is run))
+    | inr ne ↦ others u ne (keeps.runs u run)
+  ];
+  made = λ u made. elim (cases_eq u t) [
+    | inl is ↦ inr (held_on st b (record b { ready = ready }) u (λ v x h. h) (held_at st b t u (sym is) (held (subst (λ (n : ℕ). HasStatus st n Made) is made))))
+    | inr ne ↦ elim (keeps.made u made) [ inl look ↦ inl (others u ne look) | inr h ↦ inr (held_on st b (record b { ready = ready }) u (λ v x h. h) h) ]
+  ];
+  waits = keeps.waits;
+  active = keeps.active;
+  path = keeps.path;
+}
+
+-- the path may change, and tasks may be put on the lists of bars
+pub keeps_looked : (st : State) (b : Books) (held : List (List ℕ)) (active : Active) → Keeps st b → ((u x : ℕ) → IsListed b.held u x → IsListed held u x)
+    → active.tasks ≡ b.active.tasks → IsPath st active → Keeps st (record b { held = held; active = active })
+keeps_looked st b held active keeps grows same path = record {
+  runs = keeps.runs;
+  made = λ u made. elim (keeps.made u made) [ inl look ↦ inl look | inr h ↦ inr (held_on st b (record b { held = held; active = active }) u grows h) ];
+  waits = keeps.waits;
+  active = λ s has. subst (λ (tasks : List ℕ). Contains tasks s) (sym same) (keeps.active s has);
+  path = path;
+}
+
+-- Bars.
+
+-- the first tasks wait for the end of the path, and so for t if it does
+pub known_path : (st : State) (active : Active) (t : ℕ) → IsPath st active → WaitsOn st.links active.end t → (link_of st.links active.end).done ≡ false
+    → (i s : ℕ) → i < active.path → slice_get active.tasks i ≡ Some s → WaitsOn st.links s t
+known_path st active t path chain undone i s low here =
+    elim (path i s low here) [
+      | inl to_end ↦ Chain-append to_end chain
+      | inr done ↦ absurd (false≢true (sym undone ∙ done))
+    ]
+
+-- if no enabled task is a bar, the task may be admitted
+pub admits : (st : State) (tasks : List ℕ) (from t : ℕ) → ((i s : ℕ) → i < from → slice_get tasks i ≡ Some s → WaitsOn st.links s t)
+    → ((i s : ℕ) → from ≤ i → slice_get tasks i ≡ Some s → s ≢ t → HasStatus st s Enabled → Interfere st s t → YieldsTo st.links s t)
+    → ((s : ℕ) → HasStatus st s Enabled → Contains tasks s) → HasStatus st t Made → MayTake st Admit t
+admits st tasks from t before rest all made = (
+  made,
+  λ s ne has i.
+      let at = got_contained tasks s (all s has) in
+      elim (cases_lt at.0 from) [
+        | inl low ↦ (t, before at.0 s low at.1, none)
+        | inr high ↦ rest at.0 s high at.1 ne has i
+      ],
+)
+
+-- a task with a bar may not be admitted, and one that was made may not run
+pub barred : (st : State) (s t : ℕ) → HasStatus st t Made → IsBar st s t → (kind : Kind) → ¬ MayTake st kind t
+barred st s t made bar Admit may = bar.3 (may.1 s bar.0 bar.1 bar.2)
+barred st s t made bar Run may = let one = status_of st t made.0 Enabled may.0 made.1 in cc (one, made.2)
+
+-- a task that is enabled and waits has no legal move
+pub waiting : (st : State) (t u : ℕ) → HasStatus st t Enabled → WaitsFor st.links t u → (kind : Kind) → ¬ MayTake st kind t
+waiting st t u has wait Admit may = let one = status_of st t has.0 Made may.0 has.1 in cc (one, has.2)
+waiting st t u has wait Run may = may.1 u wait
+
+-- nor has one of another status
+pub over_still : (st : State) (t : ℕ) (row : TaskRow) → IsRow st t row → row.status ≢ Made → row.status ≢ Enabled → (kind : Kind) → ¬ MayTake st kind t
+over_still st t row here unmade idle Admit may = unmade (status_of st t row Made may.0 here)
+over_still st t row here unmade idle Run may = idle (status_of st t row Enabled may.0 here)
