@@ -68,7 +68,7 @@ over-keeps only (e ∷ effects) marks =
     let next = if e.write || not only then joined_marks marks (marks_of e) else marks in
     within-more marks next (marks_over only next effects) (taken-keeps (e.write || not only) marks (marks_of e)) (over-keeps only effects next)
 
-over-has : (only : Bool) (effects : List Effect) (marks : Marks) (e : Effect) → IsIn e effects → (e.write || not only) ≡ true
+pub over-has : (only : Bool) (effects : List Effect) (marks : Marks) (e : Effect) → IsIn e effects → (e.write || not only) ≡ true
     → Within (marks_of e) (marks_over only marks effects)
 over-has only [] marks e i counts = absurd i
 over-has only (d ∷ effects) marks e (inl same) counts =

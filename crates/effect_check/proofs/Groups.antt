@@ -14,6 +14,7 @@ use Rattle.effect_check.specs.declared.futures.Futures.{Futures}
 use Rattle.effect_check.specs.Acts.{acts_in_all}
 use Rattle.effect_check.specs.FailsEffect.{EffectFailure}
 use Rattle.effect_check.specs.inner.Failures.{spawns_among, followed, bars, free, first_from, declared_failures, task_failures, future_failures, AreFollowed, JudgesGroup, JudgesFirst, JudgesTask}
+use Rattle.effect_check.specs.inner.Marks.{marks_of, meet}
 use Rattle.first_failure.proofs.Members.{in-list_all, true-or}
 use Rattle.effect_check.proofs.Firsts.{first_from-append}
 
@@ -70,5 +71,5 @@ all-groups p task count first later enough so_far = record {
 -- if none of them may be out, nothing bars an effect
 pub free-none : (fs : Futures) (point : ℕ) (effect : Effect) → ((future : ℕ) → may_at fs.points point future ≡ false) → true ≡ free fs point effect
 free-none fs point effect none =
-    sym (in-list_all (λ s. not (bars fs.points point effect s)) fs.spawns
-    (λ s i. ap (λ b. not (b && list_any (λ other. statically_interferes effect other) s.effects.effects)) (none s.future)))
+    sym (in-list_all (λ s. not (bars fs.points point effect (marks_of effect) s)) fs.spawns
+    (λ s i. ap (λ b. not (b && (meet s.marks (marks_of effect) && list_any (λ other. statically_interferes effect other) s.effects.effects))) (none s.future)))

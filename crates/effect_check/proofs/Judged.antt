@@ -29,7 +29,9 @@ use Rattle.effect_check.specs.inner.Failures.{spawn_of, spawns_among, followed, 
 use Rattle.first_failure.specs.First.{failure_if}
 use Rattle.first_failure.proofs.Firsts.{if-in, in-if}
 use Rattle.first_failure.proofs.Members.{IsIn, in-left, in-right, in-cases, contains-in, in-contains, both-true, true-both, list_all-in, in-list_all, list_any-in, in-list_any, all-in}
+use Rattle.effect_check.specs.inner.Marks.{marks_of, marks_over, no_marks, meet}
 use Rattle.effect_check.proofs.Range.{IsInRange, AllInRange}
+use Rattle.effect_check.proofs.Regions.{own-meet}
 
 -- what is gathered from acts, one after the other, comes from one of them
 module _ {Y : Type 0} (g : Act → List Y) (h : List Act → List Y) (nil : h [] ≡ []) (cons : (a : Act) (as' : List Act) → h (a ∷ as') ≡ g a ++ h as') where
@@ -130,8 +132,8 @@ module _ (p : Program) (task : Decl) (range : AllInRange task.body.points task.b
   module _ (fs : Futures) (group : IsGroupOf p task fs) where
     free_from : (point : ℕ) (effect : Effect) → point < task.body.points → CoveredAt p task point effect → free fs point effect ≡ true
     free_from point effect here c =
-        in-list_all (λ s. not (bars fs.points point effect s)) fs.spawns (λ s i. unbarred s i (bars fs.points point effect s) refl) where
-          barred : (s : Spawn) → IsIn s fs.spawns → bars fs.points point effect s ≡ true → ⊥
+        in-list_all (λ s. not (bars fs.points point effect (marks_of effect) s)) fs.spawns (λ s i. unbarred s i (bars fs.points point effect (marks_of effect) s) refl) where
+          barred : (s : Spawn) → IsIn s fs.spawns → bars fs.points point effect (marks_of effect) s ≡ true → ⊥
           barred s i e =
               let among = followed-in fs.points (spawns_among (acts_in_all p task.body.block)) s (subst (IsIn s) group.spawns i) in
               let made = spawned_in s among.0 in
@@ -141,12 +143,14 @@ module _ (p : Program) (task : Decl) (range : AllInRange task.body.points task.b
               subst (λ k. IsIn (at k) (acts_in_all p task.body.block)) kind.3 made.1 in
               let does : Does p task made.0.point (Make s.future true kind.0 s.effects kind.1 kind.2) = in-contains (acts_in_all p task.body.block) (at (Make s.future true kind.0 s.effects kind.1 kind.2)) there in
               let below = in_range made.0.point (Make s.future true kind.0 s.effects kind.1 kind.2) does in
-              let parts = both-true (may_at fs.points point s.future) (list_any (λ other. statically_interferes effect other) s.effects.effects) e in
-              let found = list_any-in (λ other. statically_interferes effect other) s.effects.effects parts.1 in
+              let parts = both-true (may_at fs.points point s.future)
+              (meet s.marks (marks_of effect) && list_any (λ other. statically_interferes effect other) s.effects.effects) e in
+              let inner = both-true (meet s.marks (marks_of effect)) (list_any (λ other. statically_interferes effect other) s.effects.effects) parts.1 in
+              let found = list_any-in (λ other. statically_interferes effect other) s.effects.effects inner.1 in
               c.free made.0.point s.future kind.0 s.effects kind.1 kind.2 does ((group.flow.may point s.future here below.1 among.1).0 parts.0)
               found.0 (in-contains s.effects.effects found.0 found.1) found.2
 
-          unbarred : (s : Spawn) → IsIn s fs.spawns → (b : Bool) → bars fs.points point effect s ≡ b → not b ≡ true
+          unbarred : (s : Spawn) → IsIn s fs.spawns → (b : Bool) → bars fs.points point effect (marks_of effect) s ≡ b → not b ≡ true
           unbarred s i true e = absurd (barred s i e)
           unbarred s i false e = refl
 
@@ -160,18 +164,23 @@ module _ (p : Program) (task : Decl) (range : AllInRange task.body.points task.b
         → (other : Effect) → Contains effects.effects other → ¬ IsTrue (statically_interferes effect other)
     nothing_bars point effect here h at future deterministic effects future_place place does among out other contained interferes =
         let act : Act = record { point = at; kind = Make future true deterministic effects future_place place } in
-        let s : Spawn = record { future = future; effects = effects } in
+        let own = marks_over false no_marks effects.effects in
+        let s : Spawn = record { future = future; effects = effects; marks = own } in
         let i : IsIn act (acts_in_all p task.body.block) = contains-in (acts_in_all p task.body.block) act does in
         let j : IsIn s (spawns_among (acts_in_all p task.body.block)) =
         in-gathered (λ a. spawn_of a.kind) spawns_among refl (λ a others. refl) (acts_in_all p task.body.block) s act i (inl refl) in
         let k : IsIn s (followed fs.points (spawns_among (acts_in_all p task.body.block))) = in-followed fs.points (spawns_among (acts_in_all p task.body.block)) s j among in
-        let unbarred : not (bars fs.points point effect s) ≡ true =
-        list_all-in (λ q. not (bars fs.points point effect q)) fs.spawns h s (subst (IsIn s) (sym group.spawns) k) in
+        let unbarred : not (bars fs.points point effect (marks_of effect) s) ≡ true =
+        list_all-in (λ q. not (bars fs.points point effect (marks_of effect) q)) fs.spawns h s (subst (IsIn s) (sym group.spawns) k) in
         let below = in_range at (Make future true deterministic effects future_place place) does in
-        let barred : bars fs.points point effect s ≡ true = true-both (may_at fs.points point future) (list_any (λ b. statically_interferes effect b) effects.effects)
+        let held : IsIn other effects.effects = contains-in effects.effects other contained in
+        let barred : bars fs.points point effect (marks_of effect) s ≡ true =
+        true-both (may_at fs.points point future) (meet own (marks_of effect) && list_any (λ b. statically_interferes effect b) effects.effects)
         ((group.flow.may point future here below.1 among).1 out)
-        (in-list_any (λ b. statically_interferes effect b) effects.effects other (contains-in effects.effects other contained) interferes) in
-        not_both (bars fs.points point effect s) unbarred barred
+        (true-both (meet own (marks_of effect)) (list_any (λ b. statically_interferes effect b) effects.effects)
+        (own-meet effects.effects effect other held interferes)
+        (in-list_any (λ b. statically_interferes effect b) effects.effects other held interferes)) in
+        not_both (bars fs.points point effect (marks_of effect) s) unbarred barred
 
     -- what is said of a future, also if it is not followed
     not_surely_by : (point future : ℕ) → point < task.body.points → future < task.body.futures → (b : Bool) → is_among fs.points.first future ≡ b

@@ -1,5 +1,5 @@
 -- Effects that do not meet the marks of the futures that may be out are free of them.
-use Rattle.std.proofs.Common.{◌≡◌, ◌⊎◌, ◌/◌, ℕ, Bool, true, false, not, ◌&&◌, ◌||◌, if◌then◌else◌, inl, inr, refl, sym, ap, ◌∙◌, subst}
+use Rattle.std.proofs.Common.{◌≡◌, ◌⊎◌, ◌/◌, ℕ, Bool, true, false, not, ◌&&◌, ◌||◌, if◌then◌else◌, List, inl, inr, refl, sym, ap, ◌∙◌, subst}
 use Rattle.std.specs.Prelude.{◌==◌, bit_and}
 use Rattle.std.specs.List.{list_any}
 use Rattle.std.proofs.lemmas.Bool.{false≢true, false_from_ne_true, and_cases, not-false, eqb-true}
@@ -11,13 +11,14 @@ use Rattle.effect_check.specs.declared.futures.Spawn.{Spawn}
 use Rattle.effect_check.specs.declared.futures.Futures.{Futures}
 use Rattle.effect_check.specs.declared.marks.Marks.{Marks}
 use Rattle.effect_check.specs.inner.Failures.{bars, free, HasMarks, others_of}
-use Rattle.effect_check.specs.inner.Marks.{marks_of, no_marks, meet}
+use Rattle.effect_check.specs.inner.Marks.{marks_of, marks_over, no_marks, meet}
 use Rattle.first_failure.proofs.Members.{IsIn, in-list_all, list_any-in}
-use Rattle.effect_check.proofs.Apart.{Within, all-has, different-names, different-indexes, none-shared}
+use Rattle.effect_check.proofs.Apart.{Within, over-has, all-has, different-names, different-indexes, none-shared}
 
-none_of : (b : Bool) → not (b && false) ≡ true
-none_of true = refl
-none_of false = refl
+none_of : (b c : Bool) → not (b && (c && false)) ≡ true
+none_of true true = refl
+none_of true false = refl
+none_of false c = refl
 
 -- marks that do not meet have no bit in common in one of the words
 apart_word : (a b : ℕ) → not (bit_and a b == 0) ≡ false → bit_and a b ≡ 0
@@ -64,10 +65,20 @@ module _ (fs : Futures) (effect : Effect) (has : HasMarks fs) (s : Spawn) (i : I
 -- if the effect does not meet the marks, nothing bars it
 pub free-unmet : (fs : Futures) (point : ℕ) (effect : Effect) → HasMarks fs → meet (others_of fs effect) (marks_of effect) ≡ false → true ≡ free fs point effect
 free-unmet fs point effect has none =
-    sym (in-list_all (λ s. not (bars fs.points point effect s)) fs.spawns
-    (λ s i. ap (λ b. not (may_at fs.points point s.future && b)) (harmless s i) ∙ none_of (may_at fs.points point s.future))) where
+    sym (in-list_all (λ s. not (bars fs.points point effect (marks_of effect) s)) fs.spawns
+    (λ s i. ap (λ b. not (may_at fs.points point s.future && (meet s.marks (marks_of effect) && b))) (harmless s i)
+    ∙ none_of (may_at fs.points point s.future) (meet s.marks (marks_of effect)))) where
       harmless : (s : Spawn) → IsIn s fs.spawns → list_any (λ other. statically_interferes effect other) s.effects.effects ≡ false
       harmless s i =
           false_from_ne_true (list_any (λ other. statically_interferes effect other) s.effects.effects)
           (λ e. let found = list_any-in (λ other. statically_interferes effect other) s.effects.effects e in
           false≢true (sym (harmless_by fs effect has s i found.0 found.1 effect.write found.0.write refl refl none) ∙ found.2))
+
+-- an effect that interferes with one of some effects meets their marks
+pub own-meet : (effects : List Effect) (e other : Effect) → IsIn other effects → statically_interferes e other ≡ true
+    → meet (marks_over false no_marks effects) (marks_of e) ≡ true
+own-meet effects e other i h = by_test (meet (marks_over false no_marks effects) (marks_of e)) refl where
+  by_test : (b : Bool) → meet (marks_over false no_marks effects) (marks_of e) ≡ b → b ≡ true
+  by_test true k = refl
+  by_test false k =
+      absurd (false≢true (sym (harmless_if (marks_over false no_marks effects) e other (over-has false effects no_marks other i (counts-write other.write)) k) ∙ h))

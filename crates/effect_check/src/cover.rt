@@ -3,7 +3,7 @@ ghost use Rattle.std.specs.Prelude.{◌≡◌, not};
 ghost use Rattle.std.specs.List.{list_all, list_any};
 ghost use Rattle.effect_sets.specs.Covers.{covers};
 ghost use Rattle.effect_sets.specs.Interference.{statically_interferes};
-ghost use Rattle.effect_check.specs.inner.Failures.{HasMarks, all_free, all_inside, bars, free, others_of};
+ghost use Rattle.effect_check.specs.inner.Failures.{HasMarks, all_free, all_inside, bars, free, free_by, others_of};
 
 use crate::futures::{Futures, Spawn};
 use crate::marks::{Marks, marks_of, meet};
@@ -28,22 +28,26 @@ fn interferes_with_some(effect: &Effect, others: &Summary) -> bool
         .any(|other| may_interfere(effect, other))
 }
 
-/// Whether the spawned task may be out at the point, and interferes with the effect.
-fn bars(points: &Points, point: u32, effect: &Effect, spawn: &Spawn) -> bool
-    ensures { result ≡ bars points.now point effect.now spawn.now }
+/// Whether the spawned task may be out at the point, and interferes with the effect, which has these marks.
+fn bars(points: &Points, point: u32, effect: &Effect, marks: Marks, spawn: &Spawn) -> bool
+    ensures { result ≡ bars points.now point effect.now marks spawn.now }
 {
-    points.may(point, spawn.future) && interferes_with_some(effect, &spawn.effects)
+    points.may(point, spawn.future)
+        && meet(spawn.marks, marks)
+        && interferes_with_some(effect, &spawn.effects)
 }
 
-/// Whether none of the spawned tasks bars the effect.
-fn none_bars(futures: &Futures, point: u32, effect: &Effect) -> bool
-    ensures { result ≡ free futures.now point effect.now }
+/// Whether none of the spawned tasks bars the effect, which has these marks.
+fn none_bars(futures: &Futures, point: u32, effect: &Effect, marks: Marks) -> bool
+    ensures { result ≡ free_by futures.now point effect.now marks }
 {
-    futures
-        .spawns
-        .as_slice()
-        .iter()
-        .all(|spawn| !bars(&futures.points, point, effect, spawn))
+    futures.spawns.as_slice().iter().all(|spawn| !bars(
+        &futures.points,
+        point,
+        effect,
+        marks,
+        spawn,
+    ))
 }
 
 /// The marks of the effects that may interfere with the effect: a read interferes with no read.
@@ -65,7 +69,7 @@ fn is_free_there(futures: &Futures, point: u32, effect: &Effect) -> bool
     let others = others_of(futures, effect);
     let marks = marks_of(effect);
     if meet(others, marks) {
-        none_bars(futures, point, effect)
+        none_bars(futures, point, effect, marks)
     } else {
         true
     }

@@ -3,7 +3,7 @@ ghost use Rattle.std.specs.Prelude.{◌≡◌, ◌++◌, IfOk, OnOk};
 ghost use Rattle.effect_check.specs.inner.Failures.{followed, spawn_of, spawns_among};
 
 use crate::act::{Act, ActKind};
-use crate::marks::Marks;
+use crate::marks::{Marks, marks_of_effects};
 use cover_flow::Points;
 use effect_sets::Summary;
 use std::alloc::Global;
@@ -16,6 +16,8 @@ pub struct Spawn {
     pub future: u32,
     /// The effects, filled with the arguments.
     pub effects: Summary,
+    /// Their marks.
+    pub marks: Marks,
 }
 
 impl Spawn {
@@ -27,6 +29,7 @@ impl Spawn {
         Ok(Spawn {
             future: self.future,
             effects,
+            marks: self.marks,
         })
     }
 }
@@ -55,10 +58,12 @@ fn add_spawn(alloc: Global, spawns: &mut List<Spawn>, kind: &ActKind) -> Result<
             effects,
             ..
         } => {
+            let marks = marks_of_effects(effects);
             let effects = effects.copy(alloc)?;
             spawns.push(Spawn {
                 future: *future,
                 effects,
+                marks,
             })
         }
         _ => Ok(()),

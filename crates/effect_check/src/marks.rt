@@ -1,6 +1,6 @@
 //! A few bits for each effect, by which effects of many tasks are told apart from another at once: if two effects have no
 //! bit in common in one of the words, they do not interfere.
-ghost use Rattle.std.specs.Prelude.{◌≡◌, ◌<◌, ◌^◌, ◌%◌};
+ghost use Rattle.std.specs.Prelude.{◌≡◌, ◌<◌, ◌^◌, ◌%◌, false};
 ghost use Rattle.effect_check.specs.inner.Marks.{joined_marks, marks_of, marks_of_all, marks_over, meet, no_marks};
 
 use crate::futures::Spawn;
@@ -78,6 +78,18 @@ fn marks_over(only_writes: bool, marks: Marks, effects: &Summary) -> Marks
         }
     }
     marks
+}
+
+/// The marks of the effects.
+pub fn marks_of_effects(effects: &Summary) -> Marks
+    ensures { result ≡ marks_over false no_marks effects.now.effects }
+{
+    let none = Marks {
+        near: 0,
+        far: 0,
+        index: 0,
+    };
+    marks_over(false, none, effects)
 }
 
 /// The marks of all effects of the spawns, or of those among them that write.

@@ -20,12 +20,13 @@ use Rattle.effect_check.specs.declared.futures.Spawn.{Spawn}
 use Rattle.effect_check.specs.declared.futures.Futures.{Futures}
 use Rattle.effect_check.specs.declared.marks.Marks.{Marks}
 use Rattle.effect_check.specs.Acts.{acts_in_all}
-use Rattle.effect_check.specs.inner.Marks.{marks_of_all, no_marks}
+use Rattle.effect_check.specs.inner.Marks.{marks_of, marks_of_all, marks_over, meet, no_marks}
 use Rattle.effect_check.specs.FailsEffect.{EffectFailure, number_of}
 
 -- the act as a spawn, if it is one
 abbrev pub spawn_of : ActKind → List Spawn
-spawn_of (Make future true deterministic effects future_place place) = record { future = future; effects = effects } ∷ []
+spawn_of (Make future true deterministic effects future_place place) =
+    record { future = future; effects = effects; marks = marks_over false no_marks effects.effects } ∷ []
 spawn_of _ = []
 
 abbrev pub spawns_among : List Act → List Spawn
@@ -46,13 +47,17 @@ pub record HasMarks (futures : Futures) : Type 0 where
 abbrev pub others_of : Futures → Effect → Marks
 others_of futures effect = if effect.write then futures.all else futures.writes
 
--- the spawned task may be out, and interferes
-abbrev pub bars : Points → ℕ → Effect → Spawn → Bool
-bars points point effect spawn = may_at points point spawn.future && list_any (λ other. statically_interferes effect other) spawn.effects.effects
+-- the spawned task may be out, and interferes with the effect, which has these marks
+abbrev pub bars : Points → ℕ → Effect → Marks → Spawn → Bool
+bars points point effect marks spawn =
+    may_at points point spawn.future && (meet spawn.marks marks && list_any (λ other. statically_interferes effect other) spawn.effects.effects)
+
+abbrev pub free_by : Futures → ℕ → Effect → Marks → Bool
+free_by futures point effect marks = list_all (λ spawn. not (bars futures.points point effect marks spawn)) futures.spawns
 
 -- no spawned task that may be out interferes
 abbrev pub free : Futures → ℕ → Effect → Bool
-free futures point effect = list_all (λ spawn. not (bars futures.points point effect spawn)) futures.spawns
+free futures point effect = free_by futures point effect (marks_of effect)
 
 abbrev pub all_free : Futures → ℕ → Summary → Bool
 all_free futures point effects = list_all (λ effect. free futures point effect) effects.effects

@@ -1,8 +1,12 @@
 use Rattle.std.proofs.Common.{◌≡◌, false, sym, ap, ◌∙◌}
-use Rattle.effect_check.specs.inner.Failures.{others_of}
+use Rattle.effect_check.specs.inner.Failures.{free_by, others_of}
 use Rattle.effect_check.specs.inner.Marks.{marks_of, meet}
 use Rattle.effect_check.proofs.Regions.{free-unmet}
 use Rattle.effect_check.proofs.cover.is_free_there.Goals as goal
+
+pub returns-then-meet : goal.returns-then-meet
+returns-then-meet c =
+    c.none_bars.ensures ∙ ap (λ m. free_by c.args.futures.now c.args.point c.args.effect.now m) c.marks_of-marks.ensures
 
 pub returns-else-meet : goal.returns-else-meet
 returns-else-meet c =
