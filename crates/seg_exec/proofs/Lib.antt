@@ -2,13 +2,16 @@ pub mod Accesses
 pub mod Bounds
 pub mod CellNumbers
 pub mod Determined
+pub mod Evaluating
 pub mod Falling
+pub mod Performing
 pub mod PlainLists
 pub mod Reaching
 pub mod Remains
 pub mod Rooms
 pub mod Segments
 pub mod Simulation
+pub mod Strides
 pub mod Whole
 pub mod Without
 pub mod Witnesses

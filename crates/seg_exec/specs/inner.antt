@@ -1,8 +1,10 @@
+pub mod Continuations
 pub mod Finished
+pub mod Plainly
 pub mod Reached
 pub mod Runs
 pub mod Sizes
 pub mod Steps
-pub mod Continuations
+pub mod Strides
 pub mod Unfolded
 pub mod Views

@@ -1,8 +1,9 @@
 //! Segments: what a task executes from where it stands up to its next task operation or its end.
 //!
 //! `specs/` defines the meaning of a segment by cases on the text of a body. The evaluator is proved to have this meaning
-//! over any implementation of `Cells`. It keeps its continuation on a stack of its own, so that no program makes it
-//! recurse deeply. The crate does not say what a stop does to the state of a run.
+//! over any implementation of `Cells`. It keeps its continuation on a stack of its own, and recurses only over expressions
+//! that call no method, so that no program makes it recurse deeply. The crate does not say what a stop does to the state of
+//! a run.
 #![tactic(auto)]
 
 mod arithmetic;
@@ -21,13 +22,17 @@ mod laws;
 mod machine;
 mod operate;
 mod operation;
+mod perform;
+mod plain;
 mod request;
 mod resume;
 mod run;
 mod segment;
 mod step;
+mod stepping;
 mod stop;
 mod unfold;
+mod value;
 mod values;
 
 pub use cells::Cells;

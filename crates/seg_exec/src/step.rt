@@ -1,29 +1,24 @@
 //! One step of the evaluator.
 ghost use Rattle.std.specs.Prelude.{◌≡◌, IfOk};
-ghost use Rattle.seg_exec.specs.inner.Steps.{step_of, worked};
+ghost use Rattle.seg_exec.specs.inner.Steps.{worked};
 ghost use Rattle.seg_exec.specs.inner.Views.{config_of, continuation_of};
 
 use crate::continuation::Continuation;
 use crate::elements::cell_number;
 use crate::machine::Machine;
-use crate::request::{Ending, Request};
+use crate::request::Request;
 use std::alloc::Global;
 use twe_io::Memory;
 use twe_program::Prog;
 
 impl<'a> Machine<'a> {
-    /// Makes one step: pops a continuation frame and runs it. If none is left, the body returns 0.
-    pub(crate) fn step(&mut self, alloc: Global, p: &'a Prog) -> Result<Request, Memory>
-        ensures { IfOk result (λ request. (request, config_of self.new) ≡ step_of p.now (config_of self.old)) }
-    {
-        match self.work.pop() {
-            None => Ok(Request::End(Ending::Returned(0))),
-            Some(work) => self.act(alloc, p, work),
-        }
-    }
-
     /// Runs one continuation frame.
-    fn act(&mut self, alloc: Global, p: &'a Prog, work: Continuation<'a>) -> Result<Request, Memory>
+    pub(crate) fn act(
+        &mut self,
+        alloc: Global,
+        p: &'a Prog,
+        work: Continuation<'a>,
+    ) -> Result<Request, Memory>
         ensures { IfOk result (λ request. (request, config_of self.new) ≡ worked p.now (continuation_of work.entry) (config_of self.old)) }
     {
         match work {

@@ -1,9 +1,10 @@
 use Rattle.std.proofs.Common.{Option, subst, arith}
 use Rattle.seg_exec.specs.declared.request.Ending.{Ending}
 use Rattle.seg_exec.specs.Access.{ways_of}
-use Rattle.seg_exec.specs.inner.Reached.{Advances, standing}
-use Rattle.seg_exec.proofs.Falling.{advance_falls, measure_falls}
-use Rattle.seg_exec.proofs.Reaching.{finishes, may_step, reaches_none, reaches_on}
+use Rattle.seg_exec.specs.inner.Reached.{standing}
+use Rattle.seg_exec.specs.inner.Strides.{Carries}
+use Rattle.seg_exec.proofs.Falling.{measure_falls}
+use Rattle.seg_exec.proofs.Reaching.{reaches_none}
 use Rattle.seg_exec.proofs.run.run.Goals as goal
 
 pub units-init : goal.units-init
@@ -14,27 +15,28 @@ returns-in-Some g c =
     let start = standing c.args.machine.now c.args.cells.now c.args.prints.now in
     let old = standing c.loop-machine.machine c.loop-machine.cells c.loop-machine.prints in
     let new = standing c.advance.new.machine c.advance.new.cells c.advance.new.prints in
-    finishes c.args.p.now (ways_of g.C.Cells.known g.C.Cells.may_read g.C.Cells.may_write g.C.Cells.rule) start old new c.in-Some.ending c.loop-machine.invariant.0
-    (subst (λ (o : Option Ending). Advances c.args.p.now (ways_of g.C.Cells.known g.C.Cells.may_read g.C.Cells.may_write g.C.Cells.rule) old o new) c.in-Some.is c.in_ok-ending.ensures)
+    (subst (λ (o : Option Ending). Carries c.args.p.now (ways_of g.C.Cells.known g.C.Cells.may_read g.C.Cells.may_write g.C.Cells.rule) old o new) c.in-Some.is c.in_ok-ending.ensures)
+    start c.loop-machine.invariant.0
 
 pub loop-machine-smaller : goal.loop-machine-smaller
 loop-machine-smaller g c =
     let old = standing c.loop-machine.machine c.loop-machine.cells c.loop-machine.prints in
     let new = standing c.advance.new.machine c.advance.new.cells c.advance.new.prints in
-    let falls = advance_falls c.args.p.now (ways_of g.C.Cells.known g.C.Cells.may_read g.C.Cells.may_write g.C.Cells.rule) old new (subst (λ (o : Option Ending). Advances c.args.p.now (ways_of g.C.Cells.known g.C.Cells.may_read g.C.Cells.may_write g.C.Cells.rule) old o new) c.in-None.is c.in_ok-ending.ensures) in
-    measure_falls c.units.machine.fuel c.loop-machine.machine.fuel c.advance.new.machine.fuel _ _ c.loop-machine-test.true falls.0 falls.1
+    let goes = subst (λ (o : Option Ending). Carries c.args.p.now (ways_of g.C.Cells.known g.C.Cells.may_read g.C.Cells.may_write g.C.Cells.rule) old o new) c.in-None.is c.in_ok-ending.ensures in
+    measure_falls c.units.machine.fuel c.loop-machine.machine.fuel c.advance.new.machine.fuel _ _ c.loop-machine-test.true goes.fuel goes.less
 
 pub loop-machine-preserved : goal.loop-machine-preserved
 loop-machine-preserved g c =
     let start = standing c.args.machine.now c.args.cells.now c.args.prints.now in
     let old = standing c.loop-machine.machine c.loop-machine.cells c.loop-machine.prints in
     let new = standing c.advance.new.machine c.advance.new.cells c.advance.new.prints in
-    let steps = subst (λ (o : Option Ending). Advances c.args.p.now (ways_of g.C.Cells.known g.C.Cells.may_read g.C.Cells.may_write g.C.Cells.rule) old o new) c.in-None.is c.in_ok-ending.ensures in
-    let falls = advance_falls c.args.p.now (ways_of g.C.Cells.known g.C.Cells.may_read g.C.Cells.may_write g.C.Cells.rule) old new steps in
+    let goes = subst (λ (o : Option Ending). Carries c.args.p.now (ways_of g.C.Cells.known g.C.Cells.may_read g.C.Cells.may_write g.C.Cells.rule) old o new) c.in-None.is c.in_ok-ending.ensures in
     let within = c.loop-machine.invariant.1 in
-    (reaches_on c.args.p.now (ways_of g.C.Cells.known g.C.Cells.may_read g.C.Cells.may_write g.C.Cells.rule) start old new c.loop-machine.invariant.0 steps, omega (arith, falls.0, within))
+    (goes.on start c.loop-machine.invariant.0, omega (arith, goes.fuel, within))
 
 pub advance-requires : goal.advance-requires
-advance-requires g c =
-    may_step c.args.p.now (ways_of g.C.Cells.known g.C.Cells.may_read g.C.Cells.may_write g.C.Cells.rule) (standing c.args.machine.now c.args.cells.now c.args.prints.now)
-    (standing c.loop-machine.machine c.loop-machine.cells c.loop-machine.prints) c.requires c.loop-machine.invariant.0
+advance-requires g c = record {
+  start = standing c.args.machine.now c.args.cells.now c.args.prints.now;
+  may = c.requires;
+  came = c.loop-machine.invariant.0;
+}

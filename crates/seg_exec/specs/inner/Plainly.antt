@@ -1,0 +1,16 @@
+-- Expressions that call no method.
+use Rattle.std.specs.Prelude.{Bool, true, false, ◌&&◌}
+use Rattle.twe_program.specs.Expression.{Expression, Literal, Truth, Variable, CellValue, ArrayElement, GridElement, CallValue, Negative, Negation, Binary}
+
+-- whether an expression calls no method
+abbrev pub is_plain : Expression → Bool
+is_plain (Literal value) = true
+is_plain (Truth value) = true
+is_plain (Variable var fixed) = true
+is_plain (CellValue cell place) = true
+is_plain (ArrayElement array index place) = is_plain index
+is_plain (GridElement array row column place) = is_plain row && is_plain column
+is_plain (CallValue method args place) = false
+is_plain (Negative operand) = is_plain operand
+is_plain (Negation operand) = is_plain operand
+is_plain (Binary op left right place) = is_plain left && is_plain right
