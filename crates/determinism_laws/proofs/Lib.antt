@@ -37,3 +37,7 @@ pub mod OwnCells
 pub mod Listing
 -- So these segments, executed in the order of their ranks, find the values that they found in the journal.
 pub mod RankExecution
+-- The statuses of tasks between their segments; the next segment of a task, and its number.
+pub mod Statuses
+-- Each deterministic task that is done has been executed whole.
+pub mod Executing

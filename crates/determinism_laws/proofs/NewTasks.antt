@@ -21,7 +21,7 @@ use Rattle.seg_exec.specs.Segment.{Stopped, segment}
 use Rattle.twe_machine.specs.declared.state.State.{State}
 use Rattle.twe_machine.specs.declared.state.TaskRow.{TaskRow}
 use Rattle.twe_machine.specs.Legal.{MayTake}
-use Rattle.twe_machine.specs.Moves.{admitted, admitted_row, done_row, faulted_row, frame_without_prints, going_row, joined_child, making_frame, new_row, parent_of, ran, ready_frame, result_by_kind, state_after_asking, state_after_fault, state_after_join, state_after_make, stop_result, stopped_frame}
+use Rattle.twe_machine.specs.Moves.{admitted, admitted_row, done_row, faulted_row, frame_without_prints, going_row, joined_child, making_frame, new_row, parent_of, ran, ready_frame, result_by_kind, state_after_asking, state_after_fault, state_after_join, state_after_make, status_at_start, stop_result, stopped_frame}
 use Rattle.twe_machine.specs.Rows.{IsRow}
 use Rattle.twe_machine.proofs.Halfway.{halfway}
 use Rattle.twe_machine.proofs.JoinedWeight.{length_joined}
@@ -29,7 +29,7 @@ use Rattle.twe_machine.proofs.Places.{got_one, put_before, put_cases, set_same}
 use Rattle.twe_machine.proofs.Standing.{Stands}
 
 -- A segment of t with this stop made task c, which has this row: the stop is at the make of a frame of the row's
--- declaration, and t is the row's parent if the make is a spawn.
+-- declaration, and t is the row's parent if the make is a spawn. It begins as it was made.
 pub record MakesRow (t c : ℕ) (stop : Stop) (end : End) (row : TaskRow) : Type 0 where
   pub child : Frame
   pub args : List ℤ
@@ -42,6 +42,7 @@ pub record MakesRow (t c : ℕ) (stop : Stop) (end : End) (row : TaskRow) : Type
   pub decl : row.decl ≡ child.decl
   pub parent : row.parent ≡ parent_of t spawned
   pub next : row.frame.next ≡ child.next
+  pub status : row.status ≡ status_at_start (parent_of t spawned)
   pub fuel : ℕ
   pub frame : row.frame ≡ record child { task = c; fuel = fuel }
 
@@ -76,6 +77,7 @@ module _ (lim : Bounds) (st : State) (t : ℕ) (row : TaskRow) (frame : Frame) w
                 decl = sym (ap (λ (r : TaskRow). r.decl) last.1);
                 parent = sym (ap (λ (r : TaskRow). r.parent) last.1);
                 next = sym (ap (λ (r : TaskRow). r.frame.next) last.1);
+                status = sym (ap (λ (r : TaskRow). r.status) last.1);
                 fuel = lim.fuel;
                 frame = sym (ap (λ (r : TaskRow). r.frame) last.1) ∙ ap (λ (n : ℕ). record child { task = n; fuel = lim.fuel }) (sym same);
               }

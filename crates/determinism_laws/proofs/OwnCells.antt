@@ -33,7 +33,7 @@ use Rattle.determinism_laws.proofs.SameValues.{after_alike, unwritten}
 use Rattle.determinism_laws.proofs.Trees.{runner}
 
 -- past the end of a journal nothing changes
-take_past : {X : Type 0} (xs : List X) (n : ℕ) → slice_get xs n ≡ None → take (suc n) xs ≡ take n xs
+pub take_past : {X : Type 0} (xs : List X) (n : ℕ) → slice_get xs n ≡ None → take (suc n) xs ≡ take n xs
 take_past [] zero none = refl
 take_past [] (suc n) none = refl
 take_past (x ∷ xs) zero none = absurd (cc (none))

@@ -51,7 +51,7 @@ module _ (p : Program) (wf : IsWellFormed p) (keeps : KeepsEffects p) (lim : Bou
   abbrev final : State
   final = state_after p lim journal
 
-  final_reached : IsReached p lim final
+  pub final_reached : IsReached p lim final
   final_reached = record { journal = journal; legal = legal; same = refl }
 
   pub final_stands : Stands p lim final

@@ -1,5 +1,6 @@
 pub mod Deterministic
 pub mod ElisionOrder
+pub mod Execution
 pub mod Orders
 pub mod Ranks
 pub mod Segments

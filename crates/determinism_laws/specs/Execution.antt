@@ -1,0 +1,40 @@
+-- The segments of a task and of the tasks below it, in the order in which sequential code executes them.
+use Rattle.std.specs.Prelude.{◌≡◌, ◌≤◌, ◌<◌, ◌++◌, ℕ, suc, ℤ, List, [], ◌∷◌}
+use Rattle.seg_journal.specs.declared.journal.End.TheVariants as entry_ends
+use Rattle.seg_journal.specs.declared.journal.Entry.{Entry}
+use Rattle.twe_limits.specs.Limits.{Bounds}
+use Rattle.twe_program.specs.Program.{Program}
+use Rattle.twe_machine.specs.declared.state.TaskRow.{TaskRow}
+use Rattle.twe_machine.specs.declared.state.TaskStatus.TheVariants.{Done}
+use Rattle.twe_machine.specs.Rows.{IsRow}
+use Rattle.twe_machine.specs.Runs.{state_after}
+use Rattle.determinism_laws.specs.Deterministic.{IsDeterministic}
+use Rattle.determinism_laws.specs.Orders.{SegmentAccesses}
+use Rattle.determinism_laws.specs.Segments.{IsSegment, Spawns}
+use Rattle.determinism_laws.specs.Sequential.{IsSegmentAt}
+
+-- The entry at this place is the next segment of task u from the place `from` on.
+pub record IsNextSegment (journal : List Entry) (u from place : ℕ) : Type 0 where
+  pub segment : IsSegment journal u place
+  pub least : from ≤ place
+  pub first : (n : ℕ) → from ≤ n → n < place → ¬ IsSegment journal u n
+
+-- Sequential code executes these segments from the segment of task u at this place on, up to the end of u: a segment that
+-- finishes the task, a segment that ends at a join and then what follows it, or a segment that spawns a child, then all of
+-- the child from its first segment on, and then what follows.
+pub data Execution (p : Program) (lim : Bounds) (journal : List Entry) : ℕ → ℕ → List SegmentAccesses → Type 0 where
+  ends : (u place : ℕ) (s : SegmentAccesses) (value : ℤ) (segment : IsSegment journal u place) → IsSegmentAt p lim journal place s
+      → segment.entry.end ≡ entry_ends.Done value → Execution p lim journal u place (s ∷ [])
+  joins : (u place on next : ℕ) (s : SegmentAccesses) (others : List SegmentAccesses) (segment : IsSegment journal u place) → IsSegmentAt p lim journal place s
+      → segment.entry.end ≡ entry_ends.Joins on → IsNextSegment journal u (suc place) next
+      → Execution p lim journal u next others → Execution p lim journal u place (s ∷ others)
+  spawns : (u place child first next : ℕ) (s : SegmentAccesses) (below others : List SegmentAccesses) → Spawns p lim journal u place child → IsSegmentAt p lim journal place s
+      → IsNextSegment journal child (suc place) first → Execution p lim journal child first below
+      → IsNextSegment journal u (suc place) next → Execution p lim journal u next others
+      → Execution p lim journal u place (s ∷ below ++ others)
+
+-- a deterministic task that is done at the end has been executed whole, from each of its segments on
+abbrev pub DoneTasksAreExecuted : Program → Bounds → List Entry → Type 0
+DoneTasksAreExecuted p lim journal =
+    (u place : ℕ) (row : TaskRow) → IsRow (state_after p lim journal) u row → row.status ≡ Done → IsDeterministic p row
+    → IsSegment journal u place → (executed : List SegmentAccesses) × Execution p lim journal u place executed
