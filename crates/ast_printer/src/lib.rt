@@ -16,6 +16,3 @@ mod token;
 
 pub use laws::parentheses_are_needed;
 pub use print::print_ast;
-
-#[cfg(test)]
-mod tests;

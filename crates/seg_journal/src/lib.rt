@@ -16,6 +16,3 @@ pub use laws::{journal_or_bad_line, one_spelling};
 pub use moves::{Kind, Move, Moves};
 pub use text::{JournalFail, JournalText, print_journal, read_journal};
 pub use twe_limits::{FaultKind, Limits};
-
-#[cfg(test)]
-mod tests;

@@ -1,5 +1,7 @@
 //! Journals as text: what is printed is read again, and a bad line is named.
-use crate::{End, Entry, Journal, JournalFail, Kind, Limits, Move, print_journal, read_journal};
+use seg_journal::{
+    End, Entry, Journal, JournalFail, Kind, Limits, Move, print_journal, read_journal,
+};
 use std::test::Fail;
 
 #[test]

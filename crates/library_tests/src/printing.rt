@@ -1,5 +1,5 @@
 //! Printed trees of texts.
-use crate::print_ast;
+use ast_printer::print_ast;
 use std::alloc::Global;
 use std::test::Fail;
 use twe_io::Bytes;

@@ -1,0 +1,8 @@
+//! Tests of the libraries that no run of the program shows: a printed tree, and the text of a journal. They also show that each call
+//! which may run out of memory can succeed. They stand in a crate of their own, since a crate with tests is proved twice.
+#![tactic(auto)]
+
+#[cfg(test)]
+mod journals;
+#[cfg(test)]
+mod printing;
