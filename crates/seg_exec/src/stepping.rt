@@ -85,3 +85,37 @@ pub(crate) fn evaluate<'a, C: Cells>(
         }
     }
 }
+
+/// Evaluates an expression and makes the step of the continuation frame `then`, which uses its value. If the expression calls a
+/// method, it makes only the first step.
+pub(crate) fn evaluate_then<'a, C: Cells>(
+    alloc: Global,
+    p: &'a Prog,
+    machine: &mut Machine<'a>,
+    cells: &mut C,
+    prints: &mut Ints,
+    expr: &'a Expr,
+    then: Continuation<'a>,
+) -> Result<Option<Ending>, Memory>
+    requires { MayGo p.now (ways_of C.known C.may_read C.may_write C.rule) (doing (Evaluate expr.now) (doing (continuation_of then) (standing machine.old cells.old prints.old))) }
+    ensures { IfOk result (λ ending. Carries p.now (ways_of C.known C.may_read C.may_write C.rule) (doing (Evaluate expr.now) (doing (continuation_of then.entry) (standing machine.old cells.old prints.old))) ending (standing machine.new cells.new prints.new)) }
+{
+    if !is_plain(expr) {
+        machine.push(then)?;
+        return step(
+            alloc,
+            p,
+            machine,
+            cells,
+            prints,
+            Continuation::Evaluate(expr),
+        );
+    }
+    match value_of(expr, p, machine.vars.as_slice(), cells) {
+        Err(fault) => Ok(Some(fault.ending())),
+        Ok(value) => {
+            machine.push_operand(value)?;
+            step(alloc, p, machine, cells, prints, then)
+        }
+    }
+}
