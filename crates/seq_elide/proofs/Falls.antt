@@ -1,5 +1,5 @@
 -- How much an execution may still do: each segment leaves less of it.
-use Rattle.std.proofs.Common.{◌≡◌, ◌+◌, ◌<◌, ◌≤◌, ◌*◌, ◌-◌, ◌⊎◌, inl, inr, ℕ, zero, suc, ℤ, Bool, true, false, List, [], ◌∷◌, ◌++◌, length, Option, refl, ap, ◌∙◌, arith, length-append}
+use Rattle.std.proofs.Common.{◌≡◌, ◌+◌, ◌<◌, ◌≤◌, ◌*◌, ◌-◌, inl, inr, ℕ, zero, suc, ℤ, Bool, true, false, List, [], ◌∷◌, length, Option, refl, ap, ◌∙◌, arith, length-append}
 use Rattle.std.specs.Prelude.{◌==◌, if◌then◌else◌}
 use Rattle.std.proofs.lemmas.Bool.{eq-eqb}
 use Rattle.effect_sets.specs.declared.effects.Summary.{Summary}
@@ -8,17 +8,17 @@ use Rattle.twe_limits.specs.Limits.{Bounds}
 use Rattle.twe_program.specs.Program.{Program}
 use Rattle.seg_exec.specs.declared.frame.Frame.{Frame}
 use Rattle.seg_exec.specs.declared.frame.Next.{Next}
-use Rattle.seg_exec.specs.declared.frame.Next.TheVariants.{Go, Get, Join, Closing, Ended}
+use Rattle.seg_exec.specs.declared.frame.Next.TheVariants.{Join, Closing}
 use Rattle.seg_exec.specs.declared.stop.Stop.{Stop}
-use Rattle.seg_exec.specs.declared.stop.Stop.TheVariants.{Make, Waits, Joins, Done, Fault}
+use Rattle.seg_exec.specs.declared.stop.Stop.TheVariants.{Make, Joins}
 use Rattle.seg_exec.specs.Giving.{given, given_by, without}
-use Rattle.seg_exec.specs.Segment.{Stopped, segment}
-use Rattle.segment_laws.specs.Keeps.{SegmentKeeps, NextAfter, IsClosing}
+use Rattle.seg_exec.specs.Segment.{segment}
+use Rattle.segment_laws.specs.Keeps.{NextAfter, IsClosing}
 use Rattle.segment_laws.proofs.Following.{makes_follow}
 use Rattle.segment_laws.proofs.SegmentKept.{segment_keeps}
 use Rattle.twe_machine.specs.Moves.{frame_without_prints, making_frame}
 use Rattle.seq_elide.specs.declared.progress.Progress.{Progress}
-use Rattle.seq_elide.specs.Elision.{first_frame, with_task}
+use Rattle.seq_elide.specs.Elision.{first_frame}
 
 -- a task weighs as much as its fuel and its unjoined children allow
 abbrev pub weight : Frame → ℕ

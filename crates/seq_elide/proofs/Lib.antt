@@ -6,3 +6,5 @@ pub mod Within
 pub mod Turning
 -- the loop of the execution
 pub mod Whole
+-- executions, put together from their segments
+pub mod Building

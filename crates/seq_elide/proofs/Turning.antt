@@ -1,5 +1,5 @@
 -- The turns of an execution with a stack: each keeps the whole, and leaves less to do.
-use Rattle.std.proofs.Common.{◌≡◌, ◌+◌, ◌<◌, ◌≤◌, ℕ, zero, suc, ℤ, Bool, true, false, List, [], ◌∷◌, length, refl, sym, ap, ◌∙◌, subst, arith, length-append, length-set}
+use Rattle.std.proofs.Common.{◌≡◌, ◌+◌, ◌<◌, ℕ, suc, ℤ, Bool, true, false, List, [], ◌∷◌, length, refl, sym, ap, ◌∙◌, arith, length-append, length-set}
 use Rattle.std.specs.Prelude.{nat_lt, if◌then◌else◌, pos, slice_set}
 use Rattle.std.proofs.lemmas.Bool.{ltb-true}
 use Rattle.twe_io.specs.declared.place.Place.{Place}
@@ -11,14 +11,14 @@ use Rattle.seg_exec.specs.declared.frame.Frame.{Frame}
 use Rattle.seg_exec.specs.declared.stop.Stop.{Stop}
 use Rattle.seg_exec.specs.declared.stop.Stop.TheVariants.{Make, Waits, Joins, Done, Fault}
 use Rattle.seg_exec.specs.Giving.{given}
-use Rattle.seg_exec.specs.Segment.{Stopped, segment}
+use Rattle.seg_exec.specs.Segment.{segment}
 use Rattle.segment_laws.proofs.SegmentKept.{segment_keeps}
 use Rattle.twe_machine.specs.Moves.{frame_without_prints, making_frame}
 use Rattle.seq_elide.specs.declared.progress.Progress.{Progress}
-use Rattle.seq_elide.specs.Elision.{Ending, ends, fails, strays, goes_on, Running, after_segment, after_stop, first_frame, is_child, kept_value, run_within, then_go_on, with_segment, with_task, with_value}
+use Rattle.seq_elide.specs.Elision.{Ending, ends, fails, strays, Running, after_segment, after_stop, first_frame, is_child, kept_value, run_within, then_go_on, with_segment, with_task, with_value}
 use Rattle.seq_elide.specs.inner.Turns.{Turned, goes_to, ended, faulted, strayed, turn_after, turn_at_end, turn_at_stop}
 use Rattle.seq_elide.proofs.Falls.{Spends, joined_falls, room, segment_spends, size, spawn_falls, weight}
-use Rattle.seq_elide.proofs.Within.{IsOver, one_more, run_ends, same_within}
+use Rattle.seq_elide.proofs.Within.{one_more, run_ends, same_within}
 
 -- how the whole ends once its innermost task has ended
 abbrev pub unwound : Running → List Frame → Ending → Ending

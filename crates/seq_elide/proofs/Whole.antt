@@ -1,9 +1,7 @@
 -- The loop of the execution: what it keeps, and what it returns.
-use Rattle.std.proofs.Common.{◌≡◌, ◌+◌, ◌<◌, ◌≤◌, ℕ, ℤ, List, [], ◌∷◌, length, refl, sym, ap, ◌∙◌, subst, arith}
+use Rattle.std.proofs.Common.{◌≡◌, ◌<◌, ◌≤◌, ℕ, ℤ, List, [], length, refl, sym, ap, ◌∙◌, subst, arith}
 use Rattle.std.specs.Prelude.{IfErr, IsErrAnd, Result, Ok, Err}
-use Rattle.twe_io.specs.declared.place.Place.{Place}
 use Rattle.twe_limits.specs.Limits.{Bounds}
-use Rattle.twe_limits.specs.declared.fault.FaultKind.{FaultKind}
 use Rattle.twe_program.specs.Program.{Program, cell_count}
 use Rattle.seg_exec.specs.declared.frame.Frame.{Frame}
 use Rattle.seg_exec.specs.Segment.{segment}
@@ -12,8 +10,8 @@ use Rattle.seq_elide.specs.declared.fail.ElideFail.{ElideFail}
 use Rattle.seq_elide.specs.declared.fail.ElideFail.TheVariants as fail
 use Rattle.seq_elide.specs.declared.progress.Progress.{Progress}
 use Rattle.seq_elide.specs.Answers.{EndsWith, FailsWith, elided_with}
-use Rattle.seq_elide.specs.Elision.{Ending, ends, fails, strays, Running, elided, frame_at_start, most_segments, progress_at_start, run_within}
-use Rattle.seq_elide.specs.inner.Turns.{IsFailure, Turned, goes_to, ended, faulted, strayed, turn_after}
+use Rattle.seq_elide.specs.Elision.{Ending, ends, Running, elided, frame_at_start, most_segments, progress_at_start, run_within}
+use Rattle.seq_elide.specs.inner.Turns.{IsFailure, Turned, goes_to, ended, turn_after}
 use Rattle.seq_elide.proofs.Turning.{LeavesLess, size_of_all, turn_keeps, turn_leaves_less, unwound, whole}
 use Rattle.seq_elide.proofs.Within.{most_is_enough}
 

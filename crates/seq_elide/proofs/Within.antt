@@ -1,6 +1,6 @@
 -- Executions within bounds on their segments.
-use Rattle.std.proofs.Common.{◌≡◌, ◌≢◌, ◌+◌, ◌<◌, ◌≤◌, ◌*◌, ◌-◌, ℕ, zero, suc, ℤ, Bool, true, false, List, [], ◌∷◌, ◌++◌, length, refl, sym, ap, ◌∙◌, subst, arith, length-append, length-set}
-use Rattle.std.specs.Prelude.{nat_lt, if◌then◌else◌, pos, slice_set}
+use Rattle.std.proofs.Common.{◌≡◌, ◌≢◌, ◌+◌, ◌<◌, ◌≤◌, ◌*◌, ◌-◌, ℕ, zero, suc, ℤ, Bool, true, false, List, [], ◌∷◌, length, refl, sym, ap, ◌∙◌, subst, arith, length-append, length-set}
+use Rattle.std.specs.Prelude.{nat_lt, if◌then◌else◌, pos}
 use Rattle.std.proofs.lemmas.Bool.{ltb-true}
 use Rattle.twe_io.specs.declared.place.Place.{Place}
 use Rattle.twe_limits.specs.Limits.{Bounds}
@@ -10,10 +10,10 @@ use Rattle.seg_exec.specs.declared.frame.Frame.{Frame}
 use Rattle.seg_exec.specs.declared.stop.Stop.{Stop}
 use Rattle.seg_exec.specs.declared.stop.Stop.TheVariants.{Make, Waits, Joins, Done, Fault}
 use Rattle.seg_exec.specs.Giving.{given}
-use Rattle.seg_exec.specs.Segment.{Stopped, segment}
+use Rattle.seg_exec.specs.Segment.{segment}
 use Rattle.twe_machine.specs.Moves.{frame_without_prints, making_frame}
 use Rattle.seq_elide.specs.declared.progress.Progress.{Progress}
-use Rattle.seq_elide.specs.Elision.{Ending, ends, fails, strays, goes_on, Running, after_segment, after_stop, elided, first_frame, frame_at_start, is_child, joined, kept_value, made, most_segments, progress_at_start, run_within, spawned, then_go_on, with_segment, with_task, with_value}
+use Rattle.seq_elide.specs.Elision.{Ending, ends, fails, strays, goes_on, Running, after_segment, after_stop, first_frame, frame_at_start, is_child, kept_value, most_segments, progress_at_start, run_within, then_go_on, with_segment, with_task}
 use Rattle.seq_elide.proofs.Falls.{Spends, joined_falls, room, room_falls, segment_spends, size, spawn_falls, weight}
 
 -- one segment more

@@ -1,3 +1,4 @@
 pub mod Answers
+pub mod Building
 pub mod Elision
 pub mod inner

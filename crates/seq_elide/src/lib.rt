@@ -13,5 +13,5 @@ mod turn;
 
 pub use execution::{Elided, elide};
 pub use fail::ElideFail;
-pub use laws::larger_bounds_give_the_same;
+pub use laws::{executions_are_made_of_segments, larger_bounds_give_the_same};
 pub use progress::Progress;

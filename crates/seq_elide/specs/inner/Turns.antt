@@ -4,12 +4,11 @@ use Rattle.twe_io.specs.declared.place.Place.{Place}
 use Rattle.twe_limits.specs.Limits.{Bounds}
 use Rattle.twe_limits.specs.declared.fault.FaultKind.{FaultKind}
 use Rattle.twe_limits.specs.declared.fault.FaultKind.TheVariants.{TaskLimit}
-use Rattle.twe_program.specs.Program.{Program}
 use Rattle.seg_exec.specs.declared.frame.Frame.{Frame}
 use Rattle.seg_exec.specs.declared.stop.Stop.{Stop}
 use Rattle.seg_exec.specs.declared.stop.Stop.TheVariants as stops
 use Rattle.seg_exec.specs.Giving.{given}
-use Rattle.seg_exec.specs.Segment.{Stopped, segment}
+use Rattle.seg_exec.specs.Segment.{Stopped}
 use Rattle.twe_machine.specs.Moves.{frame_without_prints, making_frame}
 use Rattle.seq_elide.specs.declared.fail.ElideFail.{ElideFail}
 use Rattle.seq_elide.specs.declared.fail.ElideFail.TheVariants as fail

@@ -1,5 +1,4 @@
-use Rattle.std.proofs.Common.{◌≡◌, SFits, w32, subst, rules, arith}
-use Rattle.std.proofs.lemmas.Int.{to_z-of_z}
+use Rattle.std.proofs.Common.{◌≡◌, subst, rules}
 use Rattle.seg_exec.specs.Segment.{segment}
 use Rattle.seq_elide.specs.declared.turn.Turn.{Turn}
 use Rattle.seq_elide.specs.Answers.{elided_with}
