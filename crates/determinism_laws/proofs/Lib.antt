@@ -41,3 +41,5 @@ pub mod RankExecution
 pub mod Statuses
 -- Each deterministic task that is done has been executed whole.
 pub mod Executing
+-- An execution has all segments below its task, each once, in the order of their ranks.
+pub mod ExecutedOrder

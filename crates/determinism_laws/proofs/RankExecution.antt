@@ -51,7 +51,7 @@ module _ {X : Type 0} where
   push_pairs (y ∷ ys) x a b (inr later) = elim (push_pairs ys x a b later) [ inl h ↦ inl (inr h) | inr h ↦ inr (inr h.0, h.1) ]
 
 -- no two ranks come before one another
-never_both : (xs ys : List ℕ) → ComesBefore xs ys → ¬ ComesBefore ys xs
+pub never_both : (xs ys : List ℕ) → ComesBefore xs ys → ¬ ComesBefore ys xs
 never_both [] [] a b = a
 never_both [] (y ∷ ys) a b = b
 never_both (x ∷ xs) [] a b = a
@@ -77,13 +77,13 @@ module _ (p : Program) (wf : IsWellFormed p) (keeps : KeepsEffects p) (lim : Bou
   Listed from count segments = AreSegmentsBelow p lim journal t from count segments
 
   -- a listed segment is below t, and its place is among the entries
-  record IsListed (from count : ℕ) (s : SegmentAccesses) : Type 0 where
-    least : from ≤ s.key
-    most : s.key < from + count
-    below : IsBelow p lim journal t s.key
-    at : IsSegmentAt p lim journal s.key s
+  pub record IsListed (from count : ℕ) (s : SegmentAccesses) : Type 0 where
+    pub least : from ≤ s.key
+    pub most : s.key < from + count
+    pub below : IsBelow p lim journal t s.key
+    pub at : IsSegmentAt p lim journal s.key s
 
-  listed_at : (from count : ℕ) (segments : List SegmentAccesses) → Listed from count segments → (a : SegmentAccesses) → IsIn a segments → IsListed from count a
+  pub listed_at : (from count : ℕ) (segments : List SegmentAccesses) → Listed from count segments → (a : SegmentAccesses) → IsIn a segments → IsListed from count a
   listed_at from zero segments listed a here = absurd (subst (IsIn a) listed here)
   listed_at from (suc count) segments (inr outside) a here =
       let known = listed_at from count segments outside.1 a here in

@@ -37,7 +37,7 @@ lists_in_order (x ∷ xs) (y ∷ ys) =
     ]
 
 -- two segments of one task have different numbers
-one_place : (journal : List Entry) (t i j : ℕ) → IsSegment journal t i → IsSegment journal t j → number_of_segment journal t i ≡ number_of_segment journal t j → i ≡ j
+pub one_place : (journal : List Entry) (t i j : ℕ) → IsSegment journal t i → IsSegment journal t j → number_of_segment journal t i ≡ number_of_segment journal t j → i ≡ j
 one_place journal t i j a b same =
     elim (cases_order i j) [
       | inl e ↦ e
@@ -126,7 +126,7 @@ module _ (p : Program) (wf : IsWellFormed p) (keeps : KeepsEffects p) (lim : Bou
         ]
       ]
 
-  one_rank : (first second : List ℕ) (t i : ℕ) → HasRank p lim journal t i first → HasRank p lim journal t i second → first ≡ second
+  pub one_rank : (first second : List ℕ) (t i : ℕ) → HasRank p lim journal t i first → HasRank p lim journal t i second → first ≡ second
   one_rank [] second t i a b = absurd a
   one_rank (n ∷ first) [] t i a b = absurd b
   one_rank (n ∷ []) (m ∷ []) t i a b = let same : n ≡ m = a.1 ∙ sym b.1 in λ k. same k ∷ []

@@ -199,7 +199,7 @@ module _ (p : Program) (wf : IsWellFormed p) (lim : Bounds) (journal : List Entr
 
   -- The number of the next segment.
 
-  abbrev is_own : ℕ → Entry → Bool
+  abbrev pub is_own : ℕ → Entry → Bool
   is_own u entry = is_run entry.mv.kind && (entry.mv.task == u)
 
   is_run_is : (kind : Kind) → is_run kind ≡ true → kind ≡ Run

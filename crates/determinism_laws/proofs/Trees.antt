@@ -140,7 +140,7 @@ module _ (p : Program) (wf : IsWellFormed p) (keeps : KeepsEffects p) (lim : Bou
       }
 
   -- a segment below a spawned task comes after the segment that spawned it
-  own_after : (t m c n : ℕ) → Spawns p lim journal t m c → IsSegment journal c n → m < n
+  pub own_after : (t m c n : ℕ) → Spawns p lim journal t m c → IsSegment journal c n → m < n
   own_after t m c n spawn segment =
       elim (cases_lt m n) [
         | inl before ↦ before

@@ -1,5 +1,5 @@
 -- The segments of a task and of the tasks below it, in the order in which sequential code executes them.
-use Rattle.std.specs.Prelude.{◌≡◌, ◌≤◌, ◌<◌, ◌++◌, ℕ, suc, ℤ, List, [], ◌∷◌}
+use Rattle.std.specs.Prelude.{◌≡◌, ◌≤◌, ◌<◌, ◌+◌, ◌++◌, ℕ, suc, ℤ, List, [], ◌∷◌}
 use Rattle.seg_journal.specs.declared.journal.End.TheVariants as entry_ends
 use Rattle.seg_journal.specs.declared.journal.Entry.{Entry}
 use Rattle.twe_limits.specs.Limits.{Bounds}
@@ -10,8 +10,9 @@ use Rattle.twe_machine.specs.Rows.{IsRow}
 use Rattle.twe_machine.specs.Runs.{state_after}
 use Rattle.determinism_laws.specs.Deterministic.{IsDeterministic}
 use Rattle.determinism_laws.specs.Orders.{SegmentAccesses}
+use Rattle.determinism_laws.specs.Ranks.{IsBelow}
 use Rattle.determinism_laws.specs.Segments.{IsSegment, Spawns}
-use Rattle.determinism_laws.specs.Sequential.{IsSegmentAt}
+use Rattle.determinism_laws.specs.Sequential.{AreSegmentsBelow, IsRankOrder, IsSegmentAt}
 
 -- The entry at this place is the next segment of task u from the place `from` on.
 pub record IsNextSegment (journal : List Entry) (u from place : ℕ) : Type 0 where
@@ -38,3 +39,11 @@ abbrev pub DoneTasksAreExecuted : Program → Bounds → List Entry → Type 0
 DoneTasksAreExecuted p lim journal =
     (u place : ℕ) (row : TaskRow) → IsRow (state_after p lim journal) u row → row.status ≡ Done → IsDeterministic p row
     → IsSegment journal u place → (executed : List SegmentAccesses) × Execution p lim journal u place executed
+
+-- Take the execution of task t from its first segment on, and any entries of the journal among which all segments below t
+-- are. The execution has these segments, each once, in the order of their ranks.
+abbrev pub ExecutionsAreInRankOrder : Program → Bounds → List Entry → Type 0
+ExecutionsAreInRankOrder p lim journal =
+    (t first from count : ℕ) (segments executed : List SegmentAccesses) → IsNextSegment journal t 0 first → Execution p lim journal t first executed
+    → AreSegmentsBelow p lim journal t from count segments → ((i : ℕ) → IsBelow p lim journal t i → (from ≤ i) × (i < from + count))
+    → IsRankOrder p lim journal t segments executed

@@ -13,7 +13,7 @@ ghost use Rattle.twe_machine.specs.Runs.{IsReached, Legal, state_after};
 ghost use Rattle.determinism_laws.specs.Deterministic.{ChildrenAreDeterministic, IsDeterministic, WaitsAreForChildren};
 ghost use Rattle.determinism_laws.specs.ElisionOrder.{ConflictsKeepRanks, KeepsElisionOrder};
 ghost use Rattle.determinism_laws.specs.Ranks.{AllHaveRanks, OneRankEach, OneSegmentEach, SegmentsAreInOrder};
-ghost use Rattle.determinism_laws.specs.Execution.{DoneTasksAreExecuted};
+ghost use Rattle.determinism_laws.specs.Execution.{DoneTasksAreExecuted, ExecutionsAreInRankOrder};
 ghost use Rattle.determinism_laws.specs.Sequential.{ExecutesInRankOrder, SegmentsCanBeListed};
 ghost use Rattle.determinism_laws.specs.Orders.{AgreeOn, FindSameValues, HaveSameWriters, LeaveSameCells, PrintAlike, SegmentAccesses, SegmentsConflict};
 
@@ -82,8 +82,11 @@ pub fn deterministic_tasks_execute_in_rank_order()
 
 /// In every legal journal, a deterministic task that is done at the end has been executed whole, from each of its segments
 /// on: each segment finishes the task, or ends at a join and is followed by the next one, or spawned a child, which is
-/// executed whole, too, from its first segment on, and is followed by the next one.
+/// executed whole, too, from its first segment on, and is followed by the next one. The execution of a task from its first
+/// segment on has all segments below the task, each once, in the order of their ranks.
 pub fn done_tasks_are_executed_whole()
-    ensures { (p : Program) → IsWellFormed p → KeepsEffects p
+    ensures executed { (p : Program) → IsWellFormed p → KeepsEffects p
         → (lim : Bounds) (journal : List Entry) → Legal p lim journal → DoneTasksAreExecuted p lim journal }
+    ensures in_order { (p : Program) → IsWellFormed p → KeepsEffects p
+        → (lim : Bounds) (journal : List Entry) → Legal p lim journal → ExecutionsAreInRankOrder p lim journal }
 {}
