@@ -43,3 +43,5 @@ pub mod Statuses
 pub mod Executing
 -- An execution has all segments below its task, each once, in the order of their ranks.
 pub mod ExecutedOrder
+-- Put together for a deterministic task that is done.
+pub mod DoneTasks

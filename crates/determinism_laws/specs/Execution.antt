@@ -6,13 +6,13 @@ use Rattle.twe_limits.specs.Limits.{Bounds}
 use Rattle.twe_program.specs.Program.{Program}
 use Rattle.twe_machine.specs.declared.state.TaskRow.{TaskRow}
 use Rattle.twe_machine.specs.declared.state.TaskStatus.TheVariants.{Done}
-use Rattle.twe_machine.specs.Rows.{IsRow}
+use Rattle.twe_machine.specs.Rows.{HasStatus, IsRow}
 use Rattle.twe_machine.specs.Runs.{state_after}
 use Rattle.determinism_laws.specs.Deterministic.{IsDeterministic}
 use Rattle.determinism_laws.specs.Orders.{SegmentAccesses}
 use Rattle.determinism_laws.specs.Ranks.{IsBelow}
-use Rattle.determinism_laws.specs.Segments.{IsSegment, Spawns}
-use Rattle.determinism_laws.specs.Sequential.{AreSegmentsBelow, IsRankOrder, IsSegmentAt}
+use Rattle.determinism_laws.specs.Segments.{IsSegment, Spawns, state_before}
+use Rattle.determinism_laws.specs.Sequential.{AreSegmentsBelow, ExecuteAlike, IsEnabledThroughout, IsRankOrder, IsSegmentAt}
 
 -- The entry at this place is the next segment of task u from the place `from` on.
 pub record IsNextSegment (journal : List Entry) (u from place : ℕ) : Type 0 where
@@ -47,3 +47,23 @@ ExecutionsAreInRankOrder p lim journal =
     (t first from count : ℕ) (segments executed : List SegmentAccesses) → IsNextSegment journal t 0 first → Execution p lim journal t first executed
     → AreSegmentsBelow p lim journal t from count segments → ((i : ℕ) → IsBelow p lim journal t i → (from ≤ i) × (i < from + count))
     → IsRankOrder p lim journal t segments executed
+
+-- The execution of task t, which has this row, from its first segment on, and the segments below t that are among these
+-- entries of the journal: these are the same segments, the execution has them in the order of their ranks, and executed in
+-- this order, on the cells as they were before these entries, they find what they found in the journal, and leave and
+-- print what it has after these entries.
+pub record IsExecutedAlike (p : Program) (lim : Bounds) (journal : List Entry) (t : ℕ) (row : TaskRow) (first from count : ℕ) : Type 0 where
+  pub segments : List SegmentAccesses
+  pub executed : List SegmentAccesses
+  pub listed : AreSegmentsBelow p lim journal t from count segments
+  pub execution : Execution p lim journal t first executed
+  pub order : IsRankOrder p lim journal t segments executed
+  pub alike : ExecuteAlike p lim journal row from count segments executed
+
+-- so it is for each deterministic task that is done at the end, and for entries before each of which it is enabled, if they
+-- begin no later than its first segment, and it is done after them
+abbrev pub DoneTasksExecuteAlike : Program → Bounds → List Entry → Type 0
+DoneTasksExecuteAlike p lim journal =
+    (t first from count : ℕ) (row : TaskRow) → IsRow (state_after p lim journal) t row → row.status ≡ Done → IsDeterministic p row
+    → IsNextSegment journal t 0 first → from ≤ first → IsEnabledThroughout p lim journal t from count
+    → HasStatus (state_before p lim journal (from + count)) t Done → IsExecutedAlike p lim journal t row first from count

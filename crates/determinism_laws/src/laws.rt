@@ -13,7 +13,7 @@ ghost use Rattle.twe_machine.specs.Runs.{IsReached, Legal, state_after};
 ghost use Rattle.determinism_laws.specs.Deterministic.{ChildrenAreDeterministic, IsDeterministic, WaitsAreForChildren};
 ghost use Rattle.determinism_laws.specs.ElisionOrder.{ConflictsKeepRanks, KeepsElisionOrder};
 ghost use Rattle.determinism_laws.specs.Ranks.{AllHaveRanks, OneRankEach, OneSegmentEach, SegmentsAreInOrder};
-ghost use Rattle.determinism_laws.specs.Execution.{DoneTasksAreExecuted, ExecutionsAreInRankOrder};
+ghost use Rattle.determinism_laws.specs.Execution.{DoneTasksAreExecuted, DoneTasksExecuteAlike, ExecutionsAreInRankOrder};
 ghost use Rattle.determinism_laws.specs.Sequential.{ExecutesInRankOrder, SegmentsCanBeListed};
 ghost use Rattle.determinism_laws.specs.Orders.{AgreeOn, FindSameValues, HaveSameWriters, LeaveSameCells, PrintAlike, SegmentAccesses, SegmentsConflict};
 
@@ -89,4 +89,14 @@ pub fn done_tasks_are_executed_whole()
         → (lim : Bounds) (journal : List Entry) → Legal p lim journal → DoneTasksAreExecuted p lim journal }
     ensures in_order { (p : Program) → IsWellFormed p → KeepsEffects p
         → (lim : Bounds) (journal : List Entry) → Legal p lim journal → ExecutionsAreInRankOrder p lim journal }
+{}
+
+/// Take a deterministic task of a legal journal that is done at the end, and the entries from any place between the one
+/// that enabled it and its first segment, up to the one that finished it. Its execution has all segments below it that are
+/// among these entries. Executed as sequential code does, on the cells as they were before these entries, each segment finds
+/// the values that it found in the journal. At the end each cell under the effects of the task has the value that it has
+/// after the entries, and the segments that print came in the order of the journal.
+pub fn done_deterministic_tasks_execute_alike()
+    ensures { (p : Program) → IsWellFormed p → KeepsEffects p
+        → (lim : Bounds) (journal : List Entry) → Legal p lim journal → DoneTasksExecuteAlike p lim journal }
 {}

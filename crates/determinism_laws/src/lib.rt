@@ -9,6 +9,6 @@ mod laws;
 pub use laws::{
     conflicts_keep_the_elision_order, deterministic_tasks_execute_in_rank_order,
     deterministic_tasks_fork_and_join, deterministic_tasks_keep_the_elision_order,
-    done_tasks_are_executed_whole, orders_that_agree_on_conflicts_give_the_same_values,
-    ranks_order_the_segments,
+    done_deterministic_tasks_execute_alike, done_tasks_are_executed_whole,
+    orders_that_agree_on_conflicts_give_the_same_values, ranks_order_the_segments,
 };
