@@ -1,0 +1,8 @@
+-- beginnings of a journal
+pub mod Beginnings
+-- a run that has met no fault, and one entry more
+pub mod Faultless
+-- what a run that keeps to its round has
+pub mod Keepings
+-- a quiet step and a round of a run, as those of the crew that has the run
+pub mod QuietSteps

@@ -1,0 +1,105 @@
+//! The workers of a round, with the numbers that are dealt to them.
+ghost use Rattle.std.specs.Prelude.{◌≡◌, All};
+
+use crate::own_deck::OwnDeck;
+use crate::run::Run;
+use crate::worker::Worker;
+use std::alloc::Global;
+use steal_pool::{Deck, Decks, make_decks};
+use twe_io::Memory;
+use twe_machine::{State, TaskStatus};
+
+/// How many pushes a deck has room for beside the numbers that are dealt.
+const SPARE: u32 = 1024;
+
+/// The workers of a round, and how many numbers they have to deal with.
+#[derive(Drop)]
+pub struct Team {
+    pub workers: Vec<Worker>,
+    pub pending: u64,
+}
+
+/// Workers to whose decks the tasks that are not done are dealt in turn, in the order of their numbers. The task `first`,
+/// if there is one, is handed to the first worker, and lies on no deck.
+pub fn deal(
+    alloc: Global,
+    run: &Run,
+    bound: u32,
+    workers: u32,
+    first: Option<u32>,
+) -> Result<Team, Memory> {
+    let capacity = count_undone(&run.state).saturating_add(SPARE);
+    let decks = make_decks(alloc, workers, capacity, bound)?;
+    let mut team = Team {
+        workers: workers_of(alloc, decks, bound, run.journal.len())?,
+        pending: 0,
+    };
+    if let Some(task) = first
+        && let Some(worker) = team.workers.first_mut()
+    {
+        worker.hand(task);
+        team.pending = 1;
+    }
+    for task in 0..run.state.links.task_count() {
+        if is_undone(&run.state, task) && first != Some(task) {
+            deal_to(&mut team, task);
+        }
+    }
+    Ok(team)
+}
+
+/// Deals a number to the worker whose turn it is.
+fn deal_to(team: &mut Team, task: u32) {
+    let count = team.workers.len() as u64;
+    if count == 0 {
+        return;
+    }
+    let turn = (team.pending % count) as usize;
+    if let Some(worker) = team.workers.get_mut(turn)
+        && worker.push(task)
+    {
+        team.pending = team.pending.saturating_add(1);
+    }
+}
+
+/// How many tasks are not done.
+fn count_undone(state: &State) -> u32 {
+    let mut count = 0u32;
+    for task in 0..state.links.task_count() {
+        if is_undone(state, task) {
+            count = count.saturating_add(1);
+        }
+    }
+    count
+}
+
+/// Whether there is such a task, and it is not done.
+fn is_undone(state: &State, task: u32) -> bool {
+    match state.tasks.get(task as usize) {
+        Some(row) => !matches!(row.status, TaskStatus::Done),
+        None => false,
+    }
+}
+
+/// A worker for each deck, in the order of the decks.
+fn workers_of(
+    alloc: Global,
+    decks: Decks,
+    bound: u32,
+    entries: usize,
+) -> Result<Vec<Worker>, Memory>
+    requires { All (λ ends. ends.bound ≡ bound) decks }
+{
+    let mut workers = Vec::new(alloc);
+    for deck in decks.into_vec() {
+        workers.push(worker_of(alloc, deck, bound, entries))?;
+    }
+    Ok(workers)
+}
+
+/// The worker with this deck.
+fn worker_of(alloc: Global, deck: Deck, bound: u32, entries: usize) -> Worker
+    requires { deck.bound ≡ bound }
+{
+    Worker::new(alloc, OwnDeck::new(deck, bound), entries)
+}

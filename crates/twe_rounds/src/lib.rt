@@ -1,0 +1,24 @@
+//! Runs by workers: rounds in which a worker takes the moves of the tasks on its deck.
+//!
+//! A round lends the run to the worker: the state of the machine with its journal. What is proved of the run stands in its
+//! type, so it holds whatever the worker does. The decks are those of `steal_pool`; the machine below says which moves are
+//! legal. So far a round has one worker.
+#![tactic(auto)]
+
+mod access;
+mod crew;
+mod dealing;
+mod game;
+mod gate;
+mod meet_gate;
+mod named_run;
+mod own_deck;
+mod run;
+mod run_core;
+mod sharing;
+mod waiting;
+mod worker;
+
+pub use crew::{Crew, Quietly};
+pub use gate::{FreeGate, Gate};
+pub use meet_gate::MeetGate;
