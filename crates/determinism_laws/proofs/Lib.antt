@@ -45,3 +45,5 @@ pub mod Executing
 pub mod ExecutedOrder
 -- Put together for a deterministic task that is done.
 pub mod DoneTasks
+-- A task keeps its row from one of its segments to the next.
+pub mod RowsBetween

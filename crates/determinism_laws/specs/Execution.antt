@@ -1,11 +1,11 @@
 -- The segments of a task and of the tasks below it, in the order in which sequential code executes them.
-use Rattle.std.specs.Prelude.{◌≡◌, ◌≤◌, ◌<◌, ◌+◌, ◌++◌, ℕ, suc, ℤ, List, [], ◌∷◌}
+use Rattle.std.specs.Prelude.{◌≡◌, ◌≢◌, ◌≤◌, ◌<◌, ◌+◌, ◌++◌, ℕ, suc, ℤ, List, [], ◌∷◌}
 use Rattle.seg_journal.specs.declared.journal.End.TheVariants as entry_ends
 use Rattle.seg_journal.specs.declared.journal.Entry.{Entry}
 use Rattle.twe_limits.specs.Limits.{Bounds}
 use Rattle.twe_program.specs.Program.{Program}
 use Rattle.twe_machine.specs.declared.state.TaskRow.{TaskRow}
-use Rattle.twe_machine.specs.declared.state.TaskStatus.TheVariants.{Done}
+use Rattle.twe_machine.specs.declared.state.TaskStatus.TheVariants.{Done, Made}
 use Rattle.twe_machine.specs.Rows.{HasStatus, IsRow}
 use Rattle.twe_machine.specs.Runs.{state_after}
 use Rattle.determinism_laws.specs.Deterministic.{IsDeterministic}
@@ -19,6 +19,13 @@ pub record IsNextSegment (journal : List Entry) (u from place : ℕ) : Type 0 wh
   pub segment : IsSegment journal u place
   pub least : from ≤ place
   pub first : (n : ℕ) → from ≤ n → n < place → ¬ IsSegment journal u n
+
+-- a task that is admitted keeps its row from any place on to its next segment, which so begins with the frame that the
+-- segment before it left
+abbrev pub RowsStayBetweenSegments : Program → Bounds → List Entry → Type 0
+RowsStayBetweenSegments p lim journal =
+    (u from place : ℕ) (row : TaskRow) → IsNextSegment journal u from place → row.status ≢ Made
+    → IsRow (state_before p lim journal from) u row → IsRow (state_before p lim journal place) u row
 
 -- Sequential code executes these segments from the segment of task u at this place on, up to the end of u: a segment that
 -- finishes the task, a segment that ends at a join and then what follows it, or a segment that spawns a child, then all of

@@ -13,7 +13,7 @@ ghost use Rattle.twe_machine.specs.Runs.{IsReached, Legal, state_after};
 ghost use Rattle.determinism_laws.specs.Deterministic.{ChildrenAreDeterministic, IsDeterministic, WaitsAreForChildren};
 ghost use Rattle.determinism_laws.specs.ElisionOrder.{ConflictsKeepRanks, KeepsElisionOrder};
 ghost use Rattle.determinism_laws.specs.Ranks.{AllHaveRanks, OneRankEach, OneSegmentEach, SegmentsAreInOrder};
-ghost use Rattle.determinism_laws.specs.Execution.{DoneTasksAreExecuted, DoneTasksExecuteAlike, ExecutionsAreInRankOrder};
+ghost use Rattle.determinism_laws.specs.Execution.{DoneTasksAreExecuted, DoneTasksExecuteAlike, ExecutionsAreInRankOrder, RowsStayBetweenSegments};
 ghost use Rattle.determinism_laws.specs.Sequential.{ExecutesInRankOrder, SegmentsCanBeListed};
 ghost use Rattle.determinism_laws.specs.Orders.{AgreeOn, FindSameValues, HaveSameWriters, LeaveSameCells, PrintAlike, SegmentAccesses, SegmentsConflict};
 
@@ -99,4 +99,11 @@ pub fn done_tasks_are_executed_whole()
 pub fn done_deterministic_tasks_execute_alike()
     ensures { (p : Program) → IsWellFormed p → KeepsEffects p
         → (lim : Bounds) (journal : List Entry) → Legal p lim journal → DoneTasksExecuteAlike p lim journal }
+{}
+
+/// In every legal journal, a task that is admitted keeps its row up to its next segment, so its frame is the one that its
+/// segment before left, whatever other tasks do between the two.
+pub fn rows_stay_between_segments()
+    ensures { (p : Program) → IsWellFormed p → KeepsEffects p
+        → (lim : Bounds) (journal : List Entry) → Legal p lim journal → RowsStayBetweenSegments p lim journal }
 {}

@@ -1,0 +1,5 @@
+use Rattle.determinism_laws.proofs.RowsBetween.{rows_stay}
+use Rattle.determinism_laws.proofs.laws.rows_stay_between_segments.Goals as goal
+
+pub returns : goal.returns
+returns c = rows_stay
