@@ -4,3 +4,5 @@ pub mod WaitsStand
 pub mod Renumbered
 -- renumbered frames between their segments
 pub mod BetweenSegments
+-- segments over cells that are the same where they are accessed
+pub mod Alike

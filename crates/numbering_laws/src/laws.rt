@@ -1,13 +1,18 @@
 //! Laws of the numbers of tasks: nothing that a task does depends on them.
 ghost use Rattle.std.specs.Prelude.{◌≡◌, ℕ, ℤ, Bool, List};
+ghost use Rattle.twe_io.specs.declared.place.Place.{Place};
+ghost use Rattle.effect_sets.specs.declared.effects.Summary.{Summary};
 ghost use Rattle.twe_program.specs.Program.{Program};
 ghost use Rattle.seg_exec.specs.declared.frame.Frame.{Frame};
+ghost use Rattle.seg_exec.specs.declared.stop.Stop.{Stop};
+ghost use Rattle.seg_exec.specs.declared.stop.Stop.TheVariants.{Done, Joins, Make};
 ghost use Rattle.seg_exec.specs.Entry.{entry_frame};
 ghost use Rattle.seg_exec.specs.Giving.{given};
 ghost use Rattle.seg_exec.specs.Segment.{segment};
 ghost use Rattle.segment_laws.specs.Ready.{IsReady};
 ghost use Rattle.twe_machine.specs.Moves.{frame_without_prints, making_frame};
-ghost use Rattle.numbering_laws.specs.Renumbering.{AgreeOn, Numbering, SameButNumbers, TellsApart, frame_renumbered, stopped_renumbered};
+ghost use Rattle.numbering_laws.specs.SameAccesses.{DoesTheSame, SameWhereAccessed};
+ghost use Rattle.numbering_laws.specs.Renumbering.{AgreeOn, Numbering, SameButNumbers, TellsApart, stop_renumbered, stopped_renumbered};
 
 /// A segment does the same whatever the numbers of the tasks are. Of two frames that are the same but for these numbers,
 /// the segments over the same cells leave frames that are the same but for them. They make the same accesses, with the
@@ -31,4 +36,18 @@ pub fn frames_keep_their_numbers()
         → SameButNumbers to (making_frame future spawned child frame) (making_frame future spawned (to child) other) }
     ensures agree { (to renumber : Numbering) (frame other : Frame) → AgreeOn to renumber frame → SameButNumbers to frame other
         → SameButNumbers renumber frame other }
+{}
+
+/// A segment does the same whatever the numbers of the tasks and the cells that it does not access are. Of two frames that
+/// are the same but for the numbers, take the segments over two lists of cells that have the same values where the second
+/// one accesses them. They make the same accesses, and leave frames and stops that are the same but for the numbers. A stop
+/// is renumbered to the end of the task, to a join or to a make only if it is one.
+pub fn segments_do_the_same_on_what_they_read()
+    ensures segment { (p : Program) (to : Numbering) (frame other : Frame) (cells others : List ℤ) → IsReady p frame → SameButNumbers to frame other
+        → SameWhereAccessed (segment p other cells).accesses cells others → DoesTheSame p to frame other cells others }
+    ensures done { (to : Numbering) (stop : Stop) (value : ℤ) → stop_renumbered to stop ≡ Done value → stop ≡ Done value }
+    ensures joins { (to : Numbering) (stop : Stop) (on : ℕ) → stop_renumbered to stop ≡ Joins on
+        → (child : ℕ) × (stop ≡ Joins child) × (to child ≡ on) }
+    ensures makes { (to : Numbering) (stop : Stop) (child : Frame) (args : List ℤ) (effects : Summary) (spawned : Bool) (future : ℕ) (place : Place)
+        → stop_renumbered to stop ≡ Make child args effects spawned future place → stop ≡ Make child args effects spawned future place }
 {}

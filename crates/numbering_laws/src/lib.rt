@@ -3,4 +3,6 @@
 
 mod laws;
 
-pub use laws::{frames_keep_their_numbers, segments_do_not_see_numbers};
+pub use laws::{
+    frames_keep_their_numbers, segments_do_not_see_numbers, segments_do_the_same_on_what_they_read,
+};
