@@ -4,6 +4,7 @@ use Rattle.std.specs.Prelude.{slice_get}
 use Rattle.std.proofs.lemmas.Bool.{cases_eq, cases_lt}
 use Rattle.effect_check.specs.Acts.{is_deterministic}
 use Rattle.effect_check.proofs.Members.{IsIn, in-contains}
+use Rattle.seg_journal.specs.declared.journal.End.{End}
 use Rattle.seg_journal.specs.declared.journal.Entry.{Entry}
 use Rattle.seg_journal.specs.declared.moves.Kind.{Kind}
 use Rattle.seg_journal.specs.declared.moves.Kind.TheVariants.{Admit, Run}
@@ -142,29 +143,29 @@ module _ (p : Program) (wf : IsWellFormed p) (keeps : KeepsEffects p) (lim : Bou
   }
 
   -- what a segment leaves, by how it stopped
-  left_frame : (row now : TaskRow) → IsRow st t row → IsDeterministic p row → (stop : Stop) → (left_by p st row).stop ≡ stop → FrameAfter stop (left row) now → ForkFrame p now.frame
-  left_frame row now is flag (ends.Make child args effects spawned future place) e (inl made) =
+  left_frame : (row now : TaskRow) → IsRow st t row → IsDeterministic p row → (stop : Stop) → (left_by p st row).stop ≡ stop → (end : End) → FrameAfter stop (left row) end now → ForkFrame p now.frame
+  left_frame row now is flag (ends.Make child args effects spawned future place) e end (inl made) =
       let only = makes_deterministic p keeps lim st stands kept t row is flag child args effects spawned future place e in
       let stop = e ∙ ap (λ (b : Bool). ends.Make child args effects b future place) only.0 in
       let next = waiting row is flag (ends.Make child args effects spawned future place) e in
       let maker = frame_without_prints (making_frame future true made.0 (left row)) in
       let fork = calm maker Go next refl (λ some. out_after_spawn p keeps lim st stands kept t row is flag (known row is flag) made.0 child args effects future place stop) in
       subst (ForkFrame p) (sym (made.1 ∙ ap (λ (b : Bool). frame_without_prints (making_frame future b made.0 (left row))) only.0)) fork
-  left_frame row now is flag (ends.Make child args effects spawned future place) e (inr faulted) = ended_frame now.frame Ended faulted.1 refl faulted.0
-  left_frame row now is flag (ends.Waits on) e same =
+  left_frame row now is flag (ends.Make child args effects spawned future place) e end (inr faulted) = ended_frame now.frame Ended faulted.1 refl faulted.0
+  left_frame row now is flag (ends.Waits on) e end same =
       let next = waiting row is flag (ends.Waits on) e in
       absurd (never_gets p keeps lim st stands kept t row is flag on next.0 next.1)
-  left_frame row now is flag (ends.Joins on) e same = subst (ForkFrame p) (sym same) (joining row is flag on (waiting row is flag (ends.Joins on) e))
-  left_frame row now is flag (ends.Done value) e same =
+  left_frame row now is flag (ends.Joins on) e end same = subst (ForkFrame p) (sym same) (joining row is flag on (waiting row is flag (ends.Joins on) e))
+  left_frame row now is flag (ends.Done value) e end same =
       let next = waiting row is flag (ends.Done value) e in
       subst (ForkFrame p) (sym same) (ended_frame (frame_without_prints (left row)) Ended next.0 refl next.1)
-  left_frame row now is flag (ends.Fault kind_of place) e same =
+  left_frame row now is flag (ends.Fault kind_of place) e end same =
       let next = waiting row is flag (ends.Fault kind_of place) e in
       subst (ForkFrame p) (sym same) (ended_frame (frame_without_prints (left row)) Ended next.0 refl next.1)
 
-  own_frame : (k : Kind) → (row now : TaskRow) → IsRow st t row → IsDeterministic p row → FrameAfterMove p st k row now → ForkFrame p now.frame
-  own_frame Admit row now is flag same = subst (ForkFrame p) (sym same) (forks.frames t row is flag)
-  own_frame Run row now is flag after = left_frame row now is flag (left_by p st row).stop refl after
+  own_frame : (k : Kind) → (row now : TaskRow) → IsRow st t row → IsDeterministic p row → (end : End) → FrameAfterMove p st k row end now → ForkFrame p now.frame
+  own_frame Admit row now is flag end same = subst (ForkFrame p) (sym same) (forks.frames t row is flag)
+  own_frame Run row now is flag end after = left_frame row now is flag (left_by p st row).stop refl end after
 
   -- a row of another task
   other_frame : (u : ℕ) (a b : TaskRow) → u ≢ t → IsRow st u a → IsRow new u b → b.frame ≡ a.frame
@@ -192,7 +193,7 @@ module _ (p : Program) (wf : IsWellFormed p) (keeps : KeepsEffects p) (lim : Bou
         | inl own ↦
             let before_t = subst (λ (n : ℕ). IsRow st n a) own before in
             let after_t = subst (λ (n : ℕ). IsRow new n b) own after in
-            own_frame kind a b before_t was (move_frame p lim st stands t kind may a b before_t after_t)
+            own_frame kind a b before_t was (result_by_kind p lim st kind t).1 (move_frame p lim st stands t kind may a b before_t after_t)
         | inr other ↦ subst (ForkFrame p) (sym (other_frame u a b other before after)) (forks.frames u a before was)
       ]
 

@@ -1,5 +1,5 @@
 -- The state before each entry of a journal, and what stays from there to a later entry.
-use Rattle.std.proofs.Common.{◌≡◌, ◌≤◌, ℕ, zero, suc, List, [], ◌∷◌, take, Some, refl, sym, ap, ◌∙◌, subst, arith}
+use Rattle.std.proofs.Common.{◌≡◌, ◌≤◌, ℕ, zero, suc, ℤ, List, [], ◌∷◌, take, Some, refl, sym, ap, ◌∙◌, subst, arith}
 use Rattle.std.specs.Prelude.{slice_get}
 use Rattle.seg_journal.specs.declared.journal.Entry.{Entry}
 use Rattle.twe_limits.specs.Limits.{Bounds}
@@ -8,6 +8,7 @@ use Rattle.twe_program.specs.WellFormed.{IsWellFormed}
 use Rattle.twe_machine.specs.declared.state.State.{State}
 use Rattle.twe_machine.specs.declared.state.TaskRow.{TaskRow}
 use Rattle.twe_machine.specs.declared.state.TaskStatus.TheVariants.{Done}
+use Rattle.twe_machine.specs.Changes.{IsDoneWith}
 use Rattle.twe_machine.specs.Legal.{MayMove}
 use Rattle.twe_machine.specs.Moves.{move_result, start_of}
 use Rattle.twe_machine.specs.Rows.{HasStatus, IsRow}
@@ -88,6 +89,12 @@ module _ (p : Program) (wf : IsWellFormed p) (lim : Bounds) (journal : List Entr
 
   pub done_at : (n m u : ℕ) → n ≤ m → HasStatus (at n) u Done → HasStatus (at m) u Done
   done_at n m u le done = led_done p lim (at n) (at m) u (leads_from p lim (start_of p lim) journal n m le legal) done
+
+  -- a value that a task has now is the one that it has at the end
+  pub value_end : (n u : ℕ) (value : ℤ) → IsDoneWith (at n) u value → IsDoneWith (state_after p lim journal) u value
+  value_end n u value done =
+      let leads = leads_on p lim (start_of p lim) journal n legal in
+      subst (λ (s : State). IsDoneWith s u value) (sym leads.same) (value_stays_on p lim (at n) leads.entries u value leads.legal done)
 
   pub later_end : (n : ℕ) → Later (at n).tasks (state_after p lim journal).tasks
   later_end n = led_later p lim wf (at n) (state_after p lim journal) (stands_at n) (leads_on p lim (start_of p lim) journal n legal)

@@ -47,3 +47,5 @@ pub mod ExecutedOrder
 pub mod DoneTasks
 -- A task keeps its row from one of its segments to the next.
 pub mod RowsBetween
+-- Each segment starts from the frame that the segment of its task before it left.
+pub mod FramesFollow

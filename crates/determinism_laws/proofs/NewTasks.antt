@@ -93,13 +93,14 @@ module _ (lim : Bounds) (st : State) (t : ℕ) (row : TaskRow) (frame : Frame) w
 
 -- The frame of t after a stop: what the segment left, with the new task in it if it made one; or the task has ended.
 
-abbrev pub FrameAfter : Stop → Frame → TaskRow → Type 0
-FrameAfter (stops.Make child args effects spawned future place) frame new =
-    ((number : ℕ) × (new.frame ≡ frame_without_prints (making_frame future spawned number frame))) ⊎ ((new.frame.body ≡ None) × (new.frame.next ≡ Ended))
-FrameAfter (stops.Waits on) frame new = new.frame ≡ frame_without_prints frame
-FrameAfter (stops.Joins on) frame new = new.frame ≡ frame_without_prints frame
-FrameAfter (stops.Done value) frame new = new.frame ≡ frame_without_prints frame
-FrameAfter (stops.Fault kind place) frame new = new.frame ≡ frame_without_prints frame
+abbrev pub FrameAfter : Stop → Frame → End → TaskRow → Type 0
+FrameAfter (stops.Make child args effects spawned future place) frame end new =
+    ((number : ℕ) × (new.frame ≡ frame_without_prints (making_frame future spawned number frame)) × (end ≡ ends.Made number))
+    ⊎ ((new.frame.body ≡ None) × (new.frame.next ≡ Ended) × (end ≡ ends.Fault TaskLimit place))
+FrameAfter (stops.Waits on) frame end new = new.frame ≡ frame_without_prints frame
+FrameAfter (stops.Joins on) frame end new = new.frame ≡ frame_without_prints frame
+FrameAfter (stops.Done value) frame end new = new.frame ≡ frame_without_prints frame
+FrameAfter (stops.Fault kind place) frame end new = new.frame ≡ frame_without_prints frame
 
 module _ (lim : Bounds) (st : State) (t : ℕ) (row : TaskRow) (frame : Frame) (there : IsRow st t row) (new : TaskRow) where
   set_frame : (changed : TaskRow) → slice_get (slice_set st.tasks t changed) t ≡ Some new → new.frame ≡ changed.frame
@@ -107,20 +108,20 @@ module _ (lim : Bounds) (st : State) (t : ℕ) (row : TaskRow) (frame : Frame) (
       sym (ap (λ (r : TaskRow). r.frame) (got_one (slice_get (slice_set st.tasks t changed) t) (set_same st.tasks t row changed there) here))
 
   made_frame : (b : Bool) → (child : Frame) (args : List ℤ) (effects : Summary) (spawned : Bool) (future : ℕ) (place : Place)
-      → IsRow (cond {A = State × End} b (state_after_make lim st t row frame future spawned child args effects, ends.Made (st.asked + 1))
-      (state_after_fault (state_after_asking st) t row (stopped_frame frame) TaskLimit place, ends.Fault TaskLimit place)).0 t new
-      → FrameAfter (stops.Make child args effects spawned future place) frame new
+      → let after = cond {A = State × End} b (state_after_make lim st t row frame future spawned child args effects, ends.Made (st.asked + 1))
+      (state_after_fault (state_after_asking st) t row (stopped_frame frame) TaskLimit place, ends.Fault TaskLimit place) in
+      IsRow after.0 t new → FrameAfter (stops.Make child args effects spawned future place) frame after.1 new
   made_frame true child args effects spawned future place here =
       let going = going_row row (making_frame future spawned (st.asked + 1) frame) in
       let added = new_row lim (st.asked + 1) (parent_of t spawned) child args effects in
       let own = put_before (slice_set st.tasks t going) added t going (set_same st.tasks t row going there) in
       let same : going ≡ new = got_one (slice_get (slice_set st.tasks t going ++ added ∷ []) t) own here in
-      inl (st.asked + 1, sym (ap (λ (r : TaskRow). r.frame) same))
+      inl (st.asked + 1, sym (ap (λ (r : TaskRow). r.frame) same), refl)
   made_frame false child args effects spawned future place here =
       let same = set_frame (faulted_row row (stopped_frame frame)) here in
-      inr (ap (λ (f : Frame). f.body) same, ap (λ (f : Frame). f.next) same)
+      inr (ap (λ (f : Frame). f.body) same, ap (λ (f : Frame). f.next) same, refl)
 
-  stopped_row_frame : (stop : Stop) → IsRow (stop_result lim st t row frame stop).0 t new → FrameAfter stop frame new
+  stopped_row_frame : (stop : Stop) → IsRow (stop_result lim st t row frame stop).0 t new → FrameAfter stop frame (stop_result lim st t row frame stop).1 new
   stopped_row_frame (stops.Make child args effects spawned future place) here =
       made_frame (nat_lt (st.asked + 1) lim.tasks) child args effects spawned future place here
   stopped_row_frame (stops.Waits on) here = set_frame (going_row row frame) here
@@ -142,9 +143,9 @@ pub record MoveMakesRow (p : Program) (st : State) (kind : Kind) (t c : ℕ) (en
   pub makes : MakesRow t c (left_by p st row).stop end new
 
 -- its frame after a move
-abbrev pub FrameAfterMove : Program → State → Kind → TaskRow → TaskRow → Type 0
-FrameAfterMove p st Admit row new = new.frame ≡ row.frame
-FrameAfterMove p st Run row new = FrameAfter (left_by p st row).stop (left_by p st row).frame new
+abbrev pub FrameAfterMove : Program → State → Kind → TaskRow → End → TaskRow → Type 0
+FrameAfterMove p st Admit row end new = new.frame ≡ row.frame
+FrameAfterMove p st Run row end new = FrameAfter (left_by p st row).stop (left_by p st row).frame end new
 
 module _ (p : Program) (lim : Bounds) (st : State) (stands : Stands p lim st) (t : ℕ) where
   asked_joined : (s : State) (o : Option ℕ) → (s.asked + 1 < lim.tasks → s.asked + 1 ≡ length s.tasks)
@@ -181,14 +182,14 @@ module _ (p : Program) (lim : Bounds) (st : State) (stands : Stands p lim st) (t
   move_row Run c past new here = ran_row c past new (slice_get st.tasks t) refl here
 
   ran_frame : (may : MayTake st Run t) (row new : TaskRow) (found : Option TaskRow) → slice_get st.tasks t ≡ found → found ≡ Some row
-      → IsRow (ran p lim st t found).0 t new → FrameAfterMove p st Run row new
+      → IsRow (ran p lim st t found).0 t new → FrameAfterMove p st Run row (ran p lim st t found).1 new
   ran_frame may row new None e is here = absurd (cc (is))
   ran_frame may row new (Some other) e is here =
       let same : other ≡ row = cc (is) in
       let left = left_by p st other in
       let later : State = record st { cells = left.cells } in
       let child = joined_child other.out (link_of st.links t).waits in
-      subst (λ (r : TaskRow). FrameAfterMove p st Run r new) same
+      subst (λ (r : TaskRow). FrameAfterMove p st Run r (ran p lim st t (Some other)).1 new) same
       (stopped_row_frame lim (state_after_join later child) t other left.frame (halfway p lim st stands t other e may.1).almost.own new left.stop here)
 
   admitted_frame : (row new : TaskRow) (found : Option TaskRow) → slice_get st.tasks t ≡ found → found ≡ Some row → IsRow (admitted st t found) t new → new.frame ≡ row.frame
@@ -198,6 +199,6 @@ module _ (p : Program) (lim : Bounds) (st : State) (stands : Stands p lim st) (t
       let set : admitted_row other ≡ new = got_one (slice_get (slice_set st.tasks t (admitted_row other)) t) (set_same st.tasks t other (admitted_row other) e) here in
       sym (ap (λ (r : TaskRow). r.frame) set) ∙ ap (λ (r : TaskRow). r.frame) same
 
-  pub move_frame : (kind : Kind) → MayTake st kind t → (row new : TaskRow) → IsRow st t row → IsRow (result_by_kind p lim st kind t).0 t new → FrameAfterMove p st kind row new
+  pub move_frame : (kind : Kind) → MayTake st kind t → (row new : TaskRow) → IsRow st t row → IsRow (result_by_kind p lim st kind t).0 t new → FrameAfterMove p st kind row (result_by_kind p lim st kind t).1 new
   move_frame Admit may row new there here = admitted_frame row new (slice_get st.tasks t) refl there here
   move_frame Run may row new there here = ran_frame may row new (slice_get st.tasks t) refl there here

@@ -14,6 +14,7 @@ ghost use Rattle.determinism_laws.specs.Deterministic.{ChildrenAreDeterministic,
 ghost use Rattle.determinism_laws.specs.ElisionOrder.{ConflictsKeepRanks, KeepsElisionOrder};
 ghost use Rattle.determinism_laws.specs.Ranks.{AllHaveRanks, OneRankEach, OneSegmentEach, SegmentsAreInOrder};
 ghost use Rattle.determinism_laws.specs.Execution.{DoneTasksAreExecuted, DoneTasksExecuteAlike, ExecutionsAreInRankOrder, RowsStayBetweenSegments};
+ghost use Rattle.determinism_laws.specs.Frames.{JoinsTakeValues, MakersGoOn};
 ghost use Rattle.determinism_laws.specs.Sequential.{ExecutesInRankOrder, SegmentsCanBeListed};
 ghost use Rattle.determinism_laws.specs.Orders.{AgreeOn, FindSameValues, HaveSameWriters, LeaveSameCells, PrintAlike, SegmentAccesses, SegmentsConflict};
 
@@ -106,4 +107,13 @@ pub fn done_deterministic_tasks_execute_alike()
 pub fn rows_stay_between_segments()
     ensures { (p : Program) → IsWellFormed p → KeepsEffects p
         → (lim : Bounds) (journal : List Entry) → Legal p lim journal → RowsStayBetweenSegments p lim journal }
+{}
+
+/// In every legal journal, each segment of a task but its first starts from the frame that the segment before it left: after
+/// a join once the frame has taken the value that the joined task has at the end, and after a make with the new task in it.
+pub fn segments_start_from_the_frames_left()
+    ensures joins { (p : Program) → IsWellFormed p → KeepsEffects p
+        → (lim : Bounds) (journal : List Entry) → Legal p lim journal → JoinsTakeValues p lim journal }
+    ensures makes { (p : Program) → IsWellFormed p → KeepsEffects p
+        → (lim : Bounds) (journal : List Entry) → Legal p lim journal → MakersGoOn p lim journal }
 {}

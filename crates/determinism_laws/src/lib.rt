@@ -11,5 +11,5 @@ pub use laws::{
     deterministic_tasks_fork_and_join, deterministic_tasks_keep_the_elision_order,
     done_deterministic_tasks_execute_alike, done_tasks_are_executed_whole,
     orders_that_agree_on_conflicts_give_the_same_values, ranks_order_the_segments,
-    rows_stay_between_segments,
+    rows_stay_between_segments, segments_start_from_the_frames_left,
 };
