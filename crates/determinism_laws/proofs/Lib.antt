@@ -49,3 +49,5 @@ pub mod DoneTasks
 pub mod RowsBetween
 -- Each segment starts from the frame that the segment of its task before it left.
 pub mod FramesFollow
+-- The value of a task is the one with which its last segment stopped.
+pub mod FinalValues

@@ -46,3 +46,9 @@ MakersGoOn p lim journal =
     → (left_at p lim journal place frame).stop ≡ stops.Make made args effects spawned future fault_place
     → starts.segment.entry.end ≡ entry_ends.Made child → IsNextSegment journal u (suc place) next
     → StartsFrom p lim journal u next (making_frame future spawned child (frame_without_prints (left_at p lim journal place frame).frame))
+
+-- a segment that finishes its task gives it the value that it has at the end
+abbrev pub EndsGiveValues : Program → Bounds → List Entry → Type 0
+EndsGiveValues p lim journal =
+    (u place : ℕ) (frame : Frame) (value : ℤ) → StartsFrom p lim journal u place frame → (left_at p lim journal place frame).stop ≡ stops.Done value
+    → IsDoneWith (state_after p lim journal) u value
