@@ -6,3 +6,7 @@ pub mod Renumbered
 pub mod BetweenSegments
 -- segments over cells that are the same where they are accessed
 pub mod Alike
+-- unjoined children, and the values that are kept for them
+pub mod KeptValues
+-- what was played by frames with other numbers is the sequential execution
+pub mod Playing

@@ -1,2 +1,3 @@
 pub mod Renumbering
 pub mod SameAccesses
+pub mod Played
