@@ -1,5 +1,5 @@
 -- A segment that finishes its task gives it its value, which it keeps.
-use Rattle.std.proofs.Common.{◌≡◌, ◌≤◌, ℕ, suc, ℤ, List, Option, None, Some, refl, sym, ap, ◌∙◌, subst, arith}
+use Rattle.std.proofs.Common.{◌≡◌, ℕ, suc, ℤ, List, Option, None, Some, refl, sym, ap, ◌∙◌, subst, arith}
 use Rattle.std.specs.Prelude.{slice_get, slice_set}
 use Rattle.twe_limits.specs.Limits.{Bounds}
 use Rattle.seg_journal.specs.declared.journal.Entry.{Entry}
@@ -24,7 +24,7 @@ use Rattle.twe_machine.specs.Runs.{Legal, state_after}
 use Rattle.twe_machine.proofs.Halfway.{halfway}
 use Rattle.twe_machine.proofs.Places.{got_one, set_same}
 use Rattle.twe_machine.proofs.Standing.{Stands}
-use Rattle.determinism_laws.specs.Frames.{EndsGiveValues, StartsFrom, left_at}
+use Rattle.determinism_laws.specs.Frames.{EndsGiveValues, left_at}
 use Rattle.determinism_laws.specs.Segments.{IsSegment, state_before}
 use Rattle.determinism_laws.proofs.JournalPlaces.{later_at, stands_at, taken_at, value_end}
 use Rattle.determinism_laws.proofs.NewTasks.{left_by}

@@ -182,9 +182,9 @@ module _ (p : Program) (wf : IsWellFormed p) (keeps : KeepsEffects p) (lim : Bou
       let makes = made.makes in
       let value = awaited_value st.tasks (awaited made.row.frame.next) in
       let comes = makes_follow p (given made.row.frame value) st.cells [] makes.child makes.args makes.effects makes.spawned makes.future makes.place makes.stops_at in
-      let first = record (entry_frame p comes.task makes.args) { task = u; fuel = makes.fuel } in
-      let same : b.frame ≡ first = makes.frame ∙ ap (λ (f : Frame). record f { task = u; fuel = makes.fuel }) comes.child_is in
-      subst (ForkFrame p) (sym same) (calm first Go refl refl (λ some. out_at_entry p comes.task makes.args u makes.fuel))
+      let first = record (entry_frame p comes.task makes.args) { task = u; fuel = lim.fuel } in
+      let same : b.frame ≡ first = makes.frame ∙ ap (λ (f : Frame). record f { task = u; fuel = lim.fuel }) comes.child_is in
+      subst (ForkFrame p) (sym same) (calm first Go refl refl (λ some. out_at_entry p comes.task makes.args u lim.fuel))
 
   old_frame : (u : ℕ) (a b : TaskRow) → IsRow st u a → IsRow new u b → IsDeterministic p b → ForkFrame p b.frame
   old_frame u a b before after flag =

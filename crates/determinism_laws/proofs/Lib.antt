@@ -51,3 +51,5 @@ pub mod RowsBetween
 pub mod FramesFollow
 -- The value of a task is the one with which its last segment stopped.
 pub mod FinalValues
+-- The first segment of a spawned task starts from the frame that was made for it.
+pub mod FirstFrames

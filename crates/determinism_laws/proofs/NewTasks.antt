@@ -30,7 +30,7 @@ use Rattle.twe_machine.proofs.Standing.{Stands}
 
 -- A segment of t with this stop made task c, which has this row: the stop is at the make of a frame of the row's
 -- declaration, and t is the row's parent if the make is a spawn. It begins as it was made.
-pub record MakesRow (t c : ℕ) (stop : Stop) (end : End) (row : TaskRow) : Type 0 where
+pub record MakesRow (lim : Bounds) (t c : ℕ) (stop : Stop) (end : End) (row : TaskRow) : Type 0 where
   pub child : Frame
   pub args : List ℤ
   pub effects : Summary
@@ -43,8 +43,7 @@ pub record MakesRow (t c : ℕ) (stop : Stop) (end : End) (row : TaskRow) : Type
   pub parent : row.parent ≡ parent_of t spawned
   pub next : row.frame.next ≡ child.next
   pub status : row.status ≡ status_at_start (parent_of t spawned)
-  pub fuel : ℕ
-  pub frame : row.frame ≡ record child { task = c; fuel = fuel }
+  pub frame : row.frame ≡ record child { task = c; fuel = lim.fuel }
 
 module _ (lim : Bounds) (st : State) (t : ℕ) (row : TaskRow) (frame : Frame) where
   module _ (number : st.asked + 1 < lim.tasks → st.asked + 1 ≡ length st.tasks) (c : ℕ) (past : length st.tasks ≤ c) (new : TaskRow) where
@@ -57,7 +56,7 @@ module _ (lim : Bounds) (st : State) (t : ℕ) (row : TaskRow) (frame : Frame) w
     made_row : (b : Bool) → nat_lt (st.asked + 1) lim.tasks ≡ b → (child : Frame) (args : List ℤ) (effects : Summary) (spawned : Bool) (future : ℕ) (place : Place)
         → let after = cond {A = State × End} b (state_after_make lim st t row frame future spawned child args effects, ends.Made (st.asked + 1))
         (state_after_fault (state_after_asking st) t row (stopped_frame frame) TaskLimit place, ends.Fault TaskLimit place) in
-        IsRow after.0 c new → MakesRow t c (stops.Make child args effects spawned future place) after.1 new
+        IsRow after.0 c new → MakesRow lim t c (stops.Make child args effects spawned future place) after.1 new
     made_row true e child args effects spawned future place here =
         let going = going_row row (making_frame future spawned (st.asked + 1) frame) in
         let added = new_row lim (st.asked + 1) (parent_of t spawned) child args effects in
@@ -78,13 +77,12 @@ module _ (lim : Bounds) (st : State) (t : ℕ) (row : TaskRow) (frame : Frame) w
                 parent = sym (ap (λ (r : TaskRow). r.parent) last.1);
                 next = sym (ap (λ (r : TaskRow). r.frame.next) last.1);
                 status = sym (ap (λ (r : TaskRow). r.status) last.1);
-                fuel = lim.fuel;
                 frame = sym (ap (λ (r : TaskRow). r.frame) last.1) ∙ ap (λ (n : ℕ). record child { task = n; fuel = lim.fuel }) (sym same);
               }
         ]
     made_row false e child args effects spawned future place here = absurd (none_set (faulted_row row (stopped_frame frame)) here)
 
-    stop_row : (stop : Stop) → IsRow (stop_result lim st t row frame stop).0 c new → MakesRow t c stop (stop_result lim st t row frame stop).1 new
+    stop_row : (stop : Stop) → IsRow (stop_result lim st t row frame stop).0 c new → MakesRow lim t c stop (stop_result lim st t row frame stop).1 new
     stop_row (stops.Make child args effects spawned future place) here = made_row (nat_lt (st.asked + 1) lim.tasks) refl child args effects spawned future place here
     stop_row (stops.Waits on) here = absurd (none_set (going_row row frame) here)
     stop_row (stops.Joins on) here = absurd (none_set (going_row row frame) here)
@@ -136,11 +134,11 @@ abbrev pub left_by : Program → State → TaskRow → Stopped
 left_by p st row = segment p (ready_frame st.tasks row.frame) st.cells
 
 -- a move of t made task c: it is a segment of t
-pub record MoveMakesRow (p : Program) (st : State) (kind : Kind) (t c : ℕ) (end : End) (new : TaskRow) : Type 0 where
+pub record MoveMakesRow (p : Program) (lim : Bounds) (st : State) (kind : Kind) (t c : ℕ) (end : End) (new : TaskRow) : Type 0 where
   pub runs : kind ≡ Run
   pub row : TaskRow
   pub there : IsRow st t row
-  pub makes : MakesRow t c (left_by p st row).stop end new
+  pub makes : MakesRow lim t c (left_by p st row).stop end new
 
 -- its frame after a move
 abbrev pub FrameAfterMove : Program → State → Kind → TaskRow → End → TaskRow → Type 0
@@ -154,7 +152,7 @@ module _ (p : Program) (lim : Bounds) (st : State) (stands : Stands p lim st) (t
   asked_joined s (Some c) counts few = counts few ∙ sym (length_joined s (Some c))
 
   ran_row : (c : ℕ) → length st.tasks ≤ c → (new : TaskRow) (found : Option TaskRow) → slice_get st.tasks t ≡ found
-      → IsRow (ran p lim st t found).0 c new → MoveMakesRow p st Run t c (ran p lim st t found).1 new
+      → IsRow (ran p lim st t found).0 c new → MoveMakesRow p lim st Run t c (ran p lim st t found).1 new
   ran_row c past new None e here = let below = slice_get_within st.tasks c new here in absurd (omega (arith, past, below))
   ran_row c past new (Some row) e here =
       let left = left_by p st row in
@@ -177,7 +175,7 @@ module _ (p : Program) (lim : Bounds) (st : State) (stands : Stands p lim st) (t
 
   -- a row that was not there before the move is that of the task which it made
   pub move_row : (kind : Kind) (c : ℕ) → length st.tasks ≤ c → (new : TaskRow) → IsRow (result_by_kind p lim st kind t).0 c new
-      → MoveMakesRow p st kind t c (result_by_kind p lim st kind t).1 new
+      → MoveMakesRow p lim st kind t c (result_by_kind p lim st kind t).1 new
   move_row Admit c past new here = absurd (admitted_none c past new (slice_get st.tasks t) here)
   move_row Run c past new here = ran_row c past new (slice_get st.tasks t) refl here
 

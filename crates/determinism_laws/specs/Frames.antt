@@ -16,7 +16,7 @@ use Rattle.twe_machine.specs.Moves.{frame_without_prints, making_frame, ready_fr
 use Rattle.twe_machine.specs.Rows.{IsRow}
 use Rattle.twe_machine.specs.Runs.{state_after}
 use Rattle.determinism_laws.specs.Execution.{IsNextSegment}
-use Rattle.determinism_laws.specs.Segments.{IsSegment, state_before}
+use Rattle.determinism_laws.specs.Segments.{IsSegment, Spawns, state_before}
 
 -- The segment of task u at this place starts from this frame, which has taken the awaited value if the task waited.
 pub record StartsFrom (p : Program) (lim : Bounds) (journal : List Entry) (u place : ℕ) (frame : Frame) : Type 0 where
@@ -52,3 +52,11 @@ abbrev pub EndsGiveValues : Program → Bounds → List Entry → Type 0
 EndsGiveValues p lim journal =
     (u place : ℕ) (frame : Frame) (value : ℤ) → StartsFrom p lim journal u place frame → (left_at p lim journal place frame).stop ≡ stops.Done value
     → IsDoneWith (state_after p lim journal) u value
+
+-- the first segment of a spawned task starts from the frame that was made for it, with its number and all of the fuel
+abbrev pub ChildrenBegin : Program → Bounds → List Entry → Type 0
+ChildrenBegin p lim journal =
+    (u place child first : ℕ) (frame made : Frame) (args : List ℤ) (effects : Summary) (spawned : Bool) (future : ℕ) (fault_place : Place)
+    → Spawns p lim journal u place child → StartsFrom p lim journal u place frame
+    → (left_at p lim journal place frame).stop ≡ stops.Make made args effects spawned future fault_place → IsNextSegment journal child (suc place) first
+    → StartsFrom p lim journal child first (record made { task = child; fuel = lim.fuel })

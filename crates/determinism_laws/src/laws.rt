@@ -14,7 +14,7 @@ ghost use Rattle.determinism_laws.specs.Deterministic.{ChildrenAreDeterministic,
 ghost use Rattle.determinism_laws.specs.ElisionOrder.{ConflictsKeepRanks, KeepsElisionOrder};
 ghost use Rattle.determinism_laws.specs.Ranks.{AllHaveRanks, OneRankEach, OneSegmentEach, SegmentsAreInOrder};
 ghost use Rattle.determinism_laws.specs.Execution.{DoneTasksAreExecuted, DoneTasksExecuteAlike, ExecutionsAreInRankOrder, RowsStayBetweenSegments};
-ghost use Rattle.determinism_laws.specs.Frames.{EndsGiveValues, JoinsTakeValues, MakersGoOn};
+ghost use Rattle.determinism_laws.specs.Frames.{ChildrenBegin, EndsGiveValues, JoinsTakeValues, MakersGoOn};
 ghost use Rattle.determinism_laws.specs.Sequential.{ExecutesInRankOrder, SegmentsCanBeListed};
 ghost use Rattle.determinism_laws.specs.Orders.{AgreeOn, FindSameValues, HaveSameWriters, LeaveSameCells, PrintAlike, SegmentAccesses, SegmentsConflict};
 
@@ -111,7 +111,8 @@ pub fn rows_stay_between_segments()
 
 /// In every legal journal, each segment of a task but its first starts from the frame that the segment before it left: after
 /// a join once the frame has taken the value that the joined task has at the end, and after a make with the new task in it.
-/// A segment that finishes its task gives it the value that it has at the end.
+/// A segment that finishes its task gives it the value that it has at the end. The first segment of a spawned task starts
+/// from the frame that was made for it, with all of the fuel.
 pub fn segments_start_from_the_frames_left()
     ensures joins { (p : Program) → IsWellFormed p → KeepsEffects p
         → (lim : Bounds) (journal : List Entry) → Legal p lim journal → JoinsTakeValues p lim journal }
@@ -119,4 +120,6 @@ pub fn segments_start_from_the_frames_left()
         → (lim : Bounds) (journal : List Entry) → Legal p lim journal → MakersGoOn p lim journal }
     ensures ends { (p : Program) → IsWellFormed p → KeepsEffects p
         → (lim : Bounds) (journal : List Entry) → Legal p lim journal → EndsGiveValues p lim journal }
+    ensures children { (p : Program) → IsWellFormed p → KeepsEffects p
+        → (lim : Bounds) (journal : List Entry) → Legal p lim journal → ChildrenBegin p lim journal }
 {}
