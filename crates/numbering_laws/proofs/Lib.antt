@@ -10,3 +10,5 @@ pub mod Alike
 pub mod KeptValues
 -- what was played by frames with other numbers is the sequential execution
 pub mod Playing
+-- numberings that a list of different numbers gives
+pub mod Listed

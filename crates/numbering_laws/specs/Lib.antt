@@ -1,3 +1,4 @@
 pub mod Renumbering
 pub mod SameAccesses
 pub mod Played
+pub mod Numberings

@@ -7,4 +7,4 @@ mod played;
 pub use laws::{
     frames_keep_their_numbers, segments_do_not_see_numbers, segments_do_the_same_on_what_they_read,
 };
-pub use played::what_was_played_is_elided;
+pub use played::{lists_give_numberings, what_was_played_is_elided};

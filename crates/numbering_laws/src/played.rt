@@ -1,11 +1,12 @@
 //! What was run by frames with other numbers, segment by segment, is a sequential execution.
-ghost use Rattle.std.specs.Prelude.{◌≤◌, ℕ, ℤ, List};
+ghost use Rattle.std.specs.Prelude.{◌≡◌, ◌≤◌, ◌∷◌, ◌++◌, ℕ, ℤ, List, length};
 ghost use Rattle.twe_limits.specs.Limits.{Bounds};
 ghost use Rattle.twe_program.specs.Program.{Program};
 ghost use Rattle.twe_program.specs.WellFormed.{IsWellFormed};
 ghost use Rattle.seg_exec.specs.Entry.{entry_frame};
 ghost use Rattle.seq_elide.specs.Elision.{first_frame};
 ghost use Rattle.numbering_laws.specs.Played.{ElidesTo, FindTheSame, IsInjective, Played, Step};
+ghost use Rattle.numbering_laws.specs.Numberings.{AllBelow, AllDiffer, numbering_of};
 ghost use Rattle.numbering_laws.specs.Renumbering.{Numbering};
 
 /// Take a task of a well-formed program that was run from its first frame on, with the tasks below it, each of their
@@ -18,4 +19,14 @@ pub fn what_was_played_is_elided()
         → (task : ℕ) (args cells : List ℤ) (steps : List Step) (upto : ℕ) → 1 ≤ lim.tasks
         → Played p lim to values (to 0) (first_frame lim (to 0) (entry_frame p task args)) steps 1 upto → FindTheSame p steps cells
         → ElidesTo p lim task args cells (values (to 0)) steps upto }
+{}
+
+/// A list of different numbers, all below a bound, gives a numbering that tells all tasks apart: the k-th number of the
+/// list, and from the end of the list on the numbers from the bound on. There are at most as many numbers in the list as
+/// the bound is.
+pub fn lists_give_numberings()
+    ensures apart { (beyond : ℕ) (names : List ℕ) → AllDiffer names → AllBelow beyond names → IsInjective (numbering_of beyond names) }
+    ensures at { (beyond : ℕ) (before : List ℕ) (name : ℕ) (later : List ℕ)
+        → numbering_of beyond (before ++ name ∷ later) (length before) ≡ name }
+    ensures few { (beyond : ℕ) (names : List ℕ) → AllDiffer names → AllBelow beyond names → length names ≤ beyond }
 {}
