@@ -1,121 +1,99 @@
--- What is read of words is what the options give that they are.
-use Rattle.std.proofs.Common.{◌≡◌, ◌++◌, ℕ, List, [], ◌∷◌, codes, Option, None, Some, option_and_then, refl, sym, ap, ◌∙◌, subst}
-use Rattle.std.proofs.lemmas.Option.{option_and_then_some, none-some, same_Some}
-use Rattle.command_line.specs.declared.options.Setting.{Setting}
-use Rattle.command_line.specs.declared.options.Part.{Part}
-use Rattle.command_line.specs.declared.options.Part.TheVariants.{Names, Gives, Journal}
-use Rattle.command_line.specs.declared.options.Given.{Given}
-use Rattle.command_line.specs.declared.options.Sofar.{Sofar}
-use Rattle.command_line.specs.Options.{spelled, number_for, Choice, set, journal, AreOptions, no_more, value_beside, value_inside, flag}
-use Rattle.command_line.specs.inner.Reading.{with_number, with_flag, settled, taken, part_of, next, read}
-use Rattle.command_line.proofs.Parts.{IsPart, part_is, part_found, map_some}
-use Rattle.command_line.proofs.Once.{all_chosen}
+-- Uses of items make options, if each of their texts is the number that is wanted.
+use Rattle.std.proofs.Common.{◌≡◌, List, [], ◌∷◌, ◌++◌, Some, codes, refl, sym, ◌∙◌, subst, append_assoc, append-nil}
+use Rattle.std.specs.Str.{bytes_eq}
+use Rattle.std.proofs.lemmas.Option.{cond_some, same_Some}
+use Rattle.clap.specs.Walk.{Text}
+use Rattle.command_line.specs.declared.setting.Setting.{Setting}
+use Rattle.command_line.specs.Options.{Item, of, flag, size, Among, spelled, Choice, set, journal, load, AreOptions, no_more, value_beside, value_inside, flagged, sized, number_for, size_in}
+use Rattle.command_line.proofs.Rows.{Use}
+use Rattle.command_line.proofs.Turns.{Pending, none, wants, holds, Settles, as_they_are, with_one}
+use Rattle.command_line.proofs.Uses.{Distinct, one_more, chosen, all_chosen, map_some, splits}
+use Rattle.command_line.proofs.Sound.{Reads, ended, named, beside, inside, flagged_so, alone}
 
--- the words are options that give this
-abbrev pub Cut : List (List ℕ) → Given → Given → Type 0
-Cut words given h = (choices : List Choice) × AreOptions words choices × (all_chosen given choices ≡ Some h)
+-- ---- nothing is used twice
 
--- the first of the words is the number of a setting, and the others are options that give this with it
-pub record CutValue (words : List (List ℕ)) (setting : Setting) (given h : Given) : Type 0 where
-  pub value : List ℕ
-  pub rest : List (List ℕ)
-  pub number : ℕ
-  pub choices : List Choice
-  pub split : words ≡ value ∷ rest
-  pub is : number_for setting value ≡ Some number
-  pub options : AreOptions rest choices
-  pub gives : all_chosen given (set setting number ∷ choices) ≡ Some h
+settled_distinct : {uses : List Use} {pending : Pending} {after : List Use} → Settles uses pending after → Distinct uses → Distinct after
+settled_distinct as_they_are d = d
+settled_distinct (with_one {uses} {item} {text} new) d = one_more uses item text d new
 
-abbrev go_on : List (List ℕ) → Sofar → Option Given
-go_on words sofar = read sofar.given sofar.wanted words
+pub read_distinct : {items : List Item} {uses : List Use} {pending : Pending} {words : List Text} {last : List Use} → Reads items uses pending words last → Distinct uses → Distinct last
+read_distinct (ended s) d = settled_distinct s d
+read_distinct (named setting after among s rest) d = read_distinct rest (settled_distinct s d)
+read_distinct (beside setting value rest) d = read_distinct rest d
+read_distinct (inside setting value after among s new rest) d = read_distinct rest (one_more after (of setting) value (settled_distinct s d) new)
+read_distinct (flagged_so after among s new rest) d = read_distinct rest (one_more after flag (codes "true") (settled_distinct s d) new)
+read_distinct (alone value after among s rest) d = read_distinct rest (settled_distinct s d)
 
-abbrev CutsAll : List (List ℕ) → Type 0
-CutsAll words = (given h : Given) → read given None words ≡ Some h → Cut words given h
+-- ---- options
 
-abbrev CutsValue : List (List ℕ) → Type 0
-CutsValue words = (setting : Setting) (given h : Given) → read given (Some setting) words ≡ Some h → CutValue words setting given h
+-- the uses are of the command's items, and the flag's text is what `clap` gives it
+abbrev pub HasFlagText : Use → Type 0
+HasFlagText (flag, text) = text ≡ codes "true"
+HasFlagText (of setting, text) = Unit {0}
+HasFlagText (size, text) = Unit {0}
 
--- the first word is a part, and the others are cut
-module _ (words : List (List ℕ)) (cuts : CutsAll words) (cuts_value : CutsValue words) where
-  given_later : (o : Option Given) (sofar : Sofar) (h : Given) → settled o ≡ Some sofar → go_on words sofar ≡ Some h
-      → (g : Given) × (o ≡ Some g) × Cut words g h
-  given_later o sofar h first later =
-      map_some (λ (g : Given). record { given = g; wanted = None }) o sofar first (λ g is same.
-      (g, is, cuts g h (ap (go_on words) same ∙ later)))
+abbrev pub Proper : List Item → List Use → Type 0
+Proper items [] = Unit {0}
+Proper items (u ∷ uses) = (Among u.0 items × HasFlagText u) × Proper items uses
 
-  cut_named : (word : List ℕ) (setting : Setting) (given h : Given) → word ≡ spelled setting → CutValue words setting given h → Cut (word ∷ words) given h
-  cut_named word setting given h is c = (
-    set setting c.number ∷ c.choices,
-    subst (λ (ws : List (List ℕ)). AreOptions ws (set setting c.number ∷ c.choices)) (ap (λ (w : List ℕ). w ∷ c.value ∷ c.rest) (sym is) ∙ ap (λ (ws : List (List ℕ)). word ∷ ws) (sym c.split))
-        (value_beside setting c.value c.number c.is c.options),
-    c.gives,
-  )
+-- the words are options, which the uses after `base` make
+pub record Cut (items : List Item) (words : List Text) (base last : List Use) : Type 0 where
+  pub more : List Use
+  pub are : last ≡ base ++ more
+  pub proper : Proper items more
+  pub options : (choices : List Choice) → all_chosen more ≡ Some choices → AreOptions items words choices
 
-  cut_part : (word : List ℕ) (part : Part) (given h : Given) (sofar : Sofar) → IsPart word part → taken given part ≡ Some sofar → go_on words sofar ≡ Some h → Cut (word ∷ words) given h
-  cut_part word (Names setting) given h sofar is first later =
-      let same : record { given = given; wanted = Some setting } ≡ sofar = same_Some (record { given = given; wanted = Some setting }) sofar first in
-      cut_named word setting given h is (cuts_value setting given h (ap (go_on words) same ∙ later))
-  cut_part word (Gives setting number) given h sofar (value, is, fits) first later =
-      let c = given_later (with_number given setting number) sofar h first later in (
-        set setting number ∷ c.2.0,
-        subst (λ (w : List ℕ). AreOptions (w ∷ words) (set setting number ∷ c.2.0)) (sym is) (value_inside setting value number fits c.2.1),
-        ap (option_and_then (λ (g : Given). all_chosen g c.2.0)) c.1 ∙ c.2.2,
-      )
-  cut_part word Journal given h sofar is first later =
-      let c = given_later (with_flag given) sofar h first later in (
-        journal ∷ c.2.0,
-        subst (λ (w : List ℕ). AreOptions (w ∷ words) (journal ∷ c.2.0)) (sym is) (flag c.2.1),
-        ap (option_and_then (λ (g : Given). all_chosen g c.2.0)) c.1 ∙ c.2.2,
-      )
+grown : {items : List Item} {words : List Text} {base last : List Use} (u : Use) (spelling : List Text) → Among u.0 items → HasFlagText u
+    → ((choice : Choice) (choices : List Choice) → chosen u ≡ Some choice → AreOptions items words choices → AreOptions items spelling (choice ∷ choices))
+    → Cut items words (base ++ u ∷ []) last → Cut items spelling base last
+grown {items} {words} {base} {last} u spelling among text extend c = record {
+  more = u ∷ c.more;
+  are = c.are ∙ append_assoc base (u ∷ []) c.more;
+  proper = ((among, text), c.proper);
+  options = λ choices e.
+      let s = splits u c.more choices e in
+      subst (AreOptions items spelling) s.are (extend s.choice s.others s.choice_is (c.options s.others s.others_are));
+}
 
-  cuts_more : (word : List ℕ) → CutsAll (word ∷ words)
-  cuts_more word given h e =
-      option_and_then_some (go_on words) (next given None word) h e (λ sofar first later.
-      option_and_then_some (taken given) (part_of word) sofar first (λ part is takes.
-      cut_part word part given h sofar (part_is word part is) takes later))
+abbrev Cuts : List Item → List Use → Pending → List Text → List Use → Type 0
+Cuts items uses none words last = Cut items words uses last
+Cuts items uses (holds item text) words last = Cut items words (uses ++ (item, text) ∷ []) last
+Cuts items uses (wants setting) words last = (value : Text) × (rest : List Text) × (words ≡ value ∷ rest) × Cut items rest (uses ++ (of setting, value) ∷ []) last
 
-  cuts_value_more : (value : List ℕ) → CutsValue (value ∷ words)
-  cuts_value_more value setting given h e =
-      option_and_then_some (go_on words) (next given (Some setting) value) h e (λ sofar first later.
-      option_and_then_some (λ (n : ℕ). taken given (Gives setting n)) (number_for setting value) sofar first (λ number is takes.
-      let c = given_later (with_number given setting number) sofar h takes later in
-      record {
-        value = value;
-        rest = words;
-        number = number;
-        choices = c.2.0;
-        split = refl;
-        is = is;
-        options = c.2.1;
-        gives = ap (option_and_then (λ (g : Given). all_chosen g c.2.0)) c.1 ∙ c.2.2;
-      }))
+settled_cut : {items : List Item} {uses : List Use} {pending : Pending} {after : List Use} {words : List Text} {last : List Use} → Settles uses pending after
+    → Cut items words after last → Cuts items uses pending words last
+settled_cut as_they_are c = c
+settled_cut (with_one new) c = c
 
-both : (words : List (List ℕ)) → CutsAll words × CutsValue words
-both [] = (λ given h e. ([], no_more, e), λ setting given h e. absurd (none-some h e))
-both (word ∷ words) = let later = both words in (cuts_more words later.0 later.1 word, cuts_value_more words later.0 later.1 word)
+beside_cut : {items : List Item} {base last : List Use} (setting : Setting) (words : List Text) → Among (of setting) items → Cuts items base (wants setting) words last
+    → Cut items (spelled setting ∷ words) base last
+beside_cut {items} {base} {last} setting words among (value, rest, are, c) =
+    subst (λ (ws : List Text). Cut items (spelled setting ∷ ws) base last) (sym are)
+    (grown (of setting, value) (spelled setting ∷ value ∷ rest) among tt (λ choice choices e options.
+    map_some (λ number. set setting number) (number_for setting value) choice e (λ number is same.
+    subst (λ (k : Choice). AreOptions items (spelled setting ∷ value ∷ rest) (k ∷ choices)) same (value_beside setting value number among is options))) c)
 
-pub cut : (words : List (List ℕ)) (given h : Given) → read given None words ≡ Some h → Cut words given h
-cut words = (both words).0
+read_cuts : {items : List Item} {uses : List Use} {pending : Pending} {words : List Text} {last : List Use} → Reads items uses pending words last → Cuts items uses pending words last
+read_cuts {items} {last = last} (ended s) = settled_cut s (record {
+  more = [];
+  are = sym (append-nil last);
+  proper = tt;
+  options = λ choices e. subst (AreOptions items []) (same_Some [] choices e) no_more;
+})
+read_cuts (named {words = words} setting after among s rest) = settled_cut s (beside_cut setting words among (read_cuts rest))
+read_cuts (beside {words = words} setting value rest) = (value, words, refl, read_cuts rest)
+read_cuts {items} (inside {words = words} setting value after among s new rest) =
+    settled_cut s (grown (of setting, value) ((spelled setting ++ (codes "=" ++ value)) ∷ words) among tt (λ choice choices e options.
+    map_some (λ number. set setting number) (number_for setting value) choice e (λ number is same.
+    subst (λ (k : Choice). AreOptions items ((spelled setting ++ (codes "=" ++ value)) ∷ words) (k ∷ choices)) same (value_inside setting value number among is options))) (read_cuts rest))
+read_cuts {items} (flagged_so {words = words} after among s new rest) =
+    settled_cut s (grown (flag, codes "true") (codes "--journal" ∷ words) among refl (λ choice choices e options.
+    subst (λ (k : Choice). AreOptions items (codes "--journal" ∷ words) (k ∷ choices)) (cond_some (bytes_eq (codes "true") (codes "true")) journal choice e).1 (flagged among options)) (read_cuts rest))
+read_cuts {items} (alone {words = words} value after among s rest) =
+    settled_cut s (grown (size, value) (value ∷ words) among tt (λ choice choices e options.
+    map_some (λ number. load number) (size_in value) choice e (λ number is same.
+    subst (λ (k : Choice). AreOptions items (value ∷ words) (k ∷ choices)) same (sized value number among is options))) (read_cuts rest))
 
--- the other way round
-read_part : (word : List ℕ) (words : List (List ℕ)) (part : Part) (given : Given) → IsPart word part
-    → read given None (word ∷ words) ≡ option_and_then (go_on words) (taken given part)
-read_part word words part given is = ap (λ (o : Option Part). option_and_then (go_on words) (option_and_then (taken given) o)) (part_found word part is)
-
-read_given : (words : List (List ℕ)) (choices : List Choice) (o : Option Given) (h : Given) → option_and_then (λ (g : Given). all_chosen g choices) o ≡ Some h
-    → ((g : Given) → all_chosen g choices ≡ Some h → read g None words ≡ Some h) → option_and_then (go_on words) (settled o) ≡ Some h
-read_given words choices None h e k = absurd (none-some h e)
-read_given words choices (Some g) h e k = k g e
-
-pub read_cut : {words : List (List ℕ)} {choices : List Choice} → AreOptions words choices → (given h : Given) → all_chosen given choices ≡ Some h → read given None words ≡ Some h
-read_cut no_more given h e = e
-read_cut (value_beside {words} {choices} setting value number is rest) given h e =
-    read_part (spelled setting) (value ∷ words) (Names setting) given refl
-    ∙ ap (λ (o : Option ℕ). option_and_then (go_on words) (option_and_then (λ (n : ℕ). taken given (Gives setting n)) o)) is
-    ∙ read_given words choices (with_number given setting number) h e (λ g. read_cut rest g h)
-read_cut (value_inside {words} {choices} setting value number is rest) given h e =
-    read_part (spelled setting ++ (codes "=" ++ value)) words (Gives setting number) given (value, refl, is)
-    ∙ read_given words choices (with_number given setting number) h e (λ g. read_cut rest g h)
-read_cut (flag {words} {choices} rest) given h e =
-    read_part (codes "--journal") words Journal given refl
-    ∙ read_given words choices (with_flag given) h e (λ g. read_cut rest g h)
+-- the words of a command, from its first on
+pub read_options : {items : List Item} {words : List Text} {last : List Use} → Reads items [] none words last → Cut items words [] last
+read_options reads = read_cuts reads

@@ -1,5 +1,14 @@
-pub mod Parts
-pub mod Once
+pub mod Lookups
+pub mod Rows
+pub mod Turns
+pub mod Shapes
+pub mod Uses
+pub mod Sound
 pub mod Cuts
+pub mod Finds
+pub mod Defaults
+pub mod Complete
+pub mod Parses
 pub mod Meanings
-pub mod Ranges
+pub mod Readings
+pub mod Sizes

@@ -5,3 +5,5 @@ pub mod Causes
 pub mod Cuts
 pub mod Replays
 pub mod WrittenJournals
+pub mod Runs
+pub mod Completeness

@@ -164,6 +164,7 @@ module _ (one_program : (text : List ℕ) (p other : Program) → Accepted text 
   run_answer text lim p book ran accepted (Due.refused r is has) = absurd (not_refused text p r accepted is)
   run_answer text lim p book ran accepted (Due.accepted other command is has) = absurd (cc (command))
   run_answer text lim p book ran accepted (Due.replayed other q command is answers) = absurd (cc (command))
+  run_answer text lim p book ran accepted (Due.loaded n q outcome plain command is has answers) = absurd (cc (command))
   run_answer text lim p book ran accepted (Due.ran used asked q outcome plain command is has answers) =
       let limits : lim ≡ used = cc (command) in
       let flag : true ≡ asked = cc (command) in
@@ -207,6 +208,7 @@ module _ (one_program : (text : List ℕ) (p other : Program) → Accepted text 
   due_replay given p other book answer text journal program rest accepted (Due.refused r is has) = absurd (not_refused text p r accepted (subst (λ (t : List ℕ). IsRefusal t r) program is))
   due_replay given p other book answer text journal program rest accepted (Due.accepted q command is has) = absurd (cc (command))
   due_replay given p other book answer text journal program rest accepted (Due.ran used asked q outcome plain command is has answers) = absurd (cc (command))
+  due_replay given p other book answer text journal program rest accepted (Due.loaded n q outcome plain command is has answers) = absurd (cc (command))
   due_replay given p other book answer text journal program rest accepted (Due.replayed used q command is answers) =
       let limits : other ≡ used = cc (command) in
       let same : q ≡ p = one_program text q p (subst (λ (t : List ℕ). Accepted t q) program is) accepted in

@@ -1,11 +1,12 @@
 -- What the program answers, and why.
-use Rattle.std.specs.Prelude.{unwrap_or, ◌≡◌, ◌+◌, length, ℕ, ℤ, Bool, List, [], ◌++◌, Option, None, Some, IsSome, Ok, Err, if◌then◌else◌}
+use Rattle.std.specs.Prelude.{unwrap_or, ◌≡◌, ◌+◌, length, ℕ, ℤ, Bool, List, [], ◌++◌, Option, None, Some, Ok, Err, if◌then◌else◌}
 use Rattle.twe_io.specs.declared.whole.ReadFail.TheVariants as reads
 use Rattle.wait_graph.specs.declared.stuck.Edge.{Edge}
 use Rattle.seg_journal.specs.declared.journal.Entry.{Entry}
 use Rattle.seg_journal.specs.declared.moves.Move.{Move}
 use Rattle.seg_journal.specs.Lines.{IsFirstBadLine}
 use Rattle.seg_journal.specs.Spelling.{Spells, head_lines}
+use Rattle.twe_limits.specs.Language.{default_fuel, default_tasks}
 use Rattle.twe_limits.specs.Limits.{Bounds}
 use Rattle.twe_program.specs.Program.{Program}
 use Rattle.twe_frontend.specs.declared.refusal.Refusal.{Refusal}
@@ -23,11 +24,13 @@ use Rattle.twe_cli.specs.declared.answer.Answer.{Answer}
 use Rattle.twe_cli.specs.declared.book.Book.{Book}
 use Rattle.twe_cli.specs.declared.status.Status.{Status}
 use Rattle.twe_cli.specs.declared.status.Status.TheVariants.{Done, Refused, Usage, Fault, Stuck, ReadFault, WriteFault, Memory, TooLong, BadJournal, Unfinished}
+use Rattle.load_text.specs.Text.{load_text_of}
 use Rattle.command_line.specs.declared.command.Command.{Command}
-use Rattle.command_line.specs.declared.command.Command.TheVariants.{Check, Run, Replay}
+use Rattle.command_line.specs.declared.command.Command.TheVariants.{Check, Run, Replay, Load}
+use Rattle.twe_cli.specs.Codes.{is_done}
 use Rattle.twe_cli.specs.Ends.{SourceTells, SinkTells, WasRead, Took, BrokeOff}
 use Rattle.twe_cli.specs.Theorem.{HasProgram, HasReplay, HasRun, IsNew, HasRefusal}
-use Rattle.twe_cli.specs.Input.{program_text, journal_text}
+use Rattle.twe_cli.specs.Input.{HasInput, program_text, journal_text}
 
 -- an answer on err alone: this line, and nothing on out
 abbrev pub on_err : Status → List ℕ → Answer
@@ -44,6 +47,15 @@ after_prints status prints line = record { status = status; out = prints_text pr
 -- the answer with the journal after its lines on out, if the journal is asked for
 abbrev pub with_journal : Bool → Bounds → List Entry → Answer → Answer
 with_journal asked lim journal answer = record answer { out = if asked then answer.out ++ texts.journal_part lim journal else answer.out }
+
+-- The answer to the run of a load that has come to this state. If all tasks are done, it has the result of the load, and else
+-- nothing on out.
+abbrev pub for_load : ℕ → State → Answer → Answer
+for_load n last answer = if is_done answer.status then on_out (texts.load_result_text n last) else on_err answer.status answer.err
+
+-- the limits of a run, if no option gives them
+abbrev pub default_limits : Bounds
+default_limits = record { fuel = default_fuel; tasks = default_tasks }
 
 -- The answer to a journal by its outcome. `last` is the state that the journal leads to, and `prints` are the numbers that
 -- were printed up to the first fault.
@@ -84,6 +96,11 @@ pub data Due (command : Command) (text : List ℕ) (book : Book) : Answer → Ty
       → HasRun p lim outcome book
       → AnswersRun p (state_after p lim book.journal) (state_after p lim (counted book.journal)).prints outcome answer
       → Due command text book (with_journal asked lim book.journal answer)
+  -- the text of the load generator is accepted, and the book has a run of its program
+  loaded : (n : ℕ) (p : Program) (outcome : Outcome) (answer : Answer) → command ≡ Load n → Accepted (program_text command text) p
+      → HasRun p default_limits outcome book
+      → AnswersRun p (state_after p default_limits book.journal) (state_after p default_limits (counted book.journal)).prints outcome answer
+      → Due command text book (for_load n (state_after p default_limits book.journal) answer)
   -- the text is accepted, and its journal text is replayed
   replayed : (lim : Bounds) (p : Program) {answer : Answer} → command ≡ Replay lim → Accepted (program_text command text) p
       → AnswersReplay p lim (journal_text command text) book answer → Due command text book answer
@@ -93,14 +110,17 @@ pub data Cause {S : Type 0} (tells : SourceTells S) (command : Option Command) (
   -- the words are no command, and nothing is read
   usage : command ≡ None → after ≡ before → IsNew book → Cause tells command before after book (on_err Usage usage_text)
   -- a read failed
-  read_fault : IsSome command → WasRead tells before (Err reads.ReadFault) after → IsNew book
+  read_fault : HasInput command → WasRead tells before (Err reads.ReadFault) after → IsNew book
       → Cause tells command before after book (on_err ReadFault read_fault_text)
   -- the source has more bytes than a text may have
-  too_long : IsSome command → WasRead tells before (Err reads.TooLong) after → IsNew book
+  too_long : HasInput command → WasRead tells before (Err reads.TooLong) after → IsNew book
       → Cause tells command before after book (on_err TooLong too_long_text)
   -- the source gave a text, and this is the answer to it
-  text : {answer : Answer} (given : Command) (bytes : List ℕ) → command ≡ Some given → WasRead tells before (Ok bytes) after
+  text : {answer : Answer} (given : Command) (bytes : List ℕ) → command ≡ Some given → HasInput command → WasRead tells before (Ok bytes) after
       → Due given bytes book answer → Cause tells command before after book answer
+  -- the command has no input, and nothing is read; its program text is never refused
+  no_input : {answer : Answer} (n : ℕ) → command ≡ Some (Load n) → after ≡ before → ((r : Refusal) → ¬ IsRefusal (load_text_of n) r)
+      → Due (Load n) [] book answer → Cause tells command before after book answer
 
 -- How an answer is written, out before err: all of it, or up to a write that fails, after which nothing is written.
 pub data Tells {O E : Type 0} (out : SinkTells O) (err : SinkTells E) (out_from out_to : O) (err_from err_to : E) (answer : Answer) : Status → Type 0 where

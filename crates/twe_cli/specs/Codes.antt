@@ -1,5 +1,5 @@
 -- The numbers of the statuses.
-use Rattle.std.specs.Prelude.{ℕ}
+use Rattle.std.specs.Prelude.{ℕ, Bool, true, false}
 use Rattle.twe_cli.specs.declared.status.Status.{Status}
 use Rattle.twe_cli.specs.declared.status.Status.TheVariants.{Done, Refused, Usage, Fault, Stuck, ReadFault, WriteFault, Memory, TooLong, BadJournal, Unfinished}
 
@@ -15,3 +15,8 @@ code_of Memory = 7
 code_of TooLong = 8
 code_of BadJournal = 9
 code_of Unfinished = 10
+
+-- all went well, and every task is done
+abbrev pub is_done : Status → Bool
+is_done Done = true
+is_done _ = false

@@ -1,10 +1,12 @@
 -- The input of a command. For `check` and `run` it is the text of a program. For `replay` it is the text of a program, and
--- after the first line that is exactly `%%` the text of a journal; without such a line the journal is empty.
-use Rattle.std.specs.Prelude.{◌≡◌, ◌==◌, true, false, ◌++◌, ◌||◌, ℕ, Bool, List, [], ◌∷◌, codes, bytes_eq, if◌then◌else◌}
+-- after the first line that is exactly `%%` the text of a journal; without such a line the journal is empty. `load` has no
+-- input: its program text is that of the load generator.
+use Rattle.std.specs.Prelude.{Option, None, Some, ◌≡◌, ◌==◌, true, false, ◌++◌, ◌||◌, ℕ, Bool, List, [], ◌∷◌, codes, bytes_eq, if◌then◌else◌}
 use Rattle.std.specs.List.{flat_map, list_any}
 use Rattle.seg_journal.specs.Lines.{lines_of}
 use Rattle.command_line.specs.declared.command.Command.{Command}
-use Rattle.command_line.specs.declared.command.Command.TheVariants.{Check, Run, Replay}
+use Rattle.command_line.specs.declared.command.Command.TheVariants.{Check, Run, Replay, Load}
+use Rattle.load_text.specs.Text.{load_text_of}
 
 -- the line is exactly `%%`; on the last line the byte 10 may be missing
 abbrev pub is_mark : List ℕ → Bool
@@ -35,12 +37,22 @@ abbrev pub program_text : Command → List ℕ → List ℕ
 program_text Check input = input
 program_text (Run lim asked) input = input
 program_text (Replay lim) input = program_part input
+program_text (Load n) input = load_text_of n
 
 -- the journal text of an input; `replay` alone has one
 abbrev pub journal_text : Command → List ℕ → List ℕ
 journal_text Check input = []
 journal_text (Run lim asked) input = []
 journal_text (Replay lim) input = journal_part input
+journal_text (Load n) input = []
+
+-- there is a command, and it has an input
+abbrev pub HasInput : Option Command → Type 0
+HasInput None = ⊥
+HasInput (Some Check) = Unit {0}
+HasInput (Some (Run lim asked)) = Unit {0}
+HasInput (Some (Replay lim)) = Unit {0}
+HasInput (Some (Load n)) = ⊥
 
 -- the text is empty, or its last byte is the end of a line
 abbrev pub ends_line : List ℕ → Bool

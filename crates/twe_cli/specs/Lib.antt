@@ -4,3 +4,4 @@ pub mod Ends
 pub mod Input
 pub mod Theorem
 pub mod inner
+pub mod Complete

@@ -1,14 +1,15 @@
 //! The input of a command: the text of a program, and for `replay` the text of a journal.
-ghost use Rattle.std.specs.Prelude.{◌≡◌, ◌≤◌, length, take, drop};
+ghost use Rattle.std.specs.Prelude.{◌≡◌, ◌≤◌, length, take, drop, Some};
 ghost use Rattle.twe_limits.specs.Language.{max_text_bytes};
-ghost use Rattle.twe_cli.specs.Input.{is_mark, program_part, journal_part, program_text, journal_text};
+ghost use Rattle.twe_cli.specs.Input.{HasInput, is_mark, program_part, journal_part, program_text, journal_text};
 ghost use Rattle.twe_cli.specs.inner.FirstLine.{line_length};
 
 use command_line::Command;
 
 /// The program text of an input, and its journal text, which only `replay` has.
 pub(crate) fn texts_of<'a>(cmd: &Command, input: &'a [u8]) -> (&'a [u8], &'a [u8])
-    requires { length input.now ≤ max_text_bytes }
+    requires short { length input.now ≤ max_text_bytes }
+    requires input { HasInput (Some cmd.now) }
     ensures program { result.0.now ≡ program_text cmd.now input.now }
     ensures journal { result.1.now ≡ journal_text cmd.now input.now }
     ensures short { length result.0.now ≤ length input.now }
@@ -16,6 +17,8 @@ pub(crate) fn texts_of<'a>(cmd: &Command, input: &'a [u8]) -> (&'a [u8], &'a [u8
     match *cmd {
         Command::Check | Command::Run { .. } => (input, b""),
         Command::Replay { .. } => cut_input(input),
+        // A load has no input.
+        Command::Load { .. } => (b"", b""),
     }
 }
 

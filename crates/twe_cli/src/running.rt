@@ -1,12 +1,12 @@
 //! The run of an accepted program, and the answer to it.
 ghost use Rattle.std.specs.Prelude.{◌≡◌, IfOk};
 ghost use Rattle.soundness_laws.specs.KeepsEffects.{KeepsEffects};
-ghost use Rattle.twe_machine.specs.Runs.{IsReachable, IsOutcome};
+ghost use Rattle.twe_machine.specs.Runs.{IsReachable, IsOutcome, state_after};
 ghost use Rattle.twe_report.specs.Texts as texts;
-ghost use Rattle.twe_cli.specs.Answers.{AnswersRun, after_prints, on_err, on_out, with_journal};
+ghost use Rattle.twe_cli.specs.Answers.{AnswersRun, after_prints, for_load, on_err, on_out, with_journal};
 ghost use Rattle.twe_cli.specs.Theorem.{IsNew};
 ghost use Rattle.twe_cli.specs.declared.status.Status.TheVariants.{Unfinished};
-ghost use Rattle.twe_cli.specs.inner.Given.{IsAnswerOfRun};
+ghost use Rattle.twe_cli.specs.inner.Given.{IsAnswerOfLoad, IsAnswerOfRun, IsAnswerWithJournal};
 ghost use Rattle.twe_machine.specs.declared.ending.Outcome.TheVariants as outcomes;
 
 use crate::answer::Answer;
@@ -20,7 +20,10 @@ use twe_io::{Bytes, Memory};
 use twe_limits::Limits;
 use twe_machine::{Outcome, State, outcome};
 use twe_program::Prog;
-use twe_report::{fault_text, journal_part, prints_text, result_text, stuck_text, unfinished_text};
+use twe_report::{
+    fault_text, journal_part, load_result_text, prints_text, result_text, stuck_text,
+    unfinished_text,
+};
 
 /// Runs a program and returns the answer to its run, with the journal if `journal` is true. Afterwards the book has the
 /// program, the journal and the outcome.
@@ -33,17 +36,51 @@ pub(crate) fn run_program(
 ) -> Result<Answer, Memory>
     requires new { IsNew book.old }
     requires keeps { KeepsEffects p }
-    ensures { IfOk result (IsAnswerOfRun p lim journal book.new) }
+    ensures { IfOk result (IsAnswerWithJournal p lim journal book.new) }
+{
+    let (plain, _) = run(alloc, lim, p, book)?;
+    add_journal(alloc, plain, journal, lim, &book.journal)
+}
+
+/// Runs the program of a load of size `n` under the default limits, and returns the answer to its run. Afterwards the book has
+/// the program, the journal and the outcome.
+pub(crate) fn run_load(alloc: Global, n: u32, p: Prog, book: &mut Book) -> Result<Answer, Memory>
+    requires new { IsNew book.old }
+    requires keeps { KeepsEffects p }
+    ensures { IfOk result (IsAnswerOfLoad p n book.new) }
+{
+    let (plain, st) = run(alloc, Limits::default(), p, book)?;
+    answer_load(alloc, n, &st, plain)
+}
+
+/// Runs a program, and returns the answer to its run and the last state. Afterwards the book has the program, the journal and
+/// the outcome.
+fn run(alloc: Global, lim: Limits, p: Prog, book: &mut Book) -> Result<(Answer, State), Memory>
+    requires new { IsNew book.old }
+    requires keeps { KeepsEffects p }
+    ensures answer { IfOk result (λ r. IsAnswerOfRun p lim book.new r.0) }
+    ensures last { IfOk result (λ r. r.1 ≡ state_after p lim book.new.journal) }
 {
     accepted_runs_are_isolated();
     let (entries, st) = run_lowest(alloc, &p, lim)?;
     let ended = outcome(&p, &st);
-    let plain = answer_run(alloc, &p, &st, st.prints.as_slice(), ended)?;
-    let answer = add_journal(alloc, plain, journal, lim, &entries)?;
+    let answer = answer_run(alloc, &p, &st, st.prints.as_slice(), ended)?;
     book.outcome = Some(ended);
     book.journal = entries;
     book.prog = Some(p);
-    Ok(answer)
+    Ok((answer, st))
+}
+
+/// The answer to the run of a load that has come to this state.
+#[tactic(auto, using(crate::proofs::Runs::done_load, crate::proofs::Runs::other_load))]
+fn answer_load(alloc: Global, n: u32, st: &State, plain: Answer) -> Result<Answer, Memory>
+    ensures { IfOk result (λ answer. answer ≡ for_load n st.now plain) }
+{
+    if plain.status.is_done() {
+        return Ok(Answer::on_out(alloc, load_result_text(alloc, n, st)?));
+    }
+    let Answer { status, err, .. } = plain;
+    Ok(Answer::on_err(alloc, status, err))
 }
 
 /// The answer to a run that has come to this state, by its outcome: its result; or, after a fault or if it is stuck, the

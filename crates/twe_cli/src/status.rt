@@ -1,6 +1,6 @@
 //! The statuses that the program ends with.
 ghost use Rattle.std.specs.Prelude.{◌≡◌};
-ghost use Rattle.twe_cli.specs.Codes.{code_of};
+ghost use Rattle.twe_cli.specs.Codes.{code_of, is_done};
 
 /// What a call of the program comes to.
 #[derive(Clone, Copy, Debug, PartialEq, Eq)]
@@ -30,6 +30,13 @@ pub enum Status {
 }
 
 impl Status {
+    /// Whether all went well, and every task is done.
+    pub(crate) fn is_done(self) -> bool
+        ensures { result ≡ is_done self }
+    {
+        matches!(self, Status::Done)
+    }
+
     /// The number that the process ends with.
     pub fn code(self) -> u8
         ensures { result ≡ code_of self }

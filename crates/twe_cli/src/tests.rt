@@ -1,14 +1,11 @@
-//! What no run of the program shows: ends that fail, and moves that are not legal. The rest is in `tests/cases/`.
+//! What no run of the program shows: ends that fail. The rest is in `tests/cases/`.
 use crate::book::Book;
 use crate::top::twe;
-use seg_journal::{Kind, Limits, Move};
 use std::alloc::Global;
 use std::test::Fail;
-use twe_frontend::read_program;
 use twe_io::{
     Bytes, Calls, MemSink, MemSource, Memory, PlainSink, PlainSource, Sink, Source, Word,
 };
-use twe_machine::{Outcome, Why, may, outcome, start};
 
 const INCREMENT: &[u8] = b"region A;\nint x in A = 41;\ntask void main() writes A { x = x + 1; }\n";
 
@@ -65,28 +62,6 @@ fn a_sink_that_fails_at_any_call_keeps_what_it_took(rt: HostRuntime) -> Result<(
         assert_eq!(rt; status.code(), if at < 16 { 6 } else { 0 });
         assert_eq!(rt; out.bytes(), &RESULT[..(at - 1) as usize]);
         assert_eq!(rt; err.bytes().len(), 0);
-    }
-    Ok(())
-}
-
-/// Whether a move is legal when a run starts, and how the run stands then.
-fn at_the_start(alloc: Global, mv: Move) -> Result<(Result<(), Why>, Outcome), Fail> {
-    let p = read_program(alloc, INCREMENT)?;
-    let st = start(alloc, &p, Limits::default())?;
-    Ok((may(&p, &st, mv), outcome(&p, &st)))
-}
-
-#[test]
-fn main_has_to_be_admitted_before_it_runs(rt: HostRuntime) -> Result<(), Fail> {
-    for (kind, task, wanted) in [
-        (Kind::Admit, 0, Ok(())),
-        (Kind::Run, 0, Err(Why::NotEnabled)),
-        (Kind::Admit, 1, Err(Why::NoTask)),
-        (Kind::Run, 1, Err(Why::NoTask)),
-    ] {
-        let (answer, stands) = at_the_start(rt.alloc(), Move { kind, task })?;
-        assert_eq!(rt; answer, wanted);
-        assert_eq!(rt; stands, Outcome::Unfinished);
     }
     Ok(())
 }

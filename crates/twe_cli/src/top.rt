@@ -1,10 +1,11 @@
 //! The top call: the whole program, apart from where its bytes come from and go to.
 ghost use Rattle.std.specs.Prelude.{◌≡◌, Option, IfOk};
 ghost use Rattle.twe_cli.specs.Answers.{Answers, on_err};
+ghost use Rattle.twe_cli.specs.Complete.{Completes};
 ghost use Rattle.twe_cli.specs.Ends.{source, sink};
 ghost use Rattle.twe_report.specs.Texts as texts;
 ghost use Rattle.twe_cli.specs.Theorem.{IsNew};
-ghost use Rattle.command_line.specs.Words.{IsMeaning};
+ghost use Rattle.command_line.specs.Words.{IsMeaning, Means};
 ghost use Rattle.command_line.specs.declared.command.Command.{Command};
 ghost use Rattle.twe_cli.specs.declared.status.Status.TheVariants.{Usage};
 
@@ -12,7 +13,7 @@ use crate::answer::{Answer, tell};
 use crate::book::Book;
 use crate::single::twe_single;
 use crate::status::Status;
-use command_line::read_words;
+use command_line::{WordsFail, every_list_is_decided, one_command, read_words};
 use std::alloc::Global;
 use twe_io::{Memory, Sink, Source, Word};
 use twe_report::usage_text;
@@ -20,7 +21,8 @@ use twe_report::usage_text;
 /// Carries out the command that the words mean.
 ///
 /// `Answers` says what each status means and what is written with it. If the words mean no command, the answer is the usage
-/// line, and nothing is read from the source. After `Memory` nothing was written.
+/// line, and nothing is read from the source. After `Memory` nothing was written. `Completes` says which statuses a command can
+/// have if nothing fails outside.
 pub fn twe<S: Source, O: Sink, E: Sink>(
     alloc: Global,
     words: &[Word],
@@ -30,13 +32,19 @@ pub fn twe<S: Source, O: Sink, E: Sink>(
     book: &mut Book,
 ) -> Status
     requires { IsNew book.old }
-    ensures { (command : Option Command) × IsMeaning words.now command
+    ensures answers { (command : Option Command) × IsMeaning words.now command
         × Answers (source S.left S.faults S.read_gives) (sink O.written O.faults O.write_gives) (sink E.written E.faults E.write_gives)
         command src.old src.new out.old out.new err.old err.new book.new result }
+    ensures complete { (command : Command) → Means words.now command
+        → Completes (source S.left S.faults S.read_gives) (sink O.written O.faults O.write_gives) (sink E.written E.faults E.write_gives)
+        command src.old src.new out.old out.new err.old err.new result }
 {
-    match read_words(words) {
-        Some(cmd) => twe_single(alloc, &cmd, src, out, err, book),
-        None => tell(&usage(alloc), out, err),
+    every_list_is_decided();
+    one_command();
+    match read_words(alloc, words) {
+        Ok(cmd) => twe_single(alloc, &cmd, src, out, err, book),
+        Err(WordsFail::Usage) => tell(&usage(alloc), out, err),
+        Err(WordsFail::OutOfMemory(_)) => Status::Memory,
     }
 }
 

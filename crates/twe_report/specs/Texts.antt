@@ -83,6 +83,14 @@ result_text p st =
     ++ (flat_map (cell_line st.cells) p.cells
     ++ line (codes "tasks " ++ decimal (length st.tasks)))
 
+-- the result of the load generator's program for n cells: n, the number of tasks made, and the value of the cell `s`, which is
+-- the first that the program declares
+abbrev pub load_result_text : ℕ → State → List ℕ
+load_result_text n st =
+    line (codes "load " ++ decimal n)
+    ++ (line (codes "tasks " ++ decimal (length st.tasks))
+    ++ line (codes "s = " ++ value_text st.cells 0))
+
 abbrev pub text_rule : SRule → List ℕ
 text_rule S1 = codes "S1"
 text_rule S2 = codes "S2"

@@ -4,6 +4,7 @@
 
 mod journal;
 mod lines;
+mod load;
 mod result;
 mod stuck;
 mod unfinished;
@@ -13,6 +14,7 @@ pub use lines::{
     accepted_text, fault_text, not_a_move_text, not_legal_text, read_fault_text, refusal_text,
     too_long_text, usage_text,
 };
+pub use load::load_result_text;
 pub use result::{prints_text, result_text};
 pub use stuck::stuck_text;
 pub use unfinished::unfinished_text;

@@ -87,7 +87,7 @@ fn push_values(text: &mut Bytes, values: &[i32], cell: u64, dims: Dims) -> Resul
 }
 
 /// Appends the value of the cell of this number, and nothing if no cell has the number.
-fn push_value(text: &mut Bytes, values: &[i32], cell: u64) -> Result<(), Memory>
+pub(crate) fn push_value(text: &mut Bytes, values: &[i32], cell: u64) -> Result<(), Memory>
     ensures { OnOk result (text.new ≡ text.old ++ value_text values.now cell) }
 {
     if let Some(value) = values.get(cell as usize) {

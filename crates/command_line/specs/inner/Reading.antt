@@ -1,97 +1,129 @@
--- The reading of the command line, word by word.
-use Rattle.std.specs.Prelude.{◌||◌, ℕ, true, false, List, [], ◌∷◌, length, take, drop, Option, None, Some, codes, bytes_eq, unwrap_or, is_some, if◌then◌else◌}
-use Rattle.std.specs.Option.{option_and_then, option_map, option_or}
+-- The reading of the command line with `clap`: what each command asks of it, and the command that its matches make.
+use Rattle.std.specs.Prelude.{◌≡◌, ℕ, Bool, true, false, List, [], ◌∷◌, fold, Option, None, Some, Result, Ok, Err, codes, bytes_eq, unwrap_or, if◌then◌else◌}
+use Rattle.std.specs.Option.{option_and_then, option_map, option_map_or}
+use Rattle.std.specs.List.{list_any}
+use Rattle.clap.specs.Walk.{Row, Rule, Text, first_of, rows_of}
+use Rattle.clap.specs.Simple.{App, matches_of, new_app, new_rule, on_top, with_rule}
+use Rattle.clap.specs.Kinds.{Kinds}
+use Rattle.clap.specs.Faults.{fault_of}
+use Rattle.clap.specs.Matches.{found_of}
+use Rattle.clap.specs.declared.builder.action.ArgAction.{ArgAction}
+use Rattle.clap.specs.declared.builder.action.ArgAction.TheVariants.{SetTrue}
+use Rattle.clap.specs.declared.parser.matches.ArgMatches.{ArgMatches}
+use Rattle.twe_limits.specs.Language.{default_fuel, default_tasks}
 use Rattle.twe_limits.specs.Limits.{Bounds}
 use Rattle.command_line.specs.declared.command.Command.{Command}
-use Rattle.command_line.specs.declared.command.Command.TheVariants.{Check, Run, Replay}
-use Rattle.command_line.specs.declared.options.Setting.{Setting}
-use Rattle.command_line.specs.declared.options.Setting.TheVariants.{Workers, Fuel, Tasks}
-use Rattle.command_line.specs.declared.options.Part.{Part}
-use Rattle.command_line.specs.declared.options.Part.TheVariants.{Names, Gives, Journal}
-use Rattle.command_line.specs.declared.options.Given.{Given}
-use Rattle.command_line.specs.declared.options.Sofar.{Sofar}
-use Rattle.command_line.specs.Options.{spelled, number_for}
-use Rattle.twe_limits.specs.Language.{default_fuel, default_tasks}
+use Rattle.command_line.specs.declared.command.Command.TheVariants.{Check, Run, Replay, Load}
+use Rattle.command_line.specs.declared.command.WordsFail.{WordsFail}
+use Rattle.command_line.specs.declared.command.WordsFail.TheVariants.{Usage, OutOfMemory}
+use Rattle.command_line.specs.declared.setting.Setting.{Setting}
+use Rattle.command_line.specs.declared.setting.Setting.TheVariants.{Workers, Fuel, Tasks}
+use Rattle.command_line.specs.Options.{Item, of, flag, size, number_for, size_in}
+use Rattle.command_line.specs.Words.{run_items, replay_items, load_items}
 
-abbrev pub nothing : Given
-nothing = record { workers = None; fuel = None; tasks = None; journal = false }
+-- the name of an item's argument
+abbrev pub id : Item → Text
+id (of Workers) = codes "workers"
+id (of Fuel) = codes "fuel"
+id (of Tasks) = codes "tasks"
+id flag = codes "journal"
+id size = codes "N"
 
--- the given values and this number, if the setting had no number before
-abbrev pub with_number : Given → Setting → ℕ → Option Given
-with_number given Workers number = if is_some given.workers then None else Some (record given { workers = Some number })
-with_number given Fuel number = if is_some given.fuel then None else Some (record given { fuel = Some number })
-with_number given Tasks number = if is_some given.tasks then None else Some (record given { tasks = Some number })
+abbrev pub long : Item → Option Text
+long (of setting) = Some (id (of setting))
+long flag = Some (id flag)
+long size = None
 
--- the given values and the flag, if the flag was not given before
-abbrev pub with_flag : Given → Option Given
-with_flag given = if given.journal then None else Some (record given { journal = true })
+abbrev pub action : Item → Option ArgAction
+action flag = Some SetTrue
+action (of setting) = None
+action size = None
 
--- the rest of a text after this beginning, if the text begins so
-abbrev pub after : List ℕ → List ℕ → Option (List ℕ)
-after front word = if bytes_eq (take (length front) word) front then Some (drop (length front) word) else None
+abbrev pub is_required : Item → Bool
+is_required size = true
+is_required (of setting) = false
+is_required flag = false
 
--- the part that a word is with this setting: its name, or its name, `=` and its number
-abbrev pub rest_part : Setting → List ℕ → Option Part
-rest_part setting [] = Some (Names setting)
-rest_part setting (byte ∷ rest) = option_map (λ number. Gives setting number) (option_and_then (number_for setting) (after (codes "=") (byte ∷ rest)))
+-- the argument of an item
+abbrev pub argument : Item → Rule
+argument item = record (new_rule (id item)) { long = long item; action = action item; required = is_required item }
 
-abbrev pub setting_part : Setting → List ℕ → Option Part
-setting_part setting word = option_and_then (rest_part setting) (after (spelled setting) word)
+-- the command of `clap` with this name, which takes these items and has no help
+abbrev pub app_for : Text → List Item → App
+app_for name items = fold (λ app item. with_rule app (argument item)) (on_top (λ shape. record shape { disable_help_flag = true }) (new_app name)) items
 
--- the part that a word is, if an option may begin with it
-abbrev pub part_of : List ℕ → Option Part
-part_of word =
-    if bytes_eq word (codes "--journal") then Some Journal
-    else option_or (option_or (setting_part Workers word) (setting_part Fuel word)) (setting_part Tasks word)
+-- the parse of the words came to this
+abbrev pub HasRows : App → List Text → Result ArgMatches WordsFail → Type 0
+HasRows app words (Ok m) = (fault_of app words ≡ []) × (rows_of (found_of m) ≡ matches_of app words)
+HasRows app words (Err Usage) = fault_of app words ≡ [] → ⊥
+HasRows app words (Err (OutOfMemory memory)) = Unit {0}
 
--- an option is whole, and the next word begins another
-abbrev pub settled : Option Given → Option Sofar
-settled given = option_map (λ g. record { given = g; wanted = None }) given
+-- this value was read, or a usage error if there is none
+abbrev pub IsRead : {T : Type 0} → Option T → Result T WordsFail → Type 0
+IsRead found (Ok value) = found ≡ Some value
+IsRead found (Err Usage) = found ≡ None
+IsRead found (Err (OutOfMemory memory)) = Unit {0}
 
--- the state after one more part
-abbrev pub taken : Given → Part → Option Sofar
-taken given (Names setting) = Some (record { given = given; wanted = Some setting })
-taken given (Gives setting number) = settled (with_number given setting number)
-taken given Journal = settled (with_flag given)
+-- the number that a text gives, if there is a text
+abbrev pub number_in : (Text → Option ℕ) → Option Text → Option (Option ℕ)
+number_in read None = Some None
+number_in read (Some text) = option_map (λ number. Some number) (read text)
 
--- the state after one more word
-abbrev pub next : Given → Option Setting → List ℕ → Option Sofar
-next given (Some setting) word = option_and_then (λ number. taken given (Gives setting number)) (number_for setting word)
-next given None word = option_and_then (taken given) (part_of word)
+-- the number that a setting is given
+abbrev pub number_given : Setting → List Row → Option (Option ℕ)
+number_given setting rows = number_in (number_for setting) (first_of (id (of setting)) rows)
 
--- the values that all the words give
-abbrev pub read : Given → Option Setting → List (List ℕ) → Option Given
-read given None [] = Some given
-read given (Some setting) [] = None
-read given wanted (word ∷ words) = option_and_then (λ (sofar : Sofar). read sofar.given sofar.wanted words) (next given wanted word)
+-- whether the flag is given
+abbrev pub flag_given : List Row → Bool
+flag_given rows = option_map_or (λ text. bytes_eq text (codes "true")) (first_of (id flag) rows) false
 
--- the limits that the values give
-abbrev pub limits_given : Given → Bounds
-limits_given given = record { fuel = unwrap_or given.fuel default_fuel; tasks = unwrap_or given.tasks default_tasks }
+-- the size that is given
+abbrev pub size_given : List Row → Option ℕ
+size_given rows = option_and_then size_in (first_of (id size) rows)
 
--- the command `run` with these values
-abbrev pub run_as : Given → Command
-run_as given = Run (limits_given given) given.journal
+-- the limits that the numbers give
+abbrev pub limits_given : Option ℕ → Option ℕ → Bounds
+limits_given fuel tasks = record { fuel = unwrap_or fuel default_fuel; tasks = unwrap_or tasks default_tasks }
 
-abbrev pub run_with : Option Given → Option Command
-run_with given = option_map run_as given
+-- the command that the matches make
+abbrev pub check_from : List Row → Option Command
+check_from rows = Some Check
 
--- the command `replay` with these values, if they are limits alone
-abbrev pub replay_as : Given → Option Command
-replay_as given = if is_some given.workers || given.journal then None else Some (Replay (limits_given given))
+abbrev pub run_from : List Row → Option Command
+run_from rows = option_and_then (λ workers. option_and_then (λ fuel. option_and_then (λ tasks. Some (Run (limits_given fuel tasks) (flag_given rows)))
+    (number_given Tasks rows)) (number_given Fuel rows)) (number_given Workers rows)
 
-abbrev pub replay_with : Option Given → Option Command
-replay_with given = option_and_then replay_as given
+abbrev pub replay_from : List Row → Option Command
+replay_from rows = option_and_then (λ fuel. option_and_then (λ tasks. Some (Replay (limits_given fuel tasks)))
+    (number_given Tasks rows)) (number_given Fuel rows)
 
--- `check` takes no other word
-abbrev pub check_with : List (List ℕ) → Option Command
-check_with [] = Some Check
-check_with (word ∷ words) = None
+abbrev pub load_from : List Row → Option Command
+load_from rows = option_and_then (λ workers. option_and_then (λ n. Some (Load n)) (size_given rows)) (number_given Workers rows)
 
-abbrev pub command_of : List (List ℕ) → Option Command
-command_of [] = None
-command_of (word ∷ words) =
-    if bytes_eq word (codes "check") then check_with words
-    else if bytes_eq word (codes "run") then run_with (read nothing None words)
-    else if bytes_eq word (codes "replay") then replay_with (read nothing None words)
+-- no step of the parse fails
+abbrev pub faultless : Kinds → Bool
+faultless [] = true
+faultless (kind ∷ kinds) = false
+
+-- the command that `clap` reads in the words: those of a command with this name, which takes these items
+abbrev pub parsed : Text → List Item → (List Row → Option Command) → List Text → Option Command
+parsed name items from words = if faultless (fault_of (app_for name items) words) then from (matches_of (app_for name items) words) else None
+
+-- a word is `--`
+abbrev pub has_end : List Text → Bool
+has_end words = list_any (λ word. bytes_eq word (codes "--")) words
+
+abbrev pub named : Text → List Text → Option Command
+named name words =
+    if bytes_eq name (codes "check") then parsed (codes "check") [] check_from words
+    else if bytes_eq name (codes "run") then parsed (codes "run") run_items run_from words
+    else if bytes_eq name (codes "replay") then parsed (codes "replay") replay_items replay_from words
+    else if bytes_eq name (codes "load") then parsed (codes "load") load_items load_from words
     else None
+
+abbrev pub first_named : List Text → Option Command
+first_named [] = None
+first_named (name ∷ words) = named name (name ∷ words)
+
+abbrev pub command_of : List Text → Option Command
+command_of words = if has_end words then None else first_named words

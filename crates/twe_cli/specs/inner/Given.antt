@@ -1,5 +1,5 @@
 -- The answers to a read, to an accepted program and to a run, apart from how they came about.
-use Rattle.std.specs.Prelude.{◌≡◌, ℕ, ℤ, Bool, List, Result, Ok, Err}
+use Rattle.std.specs.Prelude.{◌≡◌, ℕ, ℤ, Bool, List, Option, None, Some, Result, Ok, Err}
 use Rattle.twe_io.specs.declared.whole.ReadFail.{ReadFail}
 use Rattle.twe_io.specs.declared.whole.ReadFail.TheVariants as reads
 use Rattle.twe_limits.specs.Limits.{Bounds}
@@ -13,8 +13,9 @@ use Rattle.twe_report.specs.Texts.{read_fault_text, too_long_text}
 use Rattle.twe_cli.specs.declared.answer.Answer.{Answer}
 use Rattle.twe_cli.specs.declared.book.Book.{Book}
 use Rattle.command_line.specs.declared.command.Command.{Command}
+use Rattle.command_line.specs.declared.command.Command.TheVariants.{Check, Run, Replay, Load}
 use Rattle.twe_cli.specs.declared.status.Status.TheVariants.{ReadFault, TooLong}
-use Rattle.twe_cli.specs.Answers.{Due, AnswersReplay, AnswersRun, on_err, with_journal}
+use Rattle.twe_cli.specs.Answers.{Due, AnswersReplay, AnswersRun, default_limits, for_load, on_err, with_journal}
 use Rattle.twe_cli.specs.Theorem.{HasReplay, HasRun, IsNew}
 use Rattle.twe_cli.specs.Input.{program_text, journal_text}
 use Rattle.seg_journal.specs.declared.journal.Entry.{Entry}
@@ -34,6 +35,18 @@ abbrev pub IsDueFor : Command → Program → List ℕ → Book → Answer → T
 IsDueFor command p journal book answer =
     (input : List ℕ) → Accepted (program_text command input) p → journal ≡ journal_text command input → Due command input book answer
 
+-- the size of a load, if the command is one
+abbrev pub load_size : Command → Option ℕ
+load_size Check = None
+load_size (Run lim asked) = None
+load_size (Replay lim) = None
+load_size (Load n) = Some n
+
+-- the answer to each input that has this program text and this journal text
+abbrev pub IsDueForTexts : Command → List ℕ → List ℕ → Book → Answer → Type 0
+IsDueForTexts command program journal book answer =
+    (input : List ℕ) → program ≡ program_text command input → journal ≡ journal_text command input → Due command input book answer
+
 -- the answer to each journal text in which this was found
 abbrev pub AnswersFound : Program → Bounds → JournalText → Book → Answer → Type 0
 AnswersFound p lim found book answer = (text : List ℕ) → Spells text found.head found.moves → AnswersReplay p lim text book answer
@@ -49,9 +62,16 @@ abbrev pub ArePrintsAfter : Program → Bounds → List Move → List ℤ → Ty
 ArePrintsAfter p lim moves prints = (journal : List Entry) × (st : State) × IsReplay p lim moves journal st × (prints ≡ st.prints)
 
 -- the book has a run, and this is the answer to it
-pub record IsAnswerOfRun (p : Program) (lim : Bounds) (asked : Bool) (book : Book) (answer : Answer) : Type 0 where
+pub record IsAnswerOfRun (p : Program) (lim : Bounds) (book : Book) (answer : Answer) : Type 0 where
   pub outcome : Outcome
-  pub plain : Answer
   pub run : HasRun p lim outcome book
-  pub answers : AnswersRun p (state_after p lim book.journal) (state_after p lim (counted book.journal)).prints outcome plain
-  pub same : answer ≡ with_journal asked lim book.journal plain
+  pub answers : AnswersRun p (state_after p lim book.journal) (state_after p lim (counted book.journal)).prints outcome answer
+
+-- the book has a run, and this is the answer to it with the journal after its lines, if the journal is asked for
+abbrev pub IsAnswerWithJournal : Program → Bounds → Bool → Book → Answer → Type 0
+IsAnswerWithJournal p lim asked book answer = (plain : Answer) × IsAnswerOfRun p lim book plain × (answer ≡ with_journal asked lim book.journal plain)
+
+-- the book has a run of a load, and this is the answer to it
+abbrev pub IsAnswerOfLoad : Program → ℕ → Book → Answer → Type 0
+IsAnswerOfLoad p n book answer =
+    (plain : Answer) × IsAnswerOfRun p default_limits book plain × (answer ≡ for_load n (state_after p default_limits book.journal) plain)

@@ -1,43 +1,6 @@
-use Rattle.std.proofs.Common.{ℤ, List, refl, sym, subst}
-use Rattle.seg_journal.specs.declared.journal.Entry.{Entry}
-use Rattle.twe_program.specs.WellFormed.{IsWellFormed}
-use Rattle.twe_machine.specs.declared.state.State.{State}
-use Rattle.twe_machine.specs.Runs.{state_after}
-use Rattle.twe_cli.specs.Answers.{AnswersRun}
-use Rattle.twe_cli.proofs.Outcomes.{has_journal}
+use Rattle.twe_cli.proofs.Runs.{answer_with_journal}
 use Rattle.twe_cli.proofs.running.run_program.Goals as goal
 
-pub answer_run-requires : goal.answer_run-requires
-answer_run-requires c =
-    let ran = c.in_ok-entries.ensures in
-    record {
-      reachable = (c.args.lim, record { journal = c.in_ok-entries.entries; legal = ran.legal; same = ran.state });
-      outcome = c.outcome-ended.ensures;
-    }
-
--- the book has what the lowest-first run has
 pub returns : goal.returns
 returns c =
-    let p = c.args.p in
-    let lim = c.args.lim in
-    let journal = c.in_ok-entries.entries in
-    let st = c.in_ok-entries.st in
-    let ended = c.outcome-ended.result in
-    let plain = c.in_ok-plain.plain in
-    let ran = c.in_ok-entries.ensures in
-    let is = c.outcome-ended.ensures in
-    let isolation = c.accepted_runs_are_isolated.ensures in
-    let isolated = isolation.isolated p (subst IsWellFormed c.p.view_is c.p.invariant) c.requires.keeps lim journal ran.legal in
-    let covered = isolation.covered p (subst IsWellFormed c.p.view_is c.p.invariant) c.requires.keeps lim journal ran.legal in
-    record {
-      outcome = ended;
-      plain = plain;
-      run = record {
-        has = has_journal p lim journal st ended (record { legal = ran.legal; same = ran.state }) is ran.once ran.at_most_once isolated covered _ refl c.requires.new.refusal refl refl;
-        lowest = ran.lowest;
-        over = ran.ended ended is;
-      };
-      answers = subst (λ (counts : List Entry). AnswersRun p (state_after p lim journal) (state_after p lim counts).prints ended plain) (sym ran.counted)
-          (subst (λ (s : State). AnswersRun p s s.prints ended plain) ran.state (subst (λ (xs : List ℤ). AnswersRun p st xs ended plain) c.as_slice.ensures c.in_ok-plain.ensures));
-      same = c.in_ok-answer.ensures;
-    }
+    answer_with_journal c.args.p c.args.lim c.args.journal c.run.new.book c.in_ok-plain.plain c.add_journal.result c.in_ok-plain.ensures.answer c.add_journal.ensures

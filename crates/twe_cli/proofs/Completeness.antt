@@ -1,0 +1,153 @@
+-- If nothing fails outside, a command has one of its statuses.
+use Rattle.std.proofs.Common.{◌≡◌, ◌≢◌, ◌⊎◌, ◌≤◌, ◌<◌, ◌+◌, ◌++◌, IfSome, inl, inr, ℕ, ℤ, List, [], ◌∷◌, length, cond, Option, None, Some, Ok, Err, refl, sym, ap, ◌∙◌, subst, arith}
+use Rattle.std.proofs.lemmas.Option.{none-some, same_Some}
+use Rattle.std.proofs.lemmas.List.{length-append}
+use Rattle.twe_io.specs.Faults.{Rose}
+use Rattle.twe_io.specs.Told.{Gives}
+use Rattle.twe_io.specs.declared.whole.ReadFail.TheVariants as reads
+use Rattle.twe_limits.specs.Language.{max_text_bytes}
+use Rattle.twe_limits.specs.Limits.{Bounds}
+use Rattle.twe_program.specs.Program.{Program}
+use Rattle.twe_frontend.specs.declared.refusal.Refusal.{Refusal}
+use Rattle.twe_frontend.specs.Accepted.{Accepted, IsRefusal}
+use Rattle.twe_machine.specs.declared.ending.Outcome.{Outcome}
+use Rattle.twe_machine.specs.declared.ending.Outcome.TheVariants as outcomes
+use Rattle.twe_machine.specs.declared.state.State.{State}
+use Rattle.twe_machine.specs.Runs.{state_after}
+use Rattle.command_line.specs.declared.command.Command.{Command}
+use Rattle.command_line.specs.declared.command.Command.TheVariants.{Check, Run, Replay, Load}
+use Rattle.twe_cli.specs.declared.answer.Answer.{Answer}
+use Rattle.twe_cli.specs.declared.book.Book.{Book}
+use Rattle.twe_cli.specs.declared.status.Status.{Status}
+use Rattle.twe_cli.specs.declared.status.Status.TheVariants.{Done, Refused, Usage, Fault, Stuck, ReadFault, WriteFault, Memory, TooLong, BadJournal, Unfinished}
+use Rattle.twe_cli.specs.Answers.{Answers, AnswersReplay, AnswersRun, Cause, Due, Tells, default_limits, for_load, on_err, on_out}
+use Rattle.twe_cli.specs.Codes.{is_done}
+use Rattle.twe_report.specs.Texts as texts
+use Rattle.twe_cli.specs.Complete.{Completes, IsAmong, IsComplete, statuses_of}
+use Rattle.twe_cli.specs.Ends.{SourceTells, SinkTells}
+use Rattle.twe_cli.specs.Input.{HasInput, program_text}
+
+-- the statuses of runs
+abbrev RunStatuses : List Status
+RunStatuses = Done ∷ Fault ∷ Stuck ∷ Memory ∷ []
+
+ran_status : (p : Program) (st : State) (prints : List ℤ) (outcome : Outcome) (answer : Answer) → AnswersRun p st prints outcome answer → outcome ≢ outcomes.Unfinished
+    → IsAmong answer.status RunStatuses
+ran_status p st prints outcomes.AllDone answer is over = inl (ap (λ (a : Answer). a.status) is)
+ran_status p st prints (outcomes.Fault task kind place) answer is over = inr (inl (ap (λ (a : Answer). a.status) is))
+ran_status p st prints outcomes.Stuck answer is over = inr (inr (inl (ap (λ (a : Answer). a.status) is.3)))
+ran_status p st prints outcomes.Unfinished answer is over = absurd (over refl)
+
+replayed_status : (p : Program) (st : State) (prints : List ℤ) (outcome : Outcome) (answer : Answer) → AnswersRun p st prints outcome answer
+    → IsAmong answer.status (Done ∷ Fault ∷ Stuck ∷ Memory ∷ BadJournal ∷ Unfinished ∷ [])
+replayed_status p st prints outcomes.AllDone answer is = inl (ap (λ (a : Answer). a.status) is)
+replayed_status p st prints (outcomes.Fault task kind place) answer is = inr (inl (ap (λ (a : Answer). a.status) is))
+replayed_status p st prints outcomes.Stuck answer is = inr (inr (inl (ap (λ (a : Answer). a.status) is.3)))
+replayed_status p st prints outcomes.Unfinished answer is = inr (inr (inr (inr (inr (inl (ap (λ (a : Answer). a.status) is))))))
+
+-- a load keeps the status of its run
+load_keeps : (n : ℕ) (st : State) (status : Status) (answer : Answer) → (cond (is_done status) (on_out (texts.load_result_text n st)) (on_err status answer.err)).status ≡ status
+load_keeps n st Done answer = refl
+load_keeps n st Refused answer = refl
+load_keeps n st Usage answer = refl
+load_keeps n st Fault answer = refl
+load_keeps n st Stuck answer = refl
+load_keeps n st ReadFault answer = refl
+load_keeps n st WriteFault answer = refl
+load_keeps n st Memory answer = refl
+load_keeps n st TooLong answer = refl
+load_keeps n st BadJournal answer = refl
+load_keeps n st Unfinished answer = refl
+
+replay_status : (p : Program) (lim : Bounds) (text : List ℕ) (book : Book) (answer : Answer) → AnswersReplay p lim text book answer
+    → IsAmong answer.status (Done ∷ Fault ∷ Stuck ∷ Memory ∷ BadJournal ∷ Unfinished ∷ [])
+replay_status p lim text book answer (AnswersReplay.not_a_move n bad has) = inr (inr (inr (inr (inl refl))))
+replay_status p lim text book answer (AnswersReplay.not_legal head moves n why spells first has) = inr (inr (inr (inr (inl refl))))
+replay_status p lim text book answer (AnswersReplay.replayed head moves outcome spells has answers) = replayed_status p _ _ outcome answer answers
+
+-- the source had more bytes than it was allowed to give
+too_many : (before after : Option (List ℕ)) (input : List ℕ) (n : ℕ) → before ≡ Some input → IfSome before (λ _. Gives before after n) → length input < n → ⊥
+too_many None after input n left gives short = absurd (none-some input left)
+too_many (Some xs) None input n left gives short = gives.1
+too_many (Some xs) (Some ys) input n left gives short =
+    absurd (omega (arith, short, ap (λ (zs : List ℕ). length zs) (sym (same_Some xs input left) ∙ gives.1), length-append gives.0 ys, gives.2))
+
+-- the text is all that was left
+whole_is : (before : Option (List ℕ)) (bytes input : List ℕ) → before ≡ Some input → IfSome before (λ left. bytes ≡ left) → bytes ≡ input
+whole_is None bytes input left is = absurd (none-some input left)
+whole_is (Some xs) bytes input left is = is ∙ same_Some xs input left
+
+memory_among : (command : Command) → IsAmong Memory (statuses_of command)
+memory_among Check = inr (inl refl)
+memory_among (Run lim asked) = inr (inr (inr (inl refl)))
+memory_among (Replay lim) = inr (inr (inr (inl refl)))
+memory_among (Load n) = inr (inr (inr (inl refl)))
+
+-- want of memory can stand in for any status
+pub memory_completes : {S O E : Type 0} (src : SourceTells S) (out : SinkTells O) (err : SinkTells E) (command : Command) (src_from src_to : S) (out_from out_to : O) (err_from err_to : E)
+    → Completes src out err command src_from src_to out_from out_to err_from err_to Memory
+memory_completes src out err command src_from src_to out_from out_to err_from err_to = λ input calm left short.
+    record { refused = λ r is. inr (inl refl); accepted = λ p is. memory_among command }
+
+-- the same of another command that is equal
+pub completes_as : {S O E : Type 0} (src : SourceTells S) (out : SinkTells O) (err : SinkTells E) {command other : Command} {src_from src_to : S} {out_from out_to : O} {err_from err_to : E}
+    {status : Status} → command ≡ other → Completes src out err command src_from src_to out_from out_to err_from err_to status
+    → Completes src out err other src_from src_to out_from out_to err_from err_to status
+completes_as src out err {command} {other} {src_from} {src_to} {out_from} {out_to} {err_from} {err_to} {status} same is =
+    subst (λ (k : Command). Completes src out err k src_from src_to out_from out_to err_from err_to status) same is
+
+module _ (not_refused : (text : List ℕ) (p : Program) (refusal : Refusal) → Accepted text p → ¬ IsRefusal text refusal) where
+  due_refused : (command : Command) (input : List ℕ) (book : Book) (answer : Answer) (r : Refusal) → IsRefusal (program_text command input) r → Due command input book answer
+      → answer.status ≡ Refused
+  due_refused command input book answer r is (Due.refused other so has) = refl
+  due_refused command input book answer r is (Due.accepted p same accepted has) = absurd (not_refused (program_text command input) p r accepted is)
+  due_refused command input book answer r is (Due.ran lim asked p outcome plain same accepted has answers) = absurd (not_refused (program_text command input) p r accepted is)
+  due_refused command input book answer r is (Due.loaded n p outcome plain same accepted has answers) = absurd (not_refused (program_text command input) p r accepted is)
+  due_refused command input book answer r is (Due.replayed lim p same accepted answers) = absurd (not_refused (program_text command input) p r accepted is)
+
+  due_accepted : (command : Command) (input : List ℕ) (book : Book) (answer : Answer) (p : Program) → Accepted (program_text command input) p → Due command input book answer
+      → IsAmong answer.status (statuses_of command)
+  due_accepted command input book answer p accepted (Due.refused r is has) = absurd (not_refused (program_text command input) p r accepted is)
+  due_accepted command input book answer p accepted (Due.accepted q same is has) = subst (λ (c : Command). IsAmong Done (statuses_of c)) (sym same) (inl refl)
+  due_accepted command input book answer p accepted (Due.ran lim asked q outcome plain same is has answers) =
+      subst (λ (c : Command). IsAmong plain.status (statuses_of c)) (sym same) (ran_status q _ _ outcome plain answers has.over)
+  due_accepted command input book answer p accepted (Due.loaded n q outcome plain same is has answers) =
+      let last = state_after q default_limits book.journal in
+      subst (λ (c : Command). IsAmong (for_load n last plain).status (statuses_of c)) (sym same)
+      (subst (λ (s : Status). IsAmong s RunStatuses) (sym (load_keeps n last plain.status plain)) (ran_status q last _ outcome plain answers has.over))
+  due_accepted command input book answer p accepted (Due.replayed lim q same is answers) =
+      subst (λ (c : Command). IsAmong answer.status (statuses_of c)) (sym same) (replay_status q lim _ book answer answers)
+
+  due_complete : (command : Command) (input : List ℕ) (book : Book) (answer : Answer) → Due command input book answer → IsComplete command input answer.status
+  due_complete command input book answer due = record {
+    refused = λ r is. inl (due_refused command input book answer r is due);
+    accepted = λ p is. due_accepted command input book answer p is due;
+  }
+
+  -- a load has the same text whatever the input
+  load_complete : (n : ℕ) (input : List ℕ) (status : Status) → IsComplete (Load n) [] status → IsComplete (Load n) input status
+  load_complete n input status c = record { refused = c.refused; accepted = c.accepted }
+
+  cause_complete : {S : Type 0} (src : SourceTells S) (command : Command) (before after : S) (book : Book) (answer : Answer) (input : List ℕ)
+      → Cause src (Some command) before after book answer → ¬ Rose (src.faults before) (src.faults after) → src.left before ≡ Some input → length input ≤ max_text_bytes
+      → IsComplete command input answer.status
+  cause_complete src command before after book answer input (Cause.usage none same new) calm left short = absurd (none-some command (sym none))
+  cause_complete src command before after book answer input (Cause.read_fault has was new) calm left short = absurd (calm was.told)
+  cause_complete src command before after book answer input (Cause.too_long has was new) calm left short =
+      absurd (too_many (src.left before) (src.left after) input (max_text_bytes + 1) left was.told (omega (arith, short)))
+  cause_complete src command before after book answer input (Cause.text given bytes same has was due) calm left short =
+      let is : command ≡ given = same_Some command given same in
+      let text : bytes ≡ input = whole_is (src.left before) bytes input left was.told.0 in
+      subst (λ (c : Command). IsComplete c input answer.status) (sym is) (subst (λ (t : List ℕ). IsComplete given t answer.status) text (due_complete given bytes book answer due))
+  cause_complete src command before after book answer input (Cause.no_input n same nothing never due) calm left short =
+      subst (λ (c : Command). IsComplete c input answer.status) (sym (same_Some command (Load n) same)) (load_complete n input answer.status (due_complete (Load n) [] book answer due))
+
+  pub complete : {S O E : Type 0} (src : SourceTells S) (out : SinkTells O) (err : SinkTells E) (command : Command) (src_from src_to : S) (out_from out_to : O) (err_from err_to : E)
+      (book : Book) (status : Status) → Answers src out err (Some command) src_from src_to out_from out_to err_from err_to book status
+      → Completes src out err command src_from src_to out_from out_to err_from err_to status
+  complete src out err command src_from src_to out_from out_to err_from err_to book status (Answers.out_of_memory a b) = λ input calm left short.
+      record { refused = λ r is. inr (inl refl); accepted = λ p is. memory_among command }
+  complete src out err command src_from src_to out_from out_to err_from err_to book status (Answers.answered {answer} cause (Tells.told a b)) = λ input calm left short.
+      cause_complete src command src_from src_to book answer input cause calm.no_read left short
+  complete src out err command src_from src_to out_from out_to err_from err_to book status (Answers.answered cause (Tells.out_broke_off a b)) = λ input calm left short. absurd (calm.no_out a.fault)
+  complete src out err command src_from src_to out_from out_to err_from err_to book status (Answers.answered cause (Tells.err_broke_off a b)) = λ input calm left short. absurd (calm.no_err b.fault)
