@@ -1,0 +1,8 @@
+-- the stop of a segment, by the end of its entry
+pub mod Stops
+-- executions of the journal are played
+pub mod Played
+-- steps find what their segments found in the journal
+pub mod Finds
+-- a deterministic task that is done has been elided
+pub mod Elided

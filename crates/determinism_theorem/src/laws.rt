@@ -1,0 +1,27 @@
+//! What was run below a deterministic task, as steps in the order of sequential code.
+ghost use Rattle.std.specs.Prelude.{List};
+ghost use Rattle.seg_journal.specs.declared.journal.Entry.{Entry};
+ghost use Rattle.twe_limits.specs.Limits.{Bounds};
+ghost use Rattle.twe_program.specs.Program.{Program};
+ghost use Rattle.twe_program.specs.WellFormed.{IsWellFormed};
+ghost use Rattle.soundness_laws.specs.KeepsEffects.{KeepsEffects};
+ghost use Rattle.twe_machine.specs.Runs.{Legal};
+ghost use Rattle.determinism_theorem.specs.Steps.{DoneTasksAreElided, ExecutionsArePlayed};
+
+/// In every legal journal, the execution of a deterministic task that is done at the end was played, from each of its
+/// segments on: by the steps that start from the frames of the journal, over its cells, with the values that its tasks have
+/// at the end. The tasks that it made, in the order in which sequential code makes them, may be given any numbering.
+pub fn executions_are_played()
+    ensures { (p : Program) → IsWellFormed p → KeepsEffects p
+        → (lim : Bounds) (journal : List Entry) → Legal p lim journal → ExecutionsArePlayed p lim journal }
+{}
+
+/// Take a deterministic task of a legal journal that is done at the end, whose first segment starts from the first frame of a
+/// declaration, and the entries from any place between the one that enabled it and its first segment, up to the one that
+/// finished it. If the tasks that it made can be numbered within the limit in the order in which sequential code makes them,
+/// the sequential execution of the declaration, on the cells as they were before these entries, meets no fault. It ends
+/// with the task's value, and leaves in each cell under the task's effects the value that it has after the entries.
+pub fn done_tasks_are_elided()
+    ensures { (p : Program) → IsWellFormed p → KeepsEffects p
+        → (lim : Bounds) (journal : List Entry) → Legal p lim journal → DoneTasksAreElided p lim journal }
+{}
