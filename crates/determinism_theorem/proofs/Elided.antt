@@ -1,5 +1,5 @@
 -- A deterministic task that is done has been elided, if its tasks are numbered.
-use Rattle.std.proofs.Common.{◌≡◌, ◌≤◌, ◌+◌, ℕ, ℤ, List, [], ◌∷◌, refl, sym, ap, ◌∙◌, subst}
+use Rattle.std.proofs.Common.{◌≡◌, ◌≤◌, ◌+◌, ℕ, ℤ, List, [], ◌∷◌, refl, sym, ap, ◌∙◌, subst, length, arith}
 use Rattle.std.specs.Prelude.{slice_get}
 use Rattle.seg_journal.specs.declared.journal.Entry.{Entry}
 use Rattle.twe_limits.specs.Limits.{Bounds}
@@ -15,8 +15,11 @@ use Rattle.seq_elide.specs.Elision.{first_frame}
 use Rattle.seq_elide.specs.Elision as elision
 use Rattle.numbering_laws.specs.Played.{Played}
 use Rattle.numbering_laws.proofs.Playing.{played_elides}
-use Rattle.determinism_theorem.specs.Steps.{DoneTasksAreElided, final_value, tasks_after}
+use Rattle.determinism_theorem.specs.Steps.{DoneTasksAreElided, DoneTasksElideAsRun, final_value, tasks_after}
 use Rattle.determinism_theorem.proofs.Finds.{steps_find, steps_leave}
+use Rattle.numbering_laws.specs.Numberings.{numbering_of}
+use Rattle.numbering_laws.proofs.Listed.{few_below, listed_apart}
+use Rattle.determinism_theorem.proofs.Numbered.{has_numbering, numbered_suffix, tasks_counted}
 use Rattle.determinism_theorem.proofs.Played.{executions_played}
 
 pub done_tasks_elided : (p : Program) → IsWellFormed p → KeepsEffects p → (lim : Bounds) (journal : List Entry) → Legal p lim journal → DoneTasksAreElided p lim journal
@@ -47,3 +50,14 @@ done_tasks_elided p wf keeps lim journal legal t first from count row task args 
             tasks_are = e.tasks_are;
           };
     }
+
+pub done_tasks_as_run : (p : Program) → IsWellFormed p → KeepsEffects p → (lim : Bounds) (journal : List Entry) → Legal p lim journal → DoneTasksElideAsRun p lim journal
+done_tasks_as_run p wf keeps lim journal legal t first from count row task args there done flag some is_first early enabled ended starts =
+    let e = done_tasks_elided p wf keeps lim journal legal t first from count row task args there done flag some is_first early enabled ended starts in
+    let names = t ∷ e.children in
+    let n = has_numbering p wf keeps lim journal legal t first row e.executed e.children some there e.execution is_first.segment e.order.once e.spawned in
+    let few = few_below lim.tasks names n.differ n.below in
+    let counted = tasks_counted 1 e.children in (
+      tasks_after 1 e.children,
+      e.elides (numbering_of lim.tasks names) (listed_apart lim.tasks names n.differ n.below) refl (numbered_suffix lim.tasks (t ∷ []) e.children 1 refl) (omega (arith, few, counted)),
+    )

@@ -6,3 +6,5 @@ pub mod Played
 pub mod Finds
 -- a deterministic task that is done has been elided
 pub mod Elided
+-- the tasks of an execution are different, and within the limit
+pub mod Numbered

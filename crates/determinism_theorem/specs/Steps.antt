@@ -100,3 +100,11 @@ DoneTasksAreElided p lim journal =
     → 1 ≤ lim.tasks → IsNextSegment journal t 0 first → from ≤ first → IsEnabledThroughout p lim journal t from count
     → HasStatus (state_before p lim journal (from + count)) t Done → StartsFrom p lim journal t first (first_frame lim t (entry_frame p task args))
     → IsElidedAsRun p lim journal t first from count row task args
+
+-- And so it is under no condition on numbers: they are there.
+abbrev pub DoneTasksElideAsRun : Program → Bounds → List Entry → Type 0
+DoneTasksElideAsRun p lim journal =
+    (t first from count : ℕ) (row : TaskRow) (task : ℕ) (args : List ℤ) → IsRow (state_after p lim journal) t row → row.status ≡ Done → IsDeterministic p row
+    → 1 ≤ lim.tasks → IsNextSegment journal t 0 first → from ≤ first → IsEnabledThroughout p lim journal t from count
+    → HasStatus (state_before p lim journal (from + count)) t Done → StartsFrom p lim journal t first (first_frame lim t (entry_frame p task args))
+    → (upto : ℕ) × ElidesAsRun p lim journal row from count task args upto

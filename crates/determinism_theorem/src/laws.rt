@@ -6,7 +6,7 @@ ghost use Rattle.twe_program.specs.Program.{Program};
 ghost use Rattle.twe_program.specs.WellFormed.{IsWellFormed};
 ghost use Rattle.soundness_laws.specs.KeepsEffects.{KeepsEffects};
 ghost use Rattle.twe_machine.specs.Runs.{Legal};
-ghost use Rattle.determinism_theorem.specs.Steps.{DoneTasksAreElided, ExecutionsArePlayed};
+ghost use Rattle.determinism_theorem.specs.Steps.{DoneTasksAreElided, DoneTasksElideAsRun, ExecutionsArePlayed};
 
 /// In every legal journal, the execution of a deterministic task that is done at the end was played, from each of its
 /// segments on: by the steps that start from the frames of the journal, over its cells, with the values that its tasks have
@@ -24,4 +24,11 @@ pub fn executions_are_played()
 pub fn done_tasks_are_elided()
     ensures { (p : Program) → IsWellFormed p → KeepsEffects p
         → (lim : Bounds) (journal : List Entry) → Legal p lim journal → DoneTasksAreElided p lim journal }
+{}
+
+/// The tasks that it made can be numbered so. So the sequential execution of the declaration meets no fault, ends with the
+/// task's value, and leaves in each cell under the task's effects the value that it has after the entries.
+pub fn done_tasks_elide_as_run()
+    ensures { (p : Program) → IsWellFormed p → KeepsEffects p
+        → (lim : Bounds) (journal : List Entry) → Legal p lim journal → DoneTasksElideAsRun p lim journal }
 {}

@@ -3,4 +3,4 @@
 
 mod laws;
 
-pub use laws::{done_tasks_are_elided, executions_are_played};
+pub use laws::{done_tasks_are_elided, done_tasks_elide_as_run, executions_are_played};
