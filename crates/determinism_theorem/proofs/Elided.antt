@@ -15,7 +15,8 @@ use Rattle.seq_elide.specs.Elision.{first_frame}
 use Rattle.seq_elide.specs.Elision as elision
 use Rattle.numbering_laws.specs.Played.{Played}
 use Rattle.numbering_laws.proofs.Playing.{played_elides}
-use Rattle.determinism_theorem.specs.Steps.{DoneTasksAreElided, DoneTasksElideAsRun, final_value, tasks_after}
+use Rattle.determinism_theorem.specs.Steps.{DeterministicTasksElideAsRun, DoneTasksAreElided, DoneTasksElideAsRun, final_value, tasks_after}
+use Rattle.determinism_theorem.proofs.FirstSegments.{starts_first}
 use Rattle.determinism_theorem.proofs.Finds.{steps_find, steps_leave}
 use Rattle.numbering_laws.specs.Numberings.{numbering_of}
 use Rattle.numbering_laws.proofs.Listed.{few_below, listed_apart}
@@ -61,3 +62,8 @@ done_tasks_as_run p wf keeps lim journal legal t first from count row task args 
       tasks_after 1 e.children,
       e.elides (numbering_of lim.tasks names) (listed_apart lim.tasks names n.differ n.below) refl (numbered_suffix lim.tasks (t ∷ []) e.children 1 refl) (omega (arith, few, counted)),
     )
+
+pub deterministic_tasks_as_run : (p : Program) → IsWellFormed p → KeepsEffects p → (lim : Bounds) (journal : List Entry) → Legal p lim journal → DeterministicTasksElideAsRun p lim journal
+deterministic_tasks_as_run p wf keeps lim journal legal t first from count row there done flag some is_first early enabled ended =
+    done_tasks_as_run p wf keeps lim journal legal t first from count row row.decl row.args there done flag some is_first early enabled ended
+    (starts_first p wf keeps lim journal legal t first is_first row there)

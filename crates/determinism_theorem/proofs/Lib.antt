@@ -8,3 +8,7 @@ pub mod Finds
 pub mod Elided
 -- the tasks of an execution are different, and within the limit
 pub mod Numbered
+-- a task that a move made has the arguments of the make
+pub mod NewArguments
+-- the first segment of a task starts from its first frame
+pub mod FirstSegments

@@ -108,3 +108,10 @@ DoneTasksElideAsRun p lim journal =
     → 1 ≤ lim.tasks → IsNextSegment journal t 0 first → from ≤ first → IsEnabledThroughout p lim journal t from count
     → HasStatus (state_before p lim journal (from + count)) t Done → StartsFrom p lim journal t first (first_frame lim t (entry_frame p task args))
     → (upto : ℕ) × ElidesAsRun p lim journal row from count task args upto
+
+-- each deterministic task that is done at the end, with its own declaration and its own arguments
+abbrev pub DeterministicTasksElideAsRun : Program → Bounds → List Entry → Type 0
+DeterministicTasksElideAsRun p lim journal =
+    (t first from count : ℕ) (row : TaskRow) → IsRow (state_after p lim journal) t row → row.status ≡ Done → IsDeterministic p row
+    → 1 ≤ lim.tasks → IsNextSegment journal t 0 first → from ≤ first → IsEnabledThroughout p lim journal t from count
+    → HasStatus (state_before p lim journal (from + count)) t Done → (upto : ℕ) × ElidesAsRun p lim journal row from count row.decl row.args upto

@@ -6,7 +6,7 @@ ghost use Rattle.twe_program.specs.Program.{Program};
 ghost use Rattle.twe_program.specs.WellFormed.{IsWellFormed};
 ghost use Rattle.soundness_laws.specs.KeepsEffects.{KeepsEffects};
 ghost use Rattle.twe_machine.specs.Runs.{Legal};
-ghost use Rattle.determinism_theorem.specs.Steps.{DoneTasksAreElided, DoneTasksElideAsRun, ExecutionsArePlayed};
+ghost use Rattle.determinism_theorem.specs.Steps.{DeterministicTasksElideAsRun, DoneTasksAreElided, DoneTasksElideAsRun, ExecutionsArePlayed};
 
 /// In every legal journal, the execution of a deterministic task that is done at the end was played, from each of its
 /// segments on: by the steps that start from the frames of the journal, over its cells, with the values that its tasks have
@@ -31,4 +31,13 @@ pub fn done_tasks_are_elided()
 pub fn done_tasks_elide_as_run()
     ensures { (p : Program) → IsWellFormed p → KeepsEffects p
         → (lim : Bounds) (journal : List Entry) → Legal p lim journal → DoneTasksElideAsRun p lim journal }
+{}
+
+/// Each deterministic task of a legal journal that is done at the end has the value of the sequential execution of its
+/// declaration with its arguments, on the cells as they were when it became enabled, or at any place from there to its first
+/// segment. That execution meets no fault, and leaves in each cell under the task's effects the value that the cell has when
+/// the task is done.
+pub fn deterministic_tasks_elide_as_run()
+    ensures { (p : Program) → IsWellFormed p → KeepsEffects p
+        → (lim : Bounds) (journal : List Entry) → Legal p lim journal → DeterministicTasksElideAsRun p lim journal }
 {}

@@ -3,4 +3,7 @@
 
 mod laws;
 
-pub use laws::{done_tasks_are_elided, done_tasks_elide_as_run, executions_are_played};
+pub use laws::{
+    deterministic_tasks_elide_as_run, done_tasks_are_elided, done_tasks_elide_as_run,
+    executions_are_played,
+};
