@@ -22,6 +22,7 @@ use Rattle.numbering_laws.specs.Numberings.{numbering_of}
 use Rattle.numbering_laws.proofs.Listed.{few_below, listed_apart}
 use Rattle.determinism_theorem.proofs.Numbered.{has_numbering, numbered_suffix, tasks_counted}
 use Rattle.determinism_theorem.proofs.Played.{executions_played}
+use Rattle.determinism_theorem.proofs.Printing.{printed_alike, steps_print}
 
 pub done_tasks_elided : (p : Program) → IsWellFormed p → KeepsEffects p → (lim : Bounds) (journal : List Entry) → Legal p lim journal → DoneTasksAreElided p lim journal
 done_tasks_elided p wf keeps lim journal legal t first from count row task args there done flag some is_first early enabled ended starts =
@@ -48,6 +49,9 @@ done_tasks_elided p wf keeps lim journal legal t first from count row task args 
             later = e.later;
             ends = e.ends ∙ ap (λ (v : ℤ). elision.ends v e.later) (ap (final_value p lim journal) zero ∙ value_is);
             leaves = λ cell under. ap (λ (l : List ℤ). slice_get l cell) (e.cells_are ∙ steps_leave p lim journal alike.executed played.steps cells played.same) ∙ alike.alike.leaves cell under;
+            segments = alike.segments;
+            listed = alike.listed;
+            prints = e.prints_are ∙ steps_print p lim journal alike.executed played.steps played.same ∙ sym (printed_alike alike.segments alike.executed alike.alike.prints);
             tasks_are = e.tasks_are;
           };
     }

@@ -55,7 +55,7 @@ module _ (p : Program) (lim : Bounds) (journal : List Entry) (cells : List ℤ) 
       let now = after_all cells before in
       let here : SameWhereAccessed s.accesses step.cells now =
       same_where s.accesses step.cells now (λ cell accessed. finds s before segments split cell accessed ∙ ap (λ (l : List ℤ). slice_get l cell) (sym same.0)) in
-      let rest = finds_from ordered finds segments (before ++ s ∷ []) (split ∙ sym (append_assoc before (s ∷ []) segments)) steps same.2 in
+      let rest = finds_from ordered finds segments (before ++ s ∷ []) (split ∙ sym (append_assoc before (s ∷ []) segments)) steps same.3 in
       let next : after_all cells (before ++ s ∷ []) ≡ after now (step_accesses p step) = after_joined cells before s ∙ ap (after now) (sym same.1) in
       (subst (λ (accesses : List Access). SameWhereAccessed accesses step.cells now) (sym same.1) here, subst (FindTheSame p steps) next rest)
 
@@ -69,4 +69,4 @@ steps_leave p lim journal [] [] cells same = refl
 steps_leave p lim journal [] (step ∷ steps) cells same = absurd same
 steps_leave p lim journal (s ∷ segments) [] cells same = absurd same
 steps_leave p lim journal (s ∷ segments) (step ∷ steps) cells same =
-    ap (λ (accesses : List Access). cells_after p steps (after cells accesses)) same.1 ∙ steps_leave p lim journal segments steps (after cells s.accesses) same.2
+    ap (λ (accesses : List Access). cells_after p steps (after cells accesses)) same.1 ∙ steps_leave p lim journal segments steps (after cells s.accesses) same.3

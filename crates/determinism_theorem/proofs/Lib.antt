@@ -12,3 +12,5 @@ pub mod Numbered
 pub mod NewArguments
 -- the first segment of a task starts from its first frame
 pub mod FirstSegments
+-- what the steps print
+pub mod Printing

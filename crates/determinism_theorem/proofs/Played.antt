@@ -19,7 +19,7 @@ use Rattle.seg_exec.specs.declared.frame.Next.TheVariants.{Go, Get, Join, Closin
 use Rattle.seg_exec.specs.declared.stop.Stop.{Stop}
 use Rattle.seg_exec.specs.declared.stop.Stop.TheVariants as stops
 use Rattle.seg_exec.specs.Access.{Access}
-use Rattle.seg_exec.specs.Giving.{given}
+use Rattle.seg_exec.specs.Giving.{given, given_by}
 use Rattle.seg_exec.specs.Segment.{segment}
 use Rattle.segment_laws.specs.Keeps.{NextAfter}
 use Rattle.segment_laws.proofs.SegmentKept.{segment_keeps}
@@ -30,7 +30,7 @@ use Rattle.twe_machine.specs.declared.state.TaskRow.{TaskRow}
 use Rattle.twe_machine.specs.declared.state.TaskStatus.TheVariants.{Done}
 use Rattle.twe_machine.specs.Changes.{IsDoneWith, next_segment}
 use Rattle.twe_machine.specs.Legal.{MayTake}
-use Rattle.twe_machine.specs.Moves.{frame_without_prints, making_frame, ready_frame, result_by_kind, value_of}
+use Rattle.twe_machine.specs.Moves.{awaited_value, frame_without_prints, making_frame, ready_frame, result_by_kind, value_of}
 use Rattle.twe_machine.specs.Rows.{IsRow, awaited}
 use Rattle.twe_machine.specs.Runs.{Legal, state_after}
 use Rattle.twe_machine.proofs.DoneFirst.{children_joined}
@@ -87,6 +87,13 @@ is_in_any child [] there = absurd there
 is_in_any child (first ∷ others) (inl here) = any_true (first == child) (list_any (λ c. c == child) others) (eq-eqb first child (sym here))
 is_in_any child (first ∷ others) (inr later) = any_more (first == child) (list_any (λ c. c == child) others) (is_in_any child others later)
 
+given_prints : (next : Next) (frame : Frame) (value : ℤ) → (given_by next frame value).prints ≡ frame.prints
+given_prints Go frame value = refl
+given_prints (Get on into) frame value = refl
+given_prints (Join on into) frame value = refl
+given_prints (Closing on) frame value = refl
+given_prints Ended frame value = refl
+
 module _ (p : Program) (wf : IsWellFormed p) (keeps : KeepsEffects p) (lim : Bounds) (journal : List Entry) (legal : Legal p lim journal) where
   abbrev st : ℕ → State
   st n = state_before p lim journal n
@@ -98,7 +105,7 @@ module _ (p : Program) (wf : IsWellFormed p) (keeps : KeepsEffects p) (lim : Bou
   steps_joined [] ys [] bs one two = two
   steps_joined [] ys (a ∷ cs) bs one two = absurd one
   steps_joined (x ∷ xs) ys [] bs one two = absurd one
-  steps_joined (x ∷ xs) ys (a ∷ cs) bs one two = (one.0, one.1, steps_joined xs ys cs bs one.2 two)
+  steps_joined (x ∷ xs) ys (a ∷ cs) bs one two = (one.0, one.1, one.2, steps_joined xs ys cs bs one.3 two)
 
   spawned_joined : (xs ys : List SegmentAccesses) (cs bs : List ℕ) → AreSpawned p lim journal xs cs → AreSpawned p lim journal ys bs → AreSpawned p lim journal (xs ++ ys) (cs ++ bs)
   spawned_joined [] ys [] bs one two = two
@@ -142,7 +149,10 @@ module _ (p : Program) (wf : IsWellFormed p) (keeps : KeepsEffects p) (lim : Bou
         let row : at.row ≡ starts.row = got_one (slice_get (st place).tasks u) (subst (λ (n : ℕ). IsRow (st place) n at.row) task at.there) starts.there in
         let accesses : s.accesses ≡ (segment p frame (st place).cells).accesses =
         at.accesses ∙ ap (λ (r : TaskRow). (next_segment p (st place) r).accesses) row ∙ ap (λ (f : Frame). (segment p f (st place).cells).accesses) (sym starts.frame_is) in
-        (ap (λ (n : ℕ). (st n).cells) (sym at.key), sym accesses, same)
+        let bare : frame.prints ≡ [] =
+        ap (λ (f : Frame). f.prints) starts.frame_is ∙ given_prints starts.row.frame.next starts.row.frame (awaited_value (st place).tasks (awaited starts.row.frame.next))
+        ∙ ((stands_at p wf lim journal legal place).rows u starts.row starts.there).prints in
+        (ap (λ (n : ℕ). (st n).cells) (sym at.key), sym accesses, bare, same)
 
     -- the row after the segment
     now : (new : TaskRow) × IsRow (st (suc place)) u new × (new.decl ≡ starts.row.decl)

@@ -1,9 +1,10 @@
 -- The execution of a task in a journal, as steps in the order of sequential code.
-use Rattle.std.specs.Prelude.{◌≡◌, ◌≤◌, ◌+◌, ◌⊎◌, ℕ, ℤ, List, [], ◌∷◌, length, slice_get}
+use Rattle.std.specs.Prelude.{◌≡◌, ◌≤◌, ◌+◌, ◌++◌, ◌⊎◌, ℕ, ℤ, List, [], ◌∷◌, length, slice_get}
 use Rattle.seg_journal.specs.declared.journal.Entry.{Entry}
 use Rattle.twe_limits.specs.Limits.{Bounds}
 use Rattle.twe_program.specs.Program.{Program}
 use Rattle.seg_exec.specs.declared.frame.Frame.{Frame}
+use Rattle.seg_exec.specs.Access.{printed}
 use Rattle.seg_exec.specs.Entry.{entry_frame}
 use Rattle.twe_machine.specs.declared.state.TaskRow.{TaskRow}
 use Rattle.twe_machine.specs.declared.state.TaskStatus.TheVariants.{Done}
@@ -26,13 +27,14 @@ use Rattle.numbering_laws.specs.Renumbering.{Numbering}
 abbrev pub final_value : Program → Bounds → List Entry → ℕ → ℤ
 final_value p lim journal task = value_of (slice_get (state_after p lim journal).tasks task)
 
--- the steps are these segments: over the cells of the journal, with the same accesses
+-- the steps are these segments: over the cells of the journal, with the same accesses, and nothing is printed before
 abbrev pub AreSteps : Program → Bounds → List Entry → List SegmentAccesses → List Step → Type 0
 AreSteps p lim journal [] [] = Unit {0}
 AreSteps p lim journal [] (step ∷ steps) = ⊥
 AreSteps p lim journal (s ∷ segments) [] = ⊥
 AreSteps p lim journal (s ∷ segments) (step ∷ steps) =
-    (step.cells ≡ (state_before p lim journal s.key).cells) × (step_accesses p step ≡ s.accesses) × AreSteps p lim journal segments steps
+    (step.cells ≡ (state_before p lim journal s.key).cells) × (step_accesses p step ≡ s.accesses) × (step.frame.prints ≡ [])
+    × AreSteps p lim journal segments steps
 
 -- the tasks that these segments spawned, one after another
 abbrev pub AreSpawned : Program → Bounds → List Entry → List SegmentAccesses → List ℕ → Type 0
@@ -68,13 +70,22 @@ ExecutionsArePlayed p lim journal =
     → IsDeterministic p row → StartsFrom p lim journal u place frame → Execution p lim journal u place segments
     → IsPlayed p lim journal u frame segments
 
--- The sequential execution of the declaration `task` on the cells before the entry at `from` ends with the value of this row.
--- It leaves in each cell under the effects of the row the value that it has after the entries. So many tasks were made, the
--- first one included.
-pub record ElidesAsRun (p : Program) (lim : Bounds) (journal : List Entry) (row : TaskRow) (from count task : ℕ) (args : List ℤ) (upto : ℕ) : Type 0 where
+-- the numbers that these segments printed, one segment after another
+abbrev pub printed_by : List SegmentAccesses → List ℤ
+printed_by [] = []
+printed_by (s ∷ others) = printed s.accesses ++ printed_by others
+
+-- The sequential execution of the declaration `task` on the cells before the entry at `from` ends with the value of this row
+-- of task t. It leaves in each cell under the effects of the row the value that it has after the entries, and prints the
+-- numbers that the segments of t and of the tasks below it printed, in the order of the journal. So many tasks were made,
+-- the first one included.
+pub record ElidesAsRun (p : Program) (lim : Bounds) (journal : List Entry) (t : ℕ) (row : TaskRow) (from count task : ℕ) (args : List ℤ) (upto : ℕ) : Type 0 where
   pub later : Progress
   pub ends : elided p lim task args (state_before p lim journal from).cells ≡ elision.ends row.value later
   pub leaves : (cell : ℕ) → IsUnder p row cell → slice_get later.cells cell ≡ slice_get (state_before p lim journal (from + count)).cells cell
+  pub segments : List SegmentAccesses
+  pub listed : AreSegmentsBelow p lim journal t from count segments
+  pub prints : later.prints ≡ printed_by segments
   pub tasks_are : length later.values ≡ upto
 
 -- Task t was executed by these segments, which spawned these tasks. Under each numbering that gives t and these tasks the
@@ -89,7 +100,7 @@ pub record IsElidedAsRun (p : Program) (lim : Bounds) (journal : List Entry) (t 
   pub children : List ℕ
   pub spawned : AreSpawned p lim journal executed children
   pub elides : (to : Numbering) → IsInjective to → to 0 ≡ t → AreNumbered to 1 children → tasks_after 1 children ≤ lim.tasks
-      → ElidesAsRun p lim journal row from count task args (tasks_after 1 children)
+      → ElidesAsRun p lim journal t row from count task args (tasks_after 1 children)
 
 -- so it is for each deterministic task that is done at the end, if its first segment starts from the first frame of a
 -- declaration, and for entries before each of which it is enabled, if they begin no later than its first segment, and it is
@@ -107,11 +118,11 @@ DoneTasksElideAsRun p lim journal =
     (t first from count : ℕ) (row : TaskRow) (task : ℕ) (args : List ℤ) → IsRow (state_after p lim journal) t row → row.status ≡ Done → IsDeterministic p row
     → 1 ≤ lim.tasks → IsNextSegment journal t 0 first → from ≤ first → IsEnabledThroughout p lim journal t from count
     → HasStatus (state_before p lim journal (from + count)) t Done → StartsFrom p lim journal t first (first_frame lim t (entry_frame p task args))
-    → (upto : ℕ) × ElidesAsRun p lim journal row from count task args upto
+    → (upto : ℕ) × ElidesAsRun p lim journal t row from count task args upto
 
 -- each deterministic task that is done at the end, with its own declaration and its own arguments
 abbrev pub DeterministicTasksElideAsRun : Program → Bounds → List Entry → Type 0
 DeterministicTasksElideAsRun p lim journal =
     (t first from count : ℕ) (row : TaskRow) → IsRow (state_after p lim journal) t row → row.status ≡ Done → IsDeterministic p row
     → 1 ≤ lim.tasks → IsNextSegment journal t 0 first → from ≤ first → IsEnabledThroughout p lim journal t from count
-    → HasStatus (state_before p lim journal (from + count)) t Done → (upto : ℕ) × ElidesAsRun p lim journal row from count row.decl row.args upto
+    → HasStatus (state_before p lim journal (from + count)) t Done → (upto : ℕ) × ElidesAsRun p lim journal t row from count row.decl row.args upto

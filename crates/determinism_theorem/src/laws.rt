@@ -27,7 +27,8 @@ pub fn done_tasks_are_elided()
 {}
 
 /// The tasks that it made can be numbered so. So the sequential execution of the declaration meets no fault, ends with the
-/// task's value, and leaves in each cell under the task's effects the value that it has after the entries.
+/// task's value, leaves in each cell under the task's effects the value that it has after the entries, and prints what the
+/// task and those below it printed.
 pub fn done_tasks_elide_as_run()
     ensures { (p : Program) → IsWellFormed p → KeepsEffects p
         → (lim : Bounds) (journal : List Entry) → Legal p lim journal → DoneTasksElideAsRun p lim journal }
@@ -35,8 +36,8 @@ pub fn done_tasks_elide_as_run()
 
 /// Each deterministic task of a legal journal that is done at the end has the value of the sequential execution of its
 /// declaration with its arguments, on the cells as they were when it became enabled, or at any place from there to its first
-/// segment. That execution meets no fault, and leaves in each cell under the task's effects the value that the cell has when
-/// the task is done.
+/// segment. That execution meets no fault, leaves in each cell under the task's effects the value that the cell has when the
+/// task is done, and prints the numbers that the task and those below it have printed, in the order of the journal.
 pub fn deterministic_tasks_elide_as_run()
     ensures { (p : Program) → IsWellFormed p → KeepsEffects p
         → (lim : Bounds) (journal : List Entry) → Legal p lim journal → DeterministicTasksElideAsRun p lim journal }
