@@ -1,5 +1,5 @@
 -- The first segment of a task starts from the first frame of its declaration with its arguments.
-use Rattle.std.proofs.Common.{◌≡◌, ◌≢◌, ◌≤◌, ◌<◌, ◌⊎◌, ◌==◌, ℕ, zero, suc, ℤ, Bool, true, false, List, [], ◌∷◌, length, Option, None, Some, inl, inr, refl, sym, ap, ◌∙◌, subst, arith}
+use Rattle.std.proofs.Common.{◌≡◌, ◌≢◌, ◌≤◌, ◌<◌, ◌==◌, ℕ, zero, suc, Bool, true, false, List, length, Option, None, Some, inl, inr, refl, sym, ap, ◌∙◌, subst, arith}
 use Rattle.std.specs.Prelude.{slice_get}
 use Rattle.std.proofs.lemmas.Bool.{eqb-true, eq-eqb}
 use Rattle.seg_journal.specs.declared.journal.Entry.{Entry}
@@ -16,7 +16,6 @@ use Rattle.seg_exec.specs.Giving.{given_by}
 use Rattle.soundness_laws.specs.KeepsEffects.{KeepsEffects}
 use Rattle.twe_machine.specs.declared.state.State.{State}
 use Rattle.twe_machine.specs.declared.state.TaskRow.{TaskRow}
-use Rattle.twe_machine.specs.declared.state.TaskStatus.{TaskStatus}
 use Rattle.twe_machine.specs.declared.state.TaskStatus.TheVariants.{Made}
 use Rattle.twe_machine.specs.Legal.{MayTake}
 use Rattle.twe_machine.specs.Moves.{awaited_value, joined_row, ready_frame, result_by_kind}
@@ -26,7 +25,7 @@ use Rattle.twe_machine.proofs.OtherRows.{row_after}
 use Rattle.twe_machine.proofs.Places.{below_there, got_one}
 use Rattle.determinism_laws.specs.Execution.{IsNextSegment}
 use Rattle.determinism_laws.specs.Frames.{StartsFrom}
-use Rattle.determinism_laws.specs.Segments.{IsSegment, state_before}
+use Rattle.determinism_laws.specs.Segments.{state_before}
 use Rattle.determinism_laws.proofs.JournalPlaces.{later_at, later_end, stands_at, taken_at}
 use Rattle.determinism_laws.proofs.NewTasks.{move_frame}
 use Rattle.determinism_laws.proofs.OwnCells.{take_past}

@@ -1,6 +1,6 @@
 -- The tasks of an execution, in the order in which sequential code makes them, are different and within the limit.
-use Rattle.std.proofs.Common.{◌≡◌, ◌≤◌, ◌<◌, ◌+◌, ◌++◌, ◌⊎◌, ◌||◌, ◌==◌, ℕ, zero, suc, ℤ, Bool, true, false, List, [], ◌∷◌, length, Some, inl, inr, refl, sym, ap, ◌∙◌, subst, arith, length-append}
-use Rattle.std.specs.Prelude.{slice_get, Contains}
+use Rattle.std.proofs.Common.{◌≡◌, ◌≤◌, ◌<◌, ◌+◌, ◌++◌, ◌⊎◌, ◌||◌, ◌==◌, ℕ, Bool, true, false, List, [], ◌∷◌, length, inl, inr, refl, sym, ap, ◌∙◌, subst, arith, length-append}
+use Rattle.std.specs.Prelude.{slice_get}
 use Rattle.std.specs.List.{list_any}
 use Rattle.std.proofs.lemmas.Bool.{eqb-true}
 use Rattle.std.proofs.lemmas.List.{append_assoc}
@@ -9,7 +9,6 @@ use Rattle.seg_journal.specs.declared.journal.Entry.{Entry}
 use Rattle.twe_limits.specs.Limits.{Bounds}
 use Rattle.twe_program.specs.Program.{Program}
 use Rattle.twe_program.specs.WellFormed.{IsWellFormed}
-use Rattle.seg_exec.specs.Access.{Access}
 use Rattle.effect_check.proofs.Members.{IsIn, in-contains}
 use Rattle.soundness_laws.specs.KeepsEffects.{KeepsEffects}
 use Rattle.twe_machine.specs.declared.state.State.{State}
@@ -18,14 +17,14 @@ use Rattle.twe_machine.specs.Changes.{next_segment}
 use Rattle.twe_machine.specs.Rows.{IsRow}
 use Rattle.twe_machine.specs.Runs.{Legal, state_after}
 use Rattle.twe_machine.proofs.Places.{got_one}
-use Rattle.determinism_laws.specs.Execution.{Execution, IsNextSegment, ends, joins, spawns}
+use Rattle.determinism_laws.specs.Execution.{Execution, ends, joins, spawns}
 use Rattle.determinism_laws.specs.Orders.{EachStandsOnce, SegmentAccesses}
 use Rattle.determinism_laws.specs.Segments.{IsSegment, Spawns, state_before}
 use Rattle.determinism_laws.specs.Sequential.{IsSegmentAt}
 use Rattle.determinism_laws.proofs.RankLaws.{final_stands}
 use Rattle.determinism_laws.proofs.Trees.{one_segment, own_after, spawned_number, spawned_there}
 use Rattle.numbering_laws.specs.Numberings.{AllBelow, AllDiffer, numbering_of}
-use Rattle.numbering_laws.proofs.Listed.{few_below, listed_apart, listed_at}
+use Rattle.numbering_laws.proofs.Listed.{listed_at}
 use Rattle.determinism_theorem.specs.Steps.{AreNumbered, AreSpawned, tasks_after}
 
 same_by : (a b : ℕ) → (a < b → ⊥) → (b < a → ⊥) → a ≡ b

@@ -1,10 +1,8 @@
 -- The execution of a deterministic task in a journal was played.
-use Rattle.std.proofs.Common.{◌≡◌, ◌≢◌, ◌≤◌, ◌<◌, ◌+◌, ◌++◌, ◌⊎◌, ◌||◌, ◌==◌, ℕ, zero, suc, ℤ, Bool, true, false, List, [], ◌∷◌, length, Option, None, Some, inl, inr, refl, sym, ap, ◌∙◌, subst, arith}
+use Rattle.std.proofs.Common.{◌≡◌, ◌≤◌, ◌+◌, ◌++◌, ◌||◌, ◌==◌, ℕ, suc, ℤ, Bool, true, false, List, [], ◌∷◌, Some, inl, inr, refl, sym, ap, ◌∙◌, subst, arith}
 use Rattle.std.specs.Prelude.{slice_get}
 use Rattle.std.specs.List.{list_any}
 use Rattle.std.proofs.lemmas.Bool.{eq-eqb}
-use Rattle.twe_io.specs.declared.place.Place.{Place}
-use Rattle.effect_sets.specs.declared.effects.Summary.{Summary}
 use Rattle.twe_limits.specs.Limits.{Bounds}
 use Rattle.seg_journal.specs.declared.journal.End.{End}
 use Rattle.seg_journal.specs.declared.journal.End.TheVariants as entry_ends
@@ -18,7 +16,6 @@ use Rattle.seg_exec.specs.declared.frame.Next.{Next}
 use Rattle.seg_exec.specs.declared.frame.Next.TheVariants.{Go, Get, Join, Closing, Ended}
 use Rattle.seg_exec.specs.declared.stop.Stop.{Stop}
 use Rattle.seg_exec.specs.declared.stop.Stop.TheVariants as stops
-use Rattle.seg_exec.specs.Access.{Access}
 use Rattle.seg_exec.specs.Giving.{given, given_by}
 use Rattle.seg_exec.specs.Segment.{segment}
 use Rattle.segment_laws.specs.Keeps.{NextAfter}
@@ -37,7 +34,7 @@ use Rattle.twe_machine.proofs.DoneFirst.{children_joined}
 use Rattle.twe_machine.proofs.Places.{got_one}
 use Rattle.determinism_laws.specs.Deterministic.{IsDeterministic}
 use Rattle.determinism_laws.specs.Execution.{Execution, IsNextSegment, ends, joins, spawns}
-use Rattle.determinism_laws.specs.Frames.{StartsFrom, left_at}
+use Rattle.determinism_laws.specs.Frames.{StartsFrom}
 use Rattle.determinism_laws.specs.Orders.{SegmentAccesses}
 use Rattle.determinism_laws.specs.Segments.{IsSegment, Spawns, state_before}
 use Rattle.determinism_laws.specs.Sequential.{IsSegmentAt}
@@ -55,7 +52,7 @@ use Rattle.numbering_laws.specs.Played.{Played, Step, step_accesses, step_frame}
 use Rattle.numbering_laws.specs.Played as play
 use Rattle.numbering_laws.specs.Renumbering.{Numbering}
 use Rattle.determinism_theorem.specs.Steps.{AreNumbered, AreSpawned, AreSteps, ExecutionsArePlayed, IsPlayed, final_value, tasks_after}
-use Rattle.determinism_theorem.proofs.Stops.{IsMake, done_stop, end_of, join_stop, make_stop}
+use Rattle.determinism_theorem.proofs.Stops.{done_stop, end_of, join_stop, make_stop}
 
 -- lists one after another
 tasks_joined : (count : ℕ) (xs ys : List ℕ) → tasks_after count (xs ++ ys) ≡ tasks_after (tasks_after count xs) ys

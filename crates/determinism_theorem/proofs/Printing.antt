@@ -1,5 +1,5 @@
 -- What the steps of an execution print.
-use Rattle.std.proofs.Common.{◌≡◌, ◌++◌, ◌||◌, ℕ, ℤ, Bool, true, false, cond, List, [], ◌∷◌, refl, sym, ap, ◌∙◌}
+use Rattle.std.proofs.Common.{◌≡◌, ◌++◌, ℤ, Bool, true, false, cond, List, [], ◌∷◌, refl, sym, ap, ◌∙◌}
 use Rattle.std.specs.Prelude.{filter}
 use Rattle.std.specs.List.{list_any}
 use Rattle.seg_journal.specs.declared.journal.Entry.{Entry}
@@ -7,7 +7,7 @@ use Rattle.twe_limits.specs.Limits.{Bounds}
 use Rattle.twe_program.specs.Program.{Program}
 use Rattle.seg_exec.specs.declared.frame.Frame.{Frame}
 use Rattle.seg_exec.specs.Access.{Access, Reads, Writes, Prints, printed}
-use Rattle.seg_exec.specs.Segment.{flow_of, segment, stopped_by}
+use Rattle.seg_exec.specs.Segment.{flow_of, stopped_by}
 use Rattle.seg_exec.specs.Store.{Flow, goes, returns, fails, stops}
 use Rattle.determinism_laws.specs.Orders.{PrintAlike, SegmentAccesses, is_print, prints}
 use Rattle.numbering_laws.specs.Played.{Step, prints_of, step_accesses, step_prints}
