@@ -13,6 +13,7 @@ use crate::answer::Answer;
 use crate::book::Book;
 use crate::running::answer_run;
 use crate::status::Status;
+use determinism_theorem::deterministic_tasks_elide_as_run;
 use isolation_laws::accepted_runs_are_isolated;
 use seg_journal::{End, Entry, Journal, JournalFail, JournalText, Move, read_journal};
 use std::alloc::Global;
@@ -107,6 +108,7 @@ fn answer_replay(
     ensures { IfOk result (IsAnswerOfReplay p lim moves.now book.new) }
 {
     accepted_runs_are_isolated();
+    deterministic_tasks_elide_as_run();
     each_thing_happens_once();
     let ended = outcome(&p, &st);
     let prints = counted_prints(alloc, &p, lim, moves, &journal, &st)?;

@@ -12,6 +12,7 @@ ghost use Rattle.twe_machine.specs.declared.ending.Outcome.TheVariants as outcom
 use crate::answer::Answer;
 use crate::book::Book;
 use crate::status::Status;
+use determinism_theorem::deterministic_tasks_elide_as_run;
 use flat_sched::{run_lowest, stuck_cycle};
 use isolation_laws::accepted_runs_are_isolated;
 use seg_journal::Journal;
@@ -62,6 +63,7 @@ fn run(alloc: Global, lim: Limits, p: Prog, book: &mut Book) -> Result<(Answer, 
     ensures last { IfOk result (λ r. r.1 ≡ state_after p lim book.new.journal) }
 {
     accepted_runs_are_isolated();
+    deterministic_tasks_elide_as_run();
     let (entries, st) = run_lowest(alloc, &p, lim)?;
     let ended = outcome(&p, &st);
     let answer = answer_run(alloc, &p, &st, st.prints.as_slice(), ended)?;

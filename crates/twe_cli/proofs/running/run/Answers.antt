@@ -29,10 +29,11 @@ returns-clause-answer c =
     let isolation = c.accepted_runs_are_isolated.ensures in
     let isolated = isolation.isolated p (subst IsWellFormed c.p.view_is c.p.invariant) c.requires.keeps lim journal ran.legal in
     let covered = isolation.covered p (subst IsWellFormed c.p.view_is c.p.invariant) c.requires.keeps lim journal ran.legal in
+    let elided = c.deterministic_tasks_elide_as_run.ensures p (subst IsWellFormed c.p.view_is c.p.invariant) c.requires.keeps lim journal ran.legal in
     record {
       outcome = ended;
       run = record {
-        has = has_journal p lim journal st ended (record { legal = ran.legal; same = ran.state }) is ran.once ran.at_most_once isolated covered _ refl c.requires.new.refusal refl refl;
+        has = has_journal p lim journal st ended (record { legal = ran.legal; same = ran.state }) is ran.once ran.at_most_once isolated covered elided _ refl c.requires.new.refusal refl refl;
         lowest = ran.lowest;
         over = ran.ended ended is;
       };
