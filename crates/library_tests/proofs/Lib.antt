@@ -1,0 +1,2 @@
+-- How many cells a run starts with.
+mod Cells
