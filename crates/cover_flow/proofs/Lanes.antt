@@ -1,4 +1,4 @@
--- The facts of 64 futures in words are those of each of them.
+-- The facts of 128 futures in words are those of each of them.
 use Rattle.std.proofs.Common.{◌≡◌, ◌<◌, ℕ, zero, suc, ◌+◌, true, false, List, [], ◌∷◌, ◌++◌, map, get_or, set, replicate, refl, sym, ap, ◌∙◌}
 use Rattle.std.proofs.lemmas.List.{map-set}
 use Rattle.twe_program.specs.declared.program.Body.{Body}
@@ -50,7 +50,7 @@ module _ (first : ℕ) where
     left_one-own (otherwise body) more = left_all-own body more
     left_one-own no_else more = refl
 
-module _ (first k : ℕ) (within : k < 64) where
+module _ (first k : ℕ) (within : k < 128) where
   -- the fact of the one
   abbrev pub lane : Facts → Fact
   lane facts = fact_of facts k

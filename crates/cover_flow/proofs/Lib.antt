@@ -1,11 +1,11 @@
--- How the analysis is proved exact, for one future and then for 64 at once.
+-- How the analysis is proved exact, for one future and then for 128 at once.
 -- The fact of one future: operations, transfers along paths, marks at points, and a whole row.
 pub mod FactLaws
 pub mod AfterLaws
 pub mod Notes
 pub mod MarkedLaws
 pub mod Rows
--- The words of 64 futures: operations on them, transfers (linear, so known from two facts), and marks.
+-- The words of 128 futures: operations on them, transfers (linear, so known from two facts), and marks.
 pub mod WordLaws
 pub mod Linear
 pub mod TransferLaws

@@ -21,7 +21,7 @@ module _ (points : Points) (body : Body) (rows : points.rows ≡ rows_of body po
   shown point f e =
       let number = among_number points.first f e in
       let k = f - points.first in
-      let within : k < 64 = number.0 in
+      let within : k < 128 = number.0 in
       let whole : points.first + k ≡ f = number.1 in
       ap (λ b. if b then fact_of (facts_at points point) k else nowhere) e
       ∙ ap (λ facts. fact_of facts k) (unwrap_or-slice_get points.rows point none_come)

@@ -1,4 +1,4 @@
--- What a transfer of 64 futures does to each of them.
+-- What a transfer of 128 futures does to each of them.
 use Rattle.std.proofs.Common.{◌≡◌, ◌<◌, ℕ, ◌+◌, Bool, true, false, ◌&&◌, ◌||◌, refl, ap, ◌∙◌}
 use Rattle.std.specs.Prelude.{bit_and, bit_or}
 use Rattle.twe_program.specs.Statement.{Statement, Block, If, While, Return, Make, Wait, Statements, no_more, statement, Arms, arm, otherwise, no_else}
@@ -37,7 +37,7 @@ part-none : (b : Bool) → part b nothing_passes ≡ none_come
 part-none true = refl
 part-none false = refl
 
-module _ (first k : ℕ) (within : k < 64) where
+module _ (first k : ℕ) (within : k < 128) where
   abbrev one : Facts → Fact
   one facts = fact_of facts k
 
@@ -65,10 +65,10 @@ module _ (first k : ℕ) (within : k < 64) where
       ∙ mixed-all (first + k) body (is_set facts.out k) (is_set facts.not_out k)
 
   one-all_out : one unchanged.from_out ≡ fact true false
-  one-all_out = halves (is_set 18446744073709551615 k) true (is_set 0 k) false (set-ones k within) (set-zero k)
+  one-all_out = halves (is_set 340282366920938463463374607431768211455 k) true (is_set 0 k) false (set-ones k within) (set-zero k)
 
   one-none_out : one unchanged.from_not_out ≡ fact false true
-  one-none_out = halves (is_set 0 k) false (is_set 18446744073709551615 k) true (set-zero k) (set-ones k within)
+  one-none_out = halves (is_set 0 k) false (is_set 340282366920938463463374607431768211455 k) true (set-zero k) (set-ones k within)
 
   mutual
     one-passed : (b : Bool) (s : Statement) (t : Transfer) → one (part b (passed first s t)) ≡ after (first + k) s (one (part b t))

@@ -1,4 +1,4 @@
--- The dataflow facts of a body: for each of 64 futures and each point, whether the future may be out and whether it
+-- The dataflow facts of a body: for each of 128 futures and each point, whether the future may be out and whether it
 -- surely is.
 use Rattle.std.specs.Prelude.{ℕ, ◌-◌, ◌<◌, ◌==◌, nat_le, nat_lt, ◌&&◌, ◌↔◌, Bool, false, not, IsTrue, if◌then◌else◌, slice_get, unwrap_or}
 use Rattle.std.specs.Int.{bit_at}
@@ -12,13 +12,13 @@ use Rattle.cover_flow.specs.Out.{MayBeOut, SurelyOut}
 abbrev pub is_set : ℕ → ℕ → Bool
 is_set word k = bit_at word k == 1
 
--- the fact of one of the 64 futures, counted from 0
+-- the fact of one of the 128 futures, counted from 0
 abbrev pub fact_of : Facts → ℕ → Fact
 fact_of facts k = record { out = is_set facts.out k; not_out = is_set facts.not_out k }
 
--- the future is one of the 64 from the first one on
+-- the future is one of the 128 from the first one on
 abbrev pub is_among : ℕ → ℕ → Bool
-is_among first f = nat_le first f && nat_lt (f - first) 64
+is_among first f = nat_le first f && nat_lt (f - first) 128
 
 -- the facts at the point, if the body has it
 abbrev pub facts_at : Points → ℕ → Facts

@@ -12,18 +12,18 @@ use std::alloc::Global;
 use twe_io::{List, Memory, Stack};
 use twe_program::Body;
 
-/// For each of 64 futures and each point of a body, whether the future is out on some control path to the point, and
+/// For each of 128 futures and each point of a body, whether the future is out on some control path to the point, and
 /// whether on every one.
 #[derive(Debug, Drop)]
 pub struct Points {
-    /// The first of the 64 futures.
+    /// The first of the 128 futures.
     first: u32,
     /// The facts at each point.
     rows: List<Facts>,
 }
 
 impl Points {
-    /// Whether the future is one of the 64.
+    /// Whether the future is one of the 128.
     pub fn follows(&self, future: u32) -> bool
         ensures { result ≡ is_among self.now.first future }
     {
@@ -31,7 +31,7 @@ impl Points {
     }
 
     /// Whether on some control path to the point the last spawn or join of the future is a spawn. It is false if the body
-    /// has no such point, and if the future is none of the 64.
+    /// has no such point, and if the future is none of the 128.
     pub fn may(&self, point: u32, future: u32) -> bool
         ensures { result ≡ may_at self.now point future }
     {
@@ -39,14 +39,14 @@ impl Points {
     }
 
     /// Whether on every control path to the point the last spawn or join of the future is a spawn. It is true if no path
-    /// comes there, if the body has no such point, and if the future is none of the 64.
+    /// comes there, if the body has no such point, and if the future is none of the 128.
     pub fn surely(&self, point: u32, future: u32) -> bool
         ensures { result ≡ surely_at self.now point future }
     {
         !self.fact(point, future).not_out
     }
 
-    /// Whether some of the 64 may be out at the point.
+    /// Whether some of the 128 may be out at the point.
     pub fn some_may(&self, point: u32) -> bool
         ensures { IsFalse result → (future : ℕ) → may_at self.now point future ≡ false }
     {
@@ -106,7 +106,7 @@ fn rows_for(alloc: Global, body: &Body, first: u32) -> Result<List<Facts>, Memor
     Ok(List::from(rows))
 }
 
-/// The dataflow facts of the body for the 64 futures from the first one on, exactly as its control paths say. It goes
+/// The dataflow facts of the body for the 128 futures from the first one on, exactly as its control paths say. It goes
 /// through the body twice: first it finds what a turn of each loop does, and then the facts at the points.
 pub fn flow(alloc: Global, body: &Body, first: u32) -> Result<Points, Memory>
     ensures first { IfOk result (λ points. points.first ≡ first) }

@@ -1,11 +1,11 @@
-//! The dataflow fact of a future at a point, and the facts of 64 futures in two words.
+//! The dataflow fact of a future at a point, and the facts of 128 futures in two words.
 ghost use Rattle.std.specs.Prelude.{◌≡◌, ◌<◌, ◌^◌, nat_le, nat_lt, ◌-◌, ◌&&◌};
 ghost use Rattle.cover_flow.specs.Flow.{fact_of, is_among, is_set};
 ghost use Rattle.cover_flow.specs.inner.After.{nowhere};
 ghost use Rattle.cover_flow.specs.inner.Words.{joined_words, mask_of, none_come, put_out_words, start_words, taken_in_words};
 
 /// How many futures are followed at once.
-pub const FUTURES_AT_ONCE: u32 = 64;
+pub const FUTURES_AT_ONCE: u32 = 128;
 
 /// The dataflow fact of a future at a point: whether on some control path to the point it is out, and whether on some it
 /// is not. If no path comes there, both are false.
@@ -29,43 +29,43 @@ impl Fact {
     }
 }
 
-/// The facts of 64 futures at a point, with a bit for each future in each word.
+/// The facts of 128 futures at a point, with a bit for each future in each word.
 #[derive(Clone, Copy, Debug)]
 pub struct Facts {
     /// The futures that are out on some path.
-    pub out: u64,
+    pub out: u128,
     /// The futures that are not out on some path.
-    pub not_out: u64,
+    pub not_out: u128,
 }
 
 /// Whether the bit is set.
-fn is_set(word: u64, bit: u32) -> bool
-    requires { bit < 64 }
+fn is_set(word: u128, bit: u32) -> bool
+    requires { bit < 128 }
     ensures { result ≡ is_set word bit }
 {
     (word >> bit) & 1 == 1
 }
 
 /// The word with this bit alone.
-fn one_bit(bit: u32) -> u64
-    requires { bit < 64 }
+fn one_bit(bit: u32) -> u128
+    requires { bit < 128 }
     ensures { result ≡ 2 ^ bit }
 {
     1 << bit
 }
 
-/// Whether the future is one of the 64 from the first one on.
+/// Whether the future is one of the 128 from the first one on.
 pub fn is_among(first: u32, future: u32) -> bool
     ensures { result ≡ is_among first future }
 {
     first <= future && future - first < FUTURES_AT_ONCE
 }
 
-/// The word with the bit of the future, if it is one of the 64 from the first one on; otherwise 0.
-pub fn mask(first: u32, future: u32) -> u64
+/// The word with the bit of the future, if it is one of the 128 from the first one on; otherwise 0.
+pub fn mask(first: u32, future: u32) -> u128
     ensures { result ≡ mask_of first future }
 {
-    if first <= future && future - first < 64 {
+    if first <= future && future - first < 128 {
         one_bit(future - first)
     } else {
         0
@@ -79,7 +79,7 @@ impl Facts {
     {
         Facts {
             out: 0,
-            not_out: u64::MAX,
+            not_out: u128::MAX,
         }
     }
 
@@ -92,7 +92,7 @@ impl Facts {
 
     /// The fact of one of the futures, counted from 0.
     pub fn fact(self, bit: u32) -> Fact
-        requires { bit < 64 }
+        requires { bit < 128 }
         ensures { result ≡ fact_of self bit }
     {
         Fact {
@@ -112,7 +112,7 @@ impl Facts {
     }
 
     /// The facts after a spawn into the future of the mask.
-    pub fn put_out(self, mask: u64) -> Facts
+    pub fn put_out(self, mask: u128) -> Facts
         ensures { result ≡ put_out_words mask self }
     {
         Facts {
@@ -122,7 +122,7 @@ impl Facts {
     }
 
     /// The facts after a join of the future of the mask.
-    pub fn taken_in(self, mask: u64) -> Facts
+    pub fn taken_in(self, mask: u128) -> Facts
         ensures { result ≡ taken_in_words mask self }
     {
         Facts {

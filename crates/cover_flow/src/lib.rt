@@ -1,5 +1,5 @@
 //! A dataflow analysis: which futures may be out, and which surely are, at each point of a body. It is exact for the
-//! control paths to the point, which `specs/` defines. It follows 64 futures at once, with a bit for each. The rules on
+//! control paths to the point, which `specs/` defines. It follows 128 futures at once, with a bit for each. The rules on
 //! effects, which use it, are left to others.
 #![tactic(auto)]
 

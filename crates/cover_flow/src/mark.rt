@@ -1,4 +1,4 @@
-//! The facts of 64 futures at each point within statements.
+//! The facts of 128 futures at each point within statements.
 ghost use Rattle.std.specs.Prelude.{◌≡◌};
 ghost use Rattle.cover_flow.specs.inner.MarkedWords.{led, led_all, led_one, led_simple, left, left_all, left_one, marked_words, marked_words_all, marked_words_one, noted_words};
 ghost use Rattle.cover_flow.specs.inner.Words.{none_come};
@@ -11,7 +11,7 @@ use twe_program::{Arms, Block, Stmt, StmtKind};
 /// The futures that are followed, and the point to which a return goes.
 #[derive(Clone, Copy)]
 pub struct Walk {
-    /// The number of the first of the 64 futures.
+    /// The number of the first of the 128 futures.
     pub first: u32,
     /// The point at the end of the body.
     pub end: u32,

@@ -1,10 +1,10 @@
-//! Transfer functions: what going through statements does to the facts of 64 futures.
+//! Transfer functions: what going through statements does to the facts of 128 futures.
 ghost use Rattle.std.specs.Prelude.{◌≡◌};
 ghost use Rattle.cover_flow.specs.inner.Transfers.{applied, entered, nothing_passes, transfers_joined, transfers_looped, transfers_put_out, transfers_taken_in, unchanged};
 
 use crate::facts::Facts;
 
-/// What going through statements does to the facts of 64 futures. It is linear: it is known from what it does if all
+/// What going through statements does to the facts of 128 futures. It is linear: it is known from what it does if all
 /// futures are out before, and if none is.
 #[derive(Clone, Copy, Debug)]
 pub struct Transfer {
@@ -21,12 +21,12 @@ impl Transfer {
     {
         Transfer {
             from_out: Facts {
-                out: u64::MAX,
+                out: u128::MAX,
                 not_out: 0,
             },
             from_not_out: Facts {
                 out: 0,
-                not_out: u64::MAX,
+                not_out: u128::MAX,
             },
         }
     }
@@ -70,7 +70,7 @@ impl Transfer {
     }
 
     /// And then a spawn into the future of the mask.
-    pub fn put_out(self, mask: u64) -> Transfer
+    pub fn put_out(self, mask: u128) -> Transfer
         ensures { result ≡ transfers_put_out mask self }
     {
         Transfer {
@@ -80,7 +80,7 @@ impl Transfer {
     }
 
     /// And then a join of the future of the mask.
-    pub fn taken_in(self, mask: u64) -> Transfer
+    pub fn taken_in(self, mask: u128) -> Transfer
         ensures { result ≡ transfers_taken_in mask self }
     {
         Transfer {

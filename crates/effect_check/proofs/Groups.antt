@@ -28,7 +28,7 @@ declared-first p task first later judged = record {
   judged = judged;
 }
 
-followed-more : (count : ℕ) (groups : List Futures) (fs : Futures) → fs.points.first ≡ count → AreFollowed count groups → AreFollowed (count + 64) (fs ∷ groups)
+followed-more : (count : ℕ) (groups : List Futures) (fs : Futures) → fs.points.first ≡ count → AreFollowed count groups → AreFollowed (count + 128) (fs ∷ groups)
 followed-more count groups fs start all f below =
     let first = fs.points.first in
     elim (cases_lt f count) [
@@ -36,14 +36,14 @@ followed-more count groups fs start all f below =
           true-or (is_among first f) (list_any (λ (futures : Futures). is_among futures.points.first f) groups) (inr (all f before))
       | inr from ↦
           let le : first ≤ f = omega arith in
-          let lt : f - first < 64 = omega arith in
+          let lt : f - first < 128 = omega arith in
           true-or (is_among first f) (list_any (λ (futures : Futures). is_among futures.points.first f) groups)
-          (inl (and_from (nat_le first f) (nat_lt (f - first) 64) (le-leb first f le) (lt-ltb (f - first) 64 lt)))
+          (inl (and_from (nat_le first f) (nat_lt (f - first) 128) (le-leb first f le) (lt-ltb (f - first) 128 lt)))
     ]
 
 pub group-more : (p : Program) (task : Decl) (count : ℕ) (first between later : Option EffectFailure) (acts : List Act) (spawns : List Spawn)
     → acts ≡ acts_in_all p task.body.block → spawns ≡ spawns_among acts
-    → JudgesFirst p task count first between → JudgesGroup task.body acts spawns count between later → JudgesFirst p task (count + 64) first later
+    → JudgesFirst p task count first between → JudgesGroup task.body acts spawns count between later → JudgesFirst p task (count + 128) first later
 group-more p task count first between later acts spawns are_acts are_spawns so_far group =
     let all = acts_in_all p task.body.block in
     let fs : Futures = group.futures in

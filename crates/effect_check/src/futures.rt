@@ -34,7 +34,7 @@ impl Spawn {
     }
 }
 
-/// What the rules need to know of 64 futures of a body.
+/// What the rules need to know of 128 futures of a body.
 #[derive(Debug, Drop)]
 pub struct Futures {
     /// The points at which each may be out, and at which each surely is.

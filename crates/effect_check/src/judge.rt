@@ -8,7 +8,7 @@ use crate::cover::{are_free, are_inside, is_free, is_inside};
 use crate::futures::{Futures, Spawn, followed, spawns_among};
 use crate::marks::marks_of_all;
 use crate::rule::ERule;
-use cover_flow::flow;
+use cover_flow::{FUTURES_AT_ONCE, flow};
 use first_failure::{Failure, report_if};
 use std::alloc::Global;
 use twe_io::Memory;
@@ -116,7 +116,7 @@ fn judge_all_futures(futures: &Futures, acts: &[Act], first: &mut Option<Failure
     }
 }
 
-/// Reports the failures that the 64 futures from this one on make at the acts of a body.
+/// Reports the failures that the 128 futures from this one on make at the acts of a body.
 fn judge_group(
     alloc: Global,
     body: &Body,
@@ -141,7 +141,7 @@ fn judge_group(
     Ok(())
 }
 
-/// Reports the failures of a task: those that it has without its futures, and those that its futures make, 64 at once.
+/// Reports the failures of a task: those that it has without its futures, and those that its futures make, 128 at once.
 pub fn judge_task(
     alloc: Global,
     p: &Prog,
@@ -155,8 +155,15 @@ pub fn judge_task(
     let made = spawns_among(alloc, acts)?;
     let spawns = made.as_slice();
     judge_all_declared(task, acts, first);
-    for group in 0..task.body.futures / 64 + 1 {
-        judge_group(alloc, &task.body, acts, spawns, group * 64, first)?;
+    for group in 0..task.body.futures / FUTURES_AT_ONCE + 1 {
+        judge_group(
+            alloc,
+            &task.body,
+            acts,
+            spawns,
+            group * FUTURES_AT_ONCE,
+            first,
+        )?;
     }
     Ok(())
 }

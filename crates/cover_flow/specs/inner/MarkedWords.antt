@@ -1,4 +1,4 @@
--- The facts of 64 futures at each point of a body, by the turns of its loops.
+-- The facts of 128 futures at each point of a body, by the turns of its loops.
 use Rattle.std.specs.Prelude.{ℕ, List, if◌then◌else◌, slice_index_or, slice_set, replicate}
 use Rattle.twe_io.specs.Stacks.{top, below}
 use Rattle.twe_program.specs.declared.program.Body.{Body}

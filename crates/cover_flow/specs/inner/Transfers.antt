@@ -1,4 +1,4 @@
--- What going through statements does to the facts of 64 futures, and what a turn of each loop does.
+-- What going through statements does to the facts of 128 futures, and what a turn of each loop does.
 use Rattle.std.specs.Prelude.{ℕ, List, [], ◌∷◌, ◌++◌, bit_and, bit_or, if◌then◌else◌}
 use Rattle.twe_program.specs.Statement.{Statement, Block, If, While, Return, Make, Wait, Statements, no_more, statement, Arms, arm, otherwise, no_else}
 use Rattle.cover_flow.specs.declared.facts.Facts.{Facts}
@@ -6,7 +6,7 @@ use Rattle.cover_flow.specs.declared.transfer.Transfer.{Transfer}
 use Rattle.cover_flow.specs.inner.Words.{none_come, joined_words, put_out_words, taken_in_words, mask_of}
 
 abbrev pub unchanged : Transfer
-unchanged = record { from_out = record { out = 18446744073709551615; not_out = 0 }; from_not_out = record { out = 0; not_out = 18446744073709551615 } }
+unchanged = record { from_out = record { out = 340282366920938463463374607431768211455; not_out = 0 }; from_not_out = record { out = 0; not_out = 340282366920938463463374607431768211455 } }
 
 abbrev pub nothing_passes : Transfer
 nothing_passes = record { from_out = none_come; from_not_out = none_come }

@@ -112,12 +112,12 @@ method_failures method (act ∷ acts) = method_failures_at method act.kind ++ me
 abbrev pub first_from : Option EffectFailure → List EffectFailure → Option EffectFailure
 first_from first others = failures.first_from number_of first others
 
--- what the analysis of the task's body says of 64 futures, and the spawns into them
+-- what the analysis of the task's body says of 128 futures, and the spawns into them
 pub record IsGroupOf (p : Program) (task : Decl) (futures : Futures) : Type 0 where
   pub flow : IsFlowOf futures.points task.body
   pub spawns : futures.spawns ≡ followed futures.points (spawns_among (acts_in_all p task.body.block))
 
--- the first failure after those are reported that these 64 futures make at the acts of a body
+-- the first failure after those are reported that these 128 futures make at the acts of a body
 pub record JudgesGroup (body : Body) (acts : List Act) (spawns : List Spawn) (start : ℕ) (first later : Option EffectFailure) : Type 0 where
   pub futures : Futures
   pub flow : IsFlowOf futures.points body

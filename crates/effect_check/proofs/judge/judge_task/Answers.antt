@@ -19,14 +19,14 @@ loop-group-preserved c =
     let task = c.args.task.now in
     let is_acts : c.as_slice-acts.result.now ≡ acts_in_all p task.body.block = c.as_slice-acts.ensures ∙ c.in_ok-done.ensures in
     let is_spawns : c.as_slice-spawns.result.now ≡ spawns_among c.as_slice-acts.result.now = c.as_slice-spawns.ensures ∙ c.in_ok-made.ensures in
-    let count : c.loop-group.group * 64 + 64 ≡ (c.loop-group.group + 1) * 64 = omega arith in
+    let count : c.loop-group.group * 128 + 128 ≡ (c.loop-group.group + 1) * 128 = omega arith in
     subst (λ n. JudgesFirst p task n c.args.first.now c.judge_group.new.first) count
-    (group-more p task (c.loop-group.group * 64) c.args.first.now c.loop-group.first c.judge_group.new.first c.as_slice-acts.result.now c.as_slice-spawns.result.now is_acts is_spawns
+    (group-more p task (c.loop-group.group * 128) c.args.first.now c.loop-group.first c.judge_group.new.first c.as_slice-acts.result.now c.as_slice-spawns.result.now is_acts is_spawns
     c.loop-group.invariant c.in_ok-judge_group.ensures)
 
 pub returns : goal.returns
 returns c =
     let p = c.args.p.now in
     let task = c.args.task.now in
-    let enough : task.body.futures ≤ c.loop-group.group * 64 = omega arith in
-    all-groups p task (c.loop-group.group * 64) c.args.first.now c.loop-group.first enough c.loop-group.invariant
+    let enough : task.body.futures ≤ c.loop-group.group * 128 = omega arith in
+    all-groups p task (c.loop-group.group * 128) c.args.first.now c.loop-group.first enough c.loop-group.invariant
