@@ -94,7 +94,8 @@ fn check_grid_element(
     first: &mut Option<Failure<NRule>>,
 ) -> Option<LocalType>
     ensures found { result ≡ type_of_shape globals.now locals.now (GridElement array.now row.now column.now) }
-    ensures reported { first.new ≡ first_of_asks globals.now locals.now first.old (asks_inside globals.now locals.now (GridElement array.now row.now column.now)) }
+    ensures reported { first.new ≡ first_of_asks globals.now locals.now first.old
+        (asks_inside globals.now locals.now (GridElement array.now row.now column.now)) }
 {
     check_use(array, NameUse::Array { indexes: 2 }, globals, locals, first);
     let row = check_expr(row, Some(LocalType::Int), globals, locals, first);
@@ -137,8 +138,11 @@ fn check_operands(
     locals: &Locals,
     first: &mut Option<Failure<NRule>>,
 ) -> Option<LocalType>
-    ensures found { result ≡ type_if (operands_agree op (type_of globals.now locals.now left.now) (type_of globals.now locals.now right.now)) (Some (gives op)) }
-    ensures reported { first.new ≡ first_of_asks globals.now locals.now first.old (asks_of globals.now locals.now (left_need op) left.now ++ asks_of globals.now locals.now (right_need op (type_of globals.now locals.now left.now)) right.now) }
+    ensures found { result ≡ type_if
+        (operands_agree op (type_of globals.now locals.now left.now) (type_of globals.now locals.now right.now)) (Some (gives op)) }
+    ensures reported { first.new ≡ first_of_asks globals.now locals.now first.old
+        (asks_of globals.now locals.now (left_need op) left.now
+        ++ asks_of globals.now locals.now (right_need op (type_of globals.now locals.now left.now)) right.now) }
 {
     let left = check_expr(left, left_need(op), globals, locals, first);
     let right = check_expr(right, right_need(op, left), globals, locals, first);
