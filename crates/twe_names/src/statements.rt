@@ -95,7 +95,7 @@ pub fn statements(
     ensures meant { IfOk result (λ block. block ≡ statements_of globals.now scope.old written.now) }
     ensures walked { OnOk result (scope.new ≡ after_all globals.now scope.old written.now) }
 {
-    let mut stmts = Vec::new(alloc);
+    let mut stmts = Vec::with_capacity(alloc, written.stmts.len())?;
     for stmt in written.stmts.as_slice() {
         stmts.push(statement(stmt, alloc, globals, scope)?)?;
     }
@@ -116,7 +116,7 @@ fn arms(
     ensures meant { IfOk result (λ choice. choice ≡ arms_of globals.now scope.old written.now) }
     ensures walked { OnOk result (scope.new ≡ after_arms globals.now scope.old written.now) }
 {
-    let mut arms = Vec::new(alloc);
+    let mut arms = Vec::with_capacity(alloc, written.arms.len())?;
     for arm in written.arms.as_slice() {
         let condition = expression(&arm.condition, alloc, globals, &scope.locals)?;
         let body = block(&arm.body, alloc, globals, scope)?;

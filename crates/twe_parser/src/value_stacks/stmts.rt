@@ -17,7 +17,7 @@ impl ValueStacks {
         ensures { OnOk result (self.new ≡ perform_stmt action self.old) }
     {
         match action {
-            StmtAction::NewBlock => self.lists.push(List::new(alloc)),
+            StmtAction::NewBlock => self.open_block(alloc),
             StmtAction::CloseBlock => self.close_block(alloc),
             StmtAction::BlockStatement => self.block_statement(alloc),
             StmtAction::Let(is_final, local_type) => self.let_local(alloc, is_final, local_type),
@@ -46,6 +46,13 @@ impl ValueStacks {
         let mut stmts = self.lists.pop_or(List::new(alloc));
         stmts.push(Stmt { kind })?;
         self.lists.push(stmts)
+    }
+
+    /// Opens a block with room for one statement, since blocks of one statement are nested deepest.
+    fn open_block(&mut self, alloc: Global) -> Result<(), Memory>
+        ensures { OnOk result (self.new ≡ perform_stmt actions.NewBlock self.old) }
+    {
+        self.lists.push(List::with_capacity(alloc, 1)?)
     }
 
     fn close_block(&mut self, alloc: Global) -> Result<(), Memory>

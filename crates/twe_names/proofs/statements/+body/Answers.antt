@@ -6,8 +6,8 @@ use Rattle.twe_names.proofs.statements.+body.Goals as goal
 
 pub statements-loop-stmt-init : goal.statements-loop-stmt-init
 statements-loop-stmt-init t c =
-    made-none c.args.globals.now c.args.scope.now c.args.written.now (written.statements_of c.as_slice-stmt-items.result.now c.written.inside.close) c.new-stmts.result.items
-    (ap (λ xs. written.statements_of xs c.written.inside.close) c.as_slice-stmt-items.ensures.value ∙ c.written.view_is) c.new-stmts.ensures.items c.requires
+    made-none c.args.globals.now c.args.scope.now c.args.written.now (written.statements_of c.as_slice-stmt-items.result.now c.written.inside.close) c.in_ok-stmts.stmts.items
+    (ap (λ xs. written.statements_of xs c.written.inside.close) c.as_slice-stmt-items.ensures.value ∙ c.written.view_is) c.in_ok-stmts.ensures.items c.requires
 
 pub statements-loop-stmt-preserved : goal.statements-loop-stmt-preserved
 statements-loop-stmt-preserved t c =
@@ -27,8 +27,8 @@ statements-returns-clause-walked t c =
 
 pub arms-loop-arm-init : goal.arms-loop-arm-init
 arms-loop-arm-init t c =
-    made_arms-none c.args.globals.now c.args.scope.now c.args.written.now (written.arms_of c.as_slice-arm-items.result.now c.written.inside.last) c.new-arms.result.items
-    (ap (λ xs. written.arms_of xs c.written.inside.last) c.as_slice-arm-items.ensures.value ∙ c.written.view_is) c.new-arms.ensures.items c.requires
+    made_arms-none c.args.globals.now c.args.scope.now c.args.written.now (written.arms_of c.as_slice-arm-items.result.now c.written.inside.last) c.in_ok-arms.arms.items
+    (ap (λ xs. written.arms_of xs c.written.inside.last) c.as_slice-arm-items.ensures.value ∙ c.written.view_is) c.in_ok-arms.ensures.items c.requires
 
 pub arms-loop-arm-preserved : goal.arms-loop-arm-preserved
 arms-loop-arm-preserved t c =
