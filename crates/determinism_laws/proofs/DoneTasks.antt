@@ -24,7 +24,7 @@ use Rattle.determinism_laws.proofs.Trees.{holds_at, spawned_before}
 
 module _ (p : Program) (wf : IsWellFormed p) (keeps : KeepsEffects p) (lim : Bounds) (journal : List Entry) (legal : Legal p lim journal) (t : ℕ) where
   -- no segment below t stands before the first segment of t
-  after_first : (first : ℕ) → IsNextSegment journal t 0 first → (rank : List ℕ) (i : ℕ) → HasRank p lim journal t i rank → first ≤ i
+  pub after_first : (first : ℕ) → IsNextSegment journal t 0 first → (rank : List ℕ) (i : ℕ) → HasRank p lim journal t i rank → first ≤ i
   after_first first is [] i has = absurd has
   after_first first is (n ∷ []) i has = elim (cases_lt i first) [
     | inl before ↦ absurd (is.first i (omega arith) before has.0)
@@ -38,7 +38,7 @@ module _ (p : Program) (wf : IsWellFormed p) (keeps : KeepsEffects p) (lim : Bou
       ]
 
   -- and none once t is done
-  before_done : (end : ℕ) → HasStatus (state_before p lim journal end) t Done → (rank : List ℕ) (i : ℕ) → HasRank p lim journal t i rank → i < end
+  pub before_done : (end : ℕ) → HasStatus (state_before p lim journal end) t Done → (rank : List ℕ) (i : ℕ) → HasRank p lim journal t i rank → i < end
   before_done end done rank i has = elim (cases_lt i end) [
     | inl before ↦ before
     | inr after ↦

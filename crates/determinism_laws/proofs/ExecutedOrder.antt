@@ -209,7 +209,7 @@ module _ (p : Program) (wf : IsWellFormed p) (keeps : KeepsEffects p) (lim : Bou
       ap (λ (e : Entry). e.end) same ∙ spawn.made
 
   -- what is executed at a place
-  abbrev IsAmong : List SegmentAccesses → ℕ → Type 0
+  abbrev pub IsAmong : List SegmentAccesses → ℕ → Type 0
   IsAmong xs i = (s : SegmentAccesses) × IsIn s xs × IsSegmentAt p lim journal i s
 
   -- after the last segment of a task it has none
@@ -315,7 +315,7 @@ module _ (p : Program) (wf : IsWellFormed p) (keeps : KeepsEffects p) (lim : Bou
       let accesses : s.accesses ≡ r.accesses = a.accesses ∙ (ap (λ (x : TaskRow). (next_segment p (state_before p lim journal i) x).accesses) row ∙ sym b.accesses) in
       λ k. record { key = key k; accesses = accesses k }
 
-  all_listed : (t from count : ℕ) (segments : List SegmentAccesses) → AreSegmentsBelow p lim journal t from count segments → (i : ℕ) → from ≤ i → i < from + count
+  pub all_listed : (t from count : ℕ) (segments : List SegmentAccesses) → AreSegmentsBelow p lim journal t from count segments → (i : ℕ) → from ≤ i → i < from + count
       → IsBelow p lim journal t i → IsAmong segments i
   all_listed t from zero segments listed i least most below = absurd (omega (arith, least, most))
   all_listed t from (suc count) segments (inr outside) i least most below =

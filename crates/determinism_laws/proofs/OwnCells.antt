@@ -39,7 +39,7 @@ take_past [] (suc n) none = refl
 take_past (x ∷ xs) zero none = absurd (cc (none))
 take_past (x ∷ xs) (suc n) none = ap (λ (ys : List _). x ∷ ys) (take_past xs n none)
 
-after_all_push : (cells : List ℤ) (segments : List SegmentAccesses) (s : SegmentAccesses) → after_all cells (segments ++ s ∷ []) ≡ after (after_all cells segments) s.accesses
+pub after_all_push : (cells : List ℤ) (segments : List SegmentAccesses) (s : SegmentAccesses) → after_all cells (segments ++ s ∷ []) ≡ after (after_all cells segments) s.accesses
 after_all_push cells [] s = refl
 after_all_push cells (first ∷ segments) s = after_all_push (after cells first.accesses) segments s
 

@@ -203,7 +203,7 @@ module _ (p : Program) (wf : IsWellFormed p) (keeps : KeepsEffects p) (lim : Bou
           ]
         ]
 
-    orders_agree : AgreeOn (SegmentsConflict p) segments ordered
+    pub orders_agree : AgreeOn (SegmentsConflict p) segments ordered
     orders_agree = record { first_once = segments_once from count segments listed; second_once = order.once; members = order.members; agree = agree_pair }
 
     module _ (row : TaskRow) (final : IsRow (state_after p lim journal) t row) (flag : IsDeterministic p row) (enabled : IsEnabledThroughout p lim journal t from count) where

@@ -148,7 +148,7 @@ module _ (p : Program) (wf : IsWellFormed p) (lim : Bounds) (journal : List Entr
           let same : here.0 ≡ may.0.0 = got_one (slice_get (st n).tasks entry.mv.task) here.1 may.0.1 in
           admitted (sym here.2 ∙ (ap (λ (r : TaskRow). r.status) same ∙ may.0.2))
 
-  status_kept : (u n : ℕ) (found : Option Entry) → slice_get journal n ≡ found → ¬ IsSegment journal u n → (status : TaskStatus) → status ≢ Made
+  pub status_kept : (u n : ℕ) (found : Option Entry) → slice_get journal n ≡ found → ¬ IsSegment journal u n → (status : TaskStatus) → status ≢ Made
       → HasStatus (st n) u status → HasStatus (st (suc n)) u status
   status_kept u n None gone outside status admitted has =
       subst (λ (entries : List Entry). HasStatus (state_after p lim entries) u status) (sym (take_past journal n gone)) has

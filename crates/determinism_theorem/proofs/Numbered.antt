@@ -111,7 +111,7 @@ module _ (p : Program) (wf : IsWellFormed p) (keeps : KeepsEffects p) (lim : Bou
   spawned_in [] [] spawned child there = absurd (cc (there))
   spawned_in [] (name ∷ names) spawned child there = absurd spawned
   spawned_in (s ∷ segments) [] spawned child there = absurd (cc (there))
-  spawned_in (s ∷ segments) (name ∷ names) (inl later) child there = in_later s segments child (spawned_in segments (name ∷ names) later child there)
+  spawned_in (s ∷ segments) (name ∷ names) (inl later) child there = in_later s segments child (spawned_in segments (name ∷ names) later.1 child there)
   spawned_in (s ∷ segments) (name ∷ names) (inr here) child there =
       elim (first_or_later name child (list_any (λ c. c == child) names) (name == child) refl there) [
         | inl same ↦ record { by = s; member = inl refl; parent = here.0.0; spawn = subst (λ (n : ℕ). Spawns p lim journal here.0.0 s.key n) same here.0.1 }
@@ -127,7 +127,7 @@ module _ (p : Program) (wf : IsWellFormed p) (keeps : KeepsEffects p) (lim : Bou
   all_differ place [] [] all once spawned = tt
   all_differ place [] (name ∷ names) all once spawned = absurd spawned
   all_differ place (s ∷ segments) [] all once spawned = tt
-  all_differ place (s ∷ segments) (name ∷ names) all once (inl later) = all_differ place segments (name ∷ names) all.1 once.1 later
+  all_differ place (s ∷ segments) (name ∷ names) all once (inl later) = all_differ place segments (name ∷ names) all.1 once.1 later.1
   all_differ place (s ∷ segments) (name ∷ names) all once (inr here) = (
     (λ there.
         let found = spawned_in segments names here.1 name there in
@@ -147,7 +147,7 @@ module _ (p : Program) (wf : IsWellFormed p) (keeps : KeepsEffects p) (lim : Bou
   all_below [] [] some spawned = tt
   all_below [] (name ∷ names) some spawned = absurd spawned
   all_below (s ∷ segments) [] some spawned = tt
-  all_below (s ∷ segments) (name ∷ names) some (inl later) = all_below segments (name ∷ names) some later
+  all_below (s ∷ segments) (name ∷ names) some (inl later) = all_below segments (name ∷ names) some later.1
   all_below (s ∷ segments) (name ∷ names) some (inr here) = (final_below name here.0.1.child some here.0.1.there, all_below segments names some here.1)
 
   -- the task itself is none of them

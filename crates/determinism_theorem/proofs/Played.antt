@@ -51,7 +51,7 @@ use Rattle.seq_elide.specs.Elision.{first_frame, is_child}
 use Rattle.numbering_laws.specs.Played.{Played, Step, step_accesses, step_frame}
 use Rattle.numbering_laws.specs.Played as play
 use Rattle.numbering_laws.specs.Renumbering.{Numbering}
-use Rattle.determinism_theorem.specs.Steps.{AreNumbered, AreSpawned, AreSteps, ExecutionsArePlayed, IsPlayed, final_value, tasks_after}
+use Rattle.determinism_theorem.specs.Steps.{AreNumbered, AreSpawned, AreSteps, ExecutionsArePlayed, IsPlayed, SpawnsNone, final_value, tasks_after}
 use Rattle.determinism_theorem.proofs.Stops.{done_stop, end_of, join_stop, make_stop}
 
 -- lists one after another
@@ -84,7 +84,7 @@ is_in_any child [] there = absurd there
 is_in_any child (first ∷ others) (inl here) = any_true (first == child) (list_any (λ c. c == child) others) (eq-eqb first child (sym here))
 is_in_any child (first ∷ others) (inr later) = any_more (first == child) (list_any (λ c. c == child) others) (is_in_any child others later)
 
-given_prints : (next : Next) (frame : Frame) (value : ℤ) → (given_by next frame value).prints ≡ frame.prints
+pub given_prints : (next : Next) (frame : Frame) (value : ℤ) → (given_by next frame value).prints ≡ frame.prints
 given_prints Go frame value = refl
 given_prints (Get on into) frame value = refl
 given_prints (Join on into) frame value = refl
@@ -107,10 +107,18 @@ module _ (p : Program) (wf : IsWellFormed p) (keeps : KeepsEffects p) (lim : Bou
   spawned_joined : (xs ys : List SegmentAccesses) (cs bs : List ℕ) → AreSpawned p lim journal xs cs → AreSpawned p lim journal ys bs → AreSpawned p lim journal (xs ++ ys) (cs ++ bs)
   spawned_joined [] ys [] bs one two = two
   spawned_joined [] ys (a ∷ cs) bs one two = absurd one
-  spawned_joined (x ∷ xs) ys [] [] one two = spawned_joined xs ys [] [] one two
-  spawned_joined (x ∷ xs) ys [] (b ∷ bs) one two = inl (spawned_joined xs ys [] (b ∷ bs) one two)
-  spawned_joined (x ∷ xs) ys (a ∷ cs) bs (inl later) two = inl (spawned_joined xs ys (a ∷ cs) bs later two)
+  spawned_joined (x ∷ xs) ys [] [] one two = (one.0, spawned_joined xs ys [] [] one.1 two)
+  spawned_joined (x ∷ xs) ys [] (b ∷ bs) one two = inl (one.0, spawned_joined xs ys [] (b ∷ bs) one.1 two)
+  spawned_joined (x ∷ xs) ys (a ∷ cs) bs (inl later) two = inl (later.0, spawned_joined xs ys (a ∷ cs) bs later.1 two)
   spawned_joined (x ∷ xs) ys (a ∷ cs) bs (inr here) two = inr (here.0, spawned_joined xs ys cs bs here.1 two)
+
+  -- a segment that made no task spawned none
+  spawns_none : (u place : ℕ) (s : SegmentAccesses) (segment : IsSegment journal u place) → IsSegmentAt p lim journal place s
+      → ((child : ℕ) → ¬ (segment.entry.end ≡ entry_ends.Made child)) → SpawnsNone p lim journal s.key
+  spawns_none u place s segment at other parent child spawn =
+      let here : Spawns p lim journal parent place child = subst (λ (n : ℕ). Spawns p lim journal parent n child) at.key spawn in
+      let same : here.segment.entry ≡ segment.entry = got_one (slice_get journal place) here.segment.there segment.there in
+      other child (sym (ap (λ (e : Entry). e.end) same) ∙ here.made)
 
   -- a deterministic task that is done at the end
   record IsDue (u : ℕ) : Type 0 where
@@ -225,7 +233,10 @@ module _ (p : Program) (wf : IsWellFormed p) (keeps : KeepsEffects p) (lim : Bou
         steps = here ∷ [];
         children = [];
         same = step_here u place frame due starts s at [] [] tt;
-        spawned = tt;
+        spawned = (
+          spawns_none u place s segment at (λ child made. let both : entry_ends.Done value ≡ entry_ends.Made child = sym end ∙ made in cc (both)),
+          tt,
+        );
         played = λ to count numbered few. play.ends u here count (stop ∙ ap (λ (v : ℤ). stops.Done v) value_is);
       }
 
@@ -243,7 +254,10 @@ module _ (p : Program) (wf : IsWellFormed p) (keeps : KeepsEffects p) (lim : Bou
         steps = here ∷ r.steps;
         children = r.children;
         same = step_here u place frame due starts s at others r.steps r.same;
-        spawned = spawned_joined (s ∷ []) others [] r.children tt r.spawned;
+        spawned = spawned_joined (s ∷ []) others [] r.children (
+          spawns_none u place s segment at (λ child made. let both : entry_ends.Joins on ≡ entry_ends.Made child = sym end ∙ made in cc (both)),
+          tt,
+        ) r.spawned;
         played = λ to count numbered few. play.joins u here on r.steps count (tasks_after count r.children) stop joined.listed (r.played to count numbered few);
       }
 

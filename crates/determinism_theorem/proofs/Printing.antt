@@ -20,7 +20,7 @@ stopped_prints p frame (returns value s) = refl
 stopped_prints p frame (fails kind place s) = refl
 stopped_prints p frame (stops operation positions s) = refl
 
-step_prints_its : (p : Program) (step : Step) → step.frame.prints ≡ [] → step_prints p step ≡ printed (step_accesses p step)
+pub step_prints_its : (p : Program) (step : Step) → step.frame.prints ≡ [] → step_prints p step ≡ printed (step_accesses p step)
 step_prints_its p step bare =
     stopped_prints p step.frame (flow_of p step.frame step.frame.body step.cells) ∙ ap (λ (l : List ℤ). l ++ printed (step_accesses p step)) bare
 

@@ -36,13 +36,17 @@ AreSteps p lim journal (s ∷ segments) (step ∷ steps) =
     (step.cells ≡ (state_before p lim journal s.key).cells) × (step_accesses p step ≡ s.accesses) × (step.frame.prints ≡ [])
     × AreSteps p lim journal segments steps
 
+-- the segment at this place spawned no task
+abbrev pub SpawnsNone : Program → Bounds → List Entry → ℕ → Type 0
+SpawnsNone p lim journal place = (parent child : ℕ) → ¬ Spawns p lim journal parent place child
+
 -- the tasks that these segments spawned, one after another
 abbrev pub AreSpawned : Program → Bounds → List Entry → List SegmentAccesses → List ℕ → Type 0
 AreSpawned p lim journal [] [] = Unit {0}
 AreSpawned p lim journal [] (child ∷ children) = ⊥
-AreSpawned p lim journal (s ∷ segments) [] = AreSpawned p lim journal segments []
+AreSpawned p lim journal (s ∷ segments) [] = SpawnsNone p lim journal s.key × AreSpawned p lim journal segments []
 AreSpawned p lim journal (s ∷ segments) (child ∷ children) =
-    AreSpawned p lim journal segments (child ∷ children)
+    (SpawnsNone p lim journal s.key × AreSpawned p lim journal segments (child ∷ children))
     ⊎ (((parent : ℕ) × Spawns p lim journal parent s.key child) × AreSpawned p lim journal segments children)
 
 -- the numbering gives these tasks the numbers from `count` on

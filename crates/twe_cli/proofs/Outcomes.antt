@@ -9,7 +9,8 @@ use Rattle.twe_machine.specs.declared.ending.Outcome.TheVariants.{AllDone, Fault
 use Rattle.twe_machine.specs.declared.state.State.{State}
 use Rattle.twe_machine.specs.Runs.{AlwaysIsolated, EachAtMostOnce, EachOnce, IsOutcome, IsRun, Legal, state_after}
 use Rattle.isolation_laws.specs.Conflicts.{AlwaysCovered}
-use Rattle.determinism_theorem.specs.Steps.{DeterministicTasksElideAsRun}
+use Rattle.determinism_results.specs.Main.{MainHasItsResult}
+use Rattle.determinism_results.specs.Results.{DeterministicTasksHaveResults}
 use Rattle.flat_sched.specs.Stuck.{IsCycleOfReasons, IsStuckCycle}
 use Rattle.twe_report.specs.Texts.{stuck_text}
 use Rattle.twe_cli.specs.declared.answer.Answer.{Answer}
@@ -35,8 +36,8 @@ stuck_answer p st prints cycle line (Err e) exact reasons is same = tt
 -- the book has a legal journal and its outcome
 pub has_journal : (p : Program) (lim : Bounds) (journal : List Entry) (st : State) (outcome : Outcome) → IsRun p lim journal st → IsOutcome st outcome
     → (IsOutcome st AllDone → EachOnce journal st) → EachAtMostOnce journal → AlwaysIsolated p lim journal → AlwaysCovered p lim journal
-    → DeterministicTasksElideAsRun p lim journal → (book : Book) → book.prog ≡ Some p → book.refusal ≡ None → book.journal ≡ journal → book.outcome ≡ Some outcome → HasJournal p lim outcome book
-has_journal p lim journal st outcome run is once most isolated covered elided book program refusal entries told = record {
+    → DeterministicTasksHaveResults p lim journal → MainHasItsResult p lim journal → (book : Book) → book.prog ≡ Some p → book.refusal ≡ None → book.journal ≡ journal → book.outcome ≡ Some outcome → HasJournal p lim outcome book
+has_journal p lim journal st outcome run is once most isolated covered results of_main book program refusal entries told = record {
   program = program;
   not_refused = refusal;
   legal = subst (Legal p lim) (sym entries) run.legal;
@@ -46,5 +47,6 @@ has_journal p lim journal st outcome run is once most isolated covered elided bo
       (subst (λ (s : State). EachAsOften outcome journal s) run.same (often st journal outcome is once most));
   isolated = subst (AlwaysIsolated p lim) (sym entries) isolated;
   covered = subst (AlwaysCovered p lim) (sym entries) covered;
-  deterministic = subst (DeterministicTasksElideAsRun p lim) (sym entries) elided;
+  deterministic = subst (DeterministicTasksHaveResults p lim) (sym entries) results;
+  of_main = subst (MainHasItsResult p lim) (sym entries) of_main;
 }

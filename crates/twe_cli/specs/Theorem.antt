@@ -12,7 +12,8 @@ use Rattle.twe_machine.specs.declared.state.State.{State}
 use Rattle.twe_machine.specs.LowestFirst.{LowestFirst}
 use Rattle.twe_machine.specs.Runs.{Legal, state_after, IsOutcome, EachOnce, EachAtMostOnce, AlwaysIsolated}
 use Rattle.isolation_laws.specs.Conflicts.{AlwaysCovered}
-use Rattle.determinism_theorem.specs.Steps.{DeterministicTasksElideAsRun}
+use Rattle.determinism_results.specs.Main.{MainHasItsResult}
+use Rattle.determinism_results.specs.Results.{DeterministicTasksHaveResults}
 use Rattle.twe_cli.specs.declared.book.Book.{Book}
 
 -- each task was made, enabled and ended exactly once if all tasks are done, and else at most once
@@ -24,7 +25,9 @@ EachAsOften _ journal st = EachAtMostOnce journal
 -- those before it. If all tasks are done, each was made, enabled and ended exactly once, and else at most once. At every
 -- moment, of two tasks that may run and interfere, one yields to the other, and each access that a task may make in its next
 -- segment is covered for it. Each deterministic task that is done has given the result of its sequential execution on the
--- cells as they were when it became enabled: its value, the cells under its effects, and what was printed.
+-- cells as they were when it became enabled: its value, the cells under its effects, and what was printed. If `main` is
+-- deterministic and all tasks are done, the cells, the printed numbers and the number of tasks are those of the sequential
+-- execution of `main`.
 pub record HasJournal (p : Program) (lim : Bounds) (outcome : Outcome) (book : Book) : Type 0 where
   pub program : book.prog ≡ Some p
   pub not_refused : book.refusal ≡ None
@@ -34,7 +37,8 @@ pub record HasJournal (p : Program) (lim : Bounds) (outcome : Outcome) (book : B
   pub often : EachAsOften outcome book.journal (state_after p lim book.journal)
   pub isolated : AlwaysIsolated p lim book.journal
   pub covered : AlwaysCovered p lim book.journal
-  pub deterministic : DeterministicTasksElideAsRun p lim book.journal
+  pub deterministic : DeterministicTasksHaveResults p lim book.journal
+  pub of_main : MainHasItsResult p lim book.journal
 
 -- The book has a run of the program. Its journal is the lowest-first one, and the run is over: there was a fault, or no move
 -- is legal.

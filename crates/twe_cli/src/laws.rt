@@ -1,16 +1,21 @@
-//! A law of journals that are written.
+//! Laws of what is written: journals that are written replay, and a deterministic `main` has one result text.
 ghost use Rattle.std.specs.Prelude.{◌≡◌, ◌++◌, ℕ, List, true};
+ghost use Rattle.seg_journal.specs.declared.journal.Entry.{Entry};
 ghost use Rattle.twe_limits.specs.Limits.{Bounds, IsWithin};
 ghost use Rattle.twe_program.specs.Program.{Program};
 ghost use Rattle.twe_program.specs.WellFormed.{IsWellFormed};
 ghost use Rattle.twe_frontend.specs.Accepted.{Accepted};
-ghost use Rattle.twe_report.specs.Texts.{journal_part};
+ghost use Rattle.soundness_laws.specs.KeepsEffects.{KeepsEffects};
+ghost use Rattle.twe_machine.specs.Runs.{AllTasksDone, Legal, state_after};
+ghost use Rattle.determinism_results.specs.Main.{MainIsDeterministic};
+ghost use Rattle.twe_report.specs.Texts.{journal_part, result_text};
 ghost use Rattle.command_line.specs.declared.command.Command.TheVariants.{Run, Replay};
 ghost use Rattle.twe_cli.specs.declared.answer.Answer.{Answer};
 ghost use Rattle.twe_cli.specs.declared.book.Book.{Book};
 ghost use Rattle.twe_cli.specs.Answers.{Due, with_journal};
 ghost use Rattle.twe_cli.specs.Input.{HasNoMark, ends_line};
 
+use determinism_results::deterministic_mains_have_one_result;
 use twe_frontend::{one_program, refused_or_accepted};
 
 /// A journal that `run --journal` has written replays to the same bytes. Let an accepted text end with a line end and have
@@ -24,4 +29,15 @@ pub fn written_journals_replay()
 {
     one_program();
     refused_or_accepted();
+}
+
+/// If `main` is deterministic, what a run writes when all tasks are done is a function of the program and its limits: two
+/// journals of the program under the same limits, from whatever schedulers, have the same result text.
+pub fn deterministic_mains_have_one_result_text()
+    ensures { (p : Program) → IsWellFormed p → KeepsEffects p → MainIsDeterministic p
+        → (lim : Bounds) → IsWithin lim.fuel lim.tasks → (one other : List Entry) → Legal p lim one → Legal p lim other
+        → AllTasksDone (state_after p lim one) → AllTasksDone (state_after p lim other)
+        → result_text p (state_after p lim one) ≡ result_text p (state_after p lim other) }
+{
+    deterministic_mains_have_one_result();
 }

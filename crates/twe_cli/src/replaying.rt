@@ -13,7 +13,9 @@ use crate::answer::Answer;
 use crate::book::Book;
 use crate::running::answer_run;
 use crate::status::Status;
-use determinism_theorem::deterministic_tasks_elide_as_run;
+use determinism_results::{
+    deterministic_mains_have_their_results, deterministic_tasks_have_results,
+};
 use isolation_laws::accepted_runs_are_isolated;
 use seg_journal::{End, Entry, Journal, JournalFail, JournalText, Move, read_journal};
 use std::alloc::Global;
@@ -108,8 +110,10 @@ fn answer_replay(
     ensures { IfOk result (IsAnswerOfReplay p lim moves.now book.new) }
 {
     accepted_runs_are_isolated();
-    deterministic_tasks_elide_as_run();
+    deterministic_tasks_have_results();
+    deterministic_mains_have_their_results();
     each_thing_happens_once();
+    let _tasks = lim.tasks;
     let ended = outcome(&p, &st);
     let prints = counted_prints(alloc, &p, lim, moves, &journal, &st)?;
     let answer = answer_run(alloc, &p, &st, prints.as_slice(), ended)?;

@@ -12,7 +12,9 @@ ghost use Rattle.twe_machine.specs.declared.ending.Outcome.TheVariants as outcom
 use crate::answer::Answer;
 use crate::book::Book;
 use crate::status::Status;
-use determinism_theorem::deterministic_tasks_elide_as_run;
+use determinism_results::{
+    deterministic_mains_have_their_results, deterministic_tasks_have_results,
+};
 use flat_sched::{run_lowest, stuck_cycle};
 use isolation_laws::accepted_runs_are_isolated;
 use seg_journal::Journal;
@@ -63,7 +65,9 @@ fn run(alloc: Global, lim: Limits, p: Prog, book: &mut Book) -> Result<(Answer, 
     ensures last { IfOk result (λ r. r.1 ≡ state_after p lim book.new.journal) }
 {
     accepted_runs_are_isolated();
-    deterministic_tasks_elide_as_run();
+    deterministic_tasks_have_results();
+    deterministic_mains_have_their_results();
+    let _tasks = lim.tasks;
     let (entries, st) = run_lowest(alloc, &p, lim)?;
     let ended = outcome(&p, &st);
     let answer = answer_run(alloc, &p, &st, st.prints.as_slice(), ended)?;

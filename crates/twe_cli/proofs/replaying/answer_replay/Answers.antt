@@ -1,4 +1,5 @@
 use Rattle.std.proofs.Common.{ℤ, List, refl, sym, ◌∙◌, subst}
+use Rattle.twe_limits.specs.Limits.{Bounds, IsWithin}
 use Rattle.twe_program.specs.WellFormed.{IsWellFormed}
 use Rattle.twe_machine.specs.declared.state.State.{State}
 use Rattle.twe_machine.specs.Runs.{AllTasksDone, EachOnce, IsOutcome, state_after}
@@ -21,11 +22,13 @@ returns c =
     let laws = c.each_thing_happens_once.ensures in
     let isolated = c.accepted_runs_are_isolated.ensures.isolated p well c.requires.keeps lim journal run.legal in
     let covered = c.accepted_runs_are_isolated.ensures.covered p well c.requires.keeps lim journal run.legal in
-    let elided = c.deterministic_tasks_elide_as_run.ensures p well c.requires.keeps lim journal run.legal in
+    let within : IsWithin lim.fuel lim.tasks = subst (λ (b : Bounds). IsWithin b.fuel b.tasks) c.lim.view_is c.lim.invariant in
+    let results = c.deterministic_tasks_have_results.ensures p well c.requires.keeps lim within.tasks_least journal run.legal in
+    let of_main = c.deterministic_mains_have_their_results.ensures p well c.requires.keeps lim within.tasks_least journal run.legal in
     let once : IsOutcome st AllDone → EachOnce journal st = λ all. subst (EachOnce journal) (sym run.same) (laws.once p lim journal well run.legal (subst AllTasksDone run.same all.1)) in (
       ended,
       record {
-        has = has_journal p lim journal st ended run c.outcome-ended.ensures once (laws.at_most_once p lim journal well run.legal) isolated covered elided _ refl c.requires.new.refusal refl refl;
+        has = has_journal p lim journal st ended run c.outcome-ended.ensures once (laws.at_most_once p lim journal well run.legal) isolated covered results of_main _ refl c.requires.new.refusal refl refl;
         replays = c.requires.replayed.has;
       },
       subst (λ (xs : List ℤ). AnswersRun p (state_after p lim journal) xs ended answer) (c.as_slice.ensures ∙ c.in_ok-prints.ensures)

@@ -1,5 +1,6 @@
 use Rattle.std.proofs.Common.{ℤ, List, refl, sym, subst}
 use Rattle.seg_journal.specs.declared.journal.Entry.{Entry}
+use Rattle.twe_limits.specs.Limits.{Bounds, IsWithin}
 use Rattle.twe_program.specs.WellFormed.{IsWellFormed}
 use Rattle.twe_machine.specs.declared.state.State.{State}
 use Rattle.twe_machine.specs.Runs.{state_after}
@@ -27,13 +28,16 @@ returns-clause-answer c =
     let ran = c.in_ok-entries.ensures in
     let is = c.outcome-ended.ensures in
     let isolation = c.accepted_runs_are_isolated.ensures in
-    let isolated = isolation.isolated p (subst IsWellFormed c.p.view_is c.p.invariant) c.requires.keeps lim journal ran.legal in
-    let covered = isolation.covered p (subst IsWellFormed c.p.view_is c.p.invariant) c.requires.keeps lim journal ran.legal in
-    let elided = c.deterministic_tasks_elide_as_run.ensures p (subst IsWellFormed c.p.view_is c.p.invariant) c.requires.keeps lim journal ran.legal in
+    let well = subst IsWellFormed c.p.view_is c.p.invariant in
+    let within : IsWithin lim.fuel lim.tasks = subst (λ (b : Bounds). IsWithin b.fuel b.tasks) c.lim.view_is c.lim.invariant in
+    let isolated = isolation.isolated p well c.requires.keeps lim journal ran.legal in
+    let covered = isolation.covered p well c.requires.keeps lim journal ran.legal in
+    let results = c.deterministic_tasks_have_results.ensures p well c.requires.keeps lim within.tasks_least journal ran.legal in
+    let of_main = c.deterministic_mains_have_their_results.ensures p well c.requires.keeps lim within.tasks_least journal ran.legal in
     record {
       outcome = ended;
       run = record {
-        has = has_journal p lim journal st ended (record { legal = ran.legal; same = ran.state }) is ran.once ran.at_most_once isolated covered elided _ refl c.requires.new.refusal refl refl;
+        has = has_journal p lim journal st ended (record { legal = ran.legal; same = ran.state }) is ran.once ran.at_most_once isolated covered results of_main _ refl c.requires.new.refusal refl refl;
         lowest = ran.lowest;
         over = ran.ended ended is;
       };
