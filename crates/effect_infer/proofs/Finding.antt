@@ -66,8 +66,10 @@ pub spread-more : (methods : ℕ) (calls : List CallSite) (callers : List (List 
     → ListsCalls methods calls callers → SpreadsTo methods calls old at mid → slice_get mid at ≡ Some found
     → Grows mid new (IsHandedBy calls (row callers found.method) found.method found.need) → SpreadsTo methods calls old (at + 1) new
 spread-more methods calls callers old mid new at found lists so_far here grows = record {
-  longer = (so_far.longer.0 ++ grows.longer.0,
-  grows.longer.1 ∙ ap (λ (xs : List Found). xs ++ grows.longer.0) so_far.longer.1 ∙ append_assoc old so_far.longer.0 grows.longer.0);
+  longer = (
+    so_far.longer.0 ++ grows.longer.0,
+    grows.longer.1 ∙ ap (λ (xs : List Found). xs ++ grows.longer.0) so_far.longer.1 ∙ append_assoc old so_far.longer.0 grows.longer.0,
+  );
   only = λ need there. elim (grows.only need there) [
     | inl before ↦ so_far.only need before
     | inr h ↦
@@ -164,10 +166,13 @@ module _ (p : Program) (first all : List Found) (starts : Grows [] first (Contai
       let call : CallSite = record { callee = callee; caller = n; params = decl.params; args = args } in
       let there = call-is p n decl callee args has in
       let covers = spreads.all wide.0 call wide.1 there (sym wide.2) (need-there callee inner needed) in
-      let target = settled decl.params (filled_need args inner) in
-      (covers.0, covers.1, covers.2,
-      covers-trans target (effect_of (settled decl.params (filled_need args wide.0.need))) (effect_of covers.0.need)
-      (handed-widens decl callee args wide.0.need inner has.1 wide.3) covers.3)
+      let target = settled decl.params (filled_need args inner) in (
+        covers.0,
+        covers.1,
+        covers.2,
+        covers-trans target (effect_of (settled decl.params (filled_need args wide.0.need))) (effect_of covers.0.need)
+            (handed-widens decl callee args wide.0.need inner has.1 wide.3) covers.3,
+      )
 
   pub found-all : HasFoundAll p all
   found-all = record {

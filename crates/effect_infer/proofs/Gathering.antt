@@ -79,8 +79,8 @@ module _ (p : Program) where
       let is = start-in (0 + one.0) one.1.params steps f one.3 in
       let same : f.method ≡ one.0 = ap (λ (g : Found). g.method) is.2 ∙ zero-plus one.0 in
       (one.1, is.0, (subst (λ m. slice_get p.methods m ≡ Some one.1) (sym same) one.2, in-contains _ _ is.1), ap (λ (g : Found). g.need) is.2) where
-    zero-plus : (n : ℕ) → 0 + n ≡ n
-    zero-plus n = omega arith
+        zero-plus : (n : ℕ) → 0 + n ≡ n
+        zero-plus n = omega arith
 
   pub start-is : (m : ℕ) (decl : Decl) (need : Need) → HasStep p m decl (Touch need) → Contains (in_all (starts_in p.cells) 0 p.methods) (record { method = m; need = settled decl.params need })
   start-is m decl need has =
@@ -99,8 +99,8 @@ module _ (p : Program) where
       let args : is.1 ≡ c.args = sym (ap (λ (d : CallSite). d.args) is.3) in
       let step : IsIn (Call c.callee c.args) steps = subst (λ n. IsIn (Call n c.args) steps) callee (subst (λ es. IsIn (Call is.0 es) steps) args is.2) in
       (one.1, (subst (λ m. slice_get p.methods m ≡ Some one.1) (sym same) one.2, in-contains _ _ step), ap (λ (d : CallSite). d.params) is.3) where
-    zero-plus : (n : ℕ) → 0 + n ≡ n
-    zero-plus n = omega arith
+        zero-plus : (n : ℕ) → 0 + n ≡ n
+        zero-plus n = omega arith
 
   pub call-is : (m : ℕ) (decl : Decl) (callee : ℕ) (args : List Elem) → HasStep p m decl (Call callee args)
       → Contains (in_all (calls_in p.cells) 0 p.methods) (record { callee = callee; caller = m; params = decl.params; args = args })

@@ -40,8 +40,10 @@ grows-push all found = record {
 pub grows-then : (a b c : List Found) (P Q R : Found → Type 0) → Grows a b P → Grows b c Q
     → ((f : Found) → R f → P f ⊎ Q f) → ((f : Found) → P f → R f) → ((f : Found) → Q f → R f) → Grows a c R
 grows-then a b c P Q R first second split left right = record {
-  longer = (first.longer.0 ++ second.longer.0,
-  second.longer.1 ∙ ap (λ (xs : List Found). xs ++ second.longer.0) first.longer.1 ∙ append_assoc a first.longer.0 second.longer.0);
+  longer = (
+    first.longer.0 ++ second.longer.0,
+    second.longer.1 ∙ ap (λ (xs : List Found). xs ++ second.longer.0) first.longer.1 ∙ append_assoc a first.longer.0 second.longer.0,
+  );
   only = λ f there. elim (second.only f there) [
     | inl before ↦ elim (first.only f before) [ inl old ↦ inl old | inr p ↦ inr (left f p) ]
     | inr q ↦ inr (right f q)

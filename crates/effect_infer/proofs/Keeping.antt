@@ -42,7 +42,7 @@ distinct-push (n ∷ needs) need h new = (
     | inl before ↦ h.0 before
     | inr e ↦ new (0, omega arith, sym e)
   ],
-  distinct-push needs need h.1 (λ c. new (in-contains (n ∷ needs) need (inr (contains-in needs need c))))
+  distinct-push needs need h.1 (λ c. new (in-contains (n ∷ needs) need (inr (contains-in needs need c)))),
 )
 
 -- what is wanted has room, and is not covered
@@ -99,9 +99,9 @@ module _ (methods : ℕ) (all : List Found) where
     cases m need c = elim (cases_eq m new.method) [
       | inl e ↦ elim (Contains-push_cases (row table new.method) new.need need
           (subst (λ xs. Contains xs need) (row-here table new.method new.need below) (subst (λ n. Contains (row (with_item table new.method new.need) n) need) e c))) [
-        | inl old ↦ inl (subst (λ n. Contains (row table n) need) (sym e) old)
-        | inr is ↦ inr (e, sym is)
-      ]
+            | inl old ↦ inl (subst (λ n. Contains (row table n) need) (sym e) old)
+            | inr is ↦ inr (e, sym is)
+          ]
       | inr differ ↦ inl (subst (λ xs. Contains xs need) (row-other table new.method m new.need differ) c)
     ]
 

@@ -104,7 +104,8 @@ fn keep_rank(table: &mut Table, alloc: Global, all: &[Found], this: u64) -> Resu
         let method = found.method as usize;
         if method < table.len()
             && rank(&found.need) == this
-            && is_wanted(table, method, &found.need) {
+            && is_wanted(table, method, &found.need)
+        {
             let need = copy(alloc, &found.need)?;
             push_to(table, method, need)?;
         }

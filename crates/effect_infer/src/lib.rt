@@ -10,7 +10,6 @@ mod fail;
 mod found;
 mod gather;
 mod index;
-
 mod keep;
 mod least;
 mod rows;

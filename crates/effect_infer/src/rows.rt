@@ -18,11 +18,7 @@ pub(crate) fn no_rows<T: Drop>(alloc: Global, count: usize) -> Result<List<List<
 }
 
 /// Adds an item to the list of a method.
-pub(crate) fn push_to<T: Drop>(
-    lists: &mut List<List<T>>,
-    at: usize,
-    item: T,
-) -> Result<(), Memory>
+pub(crate) fn push_to<T: Drop>(lists: &mut List<List<T>>, at: usize, item: T) -> Result<(), Memory>
     requires { at < length lists.old }
     ensures { OnOk result (lists.new ≡ with_item lists.old at item) }
 {

@@ -61,13 +61,7 @@ fn settled_one(elem: Elem, params: u32) -> Elem
     match elem {
         Elem::Name(_) => elem,
         Elem::Index(_) => elem,
-        Elem::Var(k) => {
-            if k < params {
-                elem
-            } else {
-                Elem::AnyIndex
-            }
-        }
+        Elem::Var(k) => { if k < params { elem } else { Elem::AnyIndex } }
         Elem::AnyIndex => elem,
     }
 }

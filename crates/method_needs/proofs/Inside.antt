@@ -131,10 +131,10 @@ covers-trans need d e h k =
     let second = and_parts (inside d.path e.path) (not d.write || e.write) k in
     and_from (inside (plain need.elems) e.path) (not need.write || e.write) (inside-trans need.elems d.path e.path first.0 second.0)
     (writes need.write d.write e.write first.1 second.1) where
-  writes : (a b c : Bool) → (not a || b) ≡ true → (not b || c) ≡ true → (not a || c) ≡ true
-  writes true true c h k = k
-  writes true false c h k = absurd (false≢true h)
-  writes false b c h k = refl
+      writes : (a b c : Bool) → (not a || b) ≡ true → (not b || c) ≡ true → (not a || c) ≡ true
+      writes true true c h k = k
+      writes true false c h k = absurd (false≢true h)
+      writes false b c h k = refl
 
 write-refl : (b : Bool) → (not b || b) ≡ true
 write-refl true = refl

@@ -72,8 +72,11 @@ module _ (p : Program) (summaries : List Summary) (choice : IsChoice p summaries
       → Contains (steps_in_all p.cells decl.body.block) (steps.Touch need) → covers summary (effect_of need) ≡ true
   touch-covered m decl summary need is there step =
       let does = step-touch (with_summaries summaries p) (with_one decl summary) need step in
-      sure (covers summary (effect_of need)) (λ outside. accepted does.1 (inr (with_one decl summary, method-there m decl summary is there,
-      access_outside does.0 (effect_of need) does.1 does.2 outside)))
+      sure (covers summary (effect_of need)) (λ outside. accepted does.1 (inr (
+        with_one decl summary,
+        method-there m decl summary is there,
+        access_outside does.0 (effect_of need) does.1 does.2 outside,
+      )))
 
   -- and so is each effect of a called method
   call-covered : (m : ℕ) (decl : Decl) (summary : Summary) (callee : ℕ) (args : List Elem) (effect : Effect) → slice_get p.methods m ≡ Some decl → slice_get summaries m ≡ Some summary
@@ -82,8 +85,11 @@ module _ (p : Program) (summaries : List Summary) (choice : IsChoice p summaries
   call-covered m decl summary callee args effect is there step among =
       let does = step-call (with_summaries summaries p) (with_one decl summary) callee args step in
       let effects = filled_summary (slice_get (with_summaries summaries p).methods callee) args in
-      sure (covers summary effect) (λ outside. accepted does.1 (inr (with_one decl summary, method-there m decl summary is there,
-      called_outside does.0 effects effect does.1 does.2 (in-contains _ _ among) outside)))
+      sure (covers summary effect) (λ outside. accepted does.1 (inr (
+        with_one decl summary,
+        method-there m decl summary is there,
+        called_outside does.0 effects effect does.1 does.2 (in-contains _ _ among) outside,
+      )))
 
   -- the effects of a called method with this summary
   filled-there : (callee : ℕ) (args : List Elem) (decl : Decl) (summary : Summary) (effect : Effect) → slice_get p.methods callee ≡ Some decl → slice_get summaries callee ≡ Some summary

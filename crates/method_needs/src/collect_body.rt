@@ -107,12 +107,7 @@ fn add_simple(
 
 /// Adds what the statement does, in all of its parts.
 #[cycle(body)]
-fn add_stmt(
-    stmt: &Stmt,
-    steps: &mut Steps,
-    alloc: Global,
-    cells: &[CellDecl],
-) -> Result<(), Memory>
+fn add_stmt(stmt: &Stmt, steps: &mut Steps, alloc: Global, cells: &[CellDecl]) -> Result<(), Memory>
     ensures { OnOk result (steps.new ≡ steps.old ++ steps_in cells.now stmt.now) }
 {
     match &stmt.kind {
@@ -148,12 +143,7 @@ fn add_block(
 
 /// Adds what the arms of an `if` do, conditions included.
 #[cycle(body)]
-fn add_arms(
-    arms: &Arms,
-    steps: &mut Steps,
-    alloc: Global,
-    cells: &[CellDecl],
-) -> Result<(), Memory>
+fn add_arms(arms: &Arms, steps: &mut Steps, alloc: Global, cells: &[CellDecl]) -> Result<(), Memory>
     ensures { OnOk result (steps.new ≡ steps.old ++ steps_in_one cells.now arms.now) }
 {
     for arm in arms.arms.as_slice() {

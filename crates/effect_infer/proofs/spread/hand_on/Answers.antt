@@ -14,7 +14,7 @@ returns c =
     let call = c.args.call.now in
     let need = c.args.need.now in
     let is : c.in_ok-need.need ≡ settled call.params (filled_need call.args need) =
-        c.in_ok-need.ensures ∙ ap (settled call.params) (c.in_ok-filled.ensures ∙ ap (λ (es : List Elem). filled_need es need) c.as_slice.ensures) in
+    c.in_ok-need.ensures ∙ ap (settled call.params) (c.in_ok-filled.ensures ∙ ap (λ (es : List Elem). filled_need es need) c.as_slice.ensures) in
     let found = ap (λ (n : Need). let f : Found = record { method = call.caller; need = n } in f) is in
     on_ok_weaker c.add.result (λ grows.
     grows-as c.args.all.now c.add.new.all (λ f. f ≡ record { method = call.caller; need = c.in_ok-need.need }) (IsHanded call c.args.method need) grows

@@ -15,7 +15,7 @@ returns-in-None c =
 pub returns-in-Some : goal.returns-in-Some
 returns-in-Some c =
     let is : row c.args.callers.now c.args.method ≡ c.as_slice.result.now =
-        get_or_from_slice_get c.args.callers.now c.args.method c.in-Some.places.now [] (sym c.in-Some.ensures) ∙ sym c.as_slice.ensures in
+    get_or_from_slice_get c.args.callers.now c.args.method c.in-Some.places.now [] (sym c.in-Some.ensures) ∙ sym c.as_slice.ensures in
     on_ok_weaker c.hand_to_all.result (λ grows.
     subst (λ (places : List ℕ). Grows c.args.all.now c.hand_to_all.new.all (IsHandedBy c.args.calls.now places c.args.method c.args.need.now)) (sym is) grows)
     c.hand_to_all.ensures
