@@ -1,0 +1,121 @@
+-- The list of needs grows, one step after another.
+use Rattle.std.proofs.Common.{◌≡◌, ◌⊎◌, ◌<◌, ◌≤◌, ℕ, ◌+◌, List, [], ◌∷◌, ◌++◌, length, take, get_or, None, Some, inl, inr, refl, sym, ap, ◌∙◌, subst, arith, append_assoc, append-nil}
+use Rattle.std.specs.Prelude.{slice_get}
+use Rattle.std.specs.List.{Contains}
+use Rattle.std.proofs.lemmas.List.{take_more, take_all}
+use Rattle.std.proofs.lemmas.Option.{none-some, same_Some}
+use Rattle.std.proofs.lemmas.List.Elements.{Contains-append_left, Contains-push, Contains-push_cases}
+use Rattle.method_needs.specs.declared.need.Need.{Need}
+use Rattle.method_needs.specs.Needs.{Widens}
+use Rattle.method_needs.proofs.Inside.{covers-refl}
+use Rattle.effect_infer.specs.declared.found.Found.{Found}
+use Rattle.effect_infer.specs.declared.found.CallSite.{CallSite}
+use Rattle.effect_infer.specs.Gathered.{handed}
+use Rattle.effect_infer.specs.Covered.{IsCovered, Grows, IsHanded, IsHandedBy}
+
+pub covered-longer : (old more : List Found) (f : Found) → IsCovered old f → IsCovered (old ++ more) f
+covered-longer old more f c = (c.0, Contains-append_left old more c.0 c.1, c.2, c.3)
+
+pub covered-grown : (old new : List Found) (more : List Found) → new ≡ old ++ more → (f : Found) → IsCovered old f → IsCovered new f
+covered-grown old new more is f c = subst (λ xs. IsCovered xs f) (sym is) (covered-longer old more f c)
+
+pub covered-itself : (all : List Found) (f : Found) → Contains all f → IsCovered all f
+covered-itself all f there = (f, there, refl, covers-refl f.need)
+
+-- nothing is added where all is covered
+pub grows-same : (all : List Found) (P : Found → Type 0) → ((f : Found) → P f → IsCovered all f) → Grows all all P
+grows-same all P h = record { longer = ([], sym (append-nil all)); only = λ f c. inl c; all = h }
+
+pub grows-none : (all : List Found) (P : Found → Type 0) → ((f : Found) → P f → ⊥) → Grows all all P
+grows-none all P h = grows-same all P (λ f p. absurd (h f p))
+
+pub grows-push : (all : List Found) (found : Found) → Grows all (all ++ found ∷ []) (λ f. f ≡ found)
+grows-push all found = record {
+  longer = (found ∷ [], refl);
+  only = λ f c. elim (Contains-push_cases all found f c) [ inl old ↦ inl old | inr e ↦ inr (sym e) ];
+  all = λ f e. subst (λ g. IsCovered (all ++ found ∷ []) g) (sym e) (covered-itself (all ++ found ∷ []) found (Contains-push all found));
+}
+
+-- one growth after another
+pub grows-then : (a b c : List Found) (P Q R : Found → Type 0) → Grows a b P → Grows b c Q
+    → ((f : Found) → R f → P f ⊎ Q f) → ((f : Found) → P f → R f) → ((f : Found) → Q f → R f) → Grows a c R
+grows-then a b c P Q R first second split left right = record {
+  longer = (
+    first.longer.0 ++ second.longer.0,
+    second.longer.1 ∙ ap (λ (xs : List Found). xs ++ second.longer.0) first.longer.1 ∙ append_assoc a first.longer.0 second.longer.0,
+  );
+  only = λ f there. elim (second.only f there) [
+    | inl before ↦ elim (first.only f before) [ inl old ↦ inl old | inr p ↦ inr (left f p) ]
+    | inr q ↦ inr (right f q)
+  ];
+  all = λ f r. elim (split f r) [
+    | inl p ↦ covered-grown b c second.longer.0 second.longer.1 f (first.all f p)
+    | inr q ↦ second.all f q
+  ];
+}
+
+-- the same needs, said otherwise
+pub grows-as : (a b : List Found) (P Q : Found → Type 0) → Grows a b P → ((f : Found) → Q f → P f) → ((f : Found) → P f → Q f) → Grows a b Q
+grows-as a b P Q g to from = record {
+  longer = g.longer;
+  only = λ f there. elim (g.only f there) [ inl old ↦ inl old | inr p ↦ inr (from f p) ];
+  all = λ f q. g.all f (to f q);
+}
+
+-- a list of needs, one after the other
+pub none-taken : {X : Type 0} (xs : List X) (x : X) → Contains (take 0 xs) x → ⊥
+none-taken xs x there = let below = there.1 in omega (arith, below)
+
+pub taken-cases : {X : Type 0} (xs : List X) (i : ℕ) (y x : X) → i < length xs → get_or xs i y ≡ y → Contains (take (i + 1) xs) x → Contains (take i xs) x ⊎ (y ≡ x)
+taken-cases xs i y x below is there =
+    let more = take_more xs i y below in
+    elim (Contains-push_cases (take i xs) (get_or xs i y) x (subst (λ ys. Contains ys x) more there)) [
+      | inl before ↦ inl before
+      | inr e ↦ inr (sym is ∙ e)
+    ]
+
+pub taken-before : {X : Type 0} (xs : List X) (i : ℕ) (y x : X) → i < length xs → Contains (take i xs) x → Contains (take (i + 1) xs) x
+taken-before xs i y x below there = subst (λ ys. Contains ys x) (sym (take_more xs i y below)) (Contains-append_left (take i xs) (get_or xs i y ∷ []) x there)
+
+pub taken-last : {X : Type 0} (xs : List X) (i : ℕ) (y : X) → i < length xs → get_or xs i y ≡ y → Contains (take (i + 1) xs) y
+taken-last xs i y below is =
+    subst (λ ys. Contains ys y) (sym (take_more xs i y below)) (subst (λ z. Contains (take i xs ++ z ∷ []) y) (sym is) (Contains-push (take i xs) y))
+
+pub starts-more : (a b c starts : List Found) (i : ℕ) (start : Found) → i < length starts → get_or starts i start ≡ start
+    → Grows a b (Contains (take i starts)) → Grows b c (λ f. f ≡ start) → Grows a c (Contains (take (i + 1) starts))
+starts-more a b c starts i start below is first second =
+    grows-then a b c (Contains (take i starts)) (λ f. f ≡ start) (Contains (take (i + 1) starts)) first second
+    (λ f r. elim (taken-cases starts i start f below is r) [ inl before ↦ inl before | inr e ↦ inr (sym e) ])
+    (λ f p. taken-before starts i start f below p)
+    (λ f e. subst (Contains (take (i + 1) starts)) (sym e) (taken-last starts i start below is))
+
+-- the places of calls, one after the other
+module _ (calls : List CallSite) (places : List ℕ) (method : ℕ) (need : Need) (i place : ℕ) (below : i < length places) (is : get_or places i place ≡ place) where
+  split-places : (f : Found) → IsHandedBy calls (take (i + 1) places) method need f
+      → IsHandedBy calls (take i places) method need f ⊎ ((call : CallSite) × (slice_get calls place ≡ Some call) × IsHanded call method need f)
+  split-places f h = elim (taken-cases places i place h.0 below is h.2) [
+    | inl before ↦ inl (h.0, h.1, before, h.3, h.4)
+    | inr e ↦ inr (h.1, subst (λ at. slice_get calls at ≡ Some h.1) (sym e) h.3, h.4)
+  ]
+
+  pub places-more : (a b c : List Found) (call : CallSite) → slice_get calls place ≡ Some call → Grows a b (IsHandedBy calls (take i places) method need)
+      → Grows b c (IsHanded call method need) → Grows a c (IsHandedBy calls (take (i + 1) places) method need)
+  places-more a b c call at first second =
+      grows-then a b c (IsHandedBy calls (take i places) method need) (IsHanded call method need) (IsHandedBy calls (take (i + 1) places) method need) first second
+      (λ f r. elim (split-places f r) [
+        | inl before ↦ inl before
+        | inr other ↦ inr (subst (λ d. IsHanded d method need f) (same_Some other.0 call (sym other.1 ∙ at)) other.2)
+      ])
+      (λ f h. (h.0, h.1, taken-before places i place h.0 below h.2, h.3, h.4))
+      (λ f h. (place, call, taken-last places i place below is, at, h))
+
+  -- a place where no call stands hands nothing on
+  pub places-skip : (a b : List Found) → slice_get calls place ≡ None → Grows a b (IsHandedBy calls (take i places) method need)
+      → Grows a b (IsHandedBy calls (take (i + 1) places) method need)
+  places-skip a b at first =
+      grows-as a b (IsHandedBy calls (take i places) method need) (IsHandedBy calls (take (i + 1) places) method need) first
+      (λ f r. elim (split-places f r) [
+        | inl before ↦ before
+        | inr other ↦ absurd (none-some other.0 (sym at ∙ other.1))
+      ])
+      (λ f h. (h.0, h.1, taken-before places i place h.0 below h.2, h.3, h.4))

@@ -1,0 +1,133 @@
+-- The widest needs make the least summaries.
+use Rattle.std.proofs.Common.{◌≡◌, ◌⊎◌, ◌<◌, ◌≤◌, ℕ, zero, suc, ◌+◌, Bool, true, false, List, [], ◌∷◌, map, length, Some, None, Result, Ok, Err, inl, inr, refl, sym, ap, ◌∙◌, subst, arith}
+use Rattle.std.specs.Prelude.{slice_get, IsTrue, IfOk}
+use Rattle.std.specs.List.{Contains}
+use Rattle.std.proofs.lemmas.List.{length-map}
+use Rattle.std.proofs.lemmas.Option.{slice_get_within}
+use Rattle.effect_sets.specs.declared.effects.Effect.{Effect}
+use Rattle.effect_sets.specs.declared.effects.Summary.{Summary}
+use Rattle.effect_sets.specs.Covers.{covers, effect_covers}
+use Rattle.twe_limits.specs.Language.{max_effects}
+use Rattle.twe_program.specs.Program.{Program}
+use Rattle.method_needs.specs.declared.need.Need.{Need}
+use Rattle.method_needs.specs.Needs.{IsNeed, own, called, IsWidest, Widens, effect_of}
+use Rattle.method_needs.specs.Choices.{with_summaries, IsChoice, NoMethodFails, HasNeeds, CoversNeeds}
+use Rattle.method_needs.proofs.Inside.{covers-trans}
+use Rattle.method_needs.proofs.Soundness as sound
+use Rattle.method_needs.proofs.Leastness as least
+use Rattle.first_failure.proofs.Members.{IsIn, contains-in, in-contains, in-list_any}
+use Rattle.effect_infer.specs.declared.found.Found.{Found}
+use Rattle.effect_infer.specs.declared.fail.InferFail.{InferFail}
+use Rattle.effect_infer.specs.declared.fail.InferFail.TheVariants.{TooMany, OutOfMemory}
+use Rattle.effect_infer.specs.Rows.{row}
+use Rattle.effect_infer.specs.Covered.{IsCovered, HasFoundAll}
+use Rattle.effect_infer.specs.Kept.{AreDistinct, some_cover, most_kept, Keeps}
+use Rattle.effect_infer.specs.Table.{AreFew, IsFirstLong, IsWidestTable}
+use Rattle.effect_infer.specs.Inferred.{AreWidest, summary_of, IsLeast, HasTooMany, AreLeast, AreCoveredByAll, HasCause}
+use Rattle.effect_infer.proofs.Ranks.{widens-same}
+use Rattle.effect_infer.proofs.Keeping.{cover-found, cover-wider}
+
+-- the table of the widest
+module _ (p : Program) (all : List Found) (table : List (List Need)) (found : HasFoundAll p all) (keeps : Keeps (length p.methods) all table (λ f. Unit {0})) where
+  only-widest : (m : ℕ) (need : Need) → Contains (row table m) need → IsWidest p m need
+  only-widest m need c = record {
+    needed = found.only (record { method = m; need = need }) (keeps.found m need c);
+    widest = λ other needed h.
+        let cover = found.covered (record { method = m; need = other }) needed in
+        let wider = covers-trans need (effect_of other) (effect_of cover.0.need) h cover.3 in
+        let same : cover.0.need ≡ need = keeps.widest m need cover.0 c cover.1 cover.2 wider in
+        widens-same other need h (subst (λ n. Widens n other) same cover.3);
+  }
+
+  -- a method that needs something is there
+  need-there : (m : ℕ) (need : Need) → IsNeed p m need → m < length p.methods
+  need-there m need (own n decl step has) = slice_get_within p.methods n decl has.0
+  need-there m need (called n decl callee args inner has needed) = slice_get_within p.methods n decl has.0
+
+  all-covered : (m : ℕ) (need : Need) → length (row table m) ≤ max_effects → IsNeed p m need → some_cover (row table m) need ≡ true
+  all-covered m need few needed =
+      let cover = found.covered (record { method = m; need = need }) needed in
+      let there : m < length p.methods = need-there m need needed in
+      elim (keeps.all_done cover.0 cover.1 tt (subst (λ n. n < length p.methods) (sym cover.2) there)) [
+        | inl full ↦ absurd (let here = subst (λ n. length (row table n) ≡ most_kept) cover.2 full in omega (arith, here, few))
+        | inr covered ↦ cover-wider (row table m) need cover.0.need (subst (λ n. some_cover (row table n) cover.0.need ≡ true) cover.2 covered) cover.3
+      ]
+
+  pub widest-table : IsWidestTable p table
+  widest-table = record { long = keeps.long; only = only-widest; once = keeps.once; covered = all-covered }
+
+-- the same lists, said otherwise
+pub keeps-of : (m n : ℕ) (xs ys : List Found) (table : List (List Need)) (IsDone : Found → Type 0) → m ≡ n → xs ≡ ys → Keeps m xs table IsDone → Keeps n ys table IsDone
+keeps-of m n xs ys table IsDone count same k =
+    subst (λ i. Keeps i ys table IsDone) count (subst (λ (zs : List Found). Keeps m zs table IsDone) same k)
+
+-- an element of a list that is mapped
+mapped-at : (table : List (List Need)) (m : ℕ) (summary : Summary) → slice_get (map summary_of table) m ≡ Some summary → summary ≡ summary_of (row table m)
+mapped-at [] m summary e = absurd (cc)
+mapped-at (needs ∷ table) zero summary e = cc
+mapped-at (needs ∷ table) (suc m) summary e = mapped-at table m summary e
+
+effects-in : (needs : List Need) (effect : Effect) → IsIn effect (map effect_of needs) → (need : Need) × IsIn need needs × (effect ≡ effect_of need)
+effects-in [] effect h = absurd h
+effects-in (n ∷ needs) effect (inl e) = (n, inl refl, e)
+effects-in (n ∷ needs) effect (inr h) = let found = effects-in needs effect h in (found.0, inr found.1, found.2)
+
+in-effects : (needs : List Need) (need : Need) → IsIn need needs → IsIn (effect_of need) (map effect_of needs)
+in-effects [] need h = absurd h
+in-effects (n ∷ needs) need (inl e) = inl (ap effect_of e)
+in-effects (n ∷ needs) need (inr h) = inr (in-effects needs need h)
+
+module _ (p : Program) (table : List (List Need)) (wide : IsWidestTable p table) where
+  all-there : (m : ℕ) (need : Need) → length (row table m) ≤ max_effects → IsWidest p m need → Contains (row table m) need
+  all-there m need few widest =
+      let by = cover-found (row table m) need (wide.covered m need few widest.needed) in
+      let same : by.0 ≡ need = widest.widest by.0 (wide.only m by.0 by.1).needed by.2 in
+      subst (Contains (row table m)) same by.1
+
+  are-widest : (m : ℕ) → length (row table m) ≤ max_effects → AreWidest p m (row table m)
+  are-widest m few = record { exact = λ need. (wide.only m need, all-there m need few); once = wide.once m }
+
+  is-least : (m : ℕ) → length (row table m) ≤ max_effects → IsLeast p m (summary_of (row table m))
+  is-least m few = (row table m, are-widest m few, few, refl)
+
+  pub too-many : (fail : InferFail) → IsFirstLong table fail → HasCause p fail
+  too-many (TooMany method) h =
+      let long = wide.long in
+      (omega (arith, long, h.0), (row table method, wide.once method, h.1, wide.only method), λ m below. (summary_of (row table m), is-least m (h.2 m below)))
+  too-many (OutOfMemory memory) h = tt
+
+  module _ (few : AreFew table) where
+    pub are-least : AreLeast p (map summary_of table)
+    are-least = record {
+      one_each = length-map table summary_of ∙ wide.long;
+      least = λ m summary e. subst (IsLeast p m) (sym (mapped-at table m summary e)) (is-least m (few m));
+    }
+
+    from-need : (m : ℕ) (summary : Summary) (effect : Effect) → slice_get (map summary_of table) m ≡ Some summary → Contains summary.effects effect
+        → (need : Need) × IsNeed p m need × (effect ≡ effect_of need)
+    from-need m summary effect e there =
+        let is = mapped-at table m summary e in
+        let found = effects-in (row table m) effect (subst (λ (s : Summary). IsIn effect s.effects) is (contains-in summary.effects effect there)) in
+        (found.0, (wide.only m found.0 (in-contains (row table m) found.0 found.1)).needed, found.2)
+
+    covers-needs : CoversNeeds p (map summary_of table)
+    covers-needs m summary need e needed =
+        let is = mapped-at table m summary e in
+        let by = cover-found (row table m) need (wide.covered m need (few m) needed) in
+        let there = in-effects (row table m) by.0 (contains-in (row table m) by.0 by.1) in
+        subst (λ (s : Summary). covers s (effect_of need) ≡ true) (sym is)
+        (in-list_any (λ d. effect_covers d (effect_of need)) (map effect_of (row table m)) (effect_of by.0) there by.2)
+
+    pub accepted : NoMethodFails (with_summaries (map summary_of table) p)
+    accepted = sound.accepted p (map summary_of table) (length-map table summary_of ∙ wide.long) from-need covers-needs
+
+    pub covered-by-all : AreCoveredByAll p (map summary_of table)
+    covered-by-all chosen choice passes m mine summary effect at here there =
+        let from = from-need m summary effect here there in
+        subst (λ e. covers mine e ≡ true) (sym from.2) (least.covered p chosen choice passes m from.0 from.1 mine at)
+
+-- what holds of the summaries that the table makes, if no method has too many needs
+pub made-few : (P : List Summary → Type 0) (table : List (List Need)) (made : Result (List Summary) InferFail) → IfOk made (λ needs. needs ≡ map summary_of table)
+    → IfOk made (λ needs. AreFew table) → (AreFew table → P (map summary_of table)) → IfOk made P
+made-few P table (Ok needs) is few holds = subst P (sym is) (holds few)
+made-few P table (Err fail) is few holds = tt

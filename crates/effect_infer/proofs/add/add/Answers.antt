@@ -1,0 +1,17 @@
+use Rattle.std.proofs.Common.{◌≡◌, List, sym, subst}
+use Rattle.std.proofs.lemmas.Result.{on_ok_weaker}
+use Rattle.effect_infer.specs.declared.found.Found.{Found}
+use Rattle.effect_infer.specs.Covered.{Grows, IsCovered}
+use Rattle.effect_infer.proofs.Growth.{grows-same, grows-push}
+use Rattle.effect_infer.proofs.add.add.Goals as goal
+
+-- one that was found covers it
+pub returns-then-is_covered_at : goal.returns-then-is_covered_at
+returns-then-is_covered_at c =
+    grows-same c.args.all.now (λ f. f ≡ c.args.found) (λ f e. subst (IsCovered c.args.all.now) (sym e) (c.is_covered_at.ensures c.if-is_covered_at.true))
+
+-- it is added
+pub returns : goal.returns
+returns c =
+    on_ok_weaker c.push.result (λ is. subst (λ (all : List Found). Grows c.args.all.now all (λ f. f ≡ c.args.found)) (sym is) (grows-push c.args.all.now c.args.found))
+    c.push.ensures.ok

@@ -1,0 +1,58 @@
+//! The least summaries of a program's methods.
+ghost use Rattle.std.specs.Prelude.{◌≡◌, ◌<◌, ◌^◌, length, IfErr, IfOk};
+ghost use Rattle.method_needs.specs.Choices.{NoMethodFails, with_summaries};
+ghost use Rattle.effect_infer.specs.Covered.{HasFoundAll};
+ghost use Rattle.effect_infer.specs.Inferred.{AreCoveredByAll, AreLeast, HasCause};
+ghost use Rattle.effect_infer.specs.Table.{IsWidestTable};
+
+use crate::add::add_all;
+use crate::fail::InferFail;
+use crate::found::AllFound;
+use crate::gather::gather;
+use crate::index::Index;
+use crate::keep::{Table, keep_widest};
+use crate::spread::spread;
+use crate::summary::{Needs, summaries};
+use std::alloc::Global;
+use twe_io::Memory;
+use twe_program::Prog;
+
+/// Needs of methods, among which are the widest of each method.
+fn find(alloc: Global, p: &Prog) -> Result<AllFound, Memory>
+    requires { length p.now.methods < 2 ^ 32 }
+    ensures { IfOk result (HasFoundAll p.now) }
+{
+    let methods = p.methods.as_slice();
+    let gathered = gather(alloc, p.cells.as_slice(), methods)?;
+    let mut all = AllFound::new(alloc);
+    let mut index = Index::new(alloc)?;
+    add_all(&mut all, &mut index, alloc, gathered.starts.as_slice())?;
+    spread(&mut all, &mut index, alloc, &gathered.calls, methods.len())?;
+    Ok(all)
+}
+
+/// For each method its widest needs, or too many of them.
+fn widest(alloc: Global, p: &Prog) -> Result<Table, Memory>
+    ensures count { IfOk result (λ table. length table < 2 ^ 32) }
+    ensures widest { IfOk result (IsWidestTable p.now) }
+{
+    let methods = p.methods.as_slice();
+    if methods.len() > u32::MAX as usize {
+        return Err(Memory::of_uncountable(methods));
+    }
+    let all = find(alloc, p)?;
+    keep_widest(alloc, all.as_slice(), methods.len())
+}
+
+/// The least summary of each method: the needs of the method that no other of its needs covers. What methods declare is not
+/// looked at. With these summaries no method fails the rule on methods, and every choice with which none fails covers them.
+/// It fails exactly if some method would have more than 8 effects, with the first such method, or if memory runs out.
+pub fn infer(alloc: Global, p: &Prog) -> Result<Needs, InferFail>
+    ensures least { IfOk result (AreLeast p.now) }
+    ensures accepted { IfOk result (λ needs. NoMethodFails (with_summaries needs p.now)) }
+    ensures covered { IfOk result (AreCoveredByAll p.now) }
+    ensures refused { IfErr result (HasCause p.now) }
+{
+    let table = widest(alloc, p)?;
+    summaries(alloc, &table)
+}

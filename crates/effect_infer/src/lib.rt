@@ -1,0 +1,22 @@
+//! The least summaries of a program's methods: for each method the needs that no other need of it covers.
+//!
+//! `method_needs` says what a method needs. The code starts from what the bodies read and write, hands each need on to the
+//! callers until nothing is new, and then keeps the widest.
+#![tactic(auto)]
+
+mod add;
+mod callers;
+mod fail;
+mod found;
+mod gather;
+mod index;
+mod keep;
+mod least;
+mod rows;
+mod spread;
+mod summary;
+mod widen;
+
+pub use fail::InferFail;
+pub use least::infer;
+pub use summary::Needs;

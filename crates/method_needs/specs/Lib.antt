@@ -1,0 +1,4 @@
+pub mod Steps
+pub mod Needs
+pub mod Choices
+pub mod inner

@@ -1,0 +1,11 @@
+use Rattle.std.proofs.Common.{subst}
+use Rattle.twe_parser.specs.Fails.{Refuses}
+use Rattle.twe_parser.specs.declared.fail.ParseFail.{ParseFail}
+use Rattle.twe_infer.specs.Meaning.{of_text}
+use Rattle.twe_infer.proofs.read.tree_of.Goals as goal
+
+-- the parser's refusal
+pub returns-in-Err-Syntax-clause-refused : goal.returns-in-Err-Syntax-clause-refused
+returns-in-Err-Syntax-clause-refused c =
+    of_text c.in-Err-Syntax.rule c.in-Err-Syntax.place
+    (subst (λ (fail : ParseFail). Refuses fail c.args.text.now) c.in-Err-Syntax.field-0-is c.in-Err-Syntax.ensures.refused)

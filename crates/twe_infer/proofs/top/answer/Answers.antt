@@ -1,0 +1,31 @@
+use Rattle.std.proofs.Common.{◌≡◌, ◌≤◌, ◌<◌, ℕ, List, [], ◌∷◌, length, refl, sym, ap, ◌∙◌, subst, arith}
+use Rattle.std.proofs.lemmas.List.{nil_from_length}
+use Rattle.twe_infer.specs.declared.status.InferStatus.TheVariants.{Usage}
+use Rattle.twe_infer.specs.Answers.{Cause, on_err}
+use Rattle.twe_infer.specs.Ends.{source}
+use Rattle.twe_infer.proofs.Causes.{cause_read}
+use Rattle.twe_infer.proofs.Readings.{was_read}
+use Rattle.twe_infer.proofs.top.answer.Goals as goal
+
+-- a list that is not empty has a first word
+first-word : (words : List (List ℕ)) → 1 ≤ length words → (first : List ℕ) × (others : List (List ℕ)) × (words ≡ first ∷ others)
+first-word [] some = absurd (omega (arith, some))
+first-word (first ∷ others) some = (first, others, refl)
+
+-- what was read is answered
+pub returns-in-empty : goal.returns-in-empty
+returns-in-empty g c =
+    let src = source g.S.Source.left g.S.Source.faults g.S.Source.read_gives in
+    let said = c.read_all-read.ensures in
+    let read = was_read src c.args.src.now c.read_all-read.new.source c.read_all-read.result said.whole said.ended said.short said.fault said.too_long said.reads in
+    let few = c.in-empty.len_below in
+    let none : c.args.words.now ≡ [] = nil_from_length c.args.words.now (omega (arith, few)) in
+    cause_read src c.args.words.now _ _ c.read_all-read.result c.answer_read.result none read c.answer_read.ensures
+
+-- there is a word
+pub returns-in_ok-usage_text-in-len1-up : goal.returns-in_ok-usage_text-in-len1-up
+returns-in_ok-usage_text-in-len1-up g c =
+    let src = source g.S.Source.left g.S.Source.faults g.S.Source.read_gives in
+    let word = first-word c.args.words.now c.in-len1-up.len_at_least in
+    subst (Cause src c.args.words.now c.args.src.now c.args.src.now) (sym (c.on_err.ensures ∙ ap (on_err Usage) c.in_ok-usage_text-in-len1-up.ensures))
+    (Cause.usage word.0 word.1 word.2 refl)

@@ -1,0 +1,8 @@
+pub mod Codes
+pub mod Ends
+pub mod Meaning
+pub mod Reading
+pub mod Order
+pub mod Texts
+pub mod Answers
+pub mod inner

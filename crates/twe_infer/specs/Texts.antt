@@ -1,0 +1,81 @@
+-- The lines that are written.
+use Rattle.std.specs.Prelude.{ℕ, ℤ, Bool, true, false, List, [], ◌∷◌, ◌++◌, map, codes, slice_index_or}
+use Rattle.std.specs.Fmt.{signed_decimal}
+use Rattle.region_paths.specs.declared.elements.Elem.{Elem}
+use Rattle.region_paths.specs.declared.elements.Elem.TheVariants.{Name, Index, Var, AnyIndex}
+use Rattle.effect_sets.specs.declared.effects.Summary.{Summary}
+use Rattle.twe_ast.specs.declared.name.Name as written
+use Rattle.twe_ast.specs.declared.item.Item.{Item}
+use Rattle.twe_ast.specs.declared.item.Item.TheVariants.{Regions, Cell, Method, Task}
+use Rattle.twe_infer.specs.Order.{paths_of}
+
+-- the name of this number; every one is there
+abbrev pub name_at : List (List ℕ) → ℕ → List ℕ
+name_at names number = slice_index_or names number []
+
+abbrev pub parameter_at : List written.Name → ℕ → List ℕ
+parameter_at params number = name_at (map (λ (name : written.Name). name.text) params) number
+
+abbrev pub in_brackets : List ℕ → List ℕ
+in_brackets text = codes "[" ++ (text ++ codes "]")
+
+-- `D`, `[7]`, `[j]` or `[?]`
+abbrev pub element_text : List (List ℕ) → List written.Name → Elem → List ℕ
+element_text regions params (Name n) = name_at regions n
+element_text regions params (Index i) = in_brackets (signed_decimal i)
+element_text regions params (Var k) = in_brackets (parameter_at params k)
+element_text regions params AnyIndex = codes "[?]"
+
+-- the elements, each after `:`
+abbrev pub more_elements : List (List ℕ) → List written.Name → List Elem → List ℕ
+more_elements regions params [] = []
+more_elements regions params (e ∷ es) = codes ":" ++ (element_text regions params e ++ more_elements regions params es)
+
+-- a path is written from its first region on; one that does not begin with a region is written from `Root` on
+abbrev pub path_text : List (List ℕ) → List written.Name → List Elem → List ℕ
+path_text regions params [] = codes "Root"
+path_text regions params (Name n ∷ es) = element_text regions params (Name n) ++ more_elements regions params es
+path_text regions params (Index i ∷ es) = codes "Root" ++ more_elements regions params (Index i ∷ es)
+path_text regions params (Var k ∷ es) = codes "Root" ++ more_elements regions params (Var k ∷ es)
+path_text regions params (AnyIndex ∷ es) = codes "Root" ++ more_elements regions params (AnyIndex ∷ es)
+
+-- the paths, each after `, `
+abbrev pub more_paths : List (List ℕ) → List written.Name → List (List Elem) → List ℕ
+more_paths regions params [] = []
+more_paths regions params (path ∷ paths) = codes ", " ++ (path_text regions params path ++ more_paths regions params paths)
+
+abbrev pub paths_text : List (List ℕ) → List written.Name → List (List Elem) → List ℕ
+paths_text regions params [] = []
+paths_text regions params (path ∷ paths) = path_text regions params path ++ more_paths regions params paths
+
+-- `pure`, or a clause for the paths that are only read and one for those that are written
+abbrev pub clauses_text : List (List ℕ) → List written.Name → List (List Elem) → List (List Elem) → List ℕ
+clauses_text regions params [] [] = codes "pure"
+clauses_text regions params (r ∷ reads) [] = codes "reads " ++ paths_text regions params (r ∷ reads)
+clauses_text regions params [] (w ∷ writes) = codes "writes " ++ paths_text regions params (w ∷ writes)
+clauses_text regions params (r ∷ reads) (w ∷ writes) =
+    codes "reads " ++ (paths_text regions params (r ∷ reads) ++ (codes " writes " ++ paths_text regions params (w ∷ writes)))
+
+abbrev pub summary_text : List (List ℕ) → List written.Name → Summary → List ℕ
+summary_text regions params summary = clauses_text regions params (paths_of false summary.effects) (paths_of true summary.effects)
+
+-- `get: reads D:[j]`
+abbrev pub line_of : List ℕ → List (List ℕ) → List written.Name → Summary → List ℕ
+line_of name regions params summary = name ++ (codes ": " ++ (summary_text regions params summary ++ 10 ∷ []))
+
+-- a line for each method, in the order of the declarations
+abbrev pub lines_of : List (List ℕ) → List Summary → List Item → List ℕ
+lines_of regions summaries [] = []
+lines_of regions summaries (Regions names ∷ items) = lines_of regions summaries items
+lines_of regions summaries (Cell cell ∷ items) = lines_of regions summaries items
+lines_of regions summaries (Task deterministic decl ∷ items) = lines_of regions summaries items
+lines_of regions [] (Method decl ∷ items) = lines_of regions [] items
+lines_of regions (summary ∷ summaries) (Method decl ∷ items) =
+    line_of decl.name.text regions decl.params summary ++ lines_of regions summaries items
+
+abbrev pub usage_text : List ℕ
+usage_text = codes "usage: twe_infer" ++ 10 ∷ []
+
+-- `too many effects: f`
+abbrev pub too_many_text : List ℕ → List ℕ
+too_many_text name = codes "too many effects: " ++ (name ++ 10 ∷ [])

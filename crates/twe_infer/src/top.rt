@@ -1,0 +1,105 @@
+//! The top call: the whole program, apart from where its bytes come from and go to.
+ghost use Rattle.std.specs.Prelude.{IfOk};
+ghost use Rattle.twe_infer.specs.Answers.{Answers, Cause, Due};
+ghost use Rattle.twe_infer.specs.Ends.{sink, source};
+ghost use Rattle.twe_infer.specs.Meaning.{Means};
+ghost use Rattle.twe_infer.specs.inner.Given.{AnswersRead};
+
+use crate::answer::{Answer, tell};
+use crate::read::{Meaning, read_meaning};
+use crate::status::InferStatus;
+use crate::text::{lines_of, too_many_text, usage_text};
+use effect_infer::{InferFail, infer};
+use std::alloc::Global;
+use twe_frontend::FrontFail;
+use twe_io::{Bytes, Memory, ReadFail, Sink, Source, Word, read_all};
+use twe_limits::MAX_TEXT_BYTES;
+use twe_report::{read_fault_text, refusal_text, too_long_text};
+
+/// Reads the text of a program from the source, and writes the least summary of each of its methods, a line for each.
+///
+/// `Answers` says what each status means and what is written with it. The program takes no words: if there is one, the answer
+/// is the usage line, and nothing is read from the source. After `Memory` nothing was written.
+pub fn infer_top<S: Source, O: Sink, E: Sink>(
+    alloc: Global,
+    words: &[Word],
+    src: &mut S,
+    out: &mut O,
+    err: &mut E,
+) -> InferStatus
+    ensures { Answers (source S.left S.faults S.read_gives) (sink O.written O.faults O.write_gives) (sink E.written E.faults E.write_gives)
+        words.now src.old src.new out.old out.new err.old err.new result }
+{
+    let made = answer(alloc, words, src);
+    tell(&made, out, err)
+}
+
+/// The answer to these words.
+fn answer<S: Source>(alloc: Global, words: &[Word], src: &mut S) -> Result<Answer, Memory>
+    ensures { IfOk result (Cause (source S.left S.faults S.read_gives) words.now src.old src.new) }
+{
+    match words {
+        [] => {
+            let read = read_all(alloc, src, MAX_TEXT_BYTES);
+            answer_read(alloc, read)
+        }
+        [_, ..] => Ok(Answer::on_err(alloc, InferStatus::Usage, usage_text(alloc)?)),
+    }
+}
+
+/// The answer to what the reading of the source came to.
+fn answer_read(alloc: Global, read: Result<Bytes, ReadFail>) -> Result<Answer, Memory>
+    ensures { IfOk result (AnswersRead read) }
+{
+    match read {
+        Ok(text) => answer_text(alloc, text.as_slice()),
+        Err(ReadFail::ReadFault) => Ok(Answer::on_err(
+            alloc,
+            InferStatus::ReadFault,
+            read_fault_text(alloc)?,
+        )),
+        Err(ReadFail::TooLong) => Ok(Answer::on_err(
+            alloc,
+            InferStatus::TooLong,
+            too_long_text(alloc)?,
+        )),
+        Err(ReadFail::OutOfMemory(memory)) => Err(memory),
+    }
+}
+
+/// The answer to a text.
+fn answer_text(alloc: Global, text: &[u8]) -> Result<Answer, Memory>
+    ensures { IfOk result (Due text.now) }
+{
+    match read_meaning(alloc, text) {
+        Ok(meaning) => answer_meaning(alloc, text, &meaning),
+        Err(FrontFail::Refused(refusal)) => Ok(Answer::on_err(
+            alloc,
+            InferStatus::Refused,
+            refusal_text(alloc, refusal)?,
+        )),
+        Err(FrontFail::OutOfMemory(memory)) => Err(memory),
+    }
+}
+
+/// The answer to a text with this meaning.
+fn answer_meaning(alloc: Global, text: &[u8], meaning: &Meaning) -> Result<Answer, Memory>
+    requires { Means text.now meaning.now.tree meaning.now.program }
+    ensures { IfOk result (Due text.now) }
+{
+    let _ = text;
+    let p = &meaning.program;
+    match infer(alloc, p) {
+        Ok(summaries) => {
+            let items = meaning.tree.items.as_slice();
+            let lines = lines_of(alloc, p.regions.as_slice(), summaries.as_slice(), items)?;
+            Ok(Answer::on_out(alloc, lines))
+        }
+        Err(InferFail::TooMany { method }) => {
+            let decl = &p.methods.as_slice()[method as usize];
+            let line = too_many_text(alloc, &decl.name)?;
+            Ok(Answer::on_err(alloc, InferStatus::TooMany, line))
+        }
+        Err(InferFail::OutOfMemory(memory)) => Err(memory),
+    }
+}
