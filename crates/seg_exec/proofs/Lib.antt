@@ -1,10 +1,12 @@
 pub mod Accesses
+pub mod Assigning
 pub mod Bounds
 pub mod CellNumbers
 pub mod Determined
 pub mod Evaluating
 pub mod Falling
 pub mod Performing
+pub mod GoingOn
 pub mod PlainLists
 pub mod Reaching
 pub mod Remains

@@ -7,10 +7,12 @@
 #![tactic(auto)]
 
 mod arithmetic;
+mod assign;
 mod begin;
 mod call;
 mod cells;
 mod children;
+mod choose;
 mod continuation;
 mod elements;
 mod entry;

@@ -19,6 +19,12 @@ pub record Goes {C : Type 0} (p : Program) (ways : Ways C) (old new : Standing C
   pub fuel : new.config.fuel ≤ old.config.fuel
   pub less : new.config.fuel ≡ old.config.fuel → size_of_work new.config.work < size_of_work old.config.work
 
+-- some steps or none: whatever run led to the first standing leads to the second
+pub record Nears {C : Type 0} (p : Program) (ways : Ways C) (old new : Standing C) : Type 0 where
+  pub on : (start : Standing C) → Reaches p ways start old → Reaches p ways start new
+  pub fuel : new.config.fuel ≤ old.config.fuel
+  pub less : new.config.fuel ≡ old.config.fuel → size_of_work new.config.work ≤ size_of_work old.config.work
+
 -- some steps, the last of which is the end
 abbrev pub Ends : {C : Type 0} → Program → Ways C → Standing C → Ending → Standing C → Type 0
 Ends {C = C} p ways old ending new = (start : Standing C) → Reaches p ways start old → Finishes p ways start ending new
