@@ -6,6 +6,7 @@ pub mod Determined
 pub mod Evaluating
 pub mod Falling
 pub mod Performing
+pub mod Gathering
 pub mod GoingOn
 pub mod PlainLists
 pub mod Reaching

@@ -19,6 +19,7 @@ mod entry;
 mod evaluate;
 mod execute;
 mod frame;
+mod gather;
 mod give;
 mod laws;
 mod machine;

@@ -11,6 +11,7 @@ use crate::assign::{Carried, assign};
 use crate::cells::Cells;
 use crate::choose::{choose, choose_first};
 use crate::continuation::Continuation;
+use crate::gather::gather;
 use crate::machine::Machine;
 use crate::request::Ending;
 use crate::stepping::{evaluate, evaluate_then, step};
@@ -144,6 +145,9 @@ pub(crate) fn perform<'a, C: Cells>(
         }
         Continuation::Choose { block, arms, last } => {
             choose(alloc, p, machine, cells, prints, block, arms, last)
+        }
+        Continuation::Gather { taken, args, goal } => {
+            gather(alloc, p, machine, cells, prints, taken, args, goal)
         }
         work => step(alloc, p, machine, cells, prints, work),
     }
