@@ -15,7 +15,7 @@ use Rattle.seg_exec.specs.inner.Assignments.{Does, MayDo, MayWriteAt, WritesAt, 
 use Rattle.seg_exec.specs.inner.Continuations.{Config, Continuation, Evaluate, GiveVar, GiveCell, GiveElement}
 use Rattle.seg_exec.specs.inner.Reached.{MayRequest, Served}
 use Rattle.seg_exec.specs.inner.Steps.{Step, executed, on, step_of, written_at}
-use Rattle.seg_exec.specs.inner.Strides.{Ends, EvaluatesTo, Goes, MayEvaluate, fault_ending, stand}
+use Rattle.seg_exec.specs.inner.Strides.{EvaluatesTo, Goes, MayEvaluate, fault_ending, stand}
 use Rattle.seg_exec.proofs.Strides.{ended, ends_alike, may_now, may_then, one_step, silent, then_ends, then_goes}
 
 module _ {C : Type 0} (p : Program) (ways : Ways C) where
@@ -107,22 +107,22 @@ module _ {C : Type 0} (p : Program) (ways : Ways C) where
 
     element_by : (cell : Option ℕ) (vars : List ℤ) (old mid next new : C) (i v : ℤ) (result : Carried) → EvaluatesTo p ways index vars old (Ok i) mid → EvaluatesTo p ways value vars mid (Ok v) next
         → ((work : List Continuation) (operands : List ℤ) (fuel calls : ℕ)
-            → step_of p (record { work = GiveElement array place ∷ work; operands = v ∷ (i ∷ operands); vars = vars; fuel = fuel; calls = calls })
-            ≡ written_at cell v place (record { work = work; operands = operands; vars = vars; fuel = fuel; calls = calls }))
+        → step_of p (record { work = GiveElement array place ∷ work; operands = v ∷ (i ∷ operands); vars = vars; fuel = fuel; calls = calls })
+        ≡ written_at cell v place (record { work = work; operands = operands; vars = vars; fuel = fuel; calls = calls }))
         → WritesAt ways cell v place next result new → Does p ways (to_element index value array place) vars old result vars new
     element_by None vars old mid next new i v result h g is has =
         subst (λ (r : Carried). Does p ways (to_element index value array place) vars old r vars new) (sym has.0)
         (subst (λ (c : C). Does p ways (to_element index value array place) vars old (Faulted (record { kind = Index; place = place })) vars c) (sym has.1)
         (λ work operands fuel calls prints.
-            then_ends p ways _ _ _ _ (both vars old mid next i v h g work operands fuel calls prints)
-            (ended p ways (stand (GiveElement array place ∷ work) (v ∷ (i ∷ operands)) vars fuel calls next prints) _ _ (is work operands fuel calls))))
+        then_ends p ways _ _ _ _ (both vars old mid next i v h g work operands fuel calls prints)
+        (ended p ways (stand (GiveElement array place ∷ work) (v ∷ (i ∷ operands)) vars fuel calls next prints) _ _ (is work operands fuel calls))))
     element_by (Some cell) vars old mid next new i v result h g is has =
         subst (λ (r : Carried). Does p ways (to_element index value array place) vars old r vars new) (sym has.0)
         (λ work operands fuel calls prints.
-            then_goes p ways _ _ _ (both vars old mid next i v h g work operands fuel calls prints)
-            (one_step p ways (stand (GiveElement array place ∷ work) (v ∷ (i ∷ operands)) vars fuel calls next prints) (stand work operands vars fuel calls new prints)
-            (subst (λ (step : Step). Served ways step.0 (record { config = step.1; cells = next; prints = prints }) None (stand work operands vars fuel calls new prints)) (sym (is work operands fuel calls))
-            (refl, refl, has.1, refl))))
+        then_goes p ways _ _ _ (both vars old mid next i v h g work operands fuel calls prints)
+        (one_step p ways (stand (GiveElement array place ∷ work) (v ∷ (i ∷ operands)) vars fuel calls next prints) (stand work operands vars fuel calls new prints)
+        (subst (λ (step : Step). Served ways step.0 (record { config = step.1; cells = next; prints = prints }) None (stand work operands vars fuel calls new prints)) (sym (is work operands fuel calls))
+        (refl, refl, has.1, refl))))
 
     pub element_done : (vars : List ℤ) (old mid next new : C) (i v : ℤ) (result : Carried) → EvaluatesTo p ways index vars old (Ok i) mid → EvaluatesTo p ways value vars mid (Ok v) next
         → WritesAt ways (element_number p array i) v place next result new → Does p ways (to_element index value array place) vars old result vars new

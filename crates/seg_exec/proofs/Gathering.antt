@@ -1,5 +1,5 @@
 -- Arguments that are evaluated one after another.
-use Rattle.std.proofs.Common.{◌≡◌, ℕ, ℤ, ◌+◌, ◌<◌, ◌≤◌, ◌-◌, take, Some, Ok, Err, List, [], ◌∷◌, ◌++◌, drop, length, get_or, refl, ap, sym, subst, arith}
+use Rattle.std.proofs.Common.{◌≡◌, ℕ, ℤ, ◌+◌, ◌<◌, ◌≤◌, ◌-◌, take, Some, Ok, Err, List, [], ◌∷◌, ◌++◌, drop, length, refl, ap, sym, subst, arith}
 use Rattle.std.specs.Prelude.{slice_get}
 use Rattle.std.proofs.lemmas.List.{length-drop, take_all}
 use Rattle.std.proofs.lemmas.Option.{get_or_from_slice_get, slice_get_within}
@@ -8,7 +8,7 @@ use Rattle.twe_program.specs.Expression.{Expression, arguments_of}
 use Rattle.seg_exec.specs.declared.continuation.Goal.{Goal}
 use Rattle.seg_exec.specs.declared.value.Fault.{Fault}
 use Rattle.seg_exec.specs.Access.{Ways}
-use Rattle.seg_exec.specs.inner.Continuations.{Config, Continuation, Evaluate, Gather, Take, to_do}
+use Rattle.seg_exec.specs.inner.Continuations.{Config, Evaluate, Gather, Take, to_do}
 use Rattle.seg_exec.specs.inner.Reached.{Standing}
 use Rattle.seg_exec.specs.inner.Steps.{gathering}
 use Rattle.seg_exec.specs.inner.Strides.{Ends, EvaluatesTo, Goes, MayEvaluate, MayGo, doing, fault_ending}

@@ -1,15 +1,15 @@
 -- The statements of a block one after another.
-use Rattle.std.proofs.Common.{◌≡◌, ℕ, suc, ℤ, ◌+◌, ◌<◌, List, [], ◌∷◌, drop, length, get_or, refl, sym, ap, ◌∙◌, subst, arith}
+use Rattle.std.proofs.Common.{◌≡◌, ℕ, suc, ℤ, ◌+◌, ◌<◌, List, [], ◌∷◌, drop, length, get_or, sym, ap, ◌∙◌, subst, arith}
 use Rattle.std.proofs.Math.Seq.{drop-cons}
 use Rattle.twe_program.specs.Program.{Program}
 use Rattle.twe_program.specs.Statement.{Statement, statements_of}
-use Rattle.seg_exec.specs.declared.assign.Carried.TheVariants.{Done, Faulted, Left}
+use Rattle.seg_exec.specs.declared.assign.Carried.TheVariants.{Done, Faulted}
 use Rattle.seg_exec.specs.declared.value.Fault.{Fault}
 use Rattle.seg_exec.specs.Access.{Ways}
 use Rattle.seg_exec.specs.inner.Assignments.{Does, MayDo, executing}
-use Rattle.seg_exec.specs.inner.Continuations.{Config, Continuation, Execute, Rest, to_do}
+use Rattle.seg_exec.specs.inner.Continuations.{Config, Execute, Rest, to_do}
 use Rattle.seg_exec.specs.inner.Reached.{Standing}
-use Rattle.seg_exec.specs.inner.Steps.{on, rested}
+use Rattle.seg_exec.specs.inner.Steps.{rested}
 use Rattle.seg_exec.specs.inner.Strides.{Ends, Goes, MayGo, Nears, doing, fault_ending}
 use Rattle.seg_exec.proofs.Performing.{placed}
 use Rattle.seg_exec.proofs.Strides.{ends_alike, may_then, silent, then_ends, then_goes}

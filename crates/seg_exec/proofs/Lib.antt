@@ -11,6 +11,7 @@ pub mod GoingOn
 pub mod PlainLists
 pub mod Reaching
 pub mod Remains
+pub mod Returning
 pub mod Rooms
 pub mod Segments
 pub mod Simulation

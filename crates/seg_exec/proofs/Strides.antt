@@ -1,7 +1,7 @@
 -- Stretches of steps: one step, one stretch after another, and what they allow.
-use Rattle.std.proofs.Common.{◌≡◌, ℕ, ℤ, ◌<◌, ◌≤◌, List, Option, None, Some, refl, sym, subst, arith}
+use Rattle.std.proofs.Common.{◌≡◌, ℕ, ℤ, List, Option, None, Some, refl, sym, subst, arith}
 use Rattle.twe_program.specs.Program.{Program}
-use Rattle.seg_exec.specs.declared.request.Request.TheVariants.{Nothing, End}
+use Rattle.seg_exec.specs.declared.request.Request.TheVariants.{End}
 use Rattle.seg_exec.specs.declared.request.Ending.{Ending}
 use Rattle.seg_exec.specs.Access.{Ways}
 use Rattle.seg_exec.specs.inner.Continuations.{Config, Continuation}

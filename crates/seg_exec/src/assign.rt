@@ -33,13 +33,7 @@ fn put_var(vars: &mut Ints, var: u32, value: i32)
 }
 
 /// Evaluates an expression and assigns its value to a variable.
-fn set_var<C: Cells>(
-    var: u32,
-    value: &Expr,
-    p: &Prog,
-    vars: &mut Ints,
-    cells: &mut C,
-) -> Carried
+fn set_var<C: Cells>(var: u32, value: &Expr, p: &Prog, vars: &mut Ints, cells: &mut C) -> Carried
     requires { MayDo p.now (ways_of C.known C.may_read C.may_write C.rule) (to_variable value.now var) vars.old cells.old }
     ensures { Does p.now (ways_of C.known C.may_read C.may_write C.rule) (to_variable value.now var) vars.old cells.old result vars.new cells.new }
 {
@@ -56,13 +50,7 @@ fn set_var<C: Cells>(
 }
 
 /// Evaluates an expression and assigns its value to a cell.
-fn set_cell<C: Cells>(
-    cell: u32,
-    value: &Expr,
-    p: &Prog,
-    vars: &mut Ints,
-    cells: &mut C,
-) -> Carried
+fn set_cell<C: Cells>(cell: u32, value: &Expr, p: &Prog, vars: &mut Ints, cells: &mut C) -> Carried
     requires { MayDo p.now (ways_of C.known C.may_read C.may_write C.rule) (to_cell value.now cell) vars.old cells.old }
     ensures { Does p.now (ways_of C.known C.may_read C.may_write C.rule) (to_cell value.now cell) vars.old cells.old result vars.new cells.new }
 {
@@ -124,12 +112,7 @@ fn set_element<C: Cells>(
 }
 
 /// Executes an assignment to a variable, a cell or an element of an array, if its expressions call no method.
-pub(crate) fn assign<C: Cells>(
-    stmt: &Stmt,
-    p: &Prog,
-    vars: &mut Ints,
-    cells: &mut C,
-) -> Carried
+pub(crate) fn assign<C: Cells>(stmt: &Stmt, p: &Prog, vars: &mut Ints, cells: &mut C) -> Carried
     requires { MayDo p.now (ways_of C.known C.may_read C.may_write C.rule) (executing stmt.now) vars.old cells.old }
     ensures { Does p.now (ways_of C.known C.may_read C.may_write C.rule) (executing stmt.now) vars.old cells.old result vars.new cells.new }
 {

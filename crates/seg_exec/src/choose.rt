@@ -56,5 +56,14 @@ pub(crate) fn choose_first<'a, C: Cells>(
     requires { MayGo p.now (ways_of C.known C.may_read C.may_write C.rule) (doing (Choose 0 arms.now) (standing machine.old cells.old prints.old)) }
     ensures { IfOk result (λ ending. Carries p.now (ways_of C.known C.may_read C.may_write C.rule) (doing (Choose 0 arms.now) (standing machine.old cells.old prints.old)) ending (standing machine.new cells.new prints.new)) }
 {
-    choose(alloc, p, machine, cells, prints, 0, arms.arms.as_slice(), &arms.last)
+    choose(
+        alloc,
+        p,
+        machine,
+        cells,
+        prints,
+        0,
+        arms.arms.as_slice(),
+        &arms.last,
+    )
 }

@@ -76,5 +76,14 @@ pub(crate) fn call<'a, C: Cells>(
 {
     let taken = Ints::new(alloc);
     let goal = Goal::Enter { method, place };
-    gather(alloc, p, machine, cells, prints, taken, args.items.as_slice(), goal)
+    gather(
+        alloc,
+        p,
+        machine,
+        cells,
+        prints,
+        taken,
+        args.items.as_slice(),
+        goal,
+    )
 }

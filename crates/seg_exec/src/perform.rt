@@ -14,7 +14,7 @@ use crate::continuation::Continuation;
 use crate::gather::gather;
 use crate::machine::Machine;
 use crate::request::Ending;
-use crate::stepping::{evaluate, evaluate_then, step};
+use crate::stepping::{evaluate, evaluate_then, leave, step};
 use std::alloc::Global;
 use twe_io::{Ints, Memory};
 use twe_program::{Prog, Stmt, StmtKind};
@@ -58,7 +58,15 @@ fn execute<'a, C: Cells>(
         }
         StmtKind::If(arms) => choose_first(alloc, p, machine, cells, prints, arms),
         StmtKind::Return(Some(value)) => {
-            evaluate_then(alloc, p, machine, cells, prints, value, Continuation::Unwind)
+            evaluate_then(
+                alloc,
+                p,
+                machine,
+                cells,
+                prints,
+                value,
+                Continuation::Unwind,
+            )
         }
         StmtKind::Print { value, place } => {
             let then = Continuation::PrintValue(*place);
@@ -146,6 +154,7 @@ pub(crate) fn perform<'a, C: Cells>(
         Continuation::Choose { block, arms, last } => {
             choose(alloc, p, machine, cells, prints, block, arms, last)
         }
+        Continuation::Unwind => leave(p, machine, cells, prints),
         Continuation::Gather { taken, args, goal } => {
             gather(alloc, p, machine, cells, prints, taken, args, goal)
         }

@@ -1,6 +1,6 @@
 //! One step of the evaluator, and the steps that evaluate an expression.
 ghost use Rattle.std.specs.Prelude.{IfOk};
-ghost use Rattle.seg_exec.specs.inner.Continuations.{Evaluate};
+ghost use Rattle.seg_exec.specs.inner.Continuations.{Evaluate, Unwind};
 ghost use Rattle.seg_exec.specs.inner.Reached.{MayRequest, Served, standing};
 ghost use Rattle.seg_exec.specs.inner.Strides.{Carries, MayGo, doing};
 ghost use Rattle.seg_exec.specs.inner.Views.{continuation_of};
@@ -54,6 +54,39 @@ pub(crate) fn step<'a, C: Cells>(
 {
     let request = machine.act(alloc, p, work)?;
     serve(machine, cells, prints, request)
+}
+
+/// Returns the latest value from the active body.
+pub(crate) fn leave<'a, C: Cells>(
+    p: &'a Prog,
+    machine: &mut Machine<'a>,
+    cells: &mut C,
+    prints: &mut Ints,
+) -> Result<Option<Ending>, Memory>
+    requires { MayGo p.now (ways_of C.known C.may_read C.may_write C.rule) (doing (Unwind) (standing machine.old cells.old prints.old)) }
+    ensures { IfOk result (λ ending. Carries p.now (ways_of C.known C.may_read C.may_write C.rule) (doing (Unwind) (standing machine.old cells.old prints.old)) ending (standing machine.new cells.new prints.new)) }
+{
+    let _program = p;
+    let request = machine.give_back()?;
+    serve(machine, cells, prints, request)
+}
+
+/// Does what a continuation frame that uses the latest value is for.
+fn use_value<'a, C: Cells>(
+    alloc: Global,
+    p: &'a Prog,
+    machine: &mut Machine<'a>,
+    cells: &mut C,
+    prints: &mut Ints,
+    then: Continuation<'a>,
+) -> Result<Option<Ending>, Memory>
+    requires { MayGo p.now (ways_of C.known C.may_read C.may_write C.rule) (doing (continuation_of then) (standing machine.old cells.old prints.old)) }
+    ensures { IfOk result (λ ending. Carries p.now (ways_of C.known C.may_read C.may_write C.rule) (doing (continuation_of then.entry) (standing machine.old cells.old prints.old)) ending (standing machine.new cells.new prints.new)) }
+{
+    match then {
+        Continuation::Unwind => leave(p, machine, cells, prints),
+        then => step(alloc, p, machine, cells, prints, then),
+    }
 }
 
 /// Begins to evaluate an expression: the arguments if it is a call, and else its first step.
@@ -131,7 +164,7 @@ pub(crate) fn evaluate_then<'a, C: Cells>(
         Err(fault) => Ok(Some(fault.ending())),
         Ok(value) => {
             machine.push_operand(value)?;
-            step(alloc, p, machine, cells, prints, then)
+            use_value(alloc, p, machine, cells, prints, then)
         }
     }
 }

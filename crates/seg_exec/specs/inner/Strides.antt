@@ -1,7 +1,6 @@
 -- Several steps of the evaluator at once, over any implementation of cells.
-use Rattle.std.specs.Prelude.{◌≡◌, ◌<◌, ◌≤◌, ◌++◌, ℕ, ℤ, List, [], ◌∷◌, Option, None, Some, Result, Ok, Err}
+use Rattle.std.specs.Prelude.{◌≡◌, ◌<◌, ◌≤◌, ℕ, ℤ, List, ◌∷◌, Option, None, Some, Result, Ok, Err}
 use Rattle.twe_io.specs.declared.place.Place.{Place}
-use Rattle.twe_limits.specs.declared.fault.FaultKind.{FaultKind}
 use Rattle.twe_limits.specs.declared.fault.FaultKind.TheVariants.{DivZero, Index}
 use Rattle.twe_program.specs.Program.{Program}
 use Rattle.twe_program.specs.Expression.{Expression}

@@ -1,4 +1,4 @@
-use Rattle.std.proofs.Common.{◌≡◌, None, ap, rules, sym, ◌∙◌}
+use Rattle.std.proofs.Common.{◌≡◌, ap, rules, sym, ◌∙◌}
 use Rattle.twe_program.specs.Statement.{SetArray, Statement}
 use Rattle.twe_program.specs.inner.StatementView.{statement_of}
 use Rattle.seg_exec.specs.Access.{ways_of}

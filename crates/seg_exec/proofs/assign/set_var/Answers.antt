@@ -1,11 +1,9 @@
-use Rattle.std.proofs.Common.{ℕ, ℤ, Ok, Err, List, SFits, w32, ap, rules, refl, sym, subst, ◌∙◌}
+use Rattle.std.proofs.Common.{ℤ, Ok, Err, List, SFits, w32, ap, rules, sym, subst, ◌∙◌}
 use Rattle.std.proofs.lemmas.Int.{to_z-of_z}
 use Rattle.std.specs.Prelude.{slice_set}
-use Rattle.seg_exec.specs.declared.assign.Carried.{Carried}
 use Rattle.seg_exec.specs.declared.assign.Carried.TheVariants.{Done}
-use Rattle.seg_exec.specs.Access.{HasWritten, ways_of}
-use Rattle.seg_exec.specs.Cells.{element_number}
-use Rattle.seg_exec.specs.inner.Assignments.{Does, MayWriteAt, WritesAt, to_cell, to_element, to_variable}
+use Rattle.seg_exec.specs.Access.{ways_of}
+use Rattle.seg_exec.specs.inner.Assignments.{Does, to_variable}
 use Rattle.seg_exec.proofs.Assigning.{at_vars, var_done, var_fault}
 use Rattle.seg_exec.proofs.assign.set_var.Goals as goal
 

@@ -1,4 +1,4 @@
-use Rattle.std.proofs.Common.{◌≡◌, ◌+◌, ◌-◌, ◌≤◌, Some, List, [], ◌∷◌, ◌++◌, drop, length, take, SFits, w32, ℤ, ap, arith, rules, sym, subst, ◌∙◌}
+use Rattle.std.proofs.Common.{◌+◌, ◌≤◌, Some, List, [], ◌∷◌, ◌++◌, length, SFits, w32, ℤ, ap, arith, rules, sym, subst, ◌∙◌}
 use Rattle.std.proofs.lemmas.Int.{to_z-of_z}
 use Rattle.twe_program.specs.Expression.{Expression, arguments_of}
 use Rattle.seg_exec.specs.declared.request.Ending.{Ending}
@@ -44,12 +44,13 @@ loop-arg-preserved g c =
     let now = gather_at c.loop-arg.values c.loop-arg.next c.args.args.now c.args.goal (standing c.args.machine.now c.loop-arg.cells c.args.prints.now) in
     let is = argument_is c.args.args.now c.loop-arg.next c.in-Some.arg.now c.in-Some.ensures.0 in
     let fits : SFits w32 c.in-Ok.value = search rules in
-    let after = gather_at (c.loop-arg.values ++ c.in-Ok.value ∷ []) (c.loop-arg.next + 1) c.args.args.now c.args.goal (standing c.args.machine.now c.value_of.new.cells c.args.prints.now) in
-    (subst (λ (values : List ℤ). Nears c.args.p.now (ways_of g.C.Cells.known g.C.Cells.may_read g.C.Cells.may_write g.C.Cells.rule) from (gather_at values (c.loop-arg.next + 1) c.args.args.now c.args.goal (standing c.args.machine.now c.value_of.new.cells c.args.prints.now)))
-    (sym (c.in_ok-push-in-Ok.ensures.ok ∙ ap (λ (v : ℤ). c.loop-arg.values ++ v ∷ []) (to_z-of_z w32 c.in-Ok.value fits)))
-    (nears_more c.args.p.now ways from now after c.loop-arg.invariant.0
-    (argument_done c.args.p.now ways c.loop-arg.values c.loop-arg.next c.args.args.now c.args.goal c.in-Some.arg.now is c.as_slice.result.now (config_of c.args.machine.now) c.loop-arg.cells c.value_of.new.cells c.args.prints.now c.in-Ok.value c.as_slice.ensures c.in-Ok.ensures)),
-    within_args c.args.args.now c.loop-arg.next c.in-Some.arg.now c.in-Some.ensures.0)
+    let after = gather_at (c.loop-arg.values ++ c.in-Ok.value ∷ []) (c.loop-arg.next + 1) c.args.args.now c.args.goal (standing c.args.machine.now c.value_of.new.cells c.args.prints.now) in (
+      subst (λ (values : List ℤ). Nears c.args.p.now (ways_of g.C.Cells.known g.C.Cells.may_read g.C.Cells.may_write g.C.Cells.rule) from (gather_at values (c.loop-arg.next + 1) c.args.args.now c.args.goal (standing c.args.machine.now c.value_of.new.cells c.args.prints.now)))
+          (sym (c.in_ok-push-in-Ok.ensures.ok ∙ ap (λ (v : ℤ). c.loop-arg.values ++ v ∷ []) (to_z-of_z w32 c.in-Ok.value fits)))
+          (nears_more c.args.p.now ways from now after c.loop-arg.invariant.0
+          (argument_done c.args.p.now ways c.loop-arg.values c.loop-arg.next c.args.args.now c.args.goal c.in-Some.arg.now is c.as_slice.result.now (config_of c.args.machine.now) c.loop-arg.cells c.value_of.new.cells c.args.prints.now c.in-Ok.value c.as_slice.ensures c.in-Ok.ensures)),
+      within_args c.args.args.now c.loop-arg.next c.in-Some.arg.now c.in-Some.ensures.0,
+    )
 
 pub step-requires : goal.step-requires
 step-requires g c =

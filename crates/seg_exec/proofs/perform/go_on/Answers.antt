@@ -1,4 +1,4 @@
-use Rattle.std.proofs.Common.{◌≡◌, [], ◌+◌, ◌≤◌, Some, drop, length, arith, sym, subst}
+use Rattle.std.proofs.Common.{◌+◌, ◌≤◌, Some, length, arith, sym, subst}
 use Rattle.std.proofs.lemmas.List.{drop_all}
 use Rattle.seg_exec.specs.declared.request.Ending.{Ending}
 use Rattle.seg_exec.specs.Access.{ways_of}
