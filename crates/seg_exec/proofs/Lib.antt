@@ -1,13 +1,17 @@
 pub mod Accesses
+pub mod Assigning
 pub mod Bounds
 pub mod CellNumbers
 pub mod Determined
 pub mod Evaluating
 pub mod Falling
 pub mod Performing
+pub mod Gathering
+pub mod GoingOn
 pub mod PlainLists
 pub mod Reaching
 pub mod Remains
+pub mod Returning
 pub mod Rooms
 pub mod Segments
 pub mod Simulation

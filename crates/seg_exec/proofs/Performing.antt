@@ -1,5 +1,5 @@
 -- What is done at once for a continuation frame, as steps of the evaluator.
-use Rattle.std.proofs.Common.{◌≡◌, ℕ, ℤ, pos, Option, None, Some, Result, Ok, Err, List, [], ◌∷◌, refl, ap, sym, ◌∙◌, subst}
+use Rattle.std.proofs.Common.{◌≡◌, ℤ, pos, Option, None, Some, Ok, Err, List, [], refl, sym, subst}
 use Rattle.twe_program.specs.Program.{Program}
 use Rattle.twe_program.specs.Expression.{Expression}
 use Rattle.seg_exec.specs.declared.request.Request.{Request}

@@ -1,13 +1,13 @@
 -- Stretches of steps: one step, one stretch after another, and what they allow.
-use Rattle.std.proofs.Common.{◌≡◌, ℕ, ℤ, ◌<◌, ◌≤◌, List, Option, None, Some, refl, sym, subst, arith}
+use Rattle.std.proofs.Common.{◌≡◌, ℕ, ℤ, List, Option, None, Some, refl, sym, subst, arith}
 use Rattle.twe_program.specs.Program.{Program}
-use Rattle.seg_exec.specs.declared.request.Request.TheVariants.{Nothing, End}
+use Rattle.seg_exec.specs.declared.request.Request.TheVariants.{End}
 use Rattle.seg_exec.specs.declared.request.Ending.{Ending}
 use Rattle.seg_exec.specs.Access.{Ways}
 use Rattle.seg_exec.specs.inner.Continuations.{Config, Continuation}
 use Rattle.seg_exec.specs.inner.Reached.{Advances, MayStep, Served, Standing}
 use Rattle.seg_exec.specs.inner.Steps.{Step, on, step_of}
-use Rattle.seg_exec.specs.inner.Strides.{Carries, Ends, Goes, MayGo, stand}
+use Rattle.seg_exec.specs.inner.Strides.{Carries, Ends, Goes, MayGo, Nears, stand}
 use Rattle.seg_exec.proofs.Falling.{advance_falls}
 use Rattle.seg_exec.proofs.Reaching.{finishes, may_step, reaches_on}
 
@@ -41,6 +41,37 @@ module _ {C : Type 0} (p : Program) (ways : Ways C) where
         let again : c.config.fuel ≡ b.config.fuel = omega (arith, same, e) in
         omega (arith, first.less same, second.less again);
   }
+
+  -- some steps or none
+  pub nears_none : (a : Standing C) → Nears p ways a a
+  nears_none a = record { on = λ start r. r; fuel = omega arith; less = λ e. omega arith }
+
+  pub nears_more : (a b c : Standing C) → Nears p ways a b → Goes p ways b c → Nears p ways a c
+  nears_more a b c first second = record {
+    on = λ start r. second.on start (first.on start r);
+    fuel = omega (arith, first.fuel, second.fuel);
+    less = λ e.
+        let same : b.config.fuel ≡ a.config.fuel = omega (arith, first.fuel, second.fuel, e) in
+        let again : c.config.fuel ≡ b.config.fuel = omega (arith, same, e) in
+        omega (arith, first.less same, second.less again);
+  }
+
+  pub near_goes : (a b c : Standing C) → Nears p ways a b → Goes p ways b c → Goes p ways a c
+  near_goes a b c first second = record {
+    on = λ start r. second.on start (first.on start r);
+    fuel = omega (arith, first.fuel, second.fuel);
+    less = λ e.
+        let same : b.config.fuel ≡ a.config.fuel = omega (arith, first.fuel, second.fuel, e) in
+        let again : c.config.fuel ≡ b.config.fuel = omega (arith, same, e) in
+        omega (arith, first.less same, second.less again);
+  }
+
+  pub near_carries : (a b c : Standing C) (ending : Option Ending) → Nears p ways a b → Carries p ways b ending c → Carries p ways a ending c
+  near_carries a b c None first second = near_goes a b c first second
+  near_carries a b c (Some ending) first second = λ start r. second start (first.on start r)
+
+  pub may_near : (a b : Standing C) → MayGo p ways a → Nears p ways a b → MayGo p ways b
+  may_near a b may near = record { start = may.start; may = may.may; came = near.on may.start may.came }
 
   pub then_ends : (a b c : Standing C) (ending : Ending) → Goes p ways a b → Ends p ways b ending c → Ends p ways a ending c
   then_ends a b c ending first second start r = second start (first.on start r)

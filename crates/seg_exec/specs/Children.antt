@@ -1,5 +1,5 @@
 -- The unjoined children of a task.
-use Rattle.std.specs.Prelude.{ℕ, ◌+◌, ◌-◌, List, ◌∷◌, [], ◌++◌}
+use Rattle.std.specs.Prelude.{ℕ, ◌-◌, List, ◌∷◌, [], ◌++◌}
 
 -- the numbers of the children in the order in which they were spawned, and how many more can be added without taking
 -- memory

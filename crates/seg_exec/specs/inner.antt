@@ -1,3 +1,4 @@
+pub mod Assignments
 pub mod Continuations
 pub mod Finished
 pub mod Plainly

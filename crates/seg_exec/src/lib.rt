@@ -7,16 +7,19 @@
 #![tactic(auto)]
 
 mod arithmetic;
+mod assign;
 mod begin;
 mod call;
 mod cells;
 mod children;
+mod choose;
 mod continuation;
 mod elements;
 mod entry;
 mod evaluate;
 mod execute;
 mod frame;
+mod gather;
 mod give;
 mod laws;
 mod machine;

@@ -1,16 +1,20 @@
 //! What a continuation frame is for, done in one step or in several.
-ghost use Rattle.std.specs.Prelude.{IfOk};
-ghost use Rattle.seg_exec.specs.inner.Continuations.{Execute};
+ghost use Rattle.std.specs.Prelude.{◌<◌, IfOk, drop, length};
+ghost use Rattle.twe_program.specs.Statement.{statements_of};
+ghost use Rattle.seg_exec.specs.inner.Continuations.{Execute, Rest};
 ghost use Rattle.seg_exec.specs.inner.Reached.{standing};
 ghost use Rattle.seg_exec.specs.inner.Strides.{Carries, MayGo, doing};
 ghost use Rattle.seg_exec.specs.inner.Views.{continuation_of};
 ghost use Rattle.seg_exec.specs.Access.{ways_of};
 
+use crate::assign::{Carried, assign};
 use crate::cells::Cells;
+use crate::choose::{choose, choose_first};
 use crate::continuation::Continuation;
+use crate::gather::gather;
 use crate::machine::Machine;
 use crate::request::Ending;
-use crate::stepping::{evaluate, evaluate_then, step};
+use crate::stepping::{evaluate, evaluate_then, leave, step};
 use std::alloc::Global;
 use twe_io::{Ints, Memory};
 use twe_program::{Prog, Stmt, StmtKind};
@@ -52,6 +56,18 @@ fn execute<'a, C: Cells>(
             };
             evaluate_then(alloc, p, machine, cells, prints, condition, then)
         }
+        StmtKind::If(arms) => choose_first(alloc, p, machine, cells, prints, arms),
+        StmtKind::Return(Some(value)) => {
+            evaluate_then(
+                alloc,
+                p,
+                machine,
+                cells,
+                prints,
+                value,
+                Continuation::Unwind,
+            )
+        }
         StmtKind::Print { value, place } => {
             let then = Continuation::PrintValue(*place);
             evaluate_then(alloc, p, machine, cells, prints, value, then)
@@ -65,6 +81,56 @@ fn execute<'a, C: Cells>(
             Continuation::Execute(stmt),
         ),
     }
+}
+
+/// Executes the next statement of a block as far as its expressions call no method.
+fn begin_statement<'a, C: Cells>(
+    alloc: Global,
+    p: &'a Prog,
+    machine: &mut Machine<'a>,
+    cells: &mut C,
+    prints: &mut Ints,
+    block: usize,
+    at: usize,
+    stmts: &'a [Stmt],
+) -> Result<Option<Ending>, Memory>
+    requires within { at < length stmts.now }
+    requires may { MayGo p.now (ways_of C.known C.may_read C.may_write C.rule) (doing (Rest block at (statements_of (drop at stmts.now))) (standing machine.old cells.old prints.old)) }
+    ensures { IfOk result (λ ending. Carries p.now (ways_of C.known C.may_read C.may_write C.rule) (doing (Rest block at (statements_of (drop at stmts.now))) (standing machine.old cells.old prints.old)) ending (standing machine.new cells.new prints.new)) }
+{
+    machine.push(Continuation::Rest {
+        block,
+        at: at + 1,
+        stmts,
+    })?;
+    execute(alloc, p, machine, cells, prints, &stmts[at])
+}
+
+/// Executes the statements of a block from the one at `at` on: assignments at once, up to the first other statement.
+fn go_on<'a, C: Cells>(
+    alloc: Global,
+    p: &'a Prog,
+    machine: &mut Machine<'a>,
+    cells: &mut C,
+    prints: &mut Ints,
+    block: usize,
+    at: usize,
+    stmts: &'a [Stmt],
+) -> Result<Option<Ending>, Memory>
+    requires { MayGo p.now (ways_of C.known C.may_read C.may_write C.rule) (doing (Rest block at (statements_of (drop at stmts.now))) (standing machine.old cells.old prints.old)) }
+    ensures { IfOk result (λ ending. Carries p.now (ways_of C.known C.may_read C.may_write C.rule) (doing (Rest block at (statements_of (drop at stmts.now))) (standing machine.old cells.old prints.old)) ending (standing machine.new cells.new prints.new)) }
+{
+    let mut next = at;
+    while next < stmts.len() {
+        match assign(&stmts[next], p, &mut machine.vars, cells) {
+            Carried::Done => next += 1,
+            Carried::Faulted(fault) => return Ok(Some(fault.ending())),
+            Carried::Left => {
+                return begin_statement(alloc, p, machine, cells, prints, block, next, stmts);
+            }
+        }
+    }
+    Ok(None)
 }
 
 /// Does what a continuation frame is for, in one step or in several. Returns the ending if the last of them is the end.
@@ -82,6 +148,16 @@ pub(crate) fn perform<'a, C: Cells>(
     match work {
         Continuation::Evaluate(expr) => evaluate(alloc, p, machine, cells, prints, expr),
         Continuation::Execute(stmt) => execute(alloc, p, machine, cells, prints, stmt),
+        Continuation::Rest { block, at, stmts } => {
+            go_on(alloc, p, machine, cells, prints, block, at, stmts)
+        }
+        Continuation::Choose { block, arms, last } => {
+            choose(alloc, p, machine, cells, prints, block, arms, last)
+        }
+        Continuation::Unwind => leave(p, machine, cells, prints),
+        Continuation::Gather { taken, args, goal } => {
+            gather(alloc, p, machine, cells, prints, taken, args, goal)
+        }
         work => step(alloc, p, machine, cells, prints, work),
     }
 }

@@ -2,7 +2,7 @@
 ghost use Rattle.std.specs.Prelude.{◌≡◌, IfOk, drop, pos};
 ghost use Rattle.twe_program.specs.Statement.{statements_of};
 ghost use Rattle.twe_program.specs.inner.StatementView.{arms_of};
-ghost use Rattle.seg_exec.specs.inner.Steps.{back_with, chosen_next, choosing, on, rested, suspended, turned_next, unwound};
+ghost use Rattle.seg_exec.specs.inner.Steps.{back_with, chosen_next, choosing, on, rested, returned, suspended, turned_next, unwound};
 ghost use Rattle.seg_exec.specs.inner.Views.{config_of, continuations_of};
 
 use crate::arithmetic::is_true;
@@ -150,6 +150,26 @@ impl<'a> Machine<'a> {
             Recovered::Nothing => self.push(Continuation::Unwind)?,
         }
         Ok(Request::Nothing)
+    }
+
+    /// Returns the latest value to the caller of the active method, or from the whole body, at once.
+    pub(crate) fn give_back(&mut self) -> Result<Request, Memory>
+        ensures { IfOk result (λ request. (request, config_of self.new) ≡ returned (continuations_of self.old.work) (config_of self.old)) }
+    {
+        'frames: loop {
+            let Some(work) = self.work.pop() else {
+                return Ok(Request::End(Ending::Returned(self.pop_operand())));
+            };
+            match work.recovered() {
+                Recovered::Caller(vars) => {
+                    let value = self.pop_operand();
+                    self.back(value, vars)?;
+                    return Ok(Request::Nothing);
+                }
+                Recovered::Block(_) => {}
+                Recovered::Nothing => {}
+            }
+        }
     }
 
     /// Unwinds the continuation up to its end and collects the positions of the open blocks, then ends with the operation.

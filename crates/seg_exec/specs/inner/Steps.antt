@@ -194,6 +194,16 @@ abbrev pub unwound : List Continuation → Config → Step
 unwound [] c = (requests.End (endings.Returned (top c.operands)), without_operand c)
 unwound (next ∷ work) c = unwound_past (recovered_from next) (record c { work = work })
 
+-- the same, all its steps at once
+abbrev pub returned_past : Recovered → Config → Step → Step
+returned_past (recovers.Caller vars) c others = on (back_with (top c.operands) vars (without_operand c))
+returned_past (recovers.Block position) c others = others
+returned_past recovers.Nothing c others = others
+
+abbrev pub returned : List Continuation → Config → Step
+returned [] c = (requests.End (endings.Returned (top c.operands)), without_operand (record c { work = [] }))
+returned (next ∷ work) c = returned_past (recovered_from next) (record c { work = work }) (returned work c)
+
 -- the suspension at a task operation: the open blocks are closed, and their positions are kept
 abbrev pub suspended_past : Recovered → Operation → List Position → Config → Step
 suspended_past (recovers.Caller vars) operation positions c = on (back_with (pos 0) vars c)

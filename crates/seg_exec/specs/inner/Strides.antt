@@ -1,7 +1,6 @@
 -- Several steps of the evaluator at once, over any implementation of cells.
-use Rattle.std.specs.Prelude.{◌≡◌, ◌<◌, ◌≤◌, ◌++◌, ℕ, ℤ, List, [], ◌∷◌, Option, None, Some, Result, Ok, Err}
+use Rattle.std.specs.Prelude.{◌≡◌, ◌<◌, ◌≤◌, ℕ, ℤ, List, ◌∷◌, Option, None, Some, Result, Ok, Err}
 use Rattle.twe_io.specs.declared.place.Place.{Place}
-use Rattle.twe_limits.specs.declared.fault.FaultKind.{FaultKind}
 use Rattle.twe_limits.specs.declared.fault.FaultKind.TheVariants.{DivZero, Index}
 use Rattle.twe_program.specs.Program.{Program}
 use Rattle.twe_program.specs.Expression.{Expression}
@@ -18,6 +17,12 @@ pub record Goes {C : Type 0} (p : Program) (ways : Ways C) (old new : Standing C
   pub on : (start : Standing C) → Reaches p ways start old → Reaches p ways start new
   pub fuel : new.config.fuel ≤ old.config.fuel
   pub less : new.config.fuel ≡ old.config.fuel → size_of_work new.config.work < size_of_work old.config.work
+
+-- some steps or none: whatever run led to the first standing leads to the second
+pub record Nears {C : Type 0} (p : Program) (ways : Ways C) (old new : Standing C) : Type 0 where
+  pub on : (start : Standing C) → Reaches p ways start old → Reaches p ways start new
+  pub fuel : new.config.fuel ≤ old.config.fuel
+  pub less : new.config.fuel ≡ old.config.fuel → size_of_work new.config.work ≤ size_of_work old.config.work
 
 -- some steps, the last of which is the end
 abbrev pub Ends : {C : Type 0} → Program → Ways C → Standing C → Ending → Standing C → Type 0

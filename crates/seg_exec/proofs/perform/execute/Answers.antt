@@ -1,8 +1,8 @@
-use Rattle.std.proofs.Common.{ap, sym, ◌∙◌}
-use Rattle.twe_program.specs.Statement.{Statement}
+use Rattle.std.proofs.Common.{◌≡◌, Some, ap, rules, sym, ◌∙◌}
+use Rattle.twe_program.specs.Statement.{Return, Statement}
 use Rattle.twe_program.specs.inner.StatementView.{statement_of}
 use Rattle.seg_exec.specs.Access.{ways_of}
-use Rattle.seg_exec.specs.inner.Continuations.{Evaluate, Execute, GiveCell, GiveVar, PrintValue, Turn, to_do}
+use Rattle.seg_exec.specs.inner.Continuations.{Choose, Evaluate, Execute, GiveCell, GiveVar, PrintValue, Turn, Unwind, to_do}
 use Rattle.seg_exec.specs.inner.Reached.{standing}
 use Rattle.seg_exec.specs.inner.Steps.{executed, on}
 use Rattle.seg_exec.specs.inner.Views.{config_of}
@@ -49,3 +49,25 @@ pub returns-in-Print : goal.returns-in-Print
 returns-in-Print g c =
     if_ok_map c.evaluate_then-in-Print.result (λ ending rest. carries_silent c.args.p.now (ways_of g.C.Cells.known g.C.Cells.may_read g.C.Cells.may_write g.C.Cells.rule) (Execute c.args.stmt.now) (config_of c.args.machine.now) (to_do (Evaluate c.in-Print.value) (to_do (PrintValue c.in-Print.place) (config_of c.args.machine.now))) c.args.cells.now c.args.prints.now ending
     (standing c.evaluate_then-in-Print.new.machine c.evaluate_then-in-Print.new.cells c.evaluate_then-in-Print.new.prints) (ap (λ (s : Statement). executed s (config_of c.args.machine.now)) (sym c.stmt.view_is ∙ ap (λ kind. statement_of c.stmt.inside.point kind) c.in-Print.is)) rest) c.evaluate_then-in-Print.ensures
+
+pub choose_first-requires : goal.choose_first-requires
+choose_first-requires g c =
+    may_silent c.args.p.now (ways_of g.C.Cells.known g.C.Cells.may_read g.C.Cells.may_write g.C.Cells.rule) (Execute c.args.stmt.now) (config_of c.args.machine.now) (to_do (Choose 0 c.in-If.arms) (config_of c.args.machine.now)) c.args.cells.now c.args.prints.now
+    (ap (λ (s : Statement). executed s (config_of c.args.machine.now)) (sym c.stmt.view_is ∙ ap (λ kind. statement_of c.stmt.inside.point kind) c.in-If.is)) c.requires
+
+pub returns-in-If : goal.returns-in-If
+returns-in-If g c =
+    if_ok_map c.choose_first.result (λ ending rest. carries_silent c.args.p.now (ways_of g.C.Cells.known g.C.Cells.may_read g.C.Cells.may_write g.C.Cells.rule) (Execute c.args.stmt.now) (config_of c.args.machine.now) (to_do (Choose 0 c.in-If.arms) (config_of c.args.machine.now)) c.args.cells.now c.args.prints.now ending
+    (standing c.choose_first.new.machine c.choose_first.new.cells c.choose_first.new.prints)
+    (ap (λ (s : Statement). executed s (config_of c.args.machine.now)) (sym c.stmt.view_is ∙ ap (λ kind. statement_of c.stmt.inside.point kind) c.in-If.is)) rest) c.choose_first.ensures
+
+pub evaluate_then-requires-in-Return-Some : goal.evaluate_then-requires-in-Return-Some
+evaluate_then-requires-in-Return-Some g c =
+    may_silent c.args.p.now (ways_of g.C.Cells.known g.C.Cells.may_read g.C.Cells.may_write g.C.Cells.rule) (Execute c.args.stmt.now) (config_of c.args.machine.now) (to_do (Evaluate c.in-Return-Some.value) (to_do Unwind (config_of c.args.machine.now))) c.args.cells.now c.args.prints.now
+    (ap (λ (s : Statement). executed s (config_of c.args.machine.now)) (let shape : c.args.stmt.now ≡ Return c.stmt.inside.point (Some c.in-Return-Some.value) = search rules in shape)) c.requires
+
+pub returns-in-Return-Some : goal.returns-in-Return-Some
+returns-in-Return-Some g c =
+    if_ok_map c.evaluate_then-in-Return-Some.result (λ ending rest. carries_silent c.args.p.now (ways_of g.C.Cells.known g.C.Cells.may_read g.C.Cells.may_write g.C.Cells.rule) (Execute c.args.stmt.now) (config_of c.args.machine.now) (to_do (Evaluate c.in-Return-Some.value) (to_do Unwind (config_of c.args.machine.now))) c.args.cells.now c.args.prints.now ending
+    (standing c.evaluate_then-in-Return-Some.new.machine c.evaluate_then-in-Return-Some.new.cells c.evaluate_then-in-Return-Some.new.prints)
+    (ap (λ (s : Statement). executed s (config_of c.args.machine.now)) (let shape : c.args.stmt.now ≡ Return c.stmt.inside.point (Some c.in-Return-Some.value) = search rules in shape)) rest) c.evaluate_then-in-Return-Some.ensures

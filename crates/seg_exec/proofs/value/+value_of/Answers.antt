@@ -2,7 +2,6 @@ use Rattle.std.proofs.Common.{◌≡◌, ℕ, ℤ, Option, Ok, Err, SFits, w32, 
 use Rattle.std.proofs.lemmas.Int.{to_z-of_z}
 use Rattle.std.specs.Prelude.{slice_get}
 use Rattle.twe_program.specs.Expression.{ArrayElement, Binary, CellValue, GridElement, Literal, Negation, Negative, Truth, Variable}
-use Rattle.twe_program.specs.declared.expr.ExprKind.TheVariants as kinds
 use Rattle.twe_program.specs.inner.ExpressionView.{expression_of}
 use Rattle.seg_exec.specs.Access.{HasRead, value_in, ways_of}
 use Rattle.seg_exec.specs.Arithmetic.{decided, is_true, negation, negative, number_of, operated}

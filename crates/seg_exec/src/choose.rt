@@ -1,0 +1,69 @@
+//! The arms of an `if`: the first arm whose condition is true, or the last `else`.
+ghost use Rattle.std.specs.Prelude.{IfOk, drop};
+ghost use Rattle.twe_program.specs.inner.StatementView.{arms_of};
+ghost use Rattle.seg_exec.specs.Access.{ways_of};
+ghost use Rattle.seg_exec.specs.inner.Continuations.{Choose};
+ghost use Rattle.seg_exec.specs.inner.Reached.{standing};
+ghost use Rattle.seg_exec.specs.inner.Strides.{Carries, MayGo, doing};
+
+use crate::cells::Cells;
+use crate::continuation::Continuation;
+use crate::machine::Machine;
+use crate::request::Ending;
+use crate::stepping::{evaluate_then, step};
+use std::alloc::Global;
+use twe_io::{Ints, Memory};
+use twe_program::{Arm, Arms, Block, Prog};
+
+/// Tries the arms of an `if` from the one numbered `block` on, and uses the condition of that arm if it calls no method.
+pub(crate) fn choose<'a, C: Cells>(
+    alloc: Global,
+    p: &'a Prog,
+    machine: &mut Machine<'a>,
+    cells: &mut C,
+    prints: &mut Ints,
+    block: usize,
+    arms: &'a [Arm],
+    last: &'a Option<Block>,
+) -> Result<Option<Ending>, Memory>
+    requires { MayGo p.now (ways_of C.known C.may_read C.may_write C.rule) (doing (Choose block (arms_of (drop block arms.now) last.now)) (standing machine.old cells.old prints.old)) }
+    ensures { IfOk result (λ ending. Carries p.now (ways_of C.known C.may_read C.may_write C.rule) (doing (Choose block (arms_of (drop block arms.now) last.now)) (standing machine.old cells.old prints.old)) ending (standing machine.new cells.new prints.new)) }
+{
+    if block < arms.len() {
+        let arm = &arms[block];
+        let then = Continuation::Chosen {
+            block,
+            next: block + 1,
+            body: &arm.body,
+            arms,
+            last,
+        };
+        return evaluate_then(alloc, p, machine, cells, prints, &arm.condition, then);
+    }
+    let otherwise = Continuation::Choose { block, arms, last };
+    step(alloc, p, machine, cells, prints, otherwise)
+}
+
+/// Tries the arms of an `if` from the first on.
+pub(crate) fn choose_first<'a, C: Cells>(
+    alloc: Global,
+    p: &'a Prog,
+    machine: &mut Machine<'a>,
+    cells: &mut C,
+    prints: &mut Ints,
+    arms: &'a Arms,
+) -> Result<Option<Ending>, Memory>
+    requires { MayGo p.now (ways_of C.known C.may_read C.may_write C.rule) (doing (Choose 0 arms.now) (standing machine.old cells.old prints.old)) }
+    ensures { IfOk result (λ ending. Carries p.now (ways_of C.known C.may_read C.may_write C.rule) (doing (Choose 0 arms.now) (standing machine.old cells.old prints.old)) ending (standing machine.new cells.new prints.new)) }
+{
+    choose(
+        alloc,
+        p,
+        machine,
+        cells,
+        prints,
+        0,
+        arms.arms.as_slice(),
+        &arms.last,
+    )
+}

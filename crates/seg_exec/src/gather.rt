@@ -1,0 +1,89 @@
+//! The arguments of a call that call no method, evaluated at once.
+ghost use Rattle.std.specs.Prelude.{◌≡◌, true, [], Some, IfOk, IfSome, slice_get};
+ghost use Rattle.twe_program.specs.Expression.{arguments_of};
+ghost use Rattle.seg_exec.specs.Access.{ways_of};
+ghost use Rattle.seg_exec.specs.declared.continuation.Goal.TheVariants.{Enter};
+ghost use Rattle.seg_exec.specs.inner.Continuations.{Gather};
+ghost use Rattle.seg_exec.specs.inner.Plainly.{is_plain};
+ghost use Rattle.seg_exec.specs.inner.Reached.{standing};
+ghost use Rattle.seg_exec.specs.inner.Strides.{Carries, MayGo, doing};
+
+use crate::cells::Cells;
+use crate::continuation::{Continuation, Goal};
+use crate::machine::Machine;
+use crate::plain::is_plain;
+use crate::request::Ending;
+use crate::stepping::step;
+use crate::value::value_of;
+use std::alloc::Global;
+use twe_io::{Ints, Memory, Place};
+use twe_program::{Args, Expr, Prog};
+
+/// The argument of this number, if there is one and it calls no method.
+fn plain_argument(args: &[Expr], at: usize) -> Option<&Expr>
+    ensures { IfSome result (λ arg. (slice_get args.now at ≡ Some arg.now) × (is_plain arg.now ≡ true)) }
+{
+    match args.get(at) {
+        None => None,
+        Some(arg) => if is_plain(arg) { Some(arg) } else { None },
+    }
+}
+
+/// Evaluates the arguments up to the first that calls a method, and then makes the next step.
+pub(crate) fn gather<'a, C: Cells>(
+    alloc: Global,
+    p: &'a Prog,
+    machine: &mut Machine<'a>,
+    cells: &mut C,
+    prints: &mut Ints,
+    taken: Ints,
+    args: &'a [Expr],
+    goal: Goal,
+) -> Result<Option<Ending>, Memory>
+    requires { MayGo p.now (ways_of C.known C.may_read C.may_write C.rule) (doing (Gather taken (arguments_of args.now) goal) (standing machine.old cells.old prints.old)) }
+    ensures { IfOk result (λ ending. Carries p.now (ways_of C.known C.may_read C.may_write C.rule) (doing (Gather taken (arguments_of args.now) goal) (standing machine.old cells.old prints.old)) ending (standing machine.new cells.new prints.new)) }
+{
+    let mut values = taken;
+    let mut next = 0;
+    while let Some(arg) = plain_argument(args, next) {
+        match value_of(arg, p, machine.vars.as_slice(), cells) {
+            Err(fault) => return Ok(Some(fault.ending())),
+            Ok(value) => values.push(value)?,
+        }
+        next += 1;
+    }
+    let then = Continuation::Gather {
+        taken: values,
+        args: &args[next..],
+        goal,
+    };
+    step(alloc, p, machine, cells, prints, then)
+}
+
+/// Evaluates the arguments of a call as far as they call no method; if all have values, enters the method.
+pub(crate) fn call<'a, C: Cells>(
+    alloc: Global,
+    p: &'a Prog,
+    machine: &mut Machine<'a>,
+    cells: &mut C,
+    prints: &mut Ints,
+    method: u32,
+    args: &'a Args,
+    place: Place,
+) -> Result<Option<Ending>, Memory>
+    requires { MayGo p.now (ways_of C.known C.may_read C.may_write C.rule) (doing (Gather [] args.now (Enter method place)) (standing machine.old cells.old prints.old)) }
+    ensures { IfOk result (λ ending. Carries p.now (ways_of C.known C.may_read C.may_write C.rule) (doing (Gather [] args.now (Enter method place)) (standing machine.old cells.old prints.old)) ending (standing machine.new cells.new prints.new)) }
+{
+    let taken = Ints::new(alloc);
+    let goal = Goal::Enter { method, place };
+    gather(
+        alloc,
+        p,
+        machine,
+        cells,
+        prints,
+        taken,
+        args.items.as_slice(),
+        goal,
+    )
+}
