@@ -6,3 +6,5 @@ pub mod Faultless
 pub mod Keepings
 -- a quiet step and a round of a run, as those of the crew that has the run
 pub mod QuietSteps
+-- a program may be shared by threads
+pub mod Crossing

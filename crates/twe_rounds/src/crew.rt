@@ -1,5 +1,5 @@
 //! A crew: a run whose moves are taken in rounds by workers, and one by one between the rounds.
-ghost use Rattle.std.specs.Prelude.{◌≡◌, ◌<◌, ◌∷◌, ◌++◌, [], length, Some, None, IfOk, IfErr, OnOk, OnErr};
+ghost use Rattle.std.specs.Prelude.{◌≡◌, ◌<◌, ◌≤◌, ◌∷◌, ◌++◌, [], length, Some, None, IfOk, IfErr, OnOk, OnErr};
 ghost use mathlib.Core.List.{IsPrefix};
 ghost use Rattle.twe_machine.specs.declared.ending.Outcome.TheVariants.{Unfinished};
 ghost use Rattle.twe_machine.specs.Runs.{IsOutcome, Legal, counted};
@@ -10,13 +10,14 @@ ghost use Rattle.twe_rounds.specs.Stepping.{Steps};
 use crate::gate::Gate;
 use crate::run::Run;
 use crate::run_core::lost;
-use crate::sharing::alone;
+use crate::sharing::{alone, together};
 use flat_sched::stuck_cycle;
 use seg_journal::{Journal, Kind};
 use std::alloc::Global;
 use std::marker::{Brand, Model};
 use std::snapshot::Snapshot;
 use std::sync::Wait;
+use std::thread::Threads;
 use twe_io::Memory;
 use twe_limits::Limits;
 use twe_machine::{Outcome, State, lowest, outcome};
@@ -47,7 +48,7 @@ pub struct Crew {
 }
 
 impl Model for Crew {
-    ghost use Rattle.std.specs.Prelude.{◌≡◌};
+    ghost use Rattle.std.specs.Prelude.{◌≤◌};
     ghost use Rattle.twe_rounds.specs.Crews.{CrewRun, IsKept, journal_of};
 
     ghost Value = { CrewRun };
@@ -60,13 +61,14 @@ impl Model for Crew {
 
     ghost view = { λ crew. record { prog = crew.prog.value; lim = crew.lim; workers = crew.workers; journal = journal_of crew.run } };
 
-    ghost invariant = { λ crew. (crew.workers ≡ 1) × IsKept crew.prog.value crew.lim crew.run };
+    ghost invariant = { λ crew. (1 ≤ crew.workers) × (crew.workers ≤ 64) × IsKept crew.prog.value crew.lim crew.run };
 }
 
 impl Crew {
-    /// A crew of one worker for a run of the program that has not begun.
+    /// A crew of so many workers, 1 to 64, for a run of the program that has not begun.
     pub fn new(alloc: Global, p: &Prog, lim: Limits, workers: u32) -> Result<Self, Memory>
-        requires { workers ≡ 1 }
+        requires some { 1 ≤ workers }
+        requires most { workers ≤ 64 }
         ensures { IfOk result (λ crew. crew ≡ record { prog = p.now; lim = lim; workers = workers; journal = Some [] }) }
     {
         let run = Run::begin(alloc, p, lim)?;
@@ -92,14 +94,19 @@ impl Crew {
         Ok(found)
     }
 
-    /// A round: the worker takes moves until it finds none.
-    pub fn round<R: Wait, G: Gate>(&mut self, rt: &R, p: &Prog, gate: &G) -> Result<(), Memory>
+    /// A round: the workers take moves until they find none. A single worker takes the lowest legal move first.
+    pub fn round<R: Threads + Wait + Sync, G: Gate + Sync>(
+        &mut self,
+        rt: &R,
+        p: &Prog,
+        gate: &G,
+    ) -> Result<(), Memory>
         requires { p.now ≡ self.old.prog }
         ensures ok { OnOk result (GoesOn self.old self.new) }
         ensures err { OnErr result (self.new ≡ lost self.old) }
     {
         let run = self.run.take().ok_or(lost())?;
-        let after = round_of_one(rt, self.alloc, p, self.lim, run, gate)?;
+        let after = round_of(rt, self.alloc, p, self.lim, self.workers, run, gate)?;
         self.run = Some(after);
         Ok(())
     }
@@ -138,6 +145,29 @@ fn step_quietly(alloc: Global, p: &Prog, lim: Limits, run: &mut Run) -> Result<Q
     }
 }
 
+/// A round of so many workers.
+fn round_of<R: Threads + Wait + Sync, G: Gate + Sync>(
+    rt: &R,
+    alloc: Global,
+    p: &Prog,
+    lim: Limits,
+    workers: u32,
+    run: Run,
+    gate: &G,
+) -> Result<Run, Memory>
+    requires some { 1 ≤ workers }
+    requires sound { IsSound p.now lim run }
+    ensures sound { IfOk result (IsSound p.now lim) }
+    ensures begins { IfOk result (λ after. IsPrefix run.journal after.journal) }
+    ensures longer { IfOk result (λ after. workers ≡ 1 → IsOutcome run.state Unfinished → length run.journal < length after.journal) }
+{
+    if workers == 1 {
+        round_of_one(rt, alloc, p, lim, run, gate)
+    } else {
+        round_of_many(rt, alloc, p, lim, workers, run, gate)
+    }
+}
+
 /// A round of a single worker, which takes the lowest legal move first. Nobody else has the run, so the move is still
 /// legal once the worker has passed the gate.
 #[tactic(auto, using(crate::proofs::Beginnings::begins_by_one, crate::proofs::Beginnings::longer_by_one))]
@@ -166,4 +196,25 @@ fn round_of_one<R: Wait, G: Gate>(
     }
     run.take(alloc, p, lim, mv)?;
     alone::<Brand, R, G>(rt, alloc, p, lim, run, mv.task, gate)
+}
+
+/// A round of more than one worker.
+fn round_of_many<R: Threads + Wait + Sync, G: Gate + Sync>(
+    rt: &R,
+    alloc: Global,
+    p: &Prog,
+    lim: Limits,
+    workers: u32,
+    run: Run,
+    gate: &G,
+) -> Result<Run, Memory>
+    requires some { 1 ≤ workers }
+    requires sound { IsSound p.now lim run }
+    ensures sound { IfOk result (IsSound p.now lim) }
+    ensures begins { IfOk result (λ after. IsPrefix run.journal after.journal) }
+{
+    if run.state.first_fault.is_some() {
+        return Ok(run);
+    }
+    together::<Brand, R, G>(rt, alloc, p, lim, workers, run, gate)
 }

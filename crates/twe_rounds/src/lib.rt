@@ -1,8 +1,8 @@
-//! Runs by workers: rounds in which a worker takes the moves of the tasks on its deck.
+//! Runs by workers: rounds in which each worker takes the moves of the tasks on its deck, and of those that it steals.
 //!
-//! A round lends the run to the worker: the state of the machine with its journal. What is proved of the run stands in its
-//! type, so it holds whatever the worker does. The decks are those of `steal_pool`; the machine below says which moves are
-//! legal. So far a round has one worker.
+//! A round lends the run to the workers: the state of the machine with its journal, under a lock if they are several. What is
+//! proved of the run stands in its type, so it holds whatever the workers do. The decks are those of `steal_pool`; the machine
+//! below says which moves are legal.
 #![tactic(auto)]
 
 mod access;
@@ -13,6 +13,7 @@ mod gate;
 mod meet_gate;
 mod named_run;
 mod own_deck;
+mod rounds;
 mod run;
 mod run_core;
 mod sharing;
@@ -22,3 +23,4 @@ mod worker;
 pub use crew::{Crew, Quietly};
 pub use gate::{FreeGate, Gate};
 pub use meet_gate::MeetGate;
+pub use rounds::run_in_rounds;

@@ -69,16 +69,18 @@ impl Worker {
     ) {
         let backoff = Backoff::new();
         for _ in rt.forever() {
+            // It is read before the list is looked at, and again after it.
+            let left = site.pending.load(Ordering::SeqCst);
             if let Some(number) = self.take(rt) {
                 self.serve(rt, access, site, Some(number));
                 site.pending.fetch_sub(1, Ordering::SeqCst);
                 backoff.reset();
-            } else if self.finds_ready(access, site) {
+            } else if self.finds_ready(access, left) {
                 site.pending.fetch_add(1, Ordering::SeqCst);
                 self.serve(rt, access, site, None);
                 site.pending.fetch_sub(1, Ordering::SeqCst);
                 backoff.reset();
-            } else if site.pending.load(Ordering::SeqCst) == 0 {
+            } else if left == 0 && site.pending.load(Ordering::SeqCst) == 0 {
                 break;
             } else {
                 pause(rt, &backoff, site.pending);
@@ -94,9 +96,9 @@ impl Worker {
         }
     }
 
-    /// Whether a task of the list may be tried again: one whose wait has ended, or any of them if nothing else is left
-    /// to be dealt with and a segment ran since the worker tried all of them.
-    fn finds_ready<A: Access, G: Gate>(&mut self, access: &mut A, site: &Site<'_, G>) -> bool {
+    /// Whether a task of the list may be tried again: one whose wait has ended, or any of them if nothing was left to be
+    /// dealt with and a segment ran since the worker tried all of them.
+    fn finds_ready<A: Access>(&mut self, access: &mut A, left: u64) -> bool {
         self.hear(access);
         if self.stopped {
             return false;
@@ -104,7 +106,7 @@ impl Worker {
         if self.waiting.is_ready() {
             return true;
         }
-        if !self.moved || site.pending.load(Ordering::SeqCst) > 0 {
+        if !self.moved || left > 0 {
             return false;
         }
         self.moved = false;

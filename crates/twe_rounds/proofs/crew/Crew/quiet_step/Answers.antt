@@ -13,5 +13,5 @@ returns-clause-ok c =
     let new = c.step_quietly.new.run in
     let prog : c.args.p.now ≡ crew.prog.value = c.requires ∙ sym (ap (λ (seen : CrewRun). seen.prog) c.self.view_is) in
     quiet_kept crew.prog.value crew.lim crew.workers c.args.self.now crew.run old new c.in_ok-found.found
-    (sym c.take.ensures.value ∙ c.in_ok-run.ensures.ok_part) c.self.invariant.1 c.self.view_is
+    (sym c.take.ensures.value ∙ c.in_ok-run.ensures.ok_part) c.self.invariant.2 c.self.view_is
     (subst (λ (p : Program). Steps p crew.lim old new c.in_ok-found.found) prog c.in_ok-found.ensures.steps)

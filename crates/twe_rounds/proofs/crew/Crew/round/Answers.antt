@@ -13,6 +13,6 @@ returns-clause-ok g c =
     let new = c.in_ok-after.after in
     let prog : c.args.p.now ≡ crew.prog.value = c.requires ∙ sym (ap (λ (seen : CrewRun). seen.prog) c.self.view_is) in
     round_kept crew.prog.value crew.lim crew.workers c.args.self.now crew.run old new
-    (sym c.take.ensures.value ∙ c.in_ok-run.ensures.ok_part) c.self.invariant.1 c.self.view_is
+    (sym c.take.ensures.value ∙ c.in_ok-run.ensures.ok_part) c.self.invariant.2 c.self.view_is
     (subst (λ (p : Program). IsSound p crew.lim new) prog c.in_ok-after.ensures.sound)
-    c.in_ok-after.ensures.begins (λ _ unfinished. c.in_ok-after.ensures.longer unfinished)
+    c.in_ok-after.ensures.begins (λ one unfinished. c.in_ok-after.ensures.longer one unfinished)
