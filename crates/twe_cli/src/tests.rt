@@ -13,6 +13,10 @@ const NOTHING: &[u8] = b"task void main() pure { }\n";
 
 const RESULT: &[u8] = b"x = 42\ntasks 1\n";
 
+const UNCOVERED: &[u8] = b"region A;\nint x in A = 41;\ntask void main() reads A { x = 1; }\n";
+
+const REFUSAL: &[u8] = b"refused: E1 at 3:28\n";
+
 /// Makes one call over these ends, and says its status.
 fn call<S: Source>(
     alloc: Global,
@@ -62,6 +66,23 @@ fn a_sink_that_fails_at_any_call_keeps_what_it_took(rt: HostRuntime) -> Result<(
         assert_eq!(rt; status.code(), if at < 16 { 6 } else { 0 });
         assert_eq!(rt; out.bytes(), &RESULT[..(at - 1) as usize]);
         assert_eq!(rt; err.bytes().len(), 0);
+    }
+    Ok(())
+}
+
+#[test]
+fn a_sink_of_errors_that_fails_at_any_call_keeps_what_it_took(rt: HostRuntime) -> Result<(), Fail> {
+    for at in 1..22u64 {
+        let mut src = PlainSource::new(Bytes::from_slice(rt.alloc(), UNCOVERED)?);
+        let fails = Calls::from_slice(rt.alloc(), &[at])?;
+        let mut out = PlainSink::new(rt.alloc(), 200)?;
+        let mut err = MemSink::new(rt.alloc(), 200, 1, fails)?;
+        let mut book = Book::new(rt.alloc());
+        let words = [Word::from_text(rt.alloc(), "run")?];
+        let status = twe(rt.alloc(), &words, &mut src, &mut out, &mut err, &mut book);
+        assert_eq!(rt; status.code(), if at < 21 { 6 } else { 1 });
+        assert_eq!(rt; err.bytes(), &REFUSAL[..(at - 1) as usize]);
+        assert_eq!(rt; out.bytes().len(), 0);
     }
     Ok(())
 }

@@ -8,3 +8,5 @@ pub mod Keepings
 pub mod QuietSteps
 -- a program may be shared by threads
 pub mod Crossing
+-- a quiet step that does not move finds that the run is over
+pub mod Endings

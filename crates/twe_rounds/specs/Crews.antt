@@ -1,5 +1,5 @@
 -- What contracts see of a crew, and what its calls do.
-use Rattle.std.specs.Prelude.{◌≡◌, ◌<◌, ℕ, List, [], ◌∷◌, ◌++◌, length, Option, None, Some}
+use Rattle.std.specs.Prelude.{◌≡◌, ◌<◌, ℕ, Bool, true, false, List, [], ◌∷◌, ◌++◌, length, Option, None, Some}
 use mathlib.Core.List.{IsPrefix}
 use Rattle.seg_journal.specs.declared.journal.Entry.{Entry}
 use Rattle.seg_journal.specs.declared.moves.Move.{Move}
@@ -55,6 +55,11 @@ StepsFrom old new journal (Stuck cycle) = (new ≡ old) × IsOutcome (state_of o
 StepsFrom old new journal Moved =
     IsOutcome (state_of old journal) outcomes.Unfinished
     × ((mv : Move) × IsLowest (state_of old journal) mv × (new ≡ with_journal old (journal ++ entry_of old.prog old.lim (state_of old journal) mv ∷ [])))
+
+-- a quiet step found this since the run was over
+abbrev pub is_end : Quietly → Bool
+is_end Moved = false
+is_end _ = true
 
 -- the crew had a journal, and the quiet step found this
 abbrev pub StepsQuietly : CrewRun → CrewRun → Quietly → Type 0

@@ -3,7 +3,7 @@ ghost use Rattle.std.specs.Prelude.{◌≡◌, ◌<◌, ◌≤◌, ◌∷◌, �
 ghost use mathlib.Core.List.{IsPrefix};
 ghost use Rattle.twe_machine.specs.declared.ending.Outcome.TheVariants.{Unfinished};
 ghost use Rattle.twe_machine.specs.Runs.{IsOutcome, Legal, counted};
-ghost use Rattle.twe_rounds.specs.Crews.{CrewRun, GoesOn, StepsQuietly, journal_of, lost, state_of};
+ghost use Rattle.twe_rounds.specs.Crews.{CrewRun, GoesOn, StepsQuietly, is_end, journal_of, lost, state_of};
 ghost use Rattle.twe_rounds.specs.Keeping.{IsSound};
 ghost use Rattle.twe_rounds.specs.Stepping.{Steps};
 
@@ -37,6 +37,15 @@ pub enum Quietly {
     Moved,
 }
 
+impl Quietly {
+    /// Whether the run is over.
+    pub fn is_end(&self) -> bool
+        ensures { result ≡ is_end self.now }
+    {
+        !matches!(self, Quietly::Moved)
+    }
+}
+
 /// A run of a program by workers. Once memory runs out, a crew has lost its run, and answers `Memory` from then on.
 #[derive(Drop)]
 pub struct Crew {
@@ -65,7 +74,7 @@ impl Model for Crew {
 }
 
 impl Crew {
-    /// A crew of so many workers, 1 to 64, for a run of the program that has not begun.
+    /// A crew of this many workers, 1 to 64, for a run of the program that has not begun.
     pub fn new(alloc: Global, p: &Prog, lim: Limits, workers: u32) -> Result<Self, Memory>
         requires some { 1 ≤ workers }
         requires most { workers ≤ 64 }
@@ -145,7 +154,7 @@ fn step_quietly(alloc: Global, p: &Prog, lim: Limits, run: &mut Run) -> Result<Q
     }
 }
 
-/// A round of so many workers.
+/// A round of this many workers.
 fn round_of<R: Threads + Wait + Sync, G: Gate + Sync>(
     rt: &R,
     alloc: Global,
