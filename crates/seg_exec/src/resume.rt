@@ -6,7 +6,7 @@ ghost use Rattle.seg_exec.specs.inner.Steps.{back_with, chosen_next, choosing, o
 ghost use Rattle.seg_exec.specs.inner.Views.{config_of, continuations_of};
 
 use crate::arithmetic::is_true;
-use crate::continuation::{Continuation, Recovered};
+use crate::continuation::{Continuation, Recovered, ValueUse};
 use crate::frame::Position;
 use crate::machine::{Machine, fault};
 use crate::operation::Operation;
@@ -47,13 +47,13 @@ impl<'a> Machine<'a> {
     {
         if block < arms.len() {
             let arm = &arms[block];
-            self.push(Continuation::Chosen {
+            self.push(Continuation::UseValue(ValueUse::Chosen {
                 block,
                 next: block + 1,
                 body: &arm.body,
                 arms,
                 last,
-            })?;
+            }))?;
             self.push(Continuation::Evaluate(&arm.condition))?;
         } else if let Some(body) = last {
             self.push(Continuation::Rest {
@@ -74,7 +74,8 @@ impl<'a> Machine<'a> {
         arms: &'a [Arm],
         last: &'a Option<Block>,
     ) -> Result<Request, Memory>
-        ensures { IfOk result (λ request. (request, config_of self.new) ≡ chosen_next block next body.now (arms_of (drop next arms.now) last.now) (config_of self.old)) }
+        ensures { IfOk result (λ request. (request, config_of self.new) ≡
+            chosen_next block next body.now (arms_of (drop next arms.now) last.now) (config_of self.old)) }
     {
         if is_true(self.pop_operand()) {
             self.push(Continuation::Rest {
@@ -146,8 +147,8 @@ impl<'a> Machine<'a> {
                 let value = self.pop_operand();
                 self.back(value, vars)?;
             }
-            Recovered::Block(_) => self.push(Continuation::Unwind)?,
-            Recovered::Nothing => self.push(Continuation::Unwind)?,
+            Recovered::Block(_) => self.push(Continuation::UseValue(ValueUse::Unwind))?,
+            Recovered::Nothing => self.push(Continuation::UseValue(ValueUse::Unwind))?,
         }
         Ok(Request::Nothing)
     }
