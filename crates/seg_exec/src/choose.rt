@@ -7,10 +7,10 @@ ghost use Rattle.seg_exec.specs.inner.Reached.{standing};
 ghost use Rattle.seg_exec.specs.inner.Strides.{Carries, MayGo, doing};
 
 use crate::cells::Cells;
-use crate::continuation::{Continuation, ValueUse};
+use crate::continuation::ValueUse;
 use crate::machine::Machine;
 use crate::request::Ending;
-use crate::stepping::{evaluate_then, step};
+use crate::stepping::{evaluate_then, serve};
 use std::alloc::Global;
 use twe_io::{Ints, Memory};
 use twe_program::{Arm, Arms, Block, Prog};
@@ -43,8 +43,8 @@ pub(crate) fn choose<'a, C: Cells>(
         };
         return evaluate_then(alloc, p, machine, cells, prints, &arm.condition, then);
     }
-    let otherwise = Continuation::Choose { block, arms, last };
-    step(alloc, p, machine, cells, prints, otherwise)
+    let request = machine.choose(block, arms, last)?;
+    serve(machine, cells, prints, request)
 }
 
 /// Tries the arms of an `if` from the first on.

@@ -31,6 +31,26 @@ pub(crate) enum Goal {
     },
 }
 
+/// Arguments of which some have values.
+#[derive(Debug, Drop)]
+pub(crate) struct Gathering<'a> {
+    /// The values of the first arguments.
+    pub(crate) taken: Ints,
+    /// The arguments after them, or after the one whose value is the latest.
+    pub(crate) args: &'a [Expr],
+    /// What they are for.
+    pub(crate) goal: Goal,
+}
+
+/// A stop at a task operation.
+#[derive(Debug, Drop)]
+pub(crate) struct Suspension {
+    /// The operation.
+    pub(crate) operation: Operation,
+    /// The positions of the blocks that are closed already, the outermost on top.
+    pub(crate) positions: Stack<Position>,
+}
+
 /// What is done with the latest value of the operand stack.
 #[derive(Clone, Copy, Debug)]
 pub(crate) enum ValueUse<'a> {
@@ -144,30 +164,11 @@ pub(crate) enum Continuation<'a> {
     /// Use the latest value.
     UseValue(ValueUse<'a>),
     /// Evaluate the arguments that have no value yet.
-    Gather {
-        /// The values of the arguments before them.
-        taken: Ints,
-        /// The arguments.
-        args: &'a [Expr],
-        /// What they are for.
-        goal: Goal,
-    },
+    Gather(Box<Gathering<'a>>),
     /// Use the value of an argument, then evaluate those after it.
-    Take {
-        /// The values of the arguments before it.
-        taken: Ints,
-        /// The arguments after it.
-        args: &'a [Expr],
-        /// What they are for.
-        goal: Goal,
-    },
+    Take(Box<Gathering<'a>>),
     /// Stop the segment at a task operation.
-    Suspend {
-        /// The operation.
-        operation: Operation,
-        /// The positions of the blocks that are closed already, the outermost on top.
-        positions: Stack<Position>,
-    },
+    Suspend(Box<Suspension>),
     /// Return 0 from a method to its caller, which has these variables.
     Leave(Ints),
 }
@@ -195,9 +196,9 @@ impl Continuation<'_> {
             Continuation::Execute(_) => Recovered::Nothing,
             Continuation::Choose { .. } => Recovered::Nothing,
             Continuation::UseValue(_) => Recovered::Nothing,
-            Continuation::Gather { .. } => Recovered::Nothing,
-            Continuation::Take { .. } => Recovered::Nothing,
-            Continuation::Suspend { .. } => Recovered::Nothing,
+            Continuation::Gather(_) => Recovered::Nothing,
+            Continuation::Take(_) => Recovered::Nothing,
+            Continuation::Suspend(_) => Recovered::Nothing,
         }
     }
 }

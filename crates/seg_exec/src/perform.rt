@@ -10,11 +10,11 @@ ghost use Rattle.seg_exec.specs.Access.{ways_of};
 use crate::assign::{Carried, assign};
 use crate::cells::Cells;
 use crate::choose::{choose, choose_first};
-use crate::continuation::{Continuation, ValueUse};
+use crate::continuation::{Continuation, Gathering, ValueUse};
 use crate::gather::gather;
 use crate::machine::Machine;
 use crate::request::Ending;
-use crate::stepping::{evaluate, evaluate_then, right_of, step, use_value};
+use crate::stepping::{evaluate, evaluate_then, right_of, serve, step, use_value};
 use std::alloc::Global;
 use twe_io::{Ints, Memory};
 use twe_program::{Prog, Stmt, StmtKind};
@@ -65,14 +65,10 @@ fn execute<'a, C: Cells>(
             let then = ValueUse::PrintValue(*place);
             evaluate_then(alloc, p, machine, cells, prints, value, then)
         }
-        _ => step(
-            alloc,
-            p,
-            machine,
-            cells,
-            prints,
-            Continuation::Execute(stmt),
-        ),
+        _ => {
+            let request = machine.execute(alloc, stmt)?;
+            serve(machine, cells, prints, request)
+        }
     }
 }
 
@@ -158,7 +154,8 @@ pub(crate) fn perform<'a, C: Cells>(
             right_of(alloc, p, machine, cells, prints, op, right, place)
         }
         Continuation::UseValue(then) => use_value(p, machine, cells, prints, then),
-        Continuation::Gather { taken, args, goal } => {
+        Continuation::Gather(gathering) => {
+            let Gathering { taken, args, goal } = Box::into_inner(gathering);
             gather(alloc, p, machine, cells, prints, taken, args, goal)
         }
         work => step(alloc, p, machine, cells, prints, work),

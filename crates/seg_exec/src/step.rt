@@ -3,7 +3,7 @@ ghost use Rattle.std.specs.Prelude.{◌≡◌, IfOk};
 ghost use Rattle.seg_exec.specs.inner.Steps.{worked};
 ghost use Rattle.seg_exec.specs.inner.Views.{config_of, continuation_of, use_of};
 
-use crate::continuation::{Continuation, ValueUse};
+use crate::continuation::{Continuation, Gathering, ValueUse};
 use crate::elements::cell_number;
 use crate::machine::Machine;
 use crate::request::Request;
@@ -63,14 +63,15 @@ impl<'a> Machine<'a> {
             Continuation::Rest { block, at, stmts } => self.rest(block, at, stmts),
             Continuation::Choose { block, arms, last } => self.choose(block, arms, last),
             Continuation::UseValue(then) => self.use_value(p, then),
-            Continuation::Gather { taken, args, goal } => self.gather_next(
-                alloc, p, taken, args, goal,
-            ),
-            Continuation::Take { taken, args, goal } => self.take_argument(taken, args, goal),
-            Continuation::Suspend {
-                operation,
-                positions,
-            } => self.suspend_on(operation, positions),
+            Continuation::Gather(gathering) => {
+                let Gathering { taken, args, goal } = Box::into_inner(gathering);
+                self.gather_next(alloc, p, taken, args, goal)
+            }
+            Continuation::Take(gathering) => {
+                let Gathering { taken, args, goal } = Box::into_inner(gathering);
+                self.take_argument(alloc, taken, args, goal)
+            }
+            Continuation::Suspend(suspension) => self.suspend_on(suspension),
             Continuation::Leave(vars) => self.leave(vars),
         }
     }

@@ -128,14 +128,10 @@ fn begin<'a, C: Cells>(
             args,
             place,
         } => call(alloc, p, machine, cells, prints, *method, args, *place),
-        _ => step(
-            alloc,
-            p,
-            machine,
-            cells,
-            prints,
-            Continuation::Evaluate(expr),
-        ),
+        _ => {
+            let request = machine.evaluate(alloc, p, expr)?;
+            serve(machine, cells, prints, request)
+        }
     }
 }
 

@@ -33,9 +33,9 @@ continuation_of (held.Execute s) = Execute s.now
 continuation_of (held.Rest block at stmts) = Rest block at (statements_of (drop at stmts.now))
 continuation_of (held.Choose block arms last) = Choose block (arms_of (drop block arms.now) last.now)
 continuation_of (held.UseValue then) = use_of then
-continuation_of (held.Gather taken args goal) = Gather taken (arguments_of args.now) goal
-continuation_of (held.Take taken args goal) = Take taken (arguments_of args.now) goal
-continuation_of (held.Suspend operation positions) = Suspend operation positions
+continuation_of (held.Gather g) = Gather g.value.taken (arguments_of g.value.args.now) g.value.goal
+continuation_of (held.Take g) = Take g.value.taken (arguments_of g.value.args.now) g.value.goal
+continuation_of (held.Suspend s) = Suspend s.value.operation s.value.positions
 continuation_of (held.Leave vars) = Leave vars
 
 abbrev pub continuations_of : List Held → List Continuation
