@@ -41,7 +41,7 @@ pub(crate) fn choose<'a, C: Cells>(
             arms,
             last,
         };
-        return evaluate_then(alloc, p, machine, cells, prints, &arm.condition, then);
+        return evaluate_then(alloc, p, machine, cells, prints, &arm.condition, &then);
     }
     let request = machine.choose(block, arms, last)?;
     serve(machine, cells, prints, request)

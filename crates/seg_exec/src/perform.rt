@@ -35,15 +35,15 @@ fn execute<'a, C: Cells>(
     match &stmt.kind {
         StmtKind::Let { var, value } => {
             let then = ValueUse::GiveVar(*var);
-            evaluate_then(alloc, p, machine, cells, prints, value, then)
+            evaluate_then(alloc, p, machine, cells, prints, value, &then)
         }
         StmtKind::Set { var, value } => {
             let then = ValueUse::GiveVar(*var);
-            evaluate_then(alloc, p, machine, cells, prints, value, then)
+            evaluate_then(alloc, p, machine, cells, prints, value, &then)
         }
         StmtKind::SetCell { cell, value, .. } => {
             let then = ValueUse::GiveCell(*cell);
-            evaluate_then(alloc, p, machine, cells, prints, value, then)
+            evaluate_then(alloc, p, machine, cells, prints, value, &then)
         }
         StmtKind::While {
             condition,
@@ -55,15 +55,15 @@ fn execute<'a, C: Cells>(
                 body,
                 place: *place,
             };
-            evaluate_then(alloc, p, machine, cells, prints, condition, then)
+            evaluate_then(alloc, p, machine, cells, prints, condition, &then)
         }
         StmtKind::If(arms) => choose_first(alloc, p, machine, cells, prints, arms),
         StmtKind::Return(Some(value)) => {
-            evaluate_then(alloc, p, machine, cells, prints, value, ValueUse::Unwind)
+            evaluate_then(alloc, p, machine, cells, prints, value, &ValueUse::Unwind)
         }
         StmtKind::Print { value, place } => {
             let then = ValueUse::PrintValue(*place);
-            evaluate_then(alloc, p, machine, cells, prints, value, then)
+            evaluate_then(alloc, p, machine, cells, prints, value, &then)
         }
         _ => {
             let request = machine.execute(alloc, stmt)?;
@@ -153,7 +153,7 @@ pub(crate) fn perform<'a, C: Cells>(
         Continuation::UseValue(ValueUse::Right { op, right, place }) => {
             right_of(alloc, p, machine, cells, prints, op, right, place)
         }
-        Continuation::UseValue(then) => use_value(p, machine, cells, prints, then),
+        Continuation::UseValue(then) => use_value(p, machine, cells, prints, &then),
         Continuation::Gather(gathering) => {
             let Gathering { taken, args, goal } = Box::into_inner(gathering);
             gather(alloc, p, machine, cells, prints, taken, args, goal)

@@ -13,10 +13,10 @@ use twe_program::Prog;
 
 impl<'a> Machine<'a> {
     /// Uses the latest value.
-    pub(crate) fn use_value(&mut self, p: &Prog, then: ValueUse<'a>) -> Result<Request, Memory>
-        ensures { IfOk result (λ request. (request, config_of self.new) ≡ worked p.now (use_of then.entry) (config_of self.old)) }
+    pub(crate) fn use_value(&mut self, p: &Prog, then: &ValueUse<'a>) -> Result<Request, Memory>
+        ensures { IfOk result (λ request. (request, config_of self.new) ≡ worked p.now (use_of then.now) (config_of self.old)) }
     {
-        match then {
+        match *then {
             ValueUse::Chosen {
                 block,
                 next,
@@ -62,7 +62,7 @@ impl<'a> Machine<'a> {
             Continuation::Execute(stmt) => self.execute(alloc, stmt),
             Continuation::Rest { block, at, stmts } => self.rest(block, at, stmts),
             Continuation::Choose { block, arms, last } => self.choose(block, arms, last),
-            Continuation::UseValue(then) => self.use_value(p, then),
+            Continuation::UseValue(then) => self.use_value(p, &then),
             Continuation::Gather(gathering) => {
                 let Gathering { taken, args, goal } = Box::into_inner(gathering);
                 self.gather_next(alloc, p, taken, args, goal)

@@ -81,11 +81,11 @@ fn use_now<'a, C: Cells>(
     machine: &mut Machine<'a>,
     cells: &mut C,
     prints: &mut Ints,
-    then: ValueUse<'a>,
+    then: &ValueUse<'a>,
 ) -> Result<Option<Ending>, Memory>
-    requires { MayGo p.now (ways_of C.known C.may_read C.may_write C.rule) (doing (use_of then) (standing machine.old cells.old prints.old)) }
+    requires { MayGo p.now (ways_of C.known C.may_read C.may_write C.rule) (doing (use_of then.now) (standing machine.old cells.old prints.old)) }
     ensures { IfOk result (λ ending. Carries p.now (ways_of C.known C.may_read C.may_write C.rule)
-        (doing (use_of then.entry) (standing machine.old cells.old prints.old)) ending (standing machine.new cells.new prints.new)) }
+        (doing (use_of then.now) (standing machine.old cells.old prints.old)) ending (standing machine.new cells.new prints.new)) }
 {
     let request = machine.use_value(p, then)?;
     serve(machine, cells, prints, request)
@@ -97,11 +97,11 @@ pub(crate) fn use_value<'a, C: Cells>(
     machine: &mut Machine<'a>,
     cells: &mut C,
     prints: &mut Ints,
-    then: ValueUse<'a>,
+    then: &ValueUse<'a>,
 ) -> Result<Option<Ending>, Memory>
-    requires { MayGo p.now (ways_of C.known C.may_read C.may_write C.rule) (doing (use_of then) (standing machine.old cells.old prints.old)) }
+    requires { MayGo p.now (ways_of C.known C.may_read C.may_write C.rule) (doing (use_of then.now) (standing machine.old cells.old prints.old)) }
     ensures { IfOk result (λ ending. Carries p.now (ways_of C.known C.may_read C.may_write C.rule)
-        (doing (use_of then.entry) (standing machine.old cells.old prints.old)) ending (standing machine.new cells.new prints.new)) }
+        (doing (use_of then.now) (standing machine.old cells.old prints.old)) ending (standing machine.new cells.new prints.new)) }
 {
     match then {
         ValueUse::Unwind => leave(p, machine, cells, prints),
@@ -225,16 +225,16 @@ pub(crate) fn evaluate_then<'a, C: Cells>(
     cells: &mut C,
     prints: &mut Ints,
     expr: &'a Expr,
-    then: ValueUse<'a>,
+    then: &ValueUse<'a>,
 ) -> Result<Option<Ending>, Memory>
     requires { MayGo p.now (ways_of C.known C.may_read C.may_write C.rule)
-        (doing (Evaluate expr.now) (doing (use_of then) (standing machine.old cells.old prints.old))) }
+        (doing (Evaluate expr.now) (doing (use_of then.now) (standing machine.old cells.old prints.old))) }
     ensures { IfOk result (λ ending. Carries p.now (ways_of C.known C.may_read C.may_write C.rule)
-        (doing (Evaluate expr.now) (doing (use_of then.entry) (standing machine.old cells.old prints.old)))
+        (doing (Evaluate expr.now) (doing (use_of then.now) (standing machine.old cells.old prints.old)))
         ending (standing machine.new cells.new prints.new)) }
 {
     if !is_plain(expr) {
-        machine.push(Continuation::UseValue(then))?;
+        machine.push(Continuation::UseValue(*then))?;
         return begin(alloc, p, machine, cells, prints, expr);
     }
     match value_of(expr, p, machine.vars.as_slice(), cells) {
@@ -271,7 +271,7 @@ pub(crate) fn right_of<'a, C: Cells>(
         None => {
             machine.push_operand(left)?;
             let then = ValueUse::Apply { op, place };
-            evaluate_then(alloc, p, machine, cells, prints, right, then)
+            evaluate_then(alloc, p, machine, cells, prints, right, &then)
         }
     }
 }

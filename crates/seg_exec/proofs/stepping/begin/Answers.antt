@@ -17,9 +17,9 @@ operand-requires g c =
     let right : c.deref.result.now ≡ c.in-Bin.right.value = search rules in
     let same : config_of c.push.new.self ≡ to_do (Right c.in-Bin.op c.in-Bin.right.value c.in-Bin.place) old = c.in_ok-push-in-Bin.ensures ∙ ap (λ (r : Expression). to_do (Right c.in-Bin.op r c.in-Bin.place) old) right in
     let is : evaluated c.args.p.now c.args.expr.now old ≡ on (to_do (Evaluate c.deref-in-Bin.result.now) (config_of c.push.new.self)) =
-        ap (λ (e : Expression). evaluated c.args.p.now e old) (sym c.expr.view_is ∙ ap expression_of c.in-Bin.is)
-        ∙ ap (λ (l : Expression). on (to_do (Evaluate l) (to_do (Right c.in-Bin.op c.in-Bin.right.value c.in-Bin.place) old))) (sym left)
-        ∙ ap (λ (config : Config). on (to_do (Evaluate c.deref-in-Bin.result.now) config)) (sym same)
+    ap (λ (e : Expression). evaluated c.args.p.now e old) (sym c.expr.view_is ∙ ap expression_of c.in-Bin.is)
+    ∙ ap (λ (l : Expression). on (to_do (Evaluate l) (to_do (Right c.in-Bin.op c.in-Bin.right.value c.in-Bin.place) old))) (sym left)
+    ∙ ap (λ (config : Config). on (to_do (Evaluate c.deref-in-Bin.result.now) config)) (sym same)
     in
     may_silent c.args.p.now (ways_of g.C.Cells.known g.C.Cells.may_read g.C.Cells.may_write g.C.Cells.rule) (Evaluate c.args.expr.now) old (to_do (Evaluate c.deref-in-Bin.result.now) (config_of c.push.new.self)) c.args.cells.now c.args.prints.now is c.requires
 
@@ -30,9 +30,9 @@ returns-in_ok-push-in-Bin g c =
     let right : c.deref.result.now ≡ c.in-Bin.right.value = search rules in
     let same : config_of c.push.new.self ≡ to_do (Right c.in-Bin.op c.in-Bin.right.value c.in-Bin.place) old = c.in_ok-push-in-Bin.ensures ∙ ap (λ (r : Expression). to_do (Right c.in-Bin.op r c.in-Bin.place) old) right in
     let is : evaluated c.args.p.now c.args.expr.now old ≡ on (to_do (Evaluate c.deref-in-Bin.result.now) (config_of c.push.new.self)) =
-        ap (λ (e : Expression). evaluated c.args.p.now e old) (sym c.expr.view_is ∙ ap expression_of c.in-Bin.is)
-        ∙ ap (λ (l : Expression). on (to_do (Evaluate l) (to_do (Right c.in-Bin.op c.in-Bin.right.value c.in-Bin.place) old))) (sym left)
-        ∙ ap (λ (config : Config). on (to_do (Evaluate c.deref-in-Bin.result.now) config)) (sym same)
+    ap (λ (e : Expression). evaluated c.args.p.now e old) (sym c.expr.view_is ∙ ap expression_of c.in-Bin.is)
+    ∙ ap (λ (l : Expression). on (to_do (Evaluate l) (to_do (Right c.in-Bin.op c.in-Bin.right.value c.in-Bin.place) old))) (sym left)
+    ∙ ap (λ (config : Config). on (to_do (Evaluate c.deref-in-Bin.result.now) config)) (sym same)
     in
     if_ok_map c.operand.result (λ ending rest. carries_silent c.args.p.now (ways_of g.C.Cells.known g.C.Cells.may_read g.C.Cells.may_write g.C.Cells.rule) (Evaluate c.args.expr.now) old (to_do (Evaluate c.deref-in-Bin.result.now) (config_of c.push.new.self)) c.args.cells.now c.args.prints.now ending
     (standing c.operand.new.machine c.operand.new.cells c.operand.new.prints) is rest) c.operand.ensures

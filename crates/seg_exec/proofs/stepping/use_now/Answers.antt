@@ -7,10 +7,10 @@ use Rattle.seg_exec.proofs.stepping.use_now.Goals as goal
 
 pub serve-requires : goal.serve-requires
 serve-requires g c =
-    may_request c.args.p.now (ways_of g.C.Cells.known g.C.Cells.may_read g.C.Cells.may_write g.C.Cells.rule) (use_of c.args.then) (config_of c.args.machine.now) (config_of c.use_value.new.self) c.args.cells.now c.args.prints.now
+    may_request c.args.p.now (ways_of g.C.Cells.known g.C.Cells.may_read g.C.Cells.may_write g.C.Cells.rule) (use_of c.args.then.now) (config_of c.args.machine.now) (config_of c.use_value.new.self) c.args.cells.now c.args.prints.now
     c.in_ok-request.request c.in_ok-request.ensures c.requires
 
 pub returns : goal.returns
 returns g c =
-    if_ok_map c.serve.result (λ ending served. carries_step c.args.p.now (ways_of g.C.Cells.known g.C.Cells.may_read g.C.Cells.may_write g.C.Cells.rule) (use_of c.args.then) (config_of c.args.machine.now) (config_of c.use_value.new.self) c.args.cells.now c.args.prints.now
+    if_ok_map c.serve.result (λ ending served. carries_step c.args.p.now (ways_of g.C.Cells.known g.C.Cells.may_read g.C.Cells.may_write g.C.Cells.rule) (use_of c.args.then.now) (config_of c.args.machine.now) (config_of c.use_value.new.self) c.args.cells.now c.args.prints.now
     c.in_ok-request.request ending (standing c.serve.new.machine c.serve.new.cells c.serve.new.prints) c.in_ok-request.ensures served) c.serve.ensures
