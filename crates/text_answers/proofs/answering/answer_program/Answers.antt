@@ -1,5 +1,3 @@
-use Rattle.std.proofs.Common.{ap}
-use Rattle.text_answers.specs.Running.{limits_to_run}
 use Rattle.text_answers.proofs.Dues.{due_accepted, due_for_program, due_replayed}
 use Rattle.text_answers.proofs.answering.answer_program.Goals as goal
 
