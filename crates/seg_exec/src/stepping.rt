@@ -110,7 +110,7 @@ pub(crate) fn use_value<'a, C: Cells>(
 }
 
 /// Begins to evaluate an expression: the arguments if it is a call, and else its first step.
-fn begin<'a, C: Cells>(
+fn begin_one<'a, C: Cells>(
     alloc: Global,
     p: &'a Prog,
     machine: &mut Machine<'a>,
@@ -132,6 +132,63 @@ fn begin<'a, C: Cells>(
             let request = machine.evaluate(alloc, p, expr)?;
             serve(machine, cells, prints, request)
         }
+    }
+}
+
+/// Evaluates an operand at once if it calls no method, and makes its first step otherwise.
+fn operand<'a, C: Cells>(
+    alloc: Global,
+    p: &'a Prog,
+    machine: &mut Machine<'a>,
+    cells: &mut C,
+    prints: &mut Ints,
+    expr: &'a Expr,
+) -> Result<Option<Ending>, Memory>
+    requires { MayGo p.now (ways_of C.known C.may_read C.may_write C.rule) (doing (Evaluate expr.now) (standing machine.old cells.old prints.old)) }
+    ensures { IfOk result (λ ending. Carries p.now (ways_of C.known C.may_read C.may_write C.rule)
+        (doing (Evaluate expr.now) (standing machine.old cells.old prints.old)) ending (standing machine.new cells.new prints.new)) }
+{
+    if !is_plain(expr) {
+        return begin_one(alloc, p, machine, cells, prints, expr);
+    }
+    match value_of(expr, p, machine.vars.as_slice(), cells) {
+        Err(fault) => Ok(Some(fault.ending())),
+        Ok(value) => {
+            machine.push_operand(value)?;
+            Ok(None)
+        }
+    }
+}
+
+/// Begins to evaluate an expression, and the left operand if it is an operator.
+fn begin<'a, C: Cells>(
+    alloc: Global,
+    p: &'a Prog,
+    machine: &mut Machine<'a>,
+    cells: &mut C,
+    prints: &mut Ints,
+    expr: &'a Expr,
+) -> Result<Option<Ending>, Memory>
+    requires { MayGo p.now (ways_of C.known C.may_read C.may_write C.rule) (doing (Evaluate expr.now) (standing machine.old cells.old prints.old)) }
+    ensures { IfOk result (λ ending. Carries p.now (ways_of C.known C.may_read C.may_write C.rule)
+        (doing (Evaluate expr.now) (standing machine.old cells.old prints.old)) ending (standing machine.new cells.new prints.new)) }
+{
+    match &expr.kind {
+        ExprKind::Bin {
+            op,
+            left,
+            right,
+            place,
+        } => {
+            let then = ValueUse::Right {
+                op: *op,
+                right,
+                place: *place,
+            };
+            machine.push(Continuation::UseValue(then))?;
+            operand(alloc, p, machine, cells, prints, left)
+        }
+        _ => begin_one(alloc, p, machine, cells, prints, expr),
     }
 }
 

@@ -2,7 +2,8 @@
 ghost use Rattle.std.specs.Prelude.{◌≡◌, IfOk};
 ghost use Rattle.seg_exec.specs.Arithmetic.{negation, negative};
 ghost use Rattle.seg_exec.specs.inner.Continuations.{top, with_operand, without_operand};
-ghost use Rattle.seg_exec.specs.inner.Steps.{applying, giving_element, giving_grid_element, giving_var, on, printing, reading_element, reading_grid_element, righting};
+ghost use Rattle.seg_exec.specs.inner.Steps.{applying, giving_element, giving_grid_element, giving_var};
+ghost use Rattle.seg_exec.specs.inner.Steps.{on, printing, reading_element, reading_grid_element, righting};
 ghost use Rattle.seg_exec.specs.inner.Views.{config_of};
 
 use crate::arithmetic::{decide, invert, is_true, negate, operate};
