@@ -71,7 +71,7 @@ module _ (p : Program) (summaries : List Summary) (one_each : length summaries �
       (all m summary (settled decl.params (filled_need args need)) there (needs.called m decl callee args need (is, step) needed))
 
   -- an effect of a called method comes from a need of it
-  called-need : (callee : ℕ) (args : List Elem) (effect : Effect) → IsIn effect (filled_summary (slice_get (with_summaries summaries p).methods callee) args).effects
+  pub called-need : (callee : ℕ) (args : List Elem) (effect : Effect) → IsIn effect (filled_summary (slice_get (with_summaries summaries p).methods callee) args).effects
       → (need : Need) × IsNeed p callee need × (effect ≡ effect_of (filled_need args need))
   called-need callee args effect h =
       let found = filled-in (with_summaries summaries p) callee args (slice_get (with_summaries summaries p).methods callee) effect h in
