@@ -6,4 +6,5 @@ pub mod Soundness
 pub mod Leastness
 pub mod Shrinking
 pub mod Alike
+pub mod Narrowing
 pub mod Staying

@@ -50,7 +50,7 @@ map-effects-in f (x ∷ xs) y (inl e) = (x, inl refl, e)
 map-effects-in f (x ∷ xs) y (inr h) = let found = map-effects-in f xs y h in (found.0, inr found.1, found.2)
 
 -- the effects of a called method, filled with the arguments
-filled-in : (q : Program) (callee : ℕ) (args : List Elem) (found : Option Decl) (effect : Effect) → IsIn effect (filled_summary found args).effects
+pub filled-in : (q : Program) (callee : ℕ) (args : List Elem) (found : Option Decl) (effect : Effect) → IsIn effect (filled_summary found args).effects
     → (decl : Decl) × (found ≡ Some decl) × ((e : Effect) × IsIn e decl.summary.effects × (effect ≡ fill_effect args e))
 filled-in q callee args None effect h = absurd h
 filled-in q callee args (Some decl) effect h = (decl, refl, map-effects-in (fill_effect args) decl.summary.effects effect h)
