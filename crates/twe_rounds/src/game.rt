@@ -2,9 +2,8 @@
 ghost use Rattle.std.specs.Prelude.{◌≡◌, None, OnOk};
 ghost use Rattle.twe_machine.specs.Legal.{MayMove};
 
-use crate::bars::may_admit;
 use crate::named_run::{Named, NamedRun};
-use seg_journal::{End, Kind, Move};
+use seg_journal::{End, Move};
 use std::alloc::Global;
 use std::marker::{Model, PhantomData};
 use twe_io::Memory;
@@ -59,22 +58,13 @@ impl<'p, N: Named> Game<'p, N> {
         ensures clear { OnOk result (run.now.state.first_fault ≡ None) }
         ensures legal { OnOk result (MayMove run.now.state mv) }
     {
-        if run.run().state.first_fault.is_some() {
+        let state = &run.run().state;
+        if state.first_fault.is_some() {
             return Err(NoMove::AfterFault);
         }
-        match self.is_legal(run, mv) {
+        match may(self.p, state, mv) {
             Ok(()) => Ok(()),
             Err(why) => Err(NoMove::Illegal(why)),
-        }
-    }
-
-    /// Checks that the move is legal in the run.
-    fn is_legal(&self, run: &NamedRun<N>, mv: Move) -> Result<(), Why>
-        ensures { OnOk result (MayMove run.now.state mv) }
-    {
-        match mv.kind {
-            Kind::Admit => may_admit(self.p, run.run(), mv.task),
-            Kind::Run => may(self.p, &run.run().state, mv),
         }
     }
 
