@@ -161,7 +161,7 @@ module _ (p : Program) (lim : Bounds) (log : List NumberedEntry) (st : State) wh
 
 -- Quiet points.
 
-same_cells : (a b : List ℤ) → length a ≡ length b → ((c : ℕ) → cell_at a c ≡ cell_at b c) → a ≡ b
+pub same_cells : (a b : List ℤ) → length a ≡ length b → ((c : ℕ) → cell_at a c ≡ cell_at b c) → a ≡ b
 same_cells [] [] size same = refl
 same_cells [] (y ∷ b) size same = absurd (omega (arith, size))
 same_cells (x ∷ a) [] size same = absurd (omega (arith, size))

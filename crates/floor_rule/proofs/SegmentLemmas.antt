@@ -3,7 +3,7 @@
 use Rattle.std.proofs.Common.{◌≡◌, ◌≢◌, ◌⊎◌, ℕ, ℤ, Bool, true, false, List, [], ◌∷◌, length, Contains, Option, None, Some, refl, sym, ap, subst, ◌∙◌, inl, inr, ⊎_elim}
 use Rattle.std.specs.Prelude.{slice_get, slice_set}
 use Rattle.std.proofs.lemmas.Bool.{cases_eq}
-use Rattle.effect_sets.specs.Access.{Conflict}
+use Rattle.effect_sets.specs.Access.{Access as PathAccess, Conflict}
 use Rattle.twe_program.specs.Program.{Program}
 use Rattle.seg_exec.specs.declared.frame.Frame.{Frame}
 use Rattle.seg_exec.specs.Access.{Access, Reads, Writes, Agrees, after}
@@ -37,8 +37,8 @@ module _ (p : Program) (st : State) (f : Floor) (fits : Fits p st f) (agree : Li
   pub runs_of : (i t : ℕ) (turn : HeldTurn) (ready : Frame) → f.held i t ≡ Some turn → MayRunFrom turn (f.facts i) ready → Runs st t turn ready
   runs_of i t turn ready has may = runs st t turn (f.facts i) ready agree (fits.facts i) (fits.rows i t turn has) may
 
-  makes : (t : ℕ) (turn : HeldTurn) (ready : Frame) (r : Runs st t turn ready) (x : Access) → IsAccessFrom p ready x → (cells : List ℤ) × Makes p st r.row cells x
-  makes t turn ready r x made = (made.0, subst (λ (fr : Frame). Contains (segment p fr made.0).accesses x) r.frame made.1)
+  makes : (t : ℕ) (turn : HeldTurn) (ready : Frame) (r : Runs st t turn ready) (x : Access) → (from : IsAccessFrom p ready x) → Makes p st r.row from.cells from.made
+  makes t turn ready r x from = subst (λ (fr : Frame). Contains (segment p fr from.cells).accesses from.made) r.frame from.makes
 
   -- accesses of the segments of two seats don't conflict
   pub clash : (i j t u : ℕ) (turn other : HeldTurn) (ready last : Frame) → i ≢ j → f.held i t ≡ Some turn → f.held j u ≡ Some other
@@ -50,15 +50,18 @@ module _ (p : Program) (st : State) (f : Floor) (fits : Fits p st f) (agree : Li
       let tasks : t ≢ u = λ same. differ (fits.one_holder i j u turn other (subst (λ (n : ℕ). f.held i n ≡ Some turn) same at_i) at_j) in
       let one = makes t turn ready a x made_x in
       let two = makes u other last b y made_y in
-      apart t u a.row b.row tasks a.there b.there a.may b.may one.0 two.0 x y one.1 two.1
+      λ conflict.
+      apart t u a.row b.row tasks a.there b.there a.may b.may made_x.cells made_y.cells made_x.made made_y.made one two
+      (subst (λ (path : PathAccess). Conflict path (access_of p made_y.made)) (sym made_x.same) (subst (Conflict (access_of p x)) (sym made_y.same) conflict))
 
   -- each access of an open segment is covered
   pub access_covered : AccessesAreCovered p st → (i : ℕ) (s : OpenSegment) (x : Access) → f.segments i ≡ Some s → IsAmong x (accesses_of s.touches) → CoveredNow st s.task (access_of p x)
   access_covered covered i s x is among =
       let there = fits.segments i s is in
       let a = runs_of i s.task there.turn there.ready there.has there.may in
-      let one = makes s.task there.turn there.ready a x (there.made x among) in
-      covered s.task a.row a.there a.may one.0 x one.1
+      let from = there.made x among in
+      let one = makes s.task there.turn there.ready a x from in
+      subst (CoveredNow st s.task) from.same (covered s.task a.row a.there a.may from.cells from.made one)
 
   -- What seat i runs: a task whose turn it has, from this frame, and no other segment is open there.
   module _ (i t : ℕ) (turn : HeldTurn) (ready : Frame) (has : f.held i t ≡ Some turn) (may : MayRunFrom turn (f.facts i) ready) (own : IsOwn f i t) where

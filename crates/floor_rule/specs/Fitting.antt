@@ -123,7 +123,7 @@ pub record MayRunFrom (turn : HeldTurn) (facts : List DoneFact) (ready : Frame) 
   pub frame : ready ≡ given turn.row.frame value
 
 -- The segment of this task is open at a seat with these turns and facts: the seat may run it, and it has made no accesses
--- but those of that segment.
+-- but such as that segment makes.
 pub record IsOpen (p : Program) (turns : ℕ → Option HeldTurn) (facts : List DoneFact) (task : ℕ) (accesses : List Access) : Type 0 where
   pub turn : HeldTurn
   pub has : turns task ≡ Some turn

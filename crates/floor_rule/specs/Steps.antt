@@ -94,7 +94,7 @@ after_finding_done f i t value = record f { facts = put f.facts i (record { task
 abbrev pub IsOwn : Floor → ℕ → ℕ → Type 0
 IsOwn f i t = (s : OpenSegment) → f.segments i ≡ Some s → s.task ≡ t
 
--- Seat i may make this access for task t: it may run the next segment of t, and that segment makes the access over some
+-- Seat i may make this access for task t: it may run the next segment of t, and that segment makes such an access over some
 -- cells.
 pub record MayTouch (p : Program) (f : Floor) (i t : ℕ) (access : Access) : Type 0 where
   pub turn : HeldTurn

@@ -4,6 +4,7 @@ use Rattle.twe_program.specs.Program.{Program}
 use Rattle.seg_exec.specs.declared.frame.Frame.{Frame}
 use Rattle.seg_exec.specs.Access.{Access, Reads, Writes, Prints, value_in}
 use Rattle.seg_exec.specs.Segment.{segment}
+use Rattle.soundness_laws.specs.DeclaredNow.{access_of}
 use Rattle.floor_rule.specs.declared.view.OpenSegment.{OpenSegment}
 use Rattle.floor_rule.specs.declared.view.Touch.{Touch}
 use Rattle.floor_rule.specs.declared.view.Touch.TheVariants.{Read, Write}
@@ -40,9 +41,13 @@ abbrev pub IsAmong : {X : Type 0} → X → List X → Type 0
 IsAmong x [] = ⊥
 IsAmong x (y ∷ ys) = (x ≡ y) ⊎ IsAmong x ys
 
--- the segment that starts from this frame makes the access, over some list of cells
-abbrev pub IsAccessFrom : Program → Frame → Access → Type 0
-IsAccessFrom p frame access = (cells : List ℤ) × Contains (segment p frame cells).accesses access
+-- The segment that starts from this frame makes such an access over some list of cells: of the same concrete path, and a write
+-- if it is one. Its value doesn't count.
+pub record IsAccessFrom (p : Program) (frame : Frame) (access : Access) : Type 0 where
+  pub cells : List ℤ
+  pub made : Access
+  pub makes : Contains (segment p frame cells).accesses made
+  pub same : access_of p made ≡ access_of p access
 
 -- the cells that the segment in hand has touched, the latest first; none if no segment is open
 abbrev pub touches_of : Option OpenSegment → List Touch

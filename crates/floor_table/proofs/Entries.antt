@@ -33,6 +33,7 @@ use Rattle.floor_rule.specs.Steps.{MayCommit, after_entry, entry_drawn, first_tu
 use Rattle.floor_rule.specs.Touches.{accesses_of, cell_accesses, touches_of}
 use Rattle.floor_rule.proofs.Puts.{put_here}
 use Rattle.floor_rule.proofs.RuleSteps.{commit}
+use Rattle.floor_table.specs.declared.view.SeatKind.TheVariants.{Spent}
 use Rattle.floor_table.specs.declared.view.View.{View}
 use Rattle.floor_table.specs.FloorOf.{Table, facts_at, floor_of, home_at, part_at, segment_at, turn_in, turns_at, worker_at}
 use Rattle.floor_table.specs.Holds.{TableKeeps}
@@ -66,7 +67,7 @@ unmade_empty st held c Away past none by = absurd (none by.seat by.turn by.has)
 unmade_empty st held c Empty past none fits = refl
 unmade_empty st held c (Holds slot) past none here = let below = slice_get_within st.tasks c here.1.row here.1.there in absurd (omega (arith, past, below))
 
-module _ (p : Program) (lim : Bounds) (s : Table) (kept : TableKeeps p lim s) (id : ℕ) (v : View) (at : get_elem? s.views id ≡ core.some v) (t : ℕ) (turn : HeldTurn) (frame : Frame) where
+module _ (p : Program) (lim : Bounds) (s : Table) (kept : TableKeeps p lim s) (id : ℕ) (v : View) (at : get_elem? s.views id ≡ core.some v) (live : v.kind ≢ Spent) (t : ℕ) (turn : HeldTurn) (frame : Frame) where
   abbrev f : Floor
   f = floor_of p s
 
@@ -88,13 +89,13 @@ module _ (p : Program) (lim : Bounds) (s : Table) (kept : TableKeeps p lim s) (i
 
   may_commit : (mine : List (ℕ × Option TaskSlot)) (stop : Stop) → MayDraw p (v, mine) t turn frame stop → MayCommit p f id t turn frame stop
   may_commit mine stop may = record {
-    has = ap (λ (g : ℕ → Option HeldTurn). g t) (turns_id p lim s kept id v at) ∙ may.has;
+    has = ap (λ (g : ℕ → Option HeldTurn). g t) (turns_id p lim s kept id v at live) ∙ may.has;
     ready = may.ready;
-    may = subst (λ (facts : List DoneFact). MayRunFrom turn facts may.ready) (sym (facts_id p lim s kept id v at)) may.may;
+    may = subst (λ (facts : List DoneFact). MayRunFrom turn facts may.ready) (sym (facts_id p lim s kept id v at live)) may.may;
     running = may.running;
-    own = λ o is. may.own o (sym (segment_id p lim s kept id v at) ∙ is);
+    own = λ o is. may.own o (sym (segment_id p lim s kept id v at live) ∙ is);
     accesses = may.accesses;
-    exactly = may.exactly ∙ ap (λ (o : Option OpenSegment). accesses_of (touches_of o)) (sym (segment_id p lim s kept id v at));
+    exactly = may.exactly ∙ ap (λ (o : Option OpenSegment). accesses_of (touches_of o)) (sym (segment_id p lim s kept id v at live));
     means = may.means;
   }
 
@@ -160,7 +161,7 @@ module _ (p : Program) (lim : Bounds) (s : Table) (kept : TableKeeps p lim s) (i
         refl
         (seats_kept worker_at s.views id v view at refl)
         (seats_put part_at s.views id v view at (f.parts id ++ entry_drawn lim f t frame stop ∷ []) (ap (λ (l : List NumberedEntry). l ++ entry_drawn lim f t frame stop ∷ []) (sym part_id)))
-        (seats_put turns_at s.views id v view at (put (f.held id) t (Some new_turn)) (ap (λ (g : ℕ → Option HeldTurn). put g t (Some new_turn)) (sym (turns_id p lim s kept id v at))))
+        (seats_put turns_at s.views id v view at (put (f.held id) t (Some new_turn)) (ap (λ (g : ℕ → Option HeldTurn). put g t (Some new_turn)) (sym (turns_id p lim s kept id v at live))))
         (seats_put segment_at s.views id v view at None refl)
         (seats_kept facts_at s.views id v view at refl)
 
@@ -170,7 +171,7 @@ module _ (p : Program) (lim : Bounds) (s : Table) (kept : TableKeeps p lim s) (i
       view,
       keeps,
       tt,
-      keeps_after p lim s kept id v at words s.homes (slice_set s.views id view) (length-set s.words clock_place now) refl small_now log (subst (KeepsRule p lim log) (sym plain_tie) rule),
+      keeps_after p lim s kept id v at live words s.homes view refl refl (length-set s.words clock_place now) refl small_now log (subst (KeepsRule p lim log) (sym plain_tie) rule),
       seat,
     )
 
@@ -198,7 +199,7 @@ module _ (p : Program) (lim : Bounds) (s : Table) (kept : TableKeeps p lim s) (i
           (seats_kept worker_at s.views id v both_view at refl)
           (seats_put part_at s.views id v both_view at (f.parts id ++ entry_drawn lim f t frame stop ∷ []) (ap (λ (l : List NumberedEntry). l ++ entry_drawn lim f t frame stop ∷ []) (sym part_id)))
           (seats_put turns_at s.views id v both_view at (put (put (f.held id) t (Some new_turn)) c (Some (first_turn child)))
-          (ap (λ (g : ℕ → Option HeldTurn). put (put g t (Some new_turn)) c (Some (first_turn child))) (sym (turns_id p lim s kept id v at)))
+          (ap (λ (g : ℕ → Option HeldTurn). put (put g t (Some new_turn)) c (Some (first_turn child))) (sym (turns_id p lim s kept id v at live)))
           ∙ turns_both)
           (seats_put segment_at s.views id v both_view at None refl)
           (seats_kept facts_at s.views id v both_view at refl)
@@ -210,7 +211,7 @@ module _ (p : Program) (lim : Bounds) (s : Table) (kept : TableKeeps p lim s) (i
         both_view,
         takes c None,
         empty,
-        keeps_after p lim s kept id v at words (slice_set s.homes c core.none) (slice_set s.views id both_view) (length-set s.words clock_place now) (length-set s.homes c core.none) small_now log
+        keeps_after p lim s kept id v at live words (slice_set s.homes c core.none) both_view refl refl (length-set s.words clock_place now) (length-set s.homes c core.none) small_now log
         (subst (KeepsRule p lim log) (sym with_tie) rule),
         seat,
       )
@@ -272,6 +273,6 @@ module _ (p : Program) (lim : Bounds) (s : Table) (kept : TableKeeps p lim s) (i
       (drawing mine stop (commit p kept.well kept.keeps lim kept.log f kept.rule id t turn frame stop (may_commit mine stop may)))
 
 -- Drawing an entry.
-pub draw_allowed : (p : Program) (lim : Bounds) (id t : ℕ) (v : View) (mine : List (ℕ × Option TaskSlot)) (turn : HeldTurn) (frame : Frame) (stop : Stop) → MayDraw p (v, mine) t turn frame stop
+pub draw_allowed : (p : Program) (lim : Bounds) (id t : ℕ) (v : View) (mine : List (ℕ × Option TaskSlot)) (turn : HeldTurn) (frame : Frame) (stop : Stop) → v.kind ≢ Spent → MayDraw p (v, mine) t turn frame stop
     → Allows (TableKeeps p lim) lim.tasks id (v, mine) clock_place (λ n. (n + clock_step stop) % 2 ^ 64) (DrewEntry lim (v, mine) t turn frame stop)
-draw_allowed p lim id t v mine turn frame stop may s kept slots at small = draw_step p lim s kept id v at t turn frame mine stop may
+draw_allowed p lim id t v mine turn frame stop live may s kept slots at small = draw_step p lim s kept id v at live t turn frame mine stop may

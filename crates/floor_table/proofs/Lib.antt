@@ -6,9 +6,12 @@ pub mod Elements
 pub mod Words
 -- The views of seats.
 pub mod Views
+pub mod SeatKinds
 -- The steps.
 pub mod Steps
 pub mod Seats
 -- Entries, which the clock numbers.
 pub mod Clock
 pub mod Entries
+-- Starts and ends.
+pub mod Starts

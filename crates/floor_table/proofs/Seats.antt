@@ -15,12 +15,13 @@ use Rattle.floor_rule.specs.Rule.{KeepsRule}
 use Rattle.floor_rule.specs.Steps.{HasNoTurn, MayJoin, after_join, after_split}
 use Rattle.floor_rule.proofs.Puts.{put_else, put_here}
 use Rattle.floor_rule.proofs.RuleSteps.{join, split}
+use Rattle.floor_table.specs.declared.view.SeatKind.TheVariants.{Main, Other, Spent}
 use Rattle.floor_table.specs.declared.view.View.{View}
 use Rattle.floor_table.specs.FloorOf.{Table, facts_at, floor_of, part_at, segment_at, turn_in, turns_at, worker_at}
-use Rattle.floor_table.specs.Holds.{TableKeeps, joined_view, left_view, right_view, spent_view}
-use Rattle.floor_table.specs.Tells.{HasGivenAll}
+use Rattle.floor_table.specs.Holds.{HasGivenAll, SeatsFit, TableKeeps, joined_view, left_view, right_view, spent_view}
 use Rattle.floor_table.proofs.Elements.{at_else}
 use Rattle.floor_table.proofs.Views.{seats_kept, seats_put}
+use Rattle.floor_table.proofs.SeatKinds.{seats_joined, seats_split}
 use Rattle.floor_table.proofs.Steps.{floor_is}
 
 -- a list with one element more
@@ -70,21 +71,22 @@ module _ {X : Type 0} (part : core.Option View → X) (views : List View) (x : V
           (λ (other : j ≢ length views). put_else was (length views) j (part (core.some x)) other)
           (cases_eq j (length views))
 
-module _ (p : Program) (lim : Bounds) (s : Table) (kept : TableKeeps p lim s) (id : ℕ) (v : View) (at : get_elem? s.views id ≡ core.some v) where
+module _ (p : Program) (lim : Bounds) (s : Table) (kept : TableKeeps p lim s) (id : ℕ) (v : View) (at : get_elem? s.views id ≡ core.some v) (main : v.kind ≡ Main) where
   abbrev f : Floor
   f = floor_of p s
 
   abbrev with_views : List View → Table
   with_views views = record { words = s.words; homes = s.homes; views = views }
 
-  keeps_views : (views : List View) → KeepsRule p lim kept.log (floor_of p (with_views views)) → TableKeeps p lim (with_views views)
-  keeps_views views rule = record {
+  keeps_views : (views : List View) → SeatsFit views → KeepsRule p lim kept.log (floor_of p (with_views views)) → TableKeeps p lim (with_views views)
+  keeps_views views seats rule = record {
     well = kept.well;
     keeps = kept.keeps;
     within = kept.within;
     words = kept.words;
     slots = kept.slots;
     cells = kept.cells;
+    seats = seats;
     log = kept.log;
     rule = rule;
   }
@@ -114,11 +116,11 @@ module _ (p : Program) (lim : Bounds) (s : Table) (kept : TableKeeps p lim s) (i
   split_step =
       let left : KeepsRule p lim kept.log (floor_of p (with_views left_views)) = subst (KeepsRule p lim kept.log) (sym left_tie) kept.rule in
       let none : HasNoTurn (floor_of p (with_views left_views)) (length left_views) = λ t. ap (λ (o : core.Option View). turns_at o t) (none_here left_views) in
-      keeps_views (left_views ++ right_view v ∷ [])
+      keeps_views (left_views ++ right_view v ∷ []) (seats_split s.views kept.seats id v at main)
       (subst (KeepsRule p lim kept.log) (sym split_tie) (split p kept.well kept.keeps lim kept.log (floor_of p (with_views left_views)) left (length left_views) (v.split + 1) none))
 
   -- Joining.
-  module _ (other : ℕ) (w : View) (differ : other ≢ id) (at_other : get_elem? s.views other ≡ core.some w) (given : HasGivenAll w) where
+  module _ (other : ℕ) (w : View) (differ : other ≢ id) (at_other : get_elem? s.views other ≡ core.some w) (is_one : w.kind ≡ Other) (given : HasGivenAll w) where
     abbrev both : View
     both = joined_view v w
 
@@ -163,14 +165,14 @@ module _ (p : Program) (lim : Bounds) (s : Table) (kept : TableKeeps p lim s) (i
     join_step =
         let may : MayJoin f id other = record { other = differ; no_turn = no_turn; closed = closed } in
         let joined = join p kept.well kept.keeps lim kept.log f kept.rule id other may in
-        keeps_views joined_views (subst (KeepsRule p lim kept.log) (sym join_tie) (split p kept.well kept.keeps lim kept.log (after_join f id other) joined other 0 no_turn))
+        keeps_views joined_views (seats_joined s.views kept.seats id other v w at main differ at_other is_one) (subst (KeepsRule p lim kept.log) (sym join_tie) (split p kept.well kept.keeps lim kept.log (after_join f id other) joined other 0 no_turn))
 
 -- A seat for the next worker.
-pub split_allowed : (p : Program) (lim : Bounds) (id : ℕ) (v : View) → Splits (TableKeeps p lim) id v (left_view v) (right_view v)
-split_allowed p lim id v s kept at = split_step p lim s kept id v at
+pub split_allowed : (p : Program) (lim : Bounds) (id : ℕ) (v : View) → v.kind ≡ Main → Splits (TableKeeps p lim) id v (left_view v) (right_view v)
+split_allowed p lim id v main s kept at = split_step p lim s kept id v at main
 
 -- Two seats become one.
-pub join_allowed : (p : Program) (lim : Bounds) (id other : ℕ) (v w : View) → HasGivenAll w → Joins (TableKeeps p lim) id v other w (joined_view v w) spent_view
-join_allowed p lim id other v w given s kept at differ at_next =
+pub join_allowed : (p : Program) (lim : Bounds) (id other : ℕ) (v w : View) → v.kind ≡ Main → w.kind ≡ Other → HasGivenAll w → Joins (TableKeeps p lim) id v other w (joined_view v w) spent_view
+join_allowed p lim id other v w main is_one given s kept at differ at_next =
     let at_other : get_elem? s.views other ≡ core.some w = sym (at_else s.views id other (joined_view v w) differ) ∙ at_next in
-    join_step p lim s kept id v at other w differ at_other given
+    join_step p lim s kept id v at main other w differ at_other is_one given

@@ -28,6 +28,7 @@ use Rattle.floor_rule.specs.Steps.{MayGive, MayStorePhase, MayTouch, after_findi
 use Rattle.floor_rule.specs.Touches.{cell_at, touches_of}
 use Rattle.floor_rule.proofs.Puts.{put_else, put_here}
 use Rattle.floor_rule.proofs.RuleSteps.{find_done, give, load, store, store_phase, take}
+use Rattle.floor_table.specs.declared.view.SeatKind.TheVariants.{Spent}
 use Rattle.floor_table.specs.declared.view.View.{View}
 use Rattle.floor_table.specs.FloorOf.{Table, facts_at, floor_of, home_at, part_at, segment_at, turn_in, turns_at, worker_at}
 use Rattle.floor_table.specs.Holds.{TableKeeps}
@@ -36,6 +37,7 @@ use Rattle.floor_table.specs.Tells.{FoundPhase, GaveTurn, MayGiveTurn, MayStore,
 use Rattle.floor_table.proofs.Elements.{at_else, at_here, at_within, set_same, within_by, word_at}
 use Rattle.floor_table.proofs.Words.{cells_at, cells_else, cells_length, cells_put, phases_kept, phases_put, turns_kept, turns_put}
 use Rattle.floor_table.proofs.Views.{seats_kept, seats_put}
+use Rattle.floor_table.proofs.SeatKinds.{seats_after}
 
 -- two floors with the same parts are one
 pub floor_is : (g h : Floor) → g.entries ≡ h.entries → g.asked ≡ h.asked → g.cells ≡ h.cells → g.turns ≡ h.turns → g.phases ≡ h.phases → g.homes ≡ h.homes
@@ -77,7 +79,7 @@ home_holds (core.some (core.some None)) slot is = absurd (cc (is))
 home_holds (core.some (core.some (Some other))) slot is = let same : other ≡ slot = cc in ap (λ (x : TaskSlot). core.some (core.some (Some x))) same
 
 -- a phase is the one that its number stands for
-phase_again : (phase : Phase) → phase_of_word (word_of_phase phase) ≡ phase
+pub phase_again : (phase : Phase) → phase_of_word (word_of_phase phase) ≡ phase
 phase_again Absent = refl
 phase_again Made = refl
 phase_again Running = refl
@@ -93,7 +95,7 @@ is_done (Waits on) = inr (λ same. cc (same))
 is_done Done = inl refl
 is_done Faulted = inr (λ same. cc (same))
 
-module _ (p : Program) (lim : Bounds) (s : Table) (kept : TableKeeps p lim s) (id : ℕ) (v : View) (at : get_elem? s.views id ≡ core.some v) where
+module _ (p : Program) (lim : Bounds) (s : Table) (kept : TableKeeps p lim s) (id : ℕ) (v : View) (at : get_elem? s.views id ≡ core.some v) (live : v.kind ≢ Spent) where
   abbrev f : Floor
   f = floor_of p s
 
@@ -121,17 +123,19 @@ module _ (p : Program) (lim : Bounds) (s : Table) (kept : TableKeeps p lim s) (i
   small_stay i x past c below =
       subst (λ (n : ℕ). n < 2 ^ 32) (sym (ap number_at (at_else s.words i (cell_place c) x (λ same. omega (arith, below, same, past))))) (kept.cells c below)
 
-  -- a table with a set word behind the cells, a set slot or none, and a set view
-  pub keeps_after : (words : List ℕ) (homes : List (core.Option (Option TaskSlot))) (views : List View) → length words ≡ length s.words → length homes ≡ length s.homes
+  -- a table with a set word, a set slot or none, and another view of this seat
+  pub keeps_after : (words : List ℕ) (homes : List (core.Option (Option TaskSlot))) (w : View) → w.kind ≡ v.kind → w.out ≡ v.out → length words ≡ length s.words → length homes ≡ length s.homes
       → ((c : ℕ) → c < cell_count p → number_at (get_elem? words (cell_place c)) < 2 ^ 32) → (log : List NumberedEntry)
-      → KeepsRule p lim log (floor_of p (record { words = words; homes = homes; views = views })) → TableKeeps p lim (record { words = words; homes = homes; views = views })
-  keeps_after words homes views as_many as_many_slots small log rule = record {
+      → KeepsRule p lim log (floor_of p (record { words = words; homes = homes; views = slice_set s.views id w }))
+      → TableKeeps p lim (record { words = words; homes = homes; views = slice_set s.views id w })
+  keeps_after words homes w kind out as_many as_many_slots small log rule = record {
     well = kept.well;
     keeps = kept.keeps;
     within = kept.within;
     words = as_many ∙ kept.words;
     slots = as_many_slots ∙ kept.slots;
     cells = small;
+    seats = seats_after s.views kept.seats id v w at live kind out;
     log = log;
     rule = rule;
   }
@@ -179,7 +183,7 @@ module _ (p : Program) (lim : Bounds) (s : Table) (kept : TableKeeps p lim s) (i
           with_turn v t (Some turn),
           takes t (Some slot),
           valid,
-          keeps_after (slice_set s.words i (taken_word v.worker)) (slice_set s.homes t core.none) (slice_set s.views id (with_turn v t (Some turn))) (length-set s.words i (taken_word v.worker))
+          keeps_after (slice_set s.words i (taken_word v.worker)) (slice_set s.homes t core.none) (with_turn v t (Some turn)) refl refl (length-set s.words i (taken_word v.worker))
           (length-set s.homes t core.none) (small_stay i (taken_word v.worker) (omega arith)) kept.log (subst (KeepsRule p lim kept.log) (sym (take_tie turn)) taken.3),
           inl (found, record { turn = turn; taken = taken.1; seat = refl }),
         )
@@ -241,7 +245,7 @@ module _ (p : Program) (lim : Bounds) (s : Table) (kept : TableKeeps p lim s) (i
           given_view,
           gives,
           tt,
-          keeps_after (slice_set s.words i free_word) (slice_set s.homes t (core.some (Some (slot_of turn.row)))) (slice_set s.views id given_view) (length-set s.words i free_word)
+          keeps_after (slice_set s.words i free_word) (slice_set s.homes t (core.some (Some (slot_of turn.row)))) given_view refl refl (length-set s.words i free_word)
           (length-set s.homes t (core.some (Some (slot_of turn.row)))) (small_stay i free_word (omega arith)) kept.log (subst (KeepsRule p lim kept.log) (sym give_tie) rule),
           refl,
         )
@@ -282,7 +286,7 @@ module _ (p : Program) (lim : Bounds) (s : Table) (kept : TableKeeps p lim s) (i
           stored_view,
           keeps,
           tt,
-          keeps_after (slice_set s.words i (word_of_phase phase)) s.homes (slice_set s.views id stored_view) (length-set s.words i (word_of_phase phase)) refl
+          keeps_after (slice_set s.words i (word_of_phase phase)) s.homes stored_view refl refl (length-set s.words i (word_of_phase phase)) refl
           (small_stay i (word_of_phase phase) (omega arith)) kept.log (subst (KeepsRule p lim kept.log) (sym store_phase_tie) rule),
           refl,
         )
@@ -319,7 +323,7 @@ module _ (p : Program) (lim : Bounds) (s : Table) (kept : TableKeeps p lim s) (i
         let found = find_done p kept.well kept.keeps lim kept.log f kept.rule id t is in
         let value : ℤ = found.0 in
         let w = done_view value in
-        let then = keeps_after s.words s.homes (slice_set s.views id w) refl refl kept.cells kept.log (subst (KeepsRule p lim kept.log) (sym (find_tie value)) found.2) in (
+        let then = keeps_after s.words s.homes w refl refl refl refl kept.cells kept.log (subst (KeepsRule p lim kept.log) (sym (find_tie value)) found.2) in (
           w,
           keeps,
           tt,
@@ -373,7 +377,7 @@ module _ (p : Program) (lim : Bounds) (s : Table) (kept : TableKeeps p lim s) (i
         let may_read : MayTouchCell p (v, mine) t (Reads c value) = record { turn = may.turn; has = may.has; ready = may.ready; may = may.may; made = record { cells = made.cells; made = made.made; makes = made.makes; same = made.same }; own = may.own } in
         let rule = load p kept.well kept.keeps lim kept.log f kept.rule id t c value value_is (may_touch mine (Reads c value) may_read) in
         let w = with_touch v t (Read c value) in
-        let then = keeps_after s.words s.homes (slice_set s.views id w) refl refl kept.cells kept.log (subst (KeepsRule p lim kept.log) (sym (load_tie value)) rule) in
+        let then = keeps_after s.words s.homes w refl refl refl refl kept.cells kept.log (subst (KeepsRule p lim kept.log) (sym (load_tie value)) rule) in
         let small : found_cell < 2 ^ 32 = subst (λ (o : core.Option ℕ). number_at o < 2 ^ 32) found_is (kept.cells c below) in (
           w,
           keeps,
@@ -419,41 +423,41 @@ module _ (p : Program) (lim : Bounds) (s : Table) (kept : TableKeeps p lim s) (i
           w,
           keeps,
           tt,
-          keeps_after (slice_set s.words i x) s.homes (slice_set s.views id w) (length-set s.words i x) refl (small_put x small) kept.log (subst (KeepsRule p lim kept.log) (sym (store_tie x value is)) rule),
+          keeps_after (slice_set s.words i x) s.homes w refl refl (length-set s.words i x) refl (small_put x small) kept.log (subst (KeepsRule p lim kept.log) (sym (store_tie x value is)) rule),
           refl,
         )
 
 -- Taking a turn.
-pub take_allowed : (p : Program) (lim : Bounds) (id t : ℕ) (v : View) (mine : List (ℕ × Option TaskSlot)) → t < lim.tasks
+pub take_allowed : (p : Program) (lim : Bounds) (id t : ℕ) (v : View) (mine : List (ℕ × Option TaskSlot)) → v.kind ≢ Spent → t < lim.tasks
     → Allows (TableKeeps p lim) lim.tasks id (v, mine) (turn_place p t) (λ n. either (n == free_word) (taken_word v.worker) n) (TriedTurn (v, mine) t)
-take_allowed p lim id t v mine below s kept slots at small =
+take_allowed p lim id t v mine live below s kept slots at small =
     let found = slice_index s.words (turn_place p t) in
     let F : ℕ → Type 0 = λ n. (w : View) × (a : Act (Option TaskSlot)) × Valid s.homes mine a × TableKeeps p lim (stepped s (turn_place p t) n id mine w a) × TriedTurn (v, mine) t found (w, carried_after mine a) in
-    exchanged found free_word (taken_word v.worker) F (take_step p lim s kept id v at t below mine) (miss_step p lim s kept id v at t below mine)
+    exchanged found free_word (taken_word v.worker) F (take_step p lim s kept id v at live t below mine) (miss_step p lim s kept id v at live t below mine)
 
 -- Giving a turn.
-pub give_allowed : (p : Program) (lim : Bounds) (id t : ℕ) (v : View) (mine rest : List (ℕ × Option TaskSlot)) (turn : HeldTurn) → t < lim.tasks → MayGiveTurn (v, mine) t turn rest
+pub give_allowed : (p : Program) (lim : Bounds) (id t : ℕ) (v : View) (mine rest : List (ℕ × Option TaskSlot)) (turn : HeldTurn) → v.kind ≢ Spent → t < lim.tasks → MayGiveTurn (v, mine) t turn rest
     → Allows (TableKeeps p lim) lim.tasks id (v, mine) (turn_place p t) (λ n. free_word) (λ n. GaveTurn (v, mine) t turn rest)
-give_allowed p lim id t v mine rest turn below may =
+give_allowed p lim id t v mine rest turn live below may =
     subst (λ (l : List (ℕ × Option TaskSlot)). Allows (TableKeeps p lim) lim.tasks id (v, l) (turn_place p t) (λ n. free_word) (λ n. GaveTurn (v, l) t turn rest)) (sym may.slot)
     (λ s kept slots at small.
-    give_step p lim s kept id v at t below turn rest (record { has = may.has; phase = may.phase; closed = may.closed; slot = refl }))
+    give_step p lim s kept id v at live t below turn rest (record { has = may.has; phase = may.phase; closed = may.closed; slot = refl }))
 
 -- Storing a phase, and loading one.
-pub store_phase_allowed : (p : Program) (lim : Bounds) (id t : ℕ) (v : View) (mine : List (ℕ × Option TaskSlot)) (turn : HeldTurn) (phase : Phase) → t < lim.tasks → MayStore (v, mine) t turn phase
+pub store_phase_allowed : (p : Program) (lim : Bounds) (id t : ℕ) (v : View) (mine : List (ℕ × Option TaskSlot)) (turn : HeldTurn) (phase : Phase) → v.kind ≢ Spent → t < lim.tasks → MayStore (v, mine) t turn phase
     → Allows (TableKeeps p lim) lim.tasks id (v, mine) (phase_place p t) (λ n. word_of_phase phase) (λ n. StoredPhase (v, mine) t turn phase)
-store_phase_allowed p lim id t v mine turn phase below may s kept slots at small = store_phase_step p lim s kept id v at t below turn phase mine may
+store_phase_allowed p lim id t v mine turn phase live below may s kept slots at small = store_phase_step p lim s kept id v at live t below turn phase mine may
 
-pub load_phase_allowed : (p : Program) (lim : Bounds) (id t : ℕ) (v : View) (mine : List (ℕ × Option TaskSlot)) → t < lim.tasks
+pub load_phase_allowed : (p : Program) (lim : Bounds) (id t : ℕ) (v : View) (mine : List (ℕ × Option TaskSlot)) → v.kind ≢ Spent → t < lim.tasks
     → Allows (TableKeeps p lim) lim.tasks id (v, mine) (phase_place p t) (λ n. n) (FoundPhase (v, mine) t)
-load_phase_allowed p lim id t v mine below s kept slots at small = load_phase_step p lim s kept id v at t below mine (is_done (phase_of_word (slice_index s.words (phase_place p t))))
+load_phase_allowed p lim id t v mine live below s kept slots at small = load_phase_step p lim s kept id v at live t below mine (is_done (phase_of_word (slice_index s.words (phase_place p t))))
 
 -- Loading a cell, and storing to one.
-pub load_allowed : (p : Program) (lim : Bounds) (id t c : ℕ) (v : View) (mine : List (ℕ × Option TaskSlot)) (any : ℤ) → c < cell_count p → MayTouchCell p (v, mine) t (Reads c any)
+pub load_allowed : (p : Program) (lim : Bounds) (id t c : ℕ) (v : View) (mine : List (ℕ × Option TaskSlot)) (any : ℤ) → v.kind ≢ Spent → c < cell_count p → MayTouchCell p (v, mine) t (Reads c any)
     → Allows (TableKeeps p lim) lim.tasks id (v, mine) (cell_place c) (λ n. n) (ReadCell (v, mine) t c)
-load_allowed p lim id t c v mine any below may s kept slots at small = load_step p lim s kept id v at t c below mine any may
+load_allowed p lim id t c v mine any live below may s kept slots at small = load_step p lim s kept id v at live t c below mine any may
 
-pub store_allowed : (p : Program) (lim : Bounds) (id t c : ℕ) (v : View) (mine : List (ℕ × Option TaskSlot)) (x : ℕ) (value : ℤ) → c < cell_count p → x < 2 ^ 32 → value_of_word x ≡ value
+pub store_allowed : (p : Program) (lim : Bounds) (id t c : ℕ) (v : View) (mine : List (ℕ × Option TaskSlot)) (x : ℕ) (value : ℤ) → v.kind ≢ Spent → c < cell_count p → x < 2 ^ 32 → value_of_word x ≡ value
     → MayTouchCell p (v, mine) t (Writes c value)
     → Allows (TableKeeps p lim) lim.tasks id (v, mine) (cell_place c) (λ n. x) (λ n. WroteCell (v, mine) t c value)
-store_allowed p lim id t c v mine x value below few is may s kept slots at small = store_step p lim s kept id v at t c below mine x value few is may
+store_allowed p lim id t c v mine x value live below few is may s kept slots at small = store_step p lim s kept id v at live t c below mine x value few is may

@@ -93,11 +93,6 @@ ReadCell before t c found after = (found < 2 ^ 32) × (after ≡ (with_touch bef
 abbrev pub WroteCell : Seat → ℕ → ℕ → ℤ → Seat → Type 0
 WroteCell before t c value after = after ≡ (with_touch before.0 t (Write c value), before.1)
 
--- Joining: a seat that has given all its turns, and has no segment open.
-pub record HasGivenAll (v : View) : Type 0 where
-  pub turns : (t : ℕ) → turn_in v.turns t ≡ None
-  pub segment : v.segment ≡ None
-
 -- Drawing an entry.
 
 -- The seat may draw an entry of task t whose segment left this frame and this stop: as a seat of the floor may.

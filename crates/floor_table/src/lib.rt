@@ -8,4 +8,4 @@ mod rule;
 mod view;
 
 pub use rule::{BothSeats, FloorLaw, Named, NextSeat};
-pub use view::{TurnChange, View};
+pub use view::{SeatKind, TurnChange, View};

@@ -13,13 +13,28 @@ pub struct TurnChange {
     pub turn: Option<HeldTurn>,
 }
 
+/// What a seat is for.
+#[derive(Clone, Copy, Debug, PartialEq, Eq)]
+pub enum SeatKind {
+    /// The seat that the others are split off from and joined to.
+    Main,
+    /// A seat that was split off.
+    Other,
+    /// A seat that was joined to the main one.
+    Spent,
+}
+
 /// What a worker knows.
 #[derive(Debug, Drop)]
 pub struct View {
     /// The number of the worker.
     pub worker: u32,
-    /// How many seats were split off from its seat, which have the next numbers.
+    /// What its seat is for.
+    pub kind: SeatKind,
+    /// How many seats were split off from its seat. They have the next numbers.
     pub split: u32,
+    /// How many of them have not been joined again.
+    pub out: u32,
     /// The entries that it has drawn.
     pub part: Part,
     /// The turns that it has had and given, the latest first.
