@@ -15,3 +15,4 @@ pub mod Clock
 pub mod Entries
 -- Starts and ends.
 pub mod Starts
+pub mod Ends

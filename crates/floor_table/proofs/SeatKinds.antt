@@ -9,7 +9,7 @@ use lib.ListN.{get_elem?}
 use Rattle.floor_table.specs.declared.view.SeatKind.{SeatKind}
 use Rattle.floor_table.specs.declared.view.SeatKind.TheVariants.{Main, Other, Spent}
 use Rattle.floor_table.specs.declared.view.View.{View}
-use Rattle.floor_table.specs.Holds.{HasGivenAll, SeatsFit, is_other, is_other_kind, joined_view, left_view, right_view, spent_view}
+use Rattle.floor_table.specs.Holds.{HasGivenAll, HasNothing, SeatsFit, is_other, is_other_kind, joined_view, left_view, right_view, spent_view}
 use Rattle.atomic_table.proofs.Lists.{at_longer, at_snoc}
 use Rattle.floor_table.proofs.Elements.{at_else, at_here}
 
@@ -194,7 +194,7 @@ seats_joined views fit id other v w at main differ at_other is_one =
           omega (arith, last, counted, none_v, none_both, one_w, before, out);
       spent = λ i x there is.
           elim (at_was set other i w x spent_view at_set there) [
-            | inl own ↦ subst HasGivenAll own.1 (record { turns = λ t. refl; segment = refl })
+            | inl own ↦ subst HasNothing own.1 (record { given = record { turns = λ t. refl; segment = refl }; part = refl })
             | inr old ↦ elim (at_was views id i v x both at old.1) [
                 | inl here ↦ absurd (main_spent (sym main ∙ (ap (λ (y : View). y.kind) here.1 ∙ is)))
                 | inr before ↦ fit.spent i x before.1 is
@@ -222,16 +222,13 @@ seats_first v main none = record {
     only zero x there is = main_spent (sym main ∙ (ap (λ (y : View). y.kind) (some-injective v x there) ∙ is))
     only (suc i) x there is = absurd (some-ne-none x (sym there))
 
--- if no other seat is out and the main one has given all its turns, every seat has
-pub all_given : (views : List View) (fit : SeatsFit views) (id : ℕ) (v : View) → get_elem? views id ≡ core.some v → v.kind ≡ Main → v.out ≡ 0 → HasGivenAll v
-    → (i : ℕ) (x : View) → get_elem? views i ≡ core.some x → HasGivenAll x
-all_given views fit id v at main none given i x there = by x.kind refl
+-- if no other seat is out, each seat but the main one has nothing left
+pub others_have_nothing : (views : List View) (fit : SeatsFit views) (id : ℕ) (v : View) → get_elem? views id ≡ core.some v → v.kind ≡ Main → v.out ≡ 0
+    → (i : ℕ) (x : View) → i ≢ id → get_elem? views i ≡ core.some x → HasNothing x
+others_have_nothing views fit id v at main none i x differ there = by x.kind refl
   where
-    by : (kind : SeatKind) → x.kind ≡ kind → HasGivenAll x
-    by Main is =
-        let seat : i ≡ id = fit.one_main i x there is ∙ sym (fit.one_main id v at main) in
-        let same : v ≡ x = some-injective v x (sym at ∙ (ap (get_elem? views) (sym seat) ∙ there)) in
-        subst HasGivenAll same given
+    by : (kind : SeatKind) → x.kind ≡ kind → HasNothing x
+    by Main is = absurd (differ (fit.one_main i x there is ∙ sym (fit.one_main id v at main)))
     by Other is =
         let out : v.out ≡ fit.view.out = ap (λ (y : View). y.out) (main_view views fit id v at main) in
         let before = fit.others in

@@ -72,7 +72,7 @@ homes_put homes t x within = λ k u. at u k
         (cases_eq u t)
 
 -- a slot that holds a task
-home_holds : (o : core.Option (core.Option (Option TaskSlot))) (slot : TaskSlot) → home_at o ≡ Holds slot → o ≡ core.some (core.some (Some slot))
+pub home_holds : (o : core.Option (core.Option (Option TaskSlot))) (slot : TaskSlot) → home_at o ≡ Holds slot → o ≡ core.some (core.some (Some slot))
 home_holds core.none slot is = absurd (cc (is))
 home_holds (core.some core.none) slot is = absurd (cc (is))
 home_holds (core.some (core.some None)) slot is = absurd (cc (is))

@@ -37,7 +37,12 @@ is_other_kind Spent = false
 abbrev pub is_other : View → Bool
 is_other v = is_other_kind v.kind
 
--- One seat is the main one. It knows how many others there are. Those that were joined to it have no turn and no segment.
+-- a seat that was joined to another has nothing left
+pub record HasNothing (v : View) : Type 0 where
+  pub given : HasGivenAll v
+  pub part : v.part ≡ []
+
+-- One seat is the main one. It knows how many others there are. Those that were joined to it have nothing left.
 pub record SeatsFit (views : List View) : Type 0 where
   pub seat : ℕ
   pub view : View
@@ -45,7 +50,7 @@ pub record SeatsFit (views : List View) : Type 0 where
   pub is_main : view.kind ≡ Main
   pub one_main : (i : ℕ) (v : View) → get_elem? views i ≡ core.some v → v.kind ≡ Main → i ≡ seat
   pub others : count_by is_other views ≡ view.out
-  pub spent : (i : ℕ) (v : View) → get_elem? views i ≡ core.some v → v.kind ≡ Spent → HasGivenAll v
+  pub spent : (i : ℕ) (v : View) → get_elem? views i ≡ core.some v → v.kind ≡ Spent → HasNothing v
 
 -- The program is accepted. The table has the words and slots of the program and the limits, each cell's word fits 32 bits,
 -- and the floor that it shows keeps the rule of the floor, with some log.
