@@ -212,7 +212,7 @@ module _ (p : Program) (lim : Bounds) (s : Table) (kept : TableKeeps p lim s) (i
         takes c None,
         empty,
         keeps_after p lim s kept id v at live words (slice_set s.homes c core.none) both_view refl refl (length-set s.words clock_place now) (length-set s.homes c core.none) small_now log
-        (subst (KeepsRule p lim log) (sym with_tie) rule),
+            (subst (KeepsRule p lim log) (sym with_tie) rule),
         seat,
       )
 

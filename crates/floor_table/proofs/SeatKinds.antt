@@ -140,9 +140,9 @@ seats_split views fit id v at main =
       one_main = λ i x there is.
           elim (at_snoc set right x i there) [
             | inl old ↦ elim (at_was views id i v x left at old) [
-                | inl own ↦ own.0
-                | inr before ↦ fit.one_main i x before.1 is ∙ sym (fit.one_main id v at main)
-              ]
+              | inl own ↦ own.0
+              | inr before ↦ fit.one_main i x before.1 is ∙ sym (fit.one_main id v at main)
+            ]
             | inr last ↦ absurd (main_other (sym is ∙ ap (λ (y : View). y.kind) (sym last)))
           ];
       others =
@@ -156,9 +156,9 @@ seats_split views fit id v at main =
       spent = λ i x there is.
           elim (at_snoc set right x i there) [
             | inl old ↦ elim (at_was views id i v x left at old) [
-                | inl own ↦ absurd (main_spent (sym main ∙ (ap (λ (y : View). y.kind) own.1 ∙ is)))
-                | inr before ↦ fit.spent i x before.1 is
-              ]
+              | inl own ↦ absurd (main_spent (sym main ∙ (ap (λ (y : View). y.kind) own.1 ∙ is)))
+              | inr before ↦ fit.spent i x before.1 is
+            ]
             | inr last ↦ absurd (other_spent (ap (λ (y : View). y.kind) last ∙ is))
           ];
     }
@@ -179,9 +179,9 @@ seats_joined views fit id other v w at main differ at_other is_one =
           elim (at_was set other i w x spent_view at_set there) [
             | inl own ↦ absurd (main_spent (sym is ∙ ap (λ (y : View). y.kind) (sym own.1)))
             | inr old ↦ elim (at_was views id i v x both at old.1) [
-                | inl here ↦ here.0
-                | inr before ↦ fit.one_main i x before.1 is ∙ sym (fit.one_main id v at main)
-              ]
+              | inl here ↦ here.0
+              | inr before ↦ fit.one_main i x before.1 is ∙ sym (fit.one_main id v at main)
+            ]
           ];
       others =
           let last = count_set set other w spent_view at_set in
@@ -196,9 +196,9 @@ seats_joined views fit id other v w at main differ at_other is_one =
           elim (at_was set other i w x spent_view at_set there) [
             | inl own ↦ subst HasNothing own.1 (record { given = record { turns = λ t. refl; segment = refl }; part = refl })
             | inr old ↦ elim (at_was views id i v x both at old.1) [
-                | inl here ↦ absurd (main_spent (sym main ∙ (ap (λ (y : View). y.kind) here.1 ∙ is)))
-                | inr before ↦ fit.spent i x before.1 is
-              ]
+              | inl here ↦ absurd (main_spent (sym main ∙ (ap (λ (y : View). y.kind) here.1 ∙ is)))
+              | inr before ↦ fit.spent i x before.1 is
+            ]
           ];
     }
 

@@ -184,7 +184,7 @@ module _ (p : Program) (lim : Bounds) (s : Table) (kept : TableKeeps p lim s) (i
           takes t (Some slot),
           valid,
           keeps_after (slice_set s.words i (taken_word v.worker)) (slice_set s.homes t core.none) (with_turn v t (Some turn)) refl refl (length-set s.words i (taken_word v.worker))
-          (length-set s.homes t core.none) (small_stay i (taken_word v.worker) (omega arith)) kept.log (subst (KeepsRule p lim kept.log) (sym (take_tie turn)) taken.3),
+              (length-set s.homes t core.none) (small_stay i (taken_word v.worker) (omega arith)) kept.log (subst (KeepsRule p lim kept.log) (sym (take_tie turn)) taken.3),
           inl (found, record { turn = turn; taken = taken.1; seat = refl }),
         )
 
@@ -246,7 +246,7 @@ module _ (p : Program) (lim : Bounds) (s : Table) (kept : TableKeeps p lim s) (i
           gives,
           tt,
           keeps_after (slice_set s.words i free_word) (slice_set s.homes t (core.some (Some (slot_of turn.row)))) given_view refl refl (length-set s.words i free_word)
-          (length-set s.homes t (core.some (Some (slot_of turn.row)))) (small_stay i free_word (omega arith)) kept.log (subst (KeepsRule p lim kept.log) (sym give_tie) rule),
+              (length-set s.homes t (core.some (Some (slot_of turn.row)))) (small_stay i free_word (omega arith)) kept.log (subst (KeepsRule p lim kept.log) (sym give_tie) rule),
           refl,
         )
 
@@ -287,7 +287,7 @@ module _ (p : Program) (lim : Bounds) (s : Table) (kept : TableKeeps p lim s) (i
           keeps,
           tt,
           keeps_after (slice_set s.words i (word_of_phase phase)) s.homes stored_view refl refl (length-set s.words i (word_of_phase phase)) refl
-          (small_stay i (word_of_phase phase) (omega arith)) kept.log (subst (KeepsRule p lim kept.log) (sym store_phase_tie) rule),
+              (small_stay i (word_of_phase phase) (omega arith)) kept.log (subst (KeepsRule p lim kept.log) (sym store_phase_tie) rule),
           refl,
         )
 

@@ -39,7 +39,7 @@ pub fn a_turn_may_be_tried()
     ensures { (p : Program) (lim : Bounds) (id t : ℕ) (v : View) (mine : List (ℕ × Option TaskSlot)) → v.kind ≢ Spent
         → t < lim.tasks
         → Allows (TableKeeps p lim) lim.tasks id (v, mine) (turn_place p t) (λ n. either (n == free_word) (taken_word v.worker) n)
-            (TriedTurn (v, mine) t) }
+        (TriedTurn (v, mine) t) }
 {}
 
 /// A seat may give a turn, by a store to the turn word, if the task's slot is the latest that it has out and holds what the
@@ -55,7 +55,7 @@ pub fn a_phase_may_be_stored()
     ensures { (p : Program) (lim : Bounds) (id t : ℕ) (v : View) (mine : List (ℕ × Option TaskSlot)) (turn : HeldTurn)
         (phase : Phase) → v.kind ≢ Spent → t < lim.tasks → MayStore (v, mine) t turn phase
         → Allows (TableKeeps p lim) lim.tasks id (v, mine) (phase_place p t) (λ n. word_of_phase phase)
-            (λ n. StoredPhase (v, mine) t turn phase) }
+        (λ n. StoredPhase (v, mine) t turn phase) }
 {}
 
 /// A seat may load a phase. If it finds that the task is done, it knows the task's value.
@@ -86,7 +86,7 @@ pub fn an_entry_may_be_drawn()
     ensures { (p : Program) (lim : Bounds) (id t : ℕ) (v : View) (mine : List (ℕ × Option TaskSlot)) (turn : HeldTurn)
         (frame : Frame) (stop : Stop) → v.kind ≢ Spent → MayDraw p (v, mine) t turn frame stop
         → Allows (TableKeeps p lim) lim.tasks id (v, mine) clock_place (λ n. (n + clock_step stop) % 2 ^ 64)
-            (DrewEntry lim (v, mine) t turn frame stop) }
+        (DrewEntry lim (v, mine) t turn frame stop) }
 {}
 
 /// A seat may be split off from the main one.

@@ -4,6 +4,8 @@
 
 mod merging;
 mod numbered;
+#[cfg(test)]
+mod tests;
 
 pub use merging::merge;
 pub use numbered::{NumberedEntry, Part};
