@@ -1,22 +1,18 @@
 -- Loads and stores of cells keep the rule.
-use Rattle.std.proofs.Common.{◌≡◌, ◌≢◌, ◌⊎◌, ◌<◌, ℕ, ℤ, Bool, true, false, List, [], ◌∷◌, length, Option, None, Some, refl, sym, ap, subst, ◌∙◌, inl, inr, ⊎_elim}
-use Rattle.std.specs.Prelude.{slice_get, slice_set}
+use Rattle.std.proofs.Common.{◌≡◌, ◌≢◌, ℕ, ℤ, true, false, List, ◌∷◌, length, Option, Some, refl, sym, ap, subst, ◌∙◌, inl, inr, ⊎_elim}
+use Rattle.std.specs.Prelude.{slice_set}
 use Rattle.std.proofs.lemmas.Bool.{cases_eq}
-use Rattle.effect_sets.specs.Access.{Conflict}
 use Rattle.twe_program.specs.Program.{Program}
-use Rattle.seg_exec.specs.declared.frame.Frame.{Frame}
 use Rattle.seg_exec.specs.Access.{Access, Reads, Writes, Agrees, after}
-use Rattle.soundness_laws.specs.DeclaredNow.{access_of}
 use Rattle.twe_machine.specs.declared.state.State.{State}
 use Rattle.twe_machine.specs.Rows.{LinksAgree}
 use Rattle.isolation_laws.specs.Conflicts.{MoversApart}
 use Rattle.isolation_laws.proofs.rows.ListElements.{length_set}
-use Rattle.floor_rule.specs.declared.view.DoneFact.{DoneFact}
 use Rattle.floor_rule.specs.declared.view.OpenSegment.{OpenSegment}
 use Rattle.floor_rule.specs.declared.view.Touch.{Touch}
 use Rattle.floor_rule.specs.declared.view.Touch.TheVariants.{Read, Write}
-use Rattle.floor_rule.specs.Floors.{Floor, put}
-use Rattle.floor_rule.specs.Fitting.{Fits, IsOpen, NobodyWrote, OthersHold, ReadsHold, SegmentsAreOpen, WrittenHold}
+use Rattle.floor_rule.specs.Floors.{Floor}
+use Rattle.floor_rule.specs.Fitting.{Fits, IsOpen, NobodyWrote, ReadsHold, SegmentsAreOpen}
 use Rattle.floor_rule.specs.Steps.{MayTouch, after_load, after_store, touched}
 use Rattle.floor_rule.specs.Touches.{IsAccessFrom, IsAmong, access_by, accesses_of, cell_at, is_written, touches_of}
 use Rattle.floor_rule.proofs.Puts.{put_else, put_here, put_was, some_one}

@@ -1,5 +1,5 @@
 -- An entry keeps the rule: the floor fits the state after it.
-use Rattle.std.proofs.Common.{◌≡◌, ◌≢◌, ◌⊎◌, ◌+◌, ◌++◌, ◌<◌, ◌≤◌, ℕ, ℤ, Bool, true, false, cond, List, [], ◌∷◌, length, Option, None, Some, refl, sym, ap, subst, ◌∙◌, inl, inr, ⊎_elim, nat_lt, arith, ltb-true}
+use Rattle.std.proofs.Common.{◌≡◌, ◌≢◌, ◌+◌, ◌++◌, ◌<◌, ◌≤◌, ℕ, ℤ, Bool, true, false, cond, List, length, Option, None, Some, refl, sym, ap, subst, ◌∙◌, inl, inr, ⊎_elim, nat_lt, arith, ltb-true}
 use Rattle.std.specs.Prelude.{slice_get}
 use Rattle.std.proofs.lemmas.Bool.{cases_eq}
 use Rattle.std.proofs.lemmas.Option.{slice_get_within}
@@ -33,18 +33,17 @@ use Rattle.twe_machine.proofs.Places.{below_there, got_one}
 use Rattle.twe_machine.proofs.ReachedStands.{reached_stands}
 use Rattle.twe_machine.proofs.Standing.{Stands}
 use Rattle.isolation_laws.specs.Conflicts.{MoversApart}
-use Rattle.floor_rule.specs.declared.view.DoneFact.{DoneFact}
 use Rattle.floor_rule.specs.declared.view.HeldTurn.{HeldTurn}
 use Rattle.floor_rule.specs.declared.view.OpenSegment.{OpenSegment}
 use Rattle.floor_rule.specs.declared.view.Phase.{Phase}
 use Rattle.floor_rule.specs.declared.view.Phase.TheVariants.{Absent, Made, Running, Waits, Done, Faulted}
 use Rattle.floor_rule.specs.Floors.{Floor, Home, Away, Empty, Holds, TurnWord, Free, Taken, New, put, put_turn}
-use Rattle.floor_rule.specs.Fitting.{Fits, FactsHold, FreePhasesAreLast, HomeFits, IsFirstHeld, IsHeld, IsMade, IsTakenBy, IsUnheld, OneHolder, OthersHold, PhaseFits, PhasesAreKnown, ReadsHold, RowIs, RowsAreKnown, SegmentsAreOpen, SlotIs, TurnFits, Turns, WaitsAt, WrittenHold}
+use Rattle.floor_rule.specs.Fitting.{Fits, FactsHold, FreePhasesAreLast, HomeFits, IsMade, IsUnheld, OneHolder, OthersHold, PhaseFits, PhasesAreKnown, ReadsHold, RowIs, RowsAreKnown, SegmentsAreOpen, TurnFits, Turns, WrittenHold}
 use Rattle.floor_rule.specs.Rows.{phase_of, slot_of, unmarked}
 use Rattle.floor_rule.specs.Steps.{MayCommit, after_entry, end_after, first_turn, row_after, with_child, without_child}
 use Rattle.floor_rule.specs.Touches.{accesses_of}
 use Rattle.floor_rule.proofs.Puts.{none_some, put_all, put_was, some_one}
-use Rattle.floor_rule.proofs.RunLemmas.{AreAmong, Runs, open_still}
+use Rattle.floor_rule.proofs.RunLemmas.{Runs, open_still}
 use Rattle.floor_rule.proofs.TurnLemmas.{one_holder_put, phases_put, rows_put, turn_fits_else, turn_fits_replaced, turn_here, turn_was, turns_elsewhere}
 use Rattle.floor_rule.proofs.AccessLemmas.{after_cells, after_length, agrees_cells}
 use Rattle.floor_rule.proofs.SegmentLemmas.{hand_reads, open_accesses, others_left, reads_left, runs_of, written_left}

@@ -19,3 +19,5 @@ pub mod EntrySteps
 pub mod RuleSteps
 -- Starts and quiet points.
 pub mod QuietLemmas
+-- The value of a done task, which its frame has.
+pub mod DoneValues

@@ -1,31 +1,25 @@
 -- The floor that starts from a state keeps the rule; and a floor at a quiet point shows the state.
-use Rattle.std.proofs.Common.{◌≡◌, ◌≢◌, ◌⊎◌, ◌+◌, ◌<◌, ◌≤◌, ◌&&◌, ℕ, zero, suc, ℤ, Bool, true, false, cond, List, [], ◌∷◌, length, Option, None, Some, refl, sym, ap, subst, ◌∙◌, inl, inr, ⊎_elim, nat_lt, arith, eq-eqb, ne_eqb}
+use Rattle.std.proofs.Common.{◌≡◌, ◌≢◌, ◌+◌, ◌<◌, ◌≤◌, ◌&&◌, ℕ, zero, suc, ℤ, Bool, true, false, cond, List, [], ◌∷◌, length, Option, None, Some, refl, sym, ap, subst, ◌∙◌, inl, inr, ⊎_elim, nat_lt, arith, eq-eqb, ne_eqb}
 use Rattle.std.specs.Prelude.{◌==◌, slice_get, count_by}
-use Rattle.std.proofs.lemmas.Bool.{cases_eq, lt-ltb, le-ltb, ltb-true, ltb-false}
+use Rattle.std.proofs.lemmas.Bool.{cases_eq, ltb-true, ltb-false}
 use Rattle.std.proofs.lemmas.List.Sums.{sum_by-append}
 use Rattle.std.proofs.lemmas.Option.{slice_get_within}
 use Rattle.twe_limits.specs.Limits.{Bounds}
 use Rattle.twe_program.specs.Program.{Program}
-use Rattle.twe_program.specs.WellFormed.{IsWellFormed}
 use Rattle.twe_machine.specs.declared.state.State.{State}
 use Rattle.twe_machine.specs.declared.state.TaskRow.{TaskRow}
 use Rattle.twe_machine.specs.Rows.{IsRow}
-use Rattle.twe_machine.specs.Runs.{IsRun, state_after}
-use Rattle.twe_machine.proofs.Places.{below_there, got_one}
+use Rattle.twe_machine.specs.Runs.{IsRun}
+use Rattle.twe_machine.proofs.Places.{got_one}
 use Rattle.journal_merge.specs.declared.numbered.NumberedEntry.{NumberedEntry}
 use Rattle.journal_merge.specs.Merging.{has_number, journal_of, prints_of}
-use Rattle.floor_rule.specs.declared.view.HeldTurn.{HeldTurn}
-use Rattle.floor_rule.specs.declared.view.OpenSegment.{OpenSegment}
-use Rattle.floor_rule.specs.declared.view.Phase.{Phase}
-use Rattle.floor_rule.specs.declared.view.Phase.TheVariants.{Absent}
-use Rattle.floor_rule.specs.declared.view.TaskSlot.{TaskSlot}
 use Rattle.floor_rule.specs.Floors.{Floor, Home, Away, Empty, Holds, TurnWord, Free, Taken, New, put}
-use Rattle.floor_rule.specs.Fitting.{Fits, HomeFits, IsHeld, IsMade, IsUnheld, PhaseFits, SlotIs, TurnFits}
-use Rattle.floor_rule.specs.Rows.{phase_of, slot_of}
+use Rattle.floor_rule.specs.Fitting.{Fits, HomeFits, PhaseFits, TurnFits}
+use Rattle.floor_rule.specs.Rows.{slot_of}
 use Rattle.floor_rule.specs.Rule.{AreInOrder, KeepsRule, LiesInParts, times_drawn}
 use Rattle.floor_rule.specs.Steps.{IsQuiet, ShowsState, floor_at, home_at_start, phase_at_start, turn_at_start}
-use Rattle.floor_rule.specs.Touches.{IsAmong, accesses_of, cell_at, is_written}
-use Rattle.floor_rule.proofs.Puts.{none_some, put_all, put_else, put_here, some_one}
+use Rattle.floor_rule.specs.Touches.{IsAmong, cell_at}
+use Rattle.floor_rule.proofs.Puts.{none_some, put_all}
 use Rattle.floor_rule.proofs.TurnSteps.{row_phase_fits}
 
 -- how often a number occurs in a list with one entry more in front

@@ -1,10 +1,8 @@
 -- What a seat may run: the task may run in the state, and its segment starts from the frame that the seat says.
-use Rattle.std.proofs.Common.{◌≡◌, ◌≢◌, ◌⊎◌, ℕ, ℤ, true, false, List, [], ◌∷◌, Option, None, Some, refl, sym, ap, subst, ◌∙◌, inl, inr, ⊎_elim}
-use Rattle.std.specs.Prelude.{pos, slice_get}
-use Rattle.twe_limits.specs.Limits.{Bounds}
+use Rattle.std.proofs.Common.{◌≡◌, ℕ, ℤ, true, false, List, Option, None, Some, sym, ap, subst, ◌∙◌}
+use Rattle.std.specs.Prelude.{slice_get}
 use Rattle.wait_graph.specs.declared.tasks.Link.{Link}
 use Rattle.wait_graph.specs.Link.{link_of}
-use Rattle.wait_graph.specs.Waiting.{WaitsFor}
 use Rattle.twe_program.specs.Program.{Program}
 use Rattle.seg_exec.specs.declared.frame.Frame.{Frame}
 use Rattle.seg_exec.specs.Access.{Access}
@@ -20,9 +18,9 @@ use Rattle.twe_machine.proofs.Places.{got_one}
 use Rattle.isolation_laws.proofs.rows.LinksOfRows.{link_there}
 use Rattle.floor_rule.specs.declared.view.DoneFact.{DoneFact}
 use Rattle.floor_rule.specs.declared.view.HeldTurn.{HeldTurn}
-use Rattle.floor_rule.specs.Fitting.{FactsHold, IsOpen, KnowsAwaited, MayRunFrom, RowIs}
+use Rattle.floor_rule.specs.Fitting.{IsOpen, KnowsAwaited, MayRunFrom, RowIs}
 use Rattle.floor_rule.specs.Rows.{unmarked}
-use Rattle.floor_rule.specs.Touches.{IsAccessFrom, IsAmong}
+use Rattle.floor_rule.specs.Touches.{IsAmong}
 use Rattle.floor_rule.proofs.Puts.{some_one}
 
 -- all of these facts are among those

@@ -1,7 +1,6 @@
 -- Segments that are open at the same time: none writes a cell that another one accesses. So a word is what the seat says of
 -- it, and what one segment does leaves what the others know.
-use Rattle.std.proofs.Common.{◌≡◌, ◌≢◌, ◌⊎◌, ℕ, ℤ, Bool, true, false, List, [], ◌∷◌, length, Contains, Option, None, Some, refl, sym, ap, subst, ◌∙◌, inl, inr, ⊎_elim}
-use Rattle.std.specs.Prelude.{slice_get, slice_set}
+use Rattle.std.proofs.Common.{◌≡◌, ◌≢◌, ◌⊎◌, ℕ, ℤ, Bool, true, false, List, length, Contains, Option, None, Some, refl, sym, ap, subst, ◌∙◌, inl, inr, ⊎_elim}
 use Rattle.std.proofs.lemmas.Bool.{cases_eq}
 use Rattle.effect_sets.specs.Access.{Access as PathAccess, Conflict}
 use Rattle.twe_program.specs.Program.{Program}
@@ -13,12 +12,10 @@ use Rattle.twe_machine.specs.declared.state.State.{State}
 use Rattle.twe_machine.specs.Rows.{LinksAgree}
 use Rattle.isolation_laws.specs.Conflicts.{AccessesAreCovered, Makes, MoversApart}
 use Rattle.isolation_laws.specs.CoveredNow.{CoveredNow}
-use Rattle.floor_rule.specs.declared.view.DoneFact.{DoneFact}
 use Rattle.floor_rule.specs.declared.view.HeldTurn.{HeldTurn}
 use Rattle.floor_rule.specs.declared.view.OpenSegment.{OpenSegment}
-use Rattle.floor_rule.specs.declared.view.Touch.{Touch}
 use Rattle.floor_rule.specs.Floors.{Floor, put}
-use Rattle.floor_rule.specs.Fitting.{Fits, IsOpen, MayRunFrom, NobodyWrote, OthersHold, ReadsHold, WrittenHold}
+use Rattle.floor_rule.specs.Fitting.{Fits, MayRunFrom, NobodyWrote, OthersHold, ReadsHold, WrittenHold}
 use Rattle.floor_rule.specs.Steps.{IsOwn}
 use Rattle.floor_rule.specs.Touches.{IsAccessFrom, IsAmong, accesses_of, cell_at, is_written, touches_of}
 use Rattle.floor_rule.proofs.Puts.{none_some, put_else, put_was}

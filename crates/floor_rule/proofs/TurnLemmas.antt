@@ -1,12 +1,11 @@
 -- The turns of all seats after one of them was set.
-use Rattle.std.proofs.Common.{◌≡◌, ◌≢◌, ◌⊎◌, ◌≤◌, ℕ, List, length, Option, None, Some, refl, sym, ap, subst, ◌∙◌, inl, inr, ⊎_elim}
+use Rattle.std.proofs.Common.{◌≡◌, ◌≢◌, ◌⊎◌, ℕ, Option, Some, refl, sym, ap, subst, ◌∙◌, inl, inr, ⊎_elim}
 use Rattle.std.proofs.lemmas.Bool.{cases_eq}
 use Rattle.twe_machine.specs.declared.state.State.{State}
-use Rattle.twe_machine.specs.declared.state.TaskRow.{TaskRow}
 use Rattle.floor_rule.specs.declared.view.HeldTurn.{HeldTurn}
 use Rattle.floor_rule.specs.declared.view.Phase.{Phase}
 use Rattle.floor_rule.specs.Floors.{put, put_turn, TurnWord, Free, Taken, New}
-use Rattle.floor_rule.specs.Fitting.{IsFirstHeld, IsHeld, IsMade, IsTakenBy, IsUnheld, OneHolder, PhasesAreKnown, RowIs, RowsAreKnown, TurnFits, Turns}
+use Rattle.floor_rule.specs.Fitting.{IsFirstHeld, IsHeld, IsTakenBy, IsUnheld, OneHolder, PhasesAreKnown, RowIs, RowsAreKnown, TurnFits, Turns}
 use Rattle.floor_rule.proofs.Puts.{none_some, put_else, put_here, put_was, some_one}
 
 module _ (held : Turns) (i t : ℕ) (x : Option HeldTurn) where

@@ -1,5 +1,5 @@
 -- The steps on turns, phases and seats keep the rule.
-use Rattle.std.proofs.Common.{◌≡◌, ◌≢◌, ◌⊎◌, ◌<◌, ◌≤◌, ◌++◌, ℕ, ℤ, Bool, true, false, List, [], ◌∷◌, length, Option, None, Some, refl, sym, ap, subst, ◌∙◌, inl, inr, ⊎_elim, arith}
+use Rattle.std.proofs.Common.{◌≡◌, ◌≢◌, ◌≤◌, ◌++◌, ℕ, ℤ, false, List, [], ◌∷◌, length, Option, None, Some, refl, sym, ap, subst, ◌∙◌, inl, inr, ⊎_elim, arith}
 use Rattle.std.specs.Prelude.{slice_get}
 use Rattle.std.proofs.lemmas.Bool.{cases_eq}
 use Rattle.twe_program.specs.Program.{Program}
@@ -9,22 +9,22 @@ use Rattle.twe_machine.specs.declared.state.TaskStatus.{TaskStatus}
 use Rattle.twe_machine.specs.declared.state.TaskStatus.TheVariants as status
 use Rattle.twe_machine.specs.Changes.{IsDoneWith}
 use Rattle.twe_machine.specs.Rows.{HasStatus, IsRow, awaited}
-use Rattle.twe_machine.proofs.Places.{below_there, got_one}
+use Rattle.twe_machine.proofs.Places.{got_one}
 use Rattle.std.proofs.lemmas.Option.{slice_get_within}
 use Rattle.floor_rule.specs.declared.view.DoneFact.{DoneFact}
 use Rattle.floor_rule.specs.declared.view.HeldTurn.{HeldTurn}
 use Rattle.floor_rule.specs.declared.view.OpenSegment.{OpenSegment}
 use Rattle.floor_rule.specs.declared.view.Phase.{Phase}
-use Rattle.floor_rule.specs.declared.view.Phase.TheVariants.{Absent, Made, Running, Waits, Done, Faulted}
+use Rattle.floor_rule.specs.declared.view.Phase.TheVariants.{Done}
 use Rattle.floor_rule.specs.declared.view.TaskSlot.{TaskSlot}
 use Rattle.floor_rule.specs.Floors.{Floor, Home, Away, Empty, Holds, TurnWord, Free, Taken, New, put, put_turn}
-use Rattle.floor_rule.specs.Fitting.{Fits, FactsHold, HomeFits, IsHeld, IsMade, IsOpen, IsUnheld, OneHolder, PhaseFits, RowIs, SegmentsAreOpen, SlotIs, TurnFits, Turns, WaitsAt}
+use Rattle.floor_rule.specs.Fitting.{Fits, FactsHold, HomeFits, IsHeld, IsMade, IsUnheld, PhaseFits, SegmentsAreOpen, SlotIs, TurnFits, Turns}
 use Rattle.floor_rule.specs.Rows.{phase_at, phase_of, slot_of, unmarked}
-use Rattle.floor_rule.specs.Steps.{IsPhaseFor, MayGive, MayJoin, MayStorePhase, HasNoTurn, after_finding_done, after_giving, after_join, after_phase, after_split, after_taking, with_row}
+use Rattle.floor_rule.specs.Steps.{MayGive, MayJoin, MayStorePhase, HasNoTurn, after_finding_done, after_giving, after_join, after_phase, after_split, after_taking, with_row}
 use Rattle.floor_rule.specs.Touches.{IsAmong, accesses_of}
-use Rattle.floor_rule.proofs.Puts.{none_some, put_all, put_else, put_here, put_was, some_one}
+use Rattle.floor_rule.proofs.Puts.{none_some, put_all, put_else, put_here, some_one}
 use Rattle.floor_rule.proofs.RunLemmas.{AllHold, AreAmong, open_still}
-use Rattle.floor_rule.proofs.TurnLemmas.{first_replaced, held_else, held_replaced, one_holder_put, phases_put, rows_put, taken_replaced, turn_fits_else, turn_fits_replaced, turn_here, turn_of_other, turn_was, turns_elsewhere, unheld_else, unheld_replaced}
+use Rattle.floor_rule.proofs.TurnLemmas.{held_else, held_replaced, one_holder_put, phases_put, rows_put, turn_fits_else, turn_fits_replaced, turn_here, turn_of_other, turn_was, turns_elsewhere, unheld_else, unheld_replaced}
 
 free_taken : (worker : ℕ) → Free ≡ Taken worker → ⊥
 free_taken worker h = cc

@@ -177,3 +177,7 @@ pub record Fits (p : Program) (st : State) (f : Floor) : Type 0 where
   pub written : WrittenHold st.cells f.cells f.segments
   pub others : OthersHold st.cells f.cells f.segments
   pub facts : FactsHold st f.facts
+
+-- the frame of each done task has the task's value
+abbrev pub DoneFramesHaveValues : State → Type 0
+DoneFramesHaveValues st = (t : ℕ) (row : TaskRow) → IsRow st t row → row.status ≡ status.Done → row.frame.value ≡ row.value

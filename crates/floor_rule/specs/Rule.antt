@@ -1,8 +1,7 @@
 -- The rule of the floor: what holds between any two atomic steps.
-use Rattle.std.specs.Prelude.{◌≡◌, ◌<◌, ◌&&◌, ◌==◌, ℕ, List, length, Some, count_by, if◌then◌else◌, nat_lt, slice_get}
+use Rattle.std.specs.Prelude.{◌≡◌, ◌&&◌, ◌==◌, ℕ, List, length, Some, count_by, if◌then◌else◌, nat_lt, slice_get}
 use Rattle.twe_limits.specs.Limits.{Bounds}
 use Rattle.twe_program.specs.Program.{Program}
-use Rattle.twe_machine.specs.declared.state.State.{State}
 use Rattle.twe_machine.specs.Runs.{Legal, state_after}
 use Rattle.journal_merge.specs.declared.numbered.NumberedEntry.{NumberedEntry}
 use Rattle.journal_merge.specs.Merging.{has_number, journal_of, prints_of}

@@ -29,7 +29,7 @@ use Rattle.floor_rule.specs.declared.view.Touch.TheVariants.{Read, Write}
 use Rattle.floor_rule.specs.Floors.{Floor, Home, Away, Empty, Holds, TurnWord, Free, New, Taken, put, put_turn}
 use Rattle.floor_rule.specs.Fitting.{MayRunFrom}
 use Rattle.floor_rule.specs.Rows.{phase_of, slot_of}
-use Rattle.floor_rule.specs.Touches.{IsAccessFrom, IsAmong, access_by, accesses_of, cell_accesses, touches_of}
+use Rattle.floor_rule.specs.Touches.{IsAccessFrom, IsAmong, accesses_of, cell_accesses, touches_of}
 
 -- Turns.
 

@@ -3,18 +3,19 @@
 //!
 //! All laws are of a program that keeps the rules on effects. Seats are numbered. The log has the entries that all seats
 //! have drawn so far.
-ghost use Rattle.std.specs.Prelude.{◌≡◌, ◌≢◌, ◌++◌, ℕ, ℤ, List, [], ◌∷◌, Some, true, false};
+ghost use Rattle.std.specs.Prelude.{◌≡◌, ◌≢◌, ◌++◌, ℕ, ℤ, List, [], ◌∷◌, Contains, Some, false, true};
 ghost use Rattle.twe_limits.specs.Limits.{Bounds};
 ghost use Rattle.twe_program.specs.Program.{Program};
 ghost use Rattle.twe_program.specs.WellFormed.{IsWellFormed};
 ghost use Rattle.seg_exec.specs.declared.frame.Frame.{Frame};
 ghost use Rattle.seg_exec.specs.declared.stop.Stop.{Stop};
 ghost use Rattle.seg_exec.specs.Access.{Access, Reads, Writes, after};
+ghost use Rattle.seg_exec.specs.Segment.{segment};
 ghost use Rattle.soundness_laws.specs.DeclaredNow.{access_of};
 ghost use Rattle.soundness_laws.specs.KeepsEffects.{KeepsEffects};
 ghost use Rattle.twe_machine.specs.declared.state.State.{State};
 ghost use Rattle.twe_machine.specs.Changes.{IsDoneWith};
-ghost use Rattle.twe_machine.specs.Runs.{IsRun, state_after};
+ghost use Rattle.twe_machine.specs.Runs.{IsReached, IsRun, state_after};
 ghost use Rattle.isolation_laws.specs.CoveredNow.{CoveredNow};
 ghost use Rattle.journal_merge.specs.declared.numbered.NumberedEntry.{NumberedEntry};
 ghost use Rattle.journal_merge.specs.Merging.{journal_of, prints_of};
@@ -23,10 +24,12 @@ ghost use Rattle.floor_rule.specs.declared.view.OpenSegment.{OpenSegment};
 ghost use Rattle.floor_rule.specs.declared.view.Phase.{Phase};
 ghost use Rattle.floor_rule.specs.declared.view.Phase.TheVariants.{Done};
 ghost use Rattle.floor_rule.specs.Floors.{Floor, Free, Holds};
-ghost use Rattle.floor_rule.specs.Fitting.{MayRunFrom, PhaseFits};
+ghost use Rattle.floor_rule.specs.Fitting.{DoneFramesHaveValues, MayRunFrom, PhaseFits};
 ghost use Rattle.floor_rule.specs.Rows.{slot_of};
 ghost use Rattle.floor_rule.specs.Rule.{AreInOrder, KeepsRule};
-ghost use Rattle.floor_rule.specs.Steps.{HasNoTurn, IsQuiet, MayCommit, MayGive, MayJoin, MayStorePhase, MayTouch, ShowsState, after_entry, after_finding_done, after_giving, after_join, after_load, after_phase, after_split, after_store, after_taking, entry_drawn, floor_at};
+ghost use Rattle.floor_rule.specs.Steps.{HasNoTurn, IsOwn, IsQuiet, MayCommit, MayGive, MayJoin, MayStorePhase, MayTouch, ShowsState, floor_at};
+ghost use Rattle.floor_rule.specs.Steps.{after_entry, after_finding_done, after_giving, after_join, after_load, after_phase, after_split};
+ghost use Rattle.floor_rule.specs.Steps.{after_store, after_taking, entry_drawn};
 ghost use Rattle.floor_rule.specs.Touches.{IsAmong, accesses_of, cell_at, is_written, touches_of};
 
 /// The floor that starts from the state of a run keeps the rule. Its log has the entries of the run, in order, with the
@@ -67,6 +70,13 @@ pub fn phases_say_the_truth()
     ensures done { (p : Program) (lim : Bounds) (log : List NumberedEntry) (f : Floor) (i t : ℕ) → IsWellFormed p
         → KeepsEffects p → KeepsRule p lim log f → f.phases t ≡ Done
         → (value : ℤ) × IsDoneWith (state_after p lim (journal_of log)) t value × KeepsRule p lim log (after_finding_done f i t value) }
+{}
+
+/// If a seat may run the next segment of a task, it may make each access that this segment makes over any cells.
+pub fn segments_may_make_their_accesses()
+    ensures { (p : Program) (f : Floor) (i t : ℕ) (turn : HeldTurn) (ready : Frame) (cells : List ℤ) (access : Access)
+        → f.held i t ≡ Some turn → MayRunFrom turn (f.facts i) ready → IsOwn f i t
+        → Contains (segment p ready cells).accesses access → MayTouch p f i t access }
 {}
 
 /// A load of a cell finds the value of the state, or the one that this segment wrote last, whatever the other seats have
@@ -117,6 +127,12 @@ pub fn open_segments_stay_apart()
         → IsWellFormed p → KeepsEffects p → KeepsRule p lim log f → i ≢ j → f.segments i ≡ Some s → f.segments j ≡ Some r
         → is_written c (accesses_of s.touches) ≡ true
         → ¬ IsAmong (Reads c value) (accesses_of r.touches) × ¬ IsAmong (Writes c value) (accesses_of r.touches) }
+{}
+
+/// In each reached state the frame of a done task has the task's value. So whoever has the turn of a done task can read the
+/// value in the task's slot.
+pub fn done_frames_have_values()
+    ensures { (p : Program) (lim : Bounds) (st : State) → IsWellFormed p → IsReached p lim st → DoneFramesHaveValues st }
 {}
 
 /// At a quiet point, when no seat has a turn and no segment is open, the floor shows the state that the journal leads to.

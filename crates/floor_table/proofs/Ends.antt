@@ -1,6 +1,6 @@
 -- A table that is closed at a quiet point shows the state that its journal leads to, and the last seat's entries are the journal.
-use Rattle.std.proofs.Common.{◌≡◌, ◌≢◌, ◌⊎◌, ◌+◌, ◌<◌, ◌≤◌, ◌++◌, ◌&&◌, ℕ, zero, suc, ℤ, Bool, true, false, cond, List, [], ◌∷◌, length, get_or, Option, None, Some, refl, sym, ap, subst, ◌∙◌, inl, inr, ⊎_elim, arith, nat_lt, eq-eqb, ne_eqb}
-use Rattle.std.specs.Prelude.{◌==◌, ◌^◌, slice_get, slice_index, count_by, Contains}
+use Rattle.std.proofs.Common.{◌≡◌, ◌≢◌, ◌+◌, ◌<◌, ◌≤◌, ◌&&◌, ℕ, zero, suc, ℤ, Bool, true, false, cond, List, [], ◌∷◌, length, get_or, Option, None, Some, refl, sym, ap, subst, ◌∙◌, inl, inr, ⊎_elim, arith, nat_lt, eq-eqb, ne_eqb}
+use Rattle.std.specs.Prelude.{◌==◌, ◌^◌, slice_index, count_by, Contains}
 use Rattle.std.proofs.lemmas.Bool.{cases_eq, le-ltb, lt-ltb, ltb-false, ltb-true}
 use Rattle.std.proofs.lemmas.List.{append-nil}
 use Rattle.std.proofs.lemmas.List.Sums.{sum_by-append}
@@ -10,13 +10,9 @@ use lib.ListN.{get_elem?}
 use Rattle.atomic_table.specs.Table.{Final, Seen}
 use Rattle.twe_limits.specs.Limits.{Bounds}
 use Rattle.twe_program.specs.Program.{Program, cell_count}
-use Rattle.twe_machine.specs.declared.state.State.{State}
-use Rattle.twe_machine.specs.declared.state.TaskRow.{TaskRow}
-use Rattle.twe_machine.specs.Rows.{IsRow}
 use Rattle.twe_machine.specs.Runs.{state_after}
 use Rattle.journal_merge.specs.declared.numbered.NumberedEntry.{NumberedEntry}
-use Rattle.journal_merge.specs.Merging.{AreNumbered, IsMergeOf, all_of, has_number, journal_of}
-use Rattle.floor_rule.specs.declared.view.HeldTurn.{HeldTurn}
+use Rattle.journal_merge.specs.Merging.{IsMergeOf, has_number, journal_of}
 use Rattle.floor_rule.specs.declared.view.TaskSlot.{TaskSlot}
 use Rattle.floor_rule.specs.Floors.{Floor}
 use Rattle.floor_rule.specs.Rows.{slot_of}
@@ -27,7 +23,7 @@ use Rattle.floor_rule.proofs.QuietLemmas.{shows}
 use Rattle.floor_table.specs.declared.view.SeatKind.TheVariants.{Main}
 use Rattle.floor_table.specs.declared.view.View.{View}
 use Rattle.floor_table.specs.FloorOf.{Table, floor_of, part_at, segment_at, turns_at}
-use Rattle.floor_table.specs.Holds.{Ended, HasGivenAll, HasNothing, IsWordOf, ShowsEnd, TableKeeps}
+use Rattle.floor_table.specs.Holds.{Ended, HasGivenAll, IsWordOf, TableKeeps}
 use Rattle.floor_table.specs.Layout.{cell_place, number_at, value_of_word}
 use Rattle.floor_table.proofs.Elements.{word_at}
 use Rattle.floor_table.proofs.SeatKinds.{others_have_nothing}

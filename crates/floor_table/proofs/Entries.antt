@@ -1,7 +1,6 @@
 -- Drawing an entry, by a fetch-and-add on the clock, keeps the rule of the table.
-use Rattle.std.proofs.Common.{◌≡◌, ◌≢◌, ◌⊎◌, ◌+◌, ◌*◌, ◌<◌, ◌≤◌, ◌++◌, ◌/◌, ◌%◌, ℕ, zero, suc, ℤ, Bool, true, false, cond, List, [], ◌∷◌, length, Option, None, Some, refl, sym, ap, subst, ◌∙◌, inl, inr, ⊎_elim, arith, length-append, length-set, ltb-true, nat_lt}
-use Rattle.std.specs.Prelude.{◌==◌, ◌^◌, slice_get, slice_index, slice_set}
-use Rattle.std.proofs.lemmas.Bool.{cases_eq}
+use Rattle.std.proofs.Common.{◌≡◌, ◌≢◌, ◌+◌, ◌<◌, ◌≤◌, ◌++◌, ◌%◌, ℕ, zero, suc, ℤ, Bool, true, false, cond, List, [], ◌∷◌, length, Option, None, Some, refl, sym, ap, subst, ◌∙◌, arith, length-append, length-set, ltb-true, nat_lt}
+use Rattle.std.specs.Prelude.{◌==◌, ◌^◌, slice_index, slice_set}
 use Rattle.std.proofs.lemmas.Option.{slice_get_within}
 use Rattle.std.proofs.lemmas.Nat.{div-add-mod'}
 use mathlib.Core.Option as core
@@ -30,14 +29,14 @@ use Rattle.floor_rule.specs.Floors.{Floor, Home, Away, Empty, Holds, put, put_tu
 use Rattle.floor_rule.specs.Fitting.{HomeFits, MayRunFrom}
 use Rattle.floor_rule.specs.Rule.{KeepsRule}
 use Rattle.floor_rule.specs.Steps.{MayCommit, after_entry, entry_drawn, first_turn, row_after, with_child, without_child}
-use Rattle.floor_rule.specs.Touches.{accesses_of, cell_accesses, touches_of}
+use Rattle.floor_rule.specs.Touches.{accesses_of, touches_of}
 use Rattle.floor_rule.proofs.Puts.{put_here}
 use Rattle.floor_rule.proofs.RuleSteps.{commit}
 use Rattle.floor_table.specs.declared.view.SeatKind.TheVariants.{Spent}
 use Rattle.floor_table.specs.declared.view.View.{View}
-use Rattle.floor_table.specs.FloorOf.{Table, facts_at, floor_of, home_at, part_at, segment_at, turn_in, turns_at, worker_at}
+use Rattle.floor_table.specs.FloorOf.{Table, facts_at, floor_of, home_at, part_at, segment_at, turns_at, worker_at}
 use Rattle.floor_table.specs.Holds.{TableKeeps}
-use Rattle.floor_table.specs.Layout.{asked_of_clock, cell_place, cells_from, clock_place, entries_of_clock, number_at, phase_place, turn_place, word_count}
+use Rattle.floor_table.specs.Layout.{asked_of_clock, cell_place, cells_from, clock_place, entries_of_clock, number_at}
 use Rattle.floor_table.specs.Tells.{DrewEntry, MayDraw, clock_step, drawn_seat, drawn_view, drawn_with, with_turn}
 use Rattle.floor_table.proofs.Elements.{at_else, at_within, word_at}
 use Rattle.floor_table.proofs.Words.{cells_else, phases_kept, turns_kept}

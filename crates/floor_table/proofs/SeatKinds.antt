@@ -1,5 +1,5 @@
 -- The kinds of seats after one of them has another view.
-use Rattle.std.proofs.Common.{◌≡◌, ◌≢◌, ◌⊎◌, ◌+◌, ◌-◌, ◌++◌, ◌<◌, ◌≤◌, ℕ, zero, suc, Bool, true, false, cond, List, [], ◌∷◌, length, Option, None, Some, refl, sym, ap, subst, ◌∙◌, inl, inr, ⊎_elim, arith}
+use Rattle.std.proofs.Common.{◌≡◌, ◌≢◌, ◌⊎◌, ◌+◌, ◌++◌, ℕ, zero, suc, Bool, true, false, cond, List, [], ◌∷◌, refl, sym, ap, subst, ◌∙◌, inl, inr, ⊎_elim, arith}
 use Rattle.std.specs.Prelude.{slice_set, count_by}
 use Rattle.std.proofs.lemmas.Bool.{cases_eq}
 use Rattle.std.proofs.lemmas.List.Sums.{sum_by-append}
@@ -9,7 +9,7 @@ use lib.ListN.{get_elem?}
 use Rattle.floor_table.specs.declared.view.SeatKind.{SeatKind}
 use Rattle.floor_table.specs.declared.view.SeatKind.TheVariants.{Main, Other, Spent}
 use Rattle.floor_table.specs.declared.view.View.{View}
-use Rattle.floor_table.specs.Holds.{HasGivenAll, HasNothing, SeatsFit, is_other, is_other_kind, joined_view, left_view, right_view, spent_view}
+use Rattle.floor_table.specs.Holds.{HasNothing, SeatsFit, is_other, is_other_kind, joined_view, left_view, right_view, spent_view}
 use Rattle.atomic_table.proofs.Lists.{at_longer, at_snoc}
 use Rattle.floor_table.proofs.Elements.{at_else, at_here}
 

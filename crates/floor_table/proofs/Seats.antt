@@ -1,6 +1,6 @@
 -- Splitting and joining seats keeps the rule of the table.
-use Rattle.std.proofs.Common.{◌≡◌, ◌≢◌, ◌⊎◌, ◌+◌, ◌<◌, ◌++◌, ℕ, zero, suc, List, [], ◌∷◌, length, Option, None, Some, refl, sym, ap, subst, ◌∙◌, inl, inr, ⊎_elim, arith}
-use Rattle.std.specs.Prelude.{◌^◌, slice_set}
+use Rattle.std.proofs.Common.{◌≡◌, ◌≢◌, ◌+◌, ◌++◌, ℕ, zero, suc, List, [], ◌∷◌, length, None, refl, sym, ap, subst, ◌∙◌, ⊎_elim}
+use Rattle.std.specs.Prelude.{slice_set}
 use Rattle.std.proofs.lemmas.Bool.{cases_eq}
 use mathlib.Core.Option as core
 use lib.ListN.{get_elem?}
@@ -9,13 +9,12 @@ use Rattle.twe_limits.specs.Limits.{Bounds}
 use Rattle.twe_program.specs.Program.{Program}
 use Rattle.journal_merge.specs.declared.numbered.NumberedEntry.{NumberedEntry}
 use Rattle.floor_rule.specs.declared.view.DoneFact.{DoneFact}
-use Rattle.floor_rule.specs.declared.view.HeldTurn.{HeldTurn}
 use Rattle.floor_rule.specs.Floors.{Floor, put}
 use Rattle.floor_rule.specs.Rule.{KeepsRule}
 use Rattle.floor_rule.specs.Steps.{HasNoTurn, MayJoin, after_join, after_split}
 use Rattle.floor_rule.proofs.Puts.{put_else, put_here}
 use Rattle.floor_rule.proofs.RuleSteps.{join, split}
-use Rattle.floor_table.specs.declared.view.SeatKind.TheVariants.{Main, Other, Spent}
+use Rattle.floor_table.specs.declared.view.SeatKind.TheVariants.{Main, Other}
 use Rattle.floor_table.specs.declared.view.View.{View}
 use Rattle.floor_table.specs.FloorOf.{Table, facts_at, floor_of, part_at, segment_at, turn_in, turns_at, worker_at}
 use Rattle.floor_table.specs.Holds.{HasGivenAll, SeatsFit, TableKeeps, joined_view, left_view, right_view, spent_view}

@@ -1,14 +1,12 @@
 -- A table that is laid out by a state keeps the rule; and one that is closed at a quiet point shows the state.
-use Rattle.std.proofs.Common.{◌≡◌, ◌≢◌, ◌⊎◌, ◌+◌, ◌*◌, ◌<◌, ◌≤◌, ◌++◌, ◌/◌, ◌%◌, ℕ, zero, suc, ℤ, List, [], ◌∷◌, length, map, Option, None, Some, refl, sym, ap, subst, ◌∙◌, inl, inr, ⊎_elim, arith}
+use Rattle.std.proofs.Common.{◌≡◌, ◌⊎◌, ◌+◌, ◌*◌, ◌<◌, ◌≤◌, ℕ, zero, suc, ℤ, List, [], ◌∷◌, length, map, Option, None, Some, refl, sym, ap, subst, ◌∙◌, inl, inr, ⊎_elim, arith}
 use Rattle.std.specs.Prelude.{◌^◌, slice_get}
-use Rattle.std.proofs.lemmas.Bool.{cases_eq}
-use Rattle.std.proofs.lemmas.Option.{slice_get_within}
 use Rattle.std.proofs.lemmas.Nat.{div-mul-add, mod-mul-add}
 use mathlib.Core.Option as core
 use mathlib.Core.Option.{some-injective, some-ne-none}
 use lib.ListN.{get_elem?}
 use native.Mathlib.Decide.{dec_le}
-use Rattle.atomic_table.specs.Table.{Final, Seen, opening}
+use Rattle.atomic_table.specs.Table.{opening}
 use Rattle.seg_exec.specs.Access.{value_in}
 use Rattle.twe_limits.specs.Limits.{Bounds, IsWithin}
 use Rattle.twe_program.specs.Program.{Program, cell_count}
@@ -16,21 +14,14 @@ use Rattle.twe_program.specs.WellFormed.{IsWellFormed}
 use Rattle.soundness_laws.specs.KeepsEffects.{KeepsEffects}
 use Rattle.twe_machine.specs.declared.state.State.{State}
 use Rattle.twe_machine.specs.declared.state.TaskRow.{TaskRow}
-use Rattle.twe_machine.specs.Rows.{IsRow}
-use Rattle.twe_machine.specs.Runs.{IsReached, IsRun, state_after}
+use Rattle.twe_machine.specs.Runs.{IsReached, IsRun}
 use Rattle.twe_machine.proofs.ReachedStands.{reached_stands}
 use Rattle.journal_merge.specs.declared.numbered.NumberedEntry.{NumberedEntry}
 use Rattle.journal_merge.specs.Merging.{journal_of, prints_of}
-use Rattle.floor_rule.specs.declared.view.DoneFact.{DoneFact}
-use Rattle.floor_rule.specs.declared.view.HeldTurn.{HeldTurn}
-use Rattle.floor_rule.specs.declared.view.OpenSegment.{OpenSegment}
-use Rattle.floor_rule.specs.declared.view.Phase.{Phase}
-use Rattle.floor_rule.specs.declared.view.Phase.TheVariants.{Absent}
 use Rattle.floor_rule.specs.declared.view.TaskSlot.{TaskSlot}
-use Rattle.floor_rule.specs.Floors.{Floor, Home, Empty, Holds, TurnWord, Free, New, put}
-use Rattle.floor_rule.specs.Rows.{slot_of}
+use Rattle.floor_rule.specs.Floors.{put}
 use Rattle.floor_rule.specs.Rule.{AreInOrder, KeepsRule}
-use Rattle.floor_rule.specs.Steps.{IsQuiet, floor_at, home_at_start, phase_at_start, turn_at_start}
+use Rattle.floor_rule.specs.Steps.{floor_at, home_at_start, phase_at_start, turn_at_start}
 use Rattle.floor_rule.specs.Touches.{cell_at}
 use Rattle.floor_rule.proofs.Puts.{put_else, put_here}
 use Rattle.floor_rule.proofs.QuietLemmas.{same_cells, starts}

@@ -1,12 +1,11 @@
 -- Each step on a word keeps the rule of the table: the floor that the table shows changes as the step of the floor says.
-use Rattle.std.proofs.Common.{◌≡◌, ◌≢◌, ◌⊎◌, ◌+◌, ◌*◌, ◌<◌, ◌≤◌, ◌++◌, ℕ, zero, suc, ℤ, false, List, [], ◌∷◌, length, Option, None, Some, refl, sym, ap, subst, ◌∙◌, inl, inr, ⊎_elim, arith, length-set}
+use Rattle.std.proofs.Common.{◌≡◌, ◌≢◌, ◌⊎◌, ◌+◌, ◌<◌, ◌≤◌, ℕ, ℤ, List, [], ◌∷◌, length, Option, None, Some, refl, sym, ap, subst, ◌∙◌, inl, inr, ⊎_elim, arith, length-set}
 use Rattle.std.specs.Prelude.{◌==◌, ◌^◌, slice_index, slice_set}
 use Rattle.std.proofs.lemmas.Bool.{cases_eq}
 use mathlib.Core.Option as core
 use lib.ListN.{get_elem?}
 use prog.Atomic.{either}
-use Rattle.atomic_table.specs.Table.{Act, Allows, Joins, Splits, Valid, carried_after, chain, gives, keeps, stepped, takes}
-use Rattle.atomic_table.specs.Table as table
+use Rattle.atomic_table.specs.Table.{Act, Allows, Valid, carried_after, gives, keeps, stepped, takes}
 use Rattle.atomic_table.proofs.Lists.{exchanged}
 use Rattle.twe_limits.specs.Limits.{Bounds}
 use Rattle.twe_program.specs.Program.{Program, cell_count}
@@ -20,7 +19,7 @@ use Rattle.floor_rule.specs.declared.view.Phase.TheVariants.{Absent, Made, Runni
 use Rattle.floor_rule.specs.declared.view.TaskSlot.{TaskSlot}
 use Rattle.floor_rule.specs.declared.view.Touch.{Touch}
 use Rattle.floor_rule.specs.declared.view.Touch.TheVariants.{Read, Write}
-use Rattle.floor_rule.specs.Floors.{Floor, Home, Away, Empty, Holds, TurnWord, Free, Taken, New, put, put_turn}
+use Rattle.floor_rule.specs.Floors.{Floor, Holds, Free, Taken, put}
 use Rattle.floor_rule.specs.Fitting.{MayRunFrom}
 use Rattle.floor_rule.specs.Rows.{slot_of}
 use Rattle.floor_rule.specs.Rule.{KeepsRule}
@@ -32,10 +31,10 @@ use Rattle.floor_table.specs.declared.view.SeatKind.TheVariants.{Spent}
 use Rattle.floor_table.specs.declared.view.View.{View}
 use Rattle.floor_table.specs.FloorOf.{Table, facts_at, floor_of, home_at, part_at, segment_at, turn_in, turns_at, worker_at}
 use Rattle.floor_table.specs.Holds.{TableKeeps}
-use Rattle.floor_table.specs.Layout.{asked_of_clock, cell_place, cells_from, clock_place, entries_of_clock, free_word, number_at, phase_of_word, phase_place, phase_word_at, taken_word, turn_word_at, turn_of_word, turn_place, value_of_word, word_count, word_of_phase}
+use Rattle.floor_table.specs.Layout.{asked_of_clock, cell_place, cells_from, clock_place, entries_of_clock, free_word, number_at, phase_of_word, phase_place, phase_word_at, taken_word, turn_word_at, turn_of_word, turn_place, value_of_word, word_of_phase}
 use Rattle.floor_table.specs.Tells.{FoundPhase, GaveTurn, MayGiveTurn, MayStore, MayTouchCell, ReadCell, StoredPhase, TriedTurn, WroteCell, with_touch, with_turn}
-use Rattle.floor_table.proofs.Elements.{at_else, at_here, at_within, set_same, within_by, word_at}
-use Rattle.floor_table.proofs.Words.{cells_at, cells_else, cells_length, cells_put, phases_kept, phases_put, turns_kept, turns_put}
+use Rattle.floor_table.proofs.Elements.{at_else, at_within, set_same, word_at}
+use Rattle.floor_table.proofs.Words.{cells_at, cells_else, cells_put, phases_kept, phases_put, turns_kept, turns_put}
 use Rattle.floor_table.proofs.Views.{seats_kept, seats_put}
 use Rattle.floor_table.proofs.SeatKinds.{seats_after}
 

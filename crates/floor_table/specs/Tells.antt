@@ -13,7 +13,6 @@ use Rattle.twe_machine.specs.Changes.{asked_by}
 use Rattle.twe_machine.specs.Moves.{new_row, parent_of}
 use Rattle.journal_merge.specs.declared.numbered.NumberedEntry.{NumberedEntry}
 use Rattle.twe_program.specs.Program.{Program}
-use Rattle.floor_rule.specs.declared.view.DoneFact.{DoneFact}
 use Rattle.floor_rule.specs.declared.view.HeldTurn.{HeldTurn}
 use Rattle.floor_rule.specs.declared.view.OpenSegment.{OpenSegment}
 use Rattle.floor_rule.specs.declared.view.Phase.{Phase}

@@ -23,7 +23,8 @@ ghost use Rattle.floor_table.specs.declared.view.SeatKind.TheVariants.{Main, Oth
 ghost use Rattle.floor_table.specs.declared.view.View.{View};
 ghost use Rattle.floor_table.specs.Holds.{Ended, HasGivenAll, IsLaidOut, TableKeeps, first_view, joined_view, left_view, right_view, spent_view};
 ghost use Rattle.floor_table.specs.Layout.{cell_place, clock_place, free_word, phase_place, taken_word, turn_place, value_of_word, word_of_phase};
-ghost use Rattle.floor_table.specs.Tells.{DrewEntry, FoundPhase, GaveTurn, MayDraw, MayGiveTurn, MayStore, MayTouchCell, ReadCell, StoredPhase, TriedTurn, WroteCell, clock_step};
+ghost use Rattle.floor_table.specs.Tells.{MayDraw, MayGiveTurn, MayStore, MayTouchCell, clock_step};
+ghost use Rattle.floor_table.specs.Tells.{DrewEntry, FoundPhase, GaveTurn, ReadCell, StoredPhase, TriedTurn, WroteCell};
 
 /// A table may be opened whose words and slots show the state of a run. Its first seat has the entries of the run.
 pub fn a_table_may_be_opened()

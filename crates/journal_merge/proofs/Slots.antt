@@ -1,5 +1,5 @@
 -- Entries in the slots of their numbers: if each number occurs once, the slots have each entry at its number.
-use Rattle.std.proofs.Common.{◌≡◌, ◌≢◌, ◌⊎◌, ◌+◌, ◌++◌, ◌<◌, ◌≤◌, ℕ, zero, suc, Bool, true, false, cond, List, [], ◌∷◌, length, drop, get_or, Option, None, Some, Result, Ok, Err, IfOk, ℤ, refl, sym, ap, subst, ◌∙◌, inl, inr, ⊎_elim, eq-eqb, ne_eqb, arith, length-append}
+use Rattle.std.proofs.Common.{◌≡◌, ◌≢◌, ◌⊎◌, ◌+◌, ◌++◌, ◌<◌, ◌≤◌, ℕ, zero, suc, Bool, cond, List, [], ◌∷◌, length, drop, get_or, Option, None, Some, Result, Ok, Err, IfOk, ℤ, refl, sym, ap, subst, ◌∙◌, inl, inr, ⊎_elim, eq-eqb, ne_eqb, arith}
 use Rattle.std.specs.Prelude.{slice_get, slice_set, count_by, Contains}
 use Rattle.std.proofs.lemmas.Bool.{cases_eq}
 use Rattle.std.proofs.lemmas.List.{length-set}
@@ -190,3 +190,29 @@ collected (Ok m) parts slots initial numbered size is journal prints =
     let merge = subst (λ (s : List (Option NumberedEntry)). IsMergeOf parts (present s)) (sym is) (merges parts initial numbered size) in
     (log, merge, journal, prints)
 collected (Err e) parts slots initial numbered size is journal prints = tt
+
+-- two parts with the entries 1 and 0
+pub two_parts : (one two : List NumberedEntry) (a b : NumberedEntry) → one ≡ a ∷ [] → two ≡ b ∷ [] → a.number ≡ 1 → b.number ≡ 0 → AreNumbered (one ∷ two ∷ [])
+two_parts one two a b is_one is_two number_a number_b =
+    subst (λ (l : List NumberedEntry). AreNumbered (l ∷ two ∷ [])) (sym is_one)
+    (subst (λ (l : List NumberedEntry). AreNumbered ((a ∷ []) ∷ l ∷ [])) (sym is_two)
+    (record {
+      within = λ e has. within_two e (contains_in (a ∷ b ∷ []) e has);
+      once = once_two;
+    }))
+  where
+    within_two : (e : NumberedEntry) → IsIn e (a ∷ b ∷ []) → e.number < 2
+    within_two e (inl same) = let number = ap (λ (x : NumberedEntry). x.number) same in omega (arith, number, number_a)
+    within_two e (inr (inl same)) = let number = ap (λ (x : NumberedEntry). x.number) same in omega (arith, number, number_b)
+    within_two e (inr (inr none)) = absurd none
+
+    once_two : (n : ℕ) → n < 2 → count_by (has_number n) (a ∷ b ∷ []) ≡ 1
+    once_two zero below =
+        let first = count_other a (b ∷ []) 0 (λ same. omega (arith, same, number_a)) in
+        let last = count_front b [] 0 number_b in
+        omega (arith, first, last)
+    once_two (suc zero) below =
+        let first = count_front a (b ∷ []) 1 number_a in
+        let last = count_other b [] 1 (λ same. omega (arith, same, number_b)) in
+        omega (arith, first, last)
+    once_two (suc (suc n)) below = absurd (omega (arith, below))

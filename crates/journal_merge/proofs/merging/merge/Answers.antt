@@ -1,4 +1,4 @@
-use Rattle.std.proofs.Common.{◌≡◌, length, arith, ◌∙◌, sym}
+use Rattle.std.proofs.Common.{length, ◌∙◌}
 use Rattle.journal_merge.proofs.Slots.{all_placed, collected, part_placed, part_within}
 use Rattle.journal_merge.proofs.merging.merge.Goals as goal
 

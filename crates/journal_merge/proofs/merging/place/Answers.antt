@@ -1,4 +1,4 @@
-use Rattle.std.proofs.Common.{◌<◌, List, length, arith, subst}
+use Rattle.std.proofs.Common.{List, arith, subst}
 use Rattle.std.specs.Prelude.{Contains}
 use Rattle.journal_merge.specs.declared.numbered.NumberedEntry.{NumberedEntry}
 use Rattle.journal_merge.proofs.Slots.{item_in}
