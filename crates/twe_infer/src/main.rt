@@ -6,6 +6,8 @@ mod answer;
 mod order;
 mod read;
 mod status;
+#[cfg(test)]
+mod tests;
 mod text;
 mod top;
 

@@ -1,0 +1,6 @@
+pub mod Floors
+pub mod Rows
+pub mod Touches
+pub mod Fitting
+pub mod Rule
+pub mod Steps

@@ -1,0 +1,28 @@
+-- What the row of a task says of its phase word and of its slot.
+use Rattle.std.specs.Prelude.{ℕ, false, Option, None, Some}
+use Rattle.twe_machine.specs.declared.state.TaskRow.{TaskRow}
+use Rattle.twe_machine.specs.declared.state.TaskStatus.{TaskStatus}
+use Rattle.twe_machine.specs.declared.state.TaskStatus.TheVariants as status
+use Rattle.twe_machine.specs.Rows.{awaited}
+use Rattle.floor_rule.specs.declared.view.Phase.{Phase}
+use Rattle.floor_rule.specs.declared.view.Phase.TheVariants.{Made, Running, Waits, Done, Faulted}
+use Rattle.floor_rule.specs.declared.view.TaskSlot.{TaskSlot}
+
+-- the row without the mark that the task was joined, which an entry of its parent sets
+abbrev pub unmarked : TaskRow → TaskRow
+unmarked row = record row { joined = false }
+
+abbrev pub phase_at : TaskStatus → Option ℕ → Phase
+phase_at status.Made on = Made
+phase_at status.Enabled None = Running
+phase_at status.Enabled (Some u) = Waits u
+phase_at status.Done on = Done
+phase_at status.Faulted on = Faulted
+
+-- the phase that the last entry of the task gives it, or, before its first entry, the one that it was made with
+abbrev pub phase_of : TaskRow → Phase
+phase_of row = phase_at row.status (awaited row.frame.next)
+
+-- what the slot of the task holds while nobody has its turn
+abbrev pub slot_of : TaskRow → TaskSlot
+slot_of row = record { frame = row.frame; decl = row.decl; args = row.args; effects = row.effects; parent = row.parent }

@@ -1,0 +1,55 @@
+-- What an open segment has done to the cells so far.
+use Rattle.std.specs.Prelude.{◌≡◌, ◌⊎◌, ◌==◌, ℕ, ℤ, Bool, true, false, List, [], ◌∷◌, Contains, Option, Some, None, if◌then◌else◌, slice_get}
+use Rattle.twe_program.specs.Program.{Program}
+use Rattle.seg_exec.specs.declared.frame.Frame.{Frame}
+use Rattle.seg_exec.specs.Access.{Access, Reads, Writes, Prints, value_in}
+use Rattle.seg_exec.specs.Segment.{segment}
+use Rattle.soundness_laws.specs.DeclaredNow.{access_of}
+use Rattle.floor_rule.specs.declared.view.OpenSegment.{OpenSegment}
+use Rattle.floor_rule.specs.declared.view.Touch.{Touch}
+use Rattle.floor_rule.specs.declared.view.Touch.TheVariants.{Read, Write}
+
+abbrev pub access_by : Touch → Access
+access_by (Read cell value) = Reads cell value
+access_by (Write cell value) = Writes cell value
+
+-- the touches as accesses of a segment
+abbrev pub accesses_of : List Touch → List Access
+accesses_of [] = []
+accesses_of (touch ∷ touches) = access_by touch ∷ accesses_of touches
+
+-- the accesses of a segment to cells: all but what it prints
+abbrev pub cell_accesses : List Access → List Access
+cell_accesses [] = []
+cell_accesses (Reads cell value ∷ earlier) = Reads cell value ∷ cell_accesses earlier
+cell_accesses (Writes cell value ∷ earlier) = Writes cell value ∷ cell_accesses earlier
+cell_accesses (Prints value ∷ earlier) = cell_accesses earlier
+
+-- one of the accesses writes the cell
+abbrev pub is_written : ℕ → List Access → Bool
+is_written c [] = false
+is_written c (Reads cell value ∷ earlier) = is_written c earlier
+is_written c (Writes cell value ∷ earlier) = if cell == c then true else is_written c earlier
+is_written c (Prints value ∷ earlier) = is_written c earlier
+
+-- the value of a cell
+abbrev pub cell_at : List ℤ → ℕ → ℤ
+cell_at cells c = value_in (slice_get cells c)
+
+-- x is in the list
+abbrev pub IsAmong : {X : Type 0} → X → List X → Type 0
+IsAmong x [] = ⊥
+IsAmong x (y ∷ ys) = (x ≡ y) ⊎ IsAmong x ys
+
+-- The segment that starts from this frame makes such an access over some list of cells: of the same concrete path, and a write
+-- if it is one. Its value doesn't count.
+pub record IsAccessFrom (p : Program) (frame : Frame) (access : Access) : Type 0 where
+  pub cells : List ℤ
+  pub made : Access
+  pub makes : Contains (segment p frame cells).accesses made
+  pub same : access_of p made ≡ access_of p access
+
+-- the cells that the segment in hand has touched, the latest first; none if no segment is open
+abbrev pub touches_of : Option OpenSegment → List Touch
+touches_of None = []
+touches_of (Some open_segment) = open_segment.touches

@@ -1,0 +1,88 @@
+-- Where the words of the floor lie in its table, and what their numbers mean.
+use Rattle.std.specs.Prelude.{◌+◌, ◌*◌, ◌-ℤ◌, ◌/◌, ◌%◌, ◌^◌, ℕ, zero, suc, ℤ, pos, List, [], ◌∷◌}
+use mathlib.Core.Option.{Option, none, some}
+use lib.ListN.{get_elem?}
+use Rattle.twe_limits.specs.Limits.{Bounds}
+use Rattle.twe_program.specs.Program.{Program, cell_count}
+use Rattle.floor_rule.specs.declared.view.Phase.{Phase}
+use Rattle.floor_rule.specs.declared.view.Phase.TheVariants.{Absent, Made, Running, Waits, Done, Faulted}
+use Rattle.floor_rule.specs.Floors.{TurnWord, Free, Taken, New}
+
+-- Word 0 is the clock. The words up to the first cell are not used, so that the clock has a cache line of its own. The cells
+-- follow, and then for each task its turn word and its phase word.
+abbrev pub clock_place : ℕ
+clock_place = 0
+
+abbrev pub cell_place : ℕ → ℕ
+cell_place c = 8 + c
+
+abbrev pub turn_place : Program → ℕ → ℕ
+turn_place p t = 8 + cell_count p + 2 * t
+
+abbrev pub phase_place : Program → ℕ → ℕ
+phase_place p t = 8 + cell_count p + 2 * t + 1
+
+-- how many words there are
+abbrev pub word_count : Program → Bounds → ℕ
+word_count p lim = 8 + cell_count p + 2 * lim.tasks
+
+-- the clock counts entries by 1 and makes by 2 ^ 45
+abbrev pub entries_of_clock : ℕ → ℕ
+entries_of_clock n = n % 2 ^ 45
+
+abbrev pub asked_of_clock : ℕ → ℕ
+asked_of_clock n = n / 2 ^ 45
+
+-- a cell's value is 2 ^ 31 less than its word
+abbrev pub value_of_word : ℕ → ℤ
+value_of_word n = pos n -ℤ pos 2147483648
+
+abbrev pub free_word : ℕ
+free_word = 0
+
+abbrev pub new_word : ℕ
+new_word = 1
+
+abbrev pub taken_word : ℕ → ℕ
+taken_word worker = suc (suc worker)
+
+abbrev pub turn_of_word : ℕ → TurnWord
+turn_of_word zero = Free
+turn_of_word (suc zero) = New
+turn_of_word (suc (suc worker)) = Taken worker
+
+abbrev pub phase_of_word : ℕ → Phase
+phase_of_word zero = Absent
+phase_of_word (suc zero) = Made
+phase_of_word (suc (suc zero)) = Running
+phase_of_word (suc (suc (suc zero))) = Done
+phase_of_word (suc (suc (suc (suc zero)))) = Faulted
+phase_of_word (suc (suc (suc (suc (suc on))))) = Waits on
+
+-- Beyond the words of the table no task is made.
+
+abbrev pub number_at : Option ℕ → ℕ
+number_at none = 0
+number_at (some n) = n
+
+abbrev pub turn_word_at : Option ℕ → TurnWord
+turn_word_at none = New
+turn_word_at (some n) = turn_of_word n
+
+abbrev pub phase_word_at : Option ℕ → Phase
+phase_word_at none = Absent
+phase_word_at (some n) = phase_of_word n
+
+-- the values of n cells whose words lie from this place on
+abbrev pub cells_from : List ℕ → ℕ → ℕ → List ℤ
+cells_from words place zero = []
+cells_from words place (suc n) = value_of_word (number_at (get_elem? words place)) ∷ cells_from words (place + 1) n
+
+-- the number that stands for a phase
+abbrev pub word_of_phase : Phase → ℕ
+word_of_phase Absent = 0
+word_of_phase Made = 1
+word_of_phase Running = 2
+word_of_phase Done = 3
+word_of_phase Faulted = 4
+word_of_phase (Waits on) = suc (suc (suc (suc (suc on))))

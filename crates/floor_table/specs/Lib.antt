@@ -1,0 +1,4 @@
+pub mod Layout
+pub mod FloorOf
+pub mod Holds
+pub mod Tells

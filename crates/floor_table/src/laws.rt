@@ -1,0 +1,111 @@
+//! The steps of a seat. Each law is what `atomic_table` requires of a call: whatever the table is when the word changes, the
+//! seat can pick a view and move slots so that the rule of the floor holds afterwards. It also says what the step tells the
+//! seat. `v` is the seat's view and `mine` are the slots that it has out, the latest first.
+ghost use Rattle.std.specs.Prelude.{◌≡◌, ◌≢◌, ◌+◌, ◌%◌, ◌^◌, ◌<◌, ◌==◌, ℕ, ℤ, List, Option};
+ghost use prog.Atomic.{either};
+ghost use Rattle.atomic_table.specs.Table.{Allows, Final, Joins, Seen, Splits, opening};
+ghost use Rattle.twe_limits.specs.Limits.{Bounds, IsWithin};
+ghost use Rattle.twe_program.specs.Program.{Program, cell_count};
+ghost use Rattle.twe_program.specs.WellFormed.{IsWellFormed};
+ghost use Rattle.seg_exec.specs.declared.frame.Frame.{Frame};
+ghost use Rattle.seg_exec.specs.declared.stop.Stop.{Stop};
+ghost use Rattle.seg_exec.specs.Access.{Reads, Writes};
+ghost use Rattle.soundness_laws.specs.KeepsEffects.{KeepsEffects};
+ghost use Rattle.twe_machine.specs.declared.state.State.{State};
+ghost use Rattle.twe_machine.specs.Runs.{IsRun};
+ghost use Rattle.journal_merge.specs.declared.numbered.NumberedEntry.{NumberedEntry};
+ghost use Rattle.journal_merge.specs.Merging.{journal_of, prints_of};
+ghost use Rattle.floor_rule.specs.declared.view.HeldTurn.{HeldTurn};
+ghost use Rattle.floor_rule.specs.declared.view.Phase.{Phase};
+ghost use Rattle.floor_rule.specs.declared.view.TaskSlot.{TaskSlot};
+ghost use Rattle.floor_rule.specs.Rule.{AreInOrder};
+ghost use Rattle.floor_table.specs.declared.view.SeatKind.TheVariants.{Main, Other, Spent};
+ghost use Rattle.floor_table.specs.declared.view.View.{View};
+ghost use Rattle.floor_table.specs.Holds.{Ended, HasGivenAll, IsLaidOut, TableKeeps, first_view, joined_view, left_view, right_view, spent_view};
+ghost use Rattle.floor_table.specs.Layout.{cell_place, clock_place, free_word, phase_place, taken_word, turn_place, value_of_word, word_of_phase};
+ghost use Rattle.floor_table.specs.Tells.{MayDraw, MayGiveTurn, MayStore, MayTouchCell, clock_step};
+ghost use Rattle.floor_table.specs.Tells.{DrewEntry, FoundPhase, GaveTurn, ReadCell, StoredPhase, TriedTurn, WroteCell};
+
+/// A table may be opened whose words and slots show the state of a run. Its first seat has the entries of the run.
+pub fn a_table_may_be_opened()
+    ensures { (p : Program) (lim : Bounds) (log : List NumberedEntry) (st : State) → IsWellFormed p → KeepsEffects p
+        → IsWithin lim.fuel lim.tasks → IsRun p lim (journal_of log) st → AreInOrder log → st.prints ≡ prints_of log
+        → (words : List ℕ) (slots : List (Option TaskSlot)) → IsLaidOut p lim log st words slots
+        → TableKeeps p lim (opening words slots (first_view log)) }
+{}
+
+/// A seat may try to take a turn, by a compare-exchange of the turn word. If the word was free, the seat has the turn and the
+/// task's slot, with the frame that the last entry left. Otherwise nothing changes.
+pub fn a_turn_may_be_tried()
+    ensures { (p : Program) (lim : Bounds) (id t : ℕ) (v : View) (mine : List (ℕ × Option TaskSlot)) → v.kind ≢ Spent
+        → t < lim.tasks
+        → Allows (TableKeeps p lim) lim.tasks id (v, mine) (turn_place p t) (λ n. either (n == free_word) (taken_word v.worker) n)
+        (TriedTurn (v, mine) t) }
+{}
+
+/// A seat may give a turn, by a store to the turn word, if the task's slot is the latest that it has out and holds what the
+/// last entry left.
+pub fn a_turn_may_be_given()
+    ensures { (p : Program) (lim : Bounds) (id t : ℕ) (v : View) (mine rest : List (ℕ × Option TaskSlot)) (turn : HeldTurn)
+        → v.kind ≢ Spent → t < lim.tasks → MayGiveTurn (v, mine) t turn rest
+        → Allows (TableKeeps p lim) lim.tasks id (v, mine) (turn_place p t) (λ n. free_word) (λ n. GaveTurn (v, mine) t turn rest) }
+{}
+
+/// A seat that has a turn may store a phase.
+pub fn a_phase_may_be_stored()
+    ensures { (p : Program) (lim : Bounds) (id t : ℕ) (v : View) (mine : List (ℕ × Option TaskSlot)) (turn : HeldTurn)
+        (phase : Phase) → v.kind ≢ Spent → t < lim.tasks → MayStore (v, mine) t turn phase
+        → Allows (TableKeeps p lim) lim.tasks id (v, mine) (phase_place p t) (λ n. word_of_phase phase)
+        (λ n. StoredPhase (v, mine) t turn phase) }
+{}
+
+/// A seat may load a phase. If it finds that the task is done, it knows the task's value.
+pub fn a_phase_may_be_loaded()
+    ensures { (p : Program) (lim : Bounds) (id t : ℕ) (v : View) (mine : List (ℕ × Option TaskSlot)) → v.kind ≢ Spent
+        → t < lim.tasks
+        → Allows (TableKeeps p lim) lim.tasks id (v, mine) (phase_place p t) (λ n. n) (FoundPhase (v, mine) t) }
+{}
+
+/// A seat may load a cell that the segment of its task may read. The word fits 32 bits.
+pub fn a_cell_may_be_loaded()
+    ensures { (p : Program) (lim : Bounds) (id t c : ℕ) (v : View) (mine : List (ℕ × Option TaskSlot)) (any : ℤ)
+        → v.kind ≢ Spent → c < cell_count p → MayTouchCell p (v, mine) t (Reads c any)
+        → Allows (TableKeeps p lim) lim.tasks id (v, mine) (cell_place c) (λ n. n) (ReadCell (v, mine) t c) }
+{}
+
+/// A seat may store a value to a cell that the segment of its task may write.
+pub fn a_cell_may_be_stored()
+    ensures { (p : Program) (lim : Bounds) (id t c : ℕ) (v : View) (mine : List (ℕ × Option TaskSlot)) (x : ℕ) (value : ℤ)
+        → v.kind ≢ Spent → c < cell_count p → x < 2 ^ 32 → value_of_word x ≡ value
+        → MayTouchCell p (v, mine) t (Writes c value)
+        → Allows (TableKeeps p lim) lim.tasks id (v, mine) (cell_place c) (λ n. x) (λ n. WroteCell (v, mine) t c value) }
+{}
+
+/// A seat may draw an entry, by a fetch-and-add on the clock, once it has carried out the segment of a task. What it finds
+/// gives the entry its number, and a task that is made its number. The clock never overflows.
+pub fn an_entry_may_be_drawn()
+    ensures { (p : Program) (lim : Bounds) (id t : ℕ) (v : View) (mine : List (ℕ × Option TaskSlot)) (turn : HeldTurn)
+        (frame : Frame) (stop : Stop) → v.kind ≢ Spent → MayDraw p (v, mine) t turn frame stop
+        → Allows (TableKeeps p lim) lim.tasks id (v, mine) clock_place (λ n. (n + clock_step stop) % 2 ^ 64)
+        (DrewEntry lim (v, mine) t turn frame stop) }
+{}
+
+/// A seat may be split off from the main one.
+pub fn a_seat_may_be_split()
+    ensures { (p : Program) (lim : Bounds) (id : ℕ) (v : View) → v.kind ≡ Main
+        → Splits (TableKeeps p lim) id v (left_view v) (right_view v) }
+{}
+
+/// A seat that has given all its turns may be joined to the main one.
+pub fn seats_may_be_joined()
+    ensures { (p : Program) (lim : Bounds) (id other : ℕ) (v w : View) → v.kind ≡ Main → w.kind ≡ Other → HasGivenAll w
+        → Joins (TableKeeps p lim) id v other w (joined_view v w) spent_view }
+{}
+
+/// If the table is closed once all seats were joined to the main one and all turns given, the entries of that seat are the
+/// journal. It is legal, and the words and slots show the state that it leads to.
+pub fn a_closed_table_shows_the_state()
+    ensures { (p : Program) (lim : Bounds) (id : ℕ) (v : View) (words : List ℕ) (slots : List (Option TaskSlot))
+        → v.kind ≡ Main → v.out ≡ 0 → HasGivenAll v → Final (Seen (TableKeeps p lim) id v) words slots
+        → Ended p lim v words slots }
+{}

@@ -1,0 +1,2 @@
+-- Lists of entries in the slots of their numbers.
+pub mod Slots
