@@ -105,6 +105,13 @@ pub fn entries_keep_the_rule()
         → KeepsRule p lim (log ++ entry_drawn lim f t frame stop ∷ []) (after_entry lim f i t turn frame stop) }
 {}
 
+/// What a seat may draw for a task is one entry: the segment leaves one frame, and stops in one way.
+pub fn a_seat_may_draw_one_entry()
+    ensures { (p : Program) (lim : Bounds) (log : List NumberedEntry) (f : Floor) (i t : ℕ) (turn : HeldTurn) (frame other : Frame)
+        (stop last : Stop) → IsWellFormed p → KeepsEffects p → KeepsRule p lim log f → MayCommit p f i t turn frame stop
+        → MayCommit p f i t turn other last → (frame ≡ other) × (stop ≡ last) }
+{}
+
 /// A new seat, which has no turn, keeps the rule.
 pub fn splitting_a_seat_keeps_the_rule()
     ensures { (p : Program) (lim : Bounds) (log : List NumberedEntry) (f : Floor) (i worker : ℕ) → IsWellFormed p

@@ -23,8 +23,8 @@ ghost use Rattle.floor_table.specs.declared.view.SeatKind.TheVariants.{Main, Oth
 ghost use Rattle.floor_table.specs.declared.view.View.{View};
 ghost use Rattle.floor_table.specs.Holds.{Ended, HasGivenAll, IsLaidOut, TableKeeps, first_view, joined_view, left_view, right_view, spent_view};
 ghost use Rattle.floor_table.specs.Layout.{cell_place, clock_place, free_word, phase_place, taken_word, turn_place, value_of_word, word_of_phase};
-ghost use Rattle.floor_table.specs.Tells.{MayDraw, MayGiveTurn, MayStore, MayTouchCell, clock_step};
-ghost use Rattle.floor_table.specs.Tells.{DrewEntry, FoundPhase, GaveTurn, ReadCell, StoredPhase, TriedTurn, WroteCell};
+ghost use Rattle.floor_table.specs.Tells.{IsLatest, MayDraw, MayGiveTurn, MayStore, MayTouchCell, clock_step};
+ghost use Rattle.floor_table.specs.Tells.{DrewOne, FoundPhase, GaveTurn, ReadCell, StoredPhase, TriedTurn, WroteCell};
 
 /// A table may be opened whose words and slots show the state of a run. Its first seat has the entries of the run.
 pub fn a_table_may_be_opened()
@@ -81,13 +81,14 @@ pub fn a_cell_may_be_stored()
         → Allows (TableKeeps p lim) lim.tasks id (v, mine) (cell_place c) (λ n. x) (λ n. WroteCell (v, mine) t c value) }
 {}
 
-/// A seat may draw an entry, by a fetch-and-add on the clock, once it has carried out the segment of a task. What it finds
-/// gives the entry its number, and a task that is made its number. The clock never overflows.
+/// A seat may draw an entry, by a fetch-and-add on the clock, once it has carried out the segment of the task whose slot is
+/// the latest that it has out. What it finds gives the entry its number, and a task that is made its number. The clock never
+/// overflows.
 pub fn an_entry_may_be_drawn()
     ensures { (p : Program) (lim : Bounds) (id t : ℕ) (v : View) (mine : List (ℕ × Option TaskSlot)) (turn : HeldTurn)
-        (frame : Frame) (stop : Stop) → v.kind ≢ Spent → MayDraw p (v, mine) t turn frame stop
+        (frame : Frame) (stop : Stop) → v.kind ≢ Spent → IsLatest (v, mine) t → MayDraw p (v, mine) t turn frame stop
         → Allows (TableKeeps p lim) lim.tasks id (v, mine) clock_place (λ n. (n + clock_step stop) % 2 ^ 64)
-        (DrewEntry lim (v, mine) t turn frame stop) }
+        (DrewOne p lim (v, mine)) }
 {}
 
 /// A seat may be split off from the main one.
