@@ -1,9 +1,9 @@
 -- The steps in the form in which the calls of the table ask for them: what a step tells is said by its word and its operands.
-use Rattle.std.proofs.Common.{◌≡◌, ◌≢◌, ◌+◌, ◌*◌, ◌<◌, ℕ, ℤ, List, [], ◌∷◌, Option, Some, None, refl, sym, ap, subst, ◌∙◌, arith}
+use Rattle.std.proofs.Common.{◌≡◌, ◌≢◌, ◌<◌, ℕ, ℤ, List, [], ◌∷◌, Option, sym, ap, subst, ◌∙◌, arith}
 use Rattle.std.specs.Prelude.{◌==◌, ◌^◌, slice_index}
 use mathlib.Core.Option as core
 use prog.Atomic.{either}
-use Rattle.atomic_table.specs.Table.{Allows, Me, State, step}
+use Rattle.atomic_table.specs.Table.{Allows, State, step}
 use Rattle.twe_limits.specs.Limits.{Bounds}
 use Rattle.twe_program.specs.Program.{Program, cell_count}
 use Rattle.seg_exec.specs.Access.{Reads, Writes}
