@@ -1,11 +1,11 @@
 -- From what the parts of a call ensure to the cause of its answer.
-use Rattle.std.proofs.Common.{◌≡◌, ◌≤◌, ℕ, List, Option, Result, Ok, Err, [], None, Some, IfOk, length, true, false, refl, sym, ap, subst, true≢false, ◌∙◌, arith}
+use Rattle.std.proofs.Common.{◌≡◌, ◌≤◌, ℕ, List, Option, Result, Ok, Err, [], None, Some, IfOk, OnOk, length, true, false, refl, sym, ap, subst, true≢false, ◌∙◌, arith}
 use Rattle.twe_io.specs.declared.memory.Memory as out_of
 use Rattle.twe_io.specs.declared.whole.ReadFail.TheVariants as reads
 use Rattle.twe_limits.specs.Language.{max_text_bytes}
 use Rattle.twe_frontend.specs.declared.refusal.Refusal.{Refusal}
 use Rattle.twe_frontend.specs.Accepted.{IsRefusal}
-use Rattle.twe_report.specs.Texts.{read_fault_text, too_long_text, usage_text}
+use Rattle.twe_report.specs.Texts.{read_fault_text, refusal_text, too_long_text, usage_text}
 use Rattle.load_text.specs.Text.{load_text_of}
 use Rattle.command_line.specs.declared.command.Command.{Command}
 use Rattle.command_line.specs.declared.command.Command.TheVariants.{Check, Run, Replay, Load}
@@ -14,14 +14,14 @@ use Rattle.text_streams.specs.Ends.{SourceTells, SinkTells, WasRead}
 use Rattle.text_answers.specs.declared.answer.Answer.{Answer}
 use Rattle.text_answers.specs.declared.book.Book.{Book}
 use Rattle.text_answers.specs.declared.status.Status.{Status}
-use Rattle.text_answers.specs.declared.status.Status.TheVariants.{ReadFault, TooLong, Usage}
+use Rattle.text_answers.specs.declared.status.Status.TheVariants.{ReadFault, Refused, TooLong, Usage}
 use Rattle.text_answers.specs.Answers.{Due, on_err}
 use Rattle.text_answers.specs.Input.{has_input, journal_text, program_text}
-use Rattle.text_answers.specs.Theorem.{IsNew}
+use Rattle.text_answers.specs.Theorem.{HasRefusal, IsNew}
 use Rattle.twe_cli.specs.Answers.{Cause, Answers}
 use Rattle.twe_cli.specs.declared.reading.Input.{Input}
 use Rattle.twe_cli.specs.declared.reading.Input.TheVariants.{Given, Failed}
-use Rattle.twe_cli.specs.inner.Given.{IsInputOf}
+use Rattle.twe_cli.specs.inner.Given.{IsDueForText, IsInputOf}
 use Rattle.twe_cli.specs.inner.Writing.{TellsMade}
 
 -- a load has one answer whatever the input
@@ -79,3 +79,10 @@ pub cause_usage : {S : Type 0} (tells : SourceTells S) (src : S) (book : Book) (
     → IfOk made (λ a. a ≡ on_err Usage usage_text) → IfOk made (Cause tells None src src book)
 cause_usage tells src book (Ok a) new same = subst (Cause tells None src src book) (sym same) (Cause.usage refl refl new)
 cause_usage tells src book (Err e) new same = tt
+
+-- a text that was refused
+pub due_refused : (cmd : Command) (program : List ℕ) (r : Refusal) (book : Book) (made : Result Answer out_of.Memory) → IsRefusal program r
+    → OnOk made (HasRefusal r book) → IfOk made (λ a. a ≡ on_err Refused (refusal_text r)) → IfOk made (IsDueForText cmd program book)
+due_refused cmd program r book (Ok a) is has same = λ input text.
+    subst (Due cmd input book) (sym same) (Due.refused r (subst (λ (t : List ℕ). IsRefusal t r) text is) has)
+due_refused cmd program r book (Err e) is has same = tt

@@ -87,7 +87,15 @@ fn answer_input<R: Threads + Wait + Sync, G: Gate + Sync>(
         Command::Run { lim, .. } => answer_text(rt, alloc, cmd, lim, input, gate, book),
         Command::Load { n, .. } => {
             let text = load_text(alloc, n)?;
-            answer_text(rt, alloc, cmd, Limits::default(), text.as_slice(), gate, book)
+            answer_text(
+                rt,
+                alloc,
+                cmd,
+                Limits::default(),
+                text.as_slice(),
+                gate,
+                book,
+            )
         }
         Command::Check | Command::Replay { .. } => unreachable!(),
     }

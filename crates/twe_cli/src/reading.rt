@@ -1,5 +1,5 @@
 //! The input of a command.
-ghost use Rattle.std.specs.Prelude.{◌≡◌, ◌≤◌, IfOk, Some};
+ghost use Rattle.std.specs.Prelude.{◌≡◌, IfOk, true};
 ghost use Rattle.command_line.specs.Words.{IsSized};
 ghost use Rattle.text_answers.specs.Input.{has_input};
 ghost use Rattle.text_streams.specs.Ends.{source};
@@ -32,9 +32,18 @@ pub(crate) fn input_of<S: Source>(
     ensures { IfOk result (IsInputOf (source S.left S.faults S.read_gives) cmd.now src.old src.new) }
 {
     load_texts_are_accepted();
-    if !has_input(cmd) {
-        return Ok(Input::Given(Bytes::new(alloc)));
+    if has_input(cmd) {
+        return read_input(alloc, cmd, src);
     }
+    Ok(Input::Given(Bytes::new(alloc)))
+}
+
+/// Reads the input of a command that has one.
+fn read_input<S: Source>(alloc: Global, cmd: &Command, src: &mut S) -> Result<Input, Memory>
+    requires { has_input cmd.now ≡ true }
+    ensures { IfOk result (IsInputOf (source S.left S.faults S.read_gives) cmd.now src.old src.new) }
+{
+    let _ = cmd;
     match read_text(alloc, src) {
         Ok(input) => Ok(Input::Given(input)),
         Err(ReadFail::ReadFault) => {

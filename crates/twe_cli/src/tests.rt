@@ -39,16 +39,7 @@ fn call<R: Threads + Wait + Sync, S: Source, G: Gate + Sync>(
         list.push(Word::from_text(alloc, word)?)?;
     }
     let mut book = Book::new(alloc);
-    let status = twe(
-        rt,
-        alloc,
-        list.as_slice(),
-        src,
-        out,
-        err,
-        gate,
-        &mut book,
-    );
+    let status = twe(rt, alloc, list.as_slice(), src, out, err, gate, &mut book);
     Ok(status.code())
 }
 
@@ -139,15 +130,7 @@ fn two_workers_run_segments_at_once(rt: HostRuntime) -> Result<(), Fail> {
     let mut out = PlainSink::new(rt.alloc(), 200)?;
     let mut err = PlainSink::new(rt.alloc(), 200)?;
     let words = ["run", "--workers", "2"];
-    let status = call(
-        &rt,
-        rt.alloc(),
-        &words,
-        &mut src,
-        &mut out,
-        &mut err,
-        &gate,
-    )?;
+    let status = call(&rt, rt.alloc(), &words, &mut src, &mut out, &mut err, &gate)?;
     assert_eq!(rt; status, 0);
     assert_eq!(rt; out.bytes(), b"tasks 3\n");
     assert!(rt; gate.met());

@@ -1,19 +1,19 @@
 //! The top call: the whole program, apart from where its bytes come from and go to.
-ghost use Rattle.std.specs.Prelude.{◌≡◌, Option, IfOk};
+ghost use Rattle.std.specs.Prelude.{◌≡◌, Option, Some, IfOk};
 ghost use Rattle.text_answers.specs.Answers.{on_err};
 ghost use Rattle.twe_cli.specs.Answers.{Answers};
 ghost use Rattle.twe_cli.specs.Complete.{Completes};
 ghost use Rattle.text_streams.specs.Ends.{source, sink};
 ghost use Rattle.twe_report.specs.Texts as texts;
 ghost use Rattle.text_answers.specs.Theorem.{IsNew};
-ghost use Rattle.command_line.specs.Words.{IsMeaning, Means};
+ghost use Rattle.command_line.specs.Words.{IsMeaning, IsSized, Means};
 ghost use Rattle.command_line.specs.declared.command.Command.{Command};
 ghost use Rattle.text_answers.specs.declared.status.Status.TheVariants.{Usage};
 
 use crate::crew::twe_crew;
 use crate::single::twe_single;
 use crate::telling::tell;
-use command_line::{WordsFail, every_list_is_decided, one_command, read_words};
+use command_line::{Command, WordsFail, every_list_is_decided, one_command, read_words};
 use std::alloc::Global;
 use std::sync::Wait;
 use std::thread::Threads;
@@ -49,10 +49,34 @@ pub fn twe<R: Threads + Wait + Sync, S: Source, O: Sink, E: Sink, G: Gate + Sync
     every_list_is_decided();
     one_command();
     match read_words(alloc, words) {
-        Ok(cmd) if cmd.workers() == 0 => twe_single(alloc, &cmd, src, out, err, book),
-        Ok(cmd) => twe_crew(rt, alloc, &cmd, src, out, err, gate, book),
+        Ok(cmd) => carry_out(rt, alloc, &cmd, src, out, err, gate, book),
         Err(WordsFail::Usage) => tell(&usage(alloc), out, err),
         Err(WordsFail::OutOfMemory(_)) => Status::Memory,
+    }
+}
+
+/// Carries out a command: on the calling thread if it asks for no workers, and else by them.
+fn carry_out<R: Threads + Wait + Sync, S: Source, O: Sink, E: Sink, G: Gate + Sync>(
+    rt: &R,
+    alloc: Global,
+    cmd: &Command,
+    src: &mut S,
+    out: &mut O,
+    err: &mut E,
+    gate: &G,
+    book: &mut Book,
+) -> Status
+    requires new { IsNew book.old }
+    requires sized { IsSized cmd.now }
+    ensures answers { Answers (source S.left S.faults S.read_gives) (sink O.written O.faults O.write_gives) (sink E.written E.faults E.write_gives)
+        (Some cmd.now) src.old src.new out.old out.new err.old err.new book.new result }
+    ensures complete { Completes (source S.left S.faults S.read_gives) (sink O.written O.faults O.write_gives) (sink E.written E.faults E.write_gives)
+        cmd.now src.old src.new out.old out.new err.old err.new result }
+{
+    if cmd.workers() == 0 {
+        twe_single(alloc, cmd, src, out, err, book)
+    } else {
+        twe_crew(rt, alloc, cmd, src, out, err, gate, book)
     }
 }
 
