@@ -123,7 +123,7 @@ module _ (p : Program) (well : IsWellFormed p) (lim : Bounds) (st : State) (reac
   agree : LinksAgree st
   agree = stands.links
 
-  running : Runs st t turn may.ready
+  pub running : Runs st t turn may.ready
   running = runs_of p st f fits agree apart i t turn may.ready may.has may.may
 
   abbrev row : TaskRow
@@ -147,7 +147,7 @@ module _ (p : Program) (well : IsWellFormed p) (lim : Bounds) (st : State) (reac
   agrees : Agrees st.cells may.accesses
   agrees = agrees_cells st.cells may.accesses (subst (Agrees st.cells) (sym may.exactly) (hand_reads p st f fits agree apart i t turn may.ready may.has may.may may.own))
 
-  segment_is : segment p (ready_frame st.tasks running.row.frame) st.cells ≡ left
+  pub segment_is : segment p (ready_frame st.tasks running.row.frame) st.cells ≡ left
   segment_is = ap (λ (fr : Frame). segment p fr st.cells) (sym running.frame) ∙ may.means st.cells agrees
 
   abbrev next : State
@@ -407,3 +407,19 @@ module _ (p : Program) (well : IsWellFormed p) (lim : Bounds) (st : State) (reac
   committing (stops.Joins on) may = entry_alone p well lim st reached apart f fits i t turn frame (stops.Joins on) may refl
   committing (stops.Done value) may = entry_alone p well lim st reached apart f fits i t turn frame (stops.Done value) may refl
   committing (stops.Fault kind place) may = entry_alone p well lim st reached apart f fits i t turn frame (stops.Fault kind place) may refl
+
+-- What a seat may draw for a task is one entry: its segment leaves one frame and one stop.
+pub record IsOneEntry (frame other : Frame) (stop last : Stop) : Type 0 where
+  pub frames : frame ≡ other
+  pub stops : stop ≡ last
+
+pub one_entry : (p : Program) (well : IsWellFormed p) (lim : Bounds) (st : State) (reached : IsReached p lim st) (apart : MoversApart p st) (f : Floor) (fits : Fits p st f) (i t : ℕ) (turn : HeldTurn) (frame other : Frame) (stop last : Stop)
+    → MayCommit p f i t turn frame stop → MayCommit p f i t turn other last → IsOneEntry frame other stop last
+one_entry p well lim st reached apart f fits i t turn frame other stop last may may_other =
+    let a = running p well lim st reached apart f fits i t turn frame stop may in
+    let b = running p well lim st reached apart f fits i t turn other last may_other in
+    let row : a.row ≡ b.row = got_one (slice_get st.tasks t) a.there b.there in
+    let one = segment_is p well lim st reached apart f fits i t turn frame stop may in
+    let two = segment_is p well lim st reached apart f fits i t turn other last may_other in
+    let same = sym one ∙ (ap (λ (r : TaskRow). segment p (ready_frame st.tasks r.frame) st.cells) row ∙ two) in
+    record { frames = ap (λ (s : Stopped). s.frame) same; stops = ap (λ (s : Stopped). s.stop) same }

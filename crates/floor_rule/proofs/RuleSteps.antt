@@ -48,7 +48,7 @@ use Rattle.floor_rule.proofs.AccessLemmas.{writer_of}
 use Rattle.floor_rule.proofs.SegmentLemmas.{access_covered, clash, open_accesses}
 use Rattle.floor_rule.proofs.TurnSteps.{finding_done, giving, joining, splitting, storing_phase, taking}
 use Rattle.floor_rule.proofs.CellSteps.{found_is, loading, storing}
-use Rattle.floor_rule.proofs.EntrySteps.{committing, end_is, may_move, prints_are}
+use Rattle.floor_rule.proofs.EntrySteps.{IsOneEntry, committing, end_is, may_move, one_entry, prints_are}
 
 -- How often a seat has drawn a number.
 
@@ -398,3 +398,7 @@ module _ (p : Program) (well : IsWellFormed p) (keeps : KeepsEffects p) (lim : B
     commit (stops.Joins on) may = drawn i t turn frame (stops.Joins on) may _ refl refl (committing p well lim st reached apart f rule.fits i t turn frame (stops.Joins on) may)
     commit (stops.Done value) may = drawn i t turn frame (stops.Done value) may _ refl refl (committing p well lim st reached apart f rule.fits i t turn frame (stops.Done value) may)
     commit (stops.Fault kind place) may = drawn i t turn frame (stops.Fault kind place) may _ refl refl (committing p well lim st reached apart f rule.fits i t turn frame (stops.Fault kind place) may)
+
+  -- a seat may draw one entry of a task
+  pub one_drawn : (i t : ℕ) (turn : HeldTurn) (frame other : Frame) (stop last : Stop) → MayCommit p f i t turn frame stop → MayCommit p f i t turn other last → IsOneEntry frame other stop last
+  one_drawn i t turn frame other stop last may may_other = one_entry p well lim st reached apart f rule.fits i t turn frame other stop last may may_other

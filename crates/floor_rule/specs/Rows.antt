@@ -19,7 +19,7 @@ phase_at status.Enabled (Some u) = Waits u
 phase_at status.Done on = Done
 phase_at status.Faulted on = Faulted
 
--- the phase that the last entry of the task gives it, or, before its first entry, the one that it was made with
+-- what the phase word of a task with this row says while nobody has its turn
 abbrev pub phase_of : TaskRow → Phase
 phase_of row = phase_at row.status (awaited row.frame.next)
 

@@ -41,8 +41,7 @@ after_taking f i t turn = record f {
   held = put_turn f.held i t (Some turn);
 }
 
--- Seat i may give the turn of task t, first or taken: the phase word says what the last entry gave, and no segment of t is
--- open.
+-- Seat i may give the turn of task t, first or taken: the phase word is that of t's row, and no segment of t is open.
 pub record MayGive (f : Floor) (i t : ℕ) (turn : HeldTurn) : Type 0 where
   pub has : f.held i t ≡ Some turn
   pub phase : turn.phase ≡ phase_of turn.row
@@ -66,8 +65,8 @@ after_giving f i t turn = record f {
 
 -- Phases.
 
--- The phase that the seat with this turn may store: the one that the last entry gave; or, if that is a wait for a task that
--- the seat knows to be done, `Running`.
+-- The phase that the seat with this turn may store: the one of the task's row; or, if that is a wait for a task that the seat
+-- knows to be done, `Running`.
 abbrev pub IsPhaseFor : List DoneFact → HeldTurn → Phase → Type 0
 IsPhaseFor facts turn phase =
     (phase ≡ phase_of turn.row)

@@ -47,23 +47,24 @@ pub fn free_turns_can_be_taken()
         → (turn : HeldTurn) × (turn.first ≡ false) × (f.homes t ≡ Holds (slot_of turn.row)) × KeepsRule p lim log (after_taking f i t turn) }
 {}
 
-/// A seat that gives the turn of a task keeps the rule if the phase word says what the last entry gave, the slot gets the
-/// frame that the last entry left, and no segment of the task is open. If the task is done, the seat knows its value.
+/// A seat that gives the turn of a task keeps the rule if the phase word is that of the task's row, the slot gets the row's
+/// frame, and no segment of the task is open. If the task is done, the seat knows its value.
 pub fn giving_a_turn_keeps_the_rule()
     ensures { (p : Program) (lim : Bounds) (log : List NumberedEntry) (f : Floor) (i t : ℕ) (turn : HeldTurn) → IsWellFormed p
         → KeepsEffects p → KeepsRule p lim log f → MayGive f i t turn → KeepsRule p lim log (after_giving f i t turn) }
 {}
 
-/// A store to a phase word keeps the rule, if the seat has the task's turn and the phase is the one that the last entry gave,
-/// or `Running` once the awaited task is known to be done.
+/// A store to a phase word keeps the rule, if the seat has the task's turn and the phase is the one of the task's row, or
+/// `Running` once the awaited task is known to be done.
 pub fn storing_a_phase_keeps_the_rule()
     ensures { (p : Program) (lim : Bounds) (log : List NumberedEntry) (f : Floor) (i t : ℕ) (turn : HeldTurn) (phase : Phase)
         → IsWellFormed p → KeepsEffects p → KeepsRule p lim log f → MayStorePhase f i t turn phase
         → KeepsRule p lim log (after_phase f i t turn phase) }
 {}
 
-/// A phase word says the truth: a task that it says is done is done, one that it says waits waits for that task, and it says
-/// something only of a task that was made. A seat that finds `Done` knows the task's value from then on.
+/// A phase word says the truth. A task that it calls done is done, and one that it calls faulted has met a fault. If it says
+/// that a task waits for another, a wait for that one is the task's next operation. It says something only of a task that was
+/// made. A seat that finds `Done` knows the task's value from then on.
 pub fn phases_say_the_truth()
     ensures fits { (p : Program) (lim : Bounds) (log : List NumberedEntry) (f : Floor) (t : ℕ) → KeepsRule p lim log f
         → PhaseFits (state_after p lim (journal_of log)) t (f.phases t) }
@@ -103,6 +104,13 @@ pub fn entries_keep_the_rule()
     ensures { (p : Program) (lim : Bounds) (log : List NumberedEntry) (f : Floor) (i t : ℕ) (turn : HeldTurn) (frame : Frame)
         (stop : Stop) → IsWellFormed p → KeepsEffects p → KeepsRule p lim log f → MayCommit p f i t turn frame stop
         → KeepsRule p lim (log ++ entry_drawn lim f t frame stop ∷ []) (after_entry lim f i t turn frame stop) }
+{}
+
+/// What a seat may draw for a task is one entry: the segment leaves one frame, and stops in one way.
+pub fn a_seat_may_draw_one_entry()
+    ensures { (p : Program) (lim : Bounds) (log : List NumberedEntry) (f : Floor) (i t : ℕ) (turn : HeldTurn) (frame other : Frame)
+        (stop last : Stop) → IsWellFormed p → KeepsEffects p → KeepsRule p lim log f → MayCommit p f i t turn frame stop
+        → MayCommit p f i t turn other last → (frame ≡ other) × (stop ≡ last) }
 {}
 
 /// A new seat, which has no turn, keeps the rule.

@@ -10,10 +10,10 @@ mod laws;
 mod view;
 
 pub use laws::{
-    a_floor_starts_by_the_rule, done_frames_have_values, entries_keep_the_rule,
-    free_turns_can_be_taken, giving_a_turn_keeps_the_rule, joining_seats_keeps_the_rule,
-    loads_find_the_values_of_the_state, open_segments_stay_apart, phases_say_the_truth,
-    quiet_floors_show_the_state, segments_may_make_their_accesses, splitting_a_seat_keeps_the_rule,
-    stores_keep_the_rule, storing_a_phase_keeps_the_rule,
+    a_floor_starts_by_the_rule, a_seat_may_draw_one_entry, done_frames_have_values,
+    entries_keep_the_rule, free_turns_can_be_taken, giving_a_turn_keeps_the_rule,
+    joining_seats_keeps_the_rule, loads_find_the_values_of_the_state, open_segments_stay_apart,
+    phases_say_the_truth, quiet_floors_show_the_state, segments_may_make_their_accesses,
+    splitting_a_seat_keeps_the_rule, stores_keep_the_rule, storing_a_phase_keeps_the_rule,
 };
 pub use view::{DoneFact, HeldTurn, OpenSegment, Phase, TaskSlot, Touch};

@@ -30,14 +30,14 @@ use Rattle.floor_rule.specs.Fitting.{HomeFits, MayRunFrom}
 use Rattle.floor_rule.specs.Rule.{KeepsRule}
 use Rattle.floor_rule.specs.Steps.{MayCommit, after_entry, entry_drawn, first_turn, row_after, with_child, without_child}
 use Rattle.floor_rule.specs.Touches.{accesses_of, touches_of}
-use Rattle.floor_rule.proofs.Puts.{put_here}
-use Rattle.floor_rule.proofs.RuleSteps.{commit}
+use Rattle.floor_rule.proofs.Puts.{put_here, some_one}
+use Rattle.floor_rule.proofs.RuleSteps.{commit, one_drawn}
 use Rattle.floor_table.specs.declared.view.SeatKind.TheVariants.{Spent}
 use Rattle.floor_table.specs.declared.view.View.{View}
 use Rattle.floor_table.specs.FloorOf.{Table, facts_at, floor_of, home_at, part_at, segment_at, turns_at, worker_at}
 use Rattle.floor_table.specs.Holds.{TableKeeps}
 use Rattle.floor_table.specs.Layout.{asked_of_clock, cell_place, cells_from, clock_place, entries_of_clock, number_at}
-use Rattle.floor_table.specs.Tells.{DrewEntry, MayDraw, clock_step, drawn_seat, drawn_view, drawn_with, with_turn}
+use Rattle.floor_table.specs.Tells.{DrewEntry, DrewOne, IsLatest, MayDraw, Seat, clock_step, drawn_seat, drawn_view, drawn_with, with_turn}
 use Rattle.floor_table.proofs.Elements.{at_else, at_within, word_at}
 use Rattle.floor_table.proofs.Words.{cells_else, phases_kept, turns_kept}
 use Rattle.floor_table.proofs.Views.{seats_kept, seats_put}
@@ -271,7 +271,35 @@ module _ (p : Program) (lim : Bounds) (s : Table) (kept : TableKeeps p lim s) (i
       subst (Drawn mine stop) clock_is
       (drawing mine stop (commit p kept.well kept.keeps lim kept.log f kept.rule id t turn frame stop (may_commit mine stop may)))
 
+-- There is one entry to draw.
+module _ (p : Program) (lim : Bounds) (s : Table) (kept : TableKeeps p lim s) (id : ℕ) (v : View) (at : get_elem? s.views id ≡ core.some v) (live : v.kind ≢ Spent) where
+  same_seat : (me : Seat) (found t : ℕ) (turn other_turn : HeldTurn) (frame other : Frame) (stop last : Stop) → turn ≡ other_turn → frame ≡ other → stop ≡ last
+      → drawn_seat lim found me t turn frame stop ≡ drawn_seat lim found me t other_turn other last
+  same_seat me found t turn other_turn frame other stop last turns frames stops = λ k. drawn_seat lim found me t (turns k) (frames k) (stops k)
+
+  draws_one : (mine : List (ℕ × Option TaskSlot)) (t : ℕ) (turn : HeldTurn) (frame : Frame) (stop : Stop) (found : ℕ) (after : Seat) → IsLatest (v, mine) t → MayDraw p (v, mine) t turn frame stop
+      → DrewEntry lim (v, mine) t turn frame stop found after → DrewOne p lim (v, mine) found after
+  draws_one mine t turn frame stop found after latest may drew u other_turn other last latest_too may_too =
+      let heads : (t, latest.slot) ∷ latest.rest ≡ (u, latest_too.slot) ∷ latest_too.rest = sym latest.is ∙ latest_too.is in
+      let tasks : u ≡ t = first_of_heads t u latest.slot latest_too.slot latest.rest latest_too.rest heads in
+      let may_t : MayDraw p (v, mine) t other_turn other last = subst (λ (n : ℕ). MayDraw p (v, mine) n other_turn other last) tasks may_too in
+      let turns : turn ≡ other_turn = some_one (sym may.has ∙ may_t.has) in
+      let may_turn : MayDraw p (v, mine) t turn other last = subst (λ (h : HeldTurn). MayDraw p (v, mine) t h other last) (sym turns) may_t in
+      let one = one_drawn p kept.well kept.keeps lim kept.log (floor_of p s) kept.rule id t turn frame other stop last
+      (may_commit p lim s kept id v at live t turn frame mine stop may) (may_commit p lim s kept id v at live t turn other mine last may_turn) in
+      subst (λ (n : ℕ). DrewEntry lim (v, mine) n other_turn other last found after) (sym tasks)
+      (drew ∙ same_seat (v, mine) found t turn other_turn frame other stop last turns one.frames one.stops)
+    where
+      first_of_heads : (a b : ℕ) (x y : Option TaskSlot) (xs ys : List (ℕ × Option TaskSlot)) → (a, x) ∷ xs ≡ (b, y) ∷ ys → b ≡ a
+      first_of_heads a b x y xs ys same = sym (ap (head_task a) same)
+        where
+          head_task : ℕ → List (ℕ × Option TaskSlot) → ℕ
+          head_task d [] = d
+          head_task d (z ∷ zs) = z.0
+
 -- Drawing an entry.
-pub draw_allowed : (p : Program) (lim : Bounds) (id t : ℕ) (v : View) (mine : List (ℕ × Option TaskSlot)) (turn : HeldTurn) (frame : Frame) (stop : Stop) → v.kind ≢ Spent → MayDraw p (v, mine) t turn frame stop
-    → Allows (TableKeeps p lim) lim.tasks id (v, mine) clock_place (λ n. (n + clock_step stop) % 2 ^ 64) (DrewEntry lim (v, mine) t turn frame stop)
-draw_allowed p lim id t v mine turn frame stop live may s kept slots at small = draw_step p lim s kept id v at live t turn frame mine stop may
+pub draw_allowed : (p : Program) (lim : Bounds) (id t : ℕ) (v : View) (mine : List (ℕ × Option TaskSlot)) (turn : HeldTurn) (frame : Frame) (stop : Stop) → v.kind ≢ Spent → IsLatest (v, mine) t → MayDraw p (v, mine) t turn frame stop
+    → Allows (TableKeeps p lim) lim.tasks id (v, mine) clock_place (λ n. (n + clock_step stop) % 2 ^ 64) (DrewOne p lim (v, mine))
+draw_allowed p lim id t v mine turn frame stop live latest may s kept slots at small =
+    let step = draw_step p lim s kept id v at live t turn frame mine stop may in
+    (step.0, step.1, step.2, step.3, draws_one p lim s kept id v at live mine t turn frame stop (slice_index s.words clock_place) (step.0, carried_after mine step.1) latest may step.4)

@@ -16,3 +16,5 @@ pub mod Entries
 -- Starts and ends.
 pub mod Starts
 pub mod Ends
+-- The steps in the form in which the calls of the table ask for them.
+pub mod Calls

@@ -2,3 +2,4 @@ pub mod Layout
 pub mod FloorOf
 pub mod Holds
 pub mod Tells
+pub mod Plays

@@ -142,3 +142,15 @@ drawn_seat lim clock me t turn frame (stops.Fault kind place) = (drawn_view lim 
 
 abbrev pub DrewEntry : Bounds → Seat → ℕ → HeldTurn → Frame → Stop → ℕ → Seat → Type 0
 DrewEntry lim before t turn frame stop found after = after ≡ drawn_seat lim found before t turn frame stop
+
+-- the slot of task t is the latest that the seat has out
+pub record IsLatest (me : Seat) (t : ℕ) : Type 0 where
+  pub slot : Option TaskSlot
+  pub rest : List (ℕ × Option TaskSlot)
+  pub is : me.1 ≡ (t, slot) ∷ rest
+
+-- whatever entry the seat may draw of the task whose slot is its latest, it has drawn that one; there is one at most
+abbrev pub DrewOne : Program → Bounds → Seat → ℕ → Seat → Type 0
+DrewOne p lim before found after =
+    (t : ℕ) (turn : HeldTurn) (frame : Frame) (stop : Stop) → IsLatest before t → MayDraw p before t turn frame stop
+    → DrewEntry lim before t turn frame stop found after

@@ -1,9 +1,10 @@
 //! The steps of a seat. Each law is what `atomic_table` requires of a call: whatever the table is when the word changes, the
 //! seat can pick a view and move slots so that the rule of the floor holds afterwards. It also says what the step tells the
-//! seat. `v` is the seat's view and `mine` are the slots that it has out, the latest first.
+//! seat, in the words of the step's `Play` (`rule.rt`). `v` is the seat's view and `mine` are the slots that it has out, the latest first.
 ghost use Rattle.std.specs.Prelude.{◌≡◌, ◌≢◌, ◌+◌, ◌%◌, ◌^◌, ◌<◌, ◌==◌, ℕ, ℤ, List, Option};
 ghost use prog.Atomic.{either};
-ghost use Rattle.atomic_table.specs.Table.{Allows, Final, Joins, Seen, Splits, opening};
+ghost use Rattle.atomic_table.specs.Table.{Allows, Final, Joins, Seen, Splits, opening, step};
+ghost use mathlib.Core.Option.{none};
 ghost use Rattle.twe_limits.specs.Limits.{Bounds, IsWithin};
 ghost use Rattle.twe_program.specs.Program.{Program, cell_count};
 ghost use Rattle.twe_program.specs.WellFormed.{IsWellFormed};
@@ -23,8 +24,9 @@ ghost use Rattle.floor_table.specs.declared.view.SeatKind.TheVariants.{Main, Oth
 ghost use Rattle.floor_table.specs.declared.view.View.{View};
 ghost use Rattle.floor_table.specs.Holds.{Ended, HasGivenAll, IsLaidOut, TableKeeps, first_view, joined_view, left_view, right_view, spent_view};
 ghost use Rattle.floor_table.specs.Layout.{cell_place, clock_place, free_word, phase_place, taken_word, turn_place, value_of_word, word_of_phase};
-ghost use Rattle.floor_table.specs.Tells.{MayDraw, MayGiveTurn, MayStore, MayTouchCell, clock_step};
-ghost use Rattle.floor_table.specs.Tells.{DrewEntry, FoundPhase, GaveTurn, ReadCell, StoredPhase, TriedTurn, WroteCell};
+ghost use Rattle.floor_table.specs.Tells.{IsLatest, MayDraw, MayGiveTurn, MayStore, MayTouchCell, clock_step};
+ghost use Rattle.floor_table.specs.Tells.{DrewOne};
+ghost use Rattle.floor_table.specs.Plays.{GivesTurn, LoadsCell, LoadsPhase, StoresCell, StoresPhase, TriesTurn};
 
 /// A table may be opened whose words and slots show the state of a run. Its first seat has the entries of the run.
 pub fn a_table_may_be_opened()
@@ -40,7 +42,7 @@ pub fn a_turn_may_be_tried()
     ensures { (p : Program) (lim : Bounds) (id t : ℕ) (v : View) (mine : List (ℕ × Option TaskSlot)) → v.kind ≢ Spent
         → t < lim.tasks
         → Allows (TableKeeps p lim) lim.tasks id (v, mine) (turn_place p t) (λ n. either (n == free_word) (taken_word v.worker) n)
-        (TriedTurn (v, mine) t) }
+        (TriesTurn p (step lim.tasks (turn_place p t) free_word (taken_word v.worker) none) (v, mine)) }
 {}
 
 /// A seat may give a turn, by a store to the turn word, if the task's slot is the latest that it has out and holds what the
@@ -48,7 +50,8 @@ pub fn a_turn_may_be_tried()
 pub fn a_turn_may_be_given()
     ensures { (p : Program) (lim : Bounds) (id t : ℕ) (v : View) (mine rest : List (ℕ × Option TaskSlot)) (turn : HeldTurn)
         → v.kind ≢ Spent → t < lim.tasks → MayGiveTurn (v, mine) t turn rest
-        → Allows (TableKeeps p lim) lim.tasks id (v, mine) (turn_place p t) (λ n. free_word) (λ n. GaveTurn (v, mine) t turn rest) }
+        → Allows (TableKeeps p lim) lim.tasks id (v, mine) (turn_place p t) (λ n. free_word)
+        (λ n. GivesTurn p (step lim.tasks (turn_place p t) free_word 0 none) (v, mine) free_word) }
 {}
 
 /// A seat that has a turn may store a phase.
@@ -56,38 +59,42 @@ pub fn a_phase_may_be_stored()
     ensures { (p : Program) (lim : Bounds) (id t : ℕ) (v : View) (mine : List (ℕ × Option TaskSlot)) (turn : HeldTurn)
         (phase : Phase) → v.kind ≢ Spent → t < lim.tasks → MayStore (v, mine) t turn phase
         → Allows (TableKeeps p lim) lim.tasks id (v, mine) (phase_place p t) (λ n. word_of_phase phase)
-        (λ n. StoredPhase (v, mine) t turn phase) }
+        (λ n. StoresPhase p (step lim.tasks (phase_place p t) (word_of_phase phase) 0 none) (v, mine) (word_of_phase phase)) }
 {}
 
 /// A seat may load a phase. If it finds that the task is done, it knows the task's value.
 pub fn a_phase_may_be_loaded()
     ensures { (p : Program) (lim : Bounds) (id t : ℕ) (v : View) (mine : List (ℕ × Option TaskSlot)) → v.kind ≢ Spent
         → t < lim.tasks
-        → Allows (TableKeeps p lim) lim.tasks id (v, mine) (phase_place p t) (λ n. n) (FoundPhase (v, mine) t) }
+        → Allows (TableKeeps p lim) lim.tasks id (v, mine) (phase_place p t) (λ n. n)
+        (LoadsPhase p (step lim.tasks (phase_place p t) 0 0 none) (v, mine)) }
 {}
 
 /// A seat may load a cell that the segment of its task may read. The word fits 32 bits.
 pub fn a_cell_may_be_loaded()
     ensures { (p : Program) (lim : Bounds) (id t c : ℕ) (v : View) (mine : List (ℕ × Option TaskSlot)) (any : ℤ)
-        → v.kind ≢ Spent → c < cell_count p → MayTouchCell p (v, mine) t (Reads c any)
-        → Allows (TableKeeps p lim) lim.tasks id (v, mine) (cell_place c) (λ n. n) (ReadCell (v, mine) t c) }
+        → v.kind ≢ Spent → c < cell_count p → IsLatest (v, mine) t → MayTouchCell p (v, mine) t (Reads c any)
+        → Allows (TableKeeps p lim) lim.tasks id (v, mine) (cell_place c) (λ n. n)
+        (LoadsCell (step lim.tasks (cell_place c) 0 0 none) (v, mine)) }
 {}
 
 /// A seat may store a value to a cell that the segment of its task may write.
 pub fn a_cell_may_be_stored()
     ensures { (p : Program) (lim : Bounds) (id t c : ℕ) (v : View) (mine : List (ℕ × Option TaskSlot)) (x : ℕ) (value : ℤ)
-        → v.kind ≢ Spent → c < cell_count p → x < 2 ^ 32 → value_of_word x ≡ value
+        → v.kind ≢ Spent → c < cell_count p → x < 2 ^ 32 → value_of_word x ≡ value → IsLatest (v, mine) t
         → MayTouchCell p (v, mine) t (Writes c value)
-        → Allows (TableKeeps p lim) lim.tasks id (v, mine) (cell_place c) (λ n. x) (λ n. WroteCell (v, mine) t c value) }
+        → Allows (TableKeeps p lim) lim.tasks id (v, mine) (cell_place c) (λ n. x)
+        (λ n. StoresCell (step lim.tasks (cell_place c) x 0 none) (v, mine) x) }
 {}
 
-/// A seat may draw an entry, by a fetch-and-add on the clock, once it has carried out the segment of a task. What it finds
-/// gives the entry its number, and a task that is made its number. The clock never overflows.
+/// A seat may draw an entry, by a fetch-and-add on the clock, once it has carried out the segment of the task whose slot is
+/// the latest that it has out. What it finds gives the entry its number, and a task that is made its number. The clock never
+/// overflows.
 pub fn an_entry_may_be_drawn()
     ensures { (p : Program) (lim : Bounds) (id t : ℕ) (v : View) (mine : List (ℕ × Option TaskSlot)) (turn : HeldTurn)
-        (frame : Frame) (stop : Stop) → v.kind ≢ Spent → MayDraw p (v, mine) t turn frame stop
+        (frame : Frame) (stop : Stop) → v.kind ≢ Spent → IsLatest (v, mine) t → MayDraw p (v, mine) t turn frame stop
         → Allows (TableKeeps p lim) lim.tasks id (v, mine) clock_place (λ n. (n + clock_step stop) % 2 ^ 64)
-        (DrewEntry lim (v, mine) t turn frame stop) }
+        (DrewOne p lim (v, mine)) }
 {}
 
 /// A seat may be split off from the main one.

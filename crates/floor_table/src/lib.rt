@@ -12,5 +12,8 @@ pub use laws::{
     a_phase_may_be_loaded, a_phase_may_be_stored, a_seat_may_be_split, a_table_may_be_opened,
     a_turn_may_be_given, a_turn_may_be_tried, an_entry_may_be_drawn, seats_may_be_joined,
 };
-pub use rule::{BothSeats, FloorLaw, Named, NextSeat};
+pub use rule::{
+    BothSeats, DrawEntry, FloorLaw, GiveTurn, LoadCell, LoadPhase, Named, NextSeat, StoreCell,
+    StorePhase, TryTurn,
+};
 pub use view::{SeatKind, TurnChange, View};

@@ -1,8 +1,10 @@
 //! The rule of the floor, as a rule of its table.
+ghost use Rattle.floor_table.specs.Plays.{GivesTurn, LoadsCell, LoadsPhase, StoresCell, StoresPhase, TriesTurn};
+ghost use Rattle.floor_table.specs.Tells.{DrewOne};
 ghost use Rattle.floor_table.specs.Holds.{TableKeeps, first_view, joined_view, left_view, right_view, spent_view};
 
 use crate::view::View;
-use atomic_table::{Join, Split, TableRule};
+use atomic_table::{Join, Play, Split, TableRule};
 use floor_rule::TaskSlot;
 use journal_merge::Part;
 use std::marker::PhantomData;
@@ -47,4 +49,63 @@ impl Join<View> for BothSeats {
     ghost both = { joined_view };
 
     ghost spent = { spent_view };
+}
+
+/// A try to take a turn.
+pub struct TryTurn<N: Named> {
+    of: PhantomData<N>,
+}
+
+impl<N: Named> Play<Option<TaskSlot>, View> for TryTurn<N> {
+    ghost then = { TriesTurn N.prog };
+}
+
+/// A turn is given.
+pub struct GiveTurn<N: Named> {
+    of: PhantomData<N>,
+}
+
+impl<N: Named> Play<Option<TaskSlot>, View> for GiveTurn<N> {
+    ghost then = { GivesTurn N.prog };
+}
+
+/// A phase is stored.
+pub struct StorePhase<N: Named> {
+    of: PhantomData<N>,
+}
+
+impl<N: Named> Play<Option<TaskSlot>, View> for StorePhase<N> {
+    ghost then = { StoresPhase N.prog };
+}
+
+/// A phase is loaded.
+pub struct LoadPhase<N: Named> {
+    of: PhantomData<N>,
+}
+
+impl<N: Named> Play<Option<TaskSlot>, View> for LoadPhase<N> {
+    ghost then = { LoadsPhase N.prog };
+}
+
+/// A cell is loaded.
+pub struct LoadCell;
+
+impl Play<Option<TaskSlot>, View> for LoadCell {
+    ghost then = { LoadsCell };
+}
+
+/// A value is stored to a cell.
+pub struct StoreCell;
+
+impl Play<Option<TaskSlot>, View> for StoreCell {
+    ghost then = { StoresCell };
+}
+
+/// An entry is drawn.
+pub struct DrawEntry<N: Named> {
+    of: PhantomData<N>,
+}
+
+impl<N: Named> Play<Option<TaskSlot>, View> for DrawEntry<N> {
+    ghost then = { λ s. DrewOne N.prog N.lim };
 }

@@ -132,7 +132,7 @@ fn two_workers_run_segments_at_once(rt: HostRuntime) -> Result<(), Fail> {
     let words = ["run", "--workers", "2"];
     let status = call(&rt, rt.alloc(), &words, &mut src, &mut out, &mut err, &gate)?;
     assert_eq!(rt; status, 0);
-    assert_eq!(rt; out.bytes(), b"tasks 3\n");
+    assert_eq!(rt; out.bytes(), b"tasks 3\n".as_slice());
     assert!(rt; gate.met());
     Ok(())
 }

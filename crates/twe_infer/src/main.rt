@@ -3,6 +3,7 @@
 #![tactic(auto)]
 
 mod answer;
+mod laws;
 mod order;
 mod read;
 mod status;

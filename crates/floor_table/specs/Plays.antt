@@ -1,0 +1,36 @@
+-- What a step tells its seat, by its word, its operands and the seat before it. A seat touches cells for the task whose slot
+-- is the latest that it has out.
+use Rattle.std.specs.Prelude.{◌≡◌, ℕ, ℤ, List, Option}
+use Rattle.atomic_table.specs.Table.{Step}
+use Rattle.twe_program.specs.Program.{Program}
+use Rattle.floor_rule.specs.declared.view.HeldTurn.{HeldTurn}
+use Rattle.floor_rule.specs.declared.view.Phase.{Phase}
+use Rattle.floor_rule.specs.declared.view.TaskSlot.{TaskSlot}
+use Rattle.floor_table.specs.Layout.{cell_place, phase_place, turn_place, value_of_word, word_of_phase}
+use Rattle.floor_table.specs.Tells.{FoundPhase, GaveTurn, IsLatest, MayGiveTurn, MayStore, ReadCell, Seat, StoredPhase, TriedTurn, WroteCell}
+
+-- a step on a table of the floor
+abbrev pub FloorStep : Type 0
+FloorStep = Step (Option TaskSlot)
+
+abbrev pub TriesTurn : Program → FloorStep → Seat → ℕ → Seat → Type 0
+TriesTurn p s before found after = (t : ℕ) → s.word ≡ turn_place p t → TriedTurn before t found after
+
+abbrev pub GivesTurn : Program → FloorStep → Seat → ℕ → Seat → Type 0
+GivesTurn p s before found after =
+    (t : ℕ) (turn : HeldTurn) (rest : List (ℕ × Option TaskSlot)) → s.word ≡ turn_place p t → MayGiveTurn before t turn rest → GaveTurn before t turn rest after
+
+abbrev pub StoresPhase : Program → FloorStep → Seat → ℕ → Seat → Type 0
+StoresPhase p s before found after =
+    (t : ℕ) (turn : HeldTurn) (phase : Phase) → s.word ≡ phase_place p t → s.first ≡ word_of_phase phase → MayStore before t turn phase
+    → StoredPhase before t turn phase after
+
+abbrev pub LoadsPhase : Program → FloorStep → Seat → ℕ → Seat → Type 0
+LoadsPhase p s before found after = (t : ℕ) → s.word ≡ phase_place p t → FoundPhase before t found after
+
+abbrev pub LoadsCell : FloorStep → Seat → ℕ → Seat → Type 0
+LoadsCell s before found after = (t c : ℕ) → s.word ≡ cell_place c → IsLatest before t → ReadCell before t c found after
+
+abbrev pub StoresCell : FloorStep → Seat → ℕ → Seat → Type 0
+StoresCell s before found after =
+    (t c : ℕ) (value : ℤ) → s.word ≡ cell_place c → value_of_word s.first ≡ value → IsLatest before t → WroteCell before t c value after
