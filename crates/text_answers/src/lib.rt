@@ -14,7 +14,7 @@ mod status;
 pub use answer::Answer;
 pub use answering::{answer_input, answer_text, refuse};
 pub use book::Book;
-pub use input::{cut_at_mark, has_input};
+pub use input::{cut_at_mark, cut_input, has_input};
 pub use laws::{
     deterministic_mains_have_one_result_text, one_answer_without_workers, written_journals_replay,
 };
