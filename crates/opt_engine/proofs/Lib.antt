@@ -1,0 +1,5 @@
+pub mod Places
+pub mod Marks
+pub mod Sameness
+pub mod Touched
+pub mod Drafting

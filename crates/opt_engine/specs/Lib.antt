@@ -1,0 +1,3 @@
+pub mod Touches
+pub mod Drafts
+pub mod inner
