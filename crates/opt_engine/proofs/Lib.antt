@@ -3,3 +3,7 @@ pub mod Marks
 pub mod Sameness
 pub mod Touched
 pub mod Drafting
+pub mod Plain
+pub mod Nexts
+pub mod Changes
+pub mod Committed

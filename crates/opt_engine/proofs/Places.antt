@@ -1,5 +1,6 @@
 -- Places of a list after one of them was set, and facts on each item of a list.
 use Rattle.std.proofs.Common.{◌≡◌, ◌≢◌, ◌<◌, ℕ, zero, suc, Bool, true, false, List, [], ◌∷◌, ◌++◌, length, map, replicate, Option, None, Some, refl, sym, ap, ◌∙◌, subst, inl, inr, arith}
+use Rattle.std.specs.List.{All}
 use Rattle.std.specs.Prelude.{◌||◌, if◌then◌else◌, nat_eq, slice_get, slice_set}
 use Rattle.std.proofs.lemmas.Bool.{false≢true}
 use Rattle.std.proofs.lemmas.Bool.Decides.{eqb_tells}
@@ -89,3 +90,12 @@ each_map P f (x ∷ xs) each = (each.0, each_map P f xs each.1)
 pub map_same : {A B : Type 0} (f g : A → B) (xs : List A) → Each (λ x. f x ≡ g x) xs → map f xs ≡ map g xs
 map_same f g [] each = refl
 map_same f g (x ∷ xs) each = λ i. each.0 i ∷ map_same f g xs each.1 i
+
+pub all_each : {A : Type 0} (P : A → Type 0) (xs : List A) → All P xs → Each P xs
+all_each P [] all = tt
+all_each P (x ∷ xs) all = (all 0 x (omega arith), all_each P xs (λ k d lt. all (suc k) d (omega arith)))
+
+pub each_all : {A : Type 0} (P : A → Type 0) (xs : List A) → Each P xs → All P xs
+each_all P [] each k d lt = absurd (omega arith)
+each_all P (x ∷ xs) each zero d lt = each.0
+each_all P (x ∷ xs) each (suc k) d lt = each_all P xs each.1 k d (omega arith)

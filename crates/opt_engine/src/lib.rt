@@ -5,12 +5,19 @@
 //! needs nothing that other threads share. A core is a run to which such drafts are committed.
 #![tactic(auto)]
 
+mod committing;
+mod draft_core;
 mod drafts;
 mod frames;
+mod judging;
 mod notes;
+mod readiness;
 mod touch;
 mod touching;
+mod verdict;
 
+pub use draft_core::Core;
 pub use drafts::{Draft, Drafted, run_draft};
 pub use frames::{copy_frame, same_frame};
 pub use touch::{Touch, Touched};
+pub use verdict::Verdict;
