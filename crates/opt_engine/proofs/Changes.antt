@@ -17,9 +17,9 @@ change_found cells reads i read d change lt is stand changed = record {
   before = take i reads;
   after = drop (suc i) reads;
   split =
-  sym (take-append-drop i reads)
-  ∙ (ap (λ (l : List Touch). take i reads ++ l) (drop-cons reads i d lt)
-  ∙ ap (λ (r : Touch). take i reads ++ r ∷ drop (suc i) reads) (sym is ∙ (λ j. record { cell = sym changed.cell j; value = sym changed.was j })));
+      sym (take-append-drop i reads)
+      ∙ (ap (λ (l : List Touch). take i reads ++ l) (drop-cons reads i d lt)
+      ∙ ap (λ (r : Touch). take i reads ++ r ∷ drop (suc i) reads) (sym is ∙ (λ j. record { cell = sym changed.cell j; value = sym changed.was j })));
   stand = stand;
   is_now = changed.is_now;
   differs = changed.differs;

@@ -68,8 +68,8 @@ pub may_run : (p : Program) (draft : Draft) (t : Touching) → IsWellFormed p �
 may_run p draft t well is new frame =
     subst (λ (x : Touching). MayCarryOut p (ways_of touch_knows MayTouch MayTouch TouchFollows) frame x) (sym new)
     (λ cells. may_touch (fresh draft.cells) (segment p frame cells).accesses (length_marks (length draft.cells)) (may_carry_out p well draft.cells is.cells frame cells)) where
-  length_marks : (n : ℕ) → length (no_notes n).marks ≡ n
-  length_marks n = length-replicate n _
+      length_marks : (n : ℕ) → length (no_notes n).marks ≡ n
+      length_marks n = length-replicate n _
 
 -- what the run of a draft records
 pub ran_draft : (p : Program) (draft : Draft) (new_frame : Frame) (old new : Touching) (stop : Stop) → IsWellFormed p → IsDraftOf p draft → old ≡ fresh draft.cells

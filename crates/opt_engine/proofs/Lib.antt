@@ -7,3 +7,4 @@ pub mod Plain
 pub mod Nexts
 pub mod Changes
 pub mod Committed
+pub mod Told

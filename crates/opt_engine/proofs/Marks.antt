@@ -85,7 +85,7 @@ module _ (n : ℕ) (earlier : List Access) (cell : ℕ) (value : ℤ) (notes : N
   read_again m is touched kept = record {
     size = stands.size;
     marked = λ k lt. stands.marked k lt ∙ ap (λ (x : Mark). Some x) (same_place cell k (mark_of earlier k) (on_read (mark_of earlier k))
-    (λ same. let at = there k m is same in at ∙ (sym kept ∙ sym (ap on_read at))));
+        (λ same. let at = there k m is same in at ∙ (sym kept ∙ sym (ap on_read at))));
     reads = stands.reads ∙ sym (if_true (is_touched earlier cell) (first_reads earlier) (first_reads earlier ++ record { cell = cell; value = value } ∷ []) (touched_is earlier cell ∙ (ap is_mark is ∙ touched)));
     written = stands.written;
   }
@@ -94,9 +94,9 @@ module _ (n : ℕ) (earlier : List Access) (cell : ℕ) (value : ℤ) (notes : N
   read_first is = record {
     size = length-set notes.marks cell marks.Read ∙ stands.size;
     marked = λ k lt. set_place notes.marks cell k marks.Read (mark_of earlier k) (on_read (mark_of earlier k)) (stands.marked k lt)
-    (λ same. sym (ap on_read (there k marks.Untouched is same)));
+        (λ same. sym (ap on_read (there k marks.Untouched is same)));
     reads = ap (λ (l : List Touch). l ++ record { cell = cell; value = value } ∷ []) stands.reads
-    ∙ sym (if_false (is_touched earlier cell) (first_reads earlier) (first_reads earlier ++ record { cell = cell; value = value } ∷ []) (touched_is earlier cell ∙ ap is_mark is));
+        ∙ sym (if_false (is_touched earlier cell) (first_reads earlier) (first_reads earlier ++ record { cell = cell; value = value } ∷ []) (touched_is earlier cell ∙ ap is_mark is));
     written = stands.written;
   }
 
@@ -123,7 +123,7 @@ module _ (n : ℕ) (earlier : List Access) (cell : ℕ) (value : ℤ) (notes : N
     marked = λ k lt. set_place notes.marks cell k marks.Written (mark_of earlier k) marks.Written (stands.marked k lt) (λ same. refl);
     reads = stands.reads;
     written = ap (λ (l : List ℕ). l ++ cell ∷ []) stands.written
-    ∙ sym (if_false (is_some (last_written earlier cell)) (written_cells earlier) (written_cells earlier ++ cell ∷ []) (written_is earlier cell ∙ (ap is_written is ∙ unwritten)));
+        ∙ sym (if_false (is_some (last_written earlier cell)) (written_cells earlier) (written_cells earlier ++ cell ∷ []) (written_is earlier cell ∙ (ap is_written is ∙ unwritten)));
   }
 
   write_by : (m : Mark) → mark_of earlier cell ≡ m → NotesStand n (Writes cell value ∷ earlier) (write_by_mark (Some m) cell notes)

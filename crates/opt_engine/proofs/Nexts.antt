@@ -40,12 +40,11 @@ pub next_decided : (p : Program) (lim : Bounds) (st : State) (d : Drafted) (row 
     → IsTrue same ↔ IsNext st d
 next_decided p lim st d row copy same reached drafted ready there copied says =
     let next = ready_frame st.tasks row.frame in
-    let plain : next ≡ unreserved next = plainly_ready p lim st d.task row reached there (ready_well st d.task row ready there) in
-    (
+    let plain : next ≡ unreserved next = plainly_ready p lim st d.task row reached there (ready_well st d.task row ready there) in (
       λ yes. (ready, (row, there, before_plain p d drafted ∙ (says.0 yes ∙ (ap unreserved copied ∙ sym plain)))),
       λ is.
-      let own : is.1.0 ≡ row = got_one (slice_get st.tasks d.task) is.1.1 there in
-      says.1 (ap unreserved (is.1.2 ∙ ap (λ (r : TaskRow). ready_frame st.tasks r.frame) own) ∙ sym (ap unreserved copied)),
+          let own : is.1.0 ≡ row = got_one (slice_get st.tasks d.task) is.1.1 there in
+          says.1 (ap unreserved (is.1.2 ∙ ap (λ (r : TaskRow). ready_frame st.tasks r.frame) own) ∙ sym (ap unreserved copied)),
     )
 
 -- copies of the cells and of the frame that the next segment of a ready task begins with are a draft of it

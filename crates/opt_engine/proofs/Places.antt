@@ -34,10 +34,10 @@ pub set_place : {A : Type 0} (xs : List A) (c k : ℕ) (x y z : A) → slice_get
 set_place {A} xs c k x y z here own =
     elim (eqb_tells c k) [
       | inl same ↦ (
-        let there : slice_get xs c ≡ Some y = subst (λ (n : ℕ). slice_get xs n ≡ Some y) (sym same.1) here in
-        let set : slice_get (slice_set xs c x) k ≡ Some x = subst (λ (n : ℕ). slice_get (slice_set xs c x) n ≡ Some x) same.1 (set_same xs c y x there) in
-        set ∙ (ap (λ (a : A). Some a) (own same.1) ∙ ap (λ (a : A). Some a) (sym (if_true (nat_eq c k) z y same.0)))
-      )
+          let there : slice_get xs c ≡ Some y = subst (λ (n : ℕ). slice_get xs n ≡ Some y) (sym same.1) here in
+          let set : slice_get (slice_set xs c x) k ≡ Some x = subst (λ (n : ℕ). slice_get (slice_set xs c x) n ≡ Some x) same.1 (set_same xs c y x there) in
+          set ∙ (ap (λ (a : A). Some a) (own same.1) ∙ ap (λ (a : A). Some a) (sym (if_true (nat_eq c k) z y same.0)))
+          )
       | inr other ↦ set_other xs c k x (λ e. other.1 (sym e)) ∙ (here ∙ ap (λ (a : A). Some a) (sym (if_false (nat_eq c k) z y other.0)))
     ]
 

@@ -44,10 +44,10 @@ after_get cells (Writes cell value ∷ earlier) k lt =
     let long = length_after cells earlier in
     elim (eqb_tells cell k) [
       | inl same ↦ (
-        let own : slice_get (slice_set now cell value) k ≡ Some value =
-        subst (λ (n : ℕ). slice_get (slice_set now n value) k ≡ Some value) (sym same.1) (set_there now k value (omega arith)) in
-        own ∙ last_or_chosen (nat_eq cell k) value (last_written earlier k) (slice_get cells k) same.0
-      )
+          let own : slice_get (slice_set now cell value) k ≡ Some value =
+          subst (λ (n : ℕ). slice_get (slice_set now n value) k ≡ Some value) (sym same.1) (set_there now k value (omega arith)) in
+          own ∙ last_or_chosen (nat_eq cell k) value (last_written earlier k) (slice_get cells k) same.0
+          )
       | inr other ↦ set_other now cell k value (λ e. other.1 (sym e)) ∙ (after_get cells earlier k lt ∙ last_or_not (nat_eq cell k) value (last_written earlier k) (slice_get cells k) other.0)
     ]
 after_get cells (Prints value ∷ earlier) k lt = after_get cells earlier k lt
@@ -74,11 +74,11 @@ written_each cells (Writes cell value ∷ earlier) may =
     (each_weaker (IsWrittenOf (length cells) earlier) (IsWrittenOf (length cells) (Writes cell value ∷ earlier)) (written_cells earlier)
     (λ k is. (some_by (nat_eq cell k) value (last_written earlier k) is.0, is.1)) (written_each cells earlier may.1))
     (is_some (last_written earlier cell)) where
-  by : Each (IsWrittenOf (length cells) (Writes cell value ∷ earlier)) (written_cells earlier)
-      → (b : Bool) → Each (IsWrittenOf (length cells) (Writes cell value ∷ earlier)) (if b then written_cells earlier else written_cells earlier ++ cell ∷ [])
-  by kept true = kept
-  by kept false = each_push (IsWrittenOf (length cells) (Writes cell value ∷ earlier)) (written_cells earlier) cell kept
-      (elim (eqb_tells cell cell) [ inl same ↦ some_own (nat_eq cell cell) value (last_written earlier cell) same.0 | inr other ↦ absurd (other.1 refl) ], may.0)
+      by : Each (IsWrittenOf (length cells) (Writes cell value ∷ earlier)) (written_cells earlier)
+          → (b : Bool) → Each (IsWrittenOf (length cells) (Writes cell value ∷ earlier)) (if b then written_cells earlier else written_cells earlier ++ cell ∷ [])
+      by kept true = kept
+      by kept false = each_push (IsWrittenOf (length cells) (Writes cell value ∷ earlier)) (written_cells earlier) cell kept
+          (elim (eqb_tells cell cell) [ inl same ↦ some_own (nat_eq cell cell) value (last_written earlier cell) same.0 | inr other ↦ absurd (other.1 refl) ], may.0)
 written_each cells (Prints value ∷ earlier) may = written_each cells earlier may
 
 last_or_some : (written before : Option ℤ) → is_some written ≡ true → value_in (last_or written before) ≡ value_in written
@@ -132,9 +132,9 @@ has_written (Writes cell value ∷ earlier) k = by (has_written earlier k) (is_s
   by before true was =
       elim (eqb_tells cell k) [
         | inl same ↦ (
-          let at : is_some (last_written earlier k) ≡ true = subst (λ (n : ℕ). is_some (last_written earlier n) ≡ true) same.1 was in
-          before ∙ (at ∙ sym (some_own (nat_eq cell k) value (last_written earlier k) same.0))
-        )
+            let at : is_some (last_written earlier k) ≡ true = subst (λ (n : ℕ). is_some (last_written earlier n) ≡ true) same.1 was in
+            before ∙ (at ∙ sym (some_own (nat_eq cell k) value (last_written earlier k) same.0))
+            )
         | inr other ↦ before ∙ sym (ap (λ (o : Option ℤ). is_some o) (if_false (nat_eq cell k) (Some value) (last_written earlier k) other.0))
       ]
   by before false was =
@@ -142,10 +142,10 @@ has_written (Writes cell value ∷ earlier) k = by (has_written earlier k) (is_s
       ∙ elim (eqb_tells cell k) [
         | inl same ↦ ap (λ (b : Bool). has (written_cells earlier) k || b) same.0 ∙ (or_true (has (written_cells earlier) k) ∙ sym (some_own (nat_eq cell k) value (last_written earlier k) same.0))
         | inr other ↦ (
-          ap (λ (b : Bool). has (written_cells earlier) k || b) other.0
-          ∙ (or_false (has (written_cells earlier) k)
-          ∙ (before ∙ sym (ap (λ (o : Option ℤ). is_some o) (if_false (nat_eq cell k) (Some value) (last_written earlier k) other.0))))
-        )
+            ap (λ (b : Bool). has (written_cells earlier) k || b) other.0
+            ∙ (or_false (has (written_cells earlier) k)
+            ∙ (before ∙ sym (ap (λ (o : Option ℤ). is_some o) (if_false (nat_eq cell k) (Some value) (last_written earlier k) other.0))))
+            )
       ]
 has_written (Prints value ∷ earlier) k = has_written earlier k
 
@@ -167,14 +167,14 @@ written_get g cells (x ∷ xs) k lt =
     let later = written_get g now xs k (omega arith) in
     elim (eqb_tells x k) [
       | inl same ↦ (
-        let own : slice_get now k ≡ Some (g k) = subst (λ (n : ℕ). slice_get (slice_set cells n (g n)) k ≡ Some (g k)) (sym same.1) (set_there cells k (g k) lt) in
-        later ∙ (both_same (has xs k) (Some (g k)) (slice_get now k) own
-        ∙ sym (if_true (nat_eq x k || has xs k) (Some (g k)) (slice_get cells k) (ap (λ (b : Bool). b || has xs k) same.0)))
-      )
+          let own : slice_get now k ≡ Some (g k) = subst (λ (n : ℕ). slice_get (slice_set cells n (g n)) k ≡ Some (g k)) (sym same.1) (set_there cells k (g k) lt) in
+          later ∙ (both_same (has xs k) (Some (g k)) (slice_get now k) own
+          ∙ sym (if_true (nat_eq x k || has xs k) (Some (g k)) (slice_get cells k) (ap (λ (b : Bool). b || has xs k) same.0)))
+          )
       | inr other ↦ (
-        later ∙ (ap (λ (o : Option ℤ). if has xs k then Some (g k) else o) (set_other cells x k (g x) (λ e. other.1 (sym e)))
-        ∙ sym (ap (λ (b : Bool). if (b || has xs k) then Some (g k) else slice_get cells k) other.0))
-      )
+          later ∙ (ap (λ (o : Option ℤ). if has xs k then Some (g k) else o) (set_other cells x k (g x) (λ e. other.1 (sym e)))
+          ∙ sym (ap (λ (b : Bool). if (b || has xs k) then Some (g k) else slice_get cells k) other.0))
+          )
     ]
 
 pub writes_make : (cells : List ℤ) (accesses : List Access) → with_writes cells (last_writes accesses) ≡ after cells accesses
@@ -215,10 +215,10 @@ module _ (cells other : List ℤ) (long : length other ≡ length cells) where
     same k lt touched =
         elim (or_cases (nat_eq cell k) (is_touched earlier k) touched) [
           | inl own ↦ (
-            let size = length_after cells earlier in
-            let own_value : slice_get (after cells earlier) cell ≡ Some value = has_value (after cells earlier) cell value (omega arith) gave in
-            subst (λ (n : ℕ). slice_get (after other earlier) n ≡ slice_get (after cells earlier) n) (eqb-true cell k own) (is ∙ sym own_value)
-          )
+              let size = length_after cells earlier in
+              let own_value : slice_get (after cells earlier) cell ≡ Some value = has_value (after cells earlier) cell value (omega arith) gave in
+              subst (λ (n : ℕ). slice_get (after other earlier) n ≡ slice_get (after cells earlier) n) (eqb-true cell k own) (is ∙ sym own_value)
+              )
           | inr older ↦ before.1 k lt older
         ]
 
@@ -240,21 +240,21 @@ module _ (cells other : List ℤ) (long : length other ≡ length cells) where
         (after_get other earlier cell below ∙ (ap (λ (o : Option ℤ). last_or o (slice_get other cell)) (untouched_unwritten earlier cell untouched) ∙ parts.1))
   agrees_too (Writes cell value ∷ earlier) agrees may stands =
       let before = agrees_too earlier agrees may.1 stands in (before.0, same before) where
-    same : AgreesToo cells other earlier → (k : ℕ) → k < length cells → (nat_eq cell k || is_touched earlier k) ≡ true
-        → slice_get (slice_set (after other earlier) cell value) k ≡ slice_get (slice_set (after cells earlier) cell value) k
-    same before k lt touched =
-        let size = length_after cells earlier in
-        let other_size = length_after other earlier in
-        elim (eqb_tells cell k) [
-          | inl own ↦ (
-            let here : slice_get (slice_set (after other earlier) k value) k ≡ slice_get (slice_set (after cells earlier) k value) k =
-            set_there (after other earlier) k value (omega arith) ∙ sym (set_there (after cells earlier) k value (omega arith)) in
-            subst (λ (n : ℕ). slice_get (slice_set (after other earlier) n value) k ≡ slice_get (slice_set (after cells earlier) n value) k) (sym own.1) here
-          )
-          | inr another ↦ (
-            let older : is_touched earlier k ≡ true = sym (ap (λ (b : Bool). b || is_touched earlier k) another.0) ∙ touched in
-            set_other (after other earlier) cell k value (λ e. another.1 (sym e))
-            ∙ (before.1 k lt older ∙ sym (set_other (after cells earlier) cell k value (λ e. another.1 (sym e))))
-          )
-        ]
+        same : AgreesToo cells other earlier → (k : ℕ) → k < length cells → (nat_eq cell k || is_touched earlier k) ≡ true
+            → slice_get (slice_set (after other earlier) cell value) k ≡ slice_get (slice_set (after cells earlier) cell value) k
+        same before k lt touched =
+            let size = length_after cells earlier in
+            let other_size = length_after other earlier in
+            elim (eqb_tells cell k) [
+              | inl own ↦ (
+                  let here : slice_get (slice_set (after other earlier) k value) k ≡ slice_get (slice_set (after cells earlier) k value) k =
+                  set_there (after other earlier) k value (omega arith) ∙ sym (set_there (after cells earlier) k value (omega arith)) in
+                  subst (λ (n : ℕ). slice_get (slice_set (after other earlier) n value) k ≡ slice_get (slice_set (after cells earlier) n value) k) (sym own.1) here
+                  )
+              | inr another ↦ (
+                  let older : is_touched earlier k ≡ true = sym (ap (λ (b : Bool). b || is_touched earlier k) another.0) ∙ touched in
+                  set_other (after other earlier) cell k value (λ e. another.1 (sym e))
+                  ∙ (before.1 k lt older ∙ sym (set_other (after cells earlier) cell k value (λ e. another.1 (sym e))))
+                  )
+            ]
   agrees_too (Prints value ∷ earlier) agrees may stands = agrees_too earlier agrees may stands

@@ -44,13 +44,7 @@ pub(crate) fn take_moves(
 }
 
 /// Admits a task if it waits for its admission.
-fn admit_if_made(
-    alloc: Global,
-    p: &Prog,
-    lim: Limits,
-    run: &mut Run,
-    t: u32,
-) -> Result<(), Memory>
+fn admit_if_made(alloc: Global, p: &Prog, lim: Limits, run: &mut Run, t: u32) -> Result<(), Memory>
     requires run { IsRun p.now lim run.old.journal run.old.state }
     requires free { IsFree run.old.state t }
     ensures { OnOk result (Admits p.now lim run.old t run.new) }
@@ -92,7 +86,10 @@ fn enter(alloc: Global, p: &Prog, lim: Limits, run: &mut Run, d: Drafted) -> Res
     };
     make_writes(&mut run.state.cells, d.writes.as_slice());
     let Drafted {
-        task, after, stop, ..
+        task,
+        after,
+        stop,
+        ..
     } = d;
     let end = settle(alloc, lim, &mut run.state, task, after, stop)?;
     run.journal.push(Entry { mv, end })?;

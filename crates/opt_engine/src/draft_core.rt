@@ -4,9 +4,8 @@ ghost use Rattle.twe_machine.specs.Moves.{start_of};
 ghost use Rattle.opt_engine.specs.Drafts.{BeginsWith, IsDraftOf, IsDraftedOf, IsReady};
 ghost use Rattle.opt_engine.specs.Verdicts.{Answers, Drafts};
 
-use crate::committing::take_moves;
+use crate::answering::answer;
 use crate::drafts::{Draft, Drafted};
-use crate::judging::{Finding, judge};
 use crate::readiness::draft_of;
 use crate::verdict::Verdict;
 use std::alloc::{AllocError, Global};
@@ -73,29 +72,9 @@ impl<N: Named> Core<N> {
         ensures err { OnErr result (self.new ≡ None) }
     {
         let run = self.run.take().ok_or(lost())?;
-        match judge(self.alloc, p, &run.state, &d)? {
-            Finding::Fits => {
-                let (after, number) = take_moves(self.alloc, p, self.lim, run, d)?;
-                self.run = Some(after);
-                Ok(Verdict::Committed { number })
-            }
-            Finding::Passed => {
-                self.run = Some(run);
-                Ok(Verdict::Passed)
-            }
-            Finding::Held(by) => {
-                self.run = Some(run);
-                Ok(Verdict::Held { by, draft: d })
-            }
-            Finding::Changed(change) => {
-                self.run = Some(run);
-                Ok(Verdict::Changed {
-                    cell: change.cell,
-                    read: change.read,
-                    now: change.now,
-                })
-            }
-        }
+        let (after, verdict) = answer(self.alloc, p, self.lim, run, d)?;
+        self.run = Some(after);
+        Ok(verdict)
     }
 }
 

@@ -5,6 +5,7 @@
 //! needs nothing that other threads share. A core is a run to which such drafts are committed.
 #![tactic(auto)]
 
+mod answering;
 mod committing;
 mod draft_core;
 mod drafts;

@@ -58,12 +58,7 @@ pub(crate) fn ready_copy(
 }
 
 /// A draft of the next segment of a task in a reached state; none if the task is not ready.
-pub(crate) fn draft_of(
-    alloc: Global,
-    p: &Prog,
-    st: &State,
-    t: u32,
-) -> Result<Option<Draft>, Memory>
+pub(crate) fn draft_of(alloc: Global, p: &Prog, st: &State, t: u32) -> Result<Option<Draft>, Memory>
     requires { (lim : Bounds) × IsReached p.now lim st.now }
     ensures { IfOk result (IsDraftAt p.now st.now t) }
 {
