@@ -25,4 +25,6 @@ mod worker;
 pub use crew::{Crew, Quietly};
 pub use gate::{FreeGate, Gate};
 pub use meet_gate::MeetGate;
+pub use named_run::Named;
 pub use rounds::run_in_rounds;
+pub use run::Run;

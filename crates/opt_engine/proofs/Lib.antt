@@ -1,0 +1,10 @@
+pub mod Places
+pub mod Marks
+pub mod Sameness
+pub mod Touched
+pub mod Drafting
+pub mod Plain
+pub mod Nexts
+pub mod Changes
+pub mod Committed
+pub mod Told

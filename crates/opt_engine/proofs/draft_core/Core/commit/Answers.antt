@@ -1,0 +1,10 @@
+use Rattle.std.proofs.Common.{◌≡◌, sym, ap, ◌∙◌, subst}
+use Rattle.opt_engine.proofs.Told.{answer_kept}
+use Rattle.opt_engine.proofs.draft_core.Core.commit.Goals as goal
+
+-- the core answers as its run does
+pub returns-clause-ok : goal.returns-clause-ok
+returns-clause-ok g c =
+    let core = c.self.inside in
+    answer_kept c.args.p.now g.N.Named.prog core.lim g.N.Named.lim g.N.Named.earlier c.args.self.now core.run c.in_ok-run.run' c.in_ok-after.after c.args.d c.in_ok-after.verdict
+    c.requires.named c.self.invariant.0 (sym c.take.ensures.value ∙ c.in_ok-run.ensures.ok_part) c.self.view_is c.self.invariant.1 c.in_ok-after.ensures.judges

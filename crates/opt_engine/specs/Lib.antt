@@ -1,0 +1,4 @@
+pub mod Touches
+pub mod Drafts
+pub mod Verdicts
+pub mod inner

@@ -1,0 +1,47 @@
+-- What is found of a draft.
+use Rattle.std.specs.Prelude.{◌≡◌, ◌≢◌, ◌⊎◌, ℕ, ℤ, List, [], ◌∷◌, ◌++◌, Some, slice_get}
+use Rattle.seg_journal.specs.declared.moves.Kind.TheVariants.{Admit}
+use Rattle.twe_machine.specs.declared.legal.Why.TheVariants.{HeldBy}
+use Rattle.twe_machine.specs.declared.state.State.{State}
+use Rattle.twe_machine.specs.declared.state.TaskStatus.TheVariants.{Made}
+use Rattle.twe_machine.specs.Legal.{Forbids}
+use Rattle.twe_machine.specs.Rows.{HasStatus}
+use Rattle.seg_journal.specs.declared.moves.Move.{Move}
+use Rattle.twe_limits.specs.Limits.{Bounds}
+use Rattle.twe_program.specs.Program.{Program}
+use Rattle.twe_machine.specs.Moves.{move_result}
+use Rattle.twe_machine.specs.Runs.{IsRun, entry_of}
+use Rattle.twe_rounds.specs.declared.run.Run.{Run}
+use Rattle.opt_engine.specs.declared.touch.Touch.{Touch}
+use Rattle.opt_engine.specs.declared.drafts.Drafted.{Drafted}
+use Rattle.opt_engine.specs.declared.judging.Change.{Change}
+use Rattle.opt_engine.specs.declared.judging.Finding.{Finding}
+use Rattle.opt_engine.specs.declared.judging.Finding.TheVariants as findings
+use Rattle.opt_engine.specs.Drafts.{Fits, IsNext}
+use Rattle.opt_engine.specs.Verdicts.{IsFirstChange, IsFree}
+
+-- the cell of this read has another value now
+pub record HasChanged (cells : List ℤ) (read : Touch) (change : Change) : Type 0 where
+  pub cell : change.cell ≡ read.cell
+  pub was : change.read ≡ read.value
+  pub is_now : slice_get cells change.cell ≡ Some change.now
+  pub differs : change.now ≢ change.read
+
+abbrev pub IsChange : List ℤ → List Touch → Change → Type 0
+IsChange cells reads change = IsFirstChange cells reads change.cell change.read change.now
+
+abbrev pub Finds : State → Drafted → Finding → Type 0
+Finds st d findings.Fits = Fits st d × IsFree st d.task
+Finds st d findings.Passed = ¬ IsNext st d
+Finds st d (findings.Held by) = IsNext st d × Forbids st Admit d.task (HeldBy by)
+Finds st d (findings.Changed change) = IsNext st d × IsFree st d.task × IsChange st.cells d.reads change
+
+-- the run took this move
+pub record Steps (p : Program) (lim : Bounds) (old : Run) (mv : Move) (new : Run) : Type 0 where
+  pub run_is : IsRun p lim new.journal new.state
+  pub journal : new.journal ≡ old.journal ++ entry_of p lim old.state mv ∷ []
+  pub state : new.state ≡ (move_result p lim old.state mv).0
+
+-- the admission of a task that waits for it was taken; otherwise the run is as before
+abbrev pub Admits : Program → Bounds → Run → ℕ → Run → Type 0
+Admits p lim old t new = (HasStatus old.state t Made × Steps p lim old (record { kind = Admit; task = t }) new) ⊎ (¬ HasStatus old.state t Made × (new ≡ old))

@@ -1,0 +1,49 @@
+//! What a run answers to a draft.
+ghost use Rattle.std.specs.Prelude.{IfOk, Some};
+ghost use mathlib.Core.List.{IsPrefix};
+ghost use Rattle.twe_machine.specs.Runs.{IsRun};
+ghost use Rattle.opt_engine.specs.Drafts.{IsDraftedOf};
+ghost use Rattle.opt_engine.specs.Verdicts.{Judges};
+
+use crate::committing::take_moves;
+use crate::drafts::Drafted;
+use crate::judging::{Finding, judge};
+use crate::verdict::Verdict;
+use std::alloc::Global;
+use twe_io::Memory;
+use twe_limits::Limits;
+use twe_program::Prog;
+use twe_rounds::Run;
+
+/// Takes the moves that a draft stands for, if it fits and they are legal, and else says why not. Then the run is as before.
+#[tactic(auto, using(crate::proofs::Told::takes_begin, crate::proofs::Told::begins_itself, crate::proofs::Told::reached_of))]
+pub(crate) fn answer(
+    alloc: Global,
+    p: &Prog,
+    lim: Limits,
+    run: Run,
+    d: Drafted,
+) -> Result<(Run, Verdict), Memory>
+    requires run { IsRun p.now lim run.journal run.state }
+    requires drafted { IsDraftedOf p.now d }
+    ensures run { IfOk result (λ told. IsRun p.now lim told.0.journal told.0.state) }
+    ensures judges { IfOk result (λ told. Judges p.now lim run d told.1 (Some told.0)) }
+    ensures begins { IfOk result (λ told. IsPrefix run.journal told.0.journal) }
+{
+    match judge(alloc, p, &run.state, &d)? {
+        Finding::Fits => {
+            let (after, number) = take_moves(alloc, p, lim, run, d)?;
+            Ok((after, Verdict::Committed { number }))
+        }
+        Finding::Passed => Ok((run, Verdict::Passed)),
+        Finding::Held(by) => Ok((run, Verdict::Held { by, draft: d })),
+        Finding::Changed(change) => Ok((
+            run,
+            Verdict::Changed {
+                cell: change.cell,
+                read: change.read,
+                now: change.now,
+            },
+        )),
+    }
+}

@@ -1,0 +1,115 @@
+//! Taking the moves that a draft stands for.
+ghost use Rattle.std.specs.Prelude.{◌≡◌, ◌<◌, IfOk, OnOk, length, slice_set};
+ghost use Rattle.std.specs.List.{All};
+ghost use Rattle.twe_machine.specs.Legal.{MayAdmit, MayRun};
+ghost use Rattle.twe_machine.specs.Runs.{IsRun};
+ghost use Rattle.opt_engine.specs.Drafts.{Fits, IsDraftedOf};
+ghost use Rattle.opt_engine.specs.Touches.{with_writes};
+ghost use Rattle.opt_engine.specs.Verdicts.{IsFree, Takes};
+ghost use Rattle.opt_engine.specs.inner.Judging.{Admits, Steps};
+
+use crate::drafts::Drafted;
+use crate::readiness::is_made;
+use crate::touch::Touch;
+use seg_journal::{Entry, Kind, Move};
+use std::alloc::Global;
+use twe_io::{Ints, Memory};
+use twe_limits::Limits;
+use twe_machine::{settle, step};
+use twe_program::Prog;
+use twe_rounds::Run;
+
+/// Takes the moves of a draft that fits and whose task may be admitted if it waits for that. Returns the run and the number
+/// of the last entry, counted from 0.
+pub(crate) fn take_moves(
+    alloc: Global,
+    p: &Prog,
+    lim: Limits,
+    run: Run,
+    d: Drafted,
+) -> Result<(Run, u64), Memory>
+    requires run { IsRun p.now lim run.journal run.state }
+    requires drafted { IsDraftedOf p.now d }
+    requires fits { Fits run.state d }
+    requires free { IsFree run.state d.task }
+    ensures run { IfOk result (λ took. IsRun p.now lim took.0.journal took.0.state) }
+    ensures takes { IfOk result (λ took. Takes p.now lim run d took.1 took.0) }
+{
+    let _main = p.main;
+    let mut run = run;
+    admit_if_made(alloc, p, lim, &mut run, d.task)?;
+    enter(alloc, p, lim, &mut run, d)?;
+    let number = run.journal.len().saturating_sub(1) as u64;
+    Ok((run, number))
+}
+
+/// Admits a task if it waits for its admission.
+fn admit_if_made(alloc: Global, p: &Prog, lim: Limits, run: &mut Run, t: u32) -> Result<(), Memory>
+    requires run { IsRun p.now lim run.old.journal run.old.state }
+    requires free { IsFree run.old.state t }
+    ensures { OnOk result (Admits p.now lim run.old t run.new) }
+{
+    if !is_made(&run.state, t) {
+        return Ok(());
+    }
+    admit(alloc, p, lim, run, t)
+}
+
+/// Admits a task that may be admitted.
+fn admit(alloc: Global, p: &Prog, lim: Limits, run: &mut Run, t: u32) -> Result<(), Memory>
+    requires run { IsRun p.now lim run.old.journal run.old.state }
+    requires may { MayAdmit run.old.state t }
+    ensures { OnOk result (Steps p.now lim run.old (record { kind = Kind.Admit; task = t }) run.new) }
+{
+    let mv = Move {
+        kind: Kind::Admit,
+        task: t,
+    };
+    let end = step(alloc, p, lim, &mut run.state, mv)?;
+    run.journal.push(Entry { mv, end })?;
+    Ok(())
+}
+
+/// Enters the segment of a draft that fits, whose task may run.
+fn enter(alloc: Global, p: &Prog, lim: Limits, run: &mut Run, d: Drafted) -> Result<(), Memory>
+    requires run { IsRun p.now lim run.old.journal run.old.state }
+    requires drafted { IsDraftedOf p.now d }
+    requires fits { Fits run.old.state d }
+    requires may { MayRun run.old.state d.task }
+    ensures { OnOk result (Steps p.now lim run.old (record { kind = Kind.Run; task = d.task }) run.new) }
+{
+    let _main = p.main;
+    let _tasks = lim.tasks;
+    let mv = Move {
+        kind: Kind::Run,
+        task: d.task,
+    };
+    make_writes(&mut run.state.cells, d.writes.as_slice());
+    let Drafted {
+        task,
+        after,
+        stop,
+        ..
+    } = d;
+    let end = settle(alloc, lim, &mut run.state, task, after, stop)?;
+    run.journal.push(Entry { mv, end })?;
+    Ok(())
+}
+
+/// Gives each written cell its value.
+fn make_writes(cells: &mut Ints, writes: &[Touch])
+    requires { All (λ w. w.cell < length cells.old) writes.now }
+    ensures { cells.new ≡ with_writes cells.old writes.now }
+{
+    for w in writes {
+        make_write(cells, *w);
+    }
+}
+
+/// Gives a written cell its value.
+fn make_write(cells: &mut Ints, w: Touch)
+    requires { w.cell < length cells.old }
+    ensures { cells.new ≡ slice_set cells.old w.cell w.value }
+{
+    cells.set(w.cell as usize, w.value);
+}

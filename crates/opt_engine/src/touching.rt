@@ -1,0 +1,93 @@
+//! Cells that note what a segment reads and writes.
+ghost use Rattle.std.specs.Prelude.{◌≡◌, map, IfOk, None};
+ghost use Rattle.opt_engine.specs.inner.Noting.{MayTouch, TouchFollows, fresh, touch_knows, value_at};
+
+use crate::notes::Notes;
+use crate::touch::{Touch, Touched};
+use seg_exec::Cells;
+use std::alloc::Global;
+use twe_io::{Ints, List, Memory};
+
+/// The values of the cells, with notes of what was read and written. A note that finds no memory is missing, and so is
+/// each later one.
+#[derive(Debug, Drop)]
+pub(crate) struct Touching {
+    /// The values.
+    pub cells: Ints,
+    /// The notes.
+    pub notes: Notes,
+    /// Why a note is missing, if one is.
+    pub missing: Option<Memory>,
+}
+
+impl Touching {
+    /// These cells, none of which was read or written.
+    pub(crate) fn new(alloc: Global, cells: Ints) -> Result<Self, Memory>
+        ensures { IfOk result (λ touching. touching ≡ fresh cells) }
+    {
+        let notes = Notes::new(alloc, cells.len())?;
+        Ok(Touching {
+            cells,
+            notes,
+            missing: None,
+        })
+    }
+
+    /// What was read before it was written, and what was written, with the values that the cells have now.
+    pub(crate) fn into_touched(self, alloc: Global) -> Result<(Touched, Touched), Memory>
+        ensures whole { IfOk result (λ _. self.missing ≡ None) }
+        ensures reads { IfOk result (λ touched. touched.0 ≡ self.notes.reads) }
+        ensures writes { IfOk result (λ touched. touched.1 ≡ map (value_at self.cells) self.notes.written) }
+    {
+        let Touching {
+            cells,
+            notes,
+            missing,
+        } = self;
+        if let Some(memory) = missing {
+            return Err(memory);
+        }
+        let mut writes = List::with_capacity(alloc, notes.written.len())?;
+        for cell in notes.written.as_slice() {
+            writes.push(value_at(&cells, *cell))?;
+        }
+        Ok((notes.reads, writes))
+    }
+}
+
+/// A cell with its value.
+fn value_at(cells: &Ints, cell: u32) -> Touch
+    ensures { result ≡ value_at cells.now cell }
+{
+    let value = match cells.get(cell as usize) {
+        Some(value) => *value,
+        None => 0,
+    };
+    Touch { cell, value }
+}
+
+/// Each cell is known, and may be read and written.
+impl Cells for Touching {
+    ghost known = { touch_knows };
+
+    ghost may_read = { MayTouch };
+
+    ghost may_write = { MayTouch };
+
+    ghost rule = { TouchFollows };
+
+    fn get(&mut self, cell: u32) -> i32 {
+        let value = self.cells.as_slice()[cell as usize];
+        if self.missing.is_none() {
+            self.missing = self.notes.read(cell, value).err();
+        }
+        value
+    }
+
+    fn set(&mut self, cell: u32, value: i32) {
+        self.cells.set(cell as usize, value);
+        if self.missing.is_none() {
+            self.missing = self.notes.write(cell).err();
+        }
+    }
+}
