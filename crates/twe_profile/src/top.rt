@@ -48,11 +48,7 @@ fn answer<S: Source>(alloc: Global, words: &[Word], src: &mut S) -> Result<Answe
             let read = read_text(alloc, src);
             answer_read(alloc, read)
         }
-        [_, ..] => Ok(Answer::on_err(
-            alloc,
-            ProfileStatus::Usage,
-            usage_text(alloc)?,
-        )),
+        [_, ..] => Ok(Answer::on_err(alloc, ProfileStatus::Usage, usage_text(alloc)?)),
     }
 }
 
