@@ -1,0 +1,12 @@
+//! The floor on which workers run segments at the same time: calls on one table of atomic words and slots, each with one
+//! atomic step. No call blocks, and none takes memory.
+#![tactic(auto)]
+
+mod cells;
+mod floor;
+mod phases;
+mod turns;
+mod words;
+
+pub use floor::{Floor, Stand};
+pub use turns::Busy;
