@@ -1,7 +1,7 @@
 //! The floor and its stands.
 ghost use Rattle.std.specs.Prelude.{◌≡◌, ◌<◌};
 ghost use Rattle.twe_program.specs.Program.{cell_count};
-ghost use Rattle.floor_table.specs.Layout.{cell_place, phase_place, turn_place};
+ghost use Rattle.floor_table.specs.Layout.{cell_place, phase_place, turn_place, word_count};
 
 use atomic_table::{Seat, Table};
 use floor_rule::TaskSlot;
@@ -35,6 +35,24 @@ impl<N: Named> Model for Floor<N> {
 pub type Stand = Seat<Option<TaskSlot>, View>;
 
 impl<N: Named> Floor<N> {
+    /// The floor that lies on this table.
+    pub(crate) fn of_table(
+        table: Table<Option<TaskSlot>, View, Part, FloorLaw<N>, Global>,
+        cells: usize,
+        words: usize,
+    ) -> Self
+        requires cells { cells ≡ cell_count N.prog }
+        requires words { (words ≡ word_count N.prog N.lim) × (table.shared.table_id.words ≡ words) }
+        requires slots { table.shared.table_id.slots ≡ N.lim.tasks }
+        ensures { result ≡ table.shared.table_id }
+    {
+        Floor {
+            table,
+            cells,
+            words,
+        }
+    }
+
     /// Where the word of a cell lies.
     pub(crate) fn cell_place(&self, cell: u32) -> usize
         requires { cell < cell_count N.prog }
