@@ -7,6 +7,7 @@ mod cells;
 mod floor;
 mod opening;
 mod phases;
+mod stands;
 mod turns;
 mod words;
 
