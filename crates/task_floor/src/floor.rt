@@ -13,8 +13,8 @@ use std::marker::Model;
 /// The floor of a run, which all workers share. `N` names the program and the limits. Clauses see the name of its table.
 pub struct Floor<N: Named> {
     pub(crate) table: Table<Option<TaskSlot>, View, Part, FloorLaw<N>, Global>,
-    cells: usize,
-    words: usize,
+    pub(crate) cells: usize,
+    pub(crate) words: usize,
 }
 
 impl<N: Named> Model for Floor<N> {
