@@ -13,7 +13,7 @@ use Rattle.command_line.specs.declared.command.WordsFail.{WordsFail}
 use Rattle.command_line.specs.declared.command.WordsFail.TheVariants.{Usage, OutOfMemory}
 use Rattle.command_line.specs.declared.setting.Setting.{Setting}
 use Rattle.command_line.specs.declared.setting.Setting.TheVariants.{Workers, Fuel, Tasks}
-use Rattle.command_line.specs.Options.{Item, of, flag, size, later, Choice, AreOptions, no_more, value_beside, value_inside, flagged, sized, numbers_for, sizes, number_for, size_in}
+use Rattle.command_line.specs.Options.{Item, of, flag, size, later, Choice, AreOptions, no_more, value_beside, value_inside, flagged, sized, numbers_for, number_or, sizes, number_for, size_in}
 use Rattle.command_line.specs.Words as words
 use Rattle.command_line.specs.Words.{run_items, replay_items, load_items, limits_of, Means, IsMeaning, IsReading}
 use Rattle.command_line.specs.inner.Reading.{id, IsRead, has_end, parsed, number_given, number_in, flag_given, size_given, limits_given, check_from, run_from, replay_from, load_from, named, first_named, command_of}
@@ -66,6 +66,9 @@ module _ {items : List Item} {others : List Text} {rs : List Row} (t : Taken ite
   same_number setting choices o are e =
       same_Some o (head_of (numbers_for setting choices)) (sym e ∙ number_there setting ∙ numbers_are setting t.more choices are)
 
+  same_workers : (choices : List Choice) (o : Option ℕ) → all_chosen t.more ≡ Some choices → number_given Workers rs ≡ Some o → unwrap_or o 0 ≡ number_or 0 Workers choices
+  same_workers choices o are e = ap (λ (w : Option ℕ). unwrap_or w 0) (same_number Workers choices o are e) ∙ first_or (numbers_for Workers choices) 0
+
 -- ---- what is read is meant
 
 check_is_meant : (others : List Text) (command : Command) → has_end others ≡ false → parsed (codes "check") [] check_from (codes "check" ∷ others) ≡ Some command
@@ -84,7 +87,7 @@ check_is_meant others command ends e =
     alone others choices (sized value number among is rest) = elim among [ ]
 
 abbrev run_by : Option (Option ℕ) → Option (Option ℕ) → Option (Option ℕ) → Bool → Option Command
-run_by w f t asked = option_and_then (λ workers. option_and_then (λ fuel. option_and_then (λ tasks. Some (Run (limits_given fuel tasks) asked)) t) f) w
+run_by w f t asked = option_and_then (λ workers. option_and_then (λ fuel. option_and_then (λ tasks. Some (Run (unwrap_or workers 0) (limits_given fuel tasks) asked)) t) f) w
 
 run_is_meant : (others : List Text) (command : Command) → has_end others ≡ false → parsed (codes "run") run_items run_from (codes "run" ∷ others) ≡ Some command
     → Means (codes "run" ∷ others) command
@@ -92,15 +95,16 @@ run_is_meant others command ends e =
     let found = taken (codes "run") run_items run_from (codes "run") others command runs ends e in
     let rs = found.0 in
     let t = found.1 in
-    option_and_then_some (λ workers. option_and_then (λ fuel. option_and_then (λ tasks. Some (Run (limits_given fuel tasks) (flag_given rs))) (number_given Tasks rs)) (number_given Fuel rs))
+    option_and_then_some (λ workers. option_and_then (λ fuel. option_and_then (λ tasks. Some (Run (unwrap_or workers 0) (limits_given fuel tasks) (flag_given rs))) (number_given Tasks rs)) (number_given Fuel rs))
     (number_given Workers rs) command found.2 (λ workers workers_are more.
-    option_and_then_some (λ fuel. option_and_then (λ tasks. Some (Run (limits_given fuel tasks) (flag_given rs))) (number_given Tasks rs))
+    option_and_then_some (λ fuel. option_and_then (λ tasks. Some (Run (unwrap_or workers 0) (limits_given fuel tasks) (flag_given rs))) (number_given Tasks rs))
     (number_given Fuel rs) command more (λ fuel fuel_is last.
-    option_and_then_some (λ tasks. Some (Run (limits_given fuel tasks) (flag_given rs))) (number_given Tasks rs) command last (λ tasks tasks_are same.
+    option_and_then_some (λ tasks. Some (Run (unwrap_or workers 0) (limits_given fuel tasks) (flag_given rs))) (number_given Tasks rs) command last (λ tasks tasks_are same.
     let c = choices_there t (give t.more workers fuel tasks (sym (number_there t Workers) ∙ workers_are) (sym (number_there t Fuel) ∙ fuel_is) (sym (number_there t Tasks) ∙ tasks_are)) in
     let limits = ap₂ limits_given (same_number t Fuel c.0 fuel c.1 fuel_is) (same_number t Tasks c.0 tasks c.1 tasks_are) ∙ same_limits c.0 in
     let asked = flag_value run_items rs t.more t.rows_are ∙ flag_is t.more c.0 c.1 in
-    subst (Means (codes "run" ∷ others)) (sym (ap₂ Run limits asked) ∙ same_Some (Run (limits_given fuel tasks) (flag_given rs)) command same)
+    let crew = same_workers t c.0 workers c.1 workers_are in
+    subst (Means (codes "run" ∷ others)) (sym (λ i. Run (crew i) (limits i) (asked i)) ∙ same_Some (Run (unwrap_or workers 0) (limits_given fuel tasks) (flag_given rs)) command same)
     (words.Means.run others c.0 (t.options c.0 c.1) (none_twice t.more c.0 t.distinct c.1)))))
   where
     give : (uses : List Use) (workers fuel tasks : Option ℕ) → number_in (number_for Workers) (text_of (of Workers) uses) ≡ Some workers
@@ -138,12 +142,13 @@ load_is_meant others command ends e =
     let found = taken (codes "load") load_items load_from (codes "load") others command loads ends e in
     let rs = found.0 in
     let t = found.1 in
-    option_and_then_some (λ workers. option_and_then (λ n. Some (Load n)) (size_given rs)) (number_given Workers rs) command found.2 (λ workers workers_are last.
-    option_and_then_some (λ n. Some (Load n)) (size_given rs) command last (λ n n_is same.
+    option_and_then_some (λ workers. option_and_then (λ n. Some (Load (unwrap_or workers 0) n)) (size_given rs)) (number_given Workers rs) command found.2 (λ workers workers_are last.
+    option_and_then_some (λ n. Some (Load (unwrap_or workers 0) n)) (size_given rs) command last (λ n n_is same.
     let sized_so = sym (size_value load_items rs t.more t.rows_are) ∙ n_is in
     let c = choices_there t (give t.more workers n (sym (number_there t Workers) ∙ workers_are) sized_so) in
     let once = none_twice t.more c.0 t.distinct c.1 in
-    subst (Means (codes "load" ∷ others)) (same_Some (Load n) command same)
+    let crew = same_workers t c.0 workers c.1 workers_are in
+    subst (Means (codes "load" ∷ others)) (sym (ap (λ (w : ℕ). Load w n) crew) ∙ same_Some (Load (unwrap_or workers 0) n) command same)
     (words.Means.load others c.0 n (t.options c.0 c.1) once (one_size (sizes c.0) n once.size (sym (size_is t.more c.0 c.1) ∙ sized_so)))))
   where
     give : (uses : List Use) (workers : Option ℕ) (n : ℕ) → number_in (number_for Workers) (text_of (of Workers) uses) ≡ Some workers
@@ -180,7 +185,8 @@ is_read (words.Means.run others choices options once) =
     ∙ ap (λ (o : Option (Option ℕ)). run_by o (number_given Fuel rs) (number_given Tasks rs) (flag_given rs)) (number Workers)
     ∙ ap (λ (o : Option (Option ℕ)). run_by (Some (head_of (numbers_for Workers choices))) o (number_given Tasks rs) (flag_given rs)) (number Fuel)
     ∙ ap (λ (o : Option (Option ℕ)). run_by (Some (head_of (numbers_for Workers choices))) (Some (head_of (numbers_for Fuel choices))) o (flag_given rs)) (number Tasks)
-    ∙ ap Some (ap₂ Run (same_limits choices) (flag_value run_items rs f.uses refl ∙ flag_is f.uses choices f.are))
+    ∙ (let asked = flag_value run_items rs f.uses refl ∙ flag_is f.uses choices f.are in
+    λ i. Some (Run (first_or (numbers_for Workers choices) 0 i) (same_limits choices i) (asked i)))
 is_read (words.Means.replay others choices options once) =
     let f = found (codes "replay") replay_items (codes "replay") others choices replays options once in
     let rs = fold with_default (rows f.uses) (rules replay_items) in
@@ -196,9 +202,10 @@ is_read (words.Means.load others choices n options once one) =
     let sized_so : option_and_then size_in (text_of size f.uses) ≡ Some n = size_is f.uses choices f.are ∙ ap head_of one in
     ap (λ (b : Bool). unless_end b (first_named (codes "load" ∷ others))) (no_end_after (codes "load") others refl f.ends)
     ∙ f.reads load_from (option_and_then_some size_in (text_of size f.uses) n sized_so (λ text is number. needs rs (size_is_given load_items f.uses text is)))
-    ∙ ap (λ (o : Option (Option ℕ)). option_and_then (λ workers. option_and_then (λ k. Some (Load k)) (size_given rs)) o)
+    ∙ ap (λ (o : Option (Option ℕ)). option_and_then (λ workers. option_and_then (λ k. Some (Load (unwrap_or workers 0) k)) (size_given rs)) o)
     (number_is load_items others rs f.uses refl Workers ∙ numbers_are Workers f.uses choices f.are)
-    ∙ ap (option_and_then (λ k. Some (Load k))) (size_value load_items rs f.uses refl ∙ sized_so)
+    ∙ ap (option_and_then (λ k. Some (Load (unwrap_or (head_of (numbers_for Workers choices)) 0) k))) (size_value load_items rs f.uses refl ∙ sized_so)
+    ∙ ap (λ (w : ℕ). Some (Load w n)) (first_or (numbers_for Workers choices) 0)
   where
     needs : (rs : List Row) → is_given (id size) rs ≡ true → check_fault (shape (codes "load") load_items) rs false ≡ []
     needs rs given = rw given refl

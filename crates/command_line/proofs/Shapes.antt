@@ -13,7 +13,7 @@ use Rattle.command_line.specs.declared.setting.Setting.{Setting}
 use Rattle.command_line.specs.declared.setting.Setting.TheVariants.{Workers, Fuel, Tasks}
 use Rattle.twe_limits.specs.Language.{max_fuel, max_tasks}
 use Rattle.command_line.specs.Numbers.{is_number, number_of, number_between}
-use Rattle.command_line.specs.Options.{of, spelled, number_for}
+use Rattle.command_line.specs.Options.{of, spelled, number_for, max_workers}
 use Rattle.command_line.specs.inner.Reading.{id}
 
 -- ---- a list, cut at the first `=`
@@ -163,6 +163,6 @@ number_is_plain least most word number e =
     without_hyphen word (digit_first word (both-true (is_number word) (nat_le least (number_of word) && nat_le (number_of word) most) found.0).0)
 
 pub value_is_plain : (setting : Setting) (word : Text) (number : ℕ) → number_for setting word ≡ Some number → IsPlain word
-value_is_plain Workers word number e = number_is_plain 0 0 word number e
+value_is_plain Workers word number e = number_is_plain 0 max_workers word number e
 value_is_plain Fuel word number e = number_is_plain 0 max_fuel word number e
 value_is_plain Tasks word number e = number_is_plain 1 max_tasks word number e

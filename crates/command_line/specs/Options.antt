@@ -13,10 +13,13 @@ spelled Workers = codes "--workers"
 spelled Fuel = codes "--fuel"
 spelled Tasks = codes "--tasks"
 
--- The number that a word gives to a setting. Runs have no workers, so their number is 0. Each run has task 0, so the
--- number of tasks is at least 1.
+-- the largest number of workers
+abbrev pub max_workers : ℕ
+max_workers = 64
+
+-- The number that a word gives to a setting. Each run has task 0, so the number of tasks is at least 1.
 abbrev pub number_for : Setting → List ℕ → Option ℕ
-number_for Workers word = number_between 0 0 word
+number_for Workers word = number_between 0 max_workers word
 number_for Fuel word = number_between 0 max_fuel word
 number_for Tasks word = number_between 1 max_tasks word
 

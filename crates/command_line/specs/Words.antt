@@ -8,7 +8,7 @@ use Rattle.command_line.specs.declared.command.Command.TheVariants.{Check, Run, 
 use Rattle.command_line.specs.declared.command.WordsFail.{WordsFail}
 use Rattle.command_line.specs.declared.command.WordsFail.TheVariants.{Usage, OutOfMemory}
 use Rattle.command_line.specs.declared.setting.Setting.TheVariants.{Workers, Fuel, Tasks}
-use Rattle.command_line.specs.Options.{Item, of, flag, size, Choice, AreOptions, NoneTwice, sizes, number_or, has_flag, max_load}
+use Rattle.command_line.specs.Options.{Item, of, flag, size, Choice, AreOptions, NoneTwice, sizes, number_or, has_flag, max_load, max_workers}
 
 -- what each command takes
 abbrev pub run_items : List Item
@@ -28,18 +28,25 @@ limits_of choices = record { fuel = number_or default_fuel Fuel choices; tasks =
 pub data Means : List (List ℕ) → Command → Type 0 where
   check : Means (codes "check" ∷ []) Check
   run : (words : List (List ℕ)) (choices : List Choice) → AreOptions run_items words choices → NoneTwice choices
-      → Means (codes "run" ∷ words) (Run (limits_of choices) (has_flag choices))
+      → Means (codes "run" ∷ words) (Run (number_or 0 Workers choices) (limits_of choices) (has_flag choices))
   replay : (words : List (List ℕ)) (choices : List Choice) → AreOptions replay_items words choices → NoneTwice choices
       → Means (codes "replay" ∷ words) (Replay (limits_of choices))
   load : (words : List (List ℕ)) (choices : List Choice) (n : ℕ) → AreOptions load_items words choices → NoneTwice choices
-      → sizes choices ≡ n ∷ [] → Means (codes "load" ∷ words) (Load n)
+      → sizes choices ≡ n ∷ [] → Means (codes "load" ∷ words) (Load (number_or 0 Workers choices) n)
 
--- the size of a load is in its range
+-- The number of workers of a command. With none, a run stays on the thread that it began on.
+abbrev pub workers_of : Command → ℕ
+workers_of Check = 0
+workers_of (Run workers lim journal) = workers
+workers_of (Replay lim) = 0
+workers_of (Load workers n) = workers
+
+-- the number of workers and the size of a load are in their ranges
 abbrev pub IsSized : Command → Type 0
 IsSized Check = Unit {0}
-IsSized (Run lim journal) = Unit {0}
+IsSized (Run workers lim journal) = workers ≤ max_workers
 IsSized (Replay lim) = Unit {0}
-IsSized (Load n) = (1 ≤ n) × (n ≤ max_load)
+IsSized (Load workers n) = (workers ≤ max_workers) × (1 ≤ n) × (n ≤ max_load)
 
 -- this is the command that the words mean, or none if they mean none
 abbrev pub IsMeaning : List (List ℕ) → Option Command → Type 0

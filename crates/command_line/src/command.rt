@@ -1,8 +1,9 @@
 //! The commands.
-ghost use Rattle.std.specs.Prelude.{◌≡◌, [], codes};
+ghost use Rattle.std.specs.Prelude.{◌≡◌, [], ◌≤◌, codes, unwrap_or};
 ghost use Rattle.clap.specs.Matches.{found_of};
 ghost use Rattle.clap.specs.Walk.{rows_of};
-ghost use Rattle.command_line.specs.Words.{IsReading, run_items, replay_items, load_items};
+ghost use Rattle.command_line.specs.Options.{max_workers};
+ghost use Rattle.command_line.specs.Words.{IsReading, workers_of, run_items, replay_items, load_items};
 ghost use Rattle.command_line.specs.inner.Reading.{IsRead, command_of, first_named, has_end, limits_given, parsed, check_from, run_from, replay_from, load_from, size_given};
 ghost use Rattle.command_line.specs.declared.command.WordsFail.TheVariants.{OutOfMemory};
 ghost use Rattle.twe_limits.specs.Limits.{IsWithin};
@@ -25,6 +26,8 @@ pub enum Command {
     Check,
     /// Run a program.
     Run {
+        /// How many workers run it, from 0 to 64. With 0 the run stays on the thread that it began on.
+        workers: u32,
         /// The limits of the run.
         lim: Limits,
         /// Whether its journal is written after the result.
@@ -37,9 +40,23 @@ pub enum Command {
     },
     /// Make a large program, and run it.
     Load {
+        /// How many workers run it, from 0 to 64. With 0 the run stays on the thread that it began on.
+        workers: u32,
         /// How many pairs of tasks it has, from 1 to 2,000.
         n: u32,
     },
+}
+
+impl Command {
+    /// How many workers the command asks for: 0 if it is `check` or `replay`.
+    pub fn workers(&self) -> u32
+        ensures { result ≡ workers_of self.now }
+    {
+        match *self {
+            Command::Run { workers, .. } | Command::Load { workers, .. } => workers,
+            Command::Check | Command::Replay { .. } => 0,
+        }
+    }
 }
 
 /// Why no command was read.
@@ -119,10 +136,11 @@ fn read_run(alloc: Global, words: &[Word]) -> Result<Command, WordsFail>
 fn run_of(matches: &ArgMatches<'_>) -> Result<Command, WordsFail>
     ensures { IsRead (run_from (rows_of (found_of matches.now))) result }
 {
-    let _ = arguments::number_given(matches, Setting::Workers)?;
+    let workers = arguments::number_given(matches, Setting::Workers)?;
     let fuel = arguments::number_given(matches, Setting::Fuel)?;
     let tasks = arguments::number_given(matches, Setting::Tasks)?;
     Ok(Command::Run {
+        workers: workers_of(workers),
         lim: limits_of(fuel, tasks),
         journal: arguments::journal_given(matches),
     })
@@ -159,9 +177,12 @@ fn read_load(alloc: Global, words: &[Word]) -> Result<Command, WordsFail>
 fn load_of(matches: &ArgMatches<'_>) -> Result<Command, WordsFail>
     ensures { IsRead (load_from (rows_of (found_of matches.now))) result }
 {
-    let _ = arguments::number_given(matches, Setting::Workers)?;
+    let workers = arguments::number_given(matches, Setting::Workers)?;
     match size_given(matches) {
-        Some(n) => Ok(Command::Load { n }),
+        Some(n) => Ok(Command::Load {
+            workers: workers_of(workers),
+            n,
+        }),
         None => Err(WordsFail::Usage),
     }
 }
@@ -173,6 +194,14 @@ fn size_given(matches: &ArgMatches<'_>) -> Option<u32>
     let text = matches.get_str("N")?;
     let n = number_between(1, MAX_LOAD, text.as_bytes())?;
     Some(n as u32)
+}
+
+/// The number of workers that is given, or 0 if none is.
+fn workers_of(workers: Option<u64>) -> u32
+    requires { unwrap_or workers 0 ≤ max_workers }
+    ensures { result ≡ unwrap_or workers 0 }
+{
+    workers.unwrap_or(0) as u32
 }
 
 /// The limits that are given; a limit that is left out has its default.

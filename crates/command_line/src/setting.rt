@@ -6,10 +6,13 @@ ghost use Rattle.command_line.specs.inner.Reading.{id};
 use crate::number::number_between;
 use twe_limits::Limits;
 
+/// The largest number of workers.
+const MAX_WORKERS: u64 = 64;
+
 /// An option that takes a number.
 #[derive(Clone, Copy)]
 pub(crate) enum Setting {
-    /// The number of workers. Only 0 is allowed: the run stays on the program's own thread.
+    /// The number of workers. With 0 the run stays on the thread that it began on.
     Workers,
     /// The fuel of each task, in units.
     Fuel,
@@ -34,7 +37,7 @@ impl Setting {
         ensures { result ≡ number_for self word.now }
     {
         match self {
-            Setting::Workers => number_between(0, 0, word),
+            Setting::Workers => number_between(0, MAX_WORKERS, word),
             Setting::Fuel => number_between(0, Limits::MAX_FUEL, word),
             Setting::Tasks => number_between(1, u64::from(Limits::MAX_TASKS), word),
         }

@@ -32,18 +32,25 @@ pub record Within (a b : Marks) : Type 0 where
   pub near : (k : ℕ) → Has a.near k → Has b.near k
   pub far : (k : ℕ) → Has a.far k → Has b.far k
   pub index : (k : ℕ) → Has a.index k → Has b.index k
+  pub far_index : (k : ℕ) → Has a.far_index k → Has b.far_index k
 
 within-same : (a : Marks) → Within a a
-within-same a = record { near = λ k h. h; far = λ k h. h; index = λ k h. h }
+within-same a = record { near = λ k h. h; far = λ k h. h; index = λ k h. h; far_index = λ k h. h }
 
 within-more : (a b c : Marks) → Within a b → Within b c → Within a c
-within-more a b c x y = record { near = λ k h. y.near k (x.near k h); far = λ k h. y.far k (x.far k h); index = λ k h. y.index k (x.index k h) }
+within-more a b c x y = record {
+  near = λ k h. y.near k (x.near k h);
+  far = λ k h. y.far k (x.far k h);
+  index = λ k h. y.index k (x.index k h);
+  far_index = λ k h. y.far_index k (x.far_index k h);
+}
 
 within-left : (a b : Marks) → Within a (joined_marks a b)
 within-left a b = record {
   near = λ k h. has-left a.near b.near k h;
   far = λ k h. has-left a.far b.far k h;
   index = λ k h. has-left a.index b.index k h;
+  far_index = λ k h. has-left a.far_index b.far_index k h;
 }
 
 within-right : (a b : Marks) → Within b (joined_marks a b)
@@ -51,6 +58,7 @@ within-right a b = record {
   near = λ k h. has-right a.near b.near k h;
   far = λ k h. has-right a.far b.far k h;
   index = λ k h. has-right a.index b.index k h;
+  far_index = λ k h. has-right a.far_index b.far_index k h;
 }
 
 -- the marks of each effect that counts are within those of all
@@ -131,20 +139,20 @@ apart_by p q e h b c ps qs =
 
 -- the words have no bit in common
 abbrev NoneShared : ℕ → ℕ → Type 0
-NoneShared a b = (k : ℕ) → k < 64 → Has a k → Has b k → ⊥
+NoneShared a b = (k : ℕ) → k < 128 → Has a k → Has b k → ⊥
 
 -- some bit is in the word
 abbrev SomeBit : ℕ → Type 0
-SomeBit a = (k : ℕ) × (k < 64) × Has a k
+SomeBit a = (k : ℕ) × (k < 128) × Has a k
 
-full : (k : ℕ) → k < 64 → Has all_bits k
-full k within = bit_at_ones 64 k within
+full : (k : ℕ) → k < 128 → Has all_bits k
+full k within = bit_at_ones 128 k within
 
 some_full : SomeBit all_bits
 some_full = (0, omega arith, full 0 (omega arith))
 
-some_of : (n : ℕ) → SomeBit (2 ^ (n % 64))
-some_of n = (n % 64, omega arith, bit_at-pow_same (n % 64))
+some_of : (n : ℕ) → SomeBit (2 ^ (n % 128))
+some_of n = (n % 128, omega arith, bit_at-pow_same (n % 128))
 
 -- all bits share one with each word that has one
 full_left : (b : ℕ) → SomeBit b → NoneShared all_bits b → ⊥
@@ -153,10 +161,10 @@ full_left b some none = none some.0 some.1 (full some.0 some.1) some.2
 full_right : (a : ℕ) → SomeBit a → NoneShared a all_bits → ⊥
 full_right a some none = none some.0 some.1 some.2 (full some.0 some.1)
 
-differ : (n m : ℕ) → NoneShared (2 ^ (n % 64)) (2 ^ (m % 64)) → n ≡ m → ⊥
+differ : (n m : ℕ) → NoneShared (2 ^ (n % 128)) (2 ^ (m % 128)) → n ≡ m → ⊥
 differ n m none same =
-    let here : Has (2 ^ (n % 64)) (n % 64) = bit_at-pow_same (n % 64) in
-    none (n % 64) (omega arith) here (subst (λ x. Has (2 ^ (x % 64)) (n % 64)) same here)
+    let here : Has (2 ^ (n % 128)) (n % 128) = bit_at-pow_same (n % 128) in
+    none (n % 128) (omega arith) here (subst (λ x. Has (2 ^ (x % 128)) (n % 128)) same here)
 
 some_name : (g : ℕ → ℕ) (ys : List Elem) → SomeBit (name_bits g (slice_get ys 0))
 some_name g [] = some_full
@@ -174,22 +182,22 @@ names-clash g [] ys none = absurd (full_left (name_bits g (slice_get ys 0)) (som
 names-clash g (Index i ∷ xs) ys none = absurd (full_left (name_bits g (slice_get ys 0)) (some_name g ys) none)
 names-clash g (Var i ∷ xs) ys none = absurd (full_left (name_bits g (slice_get ys 0)) (some_name g ys) none)
 names-clash g (AnyIndex ∷ xs) ys none = absurd (full_left (name_bits g (slice_get ys 0)) (some_name g ys) none)
-names-clash g (Name n ∷ xs) [] none = absurd (full_right (2 ^ (g n % 64)) (some_of (g n)) none)
-names-clash g (Name n ∷ xs) (Index j ∷ ys) none = absurd (full_right (2 ^ (g n % 64)) (some_of (g n)) none)
-names-clash g (Name n ∷ xs) (Var j ∷ ys) none = absurd (full_right (2 ^ (g n % 64)) (some_of (g n)) none)
-names-clash g (Name n ∷ xs) (AnyIndex ∷ ys) none = absurd (full_right (2 ^ (g n % 64)) (some_of (g n)) none)
+names-clash g (Name n ∷ xs) [] none = absurd (full_right (2 ^ (g n % 128)) (some_of (g n)) none)
+names-clash g (Name n ∷ xs) (Index j ∷ ys) none = absurd (full_right (2 ^ (g n % 128)) (some_of (g n)) none)
+names-clash g (Name n ∷ xs) (Var j ∷ ys) none = absurd (full_right (2 ^ (g n % 128)) (some_of (g n)) none)
+names-clash g (Name n ∷ xs) (AnyIndex ∷ ys) none = absurd (full_right (2 ^ (g n % 128)) (some_of (g n)) none)
 names-clash g (Name n ∷ xs) (Name m ∷ ys) none = clash_names n m xs ys (λ same. differ (g n) (g m) none (ap g same))
 
-abbrev index_number : ℤ → ℕ
-index_number i = unsigned_abs i / 64
+abbrev index_number : (ℕ → ℕ) → ℤ → ℕ
+index_number g i = g (unsigned_abs i)
 
-some_index : (ys : List Elem) → SomeBit (index_bits (slice_get ys 1))
-some_index [] = some_full
-some_index (y ∷ []) = some_full
-some_index (y ∷ (Name m ∷ ys)) = some_full
-some_index (y ∷ (Index j ∷ ys)) = some_of (index_number j)
-some_index (y ∷ (Var j ∷ ys)) = some_full
-some_index (y ∷ (AnyIndex ∷ ys)) = some_full
+some_index : (g : ℕ → ℕ) (ys : List Elem) → SomeBit (index_bits g (slice_get ys 1))
+some_index g [] = some_full
+some_index g (y ∷ []) = some_full
+some_index g (y ∷ (Name m ∷ ys)) = some_full
+some_index g (y ∷ (Index j ∷ ys)) = some_of (index_number g j)
+some_index g (y ∷ (Var j ∷ ys)) = some_full
+some_index g (y ∷ (AnyIndex ∷ ys)) = some_full
 
 clash_indexes : (x y : Elem) (i j : ℤ) (xs ys : List Elem) → (i ≡ j → ⊥) → clash_from_front (x ∷ (Index i ∷ xs)) (y ∷ (Index j ∷ ys)) ≡ true
 clash_indexes x y i j xs ys differs =
@@ -197,18 +205,18 @@ clash_indexes x y i j xs ys differs =
     or_last (clash x y) (not (int_eq i j) || clash_from_front xs ys) (ap (λ b. not b || clash_from_front xs ys) unequal)
 
 -- paths whose second elements are different literals clash
-indexes-clash : (xs ys : List Elem) → NoneShared (index_bits (slice_get xs 1)) (index_bits (slice_get ys 1)) → clash_from_front xs ys ≡ true
-indexes-clash [] ys none = absurd (full_left (index_bits (slice_get ys 1)) (some_index ys) none)
-indexes-clash (x ∷ []) ys none = absurd (full_left (index_bits (slice_get ys 1)) (some_index ys) none)
-indexes-clash (x ∷ (Name n ∷ xs)) ys none = absurd (full_left (index_bits (slice_get ys 1)) (some_index ys) none)
-indexes-clash (x ∷ (Var n ∷ xs)) ys none = absurd (full_left (index_bits (slice_get ys 1)) (some_index ys) none)
-indexes-clash (x ∷ (AnyIndex ∷ xs)) ys none = absurd (full_left (index_bits (slice_get ys 1)) (some_index ys) none)
-indexes-clash (x ∷ (Index i ∷ xs)) [] none = absurd (full_right (2 ^ (index_number i % 64)) (some_of (index_number i)) none)
-indexes-clash (x ∷ (Index i ∷ xs)) (y ∷ []) none = absurd (full_right (2 ^ (index_number i % 64)) (some_of (index_number i)) none)
-indexes-clash (x ∷ (Index i ∷ xs)) (y ∷ (Name m ∷ ys)) none = absurd (full_right (2 ^ (index_number i % 64)) (some_of (index_number i)) none)
-indexes-clash (x ∷ (Index i ∷ xs)) (y ∷ (Var m ∷ ys)) none = absurd (full_right (2 ^ (index_number i % 64)) (some_of (index_number i)) none)
-indexes-clash (x ∷ (Index i ∷ xs)) (y ∷ (AnyIndex ∷ ys)) none = absurd (full_right (2 ^ (index_number i % 64)) (some_of (index_number i)) none)
-indexes-clash (x ∷ (Index i ∷ xs)) (y ∷ (Index j ∷ ys)) none = clash_indexes x y i j xs ys (λ same. differ (index_number i) (index_number j) none (ap index_number same))
+indexes-clash : (g : ℕ → ℕ) (xs ys : List Elem) → NoneShared (index_bits g (slice_get xs 1)) (index_bits g (slice_get ys 1)) → clash_from_front xs ys ≡ true
+indexes-clash g [] ys none = absurd (full_left (index_bits g (slice_get ys 1)) (some_index g ys) none)
+indexes-clash g (x ∷ []) ys none = absurd (full_left (index_bits g (slice_get ys 1)) (some_index g ys) none)
+indexes-clash g (x ∷ (Name n ∷ xs)) ys none = absurd (full_left (index_bits g (slice_get ys 1)) (some_index g ys) none)
+indexes-clash g (x ∷ (Var n ∷ xs)) ys none = absurd (full_left (index_bits g (slice_get ys 1)) (some_index g ys) none)
+indexes-clash g (x ∷ (AnyIndex ∷ xs)) ys none = absurd (full_left (index_bits g (slice_get ys 1)) (some_index g ys) none)
+indexes-clash g (x ∷ (Index i ∷ xs)) [] none = absurd (full_right (2 ^ (index_number g i % 128)) (some_of (index_number g i)) none)
+indexes-clash g (x ∷ (Index i ∷ xs)) (y ∷ []) none = absurd (full_right (2 ^ (index_number g i % 128)) (some_of (index_number g i)) none)
+indexes-clash g (x ∷ (Index i ∷ xs)) (y ∷ (Name m ∷ ys)) none = absurd (full_right (2 ^ (index_number g i % 128)) (some_of (index_number g i)) none)
+indexes-clash g (x ∷ (Index i ∷ xs)) (y ∷ (Var m ∷ ys)) none = absurd (full_right (2 ^ (index_number g i % 128)) (some_of (index_number g i)) none)
+indexes-clash g (x ∷ (Index i ∷ xs)) (y ∷ (AnyIndex ∷ ys)) none = absurd (full_right (2 ^ (index_number g i % 128)) (some_of (index_number g i)) none)
+indexes-clash g (x ∷ (Index i ∷ xs)) (y ∷ (Index j ∷ ys)) none = clash_indexes x y i j xs ys (λ same. differ (index_number g i) (index_number g j) none (ap (index_number g) same))
 
 no_interference : (a b : Bool) → b ≡ true → (a && not b) ≡ false
 no_interference true b e = ap not e
@@ -227,10 +235,10 @@ different-names g d e none =
     clashing d e (names-clash g d.path.elems e.path.elems none)
     (names-clash g e.path.elems d.path.elems (swapped (name_bits g (slice_get d.path.elems 0)) (name_bits g (slice_get e.path.elems 0)) none))
 
-pub different-indexes : (d e : Effect) → NoneShared (index_bits (slice_get d.path.elems 1)) (index_bits (slice_get e.path.elems 1)) → statically_interferes d e ≡ false
-different-indexes d e none =
-    clashing d e (indexes-clash d.path.elems e.path.elems none)
-    (indexes-clash e.path.elems d.path.elems (swapped (index_bits (slice_get d.path.elems 1)) (index_bits (slice_get e.path.elems 1)) none))
+pub different-indexes : (g : ℕ → ℕ) (d e : Effect) → NoneShared (index_bits g (slice_get d.path.elems 1)) (index_bits g (slice_get e.path.elems 1)) → statically_interferes d e ≡ false
+different-indexes g d e none =
+    clashing d e (indexes-clash g d.path.elems e.path.elems none)
+    (indexes-clash g e.path.elems d.path.elems (swapped (index_bits g (slice_get d.path.elems 1)) (index_bits g (slice_get e.path.elems 1)) none))
 
 -- two words without a bit in common
 pub none-shared : (a b k : ℕ) → bit_and a b ≡ 0 → Has a k → Has b k → ⊥

@@ -24,26 +24,36 @@ none_of false c = refl
 apart_word : (a b : ℕ) → not (bit_and a b == 0) ≡ false → bit_and a b ≡ 0
 apart_word a b h = eqb-true (bit_and a b) 0 (not-false (bit_and a b == 0) h)
 
-not_meeting : (a b : Marks) → meet a b ≡ false → (bit_and a.near b.near ≡ 0) ⊎ ((bit_and a.far b.far ≡ 0) ⊎ (bit_and a.index b.index ≡ 0))
+-- one of the words has no bit in common
+data Apartness (a b : Marks) : Type 0 where
+  In_near : bit_and a.near b.near ≡ 0 → Apartness a b
+  In_far : bit_and a.far b.far ≡ 0 → Apartness a b
+  In_index : bit_and a.index b.index ≡ 0 → Apartness a b
+  In_far_index : bit_and a.far_index b.far_index ≡ 0 → Apartness a b
+
+not_meeting : (a b : Marks) → meet a b ≡ false → Apartness a b
 not_meeting a b h =
-    elim (and_cases (not (bit_and a.near b.near == 0)) (not (bit_and a.far b.far == 0) && not (bit_and a.index b.index == 0)) h) [
-      | inl near ↦ inl (apart_word a.near b.near near)
-      | inr rest ↦ elim (and_cases (not (bit_and a.far b.far == 0)) (not (bit_and a.index b.index == 0)) rest) [
-        | inl far ↦ inr (inl (apart_word a.far b.far far))
-        | inr index ↦ inr (inr (apart_word a.index b.index index))
+    elim (and_cases (not (bit_and a.near b.near == 0)) (not (bit_and a.far b.far == 0) && (not (bit_and a.index b.index == 0) && not (bit_and a.far_index b.far_index == 0))) h) [
+      | inl near ↦ In_near (apart_word a.near b.near near)
+      | inr rest ↦ elim (and_cases (not (bit_and a.far b.far == 0)) (not (bit_and a.index b.index == 0) && not (bit_and a.far_index b.far_index == 0)) rest) [
+        | inl far ↦ In_far (apart_word a.far b.far far)
+        | inr rest ↦ elim (and_cases (not (bit_and a.index b.index == 0)) (not (bit_and a.far_index b.far_index == 0)) rest) [
+          | inl index ↦ In_index (apart_word a.index b.index index)
+          | inr far_index ↦ In_far_index (apart_word a.far_index b.far_index far_index)
+        ]
       ]
     ]
 
 -- an effect whose marks do not meet those of all does not interfere with one whose marks are within those
+harmless_by_word : (all : Marks) (e other : Effect) → Within (marks_of other) all → Apartness all (marks_of e) → statically_interferes e other ≡ false
+harmless_by_word all e other within (In_near near) = different-names (λ n. n) e other (λ k below x y. none-shared all.near (marks_of e).near k near (within.near k y) x)
+harmless_by_word all e other within (In_far far) = different-names (λ n. n / 128) e other (λ k below x y. none-shared all.far (marks_of e).far k far (within.far k y) x)
+harmless_by_word all e other within (In_index index) = different-indexes (λ i. i) e other (λ k below x y. none-shared all.index (marks_of e).index k index (within.index k y) x)
+harmless_by_word all e other within (In_far_index far_index) =
+    different-indexes (λ i. i / 128) e other (λ k below x y. none-shared all.far_index (marks_of e).far_index k far_index (within.far_index k y) x)
+
 harmless_if : (all : Marks) (e other : Effect) → Within (marks_of other) all → meet all (marks_of e) ≡ false → statically_interferes e other ≡ false
-harmless_if all e other within h =
-    elim (not_meeting all (marks_of e) h) [
-      | inl near ↦ different-names (λ n. n) e other (λ k below x y. none-shared all.near (marks_of e).near k near (within.near k y) x)
-      | inr rest ↦ elim rest [
-        | inl far ↦ different-names (λ n. n / 64) e other (λ k below x y. none-shared all.far (marks_of e).far k far (within.far k y) x)
-        | inr index ↦ different-indexes e other (λ k below x y. none-shared all.index (marks_of e).index k index (within.index k y) x)
-      ]
-    ]
+harmless_if all e other within h = harmless_by_word all e other within (not_meeting all (marks_of e) h)
 
 counts-write : (b : Bool) → (b || not false) ≡ true
 counts-write true = refl

@@ -10,27 +10,29 @@ use region_paths::Elem;
 /// Bits for the elements that paths begin with. A path whose element is of another kind has all bits in the word.
 #[derive(Clone, Copy, Debug)]
 pub struct Marks {
-    /// A bit for the number of the region that a path begins with, modulo 64.
-    pub near: u64,
-    /// The same, for its quotient by 64, modulo 64.
-    pub far: u64,
-    /// A bit for the literal index that is the second element, for its quotient by 64, modulo 64.
-    pub index: u64,
+    /// A bit for the number of the region that a path begins with, modulo 128.
+    pub near: u128,
+    /// The same, for its quotient by 128, modulo 128.
+    pub far: u128,
+    /// A bit for the literal index that is the second element, modulo 128.
+    pub index: u128,
+    /// The same, for its quotient by 128, modulo 128.
+    pub far_index: u128,
 }
 
 /// The word with this bit alone.
-fn one_bit(bit: u32) -> u64
-    requires { bit < 64 }
+fn one_bit(bit: u32) -> u128
+    requires { bit < 128 }
     ensures { result ≡ 2 ^ bit }
 {
     1 << bit
 }
 
-/// The word with the bit of the number, modulo 64.
-fn bit_of(number: u32) -> u64
-    ensures { result ≡ 2 ^ (number % 64) }
+/// The word with the bit of the number, modulo 128.
+fn bit_of(number: u32) -> u128
+    ensures { result ≡ 2 ^ (number % 128) }
 {
-    one_bit(number % 64)
+    one_bit(number % 128)
 }
 
 /// The marks of an effect.
@@ -39,21 +41,32 @@ pub fn marks_of(effect: &Effect) -> Marks
 {
     let elems = effect.path.elems();
     let (near, far) = match elems.get(0) {
-        Some(Elem::Name(name)) => (bit_of(*name), bit_of(*name / 64)),
-        _ => (u64::MAX, u64::MAX),
+        Some(Elem::Name(name)) => (bit_of(*name), bit_of(*name / 128)),
+        _ => (u128::MAX, u128::MAX),
     };
-    let index = match elems.get(1) {
-        Some(Elem::Index(index)) => bit_of(index.unsigned_abs() / 64),
-        _ => u64::MAX,
+    let (index, far_index) = match elems.get(1) {
+        Some(Elem::Index(index)) => {
+            let number = index.unsigned_abs();
+            (bit_of(number), bit_of(number / 128))
+        }
+        _ => (u128::MAX, u128::MAX),
     };
-    Marks { near, far, index }
+    Marks {
+        near,
+        far,
+        index,
+        far_index,
+    }
 }
 
 /// Whether the marks have a bit in common in each word.
 pub fn meet(first: Marks, second: Marks) -> bool
     ensures { result ≡ meet first second }
 {
-    first.near & second.near != 0 && first.far & second.far != 0 && first.index & second.index != 0
+    first.near & second.near != 0
+        && first.far & second.far != 0
+        && first.index & second.index != 0
+        && first.far_index & second.far_index != 0
 }
 
 /// The marks of either.
@@ -64,6 +77,7 @@ fn joined(first: Marks, second: Marks) -> Marks
         near: first.near | second.near,
         far: first.far | second.far,
         index: first.index | second.index,
+        far_index: first.far_index | second.far_index,
     }
 }
 
@@ -88,6 +102,7 @@ pub fn marks_of_effects(effects: &Summary) -> Marks
         near: 0,
         far: 0,
         index: 0,
+        far_index: 0,
     };
     marks_over(false, none, effects)
 }
@@ -100,6 +115,7 @@ pub fn marks_of_all(only_writes: bool, spawns: &[Spawn]) -> Marks
         near: 0,
         far: 0,
         index: 0,
+        far_index: 0,
     };
     for spawn in spawns {
         marks = marks_over(only_writes, marks, &spawn.effects);

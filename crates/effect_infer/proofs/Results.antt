@@ -11,10 +11,12 @@ use Rattle.twe_limits.specs.Language.{max_effects}
 use Rattle.twe_program.specs.Program.{Program}
 use Rattle.method_needs.specs.declared.need.Need.{Need}
 use Rattle.method_needs.specs.Needs.{IsNeed, own, called, IsWidest, Widens, effect_of}
-use Rattle.method_needs.specs.Choices.{with_summaries, IsChoice, NoMethodFails, HasNeeds, CoversNeeds}
+use Rattle.twe_program.specs.WellFormed.{IsWellFormed}
+use Rattle.method_needs.specs.Choices.{with_summaries, IsChoice, NoMethodFails, NoRuleFails, HasNeeds, CoversNeeds}
 use Rattle.method_needs.proofs.Inside.{covers-trans}
 use Rattle.method_needs.proofs.Soundness as sound
 use Rattle.method_needs.proofs.Leastness as least
+use Rattle.method_needs.proofs.Staying as staying
 use Rattle.first_failure.proofs.Members.{IsIn, contains-in, in-contains, in-list_any}
 use Rattle.effect_infer.specs.declared.found.Found.{Found}
 use Rattle.effect_infer.specs.declared.fail.InferFail.{InferFail}
@@ -120,6 +122,9 @@ module _ (p : Program) (table : List (List Need)) (wide : IsWidestTable p table)
 
     pub accepted : NoMethodFails (with_summaries (map summary_of table) p)
     accepted = sound.accepted p (map summary_of table) (length-map table summary_of ∙ wide.long) from-need covers-needs
+
+    pub stays : IsWellFormed p → NoRuleFails p → NoRuleFails (with_summaries (map summary_of table) p)
+    stays well passes = staying.stays-accepted p (map summary_of table) well (length-map table summary_of ∙ wide.long) from-need covers-needs passes
 
     pub covered-by-all : AreCoveredByAll p (map summary_of table)
     covered-by-all chosen choice passes m mine summary effect at here there =

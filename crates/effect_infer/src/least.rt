@@ -1,6 +1,7 @@
 //! The least summaries of a program's methods.
 ghost use Rattle.std.specs.Prelude.{◌≡◌, ◌<◌, ◌^◌, length, IfErr, IfOk};
-ghost use Rattle.method_needs.specs.Choices.{NoMethodFails, with_summaries};
+ghost use Rattle.twe_program.specs.WellFormed.{IsWellFormed};
+ghost use Rattle.method_needs.specs.Choices.{NoMethodFails, NoRuleFails, with_summaries};
 ghost use Rattle.effect_infer.specs.Covered.{HasFoundAll};
 ghost use Rattle.effect_infer.specs.Inferred.{AreCoveredByAll, AreLeast, HasCause};
 ghost use Rattle.effect_infer.specs.Table.{IsWidestTable};
@@ -35,6 +36,7 @@ fn find(alloc: Global, p: &Prog) -> Result<AllFound, Memory>
 fn widest(alloc: Global, p: &Prog) -> Result<Table, Memory>
     ensures count { IfOk result (λ table. length table < 2 ^ 32) }
     ensures widest { IfOk result (IsWidestTable p.now) }
+    ensures well_formed { IfOk result (λ table. IsWellFormed p.now) }
 {
     let methods = p.methods.as_slice();
     if methods.len() > u32::MAX as usize {
@@ -46,10 +48,12 @@ fn widest(alloc: Global, p: &Prog) -> Result<Table, Memory>
 
 /// The least summary of each method: the needs of the method that no other of its needs covers. What methods declare is not
 /// looked at. With these summaries no method fails the rule on methods, and every choice with which none fails covers them.
+/// A program that fails no rule on effects fails none with these summaries in the place of the declared ones.
 /// It fails exactly if some method would have more than 8 effects, with the first such method, or if memory runs out.
 pub fn infer(alloc: Global, p: &Prog) -> Result<Needs, InferFail>
     ensures least { IfOk result (AreLeast p.now) }
     ensures accepted { IfOk result (λ needs. NoMethodFails (with_summaries needs p.now)) }
+    ensures stays { IfOk result (λ needs. NoRuleFails p.now → NoRuleFails (with_summaries needs p.now)) }
     ensures covered { IfOk result (AreCoveredByAll p.now) }
     ensures refused { IfErr result (HasCause p.now) }
 {

@@ -15,7 +15,7 @@ use Rattle.flat_sched.specs.inner.Lists.{IsListed, IsReady}
 use Rattle.flat_sched.specs.declared.books.Books.{Books}
 
 module _ (p : Program) (lim : Bounds) where
-  none_enabled : (t : ℕ) → ¬ HasStatus (start_of p lim) t Enabled
+  pub none_enabled : (t : ℕ) → ¬ HasStatus (start_of p lim) t Enabled
   none_enabled zero has =
       let made : has.0.status ≡ Made = ap (λ (r : TaskRow). r.status) (got_one (slice_get (start_of p lim).tasks 0) has.1 refl) in
       cc (made, has.2)

@@ -138,7 +138,7 @@ module _ (p : Program) (lim : Bounds) (well : IsWellFormed p) (st : State) (kind
   many = linked st stands.links
 
   -- a status after the move was one before it
-  status_back : (u : ℕ) (status : TaskStatus) → u ≢ t → u < length st.tasks → HasStatus after u status → HasStatus st u status
+  pub status_back : (u : ℕ) (status : TaskStatus) → u ≢ t → u < length st.tasks → HasStatus after u status → HasStatus st u status
   status_back u status ne below has =
       let row = there u below in
       let same = other u row.0 ne row.1 in

@@ -15,6 +15,7 @@ mod stuck;
 
 pub use held::held_by;
 pub use laws::{one_stuck_cycle, stuck_cycles_have_true_edges};
+pub use looking::{bar_among, is_enabled};
 pub use lowest_run::run_lowest;
 pub use stuck::stuck_cycle;
 pub use twe_machine::lowest;

@@ -20,7 +20,7 @@ use twe_io::Memory;
 use twe_machine::{State, TaskStatus};
 
 /// Whether a task is enabled.
-pub(crate) fn is_enabled(st: &State, t: u32) -> bool
+pub fn is_enabled(st: &State, t: u32) -> bool
     ensures { IsTrue result ↔ HasStatus st.now t Enabled }
 {
     match st.tasks.get(t as usize) {
@@ -56,7 +56,7 @@ fn is_bar(st: &State, s: u32, t: u32) -> bool
 }
 
 /// The first bar to `t` among the tasks of a list from a place on, if there is one.
-fn bar_among(st: &State, tasks: &[u32], from: usize, t: u32) -> Option<u32>
+pub fn bar_among(st: &State, tasks: &[u32], from: usize, t: u32) -> Option<u32>
     requires there { t < length st.now.tasks }
     requires linked { length st.now.links ≡ length st.now.tasks }
     requires filled { EffectsAreFilled st.now }

@@ -41,7 +41,7 @@ starts-push (a ∷ xs) (b ∷ ys) x y e h w =
     let parts = and_parts _ _ h in
     and_from _ _ parts.0 (starts-push xs ys x y (omega (arith, e)) parts.1 w)
 
-starts-reverse : (xs ys : List Elem) → length xs ≡ length ys → starts_within xs ys ≡ true → starts_within (reverse xs) (reverse ys) ≡ true
+pub starts-reverse : (xs ys : List Elem) → length xs ≡ length ys → starts_within xs ys ≡ true → starts_within (reverse xs) (reverse ys) ≡ true
 starts-reverse [] [] e h = refl
 starts-reverse [] (b ∷ ys) e h = absurd (omega (arith, e))
 starts-reverse (a ∷ xs) [] e h = absurd (omega (arith, e))

@@ -47,7 +47,7 @@ summary-settled params s need speaks h =
     in-list_any (λ d. effect_covers d (effect_of (settled params need))) s.effects found.0 found.1
     (covers-settled params need found.0 (list_all-in (speaks_of params) s.effects speaks found.0 found.1) found.2)
 
-map-in : (f : Effect → Effect) (xs : List Effect) (x : Effect) → IsIn x xs → IsIn (f x) (map f xs)
+pub map-in : (f : Effect → Effect) (xs : List Effect) (x : Effect) → IsIn x xs → IsIn (f x) (map f xs)
 map-in f [] x h = absurd h
 map-in f (y ∷ ys) x (inl e) = inl (ap f e)
 map-in f (y ∷ ys) x (inr h) = inr (map-in f ys x h)
@@ -58,7 +58,7 @@ sure true h = refl
 sure false h = absurd (h (λ e. false≢true e))
 
 -- a method that needs something is there
-need-decl : (p : Program) (m : ℕ) (need : Need) → IsNeed p m need → (decl : Decl) × (slice_get p.methods m ≡ Some decl)
+pub need-decl : (p : Program) (m : ℕ) (need : Need) → IsNeed p m need → (decl : Decl) × (slice_get p.methods m ≡ Some decl)
 need-decl p m need (own n decl step has) = (decl, has.0)
 need-decl p m need (called n decl callee args inner has needed) = (decl, has.0)
 

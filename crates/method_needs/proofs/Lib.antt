@@ -4,3 +4,7 @@ pub mod Steps
 pub mod Relation
 pub mod Soundness
 pub mod Leastness
+pub mod Shrinking
+pub mod Alike
+pub mod Narrowing
+pub mod Staying

@@ -50,7 +50,7 @@ map-effects-in f (x ∷ xs) y (inl e) = (x, inl refl, e)
 map-effects-in f (x ∷ xs) y (inr h) = let found = map-effects-in f xs y h in (found.0, inr found.1, found.2)
 
 -- the effects of a called method, filled with the arguments
-filled-in : (q : Program) (callee : ℕ) (args : List Elem) (found : Option Decl) (effect : Effect) → IsIn effect (filled_summary found args).effects
+pub filled-in : (q : Program) (callee : ℕ) (args : List Elem) (found : Option Decl) (effect : Effect) → IsIn effect (filled_summary found args).effects
     → (decl : Decl) × (found ≡ Some decl) × ((e : Effect) × IsIn e decl.summary.effects × (effect ≡ fill_effect args e))
 filled-in q callee args None effect h = absurd h
 filled-in q callee args (Some decl) effect h = (decl, refl, map-effects-in (fill_effect args) decl.summary.effects effect h)
@@ -71,7 +71,7 @@ module _ (p : Program) (summaries : List Summary) (one_each : length summaries �
       (all m summary (settled decl.params (filled_need args need)) there (needs.called m decl callee args need (is, step) needed))
 
   -- an effect of a called method comes from a need of it
-  called-need : (callee : ℕ) (args : List Elem) (effect : Effect) → IsIn effect (filled_summary (slice_get (with_summaries summaries p).methods callee) args).effects
+  pub called-need : (callee : ℕ) (args : List Elem) (effect : Effect) → IsIn effect (filled_summary (slice_get (with_summaries summaries p).methods callee) args).effects
       → (need : Need) × IsNeed p callee need × (effect ≡ effect_of (filled_need args need))
   called-need callee args effect h =
       let found = filled-in (with_summaries summaries p) callee args (slice_get (with_summaries summaries p).methods callee) effect h in

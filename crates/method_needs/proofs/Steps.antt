@@ -144,7 +144,7 @@ element-index (Negative operand) = refl
 element-index (Negation operand) = refl
 element-index (Binary op left right place) = refl
 
-elements-indexes : (es : Arguments) → are_indexes (elements_of es) ≡ true
+pub elements-indexes : (es : Arguments) → are_indexes (elements_of es) ≡ true
 elements-indexes args.no_more = refl
 elements-indexes (argument first others) = true-both (is_index (element_of first)) (are_indexes (elements_of others)) (element-index first) (elements-indexes others)
 

@@ -8,6 +8,7 @@ use Rattle.effect_sets.specs.declared.effects.Summary.{Summary}
 use Rattle.effect_sets.specs.Covers.{covers}
 use Rattle.twe_program.specs.declared.program.Decl.{Decl}
 use Rattle.twe_program.specs.Program.{Program}
+use Rattle.effect_check.specs.declared.rule.ERule.{ERule}
 use Rattle.effect_check.specs.declared.rule.ERule.TheVariants.{E8}
 use Rattle.effect_check.specs.FailsEffect.{FailsEffect}
 use Rattle.method_needs.specs.declared.need.Need.{Need}
@@ -26,6 +27,10 @@ with_summaries summaries p = record p { methods = with_each summaries p.methods 
 -- no method fails the rule on methods
 abbrev pub NoMethodFails : Program → Type 0
 NoMethodFails p = (place : Place) → ¬ FailsEffect p E8 place
+
+-- the program keeps every rule on effects
+abbrev pub NoRuleFails : Program → Type 0
+NoRuleFails p = (rule : ERule) (place : Place) → ¬ FailsEffect p rule place
 
 -- the variables of the effect are parameters, of which there are so many
 abbrev pub speaks_of : ℕ → Effect → Bool

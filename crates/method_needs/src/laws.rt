@@ -2,7 +2,8 @@
 ghost use Rattle.std.specs.Prelude.{◌≡◌, length, List};
 ghost use Rattle.effect_sets.specs.declared.effects.Summary.{Summary};
 ghost use Rattle.twe_program.specs.Program.{Program};
-ghost use Rattle.method_needs.specs.Choices.{CoversNeeds, HasNeeds, IsChoice, NoMethodFails, with_summaries};
+ghost use Rattle.twe_program.specs.WellFormed.{IsWellFormed};
+ghost use Rattle.method_needs.specs.Choices.{CoversNeeds, HasNeeds, IsChoice, NoMethodFails, NoRuleFails, with_summaries};
 
 /// If each summary is made of needs of its method and covers all of them, no method fails the rule on methods.
 pub fn covering_choices_are_accepted()
@@ -14,4 +15,10 @@ pub fn covering_choices_are_accepted()
 pub fn accepted_choices_cover_needs()
     ensures { (p : Program) (summaries : List Summary) → IsChoice p summaries
         → NoMethodFails (with_summaries summaries p) → CoversNeeds p summaries }
+{}
+
+/// A program that fails no rule on effects fails none with such summaries either: tasks that call the methods stay covered.
+pub fn covering_choices_keep_programs_accepted()
+    ensures { (p : Program) (summaries : List Summary) → IsWellFormed p → length summaries ≡ length p.methods
+        → HasNeeds p summaries → CoversNeeds p summaries → NoRuleFails p → NoRuleFails (with_summaries summaries p) }
 {}

@@ -10,5 +10,8 @@ mod laws;
 mod need;
 
 pub use collect_body::steps_of_body;
-pub use laws::{accepted_choices_cover_needs, covering_choices_are_accepted};
+pub use laws::{
+    accepted_choices_cover_needs, covering_choices_are_accepted,
+    covering_choices_keep_programs_accepted,
+};
 pub use need::{Need, Step, Steps};

@@ -82,7 +82,8 @@ fn check_decl(
 /// Checks the declaration of a cell, except for the limits on cells and nodes.
 #[tactic(auto, using(crate::proofs::FirstSites::decl_sites))]
 fn check_cell(cell: &CellDecl, alloc: Global, globals: &Globals, first: &mut Option<Failure<NRule>>)
-    ensures { first.new ≡ first_from (first_of_sites globals.now first.old (sites_of_item globals.now (items.Cell cell.now))) (item_failures (items.Cell cell.now)) }
+    ensures { first.new ≡ first_from (first_of_sites globals.now first.old (sites_of_item globals.now (items.Cell cell.now)))
+        (item_failures (items.Cell cell.now)) }
 {
     let nothing = Locals::new(alloc);
     check_cell_path(cell.path.elems.as_slice(), globals, &nothing, first);

@@ -27,7 +27,8 @@ pub fn segments_do_not_see_numbers()
 /// numbering that agrees on the tasks of the frame.
 pub fn frames_keep_their_numbers()
     ensures entry { (p : Program) (to : Numbering) (task number fuel : ℕ) (args : List ℤ)
-        → SameButNumbers to (record (entry_frame p task args) { task = number; fuel = fuel }) (record (entry_frame p task args) { task = to number; fuel = fuel }) }
+        → SameButNumbers to (record (entry_frame p task args) { task = number; fuel = fuel })
+        (record (entry_frame p task args) { task = to number; fuel = fuel }) }
     ensures given { (to : Numbering) (frame other : Frame) (value : ℤ) → TellsApart to frame → SameButNumbers to frame other
         → SameButNumbers to (given frame value) (given other value) }
     ensures printed { (to : Numbering) (frame other : Frame) → SameButNumbers to frame other

@@ -1,21 +1,36 @@
 -- What is done at once for a continuation frame, as steps of the evaluator.
-use Rattle.std.proofs.Common.{◌≡◌, ℤ, pos, Option, None, Some, Ok, Err, List, [], refl, sym, subst}
+use Rattle.std.proofs.Common.{◌≡◌, ℤ, pos, Option, None, Some, Ok, Err, List, [], refl, ap, sym, ◌∙◌, subst}
 use Rattle.twe_program.specs.Program.{Program}
 use Rattle.twe_program.specs.Expression.{Expression}
 use Rattle.seg_exec.specs.declared.request.Request.{Request}
 use Rattle.seg_exec.specs.declared.request.Ending.{Ending}
 use Rattle.seg_exec.specs.declared.request.Ending.TheVariants.{Returned}
 use Rattle.seg_exec.specs.declared.value.Fault.{Fault}
+use Rattle.twe_io.specs.declared.place.Place.{Place}
+use Rattle.twe_ast.specs.declared.expr.BinOp.{BinOp}
 use Rattle.seg_exec.specs.Access.{Ways}
-use Rattle.seg_exec.specs.inner.Continuations.{Config, Continuation, Evaluate, with_operand}
+use Rattle.seg_exec.specs.Arithmetic.{decided, is_true}
+use Rattle.seg_exec.specs.inner.Continuations.{Apply, Config, Continuation, Evaluate, Right, to_do, top, with_operand, without_operand}
 use Rattle.seg_exec.specs.inner.Reached.{MayRequest, Served, Standing}
-use Rattle.seg_exec.specs.inner.Steps.{Step, on, worked}
+use Rattle.seg_exec.specs.inner.Steps.{Step, on, right_by, worked}
 use Rattle.seg_exec.specs.inner.Strides.{Carries, Ends, EvaluatesTo, Goes, MayEvaluate, MayGo, doing, fault_ending}
 use Rattle.seg_exec.proofs.Strides.{ended, ends_alike, last_step, may_now, may_then, one_step, silent, then_carries}
 
 -- a standing by its configuration
 abbrev pub placed : {C : Type 0} → Config → C → List ℤ → Standing C
 placed config cells prints = record { config = config; cells = cells; prints = prints }
+
+-- the left operand decides, or the right one is evaluated
+pub left_decides : (p : Program) (op : BinOp) (right : Expression) (place : Place) (old mid : Config) (value : ℤ) → decided op (is_true (top old.operands)) ≡ Some value
+    → mid ≡ with_operand value (without_operand old) → worked p (Right op right place) old ≡ on mid
+left_decides p op right place old mid value is same =
+    ap (λ (d : Option ℤ). right_by d op (top old.operands) right place (without_operand old)) is ∙ ap on (sym same)
+
+pub right_counts : (p : Program) (op : BinOp) (right : Expression) (place : Place) (old mid : Config) → decided op (is_true (top old.operands)) ≡ None
+    → mid ≡ with_operand (top old.operands) (without_operand old) → worked p (Right op right place) old ≡ on (to_do (Evaluate right) (to_do (Apply op place) mid))
+right_counts p op right place old mid is same =
+    ap (λ (d : Option ℤ). right_by d op (top old.operands) right place (without_operand old)) is
+    ∙ ap (λ (c : Config). on (to_do (Evaluate right) (to_do (Apply op place) c))) (sym same)
 
 module _ {C : Type 0} (p : Program) (ways : Ways C) where
   -- one step and what it asks for

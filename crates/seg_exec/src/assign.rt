@@ -94,7 +94,8 @@ fn set_element<C: Cells>(
     cells: &mut C,
 ) -> Carried
     requires { MayDo p.now (ways_of C.known C.may_read C.may_write C.rule) (to_element index.now value.now array place) vars.old cells.old }
-    ensures { Does p.now (ways_of C.known C.may_read C.may_write C.rule) (to_element index.now value.now array place) vars.old cells.old result vars.new cells.new }
+    ensures { Does p.now (ways_of C.known C.may_read C.may_write C.rule)
+        (to_element index.now value.now array place) vars.old cells.old result vars.new cells.new }
 {
     if !is_plain(index) {
         return Carried::Left;

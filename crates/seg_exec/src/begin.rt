@@ -4,7 +4,7 @@ ghost use Rattle.seg_exec.specs.inner.Continuations.{Choose, Evaluate, Rest, Tur
 ghost use Rattle.seg_exec.specs.inner.Steps.{on, returning};
 ghost use Rattle.seg_exec.specs.inner.Views.{config_of};
 
-use crate::continuation::Continuation;
+use crate::continuation::{Continuation, ValueUse};
 use crate::machine::Machine;
 use crate::request::Request;
 use twe_io::{Memory, Place};
@@ -43,9 +43,10 @@ impl<'a> Machine<'a> {
         body: &'a Block,
         place: Place,
     ) -> Result<Request, Memory>
-        ensures { IfOk result (λ request. (request, config_of self.new) ≡ on (to_do (Evaluate condition.now) (to_do (Turn again.now body.now place) (config_of self.old)))) }
+        ensures { IfOk result (λ request. (request, config_of self.new) ≡
+            on (to_do (Evaluate condition.now) (to_do (Turn again.now body.now place) (config_of self.old)))) }
     {
-        self.evaluate_then(condition, Continuation::Turn { again, body, place })
+        self.evaluate_then(condition, ValueUse::Turn { again, body, place })
     }
 
     /// Schedules the return from the body, with 0 if the statement returns no value.
@@ -55,10 +56,10 @@ impl<'a> Machine<'a> {
         match value {
             None => {
                 self.push_operand(0)?;
-                self.push(Continuation::Unwind)?;
+                self.push(Continuation::UseValue(ValueUse::Unwind))?;
                 Ok(Request::Nothing)
             }
-            Some(value) => self.evaluate_then(value, Continuation::Unwind),
+            Some(value) => self.evaluate_then(value, ValueUse::Unwind),
         }
     }
 }

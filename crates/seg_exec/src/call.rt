@@ -8,7 +8,7 @@ ghost use Rattle.seg_exec.specs.inner.Steps.{asked_unit, entering, gathered, gat
 ghost use Rattle.seg_exec.specs.inner.Views.{config_of};
 ghost use Rattle.seg_exec.specs.declared.continuation.Goal.TheVariants.{Enter};
 
-use crate::continuation::{Continuation, Goal};
+use crate::continuation::{Continuation, Gathering, Goal, Suspension};
 use crate::machine::{Machine, fault};
 use crate::operation::Operation;
 use crate::request::Request;
@@ -54,11 +54,12 @@ impl<'a> Machine<'a> {
     pub(crate) fn gather(&mut self, alloc: Global, args: &'a Args, goal: Goal) -> Result<(), Memory>
         ensures { IfOk result (λ _. config_of self.new ≡ to_do (Gather [] args.now goal) (config_of self.old)) }
     {
-        self.push(Continuation::Gather {
+        let gathering = Gathering {
             taken: Ints::new(alloc),
             args: args.items.as_slice(),
             goal,
-        })
+        };
+        self.push(Continuation::Gather(Box::new(alloc, gathering)?))
     }
 
     /// Schedules the call of a method. Its arguments are evaluated first, from the left.
@@ -89,7 +90,8 @@ impl<'a> Machine<'a> {
         match args {
             [] => self.gathered(alloc, p, taken, goal),
             [first, args @ ..] => {
-                self.push(Continuation::Take { taken, args, goal })?;
+                let gathering = Gathering { taken, args, goal };
+                self.push(Continuation::Take(Box::new(alloc, gathering)?))?;
                 self.push(Continuation::Evaluate(first))?;
                 Ok(Request::Nothing)
             }
@@ -99,6 +101,7 @@ impl<'a> Machine<'a> {
     /// Pops the value of an argument and puts it after those before it.
     pub(crate) fn take_argument(
         &mut self,
+        alloc: Global,
         taken: Ints,
         args: &'a [Expr],
         goal: Goal,
@@ -107,7 +110,8 @@ impl<'a> Machine<'a> {
     {
         let mut taken = taken;
         taken.push(self.pop_operand())?;
-        self.push(Continuation::Gather { taken, args, goal })?;
+        let gathering = Gathering { taken, args, goal };
+        self.push(Continuation::Gather(Box::new(alloc, gathering)?))?;
         Ok(Request::Nothing)
     }
 
@@ -187,10 +191,11 @@ impl<'a> Machine<'a> {
             return Ok(fault(FaultKind::Fuel, place));
         }
         self.fuel -= 1;
-        self.push(Continuation::Suspend {
+        let suspension = Suspension {
             operation,
             positions: Stack::new(alloc),
-        })?;
+        };
+        self.push(Continuation::Suspend(Box::new(alloc, suspension)?))?;
         Ok(Request::Nothing)
     }
 }

@@ -7,10 +7,10 @@ ghost use Rattle.seg_exec.specs.inner.Reached.{standing};
 ghost use Rattle.seg_exec.specs.inner.Strides.{Carries, MayGo, doing};
 
 use crate::cells::Cells;
-use crate::continuation::Continuation;
+use crate::continuation::ValueUse;
 use crate::machine::Machine;
 use crate::request::Ending;
-use crate::stepping::{evaluate_then, step};
+use crate::stepping::{evaluate_then, serve};
 use std::alloc::Global;
 use twe_io::{Ints, Memory};
 use twe_program::{Arm, Arms, Block, Prog};
@@ -26,22 +26,25 @@ pub(crate) fn choose<'a, C: Cells>(
     arms: &'a [Arm],
     last: &'a Option<Block>,
 ) -> Result<Option<Ending>, Memory>
-    requires { MayGo p.now (ways_of C.known C.may_read C.may_write C.rule) (doing (Choose block (arms_of (drop block arms.now) last.now)) (standing machine.old cells.old prints.old)) }
-    ensures { IfOk result (λ ending. Carries p.now (ways_of C.known C.may_read C.may_write C.rule) (doing (Choose block (arms_of (drop block arms.now) last.now)) (standing machine.old cells.old prints.old)) ending (standing machine.new cells.new prints.new)) }
+    requires { MayGo p.now (ways_of C.known C.may_read C.may_write C.rule)
+        (doing (Choose block (arms_of (drop block arms.now) last.now)) (standing machine.old cells.old prints.old)) }
+    ensures { IfOk result (λ ending. Carries p.now (ways_of C.known C.may_read C.may_write C.rule)
+        (doing (Choose block (arms_of (drop block arms.now) last.now)) (standing machine.old cells.old prints.old))
+        ending (standing machine.new cells.new prints.new)) }
 {
     if block < arms.len() {
         let arm = &arms[block];
-        let then = Continuation::Chosen {
+        let then = ValueUse::Chosen {
             block,
             next: block + 1,
             body: &arm.body,
             arms,
             last,
         };
-        return evaluate_then(alloc, p, machine, cells, prints, &arm.condition, then);
+        return evaluate_then(alloc, p, machine, cells, prints, &arm.condition, &then);
     }
-    let otherwise = Continuation::Choose { block, arms, last };
-    step(alloc, p, machine, cells, prints, otherwise)
+    let request = machine.choose(block, arms, last)?;
+    serve(machine, cells, prints, request)
 }
 
 /// Tries the arms of an `if` from the first on.
@@ -54,7 +57,8 @@ pub(crate) fn choose_first<'a, C: Cells>(
     arms: &'a Arms,
 ) -> Result<Option<Ending>, Memory>
     requires { MayGo p.now (ways_of C.known C.may_read C.may_write C.rule) (doing (Choose 0 arms.now) (standing machine.old cells.old prints.old)) }
-    ensures { IfOk result (λ ending. Carries p.now (ways_of C.known C.may_read C.may_write C.rule) (doing (Choose 0 arms.now) (standing machine.old cells.old prints.old)) ending (standing machine.new cells.new prints.new)) }
+    ensures { IfOk result (λ ending. Carries p.now (ways_of C.known C.may_read C.may_write C.rule)
+        (doing (Choose 0 arms.now) (standing machine.old cells.old prints.old)) ending (standing machine.new cells.new prints.new)) }
 {
     choose(
         alloc,

@@ -31,32 +31,30 @@ pub(crate) enum Goal {
     },
 }
 
-/// A continuation frame: one thing that is still to be done. Each value is pushed onto the operand stack.
+/// Arguments of which some have values.
 #[derive(Debug, Drop)]
-pub(crate) enum Continuation<'a> {
-    /// Evaluate an expression.
-    Evaluate(&'a Expr),
-    /// Execute a statement.
-    Execute(&'a Stmt),
-    /// Execute the statements of a block from the one at `at` on.
-    Rest {
-        /// The number of the block.
-        block: usize,
-        /// The index of the next statement in the block.
-        at: usize,
-        /// The statements of the block.
-        stmts: &'a [Stmt],
-    },
-    /// Try the arms of an `if` from the one numbered `block` on.
-    Choose {
-        /// The number of the next arm.
-        block: usize,
-        /// The arms that have a condition.
-        arms: &'a [Arm],
-        /// The block of the last `else`, if there is one.
-        last: &'a Option<Block>,
-    },
-    /// Execute the body of an arm if its condition is true, and try the arms after it otherwise.
+pub(crate) struct Gathering<'a> {
+    /// The values of the first arguments.
+    pub(crate) taken: Ints,
+    /// The arguments after them, or after the one whose value is the latest.
+    pub(crate) args: &'a [Expr],
+    /// What they are for.
+    pub(crate) goal: Goal,
+}
+
+/// A stop at a task operation.
+#[derive(Debug, Drop)]
+pub(crate) struct Suspension {
+    /// The operation.
+    pub(crate) operation: Operation,
+    /// The positions of the blocks that are closed already, the outermost on top.
+    pub(crate) positions: Stack<Position>,
+}
+
+/// What is done with the latest value of the operand stack.
+#[derive(Clone, Copy, Debug)]
+pub(crate) enum ValueUse<'a> {
+    /// Execute the body of an arm if it is true, and try the arms after it otherwise.
     Chosen {
         /// The number of the arm.
         block: usize,
@@ -69,7 +67,7 @@ pub(crate) enum Continuation<'a> {
         /// The block of the last `else`, if there is one.
         last: &'a Option<Block>,
     },
-    /// Make a turn of a loop if its condition is true, and end it otherwise.
+    /// Make a turn of a loop if it is true, and end the loop otherwise.
     Turn {
         /// The loop.
         again: &'a Stmt,
@@ -77,24 +75,6 @@ pub(crate) enum Continuation<'a> {
         body: &'a Block,
         /// The place of the word `while`.
         place: Place,
-    },
-    /// Evaluate the arguments that have no value yet.
-    Gather {
-        /// The values of the arguments before them.
-        taken: Ints,
-        /// The arguments.
-        args: &'a [Expr],
-        /// What they are for.
-        goal: Goal,
-    },
-    /// Use the value of an argument, then evaluate those after it.
-    Take {
-        /// The values of the arguments before it.
-        taken: Ints,
-        /// The arguments after it.
-        args: &'a [Expr],
-        /// What they are for.
-        goal: Goal,
     },
     /// Compute the negative of a number.
     Negate,
@@ -154,13 +134,41 @@ pub(crate) enum Continuation<'a> {
     Discard,
     /// Return the latest value from the body.
     Unwind,
-    /// Stop the segment at a task operation.
-    Suspend {
-        /// The operation.
-        operation: Operation,
-        /// The positions of the blocks that are closed already, the outermost on top.
-        positions: Stack<Position>,
+}
+
+/// A continuation frame: one thing that is still to be done. Each value is pushed onto the operand stack.
+#[derive(Debug, Drop)]
+pub(crate) enum Continuation<'a> {
+    /// Evaluate an expression.
+    Evaluate(&'a Expr),
+    /// Execute a statement.
+    Execute(&'a Stmt),
+    /// Execute the statements of a block from the one at `at` on.
+    Rest {
+        /// The number of the block.
+        block: usize,
+        /// The index of the next statement in the block.
+        at: usize,
+        /// The statements of the block.
+        stmts: &'a [Stmt],
     },
+    /// Try the arms of an `if` from the one numbered `block` on.
+    Choose {
+        /// The number of the next arm.
+        block: usize,
+        /// The arms that have a condition.
+        arms: &'a [Arm],
+        /// The block of the last `else`, if there is one.
+        last: &'a Option<Block>,
+    },
+    /// Use the latest value.
+    UseValue(ValueUse<'a>),
+    /// Evaluate the arguments that have no value yet.
+    Gather(Box<Gathering<'a>>),
+    /// Use the value of an argument, then evaluate those after it.
+    Take(Box<Gathering<'a>>),
+    /// Stop the segment at a task operation.
+    Suspend(Box<Suspension>),
     /// Return 0 from a method to its caller, which has these variables.
     Leave(Ints),
 }
@@ -187,24 +195,10 @@ impl Continuation<'_> {
             Continuation::Evaluate(_) => Recovered::Nothing,
             Continuation::Execute(_) => Recovered::Nothing,
             Continuation::Choose { .. } => Recovered::Nothing,
-            Continuation::Chosen { .. } => Recovered::Nothing,
-            Continuation::Turn { .. } => Recovered::Nothing,
-            Continuation::Gather { .. } => Recovered::Nothing,
-            Continuation::Take { .. } => Recovered::Nothing,
-            Continuation::Negate => Recovered::Nothing,
-            Continuation::Invert => Recovered::Nothing,
-            Continuation::Right { .. } => Recovered::Nothing,
-            Continuation::Apply { .. } => Recovered::Nothing,
-            Continuation::ReadElement { .. } => Recovered::Nothing,
-            Continuation::ReadGridElement { .. } => Recovered::Nothing,
-            Continuation::GiveVar(_) => Recovered::Nothing,
-            Continuation::GiveCell(_) => Recovered::Nothing,
-            Continuation::GiveElement { .. } => Recovered::Nothing,
-            Continuation::GiveGridElement { .. } => Recovered::Nothing,
-            Continuation::PrintValue(_) => Recovered::Nothing,
-            Continuation::Discard => Recovered::Nothing,
-            Continuation::Unwind => Recovered::Nothing,
-            Continuation::Suspend { .. } => Recovered::Nothing,
+            Continuation::UseValue(_) => Recovered::Nothing,
+            Continuation::Gather(_) => Recovered::Nothing,
+            Continuation::Take(_) => Recovered::Nothing,
+            Continuation::Suspend(_) => Recovered::Nothing,
         }
     }
 }

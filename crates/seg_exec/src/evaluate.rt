@@ -5,7 +5,7 @@ ghost use Rattle.seg_exec.specs.inner.Steps.{evaluated, on};
 ghost use Rattle.seg_exec.specs.inner.Views.{config_of};
 
 use crate::arithmetic::number_of;
-use crate::continuation::Continuation;
+use crate::continuation::{Continuation, ValueUse};
 use crate::elements::cell_number;
 use crate::machine::Machine;
 use crate::request::Request;
@@ -23,9 +23,10 @@ impl<'a> Machine<'a> {
 
     /// Schedules the read of an element of an array.
     fn element(&mut self, array: u32, index: &'a Expr, place: Place) -> Result<Request, Memory>
-        ensures { IfOk result (λ request. (request, config_of self.new) ≡ on (to_do (Evaluate index.now) (to_do (ReadElement array place) (config_of self.old)))) }
+        ensures { IfOk result (λ request. (request, config_of self.new) ≡
+            on (to_do (Evaluate index.now) (to_do (ReadElement array place) (config_of self.old)))) }
     {
-        self.evaluate_then(index, Continuation::ReadElement { array, place })
+        self.evaluate_then(index, ValueUse::ReadElement { array, place })
     }
 
     /// Schedules the read of an element of a grid. Its row is evaluated before its column.
@@ -36,10 +37,14 @@ impl<'a> Machine<'a> {
         column: &'a Expr,
         place: Place,
     ) -> Result<Request, Memory>
-        ensures { IfOk result (λ request. (request, config_of self.new) ≡ on (to_do (Evaluate row.now) (to_do (Evaluate column.now) (to_do (ReadGridElement array place) (config_of self.old))))) }
+        ensures { IfOk result (λ request. (request, config_of self.new) ≡
+            on (to_do (Evaluate row.now) (to_do (Evaluate column.now) (to_do (ReadGridElement array place) (config_of self.old))))) }
     {
-        self.push(Continuation::ReadGridElement { array, place })?;
-        self.evaluate_then(row, Continuation::Evaluate(column))
+        let then = ValueUse::ReadGridElement { array, place };
+        self.push(Continuation::UseValue(then))?;
+        self.push(Continuation::Evaluate(column))?;
+        self.push(Continuation::Evaluate(row))?;
+        Ok(Request::Nothing)
     }
 
     /// Schedules an operator. Its left operand is evaluated before its right one.
@@ -50,9 +55,10 @@ impl<'a> Machine<'a> {
         right: &'a Expr,
         place: Place,
     ) -> Result<Request, Memory>
-        ensures { IfOk result (λ request. (request, config_of self.new) ≡ on (to_do (Evaluate left.now) (to_do (Right op right.now place) (config_of self.old)))) }
+        ensures { IfOk result (λ request. (request, config_of self.new) ≡
+            on (to_do (Evaluate left.now) (to_do (Right op right.now place) (config_of self.old)))) }
     {
-        self.evaluate_then(left, Continuation::Right { op, right, place })
+        self.evaluate_then(left, ValueUse::Right { op, right, place })
     }
 
     /// Pushes the value of an expression onto the operand stack, requests the value of a cell, or pushes the continuation
@@ -90,8 +96,8 @@ impl<'a> Machine<'a> {
                 args,
                 place,
             } => self.call(alloc, *method, args, *place),
-            ExprKind::Neg(operand) => self.evaluate_then(operand, Continuation::Negate),
-            ExprKind::Not(operand) => self.evaluate_then(operand, Continuation::Invert),
+            ExprKind::Neg(operand) => self.evaluate_then(operand, ValueUse::Negate),
+            ExprKind::Not(operand) => self.evaluate_then(operand, ValueUse::Invert),
             ExprKind::Bin {
                 op,
                 left,

@@ -3,7 +3,7 @@ ghost use Rattle.std.specs.Prelude.{◌≡◌, IfOk};
 ghost use Rattle.seg_exec.specs.inner.Steps.{assigning, executed};
 ghost use Rattle.seg_exec.specs.inner.Views.{config_of};
 
-use crate::continuation::Continuation;
+use crate::continuation::{Continuation, ValueUse};
 use crate::machine::Machine;
 use crate::request::Request;
 use std::alloc::Global;
@@ -24,15 +24,20 @@ impl<'a> Machine<'a> {
     {
         match second {
             None => {
-                self.push(Continuation::GiveElement { array, place })?;
-                self.evaluate_then(index, Continuation::Evaluate(value))
+                let then = ValueUse::GiveElement { array, place };
+                self.push(Continuation::UseValue(then))?;
+                self.push(Continuation::Evaluate(value))?;
+                self.push(Continuation::Evaluate(index))?;
             }
             Some(second) => {
-                self.push(Continuation::GiveGridElement { array, place })?;
+                let then = ValueUse::GiveGridElement { array, place };
+                self.push(Continuation::UseValue(then))?;
                 self.push(Continuation::Evaluate(value))?;
-                self.evaluate_then(index, Continuation::Evaluate(second))
+                self.push(Continuation::Evaluate(second))?;
+                self.push(Continuation::Evaluate(index))?;
             }
         }
+        Ok(Request::Nothing)
     }
 
     /// Pushes the continuation that executes a statement.
@@ -41,11 +46,11 @@ impl<'a> Machine<'a> {
     {
         match &stmt.kind {
             StmtKind::Block(body) => self.begin_block(body),
-            StmtKind::Let { var, value } => self.evaluate_then(value, Continuation::GiveVar(*var)),
-            StmtKind::Set { var, value } => self.evaluate_then(value, Continuation::GiveVar(*var)),
+            StmtKind::Let { var, value } => self.evaluate_then(value, ValueUse::GiveVar(*var)),
+            StmtKind::Set { var, value } => self.evaluate_then(value, ValueUse::GiveVar(*var)),
             StmtKind::SetCell { cell, value, .. } => self.evaluate_then(
                 value,
-                Continuation::GiveCell(*cell),
+                ValueUse::GiveCell(*cell),
             ),
             StmtKind::SetAt {
                 array,
@@ -63,7 +68,7 @@ impl<'a> Machine<'a> {
             StmtKind::Return(value) => self.begin_return(value),
             StmtKind::Print { value, place } => self.evaluate_then(
                 value,
-                Continuation::PrintValue(*place),
+                ValueUse::PrintValue(*place),
             ),
             StmtKind::Call {
                 method,

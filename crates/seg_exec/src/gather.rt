@@ -9,11 +9,11 @@ ghost use Rattle.seg_exec.specs.inner.Reached.{standing};
 ghost use Rattle.seg_exec.specs.inner.Strides.{Carries, MayGo, doing};
 
 use crate::cells::Cells;
-use crate::continuation::{Continuation, Goal};
+use crate::continuation::Goal;
 use crate::machine::Machine;
 use crate::plain::is_plain;
 use crate::request::Ending;
-use crate::stepping::step;
+use crate::stepping::serve;
 use crate::value::value_of;
 use std::alloc::Global;
 use twe_io::{Ints, Memory, Place};
@@ -29,6 +29,26 @@ fn plain_argument(args: &[Expr], at: usize) -> Option<&Expr>
     }
 }
 
+/// Makes the next step: evaluates an argument that calls a method, or does what the arguments are for.
+fn gather_next<'a, C: Cells>(
+    alloc: Global,
+    p: &'a Prog,
+    machine: &mut Machine<'a>,
+    cells: &mut C,
+    prints: &mut Ints,
+    taken: Ints,
+    args: &'a [Expr],
+    goal: Goal,
+) -> Result<Option<Ending>, Memory>
+    requires { MayGo p.now (ways_of C.known C.may_read C.may_write C.rule)
+        (doing (Gather taken (arguments_of args.now) goal) (standing machine.old cells.old prints.old)) }
+    ensures { IfOk result (λ ending. Carries p.now (ways_of C.known C.may_read C.may_write C.rule)
+        (doing (Gather taken (arguments_of args.now) goal) (standing machine.old cells.old prints.old)) ending (standing machine.new cells.new prints.new)) }
+{
+    let request = machine.gather_next(alloc, p, taken, args, goal)?;
+    serve(machine, cells, prints, request)
+}
+
 /// Evaluates the arguments up to the first that calls a method, and then makes the next step.
 pub(crate) fn gather<'a, C: Cells>(
     alloc: Global,
@@ -40,8 +60,10 @@ pub(crate) fn gather<'a, C: Cells>(
     args: &'a [Expr],
     goal: Goal,
 ) -> Result<Option<Ending>, Memory>
-    requires { MayGo p.now (ways_of C.known C.may_read C.may_write C.rule) (doing (Gather taken (arguments_of args.now) goal) (standing machine.old cells.old prints.old)) }
-    ensures { IfOk result (λ ending. Carries p.now (ways_of C.known C.may_read C.may_write C.rule) (doing (Gather taken (arguments_of args.now) goal) (standing machine.old cells.old prints.old)) ending (standing machine.new cells.new prints.new)) }
+    requires { MayGo p.now (ways_of C.known C.may_read C.may_write C.rule)
+        (doing (Gather taken (arguments_of args.now) goal) (standing machine.old cells.old prints.old)) }
+    ensures { IfOk result (λ ending. Carries p.now (ways_of C.known C.may_read C.may_write C.rule)
+        (doing (Gather taken (arguments_of args.now) goal) (standing machine.old cells.old prints.old)) ending (standing machine.new cells.new prints.new)) }
 {
     let mut values = taken;
     let mut next = 0;
@@ -52,12 +74,8 @@ pub(crate) fn gather<'a, C: Cells>(
         }
         next += 1;
     }
-    let then = Continuation::Gather {
-        taken: values,
-        args: &args[next..],
-        goal,
-    };
-    step(alloc, p, machine, cells, prints, then)
+    let args = &args[next..];
+    gather_next(alloc, p, machine, cells, prints, values, args, goal)
 }
 
 /// Evaluates the arguments of a call as far as they call no method; if all have values, enters the method.
@@ -71,8 +89,10 @@ pub(crate) fn call<'a, C: Cells>(
     args: &'a Args,
     place: Place,
 ) -> Result<Option<Ending>, Memory>
-    requires { MayGo p.now (ways_of C.known C.may_read C.may_write C.rule) (doing (Gather [] args.now (Enter method place)) (standing machine.old cells.old prints.old)) }
-    ensures { IfOk result (λ ending. Carries p.now (ways_of C.known C.may_read C.may_write C.rule) (doing (Gather [] args.now (Enter method place)) (standing machine.old cells.old prints.old)) ending (standing machine.new cells.new prints.new)) }
+    requires { MayGo p.now (ways_of C.known C.may_read C.may_write C.rule)
+        (doing (Gather [] args.now (Enter method place)) (standing machine.old cells.old prints.old)) }
+    ensures { IfOk result (λ ending. Carries p.now (ways_of C.known C.may_read C.may_write C.rule)
+        (doing (Gather [] args.now (Enter method place)) (standing machine.old cells.old prints.old)) ending (standing machine.new cells.new prints.new)) }
 {
     let taken = Ints::new(alloc);
     let goal = Goal::Enter { method, place };

@@ -4,9 +4,9 @@ ghost use Rattle.seg_exec.specs.inner.Continuations.{Evaluate, to_do, top, with_
 ghost use Rattle.seg_exec.specs.inner.Steps.{on};
 ghost use Rattle.seg_exec.specs.declared.request.Request.TheVariants.{End};
 ghost use Rattle.seg_exec.specs.declared.request.Ending.TheVariants.{Faulted};
-ghost use Rattle.seg_exec.specs.inner.Views.{continuation_of, config_of};
+ghost use Rattle.seg_exec.specs.inner.Views.{continuation_of, config_of, use_of};
 
-use crate::continuation::Continuation;
+use crate::continuation::{Continuation, ValueUse};
 use crate::request::{Ending, Request};
 use twe_io::{Ints, Memory, Place, Stack};
 use twe_limits::FaultKind;
@@ -61,11 +61,11 @@ impl<'a> Machine<'a> {
     pub(crate) fn evaluate_then(
         &mut self,
         expr: &'a Expr,
-        then: Continuation<'a>,
+        then: ValueUse<'a>,
     ) -> Result<Request, Memory>
-        ensures { IfOk result (λ request. (request, config_of self.new) ≡ on (to_do (Evaluate expr.now) (to_do (continuation_of then.entry) (config_of self.old)))) }
+        ensures { IfOk result (λ request. (request, config_of self.new) ≡ on (to_do (Evaluate expr.now) (to_do (use_of then.entry) (config_of self.old)))) }
     {
-        self.push(then)?;
+        self.push(Continuation::UseValue(then))?;
         self.push(Continuation::Evaluate(expr))?;
         Ok(Request::Nothing)
     }

@@ -6,7 +6,7 @@ ghost use Rattle.seg_exec.specs.inner.Continuations.{Discard, Gather, Suspend, t
 ghost use Rattle.seg_exec.specs.inner.Steps.{asked_unit, on};
 ghost use Rattle.seg_exec.specs.inner.Views.{config_of};
 
-use crate::continuation::{Continuation, Goal};
+use crate::continuation::{Continuation, Goal, ValueUse};
 use crate::machine::Machine;
 use crate::operation::Operation;
 use crate::request::Request;
@@ -23,9 +23,10 @@ impl<'a> Machine<'a> {
         args: &'a Args,
         place: Place,
     ) -> Result<Request, Memory>
-        ensures { IfOk result (λ request. (request, config_of self.new) ≡ on (to_do (Gather [] args.now (Enter method place)) (to_do Discard (config_of self.old)))) }
+        ensures { IfOk result (λ request. (request, config_of self.new) ≡
+            on (to_do (Gather [] args.now (Enter method place)) (to_do Discard (config_of self.old)))) }
     {
-        self.push(Continuation::Discard)?;
+        self.push(Continuation::UseValue(ValueUse::Discard))?;
         self.call(alloc, method, args, place)
     }
 
@@ -39,7 +40,8 @@ impl<'a> Machine<'a> {
         spawned: bool,
         place: Place,
     ) -> Result<Request, Memory>
-        ensures { IfOk result (λ request. (request, config_of self.new) ≡ on (to_do (Gather [] args.now (Make future task spawned place)) (config_of self.old))) }
+        ensures { IfOk result (λ request. (request, config_of self.new) ≡
+            on (to_do (Gather [] args.now (Make future task spawned place)) (config_of self.old))) }
     {
         let goal = Goal::Make {
             future,
@@ -60,7 +62,8 @@ impl<'a> Machine<'a> {
         into: Option<u32>,
         place: Place,
     ) -> Result<Request, Memory>
-        ensures { IfOk result (λ request. (request, config_of self.new) ≡ asked_unit place (config_of self.old) (λ c. on (to_do (Suspend (Wait future join into) []) c))) }
+        ensures { IfOk result (λ request. (request, config_of self.new) ≡
+            asked_unit place (config_of self.old) (λ c. on (to_do (Suspend (Wait future join into) []) c))) }
     {
         let operation = Operation::Wait { future, join, into };
         self.suspend(alloc, operation, place)

@@ -10,11 +10,11 @@ ghost use Rattle.seg_exec.specs.Access.{ways_of};
 use crate::assign::{Carried, assign};
 use crate::cells::Cells;
 use crate::choose::{choose, choose_first};
-use crate::continuation::Continuation;
+use crate::continuation::{Continuation, Gathering, ValueUse};
 use crate::gather::gather;
 use crate::machine::Machine;
 use crate::request::Ending;
-use crate::stepping::{evaluate, evaluate_then, leave, step};
+use crate::stepping::{evaluate, evaluate_then, right_of, serve, step, use_value};
 use std::alloc::Global;
 use twe_io::{Ints, Memory};
 use twe_program::{Prog, Stmt, StmtKind};
@@ -29,57 +29,46 @@ fn execute<'a, C: Cells>(
     stmt: &'a Stmt,
 ) -> Result<Option<Ending>, Memory>
     requires { MayGo p.now (ways_of C.known C.may_read C.may_write C.rule) (doing (Execute stmt.now) (standing machine.old cells.old prints.old)) }
-    ensures { IfOk result (λ ending. Carries p.now (ways_of C.known C.may_read C.may_write C.rule) (doing (Execute stmt.now) (standing machine.old cells.old prints.old)) ending (standing machine.new cells.new prints.new)) }
+    ensures { IfOk result (λ ending. Carries p.now (ways_of C.known C.may_read C.may_write C.rule)
+        (doing (Execute stmt.now) (standing machine.old cells.old prints.old)) ending (standing machine.new cells.new prints.new)) }
 {
     match &stmt.kind {
         StmtKind::Let { var, value } => {
-            let then = Continuation::GiveVar(*var);
-            evaluate_then(alloc, p, machine, cells, prints, value, then)
+            let then = ValueUse::GiveVar(*var);
+            evaluate_then(alloc, p, machine, cells, prints, value, &then)
         }
         StmtKind::Set { var, value } => {
-            let then = Continuation::GiveVar(*var);
-            evaluate_then(alloc, p, machine, cells, prints, value, then)
+            let then = ValueUse::GiveVar(*var);
+            evaluate_then(alloc, p, machine, cells, prints, value, &then)
         }
         StmtKind::SetCell { cell, value, .. } => {
-            let then = Continuation::GiveCell(*cell);
-            evaluate_then(alloc, p, machine, cells, prints, value, then)
+            let then = ValueUse::GiveCell(*cell);
+            evaluate_then(alloc, p, machine, cells, prints, value, &then)
         }
         StmtKind::While {
             condition,
             body,
             place,
         } => {
-            let then = Continuation::Turn {
+            let then = ValueUse::Turn {
                 again: stmt,
                 body,
                 place: *place,
             };
-            evaluate_then(alloc, p, machine, cells, prints, condition, then)
+            evaluate_then(alloc, p, machine, cells, prints, condition, &then)
         }
         StmtKind::If(arms) => choose_first(alloc, p, machine, cells, prints, arms),
         StmtKind::Return(Some(value)) => {
-            evaluate_then(
-                alloc,
-                p,
-                machine,
-                cells,
-                prints,
-                value,
-                Continuation::Unwind,
-            )
+            evaluate_then(alloc, p, machine, cells, prints, value, &ValueUse::Unwind)
         }
         StmtKind::Print { value, place } => {
-            let then = Continuation::PrintValue(*place);
-            evaluate_then(alloc, p, machine, cells, prints, value, then)
+            let then = ValueUse::PrintValue(*place);
+            evaluate_then(alloc, p, machine, cells, prints, value, &then)
         }
-        _ => step(
-            alloc,
-            p,
-            machine,
-            cells,
-            prints,
-            Continuation::Execute(stmt),
-        ),
+        _ => {
+            let request = machine.execute(alloc, stmt)?;
+            serve(machine, cells, prints, request)
+        }
     }
 }
 
@@ -95,8 +84,11 @@ fn begin_statement<'a, C: Cells>(
     stmts: &'a [Stmt],
 ) -> Result<Option<Ending>, Memory>
     requires within { at < length stmts.now }
-    requires may { MayGo p.now (ways_of C.known C.may_read C.may_write C.rule) (doing (Rest block at (statements_of (drop at stmts.now))) (standing machine.old cells.old prints.old)) }
-    ensures { IfOk result (λ ending. Carries p.now (ways_of C.known C.may_read C.may_write C.rule) (doing (Rest block at (statements_of (drop at stmts.now))) (standing machine.old cells.old prints.old)) ending (standing machine.new cells.new prints.new)) }
+    requires may { MayGo p.now (ways_of C.known C.may_read C.may_write C.rule)
+        (doing (Rest block at (statements_of (drop at stmts.now))) (standing machine.old cells.old prints.old)) }
+    ensures { IfOk result (λ ending. Carries p.now (ways_of C.known C.may_read C.may_write C.rule)
+        (doing (Rest block at (statements_of (drop at stmts.now))) (standing machine.old cells.old prints.old))
+        ending (standing machine.new cells.new prints.new)) }
 {
     machine.push(Continuation::Rest {
         block,
@@ -117,8 +109,11 @@ fn go_on<'a, C: Cells>(
     at: usize,
     stmts: &'a [Stmt],
 ) -> Result<Option<Ending>, Memory>
-    requires { MayGo p.now (ways_of C.known C.may_read C.may_write C.rule) (doing (Rest block at (statements_of (drop at stmts.now))) (standing machine.old cells.old prints.old)) }
-    ensures { IfOk result (λ ending. Carries p.now (ways_of C.known C.may_read C.may_write C.rule) (doing (Rest block at (statements_of (drop at stmts.now))) (standing machine.old cells.old prints.old)) ending (standing machine.new cells.new prints.new)) }
+    requires { MayGo p.now (ways_of C.known C.may_read C.may_write C.rule)
+        (doing (Rest block at (statements_of (drop at stmts.now))) (standing machine.old cells.old prints.old)) }
+    ensures { IfOk result (λ ending. Carries p.now (ways_of C.known C.may_read C.may_write C.rule)
+        (doing (Rest block at (statements_of (drop at stmts.now))) (standing machine.old cells.old prints.old))
+        ending (standing machine.new cells.new prints.new)) }
 {
     let mut next = at;
     while next < stmts.len() {
@@ -143,7 +138,8 @@ pub(crate) fn perform<'a, C: Cells>(
     work: Continuation<'a>,
 ) -> Result<Option<Ending>, Memory>
     requires { MayGo p.now (ways_of C.known C.may_read C.may_write C.rule) (doing (continuation_of work) (standing machine.old cells.old prints.old)) }
-    ensures { IfOk result (λ ending. Carries p.now (ways_of C.known C.may_read C.may_write C.rule) (doing (continuation_of work.entry) (standing machine.old cells.old prints.old)) ending (standing machine.new cells.new prints.new)) }
+    ensures { IfOk result (λ ending. Carries p.now (ways_of C.known C.may_read C.may_write C.rule)
+        (doing (continuation_of work.entry) (standing machine.old cells.old prints.old)) ending (standing machine.new cells.new prints.new)) }
 {
     match work {
         Continuation::Evaluate(expr) => evaluate(alloc, p, machine, cells, prints, expr),
@@ -154,8 +150,12 @@ pub(crate) fn perform<'a, C: Cells>(
         Continuation::Choose { block, arms, last } => {
             choose(alloc, p, machine, cells, prints, block, arms, last)
         }
-        Continuation::Unwind => leave(p, machine, cells, prints),
-        Continuation::Gather { taken, args, goal } => {
+        Continuation::UseValue(ValueUse::Right { op, right, place }) => {
+            right_of(alloc, p, machine, cells, prints, op, right, place)
+        }
+        Continuation::UseValue(then) => use_value(p, machine, cells, prints, &then),
+        Continuation::Gather(gathering) => {
+            let Gathering { taken, args, goal } = Box::into_inner(gathering);
             gather(alloc, p, machine, cells, prints, taken, args, goal)
         }
         work => step(alloc, p, machine, cells, prints, work),

@@ -6,12 +6,11 @@ ghost use Rattle.seg_exec.specs.inner.Steps.{back_with, chosen_next, choosing, o
 ghost use Rattle.seg_exec.specs.inner.Views.{config_of, continuations_of};
 
 use crate::arithmetic::is_true;
-use crate::continuation::{Continuation, Recovered};
+use crate::continuation::{Continuation, Recovered, Suspension, ValueUse};
 use crate::frame::Position;
 use crate::machine::{Machine, fault};
-use crate::operation::Operation;
 use crate::request::{Ending, Request};
-use twe_io::{Ints, Memory, Place, Stack};
+use twe_io::{Ints, Memory, Place};
 use twe_limits::FaultKind;
 use twe_program::{Arm, Block, Stmt};
 
@@ -47,13 +46,13 @@ impl<'a> Machine<'a> {
     {
         if block < arms.len() {
             let arm = &arms[block];
-            self.push(Continuation::Chosen {
+            self.push(Continuation::UseValue(ValueUse::Chosen {
                 block,
                 next: block + 1,
                 body: &arm.body,
                 arms,
                 last,
-            })?;
+            }))?;
             self.push(Continuation::Evaluate(&arm.condition))?;
         } else if let Some(body) = last {
             self.push(Continuation::Rest {
@@ -74,7 +73,8 @@ impl<'a> Machine<'a> {
         arms: &'a [Arm],
         last: &'a Option<Block>,
     ) -> Result<Request, Memory>
-        ensures { IfOk result (λ request. (request, config_of self.new) ≡ chosen_next block next body.now (arms_of (drop next arms.now) last.now) (config_of self.old)) }
+        ensures { IfOk result (λ request. (request, config_of self.new) ≡
+            chosen_next block next body.now (arms_of (drop next arms.now) last.now) (config_of self.old)) }
     {
         if is_true(self.pop_operand()) {
             self.push(Continuation::Rest {
@@ -146,8 +146,8 @@ impl<'a> Machine<'a> {
                 let value = self.pop_operand();
                 self.back(value, vars)?;
             }
-            Recovered::Block(_) => self.push(Continuation::Unwind)?,
-            Recovered::Nothing => self.push(Continuation::Unwind)?,
+            Recovered::Block(_) => self.push(Continuation::UseValue(ValueUse::Unwind))?,
+            Recovered::Nothing => self.push(Continuation::UseValue(ValueUse::Unwind))?,
         }
         Ok(Request::Nothing)
     }
@@ -173,14 +173,16 @@ impl<'a> Machine<'a> {
     }
 
     /// Unwinds the continuation up to its end and collects the positions of the open blocks, then ends with the operation.
-    pub(crate) fn suspend_on(
-        &mut self,
-        operation: Operation,
-        positions: Stack<Position>,
-    ) -> Result<Request, Memory>
-        ensures { IfOk result (λ request. (request, config_of self.new) ≡ suspended operation positions (continuations_of self.old.work) (config_of self.old)) }
+    pub(crate) fn suspend_on(&mut self, suspension: Box<Suspension>) -> Result<Request, Memory>
+        ensures { IfOk result (λ request. (request, config_of self.new) ≡
+            suspended suspension.value.operation suspension.value.positions (continuations_of self.old.work) (config_of self.old)) }
     {
+        let mut suspension = suspension;
         let Some(work) = self.work.pop() else {
+            let Suspension {
+                operation,
+                positions,
+            } = Box::into_inner(suspension);
             return Ok(Request::End(Ending::Suspended {
                 operation,
                 positions,
@@ -189,17 +191,10 @@ impl<'a> Machine<'a> {
         match work.recovered() {
             Recovered::Caller(vars) => self.back(0, vars)?,
             Recovered::Block(position) => {
-                let mut positions = positions;
-                positions.push(position)?;
-                self.push(Continuation::Suspend {
-                    operation,
-                    positions,
-                })?;
+                suspension.positions.push(position)?;
+                self.push(Continuation::Suspend(suspension))?;
             }
-            Recovered::Nothing => self.push(Continuation::Suspend {
-                operation,
-                positions,
-            })?,
+            Recovered::Nothing => self.push(Continuation::Suspend(suspension))?,
         }
         Ok(Request::Nothing)
     }

@@ -21,7 +21,8 @@ fn advance<'a, C: Cells>(
     prints: &mut Ints,
 ) -> Result<Option<Ending>, Memory>
     requires { MayGo p.now (ways_of C.known C.may_read C.may_write C.rule) (standing machine.old cells.old prints.old) }
-    ensures { IfOk result (λ ending. Carries p.now (ways_of C.known C.may_read C.may_write C.rule) (standing machine.old cells.old prints.old) ending (standing machine.new cells.new prints.new)) }
+    ensures { IfOk result (λ ending. Carries p.now (ways_of C.known C.may_read C.may_write C.rule)
+        (standing machine.old cells.old prints.old) ending (standing machine.new cells.new prints.new)) }
 {
     match machine.work.pop() {
         None => Ok(Some(Ending::Returned(0))),
@@ -38,7 +39,8 @@ pub(crate) fn run<'a, C: Cells>(
     prints: &mut Ints,
 ) -> Result<Ending, Memory>
     requires { MayRun p.now (ways_of C.known C.may_read C.may_write C.rule) (standing machine.old cells.old prints.old) }
-    ensures { IfOk result (λ ending. Finishes p.now (ways_of C.known C.may_read C.may_write C.rule) (standing machine.old cells.old prints.old) ending (standing machine.new cells.new prints.new)) }
+    ensures { IfOk result (λ ending. Finishes p.now (ways_of C.known C.may_read C.may_write C.rule)
+        (standing machine.old cells.old prints.old) ending (standing machine.new cells.new prints.new)) }
 {
     'units: loop {
         let fuel = machine.fuel;

@@ -2,7 +2,8 @@
 ghost use Rattle.std.specs.Prelude.{◌≡◌, IfOk, OnOk, length, option_map, slice_get};
 ghost use Rattle.twe_program.specs.Program.{cell_count};
 ghost use Rattle.seg_exec.specs.Access.{ways_of};
-ghost use Rattle.seg_exec.specs.Segment.{CarriesOut, HasRoomToSpawn, IsSegment, MayCarryOut, closing_stop, operation_next, operation_out, operation_stop, task_of};
+ghost use Rattle.seg_exec.specs.Segment.{CarriesOut, HasRoomToSpawn, IsSegment, MayCarryOut};
+ghost use Rattle.seg_exec.specs.Segment.{closing_stop, operation_next, operation_out, operation_stop, task_of};
 ghost use Rattle.seg_exec.specs.inner.Finished.{ended_with, finished};
 ghost use Rattle.seg_exec.specs.inner.Unfolded.{config_at};
 ghost use Rattle.seg_exec.specs.inner.Views.{config_of};

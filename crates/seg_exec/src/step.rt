@@ -1,9 +1,9 @@
 //! One step of the evaluator.
 ghost use Rattle.std.specs.Prelude.{◌≡◌, IfOk};
 ghost use Rattle.seg_exec.specs.inner.Steps.{worked};
-ghost use Rattle.seg_exec.specs.inner.Views.{config_of, continuation_of};
+ghost use Rattle.seg_exec.specs.inner.Views.{config_of, continuation_of, use_of};
 
-use crate::continuation::Continuation;
+use crate::continuation::{Continuation, Gathering, ValueUse};
 use crate::elements::cell_number;
 use crate::machine::Machine;
 use crate::request::Request;
@@ -12,6 +12,42 @@ use twe_io::Memory;
 use twe_program::Prog;
 
 impl<'a> Machine<'a> {
+    /// Uses the latest value.
+    pub(crate) fn use_value(&mut self, p: &Prog, then: &ValueUse<'a>) -> Result<Request, Memory>
+        ensures { IfOk result (λ request. (request, config_of self.new) ≡ worked p.now (use_of then.now) (config_of self.old)) }
+    {
+        match *then {
+            ValueUse::Chosen {
+                block,
+                next,
+                body,
+                arms,
+                last,
+            } => self.chosen(block, next, body, arms, last),
+            ValueUse::Turn { again, body, place } => self.turn(again, body, place),
+            ValueUse::Negate => self.negate(),
+            ValueUse::Invert => self.invert(),
+            ValueUse::Right { op, right, place } => self.right(op, right, place),
+            ValueUse::Apply { op, place } => self.apply(op, place),
+            ValueUse::ReadElement { array, place } => Ok(self.read_element(p, array, place)),
+            ValueUse::ReadGridElement { array, place } => Ok(self.read_grid_element(
+                p, array, place,
+            )),
+            ValueUse::GiveVar(var) => Ok(self.give_var(var)),
+            ValueUse::GiveCell(cell) => Ok(Request::Write(
+                cell_number(p, cell),
+                self.pop_operand(),
+            )),
+            ValueUse::GiveElement { array, place } => Ok(self.give_element(p, array, place)),
+            ValueUse::GiveGridElement { array, place } => Ok(self.give_grid_element(
+                p, array, place,
+            )),
+            ValueUse::PrintValue(place) => Ok(self.print(place)),
+            ValueUse::Discard => Ok(self.discard()),
+            ValueUse::Unwind => self.unwind(),
+        }
+    }
+
     /// Runs one continuation frame.
     pub(crate) fn act(
         &mut self,
@@ -26,42 +62,16 @@ impl<'a> Machine<'a> {
             Continuation::Execute(stmt) => self.execute(alloc, stmt),
             Continuation::Rest { block, at, stmts } => self.rest(block, at, stmts),
             Continuation::Choose { block, arms, last } => self.choose(block, arms, last),
-            Continuation::Chosen {
-                block,
-                next,
-                body,
-                arms,
-                last,
-            } => self.chosen(block, next, body, arms, last),
-            Continuation::Turn { again, body, place } => self.turn(again, body, place),
-            Continuation::Gather { taken, args, goal } => self.gather_next(
-                alloc, p, taken, args, goal,
-            ),
-            Continuation::Take { taken, args, goal } => self.take_argument(taken, args, goal),
-            Continuation::Negate => self.negate(),
-            Continuation::Invert => self.invert(),
-            Continuation::Right { op, right, place } => self.right(op, right, place),
-            Continuation::Apply { op, place } => self.apply(op, place),
-            Continuation::ReadElement { array, place } => Ok(self.read_element(p, array, place)),
-            Continuation::ReadGridElement { array, place } => Ok(self.read_grid_element(
-                p, array, place,
-            )),
-            Continuation::GiveVar(var) => Ok(self.give_var(var)),
-            Continuation::GiveCell(cell) => Ok(Request::Write(
-                cell_number(p, cell),
-                self.pop_operand(),
-            )),
-            Continuation::GiveElement { array, place } => Ok(self.give_element(p, array, place)),
-            Continuation::GiveGridElement { array, place } => Ok(self.give_grid_element(
-                p, array, place,
-            )),
-            Continuation::PrintValue(place) => Ok(self.print(place)),
-            Continuation::Discard => Ok(self.discard()),
-            Continuation::Unwind => self.unwind(),
-            Continuation::Suspend {
-                operation,
-                positions,
-            } => self.suspend_on(operation, positions),
+            Continuation::UseValue(then) => self.use_value(p, &then),
+            Continuation::Gather(gathering) => {
+                let Gathering { taken, args, goal } = Box::into_inner(gathering);
+                self.gather_next(alloc, p, taken, args, goal)
+            }
+            Continuation::Take(gathering) => {
+                let Gathering { taken, args, goal } = Box::into_inner(gathering);
+                self.take_argument(alloc, taken, args, goal)
+            }
+            Continuation::Suspend(suspension) => self.suspend_on(suspension),
             Continuation::Leave(vars) => self.leave(vars),
         }
     }

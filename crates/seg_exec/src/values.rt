@@ -2,11 +2,12 @@
 ghost use Rattle.std.specs.Prelude.{◌≡◌, IfOk};
 ghost use Rattle.seg_exec.specs.Arithmetic.{negation, negative};
 ghost use Rattle.seg_exec.specs.inner.Continuations.{top, with_operand, without_operand};
-ghost use Rattle.seg_exec.specs.inner.Steps.{applying, giving_element, giving_grid_element, giving_var, on, printing, reading_element, reading_grid_element, righting};
+ghost use Rattle.seg_exec.specs.inner.Steps.{applying, giving_element, giving_grid_element, giving_var};
+ghost use Rattle.seg_exec.specs.inner.Steps.{on, printing, reading_element, reading_grid_element, righting};
 ghost use Rattle.seg_exec.specs.inner.Views.{config_of};
 
 use crate::arithmetic::{decide, invert, is_true, negate, operate};
-use crate::continuation::Continuation;
+use crate::continuation::{Continuation, ValueUse};
 use crate::elements::{element_number, grid_element_number};
 use crate::machine::{Machine, fault};
 use crate::request::Request;
@@ -17,7 +18,8 @@ use twe_program::{BinOp, Expr, Prog};
 impl<'a> Machine<'a> {
     /// Replaces the latest value by its negative.
     pub(crate) fn negate(&mut self) -> Result<Request, Memory>
-        ensures { IfOk result (λ request. (request, config_of self.new) ≡ on (with_operand (negative (top self.old.operands)) (without_operand (config_of self.old)))) }
+        ensures { IfOk result (λ request. (request, config_of self.new) ≡
+            on (with_operand (negative (top self.old.operands)) (without_operand (config_of self.old)))) }
     {
         let value = self.pop_operand();
         self.evaluated_to(negate(value))
@@ -25,7 +27,8 @@ impl<'a> Machine<'a> {
 
     /// Replaces the latest value by its negation.
     pub(crate) fn invert(&mut self) -> Result<Request, Memory>
-        ensures { IfOk result (λ request. (request, config_of self.new) ≡ on (with_operand (negation (top self.old.operands)) (without_operand (config_of self.old)))) }
+        ensures { IfOk result (λ request. (request, config_of self.new) ≡
+            on (with_operand (negation (top self.old.operands)) (without_operand (config_of self.old)))) }
     {
         let value = self.pop_operand();
         self.evaluated_to(invert(value))
@@ -53,7 +56,7 @@ impl<'a> Machine<'a> {
             Some(value) => self.push_operand(value)?,
             None => {
                 self.push_operand(left)?;
-                self.push(Continuation::Apply { op, place })?;
+                self.push(Continuation::UseValue(ValueUse::Apply { op, place }))?;
                 self.push(Continuation::Evaluate(right))?;
             }
         }

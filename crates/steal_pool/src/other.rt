@@ -30,7 +30,8 @@ impl Model for Other {
 
     ghost view = { λ other. record { deck = (stealer_deque other.stealer).0; hand = known_of other.pass } };
 
-    ghost invariant = { λ other. (stealer_flavor other.stealer ≡ 0) × ((known_of other.pass).takes ≡ true) × IsPassOf (stealer_deque other.stealer) other.pass };
+    ghost invariant = { λ other. (stealer_flavor other.stealer ≡ 0) × ((known_of other.pass).takes ≡ true)
+        × IsPassOf (stealer_deque other.stealer) other.pass };
 }
 
 impl Other {

@@ -29,7 +29,8 @@ impl Model for Own {
 
     ghost view = { λ own. record { deck = (worker_deque own.worker).0; hand = worker_view own.worker; spare = own.spare } };
 
-    ghost invariant = { λ own. (worker_flavor own.worker ≡ 0) × (worker_port own.worker ≡ 0) × ((worker_view own.worker).takes ≡ true) × (worker_index own.worker + own.spare ≤ worker_capacity own.worker) };
+    ghost invariant = { λ own. (worker_flavor own.worker ≡ 0) × (worker_port own.worker ≡ 0) × ((worker_view own.worker).takes ≡ true)
+        × (worker_index own.worker + own.spare ≤ worker_capacity own.worker) };
 }
 
 impl Own {

@@ -16,16 +16,17 @@ use Rattle.twe_machine.specs.declared.state.State.{State}
 use Rattle.twe_machine.specs.Runs.{state_after}
 use Rattle.command_line.specs.declared.command.Command.{Command}
 use Rattle.command_line.specs.declared.command.Command.TheVariants.{Check, Run, Replay, Load}
-use Rattle.twe_cli.specs.declared.answer.Answer.{Answer}
-use Rattle.twe_cli.specs.declared.book.Book.{Book}
-use Rattle.twe_cli.specs.declared.status.Status.{Status}
-use Rattle.twe_cli.specs.declared.status.Status.TheVariants.{Done, Refused, Usage, Fault, Stuck, ReadFault, WriteFault, Memory, TooLong, BadJournal, Unfinished}
-use Rattle.twe_cli.specs.Answers.{Answers, AnswersReplay, AnswersRun, Cause, Due, Tells, default_limits, for_load, on_err, on_out}
-use Rattle.twe_cli.specs.Codes.{is_done}
+use Rattle.text_answers.specs.declared.answer.Answer.{Answer}
+use Rattle.text_answers.specs.declared.book.Book.{Book}
+use Rattle.text_answers.specs.declared.status.Status.{Status}
+use Rattle.text_answers.specs.declared.status.Status.TheVariants.{Done, Refused, Usage, Fault, Stuck, ReadFault, WriteFault, Memory, TooLong, BadJournal, Unfinished}
+use Rattle.text_answers.specs.Answers.{AnswersReplay, AnswersRun, Due, default_limits, for_load, on_err, on_out}
+use Rattle.twe_cli.specs.Answers.{Answers, Cause, Tells}
+use Rattle.text_answers.specs.Codes.{is_done}
 use Rattle.twe_report.specs.Texts as texts
 use Rattle.twe_cli.specs.Complete.{Completes, IsAmong, IsComplete, statuses_of}
-use Rattle.twe_cli.specs.Ends.{SourceTells, SinkTells}
-use Rattle.twe_cli.specs.Input.{HasInput, program_text}
+use Rattle.text_streams.specs.Ends.{SourceTells, SinkTells}
+use Rattle.text_answers.specs.Input.{HasInput, program_text}
 
 -- the statuses of runs
 abbrev RunStatuses : List Status
@@ -79,9 +80,9 @@ whole_is (Some xs) bytes input left is = is ∙ same_Some xs input left
 
 memory_among : (command : Command) → IsAmong Memory (statuses_of command)
 memory_among Check = inr (inl refl)
-memory_among (Run lim asked) = inr (inr (inr (inl refl)))
+memory_among (Run workers lim asked) = inr (inr (inr (inl refl)))
 memory_among (Replay lim) = inr (inr (inr (inl refl)))
-memory_among (Load n) = inr (inr (inr (inl refl)))
+memory_among (Load workers n) = inr (inr (inr (inl refl)))
 
 -- want of memory can stand in for any status
 pub memory_completes : {S O E : Type 0} (src : SourceTells S) (out : SinkTells O) (err : SinkTells E) (command : Command) (src_from src_to : S) (out_from out_to : O) (err_from err_to : E)
@@ -101,17 +102,17 @@ module _ (not_refused : (text : List ℕ) (p : Program) (refusal : Refusal) → 
       → answer.status ≡ Refused
   due_refused command input book answer r is (Due.refused other so has) = refl
   due_refused command input book answer r is (Due.accepted p same accepted has) = absurd (not_refused (program_text command input) p r accepted is)
-  due_refused command input book answer r is (Due.ran lim asked p outcome plain same accepted has answers) = absurd (not_refused (program_text command input) p r accepted is)
-  due_refused command input book answer r is (Due.loaded n p outcome plain same accepted has answers) = absurd (not_refused (program_text command input) p r accepted is)
+  due_refused command input book answer r is (Due.ran workers lim asked p outcome plain same accepted has answers) = absurd (not_refused (program_text command input) p r accepted is)
+  due_refused command input book answer r is (Due.loaded workers n p outcome plain same accepted has answers) = absurd (not_refused (program_text command input) p r accepted is)
   due_refused command input book answer r is (Due.replayed lim p same accepted answers) = absurd (not_refused (program_text command input) p r accepted is)
 
   due_accepted : (command : Command) (input : List ℕ) (book : Book) (answer : Answer) (p : Program) → Accepted (program_text command input) p → Due command input book answer
       → IsAmong answer.status (statuses_of command)
   due_accepted command input book answer p accepted (Due.refused r is has) = absurd (not_refused (program_text command input) p r accepted is)
   due_accepted command input book answer p accepted (Due.accepted q same is has) = subst (λ (c : Command). IsAmong Done (statuses_of c)) (sym same) (inl refl)
-  due_accepted command input book answer p accepted (Due.ran lim asked q outcome plain same is has answers) =
+  due_accepted command input book answer p accepted (Due.ran workers lim asked q outcome plain same is has answers) =
       subst (λ (c : Command). IsAmong plain.status (statuses_of c)) (sym same) (ran_status q _ _ outcome plain answers has.over)
-  due_accepted command input book answer p accepted (Due.loaded n q outcome plain same is has answers) =
+  due_accepted command input book answer p accepted (Due.loaded workers n q outcome plain same is has answers) =
       let last = state_after q default_limits book.journal in
       subst (λ (c : Command). IsAmong (for_load n last plain).status (statuses_of c)) (sym same)
       (subst (λ (s : Status). IsAmong s RunStatuses) (sym (load_keeps n last plain.status plain)) (ran_status q last _ outcome plain answers has.over))
@@ -125,8 +126,8 @@ module _ (not_refused : (text : List ℕ) (p : Program) (refusal : Refusal) → 
   }
 
   -- a load has the same text whatever the input
-  load_complete : (n : ℕ) (input : List ℕ) (status : Status) → IsComplete (Load n) [] status → IsComplete (Load n) input status
-  load_complete n input status c = record { refused = c.refused; accepted = c.accepted }
+  load_complete : (workers n : ℕ) (input : List ℕ) (status : Status) → IsComplete (Load workers n) [] status → IsComplete (Load workers n) input status
+  load_complete workers n input status c = record { refused = c.refused; accepted = c.accepted }
 
   cause_complete : {S : Type 0} (src : SourceTells S) (command : Command) (before after : S) (book : Book) (answer : Answer) (input : List ℕ)
       → Cause src (Some command) before after book answer → ¬ Rose (src.faults before) (src.faults after) → src.left before ≡ Some input → length input ≤ max_text_bytes
@@ -139,8 +140,8 @@ module _ (not_refused : (text : List ℕ) (p : Program) (refusal : Refusal) → 
       let is : command ≡ given = same_Some command given same in
       let text : bytes ≡ input = whole_is (src.left before) bytes input left was.told.0 in
       subst (λ (c : Command). IsComplete c input answer.status) (sym is) (subst (λ (t : List ℕ). IsComplete given t answer.status) text (due_complete given bytes book answer due))
-  cause_complete src command before after book answer input (Cause.no_input n same nothing never due) calm left short =
-      subst (λ (c : Command). IsComplete c input answer.status) (sym (same_Some command (Load n) same)) (load_complete n input answer.status (due_complete (Load n) [] book answer due))
+  cause_complete src command before after book answer input (Cause.no_input workers n same nothing never due) calm left short =
+      subst (λ (c : Command). IsComplete c input answer.status) (sym (same_Some command (Load workers n) same)) (load_complete workers n input answer.status (due_complete (Load workers n) [] book answer due))
 
   pub complete : {S O E : Type 0} (src : SourceTells S) (out : SinkTells O) (err : SinkTells E) (command : Command) (src_from src_to : S) (out_from out_to : O) (err_from err_to : E)
       (book : Book) (status : Status) → Answers src out err (Some command) src_from src_to out_from out_to err_from err_to book status

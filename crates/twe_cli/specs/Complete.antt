@@ -7,10 +7,10 @@ use Rattle.twe_frontend.specs.declared.refusal.Refusal.{Refusal}
 use Rattle.twe_frontend.specs.Accepted.{Accepted, IsRefusal}
 use Rattle.command_line.specs.declared.command.Command.{Command}
 use Rattle.command_line.specs.declared.command.Command.TheVariants.{Check, Run, Replay, Load}
-use Rattle.twe_cli.specs.declared.status.Status.{Status}
-use Rattle.twe_cli.specs.declared.status.Status.TheVariants.{Done, Refused, Fault, Stuck, Memory, BadJournal, Unfinished}
-use Rattle.twe_cli.specs.Ends.{SourceTells, SinkTells}
-use Rattle.twe_cli.specs.Input.{program_text}
+use Rattle.text_answers.specs.declared.status.Status.{Status}
+use Rattle.text_answers.specs.declared.status.Status.TheVariants.{Done, Refused, Fault, Stuck, Memory, BadJournal, Unfinished}
+use Rattle.text_streams.specs.Ends.{SourceTells, SinkTells}
+use Rattle.text_answers.specs.Input.{program_text}
 
 -- the status is one of these
 abbrev pub IsAmong : Status → List Status → Type 0
@@ -26,9 +26,9 @@ pub record NothingFails {S O E : Type 0} (src : SourceTells S) (out : SinkTells 
 -- the statuses of a command on a text that is accepted
 abbrev pub statuses_of : Command → List Status
 statuses_of Check = Done ∷ Memory ∷ []
-statuses_of (Run lim asked) = Done ∷ Fault ∷ Stuck ∷ Memory ∷ []
+statuses_of (Run workers lim asked) = Done ∷ Fault ∷ Stuck ∷ Memory ∷ []
 statuses_of (Replay lim) = Done ∷ Fault ∷ Stuck ∷ Memory ∷ BadJournal ∷ Unfinished ∷ []
-statuses_of (Load n) = Done ∷ Fault ∷ Stuck ∷ Memory ∷ []
+statuses_of (Load workers n) = Done ∷ Fault ∷ Stuck ∷ Memory ∷ []
 
 -- the status of a command on this input, if nothing fails: 1 or 7 if its program text is refused, and one of those above if it
 -- is accepted

@@ -1,7 +1,3 @@
 pub mod Answers
-pub mod Codes
-pub mod Ends
-pub mod Input
-pub mod Theorem
-pub mod inner
 pub mod Complete
+pub mod inner

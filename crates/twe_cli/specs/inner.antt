@@ -1,3 +1,2 @@
-pub mod FirstLine
 pub mod Given
 pub mod Writing

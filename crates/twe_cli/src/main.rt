@@ -2,26 +2,23 @@
 //! input and writes its answer.
 #![tactic(auto)]
 
-mod answer;
-mod book;
-mod input;
-mod laws;
-mod replaying;
-mod running;
+mod crew;
+mod reading;
 mod single;
-mod status;
+mod telling;
 #[cfg(test)]
 mod tests;
 mod top;
 
-use book::Book;
 use std::alloc::{AllocError, Global};
 use std::env;
 use std::io::ErrorKind;
 use std::process::ExitCode;
 use std::rt::Env;
+use text_answers::Book;
 use top::twe;
 use twe_io::{Memory, StdSink, StdSource, Word};
+use twe_rounds::FreeGate;
 
 fn main(rt: HostRuntime) -> ExitCode {
     let alloc = rt.alloc();
@@ -33,11 +30,13 @@ fn main(rt: HostRuntime) -> ExitCode {
     let mut err = StdSink::new(rt.stderr());
     let mut book = Book::new(alloc);
     let status = twe(
+        &rt,
         alloc,
         words.as_slice(),
         &mut src,
         &mut out,
         &mut err,
+        &FreeGate,
         &mut book,
     );
     ExitCode::from(status.code())

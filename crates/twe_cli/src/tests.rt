@@ -1,11 +1,14 @@
-//! What no run of the program shows: ends that fail. The rest is in `tests/cases/`.
-use crate::book::Book;
+//! What no run of the program shows: ends that fail, and workers that are at work at once. The rest is in `tests/cases/`.
 use crate::top::twe;
 use std::alloc::Global;
+use std::sync::Wait;
 use std::test::Fail;
+use std::thread::Threads;
+use text_answers::Book;
 use twe_io::{
     Bytes, Calls, MemSink, MemSource, Memory, PlainSink, PlainSource, Sink, Source, Word,
 };
+use twe_rounds::{FreeGate, Gate, MeetGate};
 
 const INCREMENT: &[u8] = b"region A;\nint x in A = 41;\ntask void main() writes A { x = x + 1; }\n";
 
@@ -17,20 +20,27 @@ const UNCOVERED: &[u8] = b"region A;\nint x in A = 41;\ntask void main() reads A
 
 const REFUSAL: &[u8] = b"refused: E1 at 3:28\n";
 
-/// Makes one call over these ends, and says its status.
-fn call<S: Source>(
+const TWO_TASKS: &[u8] = b"task void c() pure { }
+task void main() pure { future f = c.executeLater(); future g = c.executeLater(); }
+";
+
+/// Makes one call over these ends and with this gate, and says its status.
+fn call<R: Threads + Wait + Sync, S: Source, G: Gate + Sync>(
+    rt: &R,
     alloc: Global,
     words: &[&str],
     src: &mut S,
     out: &mut PlainSink,
     err: &mut PlainSink,
+    gate: &G,
 ) -> Result<u8, Memory> {
     let mut list = Vec::new(alloc);
     for word in words {
         list.push(Word::from_text(alloc, word)?)?;
     }
     let mut book = Book::new(alloc);
-    Ok(twe(alloc, list.as_slice(), src, out, err, &mut book).code())
+    let status = twe(rt, alloc, list.as_slice(), src, out, err, gate, &mut book);
+    Ok(status.code())
 }
 
 #[test]
@@ -40,7 +50,15 @@ fn a_source_that_fails_at_any_call_is_a_read_fault(rt: HostRuntime) -> Result<()
         let mut src = MemSource::new(text, 1, Calls::from_slice(rt.alloc(), &[at])?);
         let mut out = PlainSink::new(rt.alloc(), 200)?;
         let mut err = PlainSink::new(rt.alloc(), 200)?;
-        let status = call(rt.alloc(), &["run"], &mut src, &mut out, &mut err)?;
+        let status = call(
+            &rt,
+            rt.alloc(),
+            &["run"],
+            &mut src,
+            &mut out,
+            &mut err,
+            &FreeGate,
+        )?;
         // The text has 26 bytes, and call 27 finds the end.
         assert_eq!(rt; status, if at < 28 { 5 } else { 0 });
         let wanted = if at < 28 {
@@ -62,7 +80,16 @@ fn a_sink_that_fails_at_any_call_keeps_what_it_took(rt: HostRuntime) -> Result<(
         let mut err = PlainSink::new(rt.alloc(), 200)?;
         let mut book = Book::new(rt.alloc());
         let words = [Word::from_text(rt.alloc(), "run")?];
-        let status = twe(rt.alloc(), &words, &mut src, &mut out, &mut err, &mut book);
+        let status = twe(
+            &rt,
+            rt.alloc(),
+            &words,
+            &mut src,
+            &mut out,
+            &mut err,
+            &FreeGate,
+            &mut book,
+        );
         assert_eq!(rt; status.code(), if at < 16 { 6 } else { 0 });
         assert_eq!(rt; out.bytes(), &RESULT[..(at - 1) as usize]);
         assert_eq!(rt; err.bytes().len(), 0);
@@ -79,10 +106,33 @@ fn a_sink_of_errors_that_fails_at_any_call_keeps_what_it_took(rt: HostRuntime) -
         let mut err = MemSink::new(rt.alloc(), 200, 1, fails)?;
         let mut book = Book::new(rt.alloc());
         let words = [Word::from_text(rt.alloc(), "run")?];
-        let status = twe(rt.alloc(), &words, &mut src, &mut out, &mut err, &mut book);
+        let status = twe(
+            &rt,
+            rt.alloc(),
+            &words,
+            &mut src,
+            &mut out,
+            &mut err,
+            &FreeGate,
+            &mut book,
+        );
         assert_eq!(rt; status.code(), if at < 21 { 6 } else { 1 });
         assert_eq!(rt; err.bytes(), &REFUSAL[..(at - 1) as usize]);
         assert_eq!(rt; out.bytes().len(), 0);
     }
+    Ok(())
+}
+
+#[test]
+fn two_workers_run_segments_at_once(rt: HostRuntime) -> Result<(), Fail> {
+    let gate = MeetGate::new(100_000_000, false);
+    let mut src = PlainSource::new(Bytes::from_slice(rt.alloc(), TWO_TASKS)?);
+    let mut out = PlainSink::new(rt.alloc(), 200)?;
+    let mut err = PlainSink::new(rt.alloc(), 200)?;
+    let words = ["run", "--workers", "2"];
+    let status = call(&rt, rt.alloc(), &words, &mut src, &mut out, &mut err, &gate)?;
+    assert_eq!(rt; status, 0);
+    assert_eq!(rt; out.bytes(), b"tasks 3\n".as_slice());
+    assert!(rt; gate.met());
     Ok(())
 }

@@ -1,34 +1,41 @@
 //! The top call: the whole program, apart from where its bytes come from and go to.
-ghost use Rattle.std.specs.Prelude.{◌≡◌, Option, IfOk};
-ghost use Rattle.twe_cli.specs.Answers.{Answers, on_err};
+ghost use Rattle.std.specs.Prelude.{◌≡◌, Option, Some, IfOk};
+ghost use Rattle.text_answers.specs.Answers.{on_err};
+ghost use Rattle.twe_cli.specs.Answers.{Answers};
 ghost use Rattle.twe_cli.specs.Complete.{Completes};
-ghost use Rattle.twe_cli.specs.Ends.{source, sink};
+ghost use Rattle.text_streams.specs.Ends.{source, sink};
 ghost use Rattle.twe_report.specs.Texts as texts;
-ghost use Rattle.twe_cli.specs.Theorem.{IsNew};
-ghost use Rattle.command_line.specs.Words.{IsMeaning, Means};
+ghost use Rattle.text_answers.specs.Theorem.{IsNew};
+ghost use Rattle.command_line.specs.Words.{IsMeaning, IsSized, Means};
 ghost use Rattle.command_line.specs.declared.command.Command.{Command};
-ghost use Rattle.twe_cli.specs.declared.status.Status.TheVariants.{Usage};
+ghost use Rattle.text_answers.specs.declared.status.Status.TheVariants.{Usage};
 
-use crate::answer::{Answer, tell};
-use crate::book::Book;
+use crate::crew::twe_crew;
 use crate::single::twe_single;
-use crate::status::Status;
-use command_line::{WordsFail, every_list_is_decided, one_command, read_words};
+use crate::telling::tell;
+use command_line::{Command, WordsFail, every_list_is_decided, one_command, read_words};
 use std::alloc::Global;
+use std::sync::Wait;
+use std::thread::Threads;
+use text_answers::{Answer, Book, Status};
 use twe_io::{Memory, Sink, Source, Word};
 use twe_report::usage_text;
+use twe_rounds::Gate;
 
-/// Carries out the command that the words mean.
+/// Carries out the command that the words mean. If it asks for workers, they run the program on threads of their own and pass the gate
+/// before each segment; else all of it happens on the calling thread.
 ///
 /// `Answers` says what each status means and what is written with it. If the words mean no command, the answer is the usage
 /// line, and nothing is read from the source. After `Memory` nothing was written. `Completes` says which statuses a command can
 /// have if nothing fails outside.
-pub fn twe<S: Source, O: Sink, E: Sink>(
+pub fn twe<R: Threads + Wait + Sync, S: Source, O: Sink, E: Sink, G: Gate + Sync>(
+    rt: &R,
     alloc: Global,
     words: &[Word],
     src: &mut S,
     out: &mut O,
     err: &mut E,
+    gate: &G,
     book: &mut Book,
 ) -> Status
     requires { IsNew book.old }
@@ -42,9 +49,34 @@ pub fn twe<S: Source, O: Sink, E: Sink>(
     every_list_is_decided();
     one_command();
     match read_words(alloc, words) {
-        Ok(cmd) => twe_single(alloc, &cmd, src, out, err, book),
+        Ok(cmd) => carry_out(rt, alloc, &cmd, src, out, err, gate, book),
         Err(WordsFail::Usage) => tell(&usage(alloc), out, err),
         Err(WordsFail::OutOfMemory(_)) => Status::Memory,
+    }
+}
+
+/// Carries out a command: on the calling thread if it asks for no workers, and else by them.
+fn carry_out<R: Threads + Wait + Sync, S: Source, O: Sink, E: Sink, G: Gate + Sync>(
+    rt: &R,
+    alloc: Global,
+    cmd: &Command,
+    src: &mut S,
+    out: &mut O,
+    err: &mut E,
+    gate: &G,
+    book: &mut Book,
+) -> Status
+    requires new { IsNew book.old }
+    requires sized { IsSized cmd.now }
+    ensures answers { Answers (source S.left S.faults S.read_gives) (sink O.written O.faults O.write_gives) (sink E.written E.faults E.write_gives)
+        (Some cmd.now) src.old src.new out.old out.new err.old err.new book.new result }
+    ensures complete { Completes (source S.left S.faults S.read_gives) (sink O.written O.faults O.write_gives) (sink E.written E.faults E.write_gives)
+        cmd.now src.old src.new out.old out.new err.old err.new result }
+{
+    if cmd.workers() == 0 {
+        twe_single(alloc, cmd, src, out, err, book)
+    } else {
+        twe_crew(rt, alloc, cmd, src, out, err, gate, book)
     }
 }
 

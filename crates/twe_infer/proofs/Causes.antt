@@ -7,7 +7,7 @@ use Rattle.twe_infer.specs.declared.answer.Answer.{Answer}
 use Rattle.twe_infer.specs.declared.status.InferStatus.{InferStatus}
 use Rattle.twe_infer.specs.declared.status.InferStatus.TheVariants.{Usage}
 use Rattle.twe_infer.specs.Answers.{Due, Cause, Answers, on_err}
-use Rattle.twe_infer.specs.Ends.{SourceTells, SinkTells, WasRead}
+use Rattle.text_streams.specs.Ends.{SourceTells, SinkTells, WasRead}
 use Rattle.twe_infer.specs.Texts.{usage_text}
 use Rattle.twe_infer.specs.inner.Given.{AnswersRead}
 use Rattle.twe_infer.specs.inner.Writing.{TellsMade}

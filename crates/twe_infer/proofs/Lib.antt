@@ -1,3 +1,2 @@
-pub mod Written
-pub mod Readings
 pub mod Causes
+pub mod Ascending

@@ -12,7 +12,7 @@ use Rattle.twe_report.specs.Texts.{refusal_text, read_fault_text, too_long_text}
 use Rattle.twe_infer.specs.declared.answer.Answer.{Answer}
 use Rattle.twe_infer.specs.declared.status.InferStatus.{InferStatus}
 use Rattle.twe_infer.specs.declared.status.InferStatus.TheVariants.{Done, Refused, Usage, ReadFault, WriteFault, Memory, TooLong, TooMany}
-use Rattle.twe_infer.specs.Ends.{SourceTells, SinkTells, WasRead, Took, BrokeOff}
+use Rattle.text_streams.specs.Ends.{SourceTells, SinkTells, WasRead, Took, BrokeOff}
 use Rattle.twe_infer.specs.Meaning.{Means, IsRefusedBefore}
 use Rattle.twe_infer.specs.Texts.{lines_of, usage_text, too_many_text}
 

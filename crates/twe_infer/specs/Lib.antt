@@ -1,5 +1,4 @@
 pub mod Codes
-pub mod Ends
 pub mod Meaning
 pub mod Reading
 pub mod Order

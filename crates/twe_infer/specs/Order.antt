@@ -1,6 +1,6 @@
 -- The order in which paths are written: element by element names by number, then literals by value, then parameters by number,
 -- then any index. A path that another begins with comes first.
-use Rattle.std.specs.Prelude.{ℕ, suc, nat_lt, int_lt, Bool, true, false, not, ◌==◌, ◌&&◌, ◌||◌, List, [], ◌∷◌, insert, if◌then◌else◌}
+use Rattle.std.specs.Prelude.{◌≡◌, ℕ, suc, nat_lt, int_lt, Bool, true, false, not, ◌==◌, ◌&&◌, ◌||◌, List, [], ◌∷◌, insert, if◌then◌else◌}
 use Rattle.region_paths.specs.declared.elements.Elem.{Elem}
 use Rattle.region_paths.specs.declared.elements.Elem.TheVariants.{Name, Index, Var, AnyIndex}
 use Rattle.effect_sets.specs.declared.effects.Effect.{Effect}
@@ -45,3 +45,9 @@ with_paths write paths (effect ∷ effects) = with_paths write (if is_same effec
 -- the paths that are written, or only read, in their order
 abbrev pub paths_of : Bool → List Effect → List (List Elem)
 paths_of write effects = with_paths write [] effects
+
+-- no path comes before the one that stands before it
+abbrev pub Ascend : List (List Elem) → Type 0
+Ascend [] = Unit {0}
+Ascend (path ∷ []) = Unit {0}
+Ascend (path ∷ next ∷ paths) = (comes_before next path ≡ false) × Ascend (next ∷ paths)

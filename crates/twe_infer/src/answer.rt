@@ -1,12 +1,14 @@
 //! An answer: what the program has to say before it writes anything, and the writing of it.
 ghost use Rattle.std.specs.Prelude.{◌≡◌};
+ghost use Rattle.text_streams.specs.Ends.{sink};
+ghost use Rattle.text_streams.specs.Writing.{WroteBoth};
 ghost use Rattle.twe_infer.specs.Answers.{Tells, on_err, on_out};
-ghost use Rattle.twe_infer.specs.Ends.{sink};
-ghost use Rattle.twe_infer.specs.inner.Writing.{TellsMade, Wrote, WroteBoth};
+ghost use Rattle.twe_infer.specs.inner.Writing.{TellsMade};
 
 use crate::status::InferStatus;
 use std::alloc::Global;
-use twe_io::{Bytes, Memory, Sink, WriteFault, write_whole};
+use text_streams::write_both;
+use twe_io::{Bytes, Memory, Sink, WriteFault};
 
 /// An answer: the status, and the bytes for the two sinks.
 #[derive(Debug, Drop)]
@@ -65,26 +67,20 @@ fn tell_answer<O: Sink, E: Sink>(answer: &Answer, out: &mut O, err: &mut E) -> I
     ensures { Tells (sink O.written O.faults O.write_gives) (sink E.written E.faults E.write_gives)
         out.old out.new err.old err.new answer.now result }
 {
-    match write_both(answer, out, err) {
+    match write_answer(answer, out, err) {
         Ok(()) => answer.status,
         Err(WriteFault) => InferStatus::WriteFault,
     }
 }
 
 /// Writes the bytes for out, and then those for err.
-fn write_both<O: Sink, E: Sink>(answer: &Answer, out: &mut O, err: &mut E) -> Result<(), WriteFault>
+fn write_answer<O: Sink, E: Sink>(
+    answer: &Answer,
+    out: &mut O,
+    err: &mut E,
+) -> Result<(), WriteFault>
     ensures { WroteBoth (sink O.written O.faults O.write_gives) (sink E.written E.faults E.write_gives)
-        out.old out.new err.old err.new answer.now result }
+        answer.now.out answer.now.err out.old out.new err.old err.new result }
 {
-    match write_to(out, answer.out.as_slice()) {
-        Ok(()) => write_to(err, answer.err.as_slice()),
-        Err(fault) => Err(fault),
-    }
-}
-
-/// Writes a text to a sink.
-fn write_to<K: Sink>(to: &mut K, text: &[u8]) -> Result<(), WriteFault>
-    ensures { Wrote (sink K.written K.faults K.write_gives) text.now to.old result to.new }
-{
-    write_whole(to, text)
+    write_both(answer.out.as_slice(), answer.err.as_slice(), out, err)
 }

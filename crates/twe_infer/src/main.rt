@@ -3,9 +3,12 @@
 #![tactic(auto)]
 
 mod answer;
+mod laws;
 mod order;
 mod read;
 mod status;
+#[cfg(test)]
+mod tests;
 mod text;
 mod top;
 

@@ -1,7 +1,7 @@
 //! The top call: the whole program, apart from where its bytes come from and go to.
 ghost use Rattle.std.specs.Prelude.{IfOk};
 ghost use Rattle.twe_infer.specs.Answers.{Answers, Cause, Due};
-ghost use Rattle.twe_infer.specs.Ends.{sink, source};
+ghost use Rattle.text_streams.specs.Ends.{sink, source};
 ghost use Rattle.twe_infer.specs.Meaning.{Means};
 ghost use Rattle.twe_infer.specs.inner.Given.{AnswersRead};
 
@@ -11,9 +11,9 @@ use crate::status::InferStatus;
 use crate::text::{lines_of, too_many_text, usage_text};
 use effect_infer::{InferFail, infer};
 use std::alloc::Global;
+use text_streams::read_text;
 use twe_frontend::FrontFail;
-use twe_io::{Bytes, Memory, ReadFail, Sink, Source, Word, read_all};
-use twe_limits::MAX_TEXT_BYTES;
+use twe_io::{Bytes, Memory, ReadFail, Sink, Source, Word};
 use twe_report::{read_fault_text, refusal_text, too_long_text};
 
 /// Reads the text of a program from the source, and writes the least summary of each of its methods, a line for each.
@@ -40,7 +40,7 @@ fn answer<S: Source>(alloc: Global, words: &[Word], src: &mut S) -> Result<Answe
 {
     match words {
         [] => {
-            let read = read_all(alloc, src, MAX_TEXT_BYTES);
+            let read = read_text(alloc, src);
             answer_read(alloc, read)
         }
         [_, ..] => Ok(Answer::on_err(alloc, InferStatus::Usage, usage_text(alloc)?)),

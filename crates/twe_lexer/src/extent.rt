@@ -16,7 +16,8 @@ pub(crate) struct Extent {
 
 /// The index of the first `*/`, or `None` if there is none.
 fn close_at(body: &[u8]) -> Option<usize>
-    ensures first { IfSome result (λ at. (at + 2 ≤ length body.now) × (drop at body.now ≡ codes "*/" ++ drop (at + 2) body.now) × ¬ HasClose (take at body.now)) }
+    ensures first { IfSome result (λ at. (at + 2 ≤ length body.now) × (drop at body.now ≡ codes "*/" ++ drop (at + 2) body.now)
+        × ¬ HasClose (take at body.now)) }
     ensures none { IfNone result (¬ HasClose body.now) }
 {
     for at in 1..body.len() {

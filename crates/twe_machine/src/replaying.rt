@@ -102,7 +102,8 @@ fn take_move(
 
 /// Legal moves have no first illegal one. A list of moves has one first illegal move at most, and one reason for it.
 pub fn one_first_illegal()
-    ensures never_both { (p : Program) (lim : Bounds) (moves : List Move) (n : ℕ) (why : Why) → AreLegal p lim moves → ¬ IsFirstIllegal p lim moves n why }
+    ensures never_both { (p : Program) (lim : Bounds) (moves : List Move) (n : ℕ) (why : Why) → AreLegal p lim moves
+        → ¬ IsFirstIllegal p lim moves n why }
     ensures one { (p : Program) (lim : Bounds) (moves : List Move) (n m : ℕ) (why other : Why)
         → IsFirstIllegal p lim moves n why → IsFirstIllegal p lim moves m other → (n ≡ m) × (why ≡ other) }
 {}

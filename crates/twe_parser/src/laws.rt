@@ -17,5 +17,6 @@ pub fn one_tree()
 
 /// A text that fails S2 or S3 is not a program.
 pub fn no_program()
-    ensures { (text : List ℕ) (rule : SRule) (place : Place) (tokens : List Token) → Fails text rule place → (rule ≡ S2) ⊎ (rule ≡ S3) → BeginsWith text tokens [] → ¬ IsProgram tokens }
+    ensures { (text : List ℕ) (rule : SRule) (place : Place) (tokens : List Token) → Fails text rule place → (rule ≡ S2) ⊎ (rule ≡ S3)
+        → BeginsWith text tokens [] → ¬ IsProgram tokens }
 {}

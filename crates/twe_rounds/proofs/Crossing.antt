@@ -5,7 +5,7 @@ use denote.Param.SendFields.{as_row_sync}
 use denote.Struct.Declared.{shape}
 use denote.Struct.Tuple.{TupleAt, field_at, type_at}
 use denote.RattleType.{RattleType}
-use mathlib.Core.List.{List, [], ◌∷◌}
+use mathlib.Core.List.{[], ◌∷◌}
 use mir.Syntax.{Sym}
 use denote.Struct.Field.{bool-field, i32-field, u32-field}
 use denote.Builtin.{u32}

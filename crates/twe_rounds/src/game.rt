@@ -2,8 +2,9 @@
 ghost use Rattle.std.specs.Prelude.{◌≡◌, None, OnOk};
 ghost use Rattle.twe_machine.specs.Legal.{MayMove};
 
+use crate::bars::may_admit;
 use crate::named_run::{Named, NamedRun};
-use seg_journal::{End, Move};
+use seg_journal::{End, Kind, Move};
 use std::alloc::Global;
 use std::marker::{Model, PhantomData};
 use twe_io::Memory;
@@ -58,13 +59,22 @@ impl<'p, N: Named> Game<'p, N> {
         ensures clear { OnOk result (run.now.state.first_fault ≡ None) }
         ensures legal { OnOk result (MayMove run.now.state mv) }
     {
-        let state = &run.run().state;
-        if state.first_fault.is_some() {
+        if run.run().state.first_fault.is_some() {
             return Err(NoMove::AfterFault);
         }
-        match may(self.p, state, mv) {
+        match self.is_legal(run, mv) {
             Ok(()) => Ok(()),
             Err(why) => Err(NoMove::Illegal(why)),
+        }
+    }
+
+    /// Checks that the move is legal in the run.
+    fn is_legal(&self, run: &NamedRun<N>, mv: Move) -> Result<(), Why>
+        ensures { OnOk result (MayMove run.now.state mv) }
+    {
+        match mv.kind {
+            Kind::Admit => may_admit(self.p, run.run(), mv.task),
+            Kind::Run => may(self.p, &run.run().state, mv),
         }
     }
 

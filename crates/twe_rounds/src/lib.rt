@@ -6,8 +6,10 @@
 #![tactic(auto)]
 
 mod access;
+mod bars;
 mod crew;
 mod dealing;
+mod enabled;
 mod game;
 mod gate;
 mod meet_gate;

@@ -5,20 +5,23 @@ ghost use Rattle.twe_machine.specs.Moves.{start_of};
 ghost use Rattle.twe_machine.specs.Runs.{entry_of};
 ghost use Rattle.twe_rounds.specs.Keeping.{IsSound};
 
+use crate::enabled::note;
 use seg_journal::{End, Entry, Journal, Move};
 use std::alloc::Global;
-use twe_io::Memory;
+use twe_io::{List, Memory};
 use twe_limits::Limits;
 use twe_machine::{State, start, step};
 use twe_program::Prog;
 
-/// The journal of a run so far, and the state to which it leads.
+/// The journal of a run so far, the state to which it leads, and its enabled tasks.
 #[derive(Drop)]
 pub struct Run {
     /// The entries so far.
     pub journal: Journal,
     /// The state after them.
     pub state: State,
+    /// Each enabled task, and perhaps some that are over.
+    pub enabled: List<u32>,
 }
 
 impl Run {
@@ -30,6 +33,7 @@ impl Run {
         Ok(Run {
             journal: Journal::new(alloc),
             state: start(alloc, p, lim)?,
+            enabled: List::new(alloc),
         })
     }
 
@@ -42,8 +46,11 @@ impl Run {
         ensures sound { OnOk result (IsSound p.now lim self.new) }
         ensures journal { OnOk result (self.new.journal ≡ self.old.journal ++ entry_of p.now lim self.old.state mv ∷ []) }
     {
+        let _main = p.main;
+        let before = self.state.links.task_count();
         let end = step(alloc, p, lim, &mut self.state, mv)?;
         self.journal.push(Entry { mv, end })?;
+        note(alloc, &self.state, &mut self.enabled, mv, before)?;
         Ok(end)
     }
 }

@@ -16,7 +16,7 @@ pub enum Look {
     /// The task waits for another one, `on`. If the chain of waits from there ends at a task that is still to be
     /// admitted, that is `next`.
     Waits { on: u32, next: Option<u32> },
-    /// The task may not be admitted yet. This is the lowest bar to it.
+    /// The task may not be admitted yet. This is a bar to it.
     Held { by: u32 },
     /// Nothing is left to do for the task, or some task of the run has met a fault.
     Over,

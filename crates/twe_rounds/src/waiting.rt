@@ -1,6 +1,6 @@
 //! A worker's list of the tasks that wait, and of those that are held back.
 //!
-//! A task that waits is kept beside the task that it waits for, and a task that is held back beside its lowest bar. The
+//! A task that waits is kept beside the task that it waits for, and a task that is held back beside a bar to it. The
 //! worker reads in the journal which tasks have ended, and tries again what was kept beside them.
 
 use seg_journal::{End, Entry};
@@ -14,7 +14,7 @@ pub struct Waiting {
     alloc: Global,
     // Beside each task the one that waits for it. Only the task that made it does.
     waiters: BTreeMap<u32, u32>,
-    // Beside each task those to which it is the lowest bar.
+    // Beside each task those that were found held back by it.
     held: BTreeMap<u32, Vec<u32>>,
     // Tasks to be tried one after another.
     ready: Vec<u32>,

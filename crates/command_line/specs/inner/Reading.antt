@@ -90,7 +90,7 @@ abbrev pub check_from : List Row → Option Command
 check_from rows = Some Check
 
 abbrev pub run_from : List Row → Option Command
-run_from rows = option_and_then (λ workers. option_and_then (λ fuel. option_and_then (λ tasks. Some (Run (limits_given fuel tasks) (flag_given rows)))
+run_from rows = option_and_then (λ workers. option_and_then (λ fuel. option_and_then (λ tasks. Some (Run (unwrap_or workers 0) (limits_given fuel tasks) (flag_given rows)))
     (number_given Tasks rows)) (number_given Fuel rows)) (number_given Workers rows)
 
 abbrev pub replay_from : List Row → Option Command
@@ -98,7 +98,7 @@ replay_from rows = option_and_then (λ fuel. option_and_then (λ tasks. Some (Re
     (number_given Tasks rows)) (number_given Fuel rows)
 
 abbrev pub load_from : List Row → Option Command
-load_from rows = option_and_then (λ workers. option_and_then (λ n. Some (Load n)) (size_given rows)) (number_given Workers rows)
+load_from rows = option_and_then (λ workers. option_and_then (λ n. Some (Load (unwrap_or workers 0) n)) (size_given rows)) (number_given Workers rows)
 
 -- no step of the parse fails
 abbrev pub faultless : Kinds → Bool

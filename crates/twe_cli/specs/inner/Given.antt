@@ -1,77 +1,24 @@
--- The answers to a read, to an accepted program and to a run, apart from how they came about.
-use Rattle.std.specs.Prelude.{◌≡◌, ℕ, ℤ, Bool, List, Option, None, Some, Result, Ok, Err}
-use Rattle.twe_io.specs.declared.whole.ReadFail.{ReadFail}
-use Rattle.twe_io.specs.declared.whole.ReadFail.TheVariants as reads
-use Rattle.twe_limits.specs.Limits.{Bounds}
-use Rattle.twe_program.specs.Program.{Program}
-use Rattle.twe_frontend.specs.Accepted.{Accepted}
-use Rattle.twe_machine.specs.declared.ending.Outcome.{Outcome}
-use Rattle.twe_machine.specs.declared.state.State.{State}
-use Rattle.twe_machine.specs.Replays.{IsReplay}
-use Rattle.twe_machine.specs.Runs.{state_after, counted}
-use Rattle.twe_report.specs.Texts.{read_fault_text, too_long_text}
-use Rattle.twe_cli.specs.declared.answer.Answer.{Answer}
-use Rattle.twe_cli.specs.declared.book.Book.{Book}
+-- What is known of the answer on the way to it.
+use Rattle.std.specs.Prelude.{◌≡◌, ◌≤◌, ℕ, List, Some, length}
+use Rattle.twe_limits.specs.Language.{max_text_bytes}
 use Rattle.command_line.specs.declared.command.Command.{Command}
-use Rattle.command_line.specs.declared.command.Command.TheVariants.{Check, Run, Replay, Load}
-use Rattle.twe_cli.specs.declared.status.Status.TheVariants.{ReadFault, TooLong}
-use Rattle.twe_cli.specs.Answers.{Due, AnswersReplay, AnswersRun, default_limits, for_load, on_err, with_journal}
-use Rattle.twe_cli.specs.Theorem.{HasReplay, HasRun, IsNew}
-use Rattle.twe_cli.specs.Input.{program_text, journal_text}
-use Rattle.seg_journal.specs.declared.journal.Entry.{Entry}
-use Rattle.seg_journal.specs.declared.moves.Move.{Move}
-use Rattle.seg_journal.specs.declared.text.JournalText.{JournalText}
-use Rattle.seg_journal.specs.Spelling.{Spells}
+use Rattle.text_streams.specs.Ends.{SourceTells}
+use Rattle.text_answers.specs.declared.answer.Answer.{Answer}
+use Rattle.text_answers.specs.declared.book.Book.{Book}
+use Rattle.text_answers.specs.Answers.{Due}
+use Rattle.text_answers.specs.Input.{program_text}
+use Rattle.text_answers.specs.Theorem.{IsNew}
+use Rattle.twe_cli.specs.Answers.{Cause}
+use Rattle.twe_cli.specs.declared.reading.Input.{Input}
+use Rattle.twe_cli.specs.declared.reading.Input.TheVariants.{Given, Failed}
 
--- the answer to what the reading of the source came to; there is none if memory ran out
-abbrev pub AnswersRead : Command → Result (List ℕ) ReadFail → Book → Answer → Type 0
-AnswersRead command (Ok text) book answer = Due command text book answer
-AnswersRead command (Err reads.ReadFault) book answer = IsNew book × (answer ≡ on_err ReadFault read_fault_text)
-AnswersRead command (Err reads.TooLong) book answer = IsNew book × (answer ≡ on_err TooLong too_long_text)
-AnswersRead command (Err (reads.OutOfMemory memory)) book answer = ⊥
+-- the answer to each input that has this program text
+abbrev pub IsDueForText : Command → List ℕ → Book → Answer → Type 0
+IsDueForText command program book answer = (input : List ℕ) → program ≡ program_text command input → Due command input book answer
 
--- the answer to each input whose program text is accepted and has this program, and which has this journal text
-abbrev pub IsDueFor : Command → Program → List ℕ → Book → Answer → Type 0
-IsDueFor command p journal book answer =
-    (input : List ℕ) → Accepted (program_text command input) p → journal ≡ journal_text command input → Due command input book answer
-
--- the size of a load, if the command is one
-abbrev pub load_size : Command → Option ℕ
-load_size Check = None
-load_size (Run lim asked) = None
-load_size (Replay lim) = None
-load_size (Load n) = Some n
-
--- the answer to each input that has this program text and this journal text
-abbrev pub IsDueForTexts : Command → List ℕ → List ℕ → Book → Answer → Type 0
-IsDueForTexts command program journal book answer =
-    (input : List ℕ) → program ≡ program_text command input → journal ≡ journal_text command input → Due command input book answer
-
--- the answer to each journal text in which this was found
-abbrev pub AnswersFound : Program → Bounds → JournalText → Book → Answer → Type 0
-AnswersFound p lim found book answer = (text : List ℕ) → Spells text found.head found.moves → AnswersReplay p lim text book answer
-
--- the book has the replay of these moves, and this is the answer to it
-abbrev pub IsAnswerOfReplay : Program → Bounds → List Move → Book → Answer → Type 0
-IsAnswerOfReplay p lim moves book answer =
-    (outcome : Outcome) × HasReplay p lim moves outcome book
-    × AnswersRun p (state_after p lim book.journal) (state_after p lim (counted book.journal)).prints outcome answer
-
--- these are the numbers that the moves print
-abbrev pub ArePrintsAfter : Program → Bounds → List Move → List ℤ → Type 0
-ArePrintsAfter p lim moves prints = (journal : List Entry) × (st : State) × IsReplay p lim moves journal st × (prints ≡ st.prints)
-
--- the book has a run, and this is the answer to it
-pub record IsAnswerOfRun (p : Program) (lim : Bounds) (book : Book) (answer : Answer) : Type 0 where
-  pub outcome : Outcome
-  pub run : HasRun p lim outcome book
-  pub answers : AnswersRun p (state_after p lim book.journal) (state_after p lim (counted book.journal)).prints outcome answer
-
--- the book has a run, and this is the answer to it with the journal after its lines, if the journal is asked for
-abbrev pub IsAnswerWithJournal : Program → Bounds → Bool → Book → Answer → Type 0
-IsAnswerWithJournal p lim asked book answer = (plain : Answer) × IsAnswerOfRun p lim book plain × (answer ≡ with_journal asked lim book.journal plain)
-
--- the book has a run of a load, and this is the answer to it
-abbrev pub IsAnswerOfLoad : Program → ℕ → Book → Answer → Type 0
-IsAnswerOfLoad p n book answer =
-    (plain : Answer) × IsAnswerOfRun p default_limits book plain × (answer ≡ for_load n (state_after p default_limits book.journal) plain)
+-- an answer to the input has its cause, and so has the answer to a reading that failed, if nothing is in the book
+abbrev pub IsInputOf : {S : Type 0} → SourceTells S → Command → S → S → Input → Type 0
+IsInputOf tells command before after (Given input) =
+    (length input ≤ max_text_bytes)
+    × ((book : Book) (answer : Answer) → Due command input book answer → Cause tells (Some command) before after book answer)
+IsInputOf tells command before after (Failed answer) = (book : Book) → IsNew book → Cause tells (Some command) before after book answer

@@ -151,7 +151,8 @@ impl ValueStacks {
 
     /// Appends an element to the path. Its place is the top one of the stack of places.
     fn push_elem(&mut self, kind: PathElemKind) -> Result<(), Memory>
-        ensures { OnOk result (self.new ≡ with_elem (record { kind = kind; place = top self.old.places nowhere }) (record self.old { places = below self.old.places })) }
+        ensures { OnOk result (self.new ≡ with_elem (record { kind = kind; place = top self.old.places nowhere })
+            (record self.old { places = below self.old.places })) }
     {
         let place = self.places.pop_or(nowhere());
         self.elems.push(PathElem { kind, place })

@@ -1,10 +1,10 @@
 use Rattle.std.proofs.Common.{◌≡◌, List, map, sym, subst}
 use Rattle.std.proofs.lemmas.Result.{IfOk-weaker, IfErr-weaker}
 use Rattle.effect_sets.specs.declared.effects.Summary.{Summary}
-use Rattle.method_needs.specs.Choices.{NoMethodFails, with_summaries}
+use Rattle.method_needs.specs.Choices.{NoMethodFails, NoRuleFails, with_summaries}
 use Rattle.effect_infer.specs.Table.{AreFew, IsFirstLong}
 use Rattle.effect_infer.specs.Inferred.{summary_of, AreLeast, AreCoveredByAll, HasCause}
-use Rattle.effect_infer.proofs.Results.{are-least, accepted, covered-by-all, too-many, made-few}
+use Rattle.effect_infer.proofs.Results.{are-least, accepted, stays, covered-by-all, too-many, made-few}
 use Rattle.effect_infer.proofs.least.infer.Goals as goal
 
 pub returns-clause-least : goal.returns-clause-least
@@ -15,6 +15,11 @@ pub returns-clause-accepted : goal.returns-clause-accepted
 returns-clause-accepted c =
     made-few (λ needs. NoMethodFails (with_summaries needs c.args.p.now)) c.in_ok-table.table c.summaries.result c.summaries.ensures.made c.summaries.ensures.few
     (accepted c.args.p.now c.in_ok-table.table c.in_ok-table.ensures.widest)
+
+pub returns-clause-stays : goal.returns-clause-stays
+returns-clause-stays c =
+    made-few (λ needs. NoRuleFails c.args.p.now → NoRuleFails (with_summaries needs c.args.p.now)) c.in_ok-table.table c.summaries.result c.summaries.ensures.made c.summaries.ensures.few
+    (λ few. stays c.args.p.now c.in_ok-table.table c.in_ok-table.ensures.widest few c.in_ok-table.ensures.well_formed)
 
 pub returns-clause-covered : goal.returns-clause-covered
 returns-clause-covered c =

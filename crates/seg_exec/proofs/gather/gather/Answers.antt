@@ -52,8 +52,8 @@ loop-arg-preserved g c =
       within_args c.args.args.now c.loop-arg.next c.in-Some.arg.now c.in-Some.ensures.0,
     )
 
-pub step-requires : goal.step-requires
-step-requires g c =
+pub gather_next-requires : goal.gather_next-requires
+gather_next-requires g c =
     let ways = ways_of g.C.Cells.known g.C.Cells.may_read g.C.Cells.may_write g.C.Cells.rule in
     let from = gather_at c.args.taken 0 c.args.args.now c.args.goal (standing c.args.machine.now c.args.cells.now c.args.prints.now) in
     let now = gather_at c.loop-arg.values c.loop-arg.next c.args.args.now c.args.goal (standing c.args.machine.now c.loop-arg.cells c.args.prints.now) in
@@ -65,7 +65,7 @@ returns g c =
     let ways = ways_of g.C.Cells.known g.C.Cells.may_read g.C.Cells.may_write g.C.Cells.rule in
     let from = gather_at c.args.taken 0 c.args.args.now c.args.goal (standing c.args.machine.now c.args.cells.now c.args.prints.now) in
     let now = gather_at c.loop-arg.values c.loop-arg.next c.args.args.now c.args.goal (standing c.args.machine.now c.loop-arg.cells c.args.prints.now) in
-    let after = standing c.step.new.machine c.step.new.cells c.step.new.prints in
-    if_ok_map c.step.result (λ ending rest. near_carries c.args.p.now (ways_of g.C.Cells.known g.C.Cells.may_read g.C.Cells.may_write g.C.Cells.rule) from now after ending c.loop-arg.invariant.0
+    let after = standing c.gather_next.new.machine c.gather_next.new.cells c.gather_next.new.prints in
+    if_ok_map c.gather_next.result (λ ending rest. near_carries c.args.p.now (ways_of g.C.Cells.known g.C.Cells.may_read g.C.Cells.may_write g.C.Cells.rule) from now after ending c.loop-arg.invariant.0
     (subst (λ (l : List Expression). Carries c.args.p.now (ways_of g.C.Cells.known g.C.Cells.may_read g.C.Cells.may_write g.C.Cells.rule) (doing (Gather c.loop-arg.values (arguments_of l) c.args.goal) (standing c.args.machine.now c.loop-arg.cells c.args.prints.now)) ending after)
-    (rest_of c.args.args.now c.loop-arg.next) rest)) c.step.ensures
+    (rest_of c.args.args.now c.loop-arg.next) rest)) c.gather_next.ensures

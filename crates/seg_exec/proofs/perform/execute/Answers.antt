@@ -6,7 +6,7 @@ use Rattle.seg_exec.specs.inner.Continuations.{Choose, Evaluate, Execute, GiveCe
 use Rattle.seg_exec.specs.inner.Reached.{standing}
 use Rattle.seg_exec.specs.inner.Steps.{executed, on}
 use Rattle.seg_exec.specs.inner.Views.{config_of}
-use Rattle.seg_exec.proofs.Performing.{carries_silent, may_silent}
+use Rattle.seg_exec.proofs.Performing.{carries_silent, carries_step, may_silent}
 use Rattle.seg_exec.proofs.Segments.{if_ok_map}
 use Rattle.seg_exec.proofs.perform.execute.Goals as goal
 
@@ -71,3 +71,8 @@ returns-in-Return-Some g c =
     if_ok_map c.evaluate_then-in-Return-Some.result (λ ending rest. carries_silent c.args.p.now (ways_of g.C.Cells.known g.C.Cells.may_read g.C.Cells.may_write g.C.Cells.rule) (Execute c.args.stmt.now) (config_of c.args.machine.now) (to_do (Evaluate c.in-Return-Some.value) (to_do Unwind (config_of c.args.machine.now))) c.args.cells.now c.args.prints.now ending
     (standing c.evaluate_then-in-Return-Some.new.machine c.evaluate_then-in-Return-Some.new.cells c.evaluate_then-in-Return-Some.new.prints)
     (ap (λ (s : Statement). executed s (config_of c.args.machine.now)) (let shape : c.args.stmt.now ≡ Return c.stmt.inside.point (Some c.in-Return-Some.value) = search rules in shape)) rest) c.evaluate_then-in-Return-Some.ensures
+
+pub returns-in_ok-request-in_default : goal.returns-in_ok-request-in_default
+returns-in_ok-request-in_default g c =
+    if_ok_map c.serve.result (λ ending served. carries_step c.args.p.now (ways_of g.C.Cells.known g.C.Cells.may_read g.C.Cells.may_write g.C.Cells.rule) (Execute c.args.stmt.now) (config_of c.args.machine.now) (config_of c.execute.new.self) c.args.cells.now c.args.prints.now
+    c.in_ok-request-in_default.request ending (standing c.serve.new.machine c.serve.new.cells c.serve.new.prints) c.in_ok-request-in_default.ensures served) c.serve.ensures

@@ -1,4 +1,4 @@
-use Rattle.twe_cli.specs.Ends.{source, sink}
+use Rattle.text_streams.specs.Ends.{source, sink}
 use Rattle.twe_cli.proofs.Causes.{answers_made}
 use Rattle.twe_cli.proofs.Completeness.{complete}
 use Rattle.twe_cli.proofs.single.twe_single.Goals as goal
@@ -9,7 +9,7 @@ returns-clause-answers g c =
     let src = source g.S.Source.left g.S.Source.faults g.S.Source.read_gives in
     let out = sink g.O.Sink.written g.O.Sink.faults g.O.Sink.write_gives in
     let err = sink g.E.Sink.written g.E.Sink.faults g.E.Sink.write_gives in
-    answers_made src out err _ _ _ _ _ _ _ c.answer_command-made.new.book c.answer_command-made.result c.tell.result c.answer_command-made.ensures c.tell.ensures
+    answers_made src out err _ _ _ _ _ _ _ c.answer_alone-made.new.book c.answer_alone-made.result c.tell.result c.answer_alone-made.ensures c.tell.ensures
 
 -- and it has one of the statuses of the command, if nothing fails
 pub returns-clause-complete : goal.returns-clause-complete
@@ -17,5 +17,5 @@ returns-clause-complete g c =
     let src = source g.S.Source.left g.S.Source.faults g.S.Source.read_gives in
     let out = sink g.O.Sink.written g.O.Sink.faults g.O.Sink.write_gives in
     let err = sink g.E.Sink.written g.E.Sink.faults g.E.Sink.write_gives in
-    complete c.refused_or_accepted.ensures.never_both src out err _ _ _ _ _ _ _ c.answer_command-made.new.book c.tell.result
-    (answers_made src out err _ _ _ _ _ _ _ c.answer_command-made.new.book c.answer_command-made.result c.tell.result c.answer_command-made.ensures c.tell.ensures)
+    complete c.refused_or_accepted.ensures.never_both src out err _ _ _ _ _ _ _ c.answer_alone-made.new.book c.tell.result
+    (answers_made src out err _ _ _ _ _ _ _ c.answer_alone-made.new.book c.answer_alone-made.result c.tell.result c.answer_alone-made.ensures c.tell.ensures)

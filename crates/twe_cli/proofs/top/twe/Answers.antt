@@ -3,18 +3,18 @@ use Rattle.command_line.specs.Words.{IsReading}
 use Rattle.command_line.specs.declared.command.WordsFail.{WordsFail}
 use Rattle.command_line.proofs.Sizes.{means_sized}
 use Rattle.twe_cli.specs.Answers.{Answers}
-use Rattle.twe_cli.specs.Ends.{source, sink}
+use Rattle.text_streams.specs.Ends.{source, sink}
 use Rattle.twe_cli.proofs.Causes.{answers_made, cause_usage}
 use Rattle.twe_cli.proofs.Completeness.{completes_as, memory_completes}
 use Rattle.twe_cli.proofs.top.twe.Goals as goal
 
 -- the size of a load that the words mean is in its range
-pub twe_single-requires-clause-sized : goal.twe_single-requires-clause-sized
-twe_single-requires-clause-sized g c = means_sized c.in-Ok.ensures
+pub carry_out-requires-clause-sized : goal.carry_out-requires-clause-sized
+carry_out-requires-clause-sized g c = λ κs fits. means_sized c.in-Ok.ensures
 
 -- the words mean a command, which is carried out
 pub returns-in-Ok-clause-answers : goal.returns-in-Ok-clause-answers
-returns-in-Ok-clause-answers g c = (Some c.in-Ok.cmd, c.in-Ok.ensures, c.twe_single.ensures.answers)
+returns-in-Ok-clause-answers g c = (Some c.in-Ok.cmd, c.in-Ok.ensures, c.carry_out.ensures.answers)
 
 pub returns-in-Ok-clause-complete : goal.returns-in-Ok-clause-complete
 returns-in-Ok-clause-complete g c =
@@ -22,7 +22,7 @@ returns-in-Ok-clause-complete g c =
     let out = sink g.O.Sink.written g.O.Sink.faults g.O.Sink.write_gives in
     let err = sink g.E.Sink.written g.E.Sink.faults g.E.Sink.write_gives in
     λ command means.
-    completes_as src out err (c.one_command.ensures c.args.words.now c.in-Ok.cmd command c.in-Ok.ensures means) c.twe_single.ensures.complete
+    completes_as src out err (c.one_command.ensures c.args.words.now c.in-Ok.cmd command c.in-Ok.ensures means) c.carry_out.ensures.complete
 
 -- they mean none, and the answer is the usage line
 pub returns-in-Err-Usage-clause-answers : goal.returns-in-Err-Usage-clause-answers

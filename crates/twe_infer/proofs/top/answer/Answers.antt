@@ -2,9 +2,8 @@ use Rattle.std.proofs.Common.{◌≡◌, ◌≤◌, ◌<◌, ℕ, List, [], ◌�
 use Rattle.std.proofs.lemmas.List.{nil_from_length}
 use Rattle.twe_infer.specs.declared.status.InferStatus.TheVariants.{Usage}
 use Rattle.twe_infer.specs.Answers.{Cause, on_err}
-use Rattle.twe_infer.specs.Ends.{source}
+use Rattle.text_streams.specs.Ends.{source}
 use Rattle.twe_infer.proofs.Causes.{cause_read}
-use Rattle.twe_infer.proofs.Readings.{was_read}
 use Rattle.twe_infer.proofs.top.answer.Goals as goal
 
 -- a list that is not empty has a first word
@@ -16,11 +15,9 @@ first-word (first ∷ others) some = (first, others, refl)
 pub returns-in-empty : goal.returns-in-empty
 returns-in-empty g c =
     let src = source g.S.Source.left g.S.Source.faults g.S.Source.read_gives in
-    let said = c.read_all-read.ensures in
-    let read = was_read src c.args.src.now c.read_all-read.new.source c.read_all-read.result said.whole said.ended said.short said.fault said.too_long said.reads in
     let few = c.in-empty.len_below in
     let none : c.args.words.now ≡ [] = nil_from_length c.args.words.now (omega (arith, few)) in
-    cause_read src c.args.words.now _ _ c.read_all-read.result c.answer_read.result none read c.answer_read.ensures
+    cause_read src c.args.words.now _ _ c.read_text-read.result c.answer_read.result none c.read_text-read.ensures c.answer_read.ensures
 
 -- there is a word
 pub returns-in_ok-usage_text-in-len1-up : goal.returns-in_ok-usage_text-in-len1-up

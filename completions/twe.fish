@@ -1,0 +1,12 @@
+# Completion of the words of `twe` for fish. Copy this file to ~/.config/fish/completions/.
+
+complete -c twe -f
+complete -c twe -n __fish_use_subcommand -a check -d 'accept a text, or report its one refusal'
+complete -c twe -n __fish_use_subcommand -a run -d 'run an accepted text'
+complete -c twe -n __fish_use_subcommand -a replay -d 'take the moves of a journal again'
+complete -c twe -n __fish_use_subcommand -a load -d 'run a large program that is made'
+
+complete -c twe -n '__fish_seen_subcommand_from run load; and not __fish_contains_opt workers' -l workers -x -d 'how many workers run the program, 0 to 64'
+complete -c twe -n '__fish_seen_subcommand_from run replay; and not __fish_contains_opt fuel' -l fuel -x -d 'how much fuel each task has, 0 to 100000000'
+complete -c twe -n '__fish_seen_subcommand_from run replay; and not __fish_contains_opt tasks' -l tasks -x -d 'how many tasks may be made, 1 to 100000'
+complete -c twe -n '__fish_seen_subcommand_from run; and not __fish_contains_opt journal' -l journal -d 'write the journal too'

@@ -1,0 +1,4 @@
+pub mod Built
+pub mod Chains
+pub mod Nodes
+pub mod inner

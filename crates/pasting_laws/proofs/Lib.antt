@@ -1,0 +1,4 @@
+pub mod Acts
+pub mod ControlPaths
+pub mod Rules
+pub mod Orders

@@ -1,0 +1,6 @@
+//! Texts into which summaries of methods are pasted: when they stay accepted.
+#![tactic(auto)]
+
+mod laws;
+
+pub use laws::texts_with_these_summaries_are_accepted;

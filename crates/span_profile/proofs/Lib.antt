@@ -1,0 +1,10 @@
+pub mod Agreeing
+pub mod Counted
+pub mod FuelTaken
+pub mod Keyed
+pub mod Lists
+pub mod NumberSets
+pub mod Numbers
+pub mod Ran
+pub mod Watching
+pub mod Tracking

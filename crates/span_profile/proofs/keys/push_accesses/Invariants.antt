@@ -1,0 +1,7 @@
+use Rattle.std.proofs.Common.{◌≡◌, ◌++◌, take}
+use Rattle.span_profile.specs.inner.Deeds.{access_keys}
+use Rattle.span_profile.proofs.keys.push_accesses.Given as goal
+
+-- the keys of the cells up to here were added
+abbrev pub invariant-loop-cell : goal.invariant-loop-cell
+invariant-loop-cell l = l.keys ≡ l.initial.keys ++ access_keys l.places (take l.cell-index l.cells)

@@ -1,0 +1,4 @@
+pub mod LeadsTo
+pub mod Profiles
+pub mod Strands
+pub mod inner

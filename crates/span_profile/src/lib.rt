@@ -1,0 +1,17 @@
+//! Work and span of a journal: how much the entries of a run did, and how much of it had to be one after another.
+//!
+//! `specs/` says what each entry did and when one entry leads to a later one. The code replays the moves over cells that
+//! record what each segment reads and writes, and gives what every entry asks for and gives to `heaviest_chain`.
+#![tactic(auto)]
+
+mod cell_set;
+mod deed;
+mod keys;
+mod places;
+mod profiling;
+mod running;
+mod watched;
+
+pub use heaviest_chain::Heaviest as Profile;
+pub use profiling::profile;
+pub use twe_machine::ReplayFail as ProfileFail;

@@ -1,0 +1,186 @@
+//! The profile of a list of moves.
+ghost use Rattle.std.specs.Prelude.{◌≡◌, ◌<◌, ◌||◌, true, false, ◌+◌, ◌++◌, ◌∷◌, [], ℕ, length, map, IfOk, OnOk, IsErrOf};
+ghost use Rattle.seg_journal.specs.Spelling.{move_of};
+ghost use Rattle.twe_machine.specs.declared.legal.Why.{Why as Reason};
+ghost use Rattle.twe_machine.specs.declared.replaying.ReplayFail.TheVariants.{Illegal};
+ghost use Rattle.twe_machine.specs.Legal.{Forbids, MayMove};
+ghost use Rattle.twe_machine.specs.Moves.{move_result};
+ghost use Rattle.twe_machine.specs.Replays.{IsFirstIllegal};
+ghost use Rattle.twe_machine.specs.Runs.{IsReached, is_fault};
+ghost use Rattle.twe_program.specs.Program.{cell_count};
+ghost use Rattle.span_profile.specs.Profiles.{IsProfile};
+ghost use Rattle.heaviest_chain.specs.Built.{HasRoom, Holds};
+ghost use Rattle.heaviest_chain.specs.Nodes.{Nodes};
+ghost use Rattle.span_profile.specs.inner.Deeds.{DidMove, node_of};
+ghost use Rattle.span_profile.specs.inner.Sets.{no_cells};
+ghost use Rattle.span_profile.specs.inner.Tracked.{IsTracked};
+
+use crate::cell_set::CellSet;
+use crate::deed::{Deed, admission};
+use crate::keys::{asked, given};
+use crate::places::{Places, number_places};
+use crate::running::run;
+use crate::watched::Watched;
+use heaviest_chain::{Chains, Heaviest};
+use seg_journal::{End, Entry, Journal, Kind, Limits, Move};
+use std::alloc::Global;
+use twe_io::{Ints, Memory};
+use twe_machine::{ReplayFail, State, may, start, step};
+use twe_program::Prog;
+
+/// A run with its journal so far, and the chains of the entries of its counted part.
+#[derive(Debug, Drop)]
+struct Tracked {
+    st: State,
+    journal: Journal,
+    /// Whether an entry has met a fault: the entries after it do not count.
+    over: bool,
+    places: Places,
+    watched: Watched,
+    chains: Chains,
+}
+
+impl Tracked {
+    /// The start of a run.
+    fn start(alloc: Global, p: &Prog, lim: Limits) -> Result<Self, Memory>
+        ensures tracked { IfOk result (IsTracked p.now lim) }
+        ensures empty { IfOk result (λ run. run.journal ≡ []) }
+    {
+        let _main = p.main;
+        let st = start(alloc, p, lim)?;
+        let size = st.cells.len();
+        Ok(Tracked {
+            st,
+            journal: Journal::new(alloc),
+            over: false,
+            places: number_places(alloc, p)?,
+            watched: Watched {
+                values: Ints::new(alloc),
+                reads: CellSet::new(alloc, size)?,
+                writes: CellSet::new(alloc, size)?,
+            },
+            chains: Chains::new(alloc),
+        })
+    }
+
+    /// Takes the move with the number `n`, if it is legal.
+    fn take_move(
+        &mut self,
+        alloc: Global,
+        p: &Prog,
+        lim: Limits,
+        mv: Move,
+        n: u64,
+    ) -> Result<(), ReplayFail>
+        requires { IsTracked p.now lim self.old }
+        ensures tracked { OnOk result (IsTracked p.now lim self.new) }
+        ensures moves { OnOk result (map move_of self.new.journal ≡ map move_of self.old.journal ++ mv ∷ []) }
+        ensures count { OnOk result (length self.new.journal ≡ length self.old.journal + 1) }
+        ensures number { (m : ℕ) (why : Reason) → IsErrOf result (Illegal m why) → m ≡ n }
+        ensures forbids { (m : ℕ) (why : Reason) → IsErrOf result (Illegal m why) → Forbids self.old.st mv.kind mv.task why }
+    {
+        let _main = p.main;
+        let _tasks = lim.tasks;
+        if let Err(why) = may(p, &self.st, mv) {
+            return Err(ReplayFail::Illegal { n, why });
+        }
+        let deed = advance(alloc, p, lim, &mut self.st, mv, &mut self.watched)?;
+        self.journal.push(Entry { mv, end: deed.end })?;
+        let chains = &mut self.chains;
+        self.over = count_entry(alloc, self.over, chains, &self.places, &self.watched, &deed)?;
+        self.watched.reads.clear();
+        self.watched.writes.clear();
+        Ok(())
+    }
+}
+
+/// Whether an entry with this end has met a fault.
+fn is_fault(end: End) -> bool
+    ensures { result ≡ is_fault end }
+{
+    matches!(end, End::Fault { .. })
+}
+
+/// Adds an entry that has done this to the chains.
+fn add_entry(
+    alloc: Global,
+    chains: &mut Chains,
+    places: &Places,
+    watched: &Watched,
+    deed: &Deed,
+) -> Result<(), Memory>
+    requires some { 0 < deed.now.weight }
+    requires room { HasRoom chains.old deed.now.weight }
+    ensures { (nodes : Nodes) → Holds nodes chains.old
+        → OnOk result (Holds (nodes ++ node_of places.now deed.now watched.now ∷ []) chains.new) }
+{
+    let reads = watched.reads.as_slice();
+    let writes = watched.writes.as_slice();
+    let asks = asked(alloc, places, deed, reads, writes)?;
+    let gives = given(alloc, places, deed, reads, writes)?;
+    chains.add(deed.weight, asks.as_slice(), gives.as_slice())
+}
+
+/// Counts an entry that has done this, unless one before it has met a fault, and returns whether one has met a fault by now.
+fn count_entry(
+    alloc: Global,
+    over: bool,
+    chains: &mut Chains,
+    places: &Places,
+    watched: &Watched,
+    deed: &Deed,
+) -> Result<bool, Memory>
+    requires some { 0 < deed.now.weight }
+    requires room { over ≡ false → HasRoom chains.old deed.now.weight }
+    ensures over { IfOk result (λ ended. ended ≡ (over || is_fault deed.now.end)) }
+    ensures kept { OnOk result (over ≡ true → chains.new ≡ chains.old) }
+    ensures added { (nodes : Nodes) → Holds nodes chains.old
+        → OnOk result (over ≡ false → Holds (nodes ++ node_of places.now deed.now watched.now ∷ []) chains.new) }
+{
+    if over {
+        return Ok(true);
+    }
+    add_entry(alloc, chains, places, watched, deed)?;
+    Ok(is_fault(deed.end))
+}
+
+/// Takes a legal move, and returns what it did.
+fn advance(
+    alloc: Global,
+    p: &Prog,
+    lim: Limits,
+    st: &mut State,
+    mv: Move,
+    watched: &mut Watched,
+) -> Result<Deed, Memory>
+    requires reached { IsReached p.now lim st.old }
+    requires legal { MayMove st.old mv }
+    requires reads { watched.old.reads ≡ no_cells (cell_count p.now) }
+    requires writes { watched.old.writes ≡ no_cells (cell_count p.now) }
+    ensures moved { IfOk result (λ deed. (st.new, deed.end) ≡ move_result p.now lim st.old mv) }
+    ensures did { IfOk result (λ deed. DidMove p.now st.old mv deed watched.new) }
+{
+    let _main = p.main;
+    let _tasks = lim.tasks;
+    match mv.kind {
+        Kind::Admit => {
+            step(alloc, p, lim, st, mv)?;
+            Ok(admission(mv.task))
+        }
+        Kind::Run => run(alloc, p, lim, st, mv.task, watched),
+    }
+}
+
+/// The work and the span of a run of the program under these limits that makes these moves, and its heaviest chain. Entries are
+/// numbered from 0. Those after the first fault do not count, but their moves have to be legal too. If the moves are not all
+/// legal, it returns the number of the first that is not, counted from 1, and why it is not.
+pub fn profile(alloc: Global, p: &Prog, lim: Limits, moves: &[Move]) -> Result<Heaviest, ReplayFail>
+    ensures profiled { IfOk result (λ h. IsProfile p.now lim moves.now h.work h.span h.chain) }
+    ensures illegal { (n : ℕ) (why : Reason) → IsErrOf result (Illegal n why) → IsFirstIllegal p.now lim moves.now n why }
+{
+    let mut run = Tracked::start(alloc, p, lim)?;
+    for (i, mv) in moves.iter().enumerate() {
+        run.take_move(alloc, p, lim, *mv, i as u64 + 1)?;
+    }
+    Ok(run.chains.heaviest(alloc)?)
+}

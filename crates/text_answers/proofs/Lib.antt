@@ -1,0 +1,7 @@
+pub mod Outcomes
+pub mod Dues
+pub mod Cuts
+pub mod Replays
+pub mod OneAnswer
+pub mod WrittenJournals
+pub mod Runs

@@ -1,0 +1,52 @@
+-- How a run has ended, and the answer to a stuck one.
+use Rattle.std.proofs.Common.{◌≡◌, ℕ, ℤ, List, Result, Ok, Err, Some, None, IfOk, sym, subst, ap, ◌∙◌}
+use Rattle.twe_io.specs.declared.memory.Memory as out_of
+use Rattle.wait_graph.specs.declared.stuck.Edge.{Edge}
+use Rattle.seg_journal.specs.declared.journal.Entry.{Entry}
+use Rattle.twe_program.specs.Program.{Program}
+use Rattle.twe_machine.specs.declared.ending.Outcome.{Outcome}
+use Rattle.twe_machine.specs.declared.ending.Outcome.TheVariants.{AllDone, Fault, Stuck, Unfinished}
+use Rattle.twe_machine.specs.declared.state.State.{State}
+use Rattle.twe_machine.specs.Runs.{AlwaysIsolated, EachAtMostOnce, EachOnce, IsOutcome, IsRun, Legal, state_after}
+use Rattle.isolation_laws.specs.Conflicts.{AlwaysCovered}
+use Rattle.determinism_results.specs.Main.{MainHasItsResult}
+use Rattle.determinism_results.specs.Results.{DeterministicTasksHaveResults}
+use Rattle.flat_sched.specs.Stuck.{IsCycleOfReasons, IsStuckCycle}
+use Rattle.twe_report.specs.Texts.{stuck_text}
+use Rattle.text_answers.specs.declared.answer.Answer.{Answer}
+use Rattle.text_answers.specs.declared.status.Status.TheVariants as statuses
+use Rattle.text_answers.specs.Answers.{AnswersRun, after_prints}
+use Rattle.text_answers.specs.Theorem.{EachAsOften, HasJournal}
+use Rattle.text_answers.specs.declared.book.Book.{Book}
+use Rattle.twe_limits.specs.Limits.{Bounds}
+
+-- everything happened as often as it should
+pub often : (st : State) (journal : List Entry) (outcome : Outcome) → IsOutcome st outcome → (IsOutcome st AllDone → EachOnce journal st) → EachAtMostOnce journal → EachAsOften outcome journal st
+often st journal AllDone is once most = once is
+often st journal (Fault task kind place) is once most = most
+often st journal Stuck is once most = most
+often st journal Unfinished is once most = most
+
+-- the answer to a stuck run has its cycle
+pub stuck_answer : (p : Program) (st : State) (prints : List ℤ) (cycle : List Edge) (line : List ℕ) (made : Result Answer out_of.Memory) → IsStuckCycle st cycle → IsCycleOfReasons st cycle
+    → line ≡ stuck_text cycle → IfOk made (λ a. a ≡ after_prints statuses.Stuck prints line) → IfOk made (AnswersRun p st prints Stuck)
+stuck_answer p st prints cycle line (Ok a) exact reasons is same = (cycle, exact, reasons, same ∙ ap (after_prints statuses.Stuck prints) is)
+stuck_answer p st prints cycle line (Err e) exact reasons is same = tt
+
+-- the book has a legal journal and its outcome
+pub has_journal : (p : Program) (lim : Bounds) (journal : List Entry) (st : State) (outcome : Outcome) → IsRun p lim journal st → IsOutcome st outcome
+    → (IsOutcome st AllDone → EachOnce journal st) → EachAtMostOnce journal → AlwaysIsolated p lim journal → AlwaysCovered p lim journal
+    → DeterministicTasksHaveResults p lim journal → MainHasItsResult p lim journal → (book : Book) → book.prog ≡ Some p → book.refusal ≡ None → book.journal ≡ journal → book.outcome ≡ Some outcome → HasJournal p lim outcome book
+has_journal p lim journal st outcome run is once most isolated covered results of_main book program refusal entries told = record {
+  program = program;
+  not_refused = refusal;
+  legal = subst (Legal p lim) (sym entries) run.legal;
+  told = told;
+  ended = subst (λ (es : List Entry). IsOutcome (state_after p lim es) outcome) (sym entries) (subst (λ (s : State). IsOutcome s outcome) run.same is);
+  often = subst (λ (es : List Entry). EachAsOften outcome es (state_after p lim es)) (sym entries)
+      (subst (λ (s : State). EachAsOften outcome journal s) run.same (often st journal outcome is once most));
+  isolated = subst (AlwaysIsolated p lim) (sym entries) isolated;
+  covered = subst (AlwaysCovered p lim) (sym entries) covered;
+  deterministic = subst (DeterministicTasksHaveResults p lim) (sym entries) results;
+  of_main = subst (MainHasItsResult p lim) (sym entries) of_main;
+}

@@ -1,0 +1,22 @@
+use Rattle.std.proofs.Common.{◌≡◌, IfOk, OnOk, subst}
+use Rattle.twe_frontend.specs.declared.read.FrontFail.TheVariants.{Refused}
+use Rattle.twe_frontend.specs.declared.refusal.Refusal.{Refusal}
+use Rattle.twe_report.specs.Texts.{refusal_text}
+use Rattle.text_answers.specs.declared.status.Status.TheVariants as statuses
+use Rattle.text_answers.specs.Answers.{on_err}
+use Rattle.text_answers.specs.Theorem.{HasRefusal}
+use Rattle.text_answers.proofs.Dues.{due_program, due_refused, refused_as}
+use Rattle.text_answers.proofs.answering.answer_texts.Goals as goal
+
+-- the program text is accepted
+pub returns-in-Ok : goal.returns-in-Ok
+returns-in-Ok c =
+    due_program c.args.cmd.now c.args.program.now c.args.journal.now c.in-Ok.p c.answer_program.new.book c.answer_program.result c.in-Ok.ensures.accepted c.answer_program.ensures
+
+-- the program text is refused
+pub returns-in-Err-Refused : goal.returns-in-Err-Refused
+returns-in-Err-Refused c =
+    due_refused c.args.cmd.now c.args.program.now c.args.journal.now c.in-Err-Refused.refusal c.refuse.new.book c.refuse.result
+    (refused_as c.args.program.now c.in-Err-Refused.field-0 (Refused c.in-Err-Refused.refusal) c.in-Err-Refused.ensures.refused c.in-Err-Refused.field-0-is)
+    (subst (λ (r : Refusal). OnOk c.refuse.result (HasRefusal r c.refuse.new.book)) c.in-Err-Refused.refusal-is c.refuse.ensures.refusal)
+    (subst (λ (r : Refusal). IfOk c.refuse.result (λ a. a ≡ on_err statuses.Refused (refusal_text r))) c.in-Err-Refused.refusal-is c.refuse.ensures.answer)

@@ -1,0 +1,59 @@
+-- The answers to an accepted program and to a run, apart from how they came about.
+use Rattle.std.specs.Prelude.{◌≡◌, ℕ, ℤ, Bool, List}
+use Rattle.twe_limits.specs.Limits.{Bounds}
+use Rattle.twe_program.specs.Program.{Program}
+use Rattle.twe_frontend.specs.Accepted.{Accepted}
+use Rattle.twe_machine.specs.declared.ending.Outcome.{Outcome}
+use Rattle.twe_machine.specs.declared.state.State.{State}
+use Rattle.twe_machine.specs.Replays.{IsReplay}
+use Rattle.twe_machine.specs.Runs.{state_after, counted}
+use Rattle.text_answers.specs.declared.answer.Answer.{Answer}
+use Rattle.text_answers.specs.declared.book.Book.{Book}
+use Rattle.command_line.specs.declared.command.Command.{Command}
+use Rattle.text_answers.specs.Answers.{Due, AnswersReplay, AnswersRun, default_limits, for_load, with_journal}
+use Rattle.text_answers.specs.Theorem.{HasReplay, HasRun}
+use Rattle.text_answers.specs.Input.{program_text, journal_text}
+use Rattle.seg_journal.specs.declared.journal.Entry.{Entry}
+use Rattle.seg_journal.specs.declared.moves.Move.{Move}
+use Rattle.seg_journal.specs.declared.text.JournalText.{JournalText}
+use Rattle.seg_journal.specs.Spelling.{Spells}
+
+-- the answer to each input whose program text is accepted and has this program, and which has this journal text
+abbrev pub IsDueFor : Command → Program → List ℕ → Book → Answer → Type 0
+IsDueFor command p journal book answer =
+    (input : List ℕ) → Accepted (program_text command input) p → journal ≡ journal_text command input → Due command input book answer
+
+-- the answer to each input that has this program text and this journal text
+abbrev pub IsDueForTexts : Command → List ℕ → List ℕ → Book → Answer → Type 0
+IsDueForTexts command program journal book answer =
+    (input : List ℕ) → program ≡ program_text command input → journal ≡ journal_text command input → Due command input book answer
+
+-- the answer to each journal text in which this was found
+abbrev pub AnswersFound : Program → Bounds → JournalText → Book → Answer → Type 0
+AnswersFound p lim found book answer = (text : List ℕ) → Spells text found.head found.moves → AnswersReplay p lim text book answer
+
+-- the book has the replay of these moves, and this is the answer to it
+abbrev pub IsAnswerOfReplay : Program → Bounds → List Move → Book → Answer → Type 0
+IsAnswerOfReplay p lim moves book answer =
+    (outcome : Outcome) × HasReplay p lim moves outcome book
+    × AnswersRun p (state_after p lim book.journal) (state_after p lim (counted book.journal)).prints outcome answer
+
+-- these are the numbers that the moves print
+abbrev pub ArePrintsAfter : Program → Bounds → List Move → List ℤ → Type 0
+ArePrintsAfter p lim moves prints = (journal : List Entry) × (st : State) × IsReplay p lim moves journal st × (prints ≡ st.prints)
+
+-- the book has a run, and this is the answer to it
+pub record IsAnswerOfRun (p : Program) (lim : Bounds) (workers : ℕ) (book : Book) (answer : Answer) : Type 0 where
+  pub outcome : Outcome
+  pub run : HasRun p lim workers outcome book
+  pub answers : AnswersRun p (state_after p lim book.journal) (state_after p lim (counted book.journal)).prints outcome answer
+
+-- the book has a run, and this is the answer to it with the journal after its lines, if the journal is asked for
+abbrev pub IsAnswerWithJournal : Program → Bounds → ℕ → Bool → Book → Answer → Type 0
+IsAnswerWithJournal p lim workers asked book answer =
+    (plain : Answer) × IsAnswerOfRun p lim workers book plain × (answer ≡ with_journal asked lim book.journal plain)
+
+-- the book has a run of a load, and this is the answer to it
+abbrev pub IsAnswerOfLoad : Program → ℕ → ℕ → Book → Answer → Type 0
+IsAnswerOfLoad p workers n book answer =
+    (plain : Answer) × IsAnswerOfRun p default_limits workers book plain × (answer ≡ for_load n (state_after p default_limits book.journal) plain)

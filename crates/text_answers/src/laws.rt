@@ -1,0 +1,58 @@
+//! Laws of answers: without workers there is one; journals that are written replay; a deterministic `main` has one result text.
+ghost use Rattle.std.specs.Prelude.{◌≡◌, ◌++◌, ℕ, List, true};
+ghost use Rattle.seg_journal.specs.declared.journal.Entry.{Entry};
+ghost use Rattle.twe_limits.specs.Limits.{Bounds, IsWithin};
+ghost use Rattle.twe_program.specs.Program.{Program};
+ghost use Rattle.twe_program.specs.WellFormed.{IsWellFormed};
+ghost use Rattle.twe_frontend.specs.Accepted.{Accepted};
+ghost use Rattle.soundness_laws.specs.KeepsEffects.{KeepsEffects};
+ghost use Rattle.twe_machine.specs.Runs.{AllTasksDone, Legal, state_after};
+ghost use Rattle.determinism_results.specs.Main.{MainIsDeterministic};
+ghost use Rattle.twe_report.specs.Texts.{journal_part, result_text};
+ghost use Rattle.command_line.specs.Words.{workers_of};
+ghost use Rattle.command_line.specs.declared.command.Command.{Command};
+ghost use Rattle.command_line.specs.declared.command.Command.TheVariants.{Run, Replay};
+ghost use Rattle.text_answers.specs.declared.answer.Answer.{Answer};
+ghost use Rattle.text_answers.specs.declared.book.Book.{Book};
+ghost use Rattle.text_answers.specs.Answers.{Due, IsAnswerTo, with_journal};
+ghost use Rattle.text_answers.specs.Input.{HasNoMark, ends_line};
+
+use determinism_results::deterministic_mains_have_one_result;
+use twe_frontend::{one_program, one_refusal, refused_or_accepted};
+use twe_machine::one_lowest_first;
+
+/// A command that asks for no workers has one answer to an input: what is written and the status are a function of the command and
+/// the input, apart from want of memory.
+pub fn one_answer_without_workers()
+    ensures { (command : Command) (input : List ℕ) (answer other : Answer) → workers_of command ≡ 0
+        → IsAnswerTo command input answer → IsAnswerTo command input other → answer ≡ other }
+{
+    one_program();
+    one_refusal();
+    refused_or_accepted();
+    one_lowest_first();
+}
+
+/// A journal that `run --journal` has written replays to the same bytes. Let an accepted text end with a line end and have
+/// no line that is exactly `%%`. If the text with the journal that its run has written after it is the input of `replay`,
+/// then the answer of the run is that of `replay`, with the journal after its lines. The options of `replay` do not matter.
+pub fn written_journals_replay()
+    ensures { (text : List ℕ) (workers : ℕ) (lim other : Bounds) (p : Program) (run book : Book) (ran answer : Answer)
+        → IsWellFormed p → IsWithin lim.fuel lim.tasks → ends_line text ≡ true → HasNoMark text → Accepted text p
+        → Due (Run workers lim true) text run ran → Due (Replay other) (text ++ journal_part lim run.journal) book answer
+        → ran ≡ with_journal true lim run.journal answer }
+{
+    one_program();
+    refused_or_accepted();
+}
+
+/// If `main` is deterministic, what a run writes when all tasks are done is a function of the program and its limits: two
+/// journals of the program under the same limits, from whatever schedulers, have the same result text.
+pub fn deterministic_mains_have_one_result_text()
+    ensures { (p : Program) → IsWellFormed p → KeepsEffects p → MainIsDeterministic p
+        → (lim : Bounds) → IsWithin lim.fuel lim.tasks → (one other : List Entry) → Legal p lim one → Legal p lim other
+        → AllTasksDone (state_after p lim one) → AllTasksDone (state_after p lim other)
+        → result_text p (state_after p lim one) ≡ result_text p (state_after p lim other) }
+{
+    deterministic_mains_have_one_result();
+}

@@ -1,0 +1,218 @@
+//! The run of an accepted program, and the answer to it.
+ghost use Rattle.std.specs.Prelude.{◌≡◌, Some, IfOk, OnOk};
+ghost use Rattle.soundness_laws.specs.KeepsEffects.{KeepsEffects};
+ghost use Rattle.twe_machine.specs.Runs.{IsReachable, IsOutcome};
+ghost use Rattle.twe_report.specs.Texts as texts;
+ghost use Rattle.text_answers.specs.Answers.{AnswersRun, after_prints, for_load, on_err, on_out, with_journal};
+ghost use Rattle.text_answers.specs.Running.{IsDueForProgram, IsRunFor, IsWholeRun, limits_to_run};
+ghost use Rattle.text_answers.specs.Theorem.{IsNew};
+ghost use Rattle.text_answers.specs.declared.status.Status.TheVariants.{Unfinished};
+ghost use Rattle.text_answers.specs.inner.Given.{IsAnswerOfRun};
+ghost use Rattle.twe_machine.specs.declared.ending.Outcome.TheVariants as outcomes;
+
+use crate::answer::Answer;
+use crate::book::Book;
+use crate::status::Status;
+use command_line::Command;
+use determinism_results::{
+    deterministic_mains_have_their_results, deterministic_tasks_have_results,
+};
+use flat_sched::{run_lowest, stuck_cycle};
+use isolation_laws::accepted_runs_are_isolated;
+use seg_journal::Journal;
+use std::alloc::Global;
+use twe_io::{Bytes, Memory};
+use twe_limits::Limits;
+use twe_machine::{Outcome, State, each_thing_happens_once, outcome};
+use twe_program::Prog;
+use twe_report::{
+    fault_text, journal_part, load_result_text, prints_text, result_text, stuck_text,
+    unfinished_text,
+};
+
+/// The limits of the run that a command asks for, or `None` if it asks for none.
+pub fn limits_to_run(cmd: &Command) -> Option<Limits>
+    ensures { result ≡ limits_to_run cmd.now }
+{
+    match *cmd {
+        Command::Run { lim, .. } => Some(lim),
+        Command::Load { .. } => Some(Limits::default()),
+        Command::Check | Command::Replay { .. } => None,
+    }
+}
+
+/// Runs the program of a command that asks for a run under these limits, and returns the answer. The run is the lowest-first one.
+/// Afterwards the book has the program, the journal and the outcome.
+pub(crate) fn run_lowest_first(
+    alloc: Global,
+    cmd: &Command,
+    lim: Limits,
+    p: Prog,
+    book: &mut Book,
+) -> Result<Answer, Memory>
+    requires new { IsNew book.old }
+    requires keeps { KeepsEffects p }
+    requires asked { limits_to_run cmd.now ≡ Some lim }
+    ensures { IfOk result (IsDueForProgram cmd.now p book.new) }
+{
+    let (journal, st) = run_lowest(alloc, &p, lim)?;
+    answer_run(alloc, cmd, p, journal, st, book)
+}
+
+/// The answer to the run that a command asks for. The run is over, with this journal and in this state, whoever made its moves.
+/// Afterwards the book has the program, the journal and the outcome.
+pub fn answer_run(
+    alloc: Global,
+    cmd: &Command,
+    p: Prog,
+    journal: Journal,
+    st: State,
+    book: &mut Book,
+) -> Result<Answer, Memory>
+    requires new { IsNew book.old }
+    requires keeps { KeepsEffects p }
+    requires asked { IsRunFor cmd.now p journal st }
+    ensures { IfOk result (IsDueForProgram cmd.now p book.new) }
+{
+    match *cmd {
+        Command::Run {
+            workers,
+            lim,
+            journal: asked,
+        } => {
+            let plain = answer_whole(alloc, workers, lim, p, journal, &st, book)?;
+            add_journal(alloc, plain, asked, lim, &book.journal)
+        }
+        Command::Load { workers, n } => {
+            let lim = Limits::default();
+            let plain = answer_whole(alloc, workers, lim, p, journal, &st, book)?;
+            answer_load(alloc, n, &st, plain)
+        }
+        Command::Check | Command::Replay { .. } => unreachable!(),
+    }
+}
+
+/// The answer to a whole run, without its journal. Afterwards the book has the program, the journal and the outcome.
+fn answer_whole(
+    alloc: Global,
+    workers: u32,
+    lim: Limits,
+    p: Prog,
+    journal: Journal,
+    st: &State,
+    book: &mut Book,
+) -> Result<Answer, Memory>
+    requires new { IsNew book.old }
+    requires keeps { KeepsEffects p }
+    requires whole { IsWholeRun p lim workers journal st.now }
+    ensures answer { IfOk result (IsAnswerOfRun p lim workers book.new) }
+    ensures kept { OnOk result (book.new.journal ≡ journal) }
+{
+    accepted_runs_are_isolated();
+    deterministic_tasks_have_results();
+    deterministic_mains_have_their_results();
+    each_thing_happens_once();
+    let (_workers, _tasks) = (workers, lim.tasks);
+    let ended = outcome(&p, st);
+    let answer = answer_outcome(alloc, &p, st, st.prints.as_slice(), ended)?;
+    book.outcome = Some(ended);
+    book.journal = journal;
+    book.prog = Some(p);
+    Ok(answer)
+}
+
+/// The answer to the run of a load that has come to this state.
+#[tactic(auto, using(crate::proofs::Runs::done_load, crate::proofs::Runs::other_load))]
+fn answer_load(alloc: Global, n: u32, st: &State, plain: Answer) -> Result<Answer, Memory>
+    ensures { IfOk result (λ answer. answer ≡ for_load n st.now plain) }
+{
+    if plain.status.is_done() {
+        return Ok(Answer::on_out(alloc, load_result_text(alloc, n, st)?));
+    }
+    let Answer { status, err, .. } = plain;
+    Ok(Answer::on_err(alloc, status, err))
+}
+
+/// The answer to a run that has come to this state, by its outcome: its result; or, after a fault or if it is stuck, the
+/// numbers that were printed up to the first fault, with the fault or the cycle of the tasks that hold one another up; or, if
+/// it can go on, how many tasks are not done.
+pub(crate) fn answer_outcome(
+    alloc: Global,
+    p: &Prog,
+    st: &State,
+    prints: &[i32],
+    ended: Outcome,
+) -> Result<Answer, Memory>
+    requires reachable { IsReachable p.now st.now }
+    requires outcome { IsOutcome st.now ended }
+    ensures { IfOk result (AnswersRun p.now st.now prints.now ended) }
+{
+    match ended {
+        Outcome::AllDone => answer_done(alloc, p, st),
+        Outcome::Fault { task, kind, place } => {
+            let line = fault_text(alloc, task, kind, place)?;
+            answer_prints(alloc, prints, Status::Fault, line)
+        }
+        Outcome::Stuck => answer_stuck(alloc, p, st, prints),
+        Outcome::Unfinished => answer_unfinished(alloc, st),
+    }
+}
+
+/// The answer to a run in which all tasks are done.
+fn answer_done(alloc: Global, p: &Prog, st: &State) -> Result<Answer, Memory>
+    ensures { IfOk result (λ answer. answer ≡ on_out (texts.result_text p.now st.now)) }
+{
+    Ok(Answer::on_out(alloc, result_text(alloc, p, st)?))
+}
+
+/// The answer to a run that is stuck in this state.
+fn answer_stuck(alloc: Global, p: &Prog, st: &State, prints: &[i32]) -> Result<Answer, Memory>
+    requires reachable { IsReachable p.now st.now }
+    requires stuck { IsOutcome st.now outcomes.Stuck }
+    ensures { IfOk result (AnswersRun p.now st.now prints.now outcomes.Stuck) }
+{
+    let cycle = stuck_cycle(alloc, p, st)?;
+    let line = stuck_text(alloc, &cycle)?;
+    answer_prints(alloc, prints, Status::Stuck, line)
+}
+
+/// The answer to a run that can go on in this state.
+fn answer_unfinished(alloc: Global, st: &State) -> Result<Answer, Memory>
+    ensures { IfOk result (λ answer. answer ≡ on_err Unfinished (texts.unfinished_text st.now)) }
+{
+    Ok(Answer::on_err(alloc, Status::Unfinished, unfinished_text(alloc, st)?))
+}
+
+/// An answer with the printed numbers on out, and this line on err.
+fn answer_prints(
+    alloc: Global,
+    prints: &[i32],
+    status: Status,
+    line: Bytes,
+) -> Result<Answer, Memory>
+    ensures { IfOk result (λ answer. answer ≡ after_prints status prints.now line) }
+{
+    Ok(Answer {
+        status,
+        out: prints_text(alloc, prints)?,
+        err: line,
+    })
+}
+
+/// The answer with the journal after its lines on out, if `asked` is true.
+fn add_journal(
+    alloc: Global,
+    plain: Answer,
+    asked: bool,
+    lim: Limits,
+    entries: &Journal,
+) -> Result<Answer, Memory>
+    ensures { IfOk result (λ answer. answer ≡ with_journal asked lim entries.now plain) }
+{
+    let mut answer = plain;
+    if asked {
+        let part = journal_part(alloc, entries, lim)?;
+        answer.out.push_all(part.as_slice())?;
+    }
+    Ok(answer)
+}

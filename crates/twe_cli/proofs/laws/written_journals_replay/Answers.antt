@@ -1,5 +1,0 @@
-use Rattle.twe_cli.proofs.WrittenJournals.{written_replays}
-use Rattle.twe_cli.proofs.laws.written_journals_replay.Goals as goal
-
-pub returns : goal.returns
-returns c = written_replays c.one_program.ensures c.refused_or_accepted.ensures.never_both

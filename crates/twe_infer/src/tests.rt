@@ -1,0 +1,66 @@
+//! What no run of the program shows: ends that fail. The rest is in `tests/infer_cases/`.
+use crate::top::infer_top;
+use std::alloc::Global;
+use std::test::Fail;
+use twe_io::{Bytes, Calls, MemSink, MemSource, Memory, Word};
+
+const TEXT: &[u8] = b"void f() pure { }\ntask void main() pure { }\n";
+
+const LINE: &[u8] = b"f: pure\n";
+
+const USAGE: &[u8] = b"usage: twe_infer\n";
+
+const READ_FAULT: &[u8] = b"read fault\n";
+
+/// What one call came to.
+#[derive(Drop)]
+struct Ended {
+    status: u8,
+    out: MemSink,
+    err: MemSink,
+}
+
+/// An end that takes one byte a call and fails at the call with this number; 0 is no call.
+fn end(alloc: Global, fails: u64) -> Result<MemSink, Memory> {
+    MemSink::new(alloc, 200, 1, Calls::from_slice(alloc, &[fails])?)
+}
+
+/// Makes one call on `TEXT`, or on a word, whose source and ends fail at these calls.
+fn call(alloc: Global, word: bool, src: u64, out: u64, err: u64) -> Result<Ended, Memory> {
+    let mut words = Vec::new(alloc);
+    if word {
+        words.push(Word::from_text(alloc, "x")?)?;
+    }
+    let text = Bytes::from_slice(alloc, TEXT)?;
+    let mut src = MemSource::new(text, 1, Calls::from_slice(alloc, &[src])?);
+    let mut out = end(alloc, out)?;
+    let mut err = end(alloc, err)?;
+    let status = infer_top(alloc, words.as_slice(), &mut src, &mut out, &mut err).code();
+    Ok(Ended { status, out, err })
+}
+
+#[test]
+fn ends_that_fail_at_any_call_are_faults(rt: HostRuntime) -> Result<(), Fail> {
+    // One call for each byte of the text, and one that finds its end.
+    let calls = TEXT.len() as u64 + 1;
+    for at in 1..calls + 2 {
+        let ended = call(rt.alloc(), false, at, 0, 0)?;
+        let fails = at <= calls;
+        assert_eq!(rt; ended.status, if fails { 5 } else { 0 });
+        assert_eq!(rt; ended.out.bytes(), if fails { b"" } else { LINE });
+        assert_eq!(rt; ended.err.bytes(), if fails { READ_FAULT } else { b"" });
+    }
+    for at in 1..LINE.len() + 2 {
+        let ended = call(rt.alloc(), false, 0, at as u64, 0)?;
+        assert_eq!(rt; ended.status, if at <= LINE.len() { 6 } else { 0 });
+        assert_eq!(rt; ended.out.bytes(), &LINE[..at - 1]);
+        assert_eq!(rt; ended.err.bytes().len(), 0);
+    }
+    for at in 1..USAGE.len() + 2 {
+        let ended = call(rt.alloc(), true, 0, 0, at as u64)?;
+        assert_eq!(rt; ended.status, if at <= USAGE.len() { 6 } else { 2 });
+        assert_eq!(rt; ended.err.bytes(), &USAGE[..at - 1]);
+        assert_eq!(rt; ended.out.bytes().len(), 0);
+    }
+    Ok(())
+}

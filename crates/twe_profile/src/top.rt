@@ -1,0 +1,139 @@
+//! The top call: the whole program, apart from where its bytes come from and go to.
+ghost use Rattle.std.specs.Prelude.{◌≡◌, ◌≤◌, ◌+◌, IfOk, length};
+ghost use Rattle.seg_journal.specs.Spelling.{head_lines};
+ghost use Rattle.twe_limits.specs.Language.{max_text_bytes};
+ghost use Rattle.text_streams.specs.Ends.{sink, source};
+ghost use Rattle.twe_profile.specs.Answers.{Answers, AnswersJournal, Cause, Due};
+ghost use Rattle.twe_profile.specs.inner.Given.{AnswersFound, AnswersRead, IsShort};
+
+use crate::answer::{Answer, tell};
+use crate::status::ProfileStatus;
+use crate::text::{profile_text, usage_text};
+use seg_journal::{JournalFail, JournalText, Limits, Move, read_journal};
+use span_profile::{ProfileFail, profile};
+use std::alloc::Global;
+use text_answers::cut_input;
+use text_streams::read_text;
+use twe_frontend::{FrontFail, read_program};
+use twe_io::{Bytes, Memory, ReadFail, Sink, Source, Word};
+use twe_program::Prog;
+use twe_report::{not_a_move_text, not_legal_text, read_fault_text, refusal_text, too_long_text};
+
+/// Reads the text of a program from the source, and after the first line that is exactly `%%` the text of a journal. Writes the work
+/// and the span of the journal, and its heaviest chain. Without such a line the journal is empty. A journal may be unfinished or
+/// stuck, or end with a fault.
+///
+/// `Answers` says what each status means and what is written with it. The program takes no words: if there is one, the answer
+/// is the usage line, and nothing is read from the source. After `Memory` nothing was written.
+pub fn profile_top<S: Source, O: Sink, E: Sink>(
+    alloc: Global,
+    words: &[Word],
+    src: &mut S,
+    out: &mut O,
+    err: &mut E,
+) -> ProfileStatus
+    ensures { Answers (source S.left S.faults S.read_gives) (sink O.written O.faults O.write_gives) (sink E.written E.faults E.write_gives)
+        words.now src.old src.new out.old out.new err.old err.new result }
+{
+    let made = answer(alloc, words, src);
+    tell(&made, out, err)
+}
+
+/// The answer to these words.
+fn answer<S: Source>(alloc: Global, words: &[Word], src: &mut S) -> Result<Answer, Memory>
+    ensures { IfOk result (Cause (source S.left S.faults S.read_gives) words.now src.old src.new) }
+{
+    match words {
+        [] => {
+            let read = read_text(alloc, src);
+            answer_read(alloc, read)
+        }
+        [_, ..] => Ok(Answer::on_err(
+            alloc,
+            ProfileStatus::Usage,
+            usage_text(alloc)?,
+        )),
+    }
+}
+
+/// The answer to what the reading of the source came to.
+fn answer_read(alloc: Global, read: Result<Bytes, ReadFail>) -> Result<Answer, Memory>
+    requires { IsShort read }
+    ensures { IfOk result (AnswersRead read) }
+{
+    match read {
+        Ok(text) => answer_text(alloc, text.as_slice()),
+        Err(ReadFail::ReadFault) => Ok(Answer::on_err(
+            alloc,
+            ProfileStatus::ReadFault,
+            read_fault_text(alloc)?,
+        )),
+        Err(ReadFail::TooLong) => Ok(Answer::on_err(
+            alloc,
+            ProfileStatus::TooLong,
+            too_long_text(alloc)?,
+        )),
+        Err(ReadFail::OutOfMemory(memory)) => Err(memory),
+    }
+}
+
+/// The answer to an input.
+fn answer_text(alloc: Global, text: &[u8]) -> Result<Answer, Memory>
+    requires { length text.now ≤ max_text_bytes }
+    ensures { IfOk result (Due text.now) }
+{
+    let (program, journal) = cut_input(text);
+    match read_program(alloc, program) {
+        Ok(p) => answer_journal(alloc, &p, journal),
+        Err(FrontFail::Refused(refusal)) => Ok(Answer::on_err(
+            alloc,
+            ProfileStatus::Refused,
+            refusal_text(alloc, refusal)?,
+        )),
+        Err(FrontFail::OutOfMemory(memory)) => Err(memory),
+    }
+}
+
+/// The answer to a journal text on an accepted program.
+fn answer_journal(alloc: Global, p: &Prog, text: &[u8]) -> Result<Answer, Memory>
+    ensures { IfOk result (AnswersJournal p.now text.now) }
+{
+    match read_journal(alloc, text) {
+        Ok(found) => answer_found(alloc, p, &found),
+        Err(JournalFail::BadLine(n)) => Ok(Answer::on_err(
+            alloc,
+            ProfileStatus::BadJournal,
+            not_a_move_text(alloc, n)?,
+        )),
+        Err(JournalFail::OutOfMemory(memory)) => Err(memory),
+    }
+}
+
+/// The answer to what was found in a journal text.
+fn answer_found(alloc: Global, p: &Prog, found: &JournalText) -> Result<Answer, Memory>
+    ensures { IfOk result (AnswersFound p.now found.now) }
+{
+    let lim = found.head.unwrap_or(Limits::default());
+    let moves = found.moves.as_slice();
+    match profile(alloc, p, lim, moves) {
+        Ok(profile) => Ok(Answer::on_out(alloc, profile_text(alloc, &profile)?)),
+        Err(ProfileFail::Illegal { n, .. }) => Ok(Answer::on_err(
+            alloc,
+            ProfileStatus::BadJournal,
+            not_legal_text(alloc, line_of(found.head, n, moves))?,
+        )),
+        Err(ProfileFail::OutOfMemory(memory)) => Err(memory),
+    }
+}
+
+/// The line of move `n` in a journal text with these moves, both counted from 1.
+fn line_of(head: Option<Limits>, n: u64, moves: &[Move]) -> u64
+    requires { n ≤ length moves.now }
+    ensures { result ≡ length (head_lines head) + n }
+{
+    let _lines = moves.len() + 1;
+    match head {
+        None => n,
+        Some(_) => n + 1,
+    }
+}
