@@ -1,5 +1,5 @@
 -- Each step on a word keeps the rule of the table: the floor that the table shows changes as the step of the floor says.
-use Rattle.std.proofs.Common.{◌≡◌, ◌≢◌, ◌⊎◌, ◌+◌, ◌<◌, ◌≤◌, ℕ, ℤ, List, [], ◌∷◌, length, Option, None, Some, refl, sym, ap, subst, ◌∙◌, inl, inr, ⊎_elim, arith, length-set}
+use Rattle.std.proofs.Common.{◌≡◌, ◌≢◌, ◌⊎◌, ◌+◌, ◌<◌, ◌≤◌, ℕ, zero, suc, ℤ, List, [], ◌∷◌, length, Option, None, Some, refl, sym, ap, subst, ◌∙◌, inl, inr, ⊎_elim, arith, length-set}
 use Rattle.std.specs.Prelude.{◌==◌, ◌^◌, slice_index, slice_set}
 use Rattle.std.proofs.lemmas.Bool.{cases_eq}
 use mathlib.Core.Option as core
@@ -7,10 +7,16 @@ use lib.ListN.{get_elem?}
 use prog.Atomic.{either}
 use Rattle.atomic_table.specs.Table.{Act, Allows, Valid, carried_after, gives, keeps, stepped, takes}
 use Rattle.atomic_table.proofs.Lists.{exchanged}
-use Rattle.twe_limits.specs.Limits.{Bounds}
+use Rattle.twe_limits.specs.Limits.{Bounds, IsWithin}
 use Rattle.twe_program.specs.Program.{Program, cell_count}
+use Rattle.twe_program.specs.WellFormed.{IsWellFormed}
 use Rattle.seg_exec.specs.Access.{Access, Reads, Writes}
+use Rattle.twe_machine.specs.declared.state.State.{State}
+use Rattle.twe_machine.specs.declared.state.TaskRow.{TaskRow}
+use Rattle.twe_machine.specs.declared.state.TaskStatus.TheVariants as status
+use Rattle.twe_machine.specs.Runs.{IsReached, Legal, state_after}
 use Rattle.journal_merge.specs.declared.numbered.NumberedEntry.{NumberedEntry}
+use Rattle.journal_merge.specs.Merging.{journal_of}
 use Rattle.floor_rule.specs.declared.view.DoneFact.{DoneFact}
 use Rattle.floor_rule.specs.declared.view.HeldTurn.{HeldTurn}
 use Rattle.floor_rule.specs.declared.view.OpenSegment.{OpenSegment}
@@ -20,19 +26,23 @@ use Rattle.floor_rule.specs.declared.view.TaskSlot.{TaskSlot}
 use Rattle.floor_rule.specs.declared.view.Touch.{Touch}
 use Rattle.floor_rule.specs.declared.view.Touch.TheVariants.{Read, Write}
 use Rattle.floor_rule.specs.Floors.{Floor, Holds, Free, Taken, put}
-use Rattle.floor_rule.specs.Fitting.{MayRunFrom}
-use Rattle.floor_rule.specs.Rows.{slot_of}
+use Rattle.floor_rule.specs.Fitting.{MayRunFrom, PhaseFits, RowIs}
+use Rattle.floor_rule.specs.Rows.{phase_of, slot_of}
 use Rattle.floor_rule.specs.Rule.{KeepsRule}
 use Rattle.floor_rule.specs.Steps.{MayGive, MayStorePhase, MayTouch, after_finding_done, after_giving, after_load, after_phase, after_store, after_taking, IsPhaseFor, touched, with_row}
 use Rattle.floor_rule.specs.Touches.{cell_at, touches_of}
+use Rattle.twe_machine.proofs.ReachedStands.{reached_stands}
+use Rattle.twe_machine.proofs.SettlesNext.{awaited_above}
+use Rattle.floor_rule.proofs.DoneValues.{reached_has}
 use Rattle.floor_rule.proofs.Puts.{put_else, put_here}
+use Rattle.floor_rule.proofs.TurnLemmas.{turn_here}
 use Rattle.floor_rule.proofs.RuleSteps.{find_done, give, load, store, store_phase, take}
 use Rattle.floor_table.specs.declared.view.SeatKind.TheVariants.{Spent}
 use Rattle.floor_table.specs.declared.view.View.{View}
 use Rattle.floor_table.specs.FloorOf.{Table, facts_at, floor_of, home_at, part_at, segment_at, turn_in, turns_at, worker_at}
 use Rattle.floor_table.specs.Holds.{TableKeeps}
 use Rattle.floor_table.specs.Layout.{asked_of_clock, cell_place, cells_from, clock_place, entries_of_clock, free_word, number_at, phase_of_word, phase_place, phase_word_at, taken_word, turn_word_at, turn_of_word, turn_place, value_of_word, word_of_phase}
-use Rattle.floor_table.specs.Tells.{FoundPhase, GaveTurn, MayGiveTurn, MayStore, MayTouchCell, ReadCell, StoredPhase, TriedTurn, WroteCell, with_touch, with_turn}
+use Rattle.floor_table.specs.Tells.{FoundPhase, GaveTurn, IsOwnPhase, MayGiveTurn, MayStore, MayTouchCell, ReadCell, StoredPhase, TriedTurn, WroteCell, with_touch, with_turn}
 use Rattle.floor_table.proofs.Elements.{at_else, at_within, set_same, word_at}
 use Rattle.floor_table.proofs.Words.{cells_at, cells_else, cells_put, phases_kept, phases_put, turns_kept, turns_put}
 use Rattle.floor_table.proofs.Views.{seats_kept, seats_put}
@@ -85,6 +95,24 @@ phase_again Running = refl
 phase_again (Waits on) = refl
 phase_again Done = refl
 phase_again Faulted = refl
+
+-- the state of a log is reached
+reached_by : (p : Program) (lim : Bounds) (log : List NumberedEntry) → Legal p lim (journal_of log) → IsReached p lim (state_after p lim (journal_of log))
+reached_by p lim log legal = record { journal = journal_of log; legal = legal; same = refl }
+
+-- a phase word that says the truth is small, since few tasks are made
+phase_small : (p : Program) (lim : Bounds) (st : State) → IsWellFormed p → IsWithin lim.fuel lim.tasks → IsReached p lim st → (t n : ℕ) → PhaseFits st t (phase_of_word n) → n < 2 ^ 32
+phase_small p lim st well within reached t zero fits = omega arith
+phase_small p lim st well within reached t (suc zero) fits = omega arith
+phase_small p lim st well within reached t (suc (suc zero)) fits = omega arith
+phase_small p lim st well within reached t (suc (suc (suc zero))) fits = omega arith
+phase_small p lim st well within reached t (suc (suc (suc (suc zero)))) fits = omega arith
+phase_small p lim st well within reached t (suc (suc (suc (suc (suc on))))) fits =
+    let stands = reached_stands p lim st well reached in
+    let below = (awaited_above p lim st.tasks t fits.row.frame (stands.rows t fits.row fits.there).frame on fits.on).1 in
+    let limit = stands.limit within.tasks_least in
+    let most = within.tasks_most in
+    omega (arith, below, limit, most)
 
 is_done : (phase : Phase) → (phase ≡ Done) ⊎ (phase ≢ Done)
 is_done Absent = inr (λ same. cc (same))
@@ -169,6 +197,21 @@ module _ (p : Program) (lim : Bounds) (s : Table) (kept : TableKeeps p lim s) (i
         (seats_kept segment_at s.views id v w at refl)
         (seats_kept facts_at s.views id v w at refl)
 
+    -- what the rule tells of a turn that was just taken
+    taken_row : (turn : HeldTurn) → KeepsRule p lim kept.log (after_taking f id t turn) → RowIs (state_after p lim (journal_of kept.log)) t turn.row
+    taken_row turn rule = rule.fits.rows id t turn (turn_here f.held id t (Some turn))
+
+    taken_phase : (turn : HeldTurn) → f.turns t ≡ Free → KeepsRule p lim kept.log (after_taking f id t turn) → turn.phase ≡ phase_of turn.row
+    taken_phase turn free rule =
+        let is = taken_row turn rule in
+        sym (rule.fits.known_phases id t turn (turn_here f.held id t (Some turn))) ∙ (kept.rule.fits.free_phases t is.row free is.there ∙ ap phase_of is.same)
+
+    taken_value : (turn : HeldTurn) → KeepsRule p lim kept.log (after_taking f id t turn) → turn.row.status ≡ status.Done → turn.row.frame.value ≡ turn.row.value
+    taken_value turn rule done =
+        let is = taken_row turn rule in
+        let has = reached_has p lim kept.well (state_after p lim (journal_of kept.log)) (reached_by p lim kept.log kept.rule.legal) t is.row is.there in
+        ap (λ (r : TaskRow). r.frame.value) (sym is.same) ∙ (has (ap (λ (r : TaskRow). r.status) is.same ∙ done) ∙ ap (λ (r : TaskRow). r.value) is.same)
+
     pub take_step : (mine : List (ℕ × Option TaskSlot)) → slice_index s.words (turn_place p t) ≡ free_word
         → (w : View) × (a : Act (Option TaskSlot)) × Valid s.homes mine a × TableKeeps p lim (stepped s (turn_place p t) (taken_word v.worker) id mine w a)
         × TriedTurn (v, mine) t (slice_index s.words (turn_place p t)) (w, carried_after mine a)
@@ -184,7 +227,16 @@ module _ (p : Program) (lim : Bounds) (s : Table) (kept : TableKeeps p lim s) (i
           valid,
           keeps_after (slice_set s.words i (taken_word v.worker)) (slice_set s.homes t core.none) (with_turn v t (Some turn)) refl refl (length-set s.words i (taken_word v.worker))
               (length-set s.homes t core.none) (small_stay i (taken_word v.worker) (omega arith)) kept.log (subst (KeepsRule p lim kept.log) (sym (take_tie turn)) taken.3),
-          inl (found, record { turn = turn; taken = taken.1; seat = refl }),
+          inl (
+            found,
+            record {
+              turn = turn;
+              taken = taken.1;
+              phase = taken_phase turn free taken.3;
+              value = taken_value turn taken.3;
+              seat = refl;
+            },
+          ),
         )
 
     pub miss_step : (mine : List (ℕ × Option TaskSlot)) → slice_index s.words (turn_place p t) ≢ free_word
@@ -314,6 +366,17 @@ module _ (p : Program) (lim : Bounds) (s : Table) (kept : TableKeeps p lim s) (i
         (seats_kept segment_at s.views id v w at refl)
         (seats_put facts_at s.views id v w at (record { task = t; value = value } ∷ f.facts id) (ap (λ (l : List DoneFact). record { task = t; value = value } ∷ l) (sym facts_id)))
 
+    own_phase : (mine : List (ℕ × Option TaskSlot)) → IsOwnPhase (v, mine) t found_phase
+    own_phase mine turn has =
+        sym (ap phase_word_at (word_at s.words (phase_place p t) (phase_within t below)))
+        ∙ kept.rule.fits.known_phases id t turn (ap (λ (g : ℕ → Option HeldTurn). g t) turns_id ∙ has)
+
+    found_small : found_phase < 2 ^ 32
+    found_small =
+        let st = state_after p lim (journal_of kept.log) in
+        let fits = subst (PhaseFits st t) (ap phase_word_at (word_at s.words (phase_place p t) (phase_within t below))) (kept.rule.fits.phases t) in
+        phase_small p lim st kept.well kept.within (reached_by p lim kept.log kept.rule.legal) t found_phase fits
+
     pub load_phase_step : (mine : List (ℕ × Option TaskSlot)) → (phase_of_word found_phase ≡ Done) ⊎ (phase_of_word found_phase ≢ Done)
         → (w : View) × (a : Act (Option TaskSlot)) × Valid s.homes mine a × TableKeeps p lim (stepped s (phase_place p t) found_phase id mine w a) × FoundPhase (v, mine) t found_phase (w, carried_after mine a)
     load_phase_step mine (inl done) =
@@ -327,14 +390,14 @@ module _ (p : Program) (lim : Bounds) (s : Table) (kept : TableKeeps p lim s) (i
           keeps,
           tt,
           subst (TableKeeps p lim) (sym (loaded i w (phase_within t below))) then,
-          inl (done, record { value = value; seat = refl }),
+          (own_phase mine, found_small, inl (done, record { value = value; seat = refl })),
         )
     load_phase_step mine (inr other) = (
       v,
       keeps,
       tt,
       subst (TableKeeps p lim) (sym (nothing_changes (phase_place p t) (phase_within t below))) kept,
-      inr (other, refl),
+      (own_phase mine, found_small, inr (other, refl)),
     )
 
   -- Cells.

@@ -9,6 +9,7 @@ use Rattle.seg_exec.specs.declared.stop.Stop.TheVariants as stops
 use Rattle.seg_exec.specs.Access.{Access, Agrees, after}
 use Rattle.seg_exec.specs.Segment.{segment}
 use Rattle.twe_machine.specs.declared.state.TaskRow.{TaskRow}
+use Rattle.twe_machine.specs.declared.state.TaskStatus.TheVariants as status
 use Rattle.twe_machine.specs.Changes.{asked_by}
 use Rattle.twe_machine.specs.Moves.{new_row, parent_of}
 use Rattle.journal_merge.specs.declared.numbered.NumberedEntry.{NumberedEntry}
@@ -36,10 +37,13 @@ Seat = Me (Option TaskSlot) View
 abbrev pub with_turn : View → ℕ → Option HeldTurn → View
 with_turn v t turn = record v { turns = record { task = t; turn = turn } ∷ v.turns }
 
--- Taking a turn: if the turn word was free, the seat has the turn and the task's slot; otherwise nothing changes.
+-- Taking a turn: if the turn word was free, the seat has the turn and the task's slot; otherwise nothing changes. The phase
+-- word is the one of the task's row, and the frame of a done task has its value.
 pub record TookTurn (before after : Seat) (t : ℕ) : Type 0 where
   pub turn : HeldTurn
   pub taken : turn.first ≡ false
+  pub phase : turn.phase ≡ phase_of turn.row
+  pub value : turn.row.status ≡ status.Done → turn.row.frame.value ≡ turn.row.value
   pub seat : after ≡ (with_turn before.0 t (Some turn), (t, Some (slot_of turn.row)) ∷ before.1)
 
 abbrev pub TriedTurn : Seat → ℕ → ℕ → Seat → Type 0
@@ -69,9 +73,14 @@ pub record FoundDone (before after : Seat) (t : ℕ) : Type 0 where
   pub value : ℤ
   pub seat : after ≡ (record before.0 { done = record { task = t; value = value } ∷ before.0.done }, before.1)
 
+-- Whoever has the turn finds the phase that it knows. The word fits 32 bits.
+abbrev pub IsOwnPhase : Seat → ℕ → ℕ → Type 0
+IsOwnPhase before t found = (turn : HeldTurn) → turn_in before.0.turns t ≡ Some turn → phase_of_word found ≡ turn.phase
+
 abbrev pub FoundPhase : Seat → ℕ → ℕ → Seat → Type 0
 FoundPhase before t found after =
-    ((phase_of_word found ≡ Done) × FoundDone before after t) ⊎ ((phase_of_word found ≢ Done) × (after ≡ before))
+    IsOwnPhase before t found × (found < 2 ^ 32)
+    × (((phase_of_word found ≡ Done) × FoundDone before after t) ⊎ ((phase_of_word found ≢ Done) × (after ≡ before)))
 
 -- Touching a cell.
 pub record MayTouchCell (p : Program) (me : Seat) (t : ℕ) (access : Access) : Type 0 where

@@ -1,0 +1,2 @@
+-- What a call on the floor knows of the seat after its atomic steps.
+pub mod Taking

@@ -1,0 +1,43 @@
+//! The cells of the program.
+ghost use Rattle.std.specs.Prelude.{◌≡◌, ◌≢◌, ◌<◌, ℕ, ℤ};
+ghost use Rattle.twe_program.specs.Program.{cell_count};
+ghost use Rattle.seg_exec.specs.Access.{Reads, Writes};
+ghost use Rattle.floor_table.specs.declared.view.SeatKind.TheVariants.{Spent};
+ghost use Rattle.floor_table.specs.Tells.{IsLatest, WroteCell};
+ghost use Rattle.task_floor.specs.Stands.{HasLoaded, MayAccess};
+
+use crate::floor::{Floor, Stand};
+use crate::words::{value_of, word_of_value};
+use floor_table::{LoadCell, Named, StoreCell};
+
+impl<N: Named> Floor<N> {
+    /// Loads a cell for the task whose slot is the latest that the stand has out, if the segment of that task may read the cell.
+    pub fn load(&self, stand: &mut Stand, cell: u32) -> i32
+        requires here { stand.old.table_id ≡ self.now }
+        requires live { stand.old.me.0.kind ≢ Spent }
+        requires cell { cell < cell_count N.prog }
+        requires may { (any : ℤ) × MayAccess N.prog stand.old.me (Reads cell any) }
+        ensures loaded { (t : ℕ) → IsLatest stand.old.me t → HasLoaded stand.old.me t cell result stand.new.me }
+        ensures same { (stand.new.table_id ≡ stand.old.table_id) × (stand.new.id ≡ stand.old.id) }
+    {
+        let place = self.cell_place(cell);
+        let word = self.table.shared.load::<LoadCell>(stand, place);
+        value_of(word)
+    }
+
+    /// Stores a value to a cell for the task whose slot is the latest that the stand has out, if the segment of that task may
+    /// write the cell.
+    pub fn store(&self, stand: &mut Stand, cell: u32, value: i32)
+        requires here { stand.old.table_id ≡ self.now }
+        requires live { stand.old.me.0.kind ≢ Spent }
+        requires cell { cell < cell_count N.prog }
+        requires may { MayAccess N.prog stand.old.me (Writes cell value) }
+        ensures stored { (t : ℕ) → IsLatest stand.old.me t → WroteCell stand.old.me t cell value stand.new.me }
+        ensures same { (stand.new.table_id ≡ stand.old.table_id) × (stand.new.id ≡ stand.old.id) }
+    {
+        let place = self.cell_place(cell);
+        self.table
+            .shared
+            .store::<StoreCell>(stand, place, word_of_value(value));
+    }
+}

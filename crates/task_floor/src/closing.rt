@@ -1,0 +1,30 @@
+//! How a floor is closed.
+ghost use Rattle.std.specs.Prelude.{◌≡◌};
+ghost use Rattle.core.specs.Mem.Slots.{IsFull, slots_items};
+ghost use Rattle.floor_table.specs.declared.view.SeatKind.TheVariants.{Main};
+ghost use Rattle.floor_table.specs.Holds.{Ended, HasGivenAll};
+
+use crate::floor::{Floor, Stand};
+use atomic_table::Closed;
+use floor_rule::TaskSlot;
+use floor_table::Named;
+use std::alloc::Global;
+
+impl<N: Named> Floor<N> {
+    /// Closes the floor, once all other stands were joined to the main one and it has given all its turns. The entries of that
+    /// stand are the journal. It is legal, and the words and slots that are left show the state that it leads to.
+    pub fn close(self, stand: Stand) -> Closed<Option<TaskSlot>, Global>
+        requires here { stand.table_id ≡ self }
+        requires main { stand.me.0.kind ≡ Main }
+        requires alone { (stand.me.0.out ≡ 0) × HasGivenAll stand.me.0 }
+        ensures ended { Ended N.prog N.lim stand.me.0 (slots_items result.words) (slots_items result.slots) }
+        ensures full { IsFull result.words × IsFull result.slots }
+    {
+        let Floor {
+            table,
+            cells: _,
+            words: _,
+        } = self;
+        table.close_with(stand)
+    }
+}

@@ -1,0 +1,44 @@
+//! The phases of tasks.
+ghost use Rattle.std.specs.Prelude.{◌≡◌, ◌≢◌, ◌<◌};
+ghost use Rattle.floor_rule.specs.declared.view.HeldTurn.{HeldTurn};
+ghost use Rattle.floor_table.specs.declared.view.SeatKind.TheVariants.{Spent};
+ghost use Rattle.floor_table.specs.Layout.{word_of_phase};
+ghost use Rattle.floor_table.specs.Tells.{FoundPhase, MayStore, StoredPhase};
+
+use crate::floor::{Floor, Stand};
+use crate::words::{phase_of, word_of};
+use floor_rule::Phase;
+use floor_table::{LoadPhase, Named, StorePhase};
+
+impl<N: Named> Floor<N> {
+    /// What the phase word of a task says. A stand that finds `Done` knows the task's value from then on. One that has the
+    /// task's turn finds the phase that it knows.
+    pub fn status(&self, stand: &mut Stand, task: u32) -> Phase
+        requires here { stand.old.table_id ≡ self.now }
+        requires live { stand.old.me.0.kind ≢ Spent }
+        requires task { task < N.lim.tasks }
+        ensures found { FoundPhase stand.old.me task (word_of_phase result) stand.new.me }
+        ensures same { (stand.new.table_id ≡ stand.old.table_id) × (stand.new.id ≡ stand.old.id) }
+    {
+        let place = self.phase_place(task);
+        let word = self.table.shared.load::<LoadPhase<N>>(stand, place);
+        phase_of(word)
+    }
+
+    /// Stores the phase of a task whose turn the stand has: the one of the task's row, or `Running` once the awaited task is
+    /// known to be done.
+    pub fn set_phase(&self, stand: &mut Stand, task: u32, phase: Phase)
+        requires here { stand.old.table_id ≡ self.now }
+        requires live { stand.old.me.0.kind ≢ Spent }
+        requires task { task < N.lim.tasks }
+        requires may { (turn : HeldTurn) × MayStore stand.old.me task turn phase }
+        ensures stored { (turn : HeldTurn) → MayStore stand.old.me task turn phase
+            → StoredPhase stand.old.me task turn phase stand.new.me }
+        ensures same { (stand.new.table_id ≡ stand.old.table_id) × (stand.new.id ≡ stand.old.id) }
+    {
+        let place = self.phase_place(task);
+        self.table
+            .shared
+            .store::<StorePhase<N>>(stand, place, word_of(phase));
+    }
+}
