@@ -34,7 +34,7 @@ use Rattle.twe_machine.proofs.Places.{got_one, set_same}
 use Rattle.twe_machine.proofs.ReachedStands.{reached_stands}
 use Rattle.twe_machine.proofs.Replayed.{run_more}
 use Rattle.twe_machine.proofs.SettlesNext.{may_settle, settles_with}
-use Rattle.twe_rounds.specs.declared.run.Run.{Run}
+use Rattle.opt_engine.specs.declared.core_run.CoreRun.{CoreRun}
 use Rattle.opt_engine.specs.declared.drafts.Drafted.{Drafted}
 use Rattle.opt_engine.specs.declared.touch.Touch.{Touch}
 use Rattle.opt_engine.specs.Drafts.{BeginsWith, Fits, IsDraftedOf, IsReady, StandsIn, drafted}
@@ -45,11 +45,11 @@ use Rattle.opt_engine.proofs.Drafting.{may_access}
 use Rattle.opt_engine.proofs.Places.{Each, all_each, each_all, each_weaker}
 use Rattle.opt_engine.proofs.Touched.{agrees_too, reads_below, writes_below, writes_make}
 
-pub reached_by : (p : Program) (lim : Bounds) (run : Run) → IsRun p lim run.journal run.state → IsReached p lim run.state
+pub reached_by : (p : Program) (lim : Bounds) (run : CoreRun) → IsRun p lim run.journal run.state → IsReached p lim run.state
 reached_by p lim run is = record { journal = run.journal; legal = is.legal; same = is.same }
 
 -- a legal move was taken
-pub steps_is : (p : Program) (lim : Bounds) (old new : Run) (mv : Move) (end : End) → IsRun p lim old.journal old.state → MayMove old.state mv
+pub steps_is : (p : Program) (lim : Bounds) (old new : CoreRun) (mv : Move) (end : End) → IsRun p lim old.journal old.state → MayMove old.state mv
     → (new.state, end) ≡ move_result p lim old.state mv → new.journal ≡ old.journal ++ record { mv = mv; end = end } ∷ [] → Steps p lim old mv new
 steps_is p lim old new mv end run may moved pushed =
     let state : new.state ≡ (move_result p lim old.state mv).0 = ap (λ (x : State × End). x.0) moved in
@@ -62,7 +62,7 @@ steps_is p lim old new mv end run may moved pushed =
     }
 
 -- the entry of the move is the last
-pub last_is : (p : Program) (lim : Bounds) (old new : Run) (mv : Move) (len number : ℕ) → Steps p lim old mv new → len ≡ length new.journal → number ≡ len - 1 → number + 1 ≡ length new.journal
+pub last_is : (p : Program) (lim : Bounds) (old new : CoreRun) (mv : Move) (len number : ℕ) → Steps p lim old mv new → len ≡ length new.journal → number ≡ len - 1 → number + 1 ≡ length new.journal
 last_is p lim old new mv len number steps counted less =
     let whole : length new.journal ≡ length old.journal + 1 = ap length steps.journal ∙ length-append old.journal (entry_of p lim old.state mv ∷ []) in
     omega (arith, whole, counted, less)
@@ -170,12 +170,12 @@ after_admission p lim st d row well reached made there fits =
     }
 
 -- after the admission, if it was needed, the draft still fits and its task may run
-pub record IsEntered (p : Program) (lim : Bounds) (run : Run) (d : Drafted) : Type 0 where
+pub record IsEntered (p : Program) (lim : Bounds) (run : CoreRun) (d : Drafted) : Type 0 where
   pub run_is : IsRun p lim run.journal run.state
   pub fits : Fits run.state d
   pub may : MayRun run.state d.task
 
-pub entered : (p : Program) (lim : Bounds) (old new : Run) (d : Drafted) → IsWellFormed p → IsRun p lim old.journal old.state → Fits old.state d → Admits p lim old d.task new
+pub entered : (p : Program) (lim : Bounds) (old new : CoreRun) (d : Drafted) → IsWellFormed p → IsRun p lim old.journal old.state → Fits old.state d → Admits p lim old d.task new
     → IsEntered p lim new d
 entered p lim old new d well run fits (inl admits) =
     let reached = reached_by p lim old run in
@@ -191,13 +191,13 @@ entered p lim old new d well run fits (inl admits) =
 entered p lim old new d well run fits (inr kept) =
     let may : MayRun old.state d.task = elim fits.is_next.0 [ inl made ↦ absurd (kept.0 made) | inr may ↦ may ] in
     record {
-      run_is = subst (λ (r : Run). IsRun p lim r.journal r.state) (sym kept.1) run;
-      fits = subst (λ (r : Run). Fits r.state d) (sym kept.1) fits;
-      may = subst (λ (r : Run). MayRun r.state d.task) (sym kept.1) may;
+      run_is = subst (λ (r : CoreRun). IsRun p lim r.journal r.state) (sym kept.1) run;
+      fits = subst (λ (r : CoreRun). Fits r.state d) (sym kept.1) fits;
+      may = subst (λ (r : CoreRun). MayRun r.state d.task) (sym kept.1) may;
     }
 
 -- the moves of the draft were taken
-pub took : (p : Program) (lim : Bounds) (old between new : Run) (d : Drafted) (number : ℕ) → Fits old.state d → IsFree old.state d.task → Admits p lim old d.task between
+pub took : (p : Program) (lim : Bounds) (old between new : CoreRun) (d : Drafted) (number : ℕ) → Fits old.state d → IsFree old.state d.task → Admits p lim old d.task between
     → MayRun between.state d.task → Steps p lim between (record { kind = kinds.Run; task = d.task }) new → number + 1 ≡ length new.journal → Takes p lim old d number new
 took p lim old between new d number fits free (inl admits) may steps last =
     let t = d.task in
@@ -226,13 +226,13 @@ took p lim old between new d number fits free (inr kept) may steps last =
     let t = d.task in
     let row = fits.is_next.1.0 in
     let there : IsRow old.state t row = fits.is_next.1.1 in
-    let may_old : MayRun old.state t = subst (λ (r : Run). MayRun r.state t) kept.1 may in
+    let may_old : MayRun old.state t = subst (λ (r : CoreRun). MayRun r.state t) kept.1 may in
     let status : row.status ≡ Enabled = status_of old.state t row Enabled may_old.0 there in
     let moves : moves_of Enabled t ≡ moves_of row.status t = ap (λ (s : TaskStatus). moves_of s t) (sym status) in
     let run : Move = record { kind = kinds.Run; task = t } in
     let journal : new.journal ≡ old.journal ++ entries_from p lim old.state (moves_of Enabled t) =
-    steps.journal ∙ ap (λ (r : Run). r.journal ++ entry_of p lim r.state run ∷ []) kept.1 in
-    let after : new.state ≡ state_from p lim old.state (moves_of Enabled t) = steps.state ∙ ap (λ (r : Run). (move_result p lim r.state run).0) kept.1 in
+    steps.journal ∙ ap (λ (r : CoreRun). r.journal ++ entry_of p lim r.state run ∷ []) kept.1 in
+    let after : new.state ≡ state_from p lim old.state (moves_of Enabled t) = steps.state ∙ ap (λ (r : CoreRun). (move_result p lim r.state run).0) kept.1 in
     let legal : AreLegalFrom p lim old.state (moves_of Enabled t) = (may_old, tt) in
     record {
       row = row;

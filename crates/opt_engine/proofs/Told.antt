@@ -5,7 +5,7 @@ use Rattle.seg_journal.specs.declared.journal.Entry.{Entry}
 use Rattle.twe_limits.specs.Limits.{Bounds}
 use Rattle.twe_program.specs.Program.{Program}
 use Rattle.twe_machine.specs.Runs.{IsReached, IsRun}
-use Rattle.twe_rounds.specs.declared.run.Run.{Run}
+use Rattle.opt_engine.specs.declared.core_run.CoreRun.{CoreRun}
 use Rattle.twe_rounds.proofs.Beginnings.{prefix_self, prefix_trans}
 use Rattle.opt_engine.specs.declared.drafts.Drafted.{Drafted}
 use Rattle.opt_engine.specs.declared.verdict.Verdict.{Verdict}
@@ -13,17 +13,17 @@ use Rattle.opt_engine.specs.Verdicts.{Answers, GoesOn, IsKept, Judges, Takes, en
 use Rattle.opt_engine.proofs.Committed.{reached_by}
 
 -- the journal goes on when the moves of a draft are taken
-pub takes_begin : (p : Program) (lim : Bounds) (old : Run) (d : Drafted) (number : ℕ) (new : Run) → Takes p lim old d number new → IsPrefix old.journal new.journal
+pub takes_begin : (p : Program) (lim : Bounds) (old : CoreRun) (d : Drafted) (number : ℕ) (new : CoreRun) → Takes p lim old d number new → IsPrefix old.journal new.journal
 takes_begin p lim old d number new takes = (entries_from p lim old.state (moves_of takes.row.status d.task), sym takes.journal)
 
-pub begins_itself : (run : Run) → IsPrefix run.journal run.journal
+pub begins_itself : (run : CoreRun) → IsPrefix run.journal run.journal
 begins_itself run = prefix_self run.journal
 
-pub reached_of : (p : Program) (lim : Bounds) (run : Run) → IsRun p lim run.journal run.state → (some : Bounds) × IsReached p some run.state
+pub reached_of : (p : Program) (lim : Bounds) (run : CoreRun) → IsRun p lim run.journal run.state → (some : Bounds) × IsReached p some run.state
 reached_of p lim run is = (lim, reached_by p lim run is)
 
 -- the core had this run, and answers as it does
-pub answer_kept : (p prog : Program) (limits lim : Bounds) (earlier : List Entry) (core kept : Option Run) (old after : Run) (d : Drafted) (verdict : Verdict)
+pub answer_kept : (p prog : Program) (limits lim : Bounds) (earlier : List Entry) (core kept : Option CoreRun) (old after : CoreRun) (d : Drafted) (verdict : Verdict)
     → p ≡ prog → limits ≡ lim → kept ≡ Some old → kept ≡ core → IsKept prog lim earlier kept → Judges p limits old d verdict (Some after)
     → Answers prog lim earlier core d verdict (Some after)
 answer_kept p prog limits lim earlier core kept old after d verdict same_program same_limits is view keeps judges = (
@@ -34,7 +34,7 @@ answer_kept p prog limits lim earlier core kept old after d verdict same_program
 )
 
 -- and keeps its run
-pub answer_goes_on : (p prog : Program) (limits lim : Bounds) (earlier : List Entry) (kept : Option Run) (old after : Run) → p ≡ prog → limits ≡ lim → kept ≡ Some old
+pub answer_goes_on : (p prog : Program) (limits lim : Bounds) (earlier : List Entry) (kept : Option CoreRun) (old after : CoreRun) → p ≡ prog → limits ≡ lim → kept ≡ Some old
     → IsKept prog lim earlier kept → IsRun p limits after.journal after.state → IsPrefix old.journal after.journal → GoesOn prog lim earlier after
 answer_goes_on p prog limits lim earlier kept old after same_program same_limits is keeps run begins =
     let before : GoesOn prog lim earlier old = subst (IsKept prog lim earlier) is keeps in

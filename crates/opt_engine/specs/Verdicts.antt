@@ -17,7 +17,7 @@ use Rattle.twe_machine.specs.Legal.{Forbids, MayAdmit, MayMove}
 use Rattle.twe_machine.specs.Moves.{move_result}
 use Rattle.twe_machine.specs.Rows.{HasStatus, IsRow}
 use Rattle.twe_machine.specs.Runs.{IsRun, entry_of}
-use Rattle.twe_rounds.specs.declared.run.Run.{Run}
+use Rattle.opt_engine.specs.declared.core_run.CoreRun.{CoreRun}
 use Rattle.opt_engine.specs.declared.touch.Touch.{Touch}
 use Rattle.opt_engine.specs.declared.drafts.Draft.{Draft}
 use Rattle.opt_engine.specs.declared.drafts.Drafted.{Drafted}
@@ -26,12 +26,12 @@ use Rattle.opt_engine.specs.declared.verdict.Verdict.TheVariants.{Committed, Pas
 use Rattle.opt_engine.specs.Drafts.{BeginsWith, Fits, IsDraftOf, IsNext, IsReady, StandsIn}
 
 -- The journal is legal for the program under the limits, and leads to the state. It goes on from the earlier one.
-pub record GoesOn (p : Program) (lim : Bounds) (earlier : List Entry) (run : Run) : Type 0 where
+pub record GoesOn (p : Program) (lim : Bounds) (earlier : List Entry) (run : CoreRun) : Type 0 where
   pub run_is : IsRun p lim run.journal run.state
   pub begins : IsPrefix earlier run.journal
 
 -- the run of a core goes on from the earlier journal; None once memory ran out
-abbrev pub IsKept : Program → Bounds → List Entry → Option Run → Type 0
+abbrev pub IsKept : Program → Bounds → List Entry → Option CoreRun → Type 0
 IsKept p lim earlier None = Unit {0}
 IsKept p lim earlier (Some run) = GoesOn p lim earlier run
 
@@ -58,7 +58,7 @@ state_from p lim st (mv ∷ mvs) = state_from p lim (move_result p lim st mv).0 
 
 -- The moves of a draft were taken: the draft fits and its moves are legal, and their entries come after the others. The
 -- last of them has this number, counted from 0.
-pub record Takes (p : Program) (lim : Bounds) (old : Run) (d : Drafted) (number : ℕ) (new : Run) : Type 0 where
+pub record Takes (p : Program) (lim : Bounds) (old : CoreRun) (d : Drafted) (number : ℕ) (new : CoreRun) : Type 0 where
   pub row : TaskRow
   pub there : IsRow old.state d.task row
   pub fits : Fits old.state d
@@ -81,8 +81,8 @@ abbrev pub IsFree : State → ℕ → Type 0
 IsFree st t = HasStatus st t Made → MayAdmit st t
 
 -- What a core with this run answers to a draft, and its run afterwards. After each answer but the first the run is as before.
-abbrev pub Judges : Program → Bounds → Run → Drafted → Verdict → Option Run → Type 0
-Judges p lim run d (Committed number) new = (after : Run) × (new ≡ Some after) × Takes p lim run d number after
+abbrev pub Judges : Program → Bounds → CoreRun → Drafted → Verdict → Option CoreRun → Type 0
+Judges p lim run d (Committed number) new = (after : CoreRun) × (new ≡ Some after) × Takes p lim run d number after
 -- the draft is not of the segment that its task runs next
 Judges p lim run d Passed new = (new ≡ Some run) × ¬ IsNext run.state d
 -- it is, and the task is held back; this is the lowest bar, and the draft is given back
@@ -92,8 +92,8 @@ Judges p lim run d (Changed cell read now) new =
     (new ≡ Some run) × IsNext run.state d × IsFree run.state d.task × IsFirstChange run.state.cells d.reads cell read now
 
 -- the core had a run, and answers so
-abbrev pub Answers : Program → Bounds → List Entry → Option Run → Drafted → Verdict → Option Run → Type 0
-Answers p lim earlier old d verdict new = (run : Run) × (old ≡ Some run) × GoesOn p lim earlier run × Judges p lim run d verdict new
+abbrev pub Answers : Program → Bounds → List Entry → Option CoreRun → Drafted → Verdict → Option CoreRun → Type 0
+Answers p lim earlier old d verdict new = (run : CoreRun) × (old ≡ Some run) × GoesOn p lim earlier run × Judges p lim run d verdict new
 
 -- a draft of the next segment of the task: the task is ready, and the draft has the cells and the frame that the segment
 -- begins with; none if the task is not ready
@@ -102,5 +102,5 @@ IsDraftAt p st t None = ¬ IsReady st t
 IsDraftAt p st t (Some draft) = IsReady st t × (draft.task ≡ t) × BeginsWith st t draft.frame × (draft.cells ≡ st.cells) × IsDraftOf p draft
 
 -- the core had a run, and gives a draft of its state
-abbrev pub Drafts : Program → Option Run → ℕ → Option Draft → Type 0
-Drafts p core t draft = (run : Run) × (core ≡ Some run) × IsDraftAt p run.state t draft
+abbrev pub Drafts : Program → Option CoreRun → ℕ → Option Draft → Type 0
+Drafts p core t draft = (run : CoreRun) × (core ≡ Some run) × IsDraftAt p run.state t draft

@@ -6,6 +6,7 @@ ghost use Rattle.opt_engine.specs.Drafts.{IsDraftedOf};
 ghost use Rattle.opt_engine.specs.Verdicts.{Judges};
 
 use crate::committing::take_moves;
+use crate::core_run::CoreRun;
 use crate::drafts::Drafted;
 use crate::judging::{Finding, judge};
 use crate::verdict::Verdict;
@@ -13,7 +14,6 @@ use std::alloc::Global;
 use twe_io::Memory;
 use twe_limits::Limits;
 use twe_program::Prog;
-use twe_rounds::Run;
 
 /// Takes the moves that a draft stands for, if it fits and they are legal, and else says why not. Then the run is as before.
 #[tactic(auto, using(crate::proofs::Told::takes_begin, crate::proofs::Told::begins_itself, crate::proofs::Told::reached_of))]
@@ -21,9 +21,9 @@ pub(crate) fn answer(
     alloc: Global,
     p: &Prog,
     lim: Limits,
-    run: Run,
+    run: CoreRun,
     d: Drafted,
-) -> Result<(Run, Verdict), Memory>
+) -> Result<(CoreRun, Verdict), Memory>
     requires run { IsRun p.now lim run.journal run.state }
     requires drafted { IsDraftedOf p.now d }
     ensures run { IfOk result (λ told. IsRun p.now lim told.0.journal told.0.state) }

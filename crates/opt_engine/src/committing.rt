@@ -8,6 +8,7 @@ ghost use Rattle.opt_engine.specs.Touches.{with_writes};
 ghost use Rattle.opt_engine.specs.Verdicts.{IsFree, Takes};
 ghost use Rattle.opt_engine.specs.inner.Judging.{Admits, Steps};
 
+use crate::core_run::CoreRun;
 use crate::drafts::Drafted;
 use crate::readiness::is_made;
 use crate::touch::Touch;
@@ -17,7 +18,6 @@ use twe_io::{Ints, Memory};
 use twe_limits::Limits;
 use twe_machine::{settle, step};
 use twe_program::Prog;
-use twe_rounds::Run;
 
 /// Takes the moves of a draft that fits and whose task may be admitted if it waits for that. Returns the run and the number
 /// of the last entry, counted from 0.
@@ -25,9 +25,9 @@ pub(crate) fn take_moves(
     alloc: Global,
     p: &Prog,
     lim: Limits,
-    run: Run,
+    run: CoreRun,
     d: Drafted,
-) -> Result<(Run, u64), Memory>
+) -> Result<(CoreRun, u64), Memory>
     requires run { IsRun p.now lim run.journal run.state }
     requires drafted { IsDraftedOf p.now d }
     requires fits { Fits run.state d }
@@ -44,7 +44,13 @@ pub(crate) fn take_moves(
 }
 
 /// Admits a task if it waits for its admission.
-fn admit_if_made(alloc: Global, p: &Prog, lim: Limits, run: &mut Run, t: u32) -> Result<(), Memory>
+fn admit_if_made(
+    alloc: Global,
+    p: &Prog,
+    lim: Limits,
+    run: &mut CoreRun,
+    t: u32,
+) -> Result<(), Memory>
     requires run { IsRun p.now lim run.old.journal run.old.state }
     requires free { IsFree run.old.state t }
     ensures { OnOk result (Admits p.now lim run.old t run.new) }
@@ -56,7 +62,7 @@ fn admit_if_made(alloc: Global, p: &Prog, lim: Limits, run: &mut Run, t: u32) ->
 }
 
 /// Admits a task that may be admitted.
-fn admit(alloc: Global, p: &Prog, lim: Limits, run: &mut Run, t: u32) -> Result<(), Memory>
+fn admit(alloc: Global, p: &Prog, lim: Limits, run: &mut CoreRun, t: u32) -> Result<(), Memory>
     requires run { IsRun p.now lim run.old.journal run.old.state }
     requires may { MayAdmit run.old.state t }
     ensures { OnOk result (Steps p.now lim run.old (record { kind = Kind.Admit; task = t }) run.new) }
@@ -71,7 +77,7 @@ fn admit(alloc: Global, p: &Prog, lim: Limits, run: &mut Run, t: u32) -> Result<
 }
 
 /// Enters the segment of a draft that fits, whose task may run.
-fn enter(alloc: Global, p: &Prog, lim: Limits, run: &mut Run, d: Drafted) -> Result<(), Memory>
+fn enter(alloc: Global, p: &Prog, lim: Limits, run: &mut CoreRun, d: Drafted) -> Result<(), Memory>
     requires run { IsRun p.now lim run.old.journal run.old.state }
     requires drafted { IsDraftedOf p.now d }
     requires fits { Fits run.old.state d }

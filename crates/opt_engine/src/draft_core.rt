@@ -5,15 +5,18 @@ ghost use Rattle.opt_engine.specs.Drafts.{BeginsWith, IsDraftOf, IsDraftedOf, Is
 ghost use Rattle.opt_engine.specs.Verdicts.{Answers, Drafts};
 
 use crate::answering::answer;
+use crate::core_run::CoreRun;
 use crate::drafts::{Draft, Drafted};
 use crate::readiness::draft_of;
 use crate::verdict::Verdict;
+use seg_journal::Journal;
 use std::alloc::{AllocError, Global};
 use std::marker::{Model, PhantomData};
 use twe_io::Memory;
 use twe_limits::Limits;
+use twe_machine::start;
 use twe_program::Prog;
-use twe_rounds::{Named, Run};
+use twe_rounds::Named;
 
 /// A run of the named program under the named limits, which goes on from the named journal. Once memory runs out while a
 /// draft is committed, the run is lost, and every later call answers `Memory`.
@@ -21,16 +24,16 @@ use twe_rounds::{Named, Run};
 pub struct Core<N: Named> {
     alloc: Global,
     lim: Limits,
-    run: Option<Run>,
+    run: Option<CoreRun>,
     of: PhantomData<N>,
 }
 
 impl<N: Named> Model for Core<N> {
     ghost use Rattle.std.specs.Prelude.{◌≡◌, Option};
-    ghost use Rattle.twe_rounds.specs.declared.run.Run.{Run};
+    ghost use Rattle.opt_engine.specs.declared.core_run.CoreRun.{CoreRun};
     ghost use Rattle.opt_engine.specs.Verdicts.{IsKept};
 
-    ghost Value = { Option Run };
+    ghost Value = { Option CoreRun };
 
     ghost view = { λ core. core.run };
 
@@ -44,7 +47,10 @@ impl<N: Named> Core<N> {
         requires first { N.earlier ≡ [] }
         ensures { IfOk result (λ core. core ≡ Some (record { journal = []; state = start_of p.now lim })) }
     {
-        let run = Run::begin(alloc, p, lim)?;
+        let run = CoreRun {
+            journal: Journal::new(alloc),
+            state: start(alloc, p, lim)?,
+        };
         Ok(Core {
             alloc,
             lim,

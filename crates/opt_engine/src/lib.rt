@@ -7,6 +7,7 @@
 
 mod answering;
 mod committing;
+mod core_run;
 mod draft_core;
 mod drafts;
 mod frames;
@@ -17,6 +18,7 @@ mod touch;
 mod touching;
 mod verdict;
 
+pub use core_run::CoreRun;
 pub use draft_core::Core;
 pub use drafts::{Draft, Drafted, run_draft};
 pub use frames::{copy_frame, same_frame};

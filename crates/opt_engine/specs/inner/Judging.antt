@@ -11,7 +11,7 @@ use Rattle.twe_limits.specs.Limits.{Bounds}
 use Rattle.twe_program.specs.Program.{Program}
 use Rattle.twe_machine.specs.Moves.{move_result}
 use Rattle.twe_machine.specs.Runs.{IsRun, entry_of}
-use Rattle.twe_rounds.specs.declared.run.Run.{Run}
+use Rattle.opt_engine.specs.declared.core_run.CoreRun.{CoreRun}
 use Rattle.opt_engine.specs.declared.touch.Touch.{Touch}
 use Rattle.opt_engine.specs.declared.drafts.Drafted.{Drafted}
 use Rattle.opt_engine.specs.declared.judging.Change.{Change}
@@ -37,11 +37,11 @@ Finds st d (findings.Held by) = IsNext st d × Forbids st Admit d.task (HeldBy b
 Finds st d (findings.Changed change) = IsNext st d × IsFree st d.task × IsChange st.cells d.reads change
 
 -- the run took this move
-pub record Steps (p : Program) (lim : Bounds) (old : Run) (mv : Move) (new : Run) : Type 0 where
+pub record Steps (p : Program) (lim : Bounds) (old : CoreRun) (mv : Move) (new : CoreRun) : Type 0 where
   pub run_is : IsRun p lim new.journal new.state
   pub journal : new.journal ≡ old.journal ++ entry_of p lim old.state mv ∷ []
   pub state : new.state ≡ (move_result p lim old.state mv).0
 
 -- the admission of a task that waits for it was taken; otherwise the run is as before
-abbrev pub Admits : Program → Bounds → Run → ℕ → Run → Type 0
+abbrev pub Admits : Program → Bounds → CoreRun → ℕ → CoreRun → Type 0
 Admits p lim old t new = (HasStatus old.state t Made × Steps p lim old (record { kind = Admit; task = t }) new) ⊎ (¬ HasStatus old.state t Made × (new ≡ old))
