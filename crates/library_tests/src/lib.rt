@@ -1,8 +1,10 @@
-//! Tests of the libraries that no run of the program shows: a printed tree, the text of a journal, and the sequential
-//! execution of a task. They also show that each call which may run out of memory can succeed. They stand in a crate of
+//! Tests of the libraries that no run of the program shows: a printed tree, the text of a journal, the sequential
+//! execution of a task, and a draft of a task that is held back. They also show that each call which may run out of memory can succeed. They stand in a crate of
 //! their own, since a crate with tests is proved twice.
 #![tactic(auto)]
 
+#[cfg(test)]
+mod drafts;
 #[cfg(test)]
 mod elisions;
 #[cfg(test)]

@@ -40,7 +40,8 @@ use Rattle.opt_engine.specs.declared.touch.Touch.{Touch}
 use Rattle.opt_engine.specs.Drafts.{BeginsWith, Fits, IsDraftedOf, IsReady, StandsIn, drafted}
 use Rattle.opt_engine.specs.Touches.{first_reads, last_writes, with_writes}
 use Rattle.opt_engine.specs.Verdicts.{AreLegalFrom, IsFree, Takes, entries_from, moves_of, state_from}
-use Rattle.opt_engine.specs.inner.Judging.{Admits, Steps}
+use Rattle.opt_engine.specs.Taking.{Steps}
+use Rattle.opt_engine.specs.inner.Judging.{Admits}
 use Rattle.opt_engine.proofs.Drafting.{may_access}
 use Rattle.opt_engine.proofs.Places.{Each, all_each, each_all, each_weaker}
 use Rattle.opt_engine.proofs.Touched.{agrees_too, reads_below, writes_below, writes_make}

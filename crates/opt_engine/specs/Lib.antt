@@ -1,3 +1,4 @@
+pub mod Taking
 pub mod Touches
 pub mod Drafts
 pub mod Verdicts

@@ -6,7 +6,8 @@ ghost use Rattle.twe_machine.specs.Runs.{IsRun};
 ghost use Rattle.opt_engine.specs.Drafts.{Fits, IsDraftedOf};
 ghost use Rattle.opt_engine.specs.Touches.{with_writes};
 ghost use Rattle.opt_engine.specs.Verdicts.{IsFree, Takes};
-ghost use Rattle.opt_engine.specs.inner.Judging.{Admits, Steps};
+ghost use Rattle.opt_engine.specs.Taking.{Steps};
+ghost use Rattle.opt_engine.specs.inner.Judging.{Admits};
 
 use crate::core_run::CoreRun;
 use crate::drafts::Drafted;
@@ -16,7 +17,7 @@ use seg_journal::{Entry, Kind, Move};
 use std::alloc::Global;
 use twe_io::{Ints, Memory};
 use twe_limits::Limits;
-use twe_machine::{settle, step};
+use twe_machine::settle;
 use twe_program::Prog;
 
 /// Takes the moves of a draft that fits and whose task may be admitted if it waits for that. Returns the run and the number
@@ -71,9 +72,7 @@ fn admit(alloc: Global, p: &Prog, lim: Limits, run: &mut CoreRun, t: u32) -> Res
         kind: Kind::Admit,
         task: t,
     };
-    let end = step(alloc, p, lim, &mut run.state, mv)?;
-    run.journal.push(Entry { mv, end })?;
-    Ok(())
+    run.take(alloc, p, lim, mv)
 }
 
 /// Enters the segment of a draft that fits, whose task may run.

@@ -1,7 +1,16 @@
-//! The run of a core so far.
+//! The run of a core so far, and the next move of it.
+ghost use Rattle.std.specs.Prelude.{◌≡◌, [], IfOk, OnOk};
+ghost use Rattle.twe_machine.specs.Legal.{MayMove};
+ghost use Rattle.twe_machine.specs.Moves.{start_of};
+ghost use Rattle.twe_machine.specs.Runs.{IsRun};
+ghost use Rattle.opt_engine.specs.Taking.{Steps};
 
-use seg_journal::Journal;
-use twe_machine::State;
+use seg_journal::{Entry, Journal, Move};
+use std::alloc::Global;
+use twe_io::Memory;
+use twe_limits::Limits;
+use twe_machine::{State, start, step};
+use twe_program::Prog;
 
 /// The journal of a run so far, and the state to which it leads.
 #[derive(Drop)]
@@ -10,4 +19,27 @@ pub struct CoreRun {
     pub journal: Journal,
     /// The state after them.
     pub state: State,
+}
+
+impl CoreRun {
+    /// The run of the program that has not begun.
+    pub fn begin(alloc: Global, p: &Prog, lim: Limits) -> Result<Self, Memory>
+        ensures { IfOk result (λ run. run ≡ record { journal = []; state = start_of p.now lim }) }
+    {
+        Ok(CoreRun {
+            journal: Journal::new(alloc),
+            state: start(alloc, p, lim)?,
+        })
+    }
+
+    /// Takes a legal move, and enters it into the journal. After `Memory` the run can only be dropped.
+    pub fn take(&mut self, alloc: Global, p: &Prog, lim: Limits, mv: Move) -> Result<(), Memory>
+        requires run { IsRun p.now lim self.old.journal self.old.state }
+        requires legal { MayMove self.old.state mv }
+        ensures { OnOk result (Steps p.now lim self.old mv self.new) }
+    {
+        let end = step(alloc, p, lim, &mut self.state, mv)?;
+        self.journal.push(Entry { mv, end })?;
+        Ok(())
+    }
 }

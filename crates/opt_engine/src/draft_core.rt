@@ -1,22 +1,20 @@
 //! A run to which drafts are committed.
-ghost use Rattle.std.specs.Prelude.{◌≡◌, [], Some, None, IfOk, IfErr, MatchOption, OnErr};
+ghost use Rattle.std.specs.Prelude.{◌≡◌, [], Some, None, IfOk, OnErr, option_copied};
 ghost use Rattle.twe_machine.specs.Moves.{start_of};
-ghost use Rattle.opt_engine.specs.Drafts.{BeginsWith, IsDraftOf, IsDraftedOf, IsReady};
-ghost use Rattle.opt_engine.specs.Verdicts.{Answers, Drafts};
+ghost use Rattle.opt_engine.specs.Drafts.{IsDraftedOf};
+ghost use Rattle.opt_engine.specs.Verdicts.{Answers, Drafts, GoesOn, IsKept};
 
 use crate::answering::answer;
 use crate::core_run::CoreRun;
 use crate::drafts::{Draft, Drafted};
 use crate::readiness::draft_of;
 use crate::verdict::Verdict;
-use seg_journal::Journal;
-use std::alloc::{AllocError, Global};
+use std::alloc::Global;
 use std::marker::{Model, PhantomData};
 use twe_io::Memory;
 use twe_limits::Limits;
-use twe_machine::start;
 use twe_program::Prog;
-use twe_rounds::Named;
+use twe_rounds::{Named, lost};
 
 /// A run of the named program under the named limits, which goes on from the named journal. Once memory runs out while a
 /// draft is committed, the run is lost, and every later call answers `Memory`.
@@ -47,16 +45,44 @@ impl<N: Named> Core<N> {
         requires first { N.earlier ≡ [] }
         ensures { IfOk result (λ core. core ≡ Some (record { journal = []; state = start_of p.now lim })) }
     {
-        let run = CoreRun {
-            journal: Journal::new(alloc),
-            state: start(alloc, p, lim)?,
-        };
+        let run = CoreRun::begin(alloc, p, lim)?;
         Ok(Core {
             alloc,
             lim,
             run: Some(run),
             of: PhantomData,
         })
+    }
+
+    /// A core with this run, which goes on from the named journal.
+    pub fn of(alloc: Global, lim: Limits, run: CoreRun) -> Self
+        requires named { lim ≡ N.lim }
+        requires goes_on { GoesOn N.prog N.lim N.earlier run }
+        ensures { result ≡ Some run }
+    {
+        Core {
+            alloc,
+            lim,
+            run: Some(run),
+            of: PhantomData,
+        }
+    }
+
+    /// The run, or `None` if it is lost.
+    pub fn run(&self) -> Option<&CoreRun>
+        ensures same { option_copied result ≡ self.now }
+        ensures goes_on { IsKept N.prog N.lim N.earlier (option_copied result) }
+    {
+        self.run.as_ref()
+    }
+
+    /// The run without the core, or `None` if it is lost.
+    pub fn into_run(self) -> Option<CoreRun>
+        ensures same { result ≡ self }
+        ensures goes_on { IsKept N.prog N.lim N.earlier result }
+    {
+        let Core { run, .. } = self;
+        run
     }
 
     /// A draft of the next segment of a task: copies of the cells and of the frame that the segment begins with. None if
@@ -82,9 +108,4 @@ impl<N: Named> Core<N> {
         self.run = Some(after);
         Ok(verdict)
     }
-}
-
-/// The answer of a core whose run is lost.
-fn lost() -> Memory {
-    Memory::from(AllocError)
 }

@@ -1,16 +1,13 @@
 -- What is found of a draft.
-use Rattle.std.specs.Prelude.{◌≡◌, ◌≢◌, ◌⊎◌, ℕ, ℤ, List, [], ◌∷◌, ◌++◌, Some, slice_get}
+use Rattle.std.specs.Prelude.{◌≡◌, ◌≢◌, ◌⊎◌, ℕ, ℤ, List, Some, slice_get}
 use Rattle.seg_journal.specs.declared.moves.Kind.TheVariants.{Admit}
 use Rattle.twe_machine.specs.declared.legal.Why.TheVariants.{HeldBy}
 use Rattle.twe_machine.specs.declared.state.State.{State}
 use Rattle.twe_machine.specs.declared.state.TaskStatus.TheVariants.{Made}
 use Rattle.twe_machine.specs.Legal.{Forbids}
 use Rattle.twe_machine.specs.Rows.{HasStatus}
-use Rattle.seg_journal.specs.declared.moves.Move.{Move}
 use Rattle.twe_limits.specs.Limits.{Bounds}
 use Rattle.twe_program.specs.Program.{Program}
-use Rattle.twe_machine.specs.Moves.{move_result}
-use Rattle.twe_machine.specs.Runs.{IsRun, entry_of}
 use Rattle.opt_engine.specs.declared.core_run.CoreRun.{CoreRun}
 use Rattle.opt_engine.specs.declared.touch.Touch.{Touch}
 use Rattle.opt_engine.specs.declared.drafts.Drafted.{Drafted}
@@ -18,6 +15,7 @@ use Rattle.opt_engine.specs.declared.judging.Change.{Change}
 use Rattle.opt_engine.specs.declared.judging.Finding.{Finding}
 use Rattle.opt_engine.specs.declared.judging.Finding.TheVariants as findings
 use Rattle.opt_engine.specs.Drafts.{Fits, IsNext}
+use Rattle.opt_engine.specs.Taking.{Steps}
 use Rattle.opt_engine.specs.Verdicts.{IsFirstChange, IsFree}
 
 -- the cell of this read has another value now
@@ -35,12 +33,6 @@ Finds st d findings.Fits = Fits st d × IsFree st d.task
 Finds st d findings.Passed = ¬ IsNext st d
 Finds st d (findings.Held by) = IsNext st d × Forbids st Admit d.task (HeldBy by)
 Finds st d (findings.Changed change) = IsNext st d × IsFree st d.task × IsChange st.cells d.reads change
-
--- the run took this move
-pub record Steps (p : Program) (lim : Bounds) (old : CoreRun) (mv : Move) (new : CoreRun) : Type 0 where
-  pub run_is : IsRun p lim new.journal new.state
-  pub journal : new.journal ≡ old.journal ++ entry_of p lim old.state mv ∷ []
-  pub state : new.state ≡ (move_result p lim old.state mv).0
 
 -- the admission of a task that waits for it was taken; otherwise the run is as before
 abbrev pub Admits : Program → Bounds → CoreRun → ℕ → CoreRun → Type 0

@@ -1,0 +1,4 @@
+-- a run that has met no fault, and the moves of a draft
+pub mod Faultless
+-- a quiet step and a round of a run, as those of the crew that has the run
+pub mod QuietSteps

@@ -1,0 +1,6 @@
+use Rattle.std.proofs.Common.{◌≡◌}
+use Rattle.opt_crew.proofs.rounds.run_ahead.Given as goal
+
+-- the crew stays one of the program under the limits
+abbrev pub invariant-rounds : goal.invariant-rounds
+invariant-rounds g l = (l.crew.prog ≡ l.p) × (l.crew.lim ≡ l.fn.lim)

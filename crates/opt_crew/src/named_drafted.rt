@@ -1,0 +1,57 @@
+//! A draft that was run, whose program is known by its type alone.
+ghost use Rattle.std.specs.Prelude.{◌≡◌};
+ghost use Rattle.opt_engine.specs.Drafts.{IsDraftOf, IsDraftedOf};
+
+use opt_engine::{Draft, Drafted, run_draft};
+use std::marker::{Model, PhantomData};
+use twe_io::Memory;
+use twe_rounds::{Game, Named};
+
+/// A draft of the named program that was run.
+#[derive(Drop)]
+pub(crate) struct NamedDrafted<N: Named> {
+    drafted: Drafted,
+    of: PhantomData<N>,
+}
+
+impl<N: Named> Model for NamedDrafted<N> {
+    ghost use Rattle.opt_engine.specs.declared.drafts.Drafted.{Drafted};
+
+    ghost Value = { Drafted };
+
+    ghost use Rattle.opt_engine.specs.Drafts.{IsDraftedOf};
+
+    ghost view = { λ named. named.drafted };
+
+    ghost invariant = { λ named. IsDraftedOf N.prog named.drafted };
+}
+
+impl<N: Named> NamedDrafted<N> {
+    /// This draft, by its name.
+    pub(crate) fn new(drafted: Drafted) -> Self
+        requires { IsDraftedOf N.prog drafted }
+        ensures { result ≡ drafted }
+    {
+        NamedDrafted {
+            drafted,
+            of: PhantomData,
+        }
+    }
+
+    /// Runs a draft of the named program.
+    pub(crate) fn run(game: &Game<'_, N>, draft: Draft) -> Result<Self, Memory>
+        requires { IsDraftOf N.prog draft }
+    {
+        let drafted = run_draft(game.alloc(), game.prog(), draft)?;
+        Ok(NamedDrafted::new(drafted))
+    }
+
+    /// The draft without its name.
+    pub(crate) fn into_drafted(self) -> Drafted
+        ensures same { result ≡ self }
+        ensures is { IsDraftedOf N.prog result }
+    {
+        let NamedDrafted { drafted, of: _ } = self;
+        drafted
+    }
+}

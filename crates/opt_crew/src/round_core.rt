@@ -1,0 +1,161 @@
+//! The core of a round, and what workers ask of it. Nothing comes after a fault in its run.
+ghost use Rattle.std.specs.Prelude.{◌≡◌, IfOk, IfSome};
+ghost use Rattle.twe_machine.specs.Runs.{IsReachable};
+ghost use Rattle.opt_engine.specs.Drafts.{IsDraftOf};
+ghost use Rattle.opt_crew.specs.Keeping.{Keeps};
+
+use crate::named_drafted::NamedDrafted;
+use opt_engine::{Core, CoreRun, Draft, Verdict};
+use seg_journal::{End, Kind, Move};
+use std::alloc::Global;
+use std::marker::Model;
+use twe_io::Memory;
+use twe_limits::Limits;
+use twe_machine::{State, TaskStatus, Why, may};
+use twe_program::Prog;
+use twe_rounds::{Game, Look, Named, Waiting, lost};
+
+/// What became of a draft that was handed to the core.
+#[derive(Drop)]
+pub(crate) enum Tried<N: Named> {
+    /// Its moves were taken, and the last of them has this end.
+    Taken(End),
+    /// Its task is held back. The draft is given back.
+    Held(NamedDrafted<N>),
+    /// It does not fit any more, or the run has met a fault.
+    Dropped,
+}
+
+/// The core of a round.
+#[derive(Drop)]
+pub(crate) struct RoundCore<N: Named> {
+    core: Core<N>,
+}
+
+impl<N: Named> Model for RoundCore<N> {
+    ghost use Rattle.std.specs.Prelude.{Option};
+    ghost use Rattle.opt_engine.specs.declared.core_run.CoreRun.{CoreRun};
+    ghost use Rattle.opt_crew.specs.Keeping.{StopsAtFault};
+
+    ghost Value = { Option CoreRun };
+
+    ghost view = { λ round. round.core };
+
+    ghost invariant = { λ round. StopsAtFault round.core };
+}
+
+impl<N: Named> RoundCore<N> {
+    /// The core of a round that begins with this run.
+    pub(crate) fn new(alloc: Global, lim: Limits, run: CoreRun) -> Self
+        requires named { lim ≡ N.lim }
+        requires keeps { Keeps N.prog N.lim N.earlier run }
+    {
+        RoundCore {
+            core: Core::of(alloc, lim, run),
+        }
+    }
+
+    /// The run after the round, or `None` if it is lost.
+    pub(crate) fn into_run(self) -> Option<CoreRun>
+        ensures { IfSome result (Keeps N.prog N.lim N.earlier) }
+    {
+        let RoundCore { core } = self;
+        core.into_run()
+    }
+
+    /// What may be done next for a task. A task that is not admitted yet may run ahead, unless a draft of it is kept and it is
+    /// still held back.
+    pub(crate) fn look(&self, game: &Game<'_, N>, task: u32, kept: bool) -> Result<Look, Memory> {
+        let run = self.core.run().ok_or(lost())?;
+        if run.state.first_fault.is_some() {
+            return Ok(Look::Over);
+        }
+        if kept && let Some(by) = bar_of(game.prog(), &run.state, task) {
+            return Ok(Look::Held { by });
+        }
+        Ok(look_at(&run.state, task))
+    }
+
+    /// A draft of the next segment of a task, or `None` if the task is not ready.
+    pub(crate) fn draft(&self, game: &Game<'_, N>, task: u32) -> Result<Option<Draft>, Memory>
+        ensures { IfOk result (λ draft. IfSome draft (IsDraftOf N.prog)) }
+    {
+        self.core.draft(game.prog(), task)
+    }
+
+    /// Commits a draft, unless the run has met a fault.
+    pub(crate) fn commit(
+        &mut self,
+        game: &Game<'_, N>,
+        drafted: NamedDrafted<N>,
+    ) -> Result<Tried<N>, Memory> {
+        let run = self.core.run().ok_or(lost())?;
+        if run.state.first_fault.is_some() {
+            return Ok(Tried::Dropped);
+        }
+        match self.core.commit(game.prog(), drafted.into_drafted())? {
+            Verdict::Committed { number } => Ok(self.taken(number)),
+            Verdict::Held { draft, .. } => Ok(Tried::Held(NamedDrafted::new(draft))),
+            Verdict::Passed => Ok(Tried::Dropped),
+            Verdict::Changed { .. } => Ok(Tried::Dropped),
+        }
+    }
+
+    /// Tells a worker's list which tasks have ended since it was told last.
+    pub(crate) fn tell(&self, waiting: &mut Waiting) -> Result<(), Memory> {
+        let run = self.core.run().ok_or(lost())?;
+        waiting.read(run.journal.as_slice())
+    }
+
+    /// What became of a draft whose last entry has this number.
+    fn taken(&self, number: u64) -> Tried<N> {
+        match end_at(self.core.run(), number) {
+            Some(end) => Tried::Taken(end),
+            None => Tried::Dropped,
+        }
+    }
+}
+
+/// The end of the entry with this number, if there is one.
+fn end_at(run: Option<&CoreRun>, number: u64) -> Option<End> {
+    let entry = run?.journal.get(number as usize)?;
+    Some(entry.end)
+}
+
+/// The lowest bar to the admission of a task, if it waits for its admission and has a bar.
+fn bar_of(p: &Prog, state: &State, task: u32) -> Option<u32>
+    requires { IsReachable p.now state.now }
+{
+    let admission = Move {
+        kind: Kind::Admit,
+        task,
+    };
+    match may(p, state, admission) {
+        Err(Why::HeldBy(by)) => Some(by),
+        _ => None,
+    }
+}
+
+/// What may be done next for a task in this state.
+fn look_at(state: &State, task: u32) -> Look {
+    match state.tasks.get(task as usize) {
+        None => Look::Over,
+        Some(row) => match row.status {
+            TaskStatus::Made => Look::Runs,
+            TaskStatus::Enabled => look_on(state, task),
+            TaskStatus::Done => Look::Over,
+            TaskStatus::Faulted => Look::Over,
+        },
+    }
+}
+
+/// What may be done next for an enabled task.
+fn look_on(state: &State, task: u32) -> Look {
+    if task >= state.links.task_count() {
+        return Look::Over;
+    }
+    match state.links.awaited(task) {
+        None => Look::Runs,
+        Some(on) => Look::waits(state, on),
+    }
+}

@@ -1,0 +1,101 @@
+//! Lending the run of a round to its workers: to a single one as it is, and to several under a lock.
+ghost use Rattle.std.specs.Prelude.{◌≡◌, ◌≤◌, IfOk};
+ghost use Rattle.opt_crew.specs.Keeping.{Keeps};
+
+use crate::door::{Lent, Locked};
+use crate::drafter::Drafter;
+use crate::round_core::RoundCore;
+use opt_engine::CoreRun;
+use std::alloc::Global;
+use std::sync::atomic::AtomicU64;
+use std::sync::{Mutex, Wait};
+use std::thread;
+use std::thread::Threads;
+use twe_io::Memory;
+use twe_limits::Limits;
+use twe_program::Prog;
+use twe_rounds::{FreeGate, Game, Named, Site, Worker, deal, lost};
+
+/// The run after the moves of a single worker, which begins with the task `first`.
+pub(crate) fn alone<N: Named, R: Wait>(
+    rt: &R,
+    alloc: Global,
+    p: &Prog,
+    lim: Limits,
+    run: CoreRun,
+    first: u32,
+) -> Result<CoreRun, Memory>
+    requires named { (p.now ≡ N.prog) × (lim ≡ N.lim) }
+    requires keeps { Keeps N.prog N.lim N.earlier run }
+    ensures { IfOk result (Keeps N.prog N.lim N.earlier) }
+{
+    let entries = run.journal.len();
+    let mut team = deal(alloc, &run.state, entries, lim.tasks, 1, Some(first))?;
+    let pending = AtomicU64::new(team.pending);
+    let site = Site {
+        gate: &FreeGate,
+        pending: &pending,
+    };
+    let game: Game<'_, N> = Game::new(alloc, p, lim);
+    let mut core = RoundCore::new(alloc, lim, run);
+    for worker in team.workers.iter_mut() {
+        let mut access = Drafter::new(&game, Lent { core: &mut core });
+        worker.work(rt, &mut access, &site);
+    }
+    core.into_run().ok_or(lost())
+}
+
+/// The run after the moves of several workers, each on a thread of its own. Meanwhile the run lies under a lock.
+pub(crate) fn together<'a, N: Named + Send + Sync, R: Threads + Wait + Sync>(
+    rt: &'a R,
+    alloc: Global,
+    p: &'a Prog,
+    lim: Limits,
+    workers: u32,
+    run: CoreRun,
+) -> Result<CoreRun, Memory>
+    requires some { 1 ≤ workers }
+    requires named { (p.now ≡ N.prog) × (lim ≡ N.lim) }
+    requires keeps { Keeps N.prog N.lim N.earlier run }
+    ensures { IfOk result (Keeps N.prog N.lim N.earlier) }
+{
+    let entries = run.journal.len();
+    let mut team = deal(alloc, &run.state, entries, lim.tasks, workers, None)?;
+    let pending = AtomicU64::new(team.pending);
+    let game: Game<'_, N> = Game::new(alloc, p, lim);
+    let core = Mutex::new(RoundCore::new(alloc, lim, run));
+    let shared = Shared {
+        rt,
+        pending: &pending,
+        game: &game,
+        core: &core,
+    };
+    let team = team.workers.as_mut_slice();
+    thread::for_each_mut(rt, team, workers as usize, &|_, worker| shared.send(worker));
+    core.into_inner().into_run().ok_or(lost())
+}
+
+/// What the workers of a round share.
+#[derive(Drop)]
+struct Shared<'a, R: Wait, N: Named> {
+    rt: &'a R,
+    pending: &'a AtomicU64,
+    game: &'a Game<'a, N>,
+    core: &'a Mutex<RoundCore<N>>,
+}
+
+impl<'a, R: Wait, N: Named> Shared<'a, R, N> {
+    /// Sends a worker to work.
+    fn send(&self, worker: &mut Worker) {
+        let door = Locked {
+            rt: self.rt,
+            core: self.core,
+        };
+        let mut access = Drafter::new(self.game, door);
+        let site = Site {
+            gate: &FreeGate,
+            pending: self.pending,
+        };
+        worker.work(self.rt, &mut access, &site);
+    }
+}
