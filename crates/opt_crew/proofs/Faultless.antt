@@ -101,7 +101,3 @@ module _ (p : Program) (lim : Bounds) where
   answered_stops earlier old new run d Passed is stops clear answers = subst StopsAtFault (sym (answers.3.0 ∙ sym answers.1)) stops
   answered_stops earlier old new run d (Held by draft) is stops clear answers = subst StopsAtFault (sym (answers.3.0 ∙ sym answers.1)) stops
   answered_stops earlier old new run d (Changed cell read now) is stops clear answers = subst StopsAtFault (sym (answers.3.0 ∙ sym answers.1)) stops
-
-  -- a draft that is given back is the one that was handed in
-  pub given_back : (earlier : List Entry) (old new : Option CoreRun) (d draft : Drafted) (by : ℕ) → Answers p lim earlier old d (Held by draft) new → draft ≡ d
-  given_back earlier old new d draft by answers = answers.3.3.1

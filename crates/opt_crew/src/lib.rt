@@ -5,9 +5,9 @@
 //! `twe_rounds`. A worker drafts under the lock of the core, runs the draft without it, and commits it under the lock.
 #![tactic(auto)]
 
+mod access;
 mod crew;
-mod door;
-mod drafter;
+mod kept;
 mod named_drafted;
 mod round_core;
 mod rounds;

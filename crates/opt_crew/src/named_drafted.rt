@@ -1,5 +1,5 @@
 //! A draft that was run, whose program is known by its type alone.
-ghost use Rattle.std.specs.Prelude.{◌≡◌};
+ghost use Rattle.std.specs.Prelude.{◌≡◌, IfSome};
 ghost use Rattle.opt_engine.specs.Drafts.{IsDraftOf, IsDraftedOf};
 
 use opt_engine::{Draft, Drafted, run_draft};
@@ -38,12 +38,15 @@ impl<N: Named> NamedDrafted<N> {
         }
     }
 
-    /// Runs a draft of the named program.
-    pub(crate) fn run(game: &Game<'_, N>, draft: Draft) -> Result<Self, Memory>
-        requires { IsDraftOf N.prog draft }
+    /// Runs a draft of the named program, if there is one.
+    pub(crate) fn run(game: &Game<'_, N>, draft: Option<Draft>) -> Result<Option<Self>, Memory>
+        requires { IfSome draft (IsDraftOf N.prog) }
     {
+        let Some(draft) = draft else {
+            return Ok(None);
+        };
         let drafted = run_draft(game.alloc(), game.prog(), draft)?;
-        Ok(NamedDrafted::new(drafted))
+        Ok(Some(NamedDrafted::new(drafted)))
     }
 
     /// The draft without its name.

@@ -2,8 +2,8 @@
 ghost use Rattle.std.specs.Prelude.{◌≡◌, ◌≤◌, IfOk};
 ghost use Rattle.opt_crew.specs.Keeping.{Keeps};
 
-use crate::door::{Lent, Locked};
-use crate::drafter::Drafter;
+use crate::access::{Lent, Locked};
+use crate::kept::Kept;
 use crate::round_core::RoundCore;
 use opt_engine::CoreRun;
 use std::alloc::Global;
@@ -39,7 +39,11 @@ pub(crate) fn alone<N: Named, R: Wait>(
     let game: Game<'_, N> = Game::new(alloc, p, lim);
     let mut core = RoundCore::new(alloc, lim, run);
     for worker in team.workers.iter_mut() {
-        let mut access = Drafter::new(&game, Lent { core: &mut core });
+        let mut access = Lent {
+            game: &game,
+            core: &mut core,
+            kept: Kept::new(alloc),
+        };
         worker.work(rt, &mut access, &site);
     }
     core.into_run().ok_or(lost())
@@ -87,11 +91,12 @@ struct Shared<'a, R: Wait, N: Named> {
 impl<'a, R: Wait, N: Named> Shared<'a, R, N> {
     /// Sends a worker to work.
     fn send(&self, worker: &mut Worker) {
-        let door = Locked {
+        let mut access = Locked {
             rt: self.rt,
+            game: self.game,
             core: self.core,
+            kept: Kept::new(self.game.alloc()),
         };
-        let mut access = Drafter::new(self.game, door);
         let site = Site {
             gate: &FreeGate,
             pending: self.pending,
