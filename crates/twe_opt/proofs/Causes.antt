@@ -23,9 +23,9 @@ use Rattle.twe_opt.specs.inner.Writing.{TellsMade}
 
 -- the number of workers that words ask for is from 1 to 64
 pub asked_range : (words : List (List ℕ)) (workers : ℕ) → workers_asked words ≡ Some workers → (1 ≤ workers) × (workers ≤ max_workers)
-asked_range [] workers asked = absurd (none-some workers (sym asked))
+asked_range [] workers asked = absurd (none-some workers asked)
 asked_range (word ∷ []) workers asked = in_range 1 max_workers word workers asked
-asked_range (word ∷ next ∷ others) workers asked = absurd (none-some workers (sym asked))
+asked_range (word ∷ next ∷ others) workers asked = absurd (none-some workers asked)
 
 -- the answer to what was read
 pub cause_read : {S : Type 0} (tells : SourceTells S) (words : List (List ℕ)) (before after : S) (workers : ℕ) (book : Book) (read : Result (List ℕ) ReadFail)

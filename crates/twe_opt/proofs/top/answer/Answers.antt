@@ -14,10 +14,10 @@ returns-in-Some g c =
 
 -- the number of workers is in its range
 pub answer_read-requires-clause-some : goal.answer_read-requires-clause-some
-answer_read-requires-clause-some g c = (asked_range c.args.words.now c.in-Some.workers (sym c.in-Some.ensures)).0
+answer_read-requires-clause-some g c = λ κs fits. (asked_range c.args.words.now c.in-Some.workers (sym c.in-Some.ensures)).0
 
 pub answer_read-requires-clause-most : goal.answer_read-requires-clause-most
-answer_read-requires-clause-most g c = (asked_range c.args.words.now c.in-Some.workers (sym c.in-Some.ensures)).1
+answer_read-requires-clause-most g c = λ κs fits. (asked_range c.args.words.now c.in-Some.workers (sym c.in-Some.ensures)).1
 
 -- the words ask for no workers
 pub returns-in_ok-usage_text-in-None : goal.returns-in_ok-usage_text-in-None
