@@ -5,7 +5,7 @@ use Rattle.effect_sets.specs.declared.effects.Effect.{Effect}
 use Rattle.effect_sets.specs.declared.effects.Summary.{Summary}
 use Rattle.twe_program.specs.Program.{Program}
 use Rattle.method_needs.specs.Choices.{with_summaries}
-use Rattle.pasting_laws.specs.Places.{EqualButForPlaces}
+use Rattle.place_laws.specs.Places.{EqualButForPlaces}
 
 -- the same effects, in any order
 abbrev pub HaveSameEffects : Summary → Summary → Type 0

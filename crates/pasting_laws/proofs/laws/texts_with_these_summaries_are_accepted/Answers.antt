@@ -1,6 +1,6 @@
 use Rattle.method_needs.specs.Choices.{with_summaries}
 use Rattle.pasting_laws.proofs.Orders.{order-apart}
-use Rattle.pasting_laws.proofs.Rules.{places-apart}
+use Rattle.place_laws.proofs.Rules.{places-apart}
 use Rattle.pasting_laws.proofs.laws.texts_with_these_summaries_are_accepted.Goals as goal
 
 pub returns : goal.returns

@@ -17,10 +17,10 @@ use Rattle.effect_check.specs.Acts.{acts_in_all}
 use Rattle.effect_check.specs.Covered.{Does, CoveredAt}
 use Rattle.effect_check.specs.FailsEffect.{TaskFails, MethodFails, FailsEffect, access, called, spawned, joined, spawned_again, made_later, waited, not_deterministic, access_outside, called_outside}
 use Rattle.first_failure.proofs.Members.{IsIn, contains-in, in-contains}
-use Rattle.method_needs.specs.Choices.{NoRuleFails}
-use Rattle.pasting_laws.specs.Places.{nowhere, bare_decl, bare_program}
-use Rattle.pasting_laws.proofs.Acts.{bare_kind, bare_act, of-statements}
-use Rattle.pasting_laws.proofs.ControlPaths.{may-to, may-from, surely-to, surely-from}
+
+use Rattle.place_laws.specs.Places.{nowhere, bare_decl, bare_program}
+use Rattle.place_laws.proofs.Acts.{bare_kind, bare_act, of-statements}
+use Rattle.place_laws.proofs.ControlPaths.{may-to, may-from, surely-to, surely-from}
 
 in-map : {X Y : Type 0} (f : X → Y) (xs : List X) (x : X) → IsIn x xs → IsIn (f x) (map f xs)
 in-map f [] x h = absurd h
@@ -203,9 +203,7 @@ fails-from p rule place (inr (method, there, fails)) =
     let found = method-from p was.0 rule place (subst (λ (d : Decl). MethodFails (bare_program p) d rule place) was.2 fails) in
     (found.0, inr (was.0, in-contains p.methods was.0 was.1, found.1))
 
--- two programs that are equal but for their places fail no rule together
-pub places-apart : (p q : Program) → bare_program q ≡ bare_program p → NoRuleFails p → NoRuleFails q
-places-apart p q same passes rule place fails =
-    let bare : FailsEffect (bare_program p) rule nowhere = subst (λ (r : Program). FailsEffect r rule nowhere) same (fails-to q rule place fails) in
-    let was = fails-from p rule nowhere bare in
-    passes rule was.0 was.1
+-- of two programs that are equal except for the places in them, one fails a rule if the other does
+pub fails-alike : (p q : Program) → bare_program p ≡ bare_program q → (rule : ERule) (place : Place) → FailsEffect p rule place → (at : Place) × FailsEffect q rule at
+fails-alike p q same rule place fails =
+    fails-from q rule nowhere (subst (λ (r : Program). FailsEffect r rule nowhere) same (fails-to p rule place fails))
