@@ -35,40 +35,43 @@ use Rattle.pasting_laws.specs.Clauses.{name_at, kind_of, elem_of, path_of, claus
 use Rattle.place_laws.specs.Places.{nowhere}
 
 -- what a filter keeps
+one-kept : {X : Type 0} (P : X → Type 0) (test : X → Bool) (x : X) (kept : List X) (b : Bool) → test x ≡ b → P x → AllByRecursion (λ y. (test y ≡ true) × P y) kept
+    → AllByRecursion (λ y. (test y ≡ true) × P y) (cond b (x ∷ kept) kept)
+one-kept P test x kept true is h rest = ((is, h), rest)
+one-kept P test x kept false is h rest = rest
+
 kept-all : {X : Type 0} (P : X → Type 0) (test : X → Bool) (xs : List X) → AllByRecursion P xs → AllByRecursion (λ x. (test x ≡ true) × P x) (filter test xs)
 kept-all P test [] h = tt
-kept-all {X = X} P test (x ∷ xs) h = by (test x) refl
-  where
-    by : (b : Bool) → test x ≡ b → AllByRecursion (λ (y : X). (test y ≡ true) × P y) (cond b (x ∷ filter test xs) (filter test xs))
-    by true is = ((is, h.0), kept-all P test xs h.1)
-    by false is = kept-all P test xs h.1
+kept-all P test (x ∷ xs) h = one-kept P test x (filter test xs) (test x) refl h.0 (kept-all P test xs h.1)
+
+one-from : {X : Type 0} (y x : X) (kept xs : List X) (b : Bool) → (IsIn x kept → IsIn x xs) → IsIn x (cond b (y ∷ kept) kept) → (x ≡ y) ⊎ IsIn x xs
+one-from y x kept xs true more (inl e) = inl e
+one-from y x kept xs true more (inr h) = inr (more h)
+one-from y x kept xs false more h = inr (more h)
 
 kept-in : {X : Type 0} (test : X → Bool) (xs : List X) (x : X) → IsIn x (filter test xs) → IsIn x xs
 kept-in test [] x h = absurd h
-kept-in {X = X} test (y ∷ xs) x h = by (test y) h
-  where
-    by : (b : Bool) → IsIn x (cond b (y ∷ filter test xs) (filter test xs)) → (x ≡ y) ⊎ IsIn x xs
-    by true (inl e) = inl e
-    by true (inr more) = inr (kept-in test xs x more)
-    by false more = inr (kept-in test xs x more)
+kept-in test (y ∷ xs) x h = one-from y x (filter test xs) xs (test y) (kept-in test xs x) h
+
+one-in : {X : Type 0} (test : X → Bool) (y x : X) (kept xs : List X) (b : Bool) → test y ≡ b → test x ≡ true → (IsIn x xs → IsIn x kept) → (x ≡ y) ⊎ IsIn x xs
+    → IsIn x (cond b (y ∷ kept) kept)
+one-in test y x kept xs true is passes more (inl e) = inl e
+one-in test y x kept xs true is passes more (inr h) = inr (more h)
+one-in test y x kept xs false is passes more (inl e) = absurd (true≢false (sym passes ∙ ap test e ∙ is))
+one-in test y x kept xs false is passes more (inr h) = more h
 
 in-kept : {X : Type 0} (test : X → Bool) (xs : List X) (x : X) → test x ≡ true → IsIn x xs → IsIn x (filter test xs)
-in-kept test [] x is h = absurd h
-in-kept {X = X} test (y ∷ xs) x is h = by (test y) refl h
-  where
-    by : (b : Bool) → test y ≡ b → (x ≡ y) ⊎ IsIn x xs → IsIn x (cond b (y ∷ filter test xs) (filter test xs))
-    by true e (inl same) = inl same
-    by true e (inr more) = inr (in-kept test xs x is more)
-    by false e (inl same) = absurd (true≢false (sym is ∙ ap test same ∙ e))
-    by false e (inr more) = in-kept test xs x is more
+in-kept test [] x passes h = absurd h
+in-kept test (y ∷ xs) x passes h = one-in test y x (filter test xs) xs (test y) refl passes (in-kept test xs x passes) h
+
+one-part : {X : Type 0} (x : X) (not_kept kept : List X) (n : ℕ) (b : Bool) → length not_kept + length kept ≡ n
+    → length (cond (not b) (x ∷ not_kept) not_kept) + length (cond b (x ∷ kept) kept) ≡ suc n
+one-part x not_kept kept n true e = omega arith
+one-part x not_kept kept n false e = omega arith
 
 parts-length : {X : Type 0} (test : X → Bool) (xs : List X) → length (filter (λ x. not (test x)) xs) + length (filter test xs) ≡ length xs
 parts-length test [] = refl
-parts-length {X = X} test (x ∷ xs) = by (test x)
-  where
-    by : (b : Bool) → length (cond (not b) (x ∷ filter (λ y. not (test y)) xs) (filter (λ y. not (test y)) xs)) + length (cond b (x ∷ filter test xs) (filter test xs)) ≡ suc (length xs)
-    by true = let rest = parts-length test xs in omega arith
-    by false = let rest = parts-length test xs in omega arith
+parts-length test (x ∷ xs) = one-part x (filter (λ y. not (test y)) xs) (filter test xs) (length xs) (test x) (parts-length test xs)
 
 -- the effects of the clauses: first what is only read, and then what is written
 abbrev pub in_clauses : List Effect → List Effect

@@ -95,6 +95,32 @@ name_at-back : (xs ys : List (List ℕ)) (k : ℕ) → name_at (xs ++ ys) (lengt
 name_at-back [] ys k = let same : 0 + k ≡ k = omega arith in ap (name_at ys) same
 name_at-back (x ∷ xs) ys k = let same : suc (length xs) + k ≡ suc (length xs + k) = omega arith in ap (name_at (x ∷ xs ++ ys)) same ∙ name_at-back xs ys k
 
+-- a region among names, or after them
+regions-first : (before : Before) (names : List Name) (others : List Item) (k : ℕ) (b : Bool) → nat_lt k (length names) ≡ b
+    → ((j : ℕ) → j < length (flat_map regions_of_item others)
+    → RegionAt (name_at (flat_map regions_of_item others) j) ((before.regions + length names) + j) (globals_from (past before (items.Regions names)) others))
+    → k < length (texts_of names ++ flat_map regions_of_item others)
+    → RegionAt (name_at (texts_of names ++ flat_map regions_of_item others) k) (before.regions + k)
+    (regions_from before.regions names ++ globals_from (past before (items.Regions names)) others)
+regions-first before names others k true is more below =
+    let many : length (texts_of names) ≡ length names = length-map names (λ (name : Name). name.text) in
+    let here : k < length names = ltb-true k (length names) is in
+    earlier-region _ _ (regions_from before.regions names) _
+    (subst (λ text. RegionAt text (before.regions + k) (regions_from before.regions names))
+    (sym (name_at-front (texts_of names) (flat_map regions_of_item others) k (omega (arith, here, many)))) (among-regions before.regions names k here))
+regions-first before names others k false is more below =
+    let later : List (List ℕ) = flat_map regions_of_item others in
+    let many : length (texts_of names) ≡ length names = length-map names (λ (name : Name). name.text) in
+    let past_names : length names ≤ k = ltb-false k (length names) is in
+    let rest : ℕ = k - length names in
+    let at : k ≡ length (texts_of names) + rest = omega (arith, many, past_names) in
+    let whole : length (texts_of names ++ later) ≡ length (texts_of names) + length later = length-append (texts_of names) later in
+    let number : (before.regions + length names) + rest ≡ before.regions + k = omega (arith, past_names) in
+    let text : name_at later rest ≡ name_at (texts_of names ++ later) k = sym (ap (name_at (texts_of names ++ later)) at ∙ name_at-back (texts_of names) later rest) in
+    later-region _ _ (regions_from before.regions names) _
+    (subst (λ t. RegionAt t (before.regions + k) (globals_from (past before (items.Regions names)) others)) text
+    (subst (λ n. RegionAt (name_at later rest) n (globals_from (past before (items.Regions names)) others)) number (more rest (omega (arith, below, whole, many, past_names)))))
+
 region-there : (before : Before) (all : List Item) (k : ℕ) → k < length (flat_map regions_of_item all)
     → RegionAt (name_at (flat_map regions_of_item all) k) (before.regions + k) (globals_from before all)
 region-there before [] k below = absurd (omega arith)
@@ -102,30 +128,8 @@ region-there before (items.Cell cell ∷ others) k below = later-region _ _ (dec
 region-there before (items.Method decl ∷ others) k below = later-region _ _ (declared_by before (items.Method decl)) _ (region-there (past before (items.Method decl)) others k below)
 region-there before (items.Task deterministic decl ∷ others) k below =
     later-region _ _ (declared_by before (items.Task deterministic decl)) _ (region-there (past before (items.Task deterministic decl)) others k below)
-region-there before (items.Regions names ∷ others) k below = by (nat_lt k (length names)) refl
-  where
-    later = flat_map regions_of_item others
-
-    many : length (texts_of names) ≡ length names
-    many = length-map names (λ (name : Name). name.text)
-
-    by : (b : Bool) → nat_lt k (length names) ≡ b
-        → RegionAt (name_at (texts_of names ++ later) k) (before.regions + k) (regions_from before.regions names ++ globals_from (past before (items.Regions names)) others)
-    by true is =
-        let here : k < length names = ltb-true k (length names) is in
-        earlier-region _ _ (regions_from before.regions names) _
-        (subst (λ text. RegionAt text (before.regions + k) (regions_from before.regions names)) (sym (name_at-front (texts_of names) later k (omega (arith, here, many)))) (among-regions before.regions names k here))
-    by false is =
-        let past_names : length names ≤ k = ltb-false k (length names) is in
-        let rest : ℕ = k - length names in
-        let at : k ≡ length (texts_of names) + rest = omega (arith, many, past_names) in
-        let whole : length (texts_of names ++ later) ≡ length (texts_of names) + length later = length-append (texts_of names) later in
-        let number : (before.regions + length names) + rest ≡ before.regions + k = omega (arith, past_names) in
-        let text : name_at later rest ≡ name_at (texts_of names ++ later) k = sym (ap (name_at (texts_of names ++ later)) at ∙ name_at-back (texts_of names) later rest) in
-        let found = region-there (past before (items.Regions names)) others rest (omega (arith, below, whole, many, past_names)) in
-        later-region _ _ (regions_from before.regions names) _
-        (subst (λ t. RegionAt t (before.regions + k) (globals_from (past before (items.Regions names)) others)) text
-        (subst (λ n. RegionAt (name_at later rest) n (globals_from (past before (items.Regions names)) others)) number found))
+region-there before (items.Regions names ∷ others) k below =
+    regions-first before names others k (nat_lt k (length names)) refl (region-there (past before (items.Regions names)) others) below
 
 -- no rule of names fails
 abbrev pub Keeps : Ast → Type 0
@@ -200,15 +204,17 @@ module _ (tree : Ast) (keeps : Keeps tree) where
     no-global None (Some global) e = absurd (cc)
     no-global (Some local) global e = absurd (cc)
 
+    not-first : (text : List ℕ) (name : LocalName) (front : Option Local) (b : Bool) → bytes_eq text name.text ≡ b
+        → (if bytes_eq text name.text then Some name.local else front) ≡ None → (bytes_eq text name.text ≡ false) × (front ≡ None)
+    not-first text name front true is none =
+        absurd (let some : Some name.local ≡ None = sym (cond-true (bytes_eq text name.text) (Some name.local) front is) ∙ none in cc)
+    not-first text name front false is none = (is, sym (cond-false (bytes_eq text name.text) (Some name.local) front is) ∙ none)
+
     first-later : (text : List ℕ) (front back : List LocalName) → first_local text front ≡ None → first_local text (front ++ back) ≡ first_local text back
     first-later text [] back none = refl
-    first-later text (name ∷ front) back none = by (bytes_eq text name.text) refl
-      where
-        by : (b : Bool) → bytes_eq text name.text ≡ b → (if bytes_eq text name.text then Some name.local else first_local text (front ++ back)) ≡ first_local text back
-        by true is = absurd (let some = sym (cond-true (bytes_eq text name.text) (Some name.local) (first_local text front) is) ∙ none in cc)
-        by false is =
-            cond-false (bytes_eq text name.text) _ _ is
-            ∙ first-later text front back (sym (cond-false (bytes_eq text name.text) (Some name.local) (first_local text front) is) ∙ none)
+    first-later text (name ∷ front) back none =
+        let parts = not-first text name (first_local text front) (bytes_eq text name.text) refl none in
+        cond-false (bytes_eq text name.text) _ _ parts.0 ∙ first-later text front back parts.1
 
     found-param : (before : List LocalName) (number k : ℕ) (names : List Name) → AllNew before number names → k < length names
         → first_local (name_at (texts_of names) k) (before ++ params_from number names) ≡ Some (local_kinds.Variable (number + k) types.Int true)

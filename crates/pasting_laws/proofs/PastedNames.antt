@@ -3,7 +3,7 @@ use Rattle.std.proofs.Common.{◌≡◌, ◌⊎◌, ◌<◌, ◌≤◌, ℕ, ◌
 use Rattle.std.specs.List.{AllByRecursion, Contains, flat_map}
 use Rattle.std.proofs.lemmas.Bool.{false≢true, true≢false}
 use Rattle.std.proofs.lemmas.List.{length-map}
-use Rattle.twe_limits.specs.Language.{max_effects, max_path_elements}
+use Rattle.twe_limits.specs.Language.{max_effects, max_parameters, max_path_elements}
 use Rattle.twe_io.specs.declared.place.Place.{Place}
 use Rattle.region_paths.specs.declared.elements.Elem.{Elem}
 use Rattle.effect_sets.specs.declared.effects.Effect.{Effect}
@@ -17,6 +17,7 @@ use Rattle.twe_ast.specs.declared.item.ReturnType.{ReturnType}
 use Rattle.twe_ast.specs.declared.name.Name.{Name}
 use Rattle.twe_ast.specs.declared.path.Path.{Path}
 use Rattle.twe_ast.specs.declared.path.PathElem.{PathElem}
+use Rattle.twe_ast.specs.declared.stmt.LocalType.TheVariants as types
 use Rattle.twe_program.specs.Program.{Program}
 use Rattle.name_check.specs.declared.rule.NRule.{NRule}
 use Rattle.name_check.specs.declared.binding.NameUse.{NameUse}
@@ -68,8 +69,8 @@ use-fits globals locals name name_use.Region other found is not =
     let same : bindings.Global (global_kinds.Region found.0) ≡ other = cc in
     true≢false (ap (fits name_use.Region) same ∙ not)
 use-fits globals locals name name_use.Parameter other found is not =
-    let both = ap binding_of_local (sym found.1) ∙ is in
-    let same : bindings.Local (local_kinds.Variable found.0 _ true) ≡ other = cc in
+    let both : Some (bindings.Local (local_kinds.Variable found.0 types.Int true)) ≡ Some other = ap binding_of_local (sym found.1) ∙ is in
+    let same : bindings.Local (local_kinds.Variable found.0 types.Int true) ≡ other = cc in
     true≢false (ap (fits name_use.Parameter) same ∙ not)
 use-fits globals locals name name_use.Value other found is not = found
 use-fits globals locals name name_use.Target other found is not = found
@@ -183,7 +184,7 @@ module _ (tree : Ast) (keeps : Keeps tree) (summaries : List Summary) where
     names-kept rule place (too_many_params decl name there after) = elim (decl-from decl there) [
       | inl old ↦ keeps _ _ (too_many_params decl name (in-contains (decls_of tree) decl old) after)
       | inr its ↦ keeps _ _ (too_many_params its.its name (in-contains (decls_of tree) its.its its.there)
-          (subst (λ (d : Decl). StandsAfter _ d.params name) its.same after))
+          (subst (λ (d : Decl). StandsAfter max_parameters d.params name) its.same after))
     ]
     names-kept rule place (no_main none) = keeps _ _ (no_main (λ has. none (record {
       deterministic = has.deterministic;
