@@ -49,7 +49,7 @@ one-from y x kept xs true more (inl e) = inl e
 one-from y x kept xs true more (inr h) = inr (more h)
 one-from y x kept xs false more h = inr (more h)
 
-kept-in : {X : Type 0} (test : X → Bool) (xs : List X) (x : X) → IsIn x (filter test xs) → IsIn x xs
+pub kept-in : {X : Type 0} (test : X → Bool) (xs : List X) (x : X) → IsIn x (filter test xs) → IsIn x xs
 kept-in test [] x h = absurd h
 kept-in test (y ∷ xs) x h = one-from y x (filter test xs) xs (test y) (kept-in test xs x) h
 
@@ -72,6 +72,10 @@ one-part x not_kept kept n false e = omega arith
 parts-length : {X : Type 0} (test : X → Bool) (xs : List X) → length (filter (λ x. not (test x)) xs) + length (filter test xs) ≡ length xs
 parts-length test [] = refl
 parts-length test (x ∷ xs) = one-part x (filter (λ y. not (test y)) xs) (filter test xs) (length xs) (test x) (parts-length test xs)
+
+pub all-from : {X : Type 0} (P : X → Type 0) (xs : List X) → ((x : X) → IsIn x xs → P x) → AllByRecursion P xs
+all-from P [] h = tt
+all-from P (x ∷ xs) h = (h x (inl refl), all-from P xs (λ y there. h y (inr there)))
 
 -- the effects of the clauses: first what is only read, and then what is written
 abbrev pub in_clauses : List Effect → List Effect

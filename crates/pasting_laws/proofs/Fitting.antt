@@ -34,14 +34,18 @@ use Rattle.twe_names.proofs.Globals.{globals-there}
 use Rattle.method_needs.specs.declared.need.Need.{Need}
 use Rattle.method_needs.specs.Needs.{IsNeed, effect_of}
 use Rattle.method_needs.specs.Choices.{HasNeeds}
-use Rattle.first_failure.proofs.Members.{IsIn, contains-in, in-contains, in-left, in-right, all-in}
+use Rattle.first_failure.proofs.Members.{IsIn, contains-in, in-contains, in-cases, all-in, all-front, all-back}
+use Rattle.ast_printer.specs.ItemTokens.{item_tokens, items_tokens}
+use Rattle.ast_printer.proofs.Passing.{Sound}
 use Rattle.pasting_laws.specs.Clauses.{texts_of, clauses_of, IsWritable, CanBeWritten}
 use Rattle.pasting_laws.specs.Pasted.{HaveSameEffects}
 use Rattle.pasting_laws.proofs.Names.{Keeps, region-bound, region-in-scope, param-bound}
 use Rattle.pasting_laws.proofs.NeedsFit.{RegionFits, RegionsFit, NeedFits, need-fits}
-use Rattle.pasting_laws.proofs.Clauses.{Fits, clauses-mean, clauses-fit}
+use Rattle.pasting_laws.proofs.Clauses.{Fits, all-from, clauses-mean, clauses-fit}
 use Rattle.pasting_laws.proofs.PastedItems.{methods_in, Aligned, aligned, Needed, Meant}
 use Rattle.pasting_laws.proofs.PastedNames.{IsWithin}
+use Rattle.pasting_laws.proofs.Sounds.{IsRead, Sounds, program-regions, item-params}
+use Rattle.pasting_laws.proofs.Words.{Read, clauses-read}
 
 -- one item of a list, and of two lists
 at-all : {X : Type 0} (P : X → Type 0) (xs : List X) → AllByRecursion P xs → (m : ℕ) (x : X) → slice_get xs m ≡ Some x → P x
@@ -56,10 +60,6 @@ at-both R [] (y ∷ ys) h m x e = absurd h
 at-both R (z ∷ xs) [] h m x e = absurd h
 at-both R (z ∷ xs) (y ∷ ys) h zero x e = let same : z ≡ x = cc in (y, refl, subst (λ w. R w y) same h.0)
 at-both R (z ∷ xs) (y ∷ ys) h (suc m) x e = at-both R xs ys h.1 m x e
-
-all-from : {X : Type 0} (P : X → Type 0) (xs : List X) → ((x : X) → IsIn x xs → P x) → AllByRecursion P xs
-all-from P [] h = tt
-all-from P (x ∷ xs) h = (h x (inl refl), all-from P xs (λ y there. h y (inr there)))
 
 -- the methods of a text and of its program
 module _ (globals : List GlobalName) where
@@ -102,6 +102,14 @@ module _ (p : Program) (globals : List GlobalName) (there : GlobalsThere p globa
   cells-fit first (cell ∷ cells) zero = elems-fit cell.path.elems
   cells-fit first (cell ∷ cells) (suc n) = cells-fit (first + size_of (dims_of cell.shape)) cells n
 
+-- the names of the parameters of a declaration are read as names
+params-read : (all : List Item) → Sounds (items_tokens all) → (decl : Decl) → IsIn decl (flat_map decls_of_item all) → AllByRecursion IsRead (texts_of decl.params)
+params-read [] sounds decl there = absurd there
+params-read (item ∷ others) sounds decl there = elim (in-cases decl (decls_of_item item) (flat_map decls_of_item others) there) [
+  | inl here ↦ item-params item (all-front Sound (item_tokens item) (items_tokens others) sounds) decl here
+  | inr later ↦ params-read others (all-back Sound (item_tokens item) (items_tokens others) sounds) decl later
+]
+
 module _ (tree : Ast) (keeps : Keeps tree) (summaries written : List Summary) (needs : HasNeeds (program_of tree) summaries)
     (same : AllZip HaveSameEffects written summaries) (can : AllByRecursion CanBeWritten written) where
   abbrev p : Program
@@ -140,7 +148,7 @@ module _ (tree : Ast) (keeps : Keeps tree) (summaries written : List Summary) (n
   many-texts : (decl : Decl) → length (texts_of decl.params) ≡ length decl.params
   many-texts decl = length-map decl.params (λ (name : Name). name.text)
 
-  all-fit : (m : ℕ) (summary : Summary) (decl : Decl) → slice_get written m ≡ Some summary → slice_get (flat_map methods_in tree.items) m ≡ Some decl
+  pub all-fit : (m : ℕ) (summary : Summary) (decl : Decl) → slice_get written m ≡ Some summary → slice_get (flat_map methods_in tree.items) m ≡ Some decl
       → AllByRecursion (Fits (length p.regions) (length (texts_of decl.params))) summary.effects
   all-fit m summary decl e f =
       subst (λ n. AllByRecursion (Fits (length p.regions) n) summary.effects) (sym (many-texts decl)) (all-from _ summary.effects (effect-fits m summary decl e f))
@@ -160,3 +168,9 @@ module _ (tree : Ast) (keeps : Keeps tree) (summaries written : List Summary) (n
   pub all-within : Aligned IsWithin written tree.items
   all-within = aligned IsWithin written tree.items (λ m summary decl e f.
     let can_be = at-all CanBeWritten written can m summary e in record { few = can_be.few; short = can_be.short })
+
+  -- the names in the clauses are read as names
+  pub all-read : Sounds (items_tokens tree.items) → Aligned (Read p.regions) written tree.items
+  all-read sounds = aligned (Read p.regions) written tree.items (λ m summary decl e f.
+    clauses-read p.regions (texts_of decl.params) (program-regions tree.items sounds) (params-read tree.items sounds decl (method-in tree.items m decl f)) summary
+    (all-fit m summary decl e f))

@@ -4,5 +4,8 @@ pub mod NeedsFit
 pub mod Clauses
 pub mod PastedItems
 pub mod PastedNames
+pub mod Sounds
+pub mod Words
 pub mod Fitting
+pub mod Written
 pub mod Whole

@@ -3,4 +3,4 @@
 
 mod laws;
 
-pub use laws::{pasted_trees_keep_names, texts_with_these_summaries_are_accepted};
+pub use laws::{pasted_trees_keep_names, summaries_can_be_pasted, texts_with_these_summaries_are_accepted};
