@@ -1,18 +1,14 @@
 -- What the clauses of a summary mean, and what they need.
-use Rattle.std.proofs.Common.{◌≡◌, ◌⊎◌, ◌<◌, ◌≤◌, ◌↔◌, ℕ, ℤ, pos, negsuc, ◌+◌, zero, suc, Bool, true, false, not, ◌||◌, cond, List, [], ◌∷◌, ◌++◌, map, filter, length, take, drop, Option, None, Some, inl, inr, refl, sym, ap, ◌∙◌, subst, append-nil, length-append, arith}
-use Rattle.std.specs.Prelude.{unsigned_abs}
-use Rattle.std.specs.List.{AllByRecursion, Contains, flat_map, list_any, prefix_len}
-use Rattle.std.proofs.lemmas.Bool.{false≢true, true≢false}
-use Rattle.std.proofs.lemmas.List.{length-map, map-append, take_all, drop_all}
-use Rattle.twe_limits.specs.Language.{max_effects, max_path_elements}
-use Rattle.twe_io.specs.declared.place.Place.{Place}
+use Rattle.std.proofs.Common.{◌≡◌, ◌⊎◌, ◌<◌, ◌≤◌, ℕ, pos, negsuc, ◌+◌, suc, Bool, true, false, not, ◌||◌, cond, List, [], ◌∷◌, ◌++◌, map, filter, length, take, drop, Some, inl, inr, refl, sym, ap, ◌∙◌, subst, append-nil, length-append, arith}
+use Rattle.std.specs.List.{AllByRecursion, flat_map, list_any, prefix_len}
+use Rattle.std.proofs.lemmas.Bool.{true≢false}
+use Rattle.std.proofs.lemmas.List.{take_all, drop_all}
+use Rattle.twe_limits.specs.Language.{max_path_elements}
 use Rattle.region_paths.specs.declared.elements.Elem.{Elem}
 use Rattle.region_paths.specs.declared.elements.Elem.TheVariants.{Name, Index, Var, AnyIndex}
-use Rattle.region_paths.specs.Written.{WrittenPath}
 use Rattle.effect_sets.specs.declared.effects.Effect.{Effect}
 use Rattle.effect_sets.specs.declared.effects.Summary.{Summary}
 use Rattle.twe_ast.specs.declared.item.Clause.{Clause}
-use Rattle.twe_ast.specs.declared.name.Name as written
 use Rattle.twe_ast.specs.declared.path.Path.{Path}
 use Rattle.twe_ast.specs.declared.path.PathElem.{PathElem}
 use Rattle.twe_ast.specs.declared.stmt.LocalType.TheVariants as types

@@ -1,10 +1,8 @@
 -- Summaries that are made of needs, and that a text can have, fit into the text.
-use Rattle.std.proofs.Common.{◌≡◌, ◌⊎◌, ◌<◌, ◌≤◌, ◌↔◌, ℕ, ◌+◌, zero, suc, Bool, false, List, [], ◌∷◌, ◌++◌, map, length, Option, None, Some, inl, inr, refl, sym, ap, ◌∙◌, subst, arith}
+use Rattle.std.proofs.Common.{◌≡◌, ◌<◌, ℕ, ◌+◌, zero, suc, false, List, [], ◌∷◌, map, length, Option, None, Some, inl, inr, refl, sym, ap, ◌∙◌, subst, arith}
 use Rattle.std.specs.Prelude.{slice_get}
-use Rattle.std.specs.List.{AllByRecursion, AllZip, Contains, flat_map}
+use Rattle.std.specs.List.{AllByRecursion, AllZip, flat_map}
 use Rattle.std.proofs.lemmas.List.{length-map}
-use Rattle.twe_limits.specs.Language.{max_effects, max_path_elements}
-use Rattle.region_paths.specs.declared.elements.Elem.{Elem}
 use Rattle.effect_sets.specs.declared.effects.Effect.{Effect}
 use Rattle.effect_sets.specs.declared.effects.Summary.{Summary}
 use Rattle.twe_ast.specs.declared.item.Ast.{Ast}
@@ -32,12 +30,12 @@ use Rattle.twe_names.specs.Meaning.{dims_of, cells_from, decl_of, methods_of_ite
 use Rattle.twe_names.proofs.There.{GlobalsThere, SeenThere, global-there}
 use Rattle.twe_names.proofs.Globals.{globals-there}
 use Rattle.method_needs.specs.declared.need.Need.{Need}
-use Rattle.method_needs.specs.Needs.{IsNeed, effect_of}
+use Rattle.method_needs.specs.Needs.{IsNeed}
 use Rattle.method_needs.specs.Choices.{HasNeeds}
-use Rattle.first_failure.proofs.Members.{IsIn, contains-in, in-contains, in-cases, all-in, all-front, all-back}
+use Rattle.first_failure.proofs.Members.{IsIn, in-contains, in-cases, all-in, all-front, all-back}
 use Rattle.ast_printer.specs.ItemTokens.{item_tokens, items_tokens}
 use Rattle.ast_printer.proofs.Passing.{Sound}
-use Rattle.pasting_laws.specs.Clauses.{texts_of, clauses_of, IsWritable, CanBeWritten}
+use Rattle.pasting_laws.specs.Clauses.{texts_of, CanBeWritten}
 use Rattle.pasting_laws.specs.Pasted.{HaveSameEffects}
 use Rattle.pasting_laws.proofs.Names.{Keeps, region-bound, region-in-scope, param-bound}
 use Rattle.pasting_laws.proofs.NeedsFit.{RegionFits, RegionsFit, NeedFits, need-fits}
@@ -140,37 +138,35 @@ module _ (tree : Ast) (keeps : Keeps tree) (summaries written : List Summary) (n
         short = all-in _ summary.effects can_be.short effect there;
       }
 
-  -- what the names in clauses are bound to
-  module _ (decl : Decl) (there : Contains (decls_of tree) decl) where
-    in-bound : (k : ℕ) → k < length (texts_of decl.params) → k < length decl.params
-    in-bound k below = let many : length (texts_of decl.params) ≡ length decl.params = length-map decl.params (λ (name : Name). name.text) in omega (arith, below, many)
-
   many-texts : (decl : Decl) → length (texts_of decl.params) ≡ length decl.params
   many-texts decl = length-map decl.params (λ (name : Name). name.text)
 
-  pub all-fit : (m : ℕ) (summary : Summary) (decl : Decl) → slice_get written m ≡ Some summary → slice_get (flat_map methods_in tree.items) m ≡ Some decl
+  below-params : (decl : Decl) (k : ℕ) → k < length (texts_of decl.params) → k < length decl.params
+  below-params decl k below = omega (arith, below, many-texts decl)
+
+  all-fit : (m : ℕ) (summary : Summary) (decl : Decl) → slice_get written m ≡ Some summary → slice_get (flat_map methods_in tree.items) m ≡ Some decl
       → AllByRecursion (Fits (length p.regions) (length (texts_of decl.params))) summary.effects
   all-fit m summary decl e f =
       subst (λ n. AllByRecursion (Fits (length p.regions) n) summary.effects) (sym (many-texts decl)) (all-from _ summary.effects (effect-fits m summary decl e f))
 
   pub all-needed : Aligned (Needed p.regions (globals_of tree)) written tree.items
   all-needed = aligned (Needed p.regions (globals_of tree)) written tree.items (λ m summary decl e f.
-    let there = in-contains (decls_of tree) decl (method-in tree.items m decl f) in
-    clauses-fit (globals_of tree) p.regions (params_of decl) (texts_of decl.params) (region-bound tree keeps) (region-in-scope tree keeps decl there)
-    (λ k below. param-bound tree keeps decl there k (in-bound decl there k below)) summary (all-fit m summary decl e f))
+      let there = in-contains (decls_of tree) decl (method-in tree.items m decl f) in
+      clauses-fit (globals_of tree) p.regions (params_of decl) (texts_of decl.params) (region-bound tree keeps) (region-in-scope tree keeps decl there)
+      (λ k below. param-bound tree keeps decl there k (below-params decl k below)) summary (all-fit m summary decl e f))
 
   pub all-meant : Aligned (Meant p.regions (globals_of tree)) written tree.items
   all-meant = aligned (Meant p.regions (globals_of tree)) written tree.items (λ m summary decl e f.
-    let there = in-contains (decls_of tree) decl (method-in tree.items m decl f) in
-    clauses-mean (globals_of tree) p.regions (params_of decl) (texts_of decl.params) (region-bound tree keeps) (region-in-scope tree keeps decl there)
-    (λ k below. param-bound tree keeps decl there k (in-bound decl there k below)) summary (all-fit m summary decl e f))
+      let there = in-contains (decls_of tree) decl (method-in tree.items m decl f) in
+      clauses-mean (globals_of tree) p.regions (params_of decl) (texts_of decl.params) (region-bound tree keeps) (region-in-scope tree keeps decl there)
+      (λ k below. param-bound tree keeps decl there k (below-params decl k below)) summary (all-fit m summary decl e f))
 
   pub all-within : Aligned IsWithin written tree.items
   all-within = aligned IsWithin written tree.items (λ m summary decl e f.
-    let can_be = at-all CanBeWritten written can m summary e in record { few = can_be.few; short = can_be.short })
+      let can_be = at-all CanBeWritten written can m summary e in record { few = can_be.few; short = can_be.short })
 
   -- the names in the clauses are read as names
   pub all-read : Sounds (items_tokens tree.items) → Aligned (Read p.regions) written tree.items
   all-read sounds = aligned (Read p.regions) written tree.items (λ m summary decl e f.
-    clauses-read p.regions (texts_of decl.params) (program-regions tree.items sounds) (params-read tree.items sounds decl (method-in tree.items m decl f)) summary
-    (all-fit m summary decl e f))
+      clauses-read p.regions (texts_of decl.params) (program-regions tree.items sounds) (params-read tree.items sounds decl (method-in tree.items m decl f)) summary
+      (all-fit m summary decl e f))

@@ -1,8 +1,8 @@
 -- What regions and parameters are bound to where no rule of names fails: each name to its own number.
-use Rattle.std.proofs.Common.{◌≡◌, ◌⊎◌, ◌<◌, ◌≤◌, ℕ, ◌+◌, ◌-◌, zero, suc, Bool, true, false, List, [], ◌∷◌, ◌++◌, map, length, Option, None, Some, if◌then◌else◌, codes, inl, inr, refl, sym, ap, ◌∙◌, subst, append_assoc, length-append, arith}
+use Rattle.std.proofs.Common.{◌≡◌, ◌<◌, ◌≤◌, ℕ, ◌+◌, ◌-◌, zero, suc, Bool, true, false, List, [], ◌∷◌, ◌++◌, length, Option, None, Some, if◌then◌else◌, codes, inl, inr, refl, sym, ap, ◌∙◌, subst, append_assoc, length-append, arith}
 use Rattle.std.specs.Prelude.{bytes_eq, nat_lt}
 use Rattle.std.specs.List.{Contains, flat_map}
-use Rattle.std.proofs.lemmas.Bool.{false≢true, cond-true, cond-false, false_from_ne_true, ltb-true, ltb-false}
+use Rattle.std.proofs.lemmas.Bool.{cond-true, cond-false, false_from_ne_true, ltb-true, ltb-false}
 use Rattle.std.proofs.lemmas.List.{length-map}
 use Rattle.std.proofs.lemmas.Slice.Eq.{bytes_eq-Decides}
 use Rattle.twe_io.specs.declared.place.Place.{Place}
@@ -24,12 +24,11 @@ use Rattle.name_check.specs.declared.names.GlobalName.{GlobalName}
 use Rattle.name_check.specs.declared.scope.LocalName.{LocalName}
 use Rattle.name_check.specs.Names.{Before, at_start, regions_from, declared_by, past, globals_from, globals_of, first_global, first_local, global_of, either, seen_as_global, binding_of}
 use Rattle.name_check.specs.BodyScope.{params_from, params_of}
-use Rattle.name_check.specs.Asks.{declares}
 use Rattle.name_check.specs.Sites.{Site, sites_of_params, sites_of_decl, sites_of_item, sites_of}
 use Rattle.name_check.specs.Limits.{decls_of_item, decls_of}
 use Rattle.name_check.specs.FailsName.{FailsName, IsDeclaredAgain, declared_again, hides}
 use Rattle.twe_names.specs.Meaning.{regions_of_item, program_of}
-use Rattle.first_failure.proofs.Members.{IsIn, contains-in, in-contains, in-left, in-right, flat_map-in, in-flat_map}
+use Rattle.first_failure.proofs.Members.{IsIn, contains-in, in-contains, in-left, flat_map-in, in-flat_map}
 use Rattle.pasting_laws.specs.Clauses.{name_at, texts_of}
 
 same-bytes : (text : List ℕ) → bytes_eq text text ≡ true

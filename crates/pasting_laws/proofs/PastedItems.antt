@@ -1,17 +1,14 @@
 -- The items of a text with other clauses: what they declare, and what they need.
-use Rattle.std.proofs.Common.{◌≡◌, ◌⊎◌, ◌≤◌, ℕ, zero, suc, Bool, true, false, List, [], ◌∷◌, ◌++◌, map, length, Option, None, Some, inl, inr, refl, sym, ap, ◌∙◌, subst}
+use Rattle.std.proofs.Common.{◌≡◌, ◌⊎◌, ℕ, suc, Bool, true, false, List, [], ◌∷◌, ◌++◌, map, None, Some, inl, inr, refl, sym, ap, ◌∙◌, subst}
 use Rattle.std.specs.Prelude.{slice_get}
-use Rattle.std.specs.List.{AllByRecursion, Contains, flat_map}
+use Rattle.std.specs.List.{AllByRecursion, flat_map}
 use Rattle.std.proofs.lemmas.Grind.{flat_map-append}
 use Rattle.std.proofs.lemmas.List.{map-append}
-use Rattle.twe_limits.specs.Language.{max_effects, max_path_elements}
-use Rattle.effect_sets.specs.declared.effects.Effect.{Effect}
 use Rattle.effect_sets.specs.declared.effects.Summary.{Summary}
 use Rattle.twe_ast.specs.declared.item.Clause.{Clause}
 use Rattle.twe_ast.specs.declared.item.Decl.{Decl}
 use Rattle.twe_ast.specs.declared.item.Item.{Item}
 use Rattle.twe_ast.specs.declared.item.Item.TheVariants as items
-use Rattle.twe_ast.specs.declared.path.Path.{Path}
 use Rattle.twe_program.specs.declared.program.Decl as resolved
 use Rattle.name_check.specs.declared.names.GlobalName.{GlobalName}
 use Rattle.name_check.specs.Names.{Before, declared_by, past, globals_from}
@@ -19,11 +16,11 @@ use Rattle.name_check.specs.BodyScope.{params_of}
 use Rattle.name_check.specs.Asks.{Ask}
 use Rattle.name_check.specs.Sites.{Site, sites_at, sites_in_all, sites_of_params, asks_of_clause, at_body, sites_of_decl, sites_of_item}
 use Rattle.name_check.specs.Limits.{decls_of_item, paths_of}
-use Rattle.cell_limits.specs.GoesOver.{cells_of_item, cells_of}
+use Rattle.cell_limits.specs.GoesOver.{cells_of}
 use Rattle.twe_names.specs.PathMeaning.{effects_of_clause}
 use Rattle.twe_names.specs.Meaning.{regions_of_item, decl_of, methods_of_item, tasks_of_item}
 use Rattle.method_needs.specs.Choices.{with_each}
-use Rattle.first_failure.proofs.Members.{IsIn, in-cases, in-left, in-right, all-in}
+use Rattle.first_failure.proofs.Members.{IsIn, in-cases, in-left, in-right}
 use Rattle.pasting_laws.specs.Clauses.{texts_of, path_of, clause_of, reads_of, writes_of, clauses_of, with_clauses, pasted_items}
 use Rattle.pasting_laws.proofs.Clauses.{AskFits, in_clauses, clause-paths}
 
@@ -166,9 +163,9 @@ module _ (regions : List (List ℕ)) where
         elim (in-cases site params (sites_at (params_of decl) decl.returns asks ++ body) there) [
           | inl param ↦ inl (in-left site params (old ++ body) param)
           | inr later ↦ elim (in-cases site (sites_at (params_of decl) decl.returns asks) body later) [
-              | inl clause ↦ inr (at-site decl asks needed site clause)
-              | inr inside ↦ inl (in-right site params (old ++ body) (in-right site old body inside))
-            ]
+            | inl clause ↦ inr (at-site decl asks needed site clause)
+            | inr inside ↦ inl (in-right site params (old ++ body) (in-right site old body inside))
+          ]
         ]
 
     joined-site : (one other new : List Site) (site : Site) → (IsIn site new → IsIn site other ⊎ AskFits globals site.locals site.ask) → IsIn site (one ++ new)
@@ -191,13 +188,13 @@ module _ (regions : List (List ℕ)) where
         let more = flat_map (sites_of_item globals) others in
         elim (in-cases site (sites_of_decl globals (with_clauses regions summary decl)) (flat_map (sites_of_item globals) (pasted_items regions summaries others)) there) [
           | inl here ↦ elim (decl-site summary decl h.0 site here) [
-              | inl old ↦ inl (in-left site (sites_of_decl globals decl) more old)
-              | inr fits ↦ inr fits
-            ]
+            | inl old ↦ inl (in-left site (sites_of_decl globals decl) more old)
+            | inr fits ↦ inr fits
+          ]
           | inr later ↦ elim (pasted-site summaries others h.1 site later) [
-              | inl old ↦ inl (in-right site (sites_of_decl globals decl) more old)
-              | inr fits ↦ inr fits
-            ]
+            | inl old ↦ inl (in-right site (sites_of_decl globals decl) more old)
+            | inr fits ↦ inr fits
+          ]
         ]
 
     -- the clauses mean the effects of the summary

@@ -1,25 +1,20 @@
 -- A tree with the clauses of such summaries keeps the rules of names, and means the program with these summaries.
-use Rattle.std.proofs.Common.{◌≡◌, ◌⊎◌, ◌<◌, ◌≤◌, ℕ, ◌+◌, suc, Bool, true, false, List, [], ◌∷◌, ◌++◌, map, length, Option, None, Some, codes, inl, inr, refl, sym, ap, ◌∙◌, subst, length-append, arith}
+use Rattle.std.proofs.Common.{◌≡◌, ◌⊎◌, ◌<◌, ◌≤◌, ℕ, ◌+◌, suc, true, false, List, [], ◌∷◌, map, length, None, Some, codes, inl, inr, refl, sym, ap, ◌∙◌, subst, length-append, arith}
 use Rattle.std.specs.List.{AllByRecursion, Contains, flat_map}
-use Rattle.std.proofs.lemmas.Bool.{false≢true, true≢false}
+use Rattle.std.proofs.lemmas.Bool.{true≢false}
 use Rattle.std.proofs.lemmas.List.{length-map}
 use Rattle.twe_limits.specs.Language.{max_effects, max_parameters, max_path_elements}
-use Rattle.twe_io.specs.declared.place.Place.{Place}
-use Rattle.region_paths.specs.declared.elements.Elem.{Elem}
 use Rattle.effect_sets.specs.declared.effects.Effect.{Effect}
 use Rattle.effect_sets.specs.declared.effects.Summary.{Summary}
 use Rattle.twe_ast.specs.declared.item.Ast.{Ast}
 use Rattle.twe_ast.specs.declared.item.CellDecl.{CellDecl}
 use Rattle.twe_ast.specs.declared.item.Decl.{Decl}
-use Rattle.twe_ast.specs.declared.item.Item.{Item}
-use Rattle.twe_ast.specs.declared.item.Item.TheVariants as items
 use Rattle.twe_ast.specs.declared.item.ReturnType.{ReturnType}
 use Rattle.twe_ast.specs.declared.name.Name.{Name}
 use Rattle.twe_ast.specs.declared.path.Path.{Path}
 use Rattle.twe_ast.specs.declared.path.PathElem.{PathElem}
 use Rattle.twe_ast.specs.declared.stmt.LocalType.TheVariants as types
 use Rattle.twe_program.specs.Program.{Program}
-use Rattle.name_check.specs.declared.rule.NRule.{NRule}
 use Rattle.name_check.specs.declared.binding.NameUse.{NameUse}
 use Rattle.name_check.specs.declared.binding.NameUse.TheVariants as name_use
 use Rattle.name_check.specs.declared.binding.Global.TheVariants as global_kinds
@@ -28,20 +23,20 @@ use Rattle.name_check.specs.declared.binding.Binding.{Binding}
 use Rattle.name_check.specs.declared.binding.Binding.TheVariants as bindings
 use Rattle.name_check.specs.declared.names.GlobalName.{GlobalName}
 use Rattle.name_check.specs.declared.scope.LocalName.{LocalName}
-use Rattle.name_check.specs.Names.{at_start, globals_from, globals_of, binding_of, binding_of_local}
+use Rattle.name_check.specs.Names.{at_start, globals_of, binding_of, binding_of_local}
 use Rattle.name_check.specs.Types.{type_of}
-use Rattle.name_check.specs.Asks.{Ask, uses, needs, declares, returns_value, returns_nothing}
+use Rattle.name_check.specs.Asks.{Ask, uses}
 use Rattle.name_check.specs.Sites.{Site, sites_of_item, sites_of}
-use Rattle.name_check.specs.Limits.{decls_of_item, decls_of, paths_of, StandsAfter, is_star}
-use Rattle.name_check.specs.FailsName.{Asks, binding_as, fits, HasMain, FailsName, unknown, declared_again, hides, other_kind, other_type, void_method, void_task, value_for_nothing, nothing_for_value, other_count_of_method, other_count_of_task, no_return, assigned, too_many_cells, long_cell_path, long_path, too_many_effects, too_many_params, no_main, second_star}
+use Rattle.name_check.specs.Limits.{decls_of, paths_of, StandsAfter, is_star}
+use Rattle.name_check.specs.FailsName.{Asks, binding_as, fits, unknown, declared_again, hides, other_kind, other_type, void_method, void_task, value_for_nothing, nothing_for_value, other_count_of_method, other_count_of_task, no_return, assigned, too_many_cells, long_cell_path, long_path, too_many_effects, too_many_params, no_main, second_star}
 use Rattle.cell_limits.specs.GoesOver.{cells_of, GoesOver}
 use Rattle.twe_names.specs.BodyMeaning.{task_number}
 use Rattle.name_check.specs.Ends.{one_ends}
 use Rattle.twe_names.specs.Meaning.{regions_of_item, cells_from, methods_of_item, tasks_of_item, program_of}
-use Rattle.method_needs.specs.Choices.{with_each, with_summaries}
+use Rattle.method_needs.specs.Choices.{with_summaries}
 use Rattle.first_failure.proofs.Members.{IsIn, contains-in, in-contains, in-right, all-in}
 use Rattle.place_laws.proofs.Lists.{map-in}
-use Rattle.pasting_laws.specs.Clauses.{texts_of, elem_of, path_of, with_clauses, pasted_items, pasted}
+use Rattle.pasting_laws.specs.Clauses.{texts_of, elem_of, path_of, pasted}
 use Rattle.pasting_laws.proofs.Names.{Keeps}
 use Rattle.pasting_laws.proofs.Clauses.{AskFits, in_clauses, clauses-length, clauses-in, path-no-star}
 use Rattle.pasting_laws.proofs.PastedItems.{Aligned, pasted-paths, pasted-globals, pasted-cells, pasted-regions, pasted-task, IsPastedDecl, pasted-decl, Needed, pasted-site, Meant, reordered, pasted-methods, pasted-tasks}
@@ -198,8 +193,8 @@ module _ (tree : Ast) (keeps : Keeps tree) (summaries : List Summary) where
       | inl old ↦ keeps _ _ (second_star decl path elem (in-contains (decls_of tree) decl old) among second)
       | inr its ↦ (let found = new-path decl its path among in
           let none = all-in (λ (e : PathElem). is_star e ≡ false) (map (elem_of regions (texts_of its.its.params)) found.0.path.elems)
-              (path-no-star regions (texts_of its.its.params) found.0.path.elems) elem
-              (subst (IsIn elem) (sym second.list ∙ ap (λ (p : Path). p.elems) found.2) (in-right elem second.before (elem ∷ second.after) (inl refl))) in
+          (path-no-star regions (texts_of its.its.params) found.0.path.elems) elem
+          (subst (IsIn elem) (sym second.list ∙ ap (λ (p : Path). p.elems) found.2) (in-right elem second.before (elem ∷ second.after) (inl refl))) in
           true≢false (sym second.star ∙ none))
     ]
 

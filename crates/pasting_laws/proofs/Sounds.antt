@@ -1,5 +1,5 @@
 -- The names of regions and parameters of a text are read as names.
-use Rattle.std.proofs.Common.{◌≡◌, ◌<◌, ℕ, zero, suc, Bool, true, false, List, [], ◌∷◌, ◌++◌, map, length, codes, inl, inr, refl, sym, subst, arith}
+use Rattle.std.proofs.Common.{◌≡◌, ◌<◌, ℕ, zero, suc, Bool, true, false, List, [], ◌∷◌, ◌++◌, length, codes, inl, inr, refl, sym, subst, arith}
 use Rattle.std.specs.List.{AllByRecursion, flat_map}
 use Rattle.twe_ast.specs.declared.item.Decl.{Decl}
 use Rattle.twe_ast.specs.declared.item.Item.{Item}
@@ -14,7 +14,7 @@ use Rattle.twe_parser.specs.Limits.{sofar_after}
 use Rattle.name_check.specs.Limits.{decls_of_item}
 use Rattle.twe_names.specs.Meaning.{regions_of_item}
 use Rattle.ast_printer.specs.Text.{when}
-use Rattle.ast_printer.specs.ItemTokens.{names_tokens, params_tokens, effects_tokens, decl_tokens, item_tokens, items_tokens}
+use Rattle.ast_printer.specs.ItemTokens.{names_tokens, params_tokens, decl_tokens, item_tokens, items_tokens}
 use Rattle.ast_printer.proofs.Passing.{Sound, AllPass}
 use Rattle.first_failure.proofs.Members.{IsIn, all-append, all-front, all-back}
 use Rattle.pasting_laws.specs.Clauses.{name_at, texts_of}

@@ -1,10 +1,9 @@
 -- The words of a tree with other clauses keep the limits on tokens.
-use Rattle.std.proofs.Common.{◌≡◌, ◌<◌, ◌≤◌, ℕ, ℤ, pos, negsuc, ◌+◌, ◌-◌, zero, suc, Bool, true, false, ◌&&◌, ◌||◌, not, List, [], ◌∷◌, ◌++◌, map, length, codes, nat_le, nat_lt, inl, inr, refl, sym, ap, ◌∙◌, subst, append_assoc, arith}
-use Rattle.std.specs.List.{AllByRecursion, flat_map}
-use Rattle.std.proofs.lemmas.Bool.{false≢true, true≢false, ltb-true}
+use Rattle.std.proofs.Common.{◌≡◌, ◌≤◌, ℕ, pos, negsuc, ◌+◌, ◌-◌, Bool, true, false, ◌&&◌, ◌||◌, not, List, [], ◌∷◌, ◌++◌, map, length, nat_le, nat_lt, refl, sym, ap, ◌∙◌, subst, append_assoc, arith}
+use Rattle.std.specs.List.{AllByRecursion}
+use Rattle.std.proofs.lemmas.Bool.{ltb-true}
 use Rattle.std.specs.Prelude.{◌==◌}
 use Rattle.twe_limits.specs.Language.{max_literal, max_open_brackets}
-use Rattle.twe_io.specs.declared.place.Place.{Place}
 use Rattle.region_paths.specs.declared.elements.Elem.{Elem}
 use Rattle.region_paths.specs.declared.elements.Elem.TheVariants.{Name, Index, Var, AnyIndex}
 use Rattle.effect_sets.specs.declared.effects.Effect.{Effect}
@@ -12,7 +11,6 @@ use Rattle.effect_sets.specs.declared.effects.Summary.{Summary}
 use Rattle.twe_ast.specs.declared.item.Clause.{Clause}
 use Rattle.twe_ast.specs.declared.item.Decl.{Decl}
 use Rattle.twe_ast.specs.declared.item.Item.{Item}
-use Rattle.twe_ast.specs.declared.item.Item.TheVariants as items
 use Rattle.twe_ast.specs.declared.path.Path.{Path}
 use Rattle.twe_ast.specs.declared.path.PathElem.{PathElem}
 use Rattle.twe_ast.specs.declared.path.PathElemKind.{PathElemKind}
@@ -23,20 +21,19 @@ use Rattle.twe_lexer.specs.declared.token.TokenKind.{TokenKind}
 use Rattle.twe_lexer.specs.declared.token.TokenKind.TheVariants as kinds
 use Rattle.twe_parser.specs.declared.limits.Sofar.{Sofar}
 use Rattle.twe_parser.specs.Limits.{sofar_after, is_too_large, is_too_deep}
-use Rattle.twe_parser.specs.Written.{word, named, number}
 use Rattle.twe_parser.specs.WritesPath.{WritesElem, name, index, parameter, any_index, star, MoreElems, no_more_elems, more_elems, WritesPath, root, region}
-use Rattle.twe_parser.specs.Writes.{MorePaths, no_more_paths, more_paths, clause_word, WritesClause, clause, MoreClauses, no_more_clauses, more_clauses, WritesEffects, pure, clauses, WritesDecl, decl, WritesItem, regions, cell, array, grid, method, task, deterministic_task, WritesItems, no_more_items, more_items}
+use Rattle.twe_parser.specs.Writes.{MorePaths, no_more_paths, more_paths, clause_word, WritesClause, clause, MoreClauses, no_more_clauses, more_clauses, WritesEffects, pure, clauses, WritesDecl, decl, regions, cell, array, grid, method, task, deterministic_task, WritesItems, no_more_items, more_items}
 use Rattle.twe_program.specs.WellFormed.{ElementFits}
 use Rattle.ast_printer.specs.Text.{when}
 use Rattle.ast_printer.specs.PathTokens.{elem_tokens, elems_tokens, needs_root, path_tokens}
 use Rattle.ast_printer.specs.StatementTokens.{block_tokens}
-use Rattle.ast_printer.specs.ItemTokens.{paths_tokens, clause_tokens, clauses_tokens, effects_tokens, decl_tokens, item_tokens, items_tokens}
+use Rattle.ast_printer.specs.ItemTokens.{paths_tokens, clause_tokens, clauses_tokens, effects_tokens, decl_tokens, items_tokens}
 use Rattle.ast_printer.proofs.Supply.{kinds_in}
-use Rattle.ast_printer.proofs.Passing.{Sound, Passes, AllPass, Beside, Passed, FromAny, step}
+use Rattle.ast_printer.proofs.Passing.{Sound, AllPass, Passed, FromAny, step}
 use Rattle.ast_printer.proofs.PassesStatement.{block_passes}
 use Rattle.ast_printer.proofs.PassesItem.{params_pass, return_step, item_passes}
-use Rattle.first_failure.proofs.Members.{IsIn, all-in, all-append}
-use Rattle.pasting_laws.specs.Clauses.{name_at, texts_of, kind_of, elem_of, path_of, clause_of, reads_of, writes_of, clauses_of, with_clauses, pasted_items, IsWritable}
+use Rattle.first_failure.proofs.Members.{all-in, all-append}
+use Rattle.pasting_laws.specs.Clauses.{texts_of, kind_of, elem_of, path_of, clause_of, reads_of, writes_of, clauses_of, pasted_items, IsWritable}
 use Rattle.pasting_laws.proofs.Sounds.{IsRead, read-at}
 use Rattle.pasting_laws.proofs.Clauses.{Fits, kept-in, all-from}
 use Rattle.pasting_laws.proofs.PastedItems.{Aligned}
@@ -242,9 +239,9 @@ module _ (region_names params : List (List ℕ)) (regions_read : AllByRecursion 
       → AllByRecursion ClauseReads (clauses_of region_names params summary)
   clauses-read summary fit =
       let reads = all-from (Fits (length region_names) (length params)) (reads_of summary.effects)
-          (λ effect there. all-in _ summary.effects fit effect (kept-in (λ (e : Effect). not e.write) summary.effects effect there)) in
+      (λ effect there. all-in _ summary.effects fit effect (kept-in (λ (e : Effect). not e.write) summary.effects effect there)) in
       let writes = all-from (Fits (length region_names) (length params)) (writes_of summary.effects)
-          (λ effect there. all-in _ summary.effects fit effect (kept-in (λ (e : Effect). e.write) summary.effects effect there)) in
+      (λ effect there. all-in _ summary.effects fit effect (kept-in (λ (e : Effect). e.write) summary.effects effect there)) in
       all-append ClauseReads (clause_of region_names params false (reads_of summary.effects)) _
       (clause-reads false (reads_of summary.effects) reads) (clause-reads true (writes_of summary.effects) writes)
 

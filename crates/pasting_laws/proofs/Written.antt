@@ -1,5 +1,5 @@
 -- The tokens of a tree with other clauses are those that the grammar asks for.
-use Rattle.std.proofs.Common.{◌≡◌, ℕ, Bool, true, false, List, [], ◌∷◌, ◌++◌, append_assoc}
+use Rattle.std.proofs.Common.{ℕ, Bool, true, false, List, [], ◌∷◌, ◌++◌, append_assoc}
 use Rattle.twe_io.specs.declared.place.Place.{Place}
 use Rattle.effect_sets.specs.declared.effects.Effect.{Effect}
 use Rattle.effect_sets.specs.declared.effects.Summary.{Summary}
@@ -14,9 +14,9 @@ use Rattle.twe_ast.specs.declared.path.PathElemKind.TheVariants as elem_kinds
 use Rattle.twe_lexer.specs.declared.token.Token.{Token}
 use Rattle.twe_lexer.specs.declared.token.TokenKind.{TokenKind}
 use Rattle.twe_parser.specs.WritesPath.{WritesElem, name, index, parameter, any_index, star, MoreElems, no_more_elems, more_elems, root, region}
-use Rattle.twe_parser.specs.Writes.{MorePaths, no_more_paths, more_paths, WritesClause, clause, MoreClauses, no_more_clauses, more_clauses, WritesEffects, pure, clauses, WritesDecl, decl, WritesItem, regions, cell, array, grid, method, task, deterministic_task, WritesItems, no_more_items, more_items}
+use Rattle.twe_parser.specs.Writes.{MorePaths, no_more_paths, more_paths, WritesClause, clause, MoreClauses, no_more_clauses, more_clauses, WritesEffects, pure, clauses, WritesDecl, decl, WritesItem, method, WritesItems, no_more_items, more_items}
 use Rattle.ast_printer.specs.PathTokens.{elem_tokens, elems_tokens}
-use Rattle.ast_printer.specs.ItemTokens.{params_tokens, paths_tokens, clause_tokens, clauses_tokens, effects_tokens, decl_tokens, item_tokens, items_tokens}
+use Rattle.ast_printer.specs.ItemTokens.{params_tokens, paths_tokens, clause_tokens, effects_tokens, decl_tokens, item_tokens, items_tokens}
 use Rattle.ast_printer.proofs.Supply.{here, next, tokens_at, after, after_append, placed_name}
 use Rattle.ast_printer.proofs.PlacedStatement.{second, third}
 use Rattle.ast_printer.proofs.AgainStatement.{block_again}

@@ -1,5 +1,5 @@
 -- The summaries of methods as clauses of a text, in the place of those that the text has.
-use Rattle.std.specs.Prelude.{ℕ, ℤ, pos, negsuc, ◌≤◌, Bool, true, false, not, List, [], ◌∷◌, ◌++◌, length, map, filter, slice_index_or, unsigned_abs}
+use Rattle.std.specs.Prelude.{ℕ, pos, negsuc, ◌≤◌, Bool, true, false, not, List, [], ◌∷◌, ◌++◌, length, map, filter, slice_index_or, unsigned_abs}
 use Rattle.std.specs.List.{AllByRecursion}
 use Rattle.twe_limits.specs.Language.{max_literal, max_path_elements, max_effects}
 use Rattle.region_paths.specs.declared.elements.Elem.{Elem}

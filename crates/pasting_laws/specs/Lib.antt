@@ -1,2 +1,2 @@
-pub mod Pasted
 pub mod Clauses
+pub mod Pasted

@@ -1,21 +1,19 @@
 -- What names are bound to does not depend on places, nor do the types of expressions.
-use Rattle.std.proofs.Common.{◌≡◌, ℕ, ◌+◌, Bool, true, false, ◌&&◌, List, [], ◌∷◌, ◌++◌, map, length, Option, None, Some, if◌then◌else◌, codes, refl, sym, ap, ◌∙◌}
+use Rattle.std.proofs.Common.{◌≡◌, ℕ, ◌+◌, ◌&&◌, List, [], ◌∷◌, ◌++◌, map, Some, if◌then◌else◌, codes, refl, sym, ap, ◌∙◌}
 use Rattle.std.specs.Prelude.{bytes_eq}
 use Rattle.std.proofs.lemmas.List.{map-append, length-map}
-use Rattle.twe_ast.specs.declared.item.Decl.{Decl}
 use Rattle.twe_ast.specs.declared.item.Item.{Item}
 use Rattle.twe_ast.specs.declared.item.Item.TheVariants as items
 use Rattle.twe_ast.specs.declared.name.Name.{Name}
 use Rattle.twe_ast.specs.declared.stmt.LocalType.TheVariants.{Int, Boolean}
 use Rattle.twe_ast.specs.Expression.{Expression, expression, Shape, Literal, Truth, Variable, ArrayElement, GridElement, CallValue, Negative, Negation, Binary, Arguments, no_more, argument}
-use Rattle.name_check.specs.declared.binding.Global.{Global}
 use Rattle.name_check.specs.declared.binding.Global.TheVariants as global_kinds
 use Rattle.name_check.specs.declared.names.GlobalName.{GlobalName}
 use Rattle.name_check.specs.declared.scope.LocalName.{LocalName}
 use Rattle.name_check.specs.Names.{Before, regions_from, declared_by, past, globals_from, first_global, first_local, global_of, binding_of, either}
 use Rattle.name_check.specs.Types.{count_of, same_type, type_of_name, type_of_element, type_of_call, type_if, operands_agree, gives, type_of, type_of_shape, are_ints}
 use Rattle.ast_printer.specs.BareExpression.{nowhere, bare_name, bare_expression, bare_shape, bare_arguments}
-use Rattle.ast_printer.specs.BareItem.{bare_decl, bare_item}
+use Rattle.ast_printer.specs.BareItem.{bare_item}
 
 abbrev pub bare_global : GlobalName → GlobalName
 bare_global name = record { text = name.text; place = nowhere; global = name.global }

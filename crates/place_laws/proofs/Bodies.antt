@@ -1,11 +1,10 @@
 -- What the bodies of a text mean depends on places only in its places.
-use Rattle.std.proofs.Common.{◌≡◌, ℕ, Bool, List, [], ◌∷◌, map, Option, None, Some, refl, sym, ap, ◌∙◌}
+use Rattle.std.proofs.Common.{◌≡◌, ℕ, List, map, Option, None, Some, refl, ap, ◌∙◌}
 use Rattle.twe_io.specs.declared.place.Place.{Place}
 use Rattle.twe_ast.specs.Expression as ast
 use Rattle.twe_ast.specs.Statement as ast_stmt
-use Rattle.twe_program.specs.Expression.{Expression, Literal, Truth, Variable, CellValue, ArrayElement, GridElement, CallValue, Negative, Negation, Binary, Arguments, no_more, argument}
+use Rattle.twe_program.specs.Expression.{Expression, ArrayElement, GridElement, CallValue, Negative, Negation, Binary, argument}
 use Rattle.twe_program.specs.Statement as stmt
-use Rattle.name_check.specs.declared.binding.Global.{Global}
 use Rattle.name_check.specs.declared.binding.Local.TheVariants as local_kinds
 use Rattle.name_check.specs.declared.binding.Binding.{Binding}
 use Rattle.name_check.specs.declared.binding.Binding.TheVariants as bindings

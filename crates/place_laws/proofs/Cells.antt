@@ -1,6 +1,5 @@
 -- Nor do the limits on cells.
-use Rattle.std.proofs.Common.{◌≡◌, ◌⊎◌, ℕ, ◌+◌, ◌<◌, ◌≤◌, List, [], ◌∷◌, ◌++◌, map, inl, inr, refl, sym, ap, ◌∙◌, subst}
-use Rattle.std.specs.List.{Contains}
+use Rattle.std.proofs.Common.{◌≡◌, ℕ, ◌+◌, ◌<◌, ◌≤◌, List, [], ◌∷◌, ◌++◌, map, inl, inr, refl, sym, ap, ◌∙◌, subst}
 use Rattle.twe_limits.specs.Language.{max_cells, max_nodes}
 use Rattle.twe_ast.specs.declared.item.CellDecl.{CellDecl}
 use Rattle.twe_ast.specs.declared.item.CellShape.{CellShape}
@@ -44,15 +43,17 @@ module _ (one other : List CellDecl) (same : map bare_cell one ≡ map bare_cell
 pub over-alike : (one other : List CellDecl) → map bare_cell one ≡ map bare_cell other → (cell : CellDecl) → GoesOver one cell → (its : CellDecl) × GoesOver other its
 over-alike one other same cell over =
     let split = split-alike bare_cell over.before cell over.after other (ap (map bare_cell) (sym over.list) ∙ same) in
-    let more = one-more bare_cell over.before split.its_before cell split.its split.same_before split.same in
-    (split.its, record {
-      before = split.its_before;
-      after = split.its_after;
-      list = split.list;
-      few_cells = subst (λ n. n ≤ max_cells) (made-alike over.before split.its_before split.same_before) over.few_cells;
-      few_nodes = λ has. over.few_nodes (nodes-alike split.its_before over.before (sym split.same_before) (max_nodes + 1) has);
-      over = elim over.over [
-        | inl made ↦ inl (subst (λ n. max_cells < n) (made-alike (over.before ++ cell ∷ []) (split.its_before ++ split.its ∷ []) more) made)
-        | inr nodes ↦ inr (nodes-alike (over.before ++ cell ∷ []) (split.its_before ++ split.its ∷ []) more (max_nodes + 1) nodes)
-      ];
-    })
+    let more = one-more bare_cell over.before split.its_before cell split.its split.same_before split.same in (
+      split.its,
+      record {
+        before = split.its_before;
+        after = split.its_after;
+        list = split.list;
+        few_cells = subst (λ n. n ≤ max_cells) (made-alike over.before split.its_before split.same_before) over.few_cells;
+        few_nodes = λ has. over.few_nodes (nodes-alike split.its_before over.before (sym split.same_before) (max_nodes + 1) has);
+        over = elim over.over [
+          | inl made ↦ inl (subst (λ n. max_cells < n) (made-alike (over.before ++ cell ∷ []) (split.its_before ++ split.its ∷ []) more) made)
+          | inr nodes ↦ inr (nodes-alike (over.before ++ cell ∷ []) (split.its_before ++ split.its ∷ []) more (max_nodes + 1) nodes)
+        ];
+      },
+    )

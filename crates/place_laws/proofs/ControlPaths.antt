@@ -1,6 +1,6 @@
 -- The control paths of a body without places are those of the body, without their places.
-use Rattle.std.proofs.Common.{◌≡◌, ◌⊎◌, ℕ, Bool, List, [], ◌∷◌, map, zero, suc, inl, inr, refl, sym, ap, ◌∙◌, subst}
-use Rattle.std.specs.Prelude.{IsTrue, true, not, ◌&&◌, ◌||◌}
+use Rattle.std.proofs.Common.{◌≡◌, ℕ, Bool, [], ◌∷◌, map, zero, suc, inl, inr, refl, sym, ap, ◌∙◌, subst}
+use Rattle.std.specs.Prelude.{not, ◌&&◌, ◌||◌}
 use Rattle.twe_program.specs.declared.program.Body.{Body}
 use Rattle.twe_program.specs.Statement.{Statement, Block, Let, Set, SetCell, SetArray, SetGrid, If, While, Return, Print, Call, Make, Wait, Statements, no_more, statement, Arms, arm, otherwise, no_else}
 use Rattle.cover_flow.specs.ControlPath.{Path, Repeated, Through, ThroughAll, ThroughOne, IsAt, Comes, ComesAll, ComesOne, ControlPath, end_of}

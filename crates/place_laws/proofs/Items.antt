@@ -1,7 +1,7 @@
 -- Nor do the declarations of a text, and what they need.
-use Rattle.std.proofs.Common.{◌≡◌, ◌⊎◌, ℕ, List, [], ◌∷◌, ◌++◌, map, length, Option, inl, inr, refl, sym, ap, ◌∙◌, subst}
-use Rattle.std.specs.List.{Contains, flat_map}
-use Rattle.std.proofs.lemmas.List.{map-append, length-map}
+use Rattle.std.proofs.Common.{◌≡◌, ℕ, List, [], ◌++◌, map, refl, sym, ap, ◌∙◌}
+use Rattle.std.specs.List.{flat_map}
+use Rattle.std.proofs.lemmas.List.{length-map}
 use Rattle.twe_io.specs.declared.place.Place.{Place}
 use Rattle.twe_ast.specs.declared.item.Ast.{Ast}
 use Rattle.twe_ast.specs.declared.item.CellDecl.{CellDecl}
@@ -19,11 +19,9 @@ use Rattle.twe_ast.specs.declared.path.PathElemKind.TheVariants as elem_kinds
 use Rattle.twe_ast.specs.declared.item.ReturnType.TheVariants as return_types
 use Rattle.name_check.specs.declared.names.GlobalName.{GlobalName}
 use Rattle.name_check.specs.declared.scope.LocalName.{LocalName}
-use Rattle.name_check.specs.declared.scope.BodyScope.{BodyScope}
 use Rattle.name_check.specs.Names.{at_start, globals_from, globals_of, binding_of}
 use Rattle.name_check.specs.BodyScope.{params_of}
-use Rattle.name_check.specs.Asks.{Ask}
-use Rattle.name_check.specs.Sites.{Site, sites_at, sites_in_all, sites_of_params, asks_of_kind, asks_of_path, asks_of_clause, asks_of_cell_kind, asks_of_cell_path, at_body, sites_of_decl, sites_of_item, sites_of}
+use Rattle.name_check.specs.Sites.{sites_at, sites_in_all, sites_of_params, asks_of_kind, asks_of_path, asks_of_clause, asks_of_cell_kind, asks_of_cell_path, at_body, sites_of_decl, sites_of_item, sites_of}
 use Rattle.name_check.specs.Limits.{decls_of_item, decls_of, paths_of}
 use Rattle.cell_limits.specs.GoesOver.{cells_of_item, cells_of}
 use Rattle.ast_printer.specs.BareExpression.{nowhere, bare_name}

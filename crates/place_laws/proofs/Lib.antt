@@ -1,7 +1,7 @@
+pub mod Lists
 pub mod Acts
 pub mod ControlPaths
 pub mod Rules
-pub mod Lists
 pub mod Bindings
 pub mod Asks
 pub mod Sites

@@ -1,5 +1,5 @@
 -- Lists whose elements are equal but for something.
-use Rattle.std.proofs.Common.{◌≡◌, ◌⊎◌, ℕ, ◌+◌, suc, Bool, true, false, not, ◌||◌, List, [], ◌∷◌, ◌++◌, map, length, take, drop, cond, fold, if◌then◌else◌, inl, inr, refl, sym, ap, ◌∙◌, subst, arith}
+use Rattle.std.proofs.Common.{◌≡◌, ℕ, ◌+◌, Bool, not, ◌||◌, List, [], ◌∷◌, ◌++◌, map, length, take, drop, cond, fold, inl, inr, refl, sym, ap, ◌∙◌, subst}
 use Rattle.std.specs.Prelude.{count_by, take_while}
 use Rattle.std.specs.List.{prefix_len}
 use Rattle.std.specs.List.{Contains, flat_map, list_any}

@@ -1,12 +1,11 @@
 -- Trees that are equal except for places mean programs that are equal except for places.
-use Rattle.std.proofs.Common.{◌≡◌, ℕ, ◌+◌, Bool, false, List, [], ◌∷◌, ◌++◌, map, length, codes, refl, sym, ap, ◌∙◌}
-use Rattle.std.specs.List.{flat_map, list_any}
-use Rattle.std.proofs.lemmas.List.{map-append, length-map}
+use Rattle.std.proofs.Common.{◌≡◌, ℕ, ◌+◌, Bool, false, List, [], ◌∷◌, map, codes, refl, sym, ap, ◌∙◌}
+use Rattle.std.specs.List.{flat_map}
+use Rattle.std.proofs.lemmas.List.{length-map}
 use Rattle.region_paths.specs.declared.elements.Elem.{Elem}
 use Rattle.region_paths.specs.declared.elements.Elem.TheVariants as elems
 use Rattle.region_paths.specs.Written.{WrittenPath}
 use Rattle.effect_sets.specs.declared.effects.Effect.{Effect}
-use Rattle.effect_sets.specs.declared.effects.Summary.{Summary}
 use Rattle.twe_ast.specs.declared.item.Ast.{Ast}
 use Rattle.twe_ast.specs.declared.item.CellDecl as written_cell
 use Rattle.twe_ast.specs.declared.item.Clause.{Clause}
@@ -22,14 +21,11 @@ use Rattle.twe_ast.specs.declared.path.Path.{Path}
 use Rattle.twe_ast.specs.declared.path.PathElem.{PathElem}
 use Rattle.twe_ast.specs.declared.path.PathElemKind.{PathElemKind}
 use Rattle.twe_ast.specs.declared.path.PathElemKind.TheVariants as elem_kinds
-use Rattle.twe_program.specs.declared.program.Body.{Body}
-use Rattle.twe_program.specs.declared.program.CellDecl.{CellDecl}
-use Rattle.twe_program.specs.declared.program.Decl.{Decl}
 use Rattle.twe_program.specs.Program.{Program, size_of}
 use Rattle.cell_limits.specs.GoesOver.{cells_of_item, cells_of}
 use Rattle.name_check.specs.declared.names.GlobalName.{GlobalName}
 use Rattle.name_check.specs.declared.scope.LocalName.{LocalName}
-use Rattle.name_check.specs.Names.{at_start, globals_from, globals_of, binding_of}
+use Rattle.name_check.specs.Names.{at_start, globals_of, binding_of}
 use Rattle.name_check.specs.BodyScope.{after_all, params_of}
 use Rattle.name_check.specs.Sites.{at_body}
 use Rattle.name_check.specs.Limits.{is_star}

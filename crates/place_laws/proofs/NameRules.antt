@@ -1,5 +1,5 @@
 -- The rules of names do not depend on places: of two trees that are equal except for places, one fails a rule if the other does.
-use Rattle.std.proofs.Common.{◌≡◌, ◌⊎◌, ℕ, Bool, true, false, List, [], ◌∷◌, ◌++◌, map, length, Option, inl, inr, refl, sym, ap, ◌∙◌, subst, ap₂}
+use Rattle.std.proofs.Common.{◌≡◌, ℕ, Bool, true, List, map, inl, inr, refl, sym, ap, ◌∙◌, subst, ap₂}
 use Rattle.std.specs.Prelude.{count_by}
 use Rattle.std.specs.List.{Contains}
 use Rattle.twe_io.specs.declared.place.Place.{Place}
@@ -95,13 +95,15 @@ task-is (items.Task other its) deterministic decl e =
 
 stands-alike : {X : Type 0} (f : X → X) (count : ℕ) (xs ys : List X) → map f xs ≡ map f ys → (x : X) → StandsAfter count xs x → (y : X) × StandsAfter count ys y
 stands-alike f count xs ys same x stands =
-    let split = split-alike f stands.before x stands.after ys (ap (map f) (sym stands.list) ∙ same) in
-    (split.its, record {
-      before = split.its_before;
-      after = split.its_after;
-      list = split.list;
-      many = sym (same-length f stands.before split.its_before split.same_before) ∙ stands.many;
-    })
+    let split = split-alike f stands.before x stands.after ys (ap (map f) (sym stands.list) ∙ same) in (
+      split.its,
+      record {
+        before = split.its_before;
+        after = split.its_after;
+        list = split.list;
+        many = sym (same-length f stands.before split.its_before split.same_before) ∙ stands.many;
+      },
+    )
 
 kind-star : (kind : PathElemKind) → is_star_kind (bare_elem_kind kind) ≡ is_star_kind kind
 kind-star (elem_kinds.Name text) = refl
@@ -115,15 +117,17 @@ star-same elem = kind-star elem.kind
 
 second-alike : (xs ys : List PathElem) → map bare_elem xs ≡ map bare_elem ys → (x : PathElem) → IsSecondStar xs x → (y : PathElem) × IsSecondStar ys y
 second-alike xs ys same x second =
-    let split = split-alike bare_elem second.before x second.after ys (ap (map bare_elem) (sym second.list) ∙ same) in
-    (split.its, record {
-      before = split.its_before;
-      after = split.its_after;
-      list = split.list;
-      star = sym (star-same split.its) ∙ ap is_star (sym split.same) ∙ star-same x ∙ second.star;
-      one = sym (same-count bare_elem is_star star-same split.its_before) ∙ ap (count_by is_star) (sym split.same_before)
-          ∙ same-count bare_elem is_star star-same second.before ∙ second.one;
-    })
+    let split = split-alike bare_elem second.before x second.after ys (ap (map bare_elem) (sym second.list) ∙ same) in (
+      split.its,
+      record {
+        before = split.its_before;
+        after = split.its_after;
+        list = split.list;
+        star = sym (star-same split.its) ∙ ap is_star (sym split.same) ∙ star-same x ∙ second.star;
+        one = sym (same-count bare_elem is_star star-same split.its_before) ∙ ap (count_by is_star) (sym split.same_before)
+            ∙ same-count bare_elem is_star star-same second.before ∙ second.one;
+      },
+    )
 
 main-alike : (one other : Ast) → EqualButForPlaces one other → HasMain one → HasMain other
 main-alike one other same has =
@@ -144,11 +148,12 @@ module _ (one other : Ast) (same : EqualButForPlaces one other) where
   asks-alike locals returns ask there =
       let found = like-in bare_site (sites_of one) (sites_of other) (sites-alike one other same) (record { locals = locals; returns = returns; ask = ask }) there in
       let its_locals : locals ≡ found.0.locals = ap (λ (s : Site). s.locals) found.2 in
-      let its_returns : returns ≡ found.0.returns = ap (λ (s : Site). s.returns) found.2 in
-      (found.0.ask,
-      subst (λ (l : List LocalName). Asks other l returns found.0.ask) (sym its_locals)
-      (subst (λ (r : ReturnType). Asks other found.0.locals r found.0.ask) (sym its_returns) found.1),
-      ap (λ (s : Site). s.ask) found.2)
+      let its_returns : returns ≡ found.0.returns = ap (λ (s : Site). s.returns) found.2 in (
+        found.0.ask,
+        subst (λ (l : List LocalName). Asks other l returns found.0.ask) (sym its_locals)
+            (subst (λ (r : ReturnType). Asks other found.0.locals r found.0.ask) (sym its_returns) found.1),
+        ap (λ (s : Site). s.ask) found.2,
+      )
 
   uses-alike : (locals : List LocalName) (returns : ReturnType) (name : Name) (asks : NameUse) → Asks one locals returns (uses name asks)
       → (its : Name) × Asks other locals returns (uses its asks) × (its.text ≡ name.text)
@@ -198,17 +203,19 @@ module _ (one other : Ast) (same : EqualButForPlaces one other) where
   again-alike : (this : GlobalName) → IsDeclaredAgain one this → (its : GlobalName) × IsDeclaredAgain other its
   again-alike this again =
       let split = split-alike bare_global again.before this again.after (globals_of other) (ap (map bare_global) (sym again.list) ∙ globals-alike one other same) in
-      let text : this.text ≡ split.its.text = ap (λ (g : GlobalName). g.text) split.same in
-      (split.its, record {
-        before = split.its_before;
-        after = split.its_after;
-        list = split.list;
-        again = elim again.again [
-          | inl console ↦ inl (sym text ∙ console)
-          | inr earlier ↦ let its = like-in bare_global again.before split.its_before split.same_before earlier.0 earlier.1 in
-              inr (its.0, its.1, sym (ap (λ (g : GlobalName). g.text) its.2) ∙ earlier.2 ∙ text)
-        ];
-      })
+      let text : this.text ≡ split.its.text = ap (λ (g : GlobalName). g.text) split.same in (
+        split.its,
+        record {
+          before = split.its_before;
+          after = split.its_after;
+          list = split.list;
+          again = elim again.again [
+            | inl console ↦ inl (sym text ∙ console)
+            | inr earlier ↦ let its = like-in bare_global again.before split.its_before split.same_before earlier.0 earlier.1 in
+                inr (its.0, its.1, sym (ap (λ (g : GlobalName). g.text) its.2) ∙ earlier.2 ∙ text)
+          ];
+        },
+      )
 
   decl-alike : (decl : Decl) → Contains (decls_of one) decl → (its : Decl) × Contains (decls_of other) its × (bare_decl decl ≡ bare_decl its)
   decl-alike decl there = like-in bare_decl (decls_of one) (decls_of other) (decls-alike one other same) decl there
@@ -253,9 +260,11 @@ module _ (one other : Ast) (same : EqualButForPlaces one other) where
       let its = uses-alike locals returns name (name_use.Task args) there in
       (its.0.place, other_count_of_task locals returns type its.0 args number params its.1 (binding-its locals name its.0 its.2 ∙ is) not)
   names-alike rule place (no_return decl there int not) =
-      let its = decl-alike decl there in
-      (close_of its.0.body, no_return its.0 its.1 (sym (ap (λ (d : Decl). d.returns) its.2) ∙ int)
-      (sym (one_ends-same its.0.body) ∙ ap (λ (d : Decl). one_ends d.body) (sym its.2) ∙ one_ends-same decl.body ∙ not))
+      let its = decl-alike decl there in (
+        close_of its.0.body,
+        no_return its.0 its.1 (sym (ap (λ (d : Decl). d.returns) its.2) ∙ int)
+            (sym (one_ends-same its.0.body) ∙ ap (λ (d : Decl). one_ends d.body) (sym its.2) ∙ one_ends-same decl.body ∙ not),
+      )
   names-alike rule place (assigned locals returns name number type there is) =
       let its = uses-alike locals returns name name_use.Target there in
       (its.0.place, assigned locals returns its.0 number type its.1 (binding-its locals name its.0 its.2 ∙ is))

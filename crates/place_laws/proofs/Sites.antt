@@ -1,11 +1,11 @@
 -- Nor do the scopes of bodies, and what statements need in them.
-use Rattle.std.proofs.Common.{◌≡◌, ℕ, ◌+◌, Bool, true, false, ◌&&◌, ◌||◌, List, [], ◌∷◌, ◌++◌, map, length, Option, None, Some, refl, sym, ap, ◌∙◌}
-use Rattle.std.proofs.lemmas.List.{map-append, length-map}
+use Rattle.std.proofs.Common.{◌≡◌, ℕ, ◌+◌, Bool, true, false, ◌&&◌, ◌||◌, List, [], ◌∷◌, ◌++◌, map, Option, None, Some, refl, sym, ap, ◌∙◌}
+use Rattle.std.proofs.lemmas.List.{map-append}
 use Rattle.twe_io.specs.declared.place.Place.{Place}
 use Rattle.twe_ast.specs.declared.item.ReturnType.{ReturnType}
 use Rattle.twe_ast.specs.declared.name.Name.{Name}
 use Rattle.twe_ast.specs.declared.stmt.LocalType.TheVariants.{Int, Boolean}
-use Rattle.twe_ast.specs.Expression.{Expression, expression, Shape, Literal, Truth, Variable, ArrayElement, GridElement, CallValue, Negative, Negation, Binary, Arguments}
+use Rattle.twe_ast.specs.Expression.{Expression, expression, Literal, Truth, Variable, ArrayElement, GridElement, CallValue, Negative, Negation, Binary}
 use Rattle.twe_ast.specs.Statement.{Statement, Block, Let, Set, SetArray, SetGrid, If, While, Return, Print, Call, Make, Wait, LetWait, Statements, end_of_block, statement, Arms, arm, otherwise, no_else}
 use Rattle.name_check.specs.declared.binding.NameUse.TheVariants as name_use
 use Rattle.name_check.specs.declared.binding.Local.TheVariants as local_kinds
@@ -15,10 +15,10 @@ use Rattle.name_check.specs.declared.scope.BodyScope.{BodyScope}
 use Rattle.name_check.specs.Names.{binding_of}
 use Rattle.name_check.specs.Types.{count_of}
 use Rattle.name_check.specs.BodyScope.{counted, leaving, with_future, is_void, after, after_all, after_arms, after_block, params_from}
-use Rattle.name_check.specs.Asks.{Ask, uses, needs, declares, returns_value, returns_nothing, asks_of, asks_of_all}
+use Rattle.name_check.specs.Asks.{Ask, uses, declares, returns_value, returns_nothing, asks_of, asks_of_all}
 use Rattle.name_check.specs.Sites.{Site, sites_at, target_type, asks_of_return, sites_in, sites_in_all, sites_in_arms, sites_of_params}
 use Rattle.name_check.specs.Ends.{is_true, ends, one_ends, all_end}
-use Rattle.ast_printer.specs.BareExpression.{nowhere, bare_name, bare_expression, bare_arguments}
+use Rattle.ast_printer.specs.BareExpression.{nowhere, bare_name, bare_expression}
 use Rattle.ast_printer.specs.BareStatement.{bare_value, bare_statement, bare_block, bare_arms}
 use Rattle.place_laws.proofs.Bindings.{bare_global, binding-same, same-arguments}
 use Rattle.place_laws.proofs.Asks.{bare_ask, first-ask, both-asks, place-bare, asks-same, all-same}

@@ -1,17 +1,14 @@
 -- What places have to do with whether a text is accepted: nothing.
-use Rattle.std.proofs.Common.{◌≡◌, ℕ, List, refl, sym, ap, ◌∙◌, subst}
+use Rattle.std.proofs.Common.{ℕ, List, refl, sym, ap, ◌∙◌}
 use Rattle.twe_io.specs.declared.place.Place.{Place}
 use Rattle.twe_ast.specs.declared.item.Ast.{Ast}
 use Rattle.name_check.specs.declared.rule.NRule.{NRule}
 use Rattle.name_check.specs.FailsName.{FailsName}
-use Rattle.effect_check.specs.declared.rule.ERule.{ERule}
-use Rattle.effect_check.specs.FailsEffect.{FailsEffect}
 use Rattle.twe_program.specs.Program.{Program}
 use Rattle.twe_names.specs.Meaning.{program_of}
 use Rattle.twe_frontend.specs.Accepted.{IsTreeOf, IsMeaningOf, Accepted}
 use Rattle.ast_printer.specs.BareItem.{EqualButForPlaces}
 use Rattle.ast_printer.specs.ItemTokens.{printed}
-use Rattle.ast_printer.specs.ParsesAgain.{ParsesAgain}
 use Rattle.ast_printer.proofs.ParsedAgain.{parses_again}
 use Rattle.place_laws.specs.Places as programs
 use Rattle.place_laws.proofs.NameRules.{names-alike}
