@@ -1,2 +1,4 @@
 pub mod Stands
 pub mod Opening
+pub mod Segments
+pub mod Resuming

@@ -7,9 +7,13 @@ mod closing;
 mod floor;
 mod opening;
 mod phases;
+mod resuming;
+mod segments;
 mod stands;
 mod turns;
 mod words;
 
 pub use floor::{Floor, Stand};
+pub use resuming::Readiness;
+pub use segments::Seg;
 pub use turns::Busy;
