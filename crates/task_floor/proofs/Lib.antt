@@ -5,3 +5,6 @@ pub mod Touching
 pub mod Carrying
 -- A task in hand, and what is found of it.
 pub mod InHand
+pub mod LeavingTurns
+pub mod Bringing
+pub mod CommittedEntries

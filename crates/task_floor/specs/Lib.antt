@@ -2,3 +2,6 @@ pub mod Stands
 pub mod Opening
 pub mod Segments
 pub mod Resuming
+pub mod Leaving
+pub mod Committing
+pub mod inner
