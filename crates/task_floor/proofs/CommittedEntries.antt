@@ -58,7 +58,7 @@ drawn_kind lim clock me t turn frame stop =
     kept drawn child (Some row) = refl
 
 -- a task that is made has a number below the limit, and is new
-child_below : (lim : Bounds) (asked t : ℕ) (stop : Stop) → ForSome (child_row lim asked t stop) (λ _. asked + 1 < lim.tasks)
+pub child_below : (lim : Bounds) (asked t : ℕ) (stop : Stop) → ForSome (child_row lim asked t stop) (λ _. asked + 1 < lim.tasks)
 child_below lim asked t (stops.Make child args effects spawned future place) row is = made (nat_lt (asked + 1) lim.tasks) refl is
   where
     made : (b : Bool) → nat_lt (asked + 1) lim.tasks ≡ b → cond {A = Option TaskRow} b (Some (new_row lim (asked + 1) (parent_of t spawned) child args effects)) None ≡ Some row → asked + 1 < lim.tasks

@@ -1,5 +1,6 @@
 -- How a stand draws an entry: what it needs, and what it leaves.
 use Rattle.std.specs.Prelude.{◌≡◌, ◌+◌, ◌-◌, ◌++◌, ℕ, List, [], ◌∷◌, Option, None, Some, if◌then◌else◌, nat_lt}
+use Rattle.std.specs.Option.{ForSome}
 use Rattle.twe_limits.specs.Limits.{Bounds}
 use Rattle.twe_program.specs.Program.{Program}
 use Rattle.seg_journal.specs.declared.journal.End.{End}
@@ -18,6 +19,7 @@ use Rattle.floor_rule.specs.declared.view.TaskSlot.{TaskSlot}
 use Rattle.floor_rule.specs.Rows.{phase_of, slot_of}
 use Rattle.floor_rule.specs.Steps.{end_after, first_turn, row_after}
 use Rattle.floor_table.specs.declared.view.View.{View}
+use Rattle.floor_table.specs.FloorOf.{turn_in}
 use Rattle.floor_table.specs.Layout.{asked_of_clock, entries_of_clock}
 use Rattle.floor_table.specs.Tells.{IsLatest, MayDraw, Seat, drawn_view, entry_at, with_turn}
 
@@ -59,13 +61,14 @@ with_brought v child (Some row) =
 
 -- The entry of task t was drawn when the clock said this. It has the clock's number and ends as the machine's move does; the
 -- log and what the seat knows have it. The slot is that of the task's new row. The segment is not open any more. A task that
--- was made has its frame in its slot and the phase of its row, and its turn is free. The slots that the seat has out are as
--- before.
+-- was made has its frame in its slot and the phase of its row, and its turn is free; the seat had no turn of it before. The
+-- slots that the seat has out are as before.
 pub record HasCommitted (lim : Bounds) (before : Seat) (t : ℕ) (turn : HeldTurn) (frame : Frame) (stop : Stop) (number : ℕ) (end : End) (slot : TaskSlot) (after : Seat) (old_log new_log : Log) : Type 0 where
   pub clock : ℕ
   pub number_is : number ≡ entries_of_clock clock
   pub end_is : end ≡ end_after lim (asked_of_clock clock) stop
   pub slot_is : slot ≡ slot_of (row_after lim (asked_of_clock clock) turn.row frame stop)
+  pub fresh : ForSome (child_row lim (asked_of_clock clock) t stop) (λ _. turn_in before.0.turns (asked_of_clock clock + 1) ≡ None)
   pub seat : after ≡ (with_brought (drawn_view lim clock before.0 t turn frame stop) (asked_of_clock clock + 1) (child_row lim (asked_of_clock clock) t stop), before.1)
   pub log : new_log ≡ with_entry (entry_at lim clock t frame stop) old_log
 

@@ -11,7 +11,7 @@ use Rattle.floor_table.specs.Layout.{asked_of_clock}
 use Rattle.floor_table.specs.Tells.{Seat, drawn_view}
 use Rattle.task_floor.specs.Committing.{child_row, with_brought, with_entry}
 use Rattle.task_floor.specs.inner.Bringing.{MayBring, frame_after}
-use Rattle.task_floor.proofs.CommittedEntries.{drawn_kind, entry_is, may_bring, room_kept, slot_after}
+use Rattle.task_floor.proofs.CommittedEntries.{child_below, drawn_kind, entry_is, may_bring, room_kept, slot_after}
 use Rattle.task_floor.proofs.floor.Floor.commit.Goals as goal
 
 pub draw-clock-requires-clause-may : goal.draw-clock-requires-clause-may
@@ -28,7 +28,7 @@ bring-requires-clause-live g c =
     let may = c.requires.may in
     let me = c.args.stand.now.me in
     let frame = c.args.slot.now.frame in
-    let drew = c.draw-clock.ensures.drew c.args.task may.0 frame c.args.stop may.1.latest may.1.may in
+    let drew = c.draw-clock.ensures.drew.0 c.args.task may.0 frame c.args.stop may.1.latest may.1.may in
     λ spent. c.requires.live (sym (ap (λ (m : Seat). m.0.kind) drew ∙ drawn_kind g.N.Named.lim c.draw-clock.result me c.args.task may.0 frame c.args.stop) ∙ spent)
 
 pub bring-requires-clause-may : goal.bring-requires-clause-may
@@ -43,7 +43,7 @@ bring-requires-clause-may g c =
     let clock = c.draw-clock.result in
     let asked_is = c.asked_of-asked.ensures.value in
     let held = c.settle-end.result.1 in
-    let drew = c.draw-clock.ensures.drew t may.0 frame stop may.1.latest may.1.may in
+    let drew = c.draw-clock.ensures.drew.0 t may.0 frame stop may.1.latest may.1.may in
     let holds : held ≡ option_map slot_of (child_row lim (asked_of_clock clock) t stop) =
     c.settle-end.ensures.child ∙ ap (λ (l : Bounds). option_map slot_of (child_row l c.asked_of-asked.result t stop)) c.requires.lim
     ∙ ap (λ (n : ℕ). option_map slot_of (child_row lim n t stop)) asked_is in
@@ -63,7 +63,7 @@ returns-clause-committed g c turn may =
     let clock = c.draw-clock.result in
     let asked_is = c.asked_of-asked.ensures.value in
     let held = c.settle-end.result.1 in
-    let drew = c.draw-clock.ensures.drew t turn frame stop may.latest may.may in
+    let drew = c.draw-clock.ensures.drew.0 t turn frame stop may.latest may.may in
     let holds : held ≡ option_map slot_of (child_row lim (asked_of_clock clock) t stop) =
     c.settle-end.ensures.child ∙ ap (λ (l : Bounds). option_map slot_of (child_row l c.asked_of-asked.result t stop)) c.requires.lim
     ∙ ap (λ (n : ℕ). option_map slot_of (child_row lim n t stop)) asked_is in
@@ -83,6 +83,7 @@ returns-clause-committed g c turn may =
       number_is = c.entries_of-number.ensures;
       end_is = ends;
       slot_is = slot_after lim (asked_of_clock clock) turn.row slot stop c.settle-end.new.frame may.rest frames;
+      fresh = λ made is. c.draw-clock.ensures.drew.1 (child_below lim (asked_of_clock clock) t stop made is);
       seat = c.bring.ensures.brought drawn row brings ∙ ap (λ (n : ℕ). (with_brought drawn.0 (n + 1) row, me.1)) asked_is;
       log = c.push_within.ensures
           ∙ ap (λ (e : NumberedEntry). with_entry e c.args.log.now)
