@@ -2,6 +2,7 @@
 ghost use Rattle.std.specs.Prelude.{◌≡◌};
 ghost use Rattle.text_streams.specs.Ends.{sink};
 ghost use Rattle.text_streams.specs.Answers.{Tells, TellsMade, on_err, on_out};
+ghost use Rattle.text_streams.specs.Writing.{WroteBoth};
 
 use crate::writing::write_both;
 use std::alloc::Global;
@@ -79,8 +80,20 @@ fn tell_answer<S: Copy, O: Sink, E: Sink>(
     ensures { Tells write_fault (sink O.written O.faults O.write_gives) (sink E.written E.faults E.write_gives)
         out.old out.new err.old err.new answer.now result }
 {
-    match write_both(answer.out.as_slice(), answer.err.as_slice(), out, err) {
+    match write_answer(answer, out, err) {
         Ok(()) => answer.status,
         Err(WriteFault) => write_fault,
     }
+}
+
+/// Writes the bytes for out, and then those for err.
+fn write_answer<S: Copy, O: Sink, E: Sink>(
+    answer: &Answer<S>,
+    out: &mut O,
+    err: &mut E,
+) -> Result<(), WriteFault>
+    ensures { WroteBoth (sink O.written O.faults O.write_gives) (sink E.written E.faults E.write_gives)
+        answer.now.out answer.now.err out.old out.new err.old err.new result }
+{
+    write_both(answer.out.as_slice(), answer.err.as_slice(), out, err)
 }
