@@ -1,6 +1,6 @@
 use Rattle.std.proofs.Common.{inl, inr}
-use Rattle.twe_cli.specs.Answers.{Tells}
-use Rattle.twe_cli.proofs.telling.tell_answer.Goals as goal
+use Rattle.text_streams.specs.Answers.{Tells}
+use Rattle.text_streams.proofs.answer.tell_answer.Goals as goal
 
 pub returns-in-Ok : goal.returns-in-Ok
 returns-in-Ok g c = Tells.told c.in-Ok.ensures.0 c.in-Ok.ensures.1
