@@ -17,8 +17,7 @@ use seg_journal::{Entry, Journal, Limits, Move};
 use std::alloc::Global;
 use twe_io::Memory;
 use twe_machine::{
-    State, each_thing_happens_once, effects_are_filled, journals_are_short, links_agree, start,
-    step,
+    State, each_thing_happens_once, journals_are_short, links_agree, start, step,
 };
 use twe_program::Prog;
 
@@ -90,7 +89,6 @@ fn lowest_ready(
     ensures ready { IfOk result (λ next. IfSome next (λ mv. IsReady books.new.ready mv.task)) }
 {
     links_agree();
-    effects_are_filled();
     let _main = p.main;
     'looking: while let Some(t) = books.ready.lowest() {
         if let Some(mv) = look(alloc, st, books, t)? {

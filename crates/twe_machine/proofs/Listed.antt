@@ -1,5 +1,5 @@
 -- The list of the enabled tasks over a legal move.
-use Rattle.std.proofs.Common.{◌≡◌, ◌≤◌, ◌<◌, ◌+◌, ◌-◌, inl, inr, ℕ, List, length, false, refl, sym, ap, ◌∙◌, subst, arith}
+use Rattle.std.proofs.Common.{◌≡◌, ◌≤◌, ◌<◌, ◌+◌, ◌-◌, inl, inr, ℕ, List, length, Some, false, refl, sym, ap, ◌∙◌, subst, arith}
 use Rattle.std.specs.Prelude.{slice_get}
 use Rattle.std.specs.List.{Contains}
 use Rattle.std.proofs.lemmas.Bool.{cases_eq, cases_lt}
@@ -43,10 +43,10 @@ made_one (ends.Done value) = omega arith
 made_one (ends.Fault kind place) = omega arith
 
 module _ (p : Program) (lim : Bounds) (well : IsWellFormed p) (st : State) (kind : Kind) (t : ℕ) (may : MayTake st kind t) (stands : Stands p lim st) where
-  abbrev then_ : State
-  then_ = after p lim well st kind t may stands
+  abbrev next_state : State
+  next_state = after p lim well st kind t may stands
 
-  wait_stays : (tasks : List ℕ) (i j : ℕ) → ((u : ℕ) → slice_get tasks j ≡ Some u → u ≡ t → (link_of then_.links t).done ≡ false) → WaitsAt st tasks i j → WaitsAt then_ tasks i j
+  wait_stays : (tasks : List ℕ) (i j : ℕ) → ((u : ℕ) → slice_get tasks j ≡ Some u → u ≡ t → (link_of next_state.links t).done ≡ false) → WaitsAt st tasks i j → WaitsAt next_state tasks i j
   wait_stays tasks i j going at = record {
     task = at.task;
     next = at.next;
@@ -56,13 +56,13 @@ module _ (p : Program) (lim : Bounds) (well : IsWellFormed p) (st : State) (kind
   }
 
   -- the path stays, if the task that made the move is still enabled
-  pub path_stays : (tasks : List ℕ) (path : ℕ) → HasStatus then_ t Enabled → IsPath st tasks path → IsPath then_ tasks path
+  pub path_stays : (tasks : List ℕ) (path : ℕ) → HasStatus next_state t Enabled → IsPath st tasks path → IsPath next_state tasks path
   path_stays tasks path has is i low =
-      let link = row_link p lim then_ (after_stands p lim well st kind t may stands) t has.0 has.1 in
+      let link = row_link p lim next_state (after_stands p lim well st kind t may stands) t has.0 has.1 in
       wait_stays tasks i (i + 1) (λ u there same. ap (λ (l : Link). l.done) link ∙ ap is_done_status has.2) (is i low)
 
   -- and but for its last wait it stays in any case, since the task that made the move waits for nobody
-  pub path_cut : (tasks : List ℕ) (path : ℕ) → IsPath st tasks path → IsPath then_ tasks (path - 1)
+  pub path_cut : (tasks : List ℕ) (path : ℕ) → IsPath st tasks path → IsPath next_state tasks (path - 1)
   path_cut tasks path is i low =
       let at = is i (omega (arith, low)) in
       let later = is (i + 1) (omega (arith, low)) in
@@ -74,29 +74,29 @@ module _ (p : Program) (lim : Bounds) (well : IsWellFormed p) (st : State) (kind
 
   module _ (old new : List ℕ)
       (before : (s : ℕ) → HasStatus st s Enabled → Contains old s)
-      (kept : (s : ℕ) → HasStatus then_ s Enabled → Contains old s → Contains new s)
-      (admitted : kind ≡ Admit → HasStatus then_ t Enabled → Contains new t)
-      (made : (s : ℕ) → length st.tasks ≤ s → HasStatus then_ s Enabled → Contains new s) where
-    own_listed : (k : Kind) → kind ≡ k → HasStatus then_ t Enabled → Contains new t
+      (kept : (s : ℕ) → HasStatus next_state s Enabled → Contains old s → Contains new s)
+      (admitted : kind ≡ Admit → HasStatus next_state t Enabled → Contains new t)
+      (made : (s : ℕ) → length st.tasks ≤ s → HasStatus next_state s Enabled → Contains new s) where
+    own_listed : (k : Kind) → kind ≡ k → HasStatus next_state t Enabled → Contains new t
     own_listed Admit e has = admitted e has
     own_listed Run e has = kept t has (before t (subst (λ (k : Kind). MayTake st k t) e may).0)
 
     -- each task that is enabled after the move is on the list
-    pub listed_after : (s : ℕ) → HasStatus then_ s Enabled → Contains new s
+    pub listed_after : (s : ℕ) → HasStatus next_state s Enabled → Contains new s
     listed_after s has =
         elim (cases_lt s (length st.tasks)) [
           | inl below ↦
               elim (cases_eq s t) [
-                | inl is ↦ subst (λ (n : ℕ). Contains new n) (sym is) (own_listed kind refl (subst (λ (n : ℕ). HasStatus then_ n Enabled) is has))
+                | inl is ↦ subst (λ (n : ℕ). Contains new n) (sym is) (own_listed kind refl (subst (λ (n : ℕ). HasStatus next_state n Enabled) is has))
                 | inr ne ↦ kept s has (before s (status_back p lim well st kind t may stands s Enabled ne below has))
               ]
           | inr new_one ↦ made s new_one has
         ]
 
 -- a list of the enabled tasks, as the state is left by a legal move
-pub was_listed : (p : Program) (lim : Bounds) (st after : State) (mv : Move) (before : ℕ) (enabled : EnabledTasks) → IsWellFormed p → IsReached p lim st → MayMove st mv
-    → after ≡ (move_result p lim st mv).0 → before ≡ length st.links → IsListing st enabled → WasListing after mv before enabled
-was_listed p lim st after mv before enabled well reached legal is count listing = record {
+pub was_listed : (p : Program) (lim : Bounds) (st later : State) (mv : Move) (before : ℕ) (enabled : EnabledTasks) → IsWellFormed p → IsReached p lim st → MayMove st mv
+    → later ≡ (move_result p lim st mv).0 → before ≡ length st.links → IsListing st enabled → WasListing later mv before enabled
+was_listed p lim st later mv before enabled well reached legal is count listing = record {
   p = p;
   lim = lim;
   st = st;
@@ -108,7 +108,7 @@ was_listed p lim st after mv before enabled well reached legal is count listing 
   listing = listing;
 }
 
-module _ (after : State) (mv : Move) (before : ℕ) (enabled : EnabledTasks) (was : WasListing after mv before enabled) where
+module _ (later : State) (mv : Move) (before : ℕ) (enabled : EnabledTasks) (was : WasListing later mv before enabled) where
   stood : Stands was.p was.lim was.st
   stood = reached_stands was.p was.lim was.st was.well was.reached
 
@@ -116,11 +116,11 @@ module _ (after : State) (mv : Move) (before : ℕ) (enabled : EnabledTasks) (wa
   alone = moves_leave_alone was.p was.lim was.st mv was.well was.reached was.legal
 
   -- there are as many links as rows
-  pub was_linked : length after.links ≡ length after.tasks
+  pub was_linked : length later.links ≡ length later.tasks
   was_linked = subst (λ (s : State). length s.links ≡ length s.tasks) (sym was.is) alone.as_many_links
 
   -- what the moves of a list may rest on
-  pub was_path : (HasStatus after mv.task Enabled → IsPath after enabled.tasks enabled.path) × IsPath after enabled.tasks (enabled.path - 1)
+  pub was_path : (HasStatus later mv.task Enabled → IsPath later enabled.tasks enabled.path) × IsPath later enabled.tasks (enabled.path - 1)
   was_path =
       subst (λ (s : State). (HasStatus s mv.task Enabled → IsPath s enabled.tasks enabled.path) × IsPath s enabled.tasks (enabled.path - 1)) (sym was.is) (
         λ has. path_stays was.p was.lim was.well was.st mv.kind mv.task was.legal stood enabled.tasks enabled.path has was.listing.path,
@@ -128,17 +128,17 @@ module _ (after : State) (mv : Move) (before : ℕ) (enabled : EnabledTasks) (wa
       )
 
   -- a task that is there for the first time has this number
-  one_made : (s : ℕ) → length was.st.tasks ≤ s → s < length after.tasks → s ≡ before
+  one_made : (s : ℕ) → length was.st.tasks ≤ s → s < length later.tasks → s ≡ before
   one_made s past below =
       let many = subst (λ (x : State). length x.tasks ≡ length was.st.tasks + made_by (move_result was.p was.lim was.st mv).1) (sym was.is) alone.tasks in
       omega (arith, past, below, many, made_one (move_result was.p was.lim was.st mv).1, was.count)
 
-  -- the list is that of the state after the move
+  -- the list is that of the state later the move
   pub is_listing : (new : EnabledTasks)
-      → ((s : ℕ) → HasStatus after s Enabled → Contains enabled.tasks s → Contains new.tasks s)
-      → (mv.kind ≡ Admit → HasStatus after mv.task Enabled → Contains new.tasks mv.task)
-      → (HasStatus after before Enabled → Contains new.tasks before)
-      → IsPath after new.tasks new.path → IsListing after new
+      → ((s : ℕ) → HasStatus later s Enabled → Contains enabled.tasks s → Contains new.tasks s)
+      → (mv.kind ≡ Admit → HasStatus later mv.task Enabled → Contains new.tasks mv.task)
+      → (HasStatus later before Enabled → Contains new.tasks before)
+      → IsPath later new.tasks new.path → IsListing later new
   is_listing new kept admitted made path = record {
     all = subst (λ (x : State). (s : ℕ) → HasStatus x s Enabled → Contains new.tasks s) (sym was.is)
         (listed_after was.p was.lim was.well was.st mv.kind mv.task was.legal stood enabled.tasks new.tasks was.listing.all
@@ -146,7 +146,7 @@ module _ (after : State) (mv : Move) (before : ℕ) (enabled : EnabledTasks) (wa
         (subst (λ (x : State). mv.kind ≡ Admit → HasStatus x mv.task Enabled → Contains new.tasks mv.task) was.is admitted)
         (subst (λ (x : State). (s : ℕ) → length was.st.tasks ≤ s → HasStatus x s Enabled → Contains new.tasks s) was.is
         (λ s past has.
-        let one = one_made s past (slice_get_within after.tasks s has.0 has.1) in
-        subst (λ (n : ℕ). Contains new.tasks n) (sym one) (made (subst (λ (n : ℕ). HasStatus after n Enabled) one has)))));
+        let one = one_made s past (slice_get_within later.tasks s has.0 has.1) in
+        subst (λ (n : ℕ). Contains new.tasks n) (sym one) (made (subst (λ (n : ℕ). HasStatus later n Enabled) one has)))));
     path = path;
   }

@@ -1,5 +1,6 @@
 -- A task that was made and not admitted waits for nobody and has no parent, so those alone yield to it that wait for it.
-use Rattle.std.proofs.Common.{◌≡◌, ◌<◌, ℕ, Option, None, Some, length, false, sym, ap, ◌∙◌, subst}
+use Rattle.std.proofs.Common.{◌≡◌, ℕ, zero, suc, Option, None, Some, false, refl, sym, ap, ◌∙◌, subst}
+use Rattle.std.specs.Prelude.{slice_get}
 use Rattle.seg_journal.specs.declared.moves.Kind.{Kind}
 use Rattle.seg_journal.specs.declared.moves.Kind.TheVariants.{Admit, Run}
 use Rattle.twe_limits.specs.Limits.{Bounds}
@@ -10,9 +11,11 @@ use Rattle.wait_graph.specs.Waiting.{SpawnedBy, WaitsForNobody, WaitsOn, YieldsT
 use Rattle.wait_graph.proofs.ChainLemmas.{Chain-stays}
 use Rattle.twe_machine.specs.declared.state.State.{State}
 use Rattle.twe_machine.specs.declared.state.TaskRow.{TaskRow}
-use Rattle.twe_machine.specs.declared.state.TaskStatus.TheVariants.{Made}
+use Rattle.twe_machine.specs.declared.state.TaskStatus.TheVariants.{Made, Enabled}
 use Rattle.twe_machine.specs.Legal.{MayTake}
+use Rattle.twe_machine.specs.Moves.{start_of}
 use Rattle.twe_machine.specs.Rows.{HasStatus, is_done_status, link_of_row}
+use Rattle.twe_machine.proofs.Places.{got_one}
 use Rattle.twe_machine.proofs.Standing.{Stands}
 use Rattle.twe_machine.proofs.TakenJoins.{row_link}
 
@@ -39,3 +42,10 @@ yields_by st s t orphan yields = subst (λ (u : ℕ). WaitsOn st.links s u) (sym
 pub mover_free : (p : Program) (lim : Bounds) (st : State) (kind : Kind) (t : ℕ) → Stands p lim st → MayTake st kind t → WaitsForNobody st.links t
 mover_free p lim st Admit t stands may = free_by st t (made_row p lim st t stands may.0).0
 mover_free p lim st Run t stands may = may.1
+
+-- at the start of a run no task is enabled
+pub none_enabled : (p : Program) (lim : Bounds) (t : ℕ) → ¬ HasStatus (start_of p lim) t Enabled
+none_enabled p lim zero has =
+    let made : has.0.status ≡ Made = ap (λ (r : TaskRow). r.status) (got_one (slice_get (start_of p lim).tasks 0) has.1 refl) in
+    cc (made, has.2)
+none_enabled p lim (suc t) has = cc (has.1)

@@ -29,17 +29,14 @@ pub fn bar(st: &State, t: u32) -> Option<u32>
 
 /// Whether `s` is a bar to the admission of `t`.
 pub(crate) fn is_bar(st: &State, s: u32, t: u32) -> bool
+    requires bar { s < length st.now.tasks }
     requires there { t < length st.now.tasks }
     requires linked { length st.now.links ≡ length st.now.tasks }
     requires filled { EffectsAreFilled st.now }
     ensures bar { IsTrue result ↔ IsBar st.now s t }
     ensures yields { result ≡ false → s ≢ t → HasStatus st.now s Enabled → Interfere st.now s t → YieldsTo st.now.links s t }
 {
-    s < st.links.task_count()
-        && s != t
-        && is_enabled(st, s)
-        && interfere(st, s, t)
-        && !st.links.yields(s, t)
+    s != t && is_enabled(st, s) && interfere(st, s, t) && !st.links.yields(s, t)
 }
 
 /// Whether a task was made and is enabled. It takes no memory.

@@ -1,5 +1,5 @@
 //! The list of the enabled tasks of a run, and how a task comes on it and is taken off it.
-ghost use Rattle.std.specs.Prelude.{◌≡◌, ◌≢◌, ◌<◌, ◌-◌, ◌∷◌, ◌++◌, [], ℕ, length, IfSome, OnOk, Some, slice_get, slice_set};
+ghost use Rattle.std.specs.Prelude.{◌≡◌, ◌≢◌, ◌<◌, ◌-◌, ℕ, length, IfSome, OnOk, Some, slice_get, slice_set};
 ghost use Rattle.std.specs.List.{Contains};
 ghost use Rattle.twe_limits.specs.Limits.{Bounds};
 ghost use Rattle.twe_program.specs.Program.{Program};
@@ -49,8 +49,9 @@ impl EnabledTasks {
 
     /// Adds a task at the end.
     pub(crate) fn push(&mut self, t: u32) -> Result<(), Memory>
-        ensures tasks { OnOk result (self.new.tasks ≡ self.old.tasks ++ t ∷ []) }
-        ensures path { OnOk result (self.new.path ≡ self.old.path) }
+        ensures added { OnOk result (Contains self.new.tasks t) }
+        ensures kept { OnOk result ((s : ℕ) → Contains self.old.tasks s → Contains self.new.tasks s) }
+        ensures path { OnOk result ((st : State) → IsPath st self.old.tasks self.old.path → IsPath st self.new.tasks self.new.path) }
     {
         reach(&mut self.places, t)?;
         self.places.set(t as usize, self.tasks.len());

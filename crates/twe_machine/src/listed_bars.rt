@@ -1,5 +1,5 @@
 //! Bars among the enabled tasks on a list.
-ghost use Rattle.std.specs.Prelude.{◌≡◌, ◌≢◌, ◌≤◌, ◌<◌, ◌↔◌, ℕ, length, IfErr, IfNone, IfSome, IsOk, IsTrue, Some, slice_get};
+ghost use Rattle.std.specs.Prelude.{◌≡◌, ◌≢◌, ◌≤◌, ◌<◌, ◌↔◌, ℕ, false, length, IfErr, IfNone, IfSome, IsOk, IsTrue, Some, slice_get};
 ghost use Rattle.twe_machine.specs.declared.state.TaskStatus.TheVariants.{Made, Enabled};
 ghost use Rattle.twe_machine.specs.Legal.{Forbids, Interfere, IsBar, MayAdmit, MayMove};
 ghost use Rattle.twe_machine.specs.Listings.{IsListing, IsPath};
@@ -27,7 +27,10 @@ impl EnabledTasks {
         ensures none { IfNone result (MayAdmit st.now t) }
     {
         let from = self.known(st, t);
-        bar_from(st, self.tasks.as_slice(), from, t)
+        match bar_from(st, self.tasks.as_slice(), from, t) {
+            Some(s) => Some(s),
+            None => None,
+        }
     }
 
     /// Checks that the move is legal in a reached state of the program, and returns the reason if it is not. It answers as `may`
@@ -38,21 +41,24 @@ impl EnabledTasks {
         ensures legal { IsOk result ↔ MayMove st.now mv }
         ensures why { IfErr result (Forbids st.now mv.kind mv.task) }
     {
-        if self.admits(p, st, mv) {
-            return Ok(());
+        match mv.kind {
+            Kind::Admit if self.admits(p, st, mv.task) => Ok(()),
+            _ => may(p, st, mv),
         }
-        may(p, st, mv)
     }
 
-    /// Whether the move is the legal admission of a task.
-    fn admits(&self, p: &Prog, st: &State, mv: Move) -> bool
+    /// Whether a task may be admitted.
+    fn admits(&self, p: &Prog, st: &State, t: u32) -> bool
         requires reachable { IsReachable p.now st.now }
         requires listing { IsListing st.now self.now }
-        ensures { IsTrue result → MayMove st.now mv }
+        ensures { IsTrue result → MayAdmit st.now t }
     {
         let _main = p.main;
-        match (mv.kind, st.tasks.get(mv.task as usize)) {
-            (Kind::Admit, Some(row)) if row.status == TaskStatus::Made => self.bar(st, mv.task).is_none(),
+        let Some(row) = st.tasks.get(t as usize) else {
+            return false;
+        };
+        match row.status {
+            TaskStatus::Made => self.bar(st, t).is_none(),
             _ => false,
         }
     }
@@ -65,9 +71,11 @@ impl EnabledTasks {
         requires path { IsPath st.now self.now.tasks self.now.path }
         ensures { (i s : ℕ) → i < result → slice_get self.now.tasks i ≡ Some s → WaitsOn st.now.links s t }
     {
-        match self.tasks.get(self.path) {
-            Some(last) if waits_on(st, *last, t) => self.path + 1,
-            _ => 0,
+        let tasks = self.tasks.as_slice();
+        if self.path < tasks.len() && waits_on(st, tasks[self.path], t) {
+            self.path + 1
+        } else {
+            0
         }
     }
 }
@@ -93,9 +101,20 @@ fn bar_from(st: &State, tasks: &[u32], from: usize, t: u32) -> Option<u32>
 {
     for i in from..tasks.len() {
         let s = tasks[i];
-        if is_bar(st, s, t) {
+        if bars(st, s, t) {
             return Some(s);
         }
     }
     None
+}
+
+/// Whether a task of a list is a bar to the admission of `t`.
+fn bars(st: &State, s: u32, t: u32) -> bool
+    requires there { t < length st.now.tasks }
+    requires linked { length st.now.links ≡ length st.now.tasks }
+    requires filled { EffectsAreFilled st.now }
+    ensures bar { IsTrue result → IsBar st.now s t }
+    ensures yields { result ≡ false → s ≢ t → HasStatus st.now s Enabled → Interfere st.now s t → YieldsTo st.now.links s t }
+{
+    s < st.links.task_count() && is_bar(st, s, t)
 }

@@ -38,8 +38,11 @@ impl EnabledTasks {
             return Ok(());
         }
         match mv.kind {
-            Kind::Admit => self.push(mv.task),
             Kind::Run => Ok(()),
+            Kind::Admit => {
+                self.push(mv.task)?;
+                Ok(())
+            }
         }
     }
 
@@ -49,11 +52,11 @@ impl EnabledTasks {
         ensures made { OnOk result (HasStatus st.now made Enabled → Contains self.new.tasks made) }
         ensures path { OnOk result (IsPath st.now self.old.tasks self.old.path → IsPath st.now self.new.tasks self.new.path) }
     {
-        if is_enabled(st, made) {
-            self.push(made)
-        } else {
-            Ok(())
+        if !is_enabled(st, made) {
+            return Ok(());
         }
+        self.push(made)?;
+        Ok(())
     }
 
     /// Extends the path by the task that its last one waits for, as long as there is one on the list.

@@ -69,10 +69,13 @@ pub fn replay_journal(
     ensures replayed { IfOk result (λ run. IsReplay p.now lim moves.now run.0 run.1) }
     ensures illegal { (n : ℕ) (why : Why) → IsErrOf result (Illegal n why) → IsFirstIllegal p.now lim moves.now n why }
 {
+    let st = start(alloc, p, lim)?;
+    let journal = Journal::new(alloc);
+    let enabled = EnabledTasks::new(alloc);
     let mut run = Replaying {
-        journal: Journal::new(alloc),
-        st: start(alloc, p, lim)?,
-        enabled: EnabledTasks::new(alloc),
+        journal,
+        st,
+        enabled,
     };
     for (i, mv) in moves.iter().enumerate() {
         run.take_move(alloc, p, lim, *mv, i as u64 + 1)?;
