@@ -7,6 +7,7 @@ use Rattle.seg_journal.specs.declared.moves.Move.{Move}
 use Rattle.wait_graph.specs.declared.tasks.Link.{Link}
 use Rattle.wait_graph.specs.Link.{link_of, new_link}
 use Rattle.wait_graph.specs.Waiting.{IsDone, WaitsFor}
+use Rattle.twe_machine.specs.declared.enabled_tasks.EnabledTasks.{EnabledTasks}
 use Rattle.twe_machine.specs.declared.state.State.{State}
 use Rattle.twe_machine.specs.declared.state.TaskStatus.TheVariants.{Enabled}
 use Rattle.twe_machine.specs.Rows.{HasStatus}
@@ -33,12 +34,13 @@ undone_or_other st t u s wait =
       | inr ne ↦ inl ne
     ]
 
--- One step and then another: the new task is entered first, and then what the mover has done is noted.
-pub noted_then : (st : State) (mv : Move) (before : ℕ) (b mid after : Books) → length st.links ≡ length st.tasks → length st.tasks ≤ before + 1
-    → Grown b mid → (before < length st.tasks → IsReady mid.ready before)
+-- One step and then another: once the list of the enabled tasks is up to date, the new task is entered, and then what the mover
+-- has done is noted.
+pub noted_then : (st : State) (mv : Move) (before : ℕ) (b mid after : Books) (enabled : EnabledTasks) → length st.links ≡ length st.tasks → length st.tasks ≤ before + 1
+    → Grown (record b { enabled = enabled }) mid → (before < length st.tasks → IsReady mid.ready before)
     → ((u : ℕ) → before < length st.tasks → WaitsFor st.links before u → IsListed mid.waiters u before)
     → Noted st mv (length st.tasks) mid after → Noted st mv before b after
-noted_then st mv before b mid after linked one grown ready waits noted = record {
+noted_then st mv before b mid after enabled linked one grown ready waits noted = record {
   ready = λ x h. noted.ready x (grown.ready x h);
   waiters = λ u x ne h. noted.waiters u x ne (grown.waiters u x h);
   held = λ u x ne h. noted.held u x ne (grown.held u x h);

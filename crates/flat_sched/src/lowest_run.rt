@@ -16,9 +16,7 @@ use crate::noting::note;
 use seg_journal::{Entry, Journal, Limits, Move};
 use std::alloc::Global;
 use twe_io::Memory;
-use twe_machine::{
-    State, each_thing_happens_once, journals_are_short, links_agree, start, step,
-};
+use twe_machine::{State, each_thing_happens_once, journals_are_short, links_agree, start, step};
 use twe_program::Prog;
 
 /// Runs the program under these limits to its end. Returns the journal of the run and the state that it leads to. At
