@@ -1,8 +1,6 @@
 -- The books of a run that has not begun are in step with its first state.
-use Rattle.std.proofs.Common.{◌≡◌, ◌<◌, inl, ℕ, zero, suc, List, [], Some, None, refl, sym, ap, ◌∙◌, subst, arith}
-use Rattle.std.specs.Prelude.{slice_get}
+use Rattle.std.proofs.Common.{inl, ℕ, zero, suc}
 use Rattle.twe_limits.specs.Limits.{Bounds}
-use Rattle.wait_graph.specs.Link.{link_of}
 use Rattle.wait_graph.specs.Waiting.{WaitsFor}
 use Rattle.twe_program.specs.Program.{Program}
 use Rattle.twe_machine.specs.declared.state.TaskStatus.TheVariants.{Made}
@@ -10,8 +8,8 @@ use Rattle.twe_machine.specs.Listings.{IsListing}
 use Rattle.twe_machine.specs.Moves.{start_of}
 use Rattle.twe_machine.specs.Rows.{HasStatus}
 use Rattle.twe_machine.proofs.MadeTasks.{none_enabled}
-use Rattle.flat_sched.specs.inner.Books.{IsHeldBack, Keeps}
-use Rattle.flat_sched.specs.inner.Lists.{IsListed, IsReady}
+use Rattle.flat_sched.specs.inner.Books.{Keeps}
+use Rattle.flat_sched.specs.inner.Lists.{IsReady}
 use Rattle.flat_sched.specs.declared.books.Books.{Books}
 
 module _ (p : Program) (lim : Bounds) where

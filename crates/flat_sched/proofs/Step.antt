@@ -1,5 +1,5 @@
 -- A legal move keeps the books in step with the state.
-use Rattle.std.proofs.Common.{◌≡◌, ◌≢◌, ◌⊎◌, ◌<◌, ◌≤◌, inl, inr, ℕ, List, length, map, Option, Some, None, true, false, refl, sym, ap, ◌∙◌, subst, ⊎_elim, arith}
+use Rattle.std.proofs.Common.{◌≡◌, ◌≢◌, ◌⊎◌, ◌<◌, inl, inr, ℕ, List, length, Some, None, true, refl, sym, ap, ◌∙◌, subst}
 use Rattle.std.specs.Prelude.{slice_get}
 use Rattle.std.proofs.lemmas.Bool.{cases_Bool, cases_eq, cases_lt, false≢true}
 use Rattle.std.proofs.lemmas.Option.{slice_get_within}
@@ -7,9 +7,8 @@ use Rattle.effect_sets.specs.declared.effects.Effect.{Effect}
 use Rattle.effect_sets.specs.declared.effects.Summary.{Summary}
 use Rattle.effect_sets.specs.Interference.{SomeInterfere}
 use Rattle.seg_journal.specs.declared.moves.Kind.{Kind}
-use Rattle.seg_journal.specs.declared.moves.Kind.TheVariants.{Admit, Run}
 use Rattle.twe_limits.specs.Limits.{Bounds}
-use Rattle.wait_graph.specs.Chain.{Chain, none, more}
+use Rattle.wait_graph.specs.Chain.{none, more}
 use Rattle.wait_graph.specs.declared.tasks.Link.{Link}
 use Rattle.wait_graph.specs.Link.{link_of}
 use Rattle.wait_graph.specs.Waiting.{IsDone, WaitsFor, WaitsForNobody, WaitsOn}

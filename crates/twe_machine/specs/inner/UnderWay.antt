@@ -1,5 +1,4 @@
 -- A replay under way.
-use Rattle.std.specs.Prelude.{ℕ}
 use Rattle.twe_limits.specs.Limits.{Bounds}
 use Rattle.twe_program.specs.Program.{Program}
 use Rattle.twe_machine.specs.declared.replaying.Replaying.{Replaying}

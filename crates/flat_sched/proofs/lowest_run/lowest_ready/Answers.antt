@@ -1,4 +1,4 @@
-use Rattle.std.proofs.Common.{◌≡◌, ◌≤◌, List, ℕ, Option, length, ap, sym, subst, arith}
+use Rattle.std.proofs.Common.{◌≡◌, List, ℕ, Option, length, ap, sym, subst, arith}
 use Rattle.std.specs.Prelude.{IfNone, IfSome}
 use Rattle.seg_journal.specs.declared.moves.Kind.{Kind}
 use Rattle.twe_machine.specs.declared.state.TaskStatus.TheVariants.{Made}

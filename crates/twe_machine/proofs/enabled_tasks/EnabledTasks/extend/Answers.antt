@@ -1,4 +1,4 @@
-use Rattle.std.proofs.Common.{◌+◌, ℕ, List, sym, subst}
+use Rattle.std.proofs.Common.{◌+◌, ℕ, sym, subst}
 use Rattle.twe_machine.specs.Listings.{IsPath}
 use Rattle.twe_machine.proofs.ListEdits.{path_extended, swap_keeps}
 use Rattle.twe_machine.proofs.enabled_tasks.EnabledTasks.extend.Goals as goal

@@ -1,4 +1,4 @@
-use Rattle.std.proofs.Common.{◌≡◌, ◌<◌, ℕ, List, get_or, length, subst}
+use Rattle.std.proofs.Common.{◌<◌, ℕ, List, get_or, length, subst}
 use Rattle.std.proofs.lemmas.Option.{slice_get-get_or}
 use Rattle.wait_graph.specs.Waiting.{WaitsOn}
 use Rattle.twe_machine.proofs.ListedBars.{path_leads}

@@ -1,4 +1,4 @@
-use Rattle.std.proofs.Common.{◌+◌, ◌-◌, ◌<◌, ◌≡◌, ℕ, List, length, min, sym, subst, arith}
+use Rattle.std.proofs.Common.{◌-◌, ℕ, List, sym, subst, arith}
 use Rattle.std.specs.List.{Contains}
 use Rattle.std.proofs.lemmas.Option.{slice_get_within}
 use Rattle.twe_machine.proofs.ListEdits.{cut_keeps, path_taken}
