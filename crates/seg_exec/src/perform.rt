@@ -20,6 +20,7 @@ use twe_io::{Ints, Memory};
 use twe_program::{Prog, Stmt, StmtKind};
 
 /// Executes a statement as far as its expressions call no method.
+#[inline(always)]
 fn execute<'a, C: Cells>(
     alloc: Global,
     p: &'a Prog,
@@ -73,6 +74,7 @@ fn execute<'a, C: Cells>(
 }
 
 /// Executes the next statement of a block as far as its expressions call no method.
+#[inline(always)]
 fn begin_statement<'a, C: Cells>(
     alloc: Global,
     p: &'a Prog,
@@ -99,6 +101,7 @@ fn begin_statement<'a, C: Cells>(
 }
 
 /// Executes the statements of a block from the one at `at` on: assignments at once, up to the first other statement.
+#[inline(always)]
 fn go_on<'a, C: Cells>(
     alloc: Global,
     p: &'a Prog,
