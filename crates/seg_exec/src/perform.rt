@@ -132,6 +132,7 @@ fn go_on<'a, C: Cells>(
 }
 
 /// Does what a continuation frame is for, in one step or in several. Returns the ending if the last of them is the end.
+#[inline(always)]
 pub(crate) fn perform<'a, C: Cells>(
     alloc: Global,
     p: &'a Prog,

@@ -166,8 +166,9 @@ fn operand<'a, C: Cells>(
     }
 }
 
-/// Begins to evaluate an expression, and the left operand if it is an operator.
-#[inline(always)]
+/// Begins to evaluate an expression, and the left operand if it is an operator. It stands apart, so that what is inlined
+/// for an expression that calls no method stays small.
+#[inline(never)]
 fn begin<'a, C: Cells>(
     alloc: Global,
     p: &'a Prog,
@@ -225,6 +226,7 @@ pub(crate) fn evaluate<'a, C: Cells>(
 }
 
 /// Evaluates an expression and uses its value for `then`. If the expression calls a method, it makes only the first step.
+#[inline(always)]
 pub(crate) fn evaluate_then<'a, C: Cells>(
     alloc: Global,
     p: &'a Prog,
