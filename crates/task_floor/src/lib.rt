@@ -1,15 +1,27 @@
 //! The floor on which workers run segments at the same time: calls on one table of atomic words and slots, each with one
-//! atomic step. No call blocks, and none takes memory but the one that opens a floor.
+//! atomic step or a few. No call blocks. Only opening a floor, making room in a log and carrying out a segment take memory.
 #![tactic(auto)]
 
 mod cells;
 mod closing;
+mod entries;
+mod entry_log;
 mod floor;
+mod laws;
+mod leaving;
 mod opening;
 mod phases;
+mod resuming;
+mod segments;
+mod settling;
 mod stands;
 mod turns;
 mod words;
 
+pub use entries::Committed;
+pub use entry_log::EntryLog;
 pub use floor::{Floor, Stand};
+pub use laws::an_end_says_the_status;
+pub use resuming::Readiness;
+pub use segments::Seg;
 pub use turns::Busy;
