@@ -1,6 +1,5 @@
 -- A segment that is carried out over a stand: it may make its accesses, and after it its entry may be drawn.
-use Rattle.std.proofs.Common.{◌≡◌, ◌<◌, ℕ, zero, suc, ℤ, pos, List, [], ◌∷◌, length, replicate, Contains, Option, None, Some, refl, sym, ap, subst, ◌∙◌, inl, inr, arith}
-use Rattle.std.specs.Prelude.{slice_index_or}
+use Rattle.std.proofs.Common.{◌≡◌, ◌<◌, ℕ, suc, ℤ, pos, List, [], ◌∷◌, length, replicate, Contains, Option, None, Some, refl, sym, ap, subst, ◌∙◌, inl, inr, arith}
 use Rattle.std.proofs.lemmas.List.{length-replicate}
 use Rattle.twe_program.specs.Program.{Program, cell_count}
 use Rattle.twe_program.specs.WellFormed.{IsWellFormed}
@@ -18,9 +17,8 @@ use Rattle.floor_rule.specs.declared.view.Touch.TheVariants.{Read, Write}
 use Rattle.floor_rule.specs.Fitting.{MayRunFrom}
 use Rattle.floor_rule.specs.Touches.{IsAmong, access_by, accesses_of, cell_accesses, touches_of}
 use Rattle.floor_rule.proofs.Puts.{none_some, some_one}
-use Rattle.floor_table.specs.declared.view.View.{View}
 use Rattle.floor_table.specs.FloorOf.{turn_in}
-use Rattle.floor_table.specs.Tells.{MayDraw, Seat}
+use Rattle.floor_table.specs.Tells.{Seat}
 use Rattle.task_floor.specs.Segments.{HasRun, HasTouched, MayRun, StandFollows, StandValue, latest_task}
 use Rattle.task_floor.specs.Stands.{MayAccess}
 use Rattle.task_floor.proofs.Touching.{latest_is, stand_ways}

@@ -1,5 +1,5 @@
 -- What a stand knows after it has looked at a task.
-use Rattle.std.proofs.Common.{◌≡◌, ◌≢◌, ◌<◌, ◌==◌, ◌⊎◌, ℕ, ℤ, pos, Bool, true, false, List, [], ◌∷◌, Option, None, Some, if◌then◌else◌, refl, sym, ap, subst, ◌∙◌, inl, inr, ⊎_elim, eq-eqb, ne_eqb}
+use Rattle.std.proofs.Common.{◌≡◌, ◌≢◌, ℕ, ℤ, pos, Bool, List, ◌∷◌, Option, None, Some, if◌then◌else◌, refl, sym, ap, subst, ◌∙◌, inl, inr, ⊎_elim, eq-eqb, ne_eqb}
 use Rattle.std.proofs.lemmas.Bool.{cases_eq}
 use Rattle.twe_limits.specs.Limits.{Bounds}
 use Rattle.seg_exec.specs.declared.frame.Frame.{Frame}
@@ -12,23 +12,22 @@ use Rattle.twe_machine.specs.declared.state.TaskStatus.TheVariants as status
 use Rattle.twe_machine.specs.Rows.{awaited}
 use Rattle.floor_rule.specs.declared.view.DoneFact.{DoneFact}
 use Rattle.floor_rule.specs.declared.view.HeldTurn.{HeldTurn}
-use Rattle.floor_rule.specs.declared.view.OpenSegment.{OpenSegment}
 use Rattle.floor_rule.specs.declared.view.Phase.{Phase}
 use Rattle.floor_rule.specs.declared.view.Phase.TheVariants as phases
 use Rattle.floor_rule.specs.declared.view.TaskSlot.{TaskSlot}
 use Rattle.floor_rule.specs.Fitting.{KnowsAwaited}
-use Rattle.floor_rule.specs.Rows.{phase_at, phase_of, slot_of}
+use Rattle.floor_rule.specs.Rows.{phase_at, phase_of}
 use Rattle.floor_rule.specs.Steps.{with_row}
 use Rattle.floor_rule.specs.Touches.{IsAmong}
 use Rattle.floor_rule.proofs.Puts.{none_some}
 use Rattle.floor_table.specs.declared.view.View.{View}
 use Rattle.floor_table.specs.FloorOf.{turn_in}
 use Rattle.floor_table.specs.Layout.{phase_of_word, word_of_phase}
-use Rattle.floor_table.specs.Tells.{FoundDone, FoundPhase, GaveTurn, IsLatest, MayStore, Seat, StoredPhase, with_turn}
+use Rattle.floor_table.specs.Tells.{FoundDone, FoundPhase, GaveTurn, MayStore, Seat, StoredPhase, with_turn}
 use Rattle.floor_table.proofs.Steps.{phase_again}
 use Rattle.task_floor.specs.Resuming.{HasInHand, KnowsMore, KnowsValue, MovesOn}
 use Rattle.task_floor.specs.Segments.{MayRun}
-use Rattle.task_floor.specs.Stands.{HasTaken, MayGiveBack, WasBusy}
+use Rattle.task_floor.specs.Stands.{HasTaken, MayGiveBack}
 
 -- Phases of rows.
 

@@ -1,5 +1,5 @@
 -- How a task that a stand has in hand goes on.
-use Rattle.std.specs.Prelude.{◌≡◌, ◌≢◌, ◌⊎◌, ℕ, ℤ, false, Option, None, Some}
+use Rattle.std.specs.Prelude.{◌≡◌, ◌≢◌, ◌⊎◌, ℕ, ℤ, false, None, Some}
 use Rattle.seg_exec.specs.declared.frame.Frame.{Frame}
 use Rattle.floor_rule.specs.declared.view.DoneFact.{DoneFact}
 use Rattle.floor_rule.specs.declared.view.HeldTurn.{HeldTurn}

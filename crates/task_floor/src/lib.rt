@@ -1,5 +1,5 @@
 //! The floor on which workers run segments at the same time: calls on one table of atomic words and slots, each with one
-//! atomic step or a few. No call blocks. Only opening a floor and making room in a log take memory.
+//! atomic step or a few. No call blocks. Only opening a floor, making room in a log and carrying out a segment take memory.
 #![tactic(auto)]
 
 mod cells;

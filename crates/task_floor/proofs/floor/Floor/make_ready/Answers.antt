@@ -1,4 +1,4 @@
-use Rattle.std.proofs.Common.{◌≡◌, ◌∙◌}
+use Rattle.std.proofs.Common.{◌∙◌}
 use Rattle.floor_table.specs.Layout.{word_of_phase}
 use Rattle.task_floor.proofs.InHand.{found_more, found_phase, in_hand_more, may_run}
 use Rattle.task_floor.proofs.floor.Floor.make_ready.Goals as goal

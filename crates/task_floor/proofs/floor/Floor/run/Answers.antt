@@ -1,9 +1,8 @@
-use Rattle.std.proofs.Common.{◌≡◌, ℕ, ℤ, List, sym, subst, ◌∙◌}
+use Rattle.std.proofs.Common.{◌≡◌, sym, subst}
 use Rattle.twe_program.specs.Program.{Program}
 use Rattle.twe_program.specs.WellFormed.{IsWellFormed}
 use Rattle.seg_exec.specs.Segment.{CarriesOut, MayCarryOut}
-use Rattle.floor_rule.specs.declared.view.HeldTurn.{HeldTurn}
-use Rattle.task_floor.specs.Segments.{HasRun, MayRun, StandFollows, StandValue}
+use Rattle.task_floor.specs.Segments.{HasRun, StandFollows, StandValue}
 use Rattle.task_floor.proofs.Carrying.{has_run, may_carry, still_there}
 use Rattle.task_floor.proofs.Touching.{stand_ways}
 use Rattle.task_floor.proofs.floor.Floor.run.Goals as goal

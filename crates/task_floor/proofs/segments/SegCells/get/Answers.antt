@@ -2,7 +2,7 @@ use Rattle.std.proofs.Common.{◌≡◌, ℤ, sym, subst, ◌∙◌, w32, to_z, 
 use Rattle.std.proofs.lemmas.Int.{to_z-of_z}
 use Rattle.seg_exec.specs.Access.{HasRead}
 use Rattle.floor_rule.specs.declared.view.Touch.TheVariants.{Read}
-use Rattle.task_floor.specs.Segments.{HasTouched, MayReadCell, StandValue}
+use Rattle.task_floor.specs.Segments.{MayReadCell, StandValue}
 use Rattle.task_floor.proofs.Touching.{has_read, loaded_touch, stand_ways, touch_kind}
 use Rattle.task_floor.proofs.segments.SegCells.get.Goals as goal
 

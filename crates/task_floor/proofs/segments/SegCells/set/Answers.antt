@@ -3,7 +3,7 @@ use Rattle.std.proofs.lemmas.Int.{to_z-of_z}
 use Rattle.seg_exec.specs.Access.{HasWritten}
 use Rattle.floor_rule.specs.declared.view.Touch.TheVariants.{Write}
 use Rattle.floor_table.specs.Tells.{IsLatest, WroteCell}
-use Rattle.task_floor.specs.Segments.{HasTouched, MayWriteCell, StandValue}
+use Rattle.task_floor.specs.Segments.{MayWriteCell, StandValue}
 use Rattle.task_floor.proofs.Touching.{has_written, may_write_value, stand_ways, stored_touch, touch_kind}
 use Rattle.task_floor.proofs.segments.SegCells.set.Goals as goal
 
