@@ -14,22 +14,20 @@ use Rattle.journal_merge.specs.declared.numbered.NumberedEntry.{NumberedEntry}
 use Rattle.floor_rule.specs.declared.view.HeldTurn.{HeldTurn}
 use Rattle.floor_rule.specs.declared.view.Phase.TheVariants as phases
 use Rattle.floor_rule.specs.declared.view.TaskSlot.{TaskSlot}
-use Rattle.floor_rule.specs.Rows.{phase_of, slot_of}
+use Rattle.floor_rule.specs.Rows.{phase_of}
 use Rattle.floor_rule.specs.Steps.{first_turn, row_after}
 use Rattle.floor_rule.specs.Touches.{IsAmong}
 use Rattle.floor_rule.proofs.Puts.{none_some, put_all, put_else, put_here, put_was}
 use Rattle.floor_table.specs.declared.view.TurnChange.{TurnChange}
-use Rattle.floor_table.specs.declared.view.SeatKind.{SeatKind}
 use Rattle.floor_table.specs.declared.view.SeatKind.TheVariants.{Spent}
 use Rattle.floor_table.specs.declared.view.View.{View}
 use Rattle.floor_table.specs.FloorOf.{turn_in}
-use Rattle.floor_table.specs.Layout.{asked_of_clock}
-use Rattle.floor_table.specs.Tells.{GaveTurn, Seat, drawn_view, entry_at, with_turn}
-use Rattle.task_floor.specs.Stands.{HasTaken, MayGiveBack}
+use Rattle.floor_table.specs.Layout.{asked_of_clock, phase_of_word}
+use Rattle.floor_table.specs.Tells.{FoundDone, FoundPhase, GaveTurn, Seat, drawn_view, entry_at}
+use Rattle.task_floor.specs.Stands.{MayGiveBack}
 use Rattle.task_floor.specs.Leaving.{HasLeft}
-use Rattle.task_floor.specs.Committing.{HasCommitted, Log, MayCommitEntry, child_row, with_brought, with_entry}
-use Rattle.task_floor.specs.Segments.{HasRun, MayRun}
-use Rattle.task_floor.specs.Resuming.{HasInHand, MovesOn}
+use Rattle.task_floor.specs.Committing.{HasCommitted, Log, MayCommitEntry, child_row, with_brought}
+use Rattle.task_floor.specs.Segments.{HasRun}
 use Rattle.task_floor.specs.Working.{HasRunOne, IsIdle, SameSeat}
 use Rattle.task_floor.specs.inner.Holding.{HoldsDrawn, HoldsOne, HoldsReady, HoldsTask}
 
@@ -42,7 +40,6 @@ same_seats a b c first second = record {
   split = second.split ∙ first.split;
   out = second.out ∙ first.out;
 }
-
 
 -- a seat of the same kind is live, and of the same worker
 pub live_still : (a b : View) → SameSeat a b → a.kind ≢ Spent → b.kind ≢ Spent
@@ -59,73 +56,6 @@ among_turns (change ∷ changes) t turn has =
     ⊎_elim (λ (here : (t ≡ change.task) × (change.turn ≡ Some turn)). inl (λ k. record { task = here.0 k; turn = sym here.1 k }))
     (λ (there : (t ≢ change.task) × (turn_in changes t ≡ Some turn)). inr (among_turns changes t turn there.1))
     (put_was (turn_in changes) change.task t change.turn (Some turn) has)
-
--- Taking a turn.
-pub holds_taken : (number : ℕ) (before after : Seat) (log : Log) (t : ℕ) (slot : TaskSlot) → IsIdle number before log → (taken : HasTaken before after t slot) → HoldsTask number after log t slot taken.turn
-holds_taken number before after log t slot idle taken =
-    subst (λ (m : Seat). HoldsTask number m log t slot taken.turn) (sym taken.seat) (record {
-      one = record {
-        live = idle.live;
-        number_is = idle.number_is;
-        others = λ u other. put_else (turn_in before.0.turns) t u (Some taken.turn) other ∙ idle.given.turns u;
-        out = ap (λ (l : List (ℕ × Option TaskSlot)). (t, None) ∷ l) idle.out;
-        entries = idle.entries;
-      };
-      in_hand = record {
-        has = put_here (turn_in before.0.turns) t (Some taken.turn);
-        taken = taken.taken;
-        phase = taken.phase;
-        frame_is = ap (λ (s : TaskSlot). s.frame) taken.is;
-        latest = record { slot = None; rest = before.1; is = refl };
-        closed = idle.given.segment;
-      };
-      slot_is = taken.is;
-    })
-
-pub taken_seat : (before after : Seat) (t : ℕ) (slot : TaskSlot) → HasTaken before after t slot → SameSeat before.0 after.0
-taken_seat before after t slot taken = subst (λ (m : Seat). SameSeat before.0 m.0) (sym taken.seat) (record { worker = refl; kind = refl; split = refl; out = refl })
-
-pub taken_part : (before after : Seat) (t : ℕ) (slot : TaskSlot) → HasTaken before after t slot → after.0.part ≡ before.0.part
-taken_part before after t slot taken = ap (λ (m : Seat). m.0.part) taken.seat
-
--- Looking whether it can go on.
-pub moved_seat : (me after : Seat) (t : ℕ) → MovesOn me after t → SameSeat me.0 after.0
-moved_seat me after t moves = record {
-  worker = ap (λ (m : Seat). m.0.worker) moves.rest;
-  kind = ap (λ (m : Seat). m.0.kind) moves.rest;
-  split = ap (λ (m : Seat). m.0.split) moves.rest;
-  out = ap (λ (m : Seat). m.0.out) moves.rest;
-}
-
-pub moved_part : (me after : Seat) (t : ℕ) → MovesOn me after t → after.0.part ≡ me.0.part
-moved_part me after t moves = ap (λ (m : Seat). m.0.part) moves.rest
-
-one_moved : (number : ℕ) (me after : Seat) (log : Log) (t : ℕ) → HoldsOne number me log t → MovesOn me after t → HoldsOne number after log t
-one_moved number me after log t one moves =
-    let same = moved_seat me after t moves in
-    record {
-      live = live_still me.0 after.0 same one.live;
-      number_is = one.number_is ∙ sym same.worker;
-      others = λ u other. moves.others u other ∙ one.others u other;
-      out = ap (λ (m : Seat). m.1) moves.rest ∙ one.out;
-      entries = one.entries ∙ sym (moved_part me after t moves);
-    }
-
-pub holds_ready : (number : ℕ) (me after : Seat) (log : Log) (t : ℕ) (slot : TaskSlot) (turn : HeldTurn) (frame : Frame) → HoldsTask number me log t slot turn → MovesOn me after t
-    → MayRun after t (record turn { phase = phases.Running }) frame → HoldsReady number after log t (record slot { frame = frame }) (record turn { phase = phases.Running })
-holds_ready number me after log t slot turn frame holds moves may = record {
-  one = one_moved number me after log t holds.one moves;
-  may = may;
-  slot_is = ap (λ (s : TaskSlot). record s { frame = frame }) holds.slot_is;
-}
-
-pub holds_still : (number : ℕ) (me after : Seat) (log : Log) (t : ℕ) (slot : TaskSlot) (turn : HeldTurn) (frame : Frame) → HoldsTask number me log t slot turn → MovesOn me after t → HasInHand after t turn frame
-    → HoldsTask number after log t (record slot { frame = frame }) turn
-holds_still number me after log t slot turn frame holds moves in_hand = record {
-  one = one_moved number me after log t holds.one moves;
-  in_hand = in_hand;
-  slot_is = ap (λ (s : TaskSlot). record s { frame = frame }) holds.slot_is ∙ ap (λ (f : Frame). record (slot_of turn.row) { frame = f }) in_hand.frame_is;
-}
 
 -- Giving the turn back.
 pub may_give_held : (number : ℕ) (me : Seat) (log : Log) (t : ℕ) (slot : TaskSlot) (turn : HeldTurn) → HoldsTask number me log t slot turn → MayGiveBack me t slot turn []
@@ -256,7 +186,7 @@ module _ (lim : Bounds) (number : ℕ) (me after : Seat) (old new : Log) (t : �
         live = live_still me.0 after.0 drawn_seat one.live;
         number_is = one.number_is ∙ sym drawn_seat.worker;
         others = λ u other.
-        ap (λ (v : View). turn_in v.turns u) view_is ∙ brought_none drawn c row u (put_else (turn_in me.0.turns) t u (Some now) other ∙ one.others u other);
+            ap (λ (v : View). turn_in v.turns u) view_is ∙ brought_none drawn c row u (put_else (turn_in me.0.turns) t u (Some now) other ∙ one.others u other);
         out = ap (λ (m : Seat). m.1) drew.seat ∙ one.out;
         entries = ap (λ (l : Log). l.entries) drew.log ∙ ap (λ (es : List NumberedEntry). es ++ entry_at lim drew.clock t frame stop ∷ []) one.entries ∙ sym drawn_part;
       };

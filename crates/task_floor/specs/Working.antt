@@ -1,5 +1,5 @@
 -- A worker between two tasks, and what it does with one.
-use Rattle.std.specs.Prelude.{◌≡◌, ◌≢◌, ◌⊎◌, ◌++◌, ℕ, List, [], ◌∷◌, Some}
+use Rattle.std.specs.Prelude.{◌≡◌, ◌≢◌, ◌⊎◌, ◌++◌, ℕ, [], ◌∷◌, Some}
 use Rattle.seg_journal.specs.declared.journal.End.{End}
 use Rattle.seg_journal.specs.declared.moves.Kind.TheVariants.{Run}
 use Rattle.journal_merge.specs.declared.numbered.NumberedEntry.{NumberedEntry}

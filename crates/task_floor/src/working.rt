@@ -4,6 +4,8 @@ ghost use Rattle.floor_rule.specs.declared.view.HeldTurn.{HeldTurn};
 ghost use Rattle.floor_rule.specs.declared.view.TaskSlot.{TaskSlot};
 ghost use Rattle.floor_rule.specs.Touches.{IsAmong};
 ghost use Rattle.floor_table.specs.declared.view.SeatKind.TheVariants.{Spent};
+ghost use Rattle.floor_table.specs.Layout.{word_of_phase};
+ghost use Rattle.floor_table.specs.Tells.{FoundPhase};
 ghost use Rattle.task_floor.specs.Committing.{status_after};
 ghost use Rattle.task_floor.specs.Leaving.{HasLeft, MayLeave};
 ghost use Rattle.task_floor.specs.Working.{HasServed, IsIdle, SameStand};
@@ -117,6 +119,17 @@ impl<N: Named> Floor<N> {
                 ))
             }
         }
+    }
+
+    /// What the phase word of a task says, of which the worker has no turn. If the task is done, the worker knows its value from
+    /// then on.
+    pub fn glance(&self, worker: &mut FloorWorker, task: u32) -> Phase
+        requires here { worker.old.table_id ≡ self.now }
+        requires task { task < N.lim.tasks }
+        ensures found { FoundPhase N.lim worker.old.me task (word_of_phase result) worker.new.me }
+        ensures same { SameStand worker.old worker.new }
+    {
+        self.status(&mut worker.stand, task)
     }
 
     /// The same of a task whose turn was taken.
