@@ -8,3 +8,5 @@ pub mod InHand
 pub mod LeavingTurns
 pub mod Bringing
 pub mod CommittedEntries
+-- A worker that serves a task.
+pub mod ServedTasks
