@@ -1,2 +1,9 @@
 -- What a call on the floor knows of the seat after its atomic steps.
 pub mod Taking
+-- The start from a state: its entries, and the words and slots that show it.
+pub mod Logs
+pub mod Laid
+-- The end: what was read from the words and slots, and the journal.
+pub mod Taken
+pub mod Readings
+pub mod Rested

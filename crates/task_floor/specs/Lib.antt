@@ -1,2 +1,5 @@
 pub mod Stands
 pub mod Opening
+pub mod Waking
+pub mod Resting
+pub mod inner

@@ -4,12 +4,23 @@
 
 mod cells;
 mod closing;
+mod emptying;
 mod floor;
+mod laying;
+mod linking;
+mod numbering;
 mod opening;
 mod phases;
+mod reading;
+mod rest;
+mod resting;
+mod row_phase;
 mod stands;
 mod turns;
+mod unjoined;
+mod waking;
 mod words;
 
 pub use floor::{Floor, Stand};
+pub use rest::Rest;
 pub use turns::Busy;

@@ -1,0 +1,34 @@
+-- The rows that words and slots show.
+use Rattle.std.specs.Prelude.{◌+◌, ◌*◌, ℕ, zero, suc, Bool, List, [], ◌∷◌, Option, None, Some, map}
+use lib.ListN.{get_elem?}
+use Rattle.wait_graph.specs.declared.tasks.Link.{Link}
+use Rattle.wait_graph.specs.Link.{new_link}
+use Rattle.twe_machine.specs.declared.state.TaskRow.{TaskRow}
+use Rattle.twe_machine.specs.Rows.{link_of_row}
+use Rattle.floor_rule.specs.declared.view.TaskSlot.{TaskSlot}
+use Rattle.floor_rule.specs.Shown.{is_joined, row_by}
+use Rattle.floor_table.specs.Layout.{phase_word_at}
+
+-- what lies in those slots that are not empty
+abbrev pub held_in : List (Option TaskSlot) → List TaskSlot
+held_in [] = []
+held_in (None ∷ slots) = held_in slots
+held_in (Some slot ∷ slots) = slot ∷ held_in slots
+
+-- The rows of the tasks with these slots, numbered from t on. The words of task 0 lie from the place `first` on, and `all` are
+-- the slots of all tasks.
+abbrev pub rows_from : List ℕ → ℕ → List TaskSlot → ℕ → List (Option TaskSlot) → List TaskRow
+rows_from words first all t [] = []
+rows_from words first all t (None ∷ slots) = rows_from words first all (t + 1) slots
+rows_from words first all t (Some slot ∷ slots) =
+    row_by slot (phase_word_at (get_elem? words (first + 2 * t + 1))) (is_joined t slot.parent all) ∷ rows_from words first all (t + 1) slots
+
+-- the links of a task before its waits and marks are set
+abbrev pub fresh_link : TaskRow → Link
+fresh_link row = new_link row.parent
+
+-- the links once those of the first n tasks are set
+abbrev pub links_to : ℕ → List TaskRow → List Link
+links_to zero rows = map fresh_link rows
+links_to (suc n) [] = []
+links_to (suc n) (row ∷ rows) = link_of_row row ∷ links_to n rows
