@@ -1,5 +1,5 @@
 -- The words and slots that are laid out for a state show it.
-use Rattle.std.proofs.Common.{◌≡◌, ◌+◌, ◌-◌, ◌*◌, ◌++◌, ◌<◌, ◌≤◌, ℕ, zero, suc, ℤ, List, [], ◌∷◌, length, map, drop, take, replicate, Option, None, Some, refl, sym, ap, subst, ◌∙◌, arith, length-append}
+use Rattle.std.proofs.Common.{◌≡◌, ◌+◌, ◌-◌, ◌*◌, ◌++◌, ◌<◌, ◌≤◌, ℕ, zero, suc, ℤ, List, [], ◌∷◌, length, map, drop, replicate, Option, None, refl, sym, ap, subst, ◌∙◌, arith, length-append, append_assoc}
 use Rattle.std.specs.Prelude.{◌^◌, slice_get, slice_set}
 use mathlib.Core.Option as core
 use lib.ListN.{get_elem?}
@@ -9,7 +9,6 @@ use Rattle.twe_machine.specs.declared.state.State.{State}
 use Rattle.twe_machine.specs.declared.state.TaskRow.{TaskRow}
 use Rattle.journal_merge.specs.declared.numbered.NumberedEntry.{NumberedEntry}
 use Rattle.floor_rule.specs.declared.view.TaskSlot.{TaskSlot}
-use Rattle.floor_rule.specs.Rows.{phase_of}
 use Rattle.floor_rule.specs.Steps.{phase_at_start}
 use Rattle.floor_rule.specs.Touches.{cell_at}
 use Rattle.floor_table.specs.Holds.{IsLaidOut, IsWordOf, slot_of_row, turn_word_of}
@@ -85,6 +84,15 @@ phase_at (row ∷ rows) n zero (suc zero) is below = refl
 phase_at (row ∷ rows) n (suc t) (suc zero) is below = absurd (omega (arith, is))
 phase_at (row ∷ rows) n zero (suc (suc i)) is below = absurd (omega (arith, is))
 phase_at (row ∷ rows) n (suc t) (suc (suc i)) is below = phase_at rows n t i (omega (arith, is)) (omega (arith, below))
+
+-- one more task that is not made
+pub unmade_more : (old mid new target : List ℕ) (count i : ℕ) → i < count → mid ≡ old ++ 1 ∷ [] → new ≡ mid ++ 0 ∷ [] → old ++ unmade_words (count - i) ≡ target
+    → new ++ unmade_words (count - (i + 1)) ≡ target
+unmade_more old mid new target count i below mid_is new_is is =
+    let behind : List ℕ = unmade_words (count - (i + 1)) in
+    let next : count - i ≡ suc (count - (i + 1)) = omega (arith, below) in
+    ap (λ (l : List ℕ). l ++ behind) (new_is ∙ ap (λ (l : List ℕ). l ++ 0 ∷ []) mid_is)
+    ∙ (append_assoc (old ++ 1 ∷ []) (0 ∷ []) behind ∙ (append_assoc old (1 ∷ []) (0 ∷ behind) ∙ (ap (λ (n : ℕ). old ++ unmade_words n) (sym next) ∙ is)))
 
 -- Slots.
 

@@ -4,7 +4,6 @@ use Rattle.std.proofs.lemmas.List.{append-nil}
 use Rattle.seg_journal.specs.declared.journal.Entry.{Entry}
 use Rattle.twe_limits.specs.Limits.{Bounds}
 use Rattle.twe_program.specs.Program.{Program}
-use Rattle.twe_machine.specs.declared.state.State.{State}
 use Rattle.twe_machine.specs.Runs.{Legal, state_after}
 use Rattle.journal_merge.specs.declared.numbered.NumberedEntry.{NumberedEntry}
 use Rattle.journal_merge.specs.Merging.{AreNumbered, IsMergeOf, all_of, journal_of, prints_of}
@@ -19,7 +18,7 @@ pub record ShowsJournal (p : Program) (lim : Bounds) (words : List ℕ) (slots :
   pub legal : Legal p lim journal
   pub shows : ShowsEnd p (state_after p lim journal) words slots
   pub rest : ShowsRest p lim (state_after p lim journal) words slots
-  pub prints : prints ≡ (state_after p lim journal).prints
+  pub printed : prints ≡ (state_after p lim journal).prints
 
 module _ (p : Program) (lim : Bounds) (v : View) (words : List ℕ) (slots : List (Option TaskSlot)) (quiet : EndedQuiet p lim v words slots) (parts : List (List NumberedEntry))
     (whole : all_of parts ≡ v.part) where
@@ -39,5 +38,5 @@ module _ (p : Program) (lim : Bounds) (v : View) (words : List ℕ) (slots : Lis
         legal = own.legal;
         shows = own.shows;
         rest = quiet.rest;
-        prints = prints_are ∙ (ap prints_of one ∙ sym own.prints);
+        printed = prints_are ∙ (ap prints_of one ∙ sym own.prints);
       })

@@ -2,7 +2,7 @@
 ghost use Rattle.std.specs.Prelude.{◌≡◌, ◌<◌, length, map, slice_set, IfOk, if◌then◌else◌};
 ghost use Rattle.std.specs.Option.{ForSome};
 ghost use Rattle.wait_graph.specs.Link.{IsOrdered, link_of, new_link, with_done, with_joined};
-ghost use Rattle.twe_machine.specs.Rows.{awaited, link_of_row};
+ghost use Rattle.twe_machine.specs.Rows.{awaited, is_done_status, link_of_row};
 ghost use Rattle.task_floor.specs.inner.Reading.{links_to};
 
 use crate::row_phase::awaited;
@@ -45,7 +45,19 @@ fn set_link(links: &mut Links, t: u32, row: &TaskRow)
 {
     links.set_wait(t, awaited(row.frame.next));
     mark_joined(links, t, row.joined);
-    mark_done(links, t, row.status == TaskStatus::Done);
+    mark_done(links, t, is_done(row.status));
+}
+
+/// Whether a task with this status is done.
+fn is_done(status: TaskStatus) -> bool
+    ensures { result ≡ is_done_status status }
+{
+    match status {
+        TaskStatus::Done => true,
+        TaskStatus::Made => false,
+        TaskStatus::Enabled => false,
+        TaskStatus::Faulted => false,
+    }
 }
 
 /// Marks a task as joined, if it is.

@@ -12,10 +12,14 @@ pub(crate) fn log_of(alloc: Global, journal: &[Entry], prints: Ints) -> Result<P
     ensures { IfOk result (λ log. log ≡ log_of journal.now prints) }
 {
     let mut log = numbered(alloc, journal)?;
-    if let Some(mut last) = log.pop() {
-        last.prints = prints;
-        log.push(last)?;
-    }
+    let Some(last) = log.pop() else {
+        return Ok(log);
+    };
+    log.push(NumberedEntry {
+        number: last.number,
+        entry: last.entry,
+        prints,
+    })?;
     Ok(log)
 }
 

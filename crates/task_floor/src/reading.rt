@@ -1,11 +1,11 @@
 //! The parts of a state that words and slots show.
-ghost use Rattle.std.specs.Prelude.{◌≡◌, ◌<◌, ◌≤◌, ◌+◌, ◌*◌, ◌^◌, ℕ, ℤ, false, length, slice_index_or, Some, slice_get, IfOk};
+ghost use Rattle.std.specs.Prelude.{◌≡◌, ◌<◌, ◌≤◌, ◌+◌, ◌*◌, ◌^◌, ℕ, ℤ, false, length, slice_index_or, Some, slice_get, ◌++◌, IfOk, OnOk};
 ghost use lib.ListN.{get_elem?};
 ghost use Rattle.twe_machine.specs.declared.state.TaskRow.{TaskRow};
 ghost use Rattle.seg_journal.specs.declared.journal.Entry.{Entry};
 ghost use Rattle.floor_rule.specs.Shown.{first_fault_in, row_by, status_by, value_by};
 ghost use Rattle.floor_table.specs.Layout.{cells_from, number_at, phase_of_word};
-ghost use Rattle.task_floor.specs.inner.Reading.{held_in, rows_from};
+ghost use Rattle.task_floor.specs.inner.Reading.{held_in, joined_unless, row_in, rows_from};
 
 use crate::unjoined::unjoined;
 use crate::words::value_of;
@@ -42,12 +42,42 @@ pub(crate) fn rows_of(
     let mut slots = slots;
     let mut rows = List::new(alloc);
     for t in 0..slots.len() {
-        if let Some(slot) = slots.item_mut(t).take() {
-            let joined = slot.parent.is_some() && !marks.as_slice()[t];
-            rows.push(row_of(alloc, slot, words[first + 2 * t + 1], joined)?)?;
-        }
+        let slot = slots.item_mut(t).take();
+        let word = words[first + 2 * t + 1];
+        add_row(alloc, &mut rows, slot, word, marks.as_slice()[t])?;
     }
     Ok(rows)
+}
+
+/// Adds the row of a task with this slot and this phase word, if the slot is not empty. Some task has it as an unjoined child,
+/// or none.
+fn add_row(
+    alloc: Global,
+    rows: &mut List<TaskRow>,
+    slot: Option<TaskSlot>,
+    word: u64,
+    unjoined: bool,
+) -> Result<(), Memory>
+    ensures { OnOk result (rows.new ≡ rows.old ++ row_in slot (phase_of_word word) unjoined) }
+{
+    match slot {
+        None => Ok(()),
+        Some(slot) => {
+            let joined = is_joined(slot.parent, unjoined);
+            let row = row_of(alloc, slot, word, joined)?;
+            rows.push(row)
+        }
+    }
+}
+
+/// Whether a task with this parent was joined.
+fn is_joined(parent: Option<u32>, unjoined: bool) -> bool
+    ensures { result ≡ joined_unless parent unjoined }
+{
+    match parent {
+        None => false,
+        Some(_) => !unjoined,
+    }
 }
 
 /// The row of a task with this slot and this phase word, which was joined or not.

@@ -1,5 +1,5 @@
 //! Which tasks are unjoined children.
-ghost use Rattle.std.specs.Prelude.{◌≡◌, ◌<◌, ◌||◌, ◌==◌, ℕ, false, length, slice_index_or, IfOk};
+ghost use Rattle.std.specs.Prelude.{◌≡◌, ◌<◌, ◌||◌, ◌==◌, ℕ, [], ◌∷◌, false, length, slice_index_or, IfOk};
 ghost use Rattle.std.specs.List.{list_any};
 ghost use Rattle.floor_rule.specs.Shown.{is_unjoined};
 ghost use Rattle.task_floor.specs.inner.Reading.{held_in};
@@ -15,11 +15,20 @@ pub(crate) fn unjoined(alloc: Global, slots: &[Option<TaskSlot>]) -> Result<List
 {
     let mut marks = List::from(vec![in alloc; false; slots.len()]?);
     for slot in slots {
-        if let Some(slot) = slot {
-            mark(&mut marks, slot.frame.out.as_slice());
-        }
+        mark_children(&mut marks, slot);
     }
     Ok(marks)
+}
+
+/// Marks the unjoined children of the task with this slot, if it is not empty.
+fn mark_children(marks: &mut List<bool>, slot: &Option<TaskSlot>)
+    ensures size { length marks.new ≡ length marks.old }
+    ensures marks { (c : ℕ) → c < length marks.old
+        → slice_index_or marks.new c false ≡ slice_index_or marks.old c false || is_unjoined c (held_in (slot.now ∷ [])) }
+{
+    if let Some(slot) = slot {
+        mark(marks, slot.frame.out.as_slice());
+    }
 }
 
 /// Marks these tasks.
