@@ -158,8 +158,15 @@ pub record IsLatest (me : Seat) (t : ℕ) : Type 0 where
   pub rest : List (ℕ × Option TaskSlot)
   pub is : me.1 ≡ (t, slot) ∷ rest
 
--- whatever entry the seat may draw of the task whose slot is its latest, it has drawn that one; there is one at most
-abbrev pub DrewOne : Program → Bounds → Seat → ℕ → Seat → Type 0
-DrewOne p lim before found after =
+-- Whatever entry the seat may draw of the task whose slot is its latest, it has drawn that one; there is one at most.
+abbrev pub DrewOfLatest : Program → Bounds → Seat → ℕ → Seat → Type 0
+DrewOfLatest p lim before found after =
     (t : ℕ) (turn : HeldTurn) (frame : Frame) (stop : Stop) → IsLatest before t → MayDraw p before t turn frame stop
     → DrewEntry lim before t turn frame stop found after
+
+-- if one more task may be made, the seat had no turn of it
+abbrev pub HadNoneNext : Bounds → Seat → ℕ → Type 0
+HadNoneNext lim before found = asked_of_clock found + 1 < lim.tasks → turn_in before.0.turns (asked_of_clock found + 1) ≡ None
+
+abbrev pub DrewOne : Program → Bounds → Seat → ℕ → Seat → Type 0
+DrewOne p lim before found after = DrewOfLatest p lim before found after × HadNoneNext lim before found

@@ -88,8 +88,8 @@ pub fn a_cell_may_be_stored()
 {}
 
 /// A seat may draw an entry, by a fetch-and-add on the clock, once it has carried out the segment of the task whose slot is
-/// the latest that it has out. What it finds gives the entry its number, and a task that is made its number. The clock never
-/// overflows.
+/// the latest that it has out. What it finds gives the entry its number, and a task that is made its number; the seat had no
+/// turn of such a task. The clock never overflows.
 pub fn an_entry_may_be_drawn()
     ensures { (p : Program) (lim : Bounds) (id t : ℕ) (v : View) (mine : List (ℕ × Option TaskSlot)) (turn : HeldTurn)
         (frame : Frame) (stop : Stop) → v.kind ≢ Spent → IsLatest (v, mine) t → MayDraw p (v, mine) t turn frame stop

@@ -1,5 +1,8 @@
 -- What a call on the floor knows of the seat after its atomic steps.
 pub mod Taking
+pub mod LeavingTurns
+pub mod Bringing
+pub mod CommittedEntries
 -- The start from a state: its entries, and the words and slots that show it.
 pub mod Logs
 pub mod Laid

@@ -17,7 +17,8 @@ use Rattle.flat_sched.proofs.FirstBooks.{none_enabled}
 use Rattle.twe_rounds.specs.declared.run.Run.{Run}
 use Rattle.twe_rounds.specs.Keeping.{IsSound, NoFaults}
 
-none_more : (entries : List Entry) (last : Entry) → NoFaults entries → is_fault last.end ≡ false → NoFaults (entries ++ last ∷ [])
+-- one entry more that is no fault
+pub none_more : (entries : List Entry) (last : Entry) → NoFaults entries → is_fault last.end ≡ false → NoFaults (entries ++ last ∷ [])
 none_more [] last none well = (well, tt)
 none_more (entry ∷ entries) last none well = (none.0, none_more entries last none.1 well)
 
@@ -25,7 +26,8 @@ last_counted : (last : Entry) (faults : Bool) → last ∷ (if faults then [] el
 last_counted last true = refl
 last_counted last false = refl
 
-counted_more : (entries : List Entry) (last : Entry) → NoFaults entries → counted (entries ++ last ∷ []) ≡ entries ++ last ∷ []
+-- after no faults one entry more counts, even a fault
+pub counted_more : (entries : List Entry) (last : Entry) → NoFaults entries → counted (entries ++ last ∷ []) ≡ entries ++ last ∷ []
 counted_more [] last none = last_counted last (is_fault last.end)
 counted_more (entry ∷ entries) last none =
     ap (λ (b : Bool). entry ∷ (if b then [] else counted (entries ++ last ∷ []))) none.0

@@ -2,7 +2,6 @@
 ghost use Rattle.std.specs.Prelude.{◌≡◌, All};
 
 use crate::own_deck::OwnDeck;
-use crate::run::Run;
 use crate::worker::Worker;
 use std::alloc::Global;
 use steal_pool::{Deck, Decks, make_decks};
@@ -19,19 +18,21 @@ pub struct Team {
     pub pending: u64,
 }
 
-/// Workers to whose decks the tasks that are not done are dealt in turn, in the order of their numbers. The task `first`,
-/// if there is one, is handed to the first worker, and lies on no deck.
+/// Workers for a round that begins in this state and with this many entries. The tasks that are not done are dealt to their
+/// decks in turn, in the order of their numbers, which are below the bound. The task `first`, if there is one, is handed to the
+/// first worker, and lies on no deck.
 pub fn deal(
     alloc: Global,
-    run: &Run,
+    state: &State,
+    entries: usize,
     bound: u32,
     workers: u32,
     first: Option<u32>,
 ) -> Result<Team, Memory> {
-    let capacity = count_undone(&run.state).saturating_add(SPARE);
+    let capacity = count_undone(state).saturating_add(SPARE);
     let decks = make_decks(alloc, workers, capacity, bound)?;
     let mut team = Team {
-        workers: workers_of(alloc, decks, bound, run.journal.len())?,
+        workers: workers_of(alloc, decks, bound, entries)?,
         pending: 0,
     };
     if let Some(task) = first
@@ -40,8 +41,8 @@ pub fn deal(
         worker.hand(task);
         team.pending = 1;
     }
-    for task in 0..run.state.links.task_count() {
-        if is_undone(&run.state, task) && first != Some(task) {
+    for task in 0..state.links.task_count() {
+        if is_undone(state, task) && first != Some(task) {
             deal_to(&mut team, task);
         }
     }

@@ -54,6 +54,18 @@ impl<'p, N: Named> Game<'p, N> {
         }
     }
 
+    /// The program.
+    pub fn prog(&self) -> &Prog
+        ensures { result.now ≡ N.prog }
+    {
+        self.p
+    }
+
+    /// Where memory comes from.
+    pub fn alloc(&self) -> Global {
+        self.alloc
+    }
+
     /// Checks that the run has met no fault and that the move is legal in it.
     pub fn may(&self, run: &NamedRun<N>, mv: Move) -> Result<(), NoMove>
         ensures clear { OnOk result (run.now.state.first_fault ≡ None) }

@@ -22,9 +22,15 @@ mod sharing;
 mod waiting;
 mod worker;
 
+pub use access::Access;
 pub use crew::{Crew, Quietly};
+pub use dealing::{Team, deal};
+pub use game::Game;
 pub use gate::{FreeGate, Gate};
 pub use meet_gate::MeetGate;
 pub use named_run::Named;
 pub use rounds::run_in_rounds;
 pub use run::Run;
+pub use run_core::{Look, lost};
+pub use waiting::Waiting;
+pub use worker::{Site, Worker};

@@ -22,6 +22,16 @@ pub enum Look {
     Over,
 }
 
+impl Look {
+    /// What may be done next for a task that waits for the task `on` in this state.
+    pub fn waits(state: &State, on: u32) -> Self {
+        Look::Waits {
+            on,
+            next: next_of(state, on),
+        }
+    }
+}
+
 /// The run of a round. It is lost once a move finds no memory, and every call answers `Memory` from then on.
 #[derive(Drop)]
 pub struct RunCore<N: Named> {
@@ -94,10 +104,7 @@ impl<N: Named> RunCore<N> {
         let run = self.kept.as_ref().ok_or(lost())?;
         match game.may(run, segment) {
             Ok(()) => Ok(Look::Runs),
-            Err(NoMove::Illegal(Why::WaitsFor(on))) => Ok(Look::Waits {
-                on,
-                next: next_of(&run.run().state, on),
-            }),
+            Err(NoMove::Illegal(Why::WaitsFor(on))) => Ok(Look::waits(&run.run().state, on)),
             Err(_) => Ok(Look::Over),
         }
     }

@@ -33,7 +33,8 @@ pub fn alone<N: Named, R: Wait, G: Gate>(
     requires keeps { Keeps N.prog N.lim N.earlier run }
     ensures { IfOk result (Keeps N.prog N.lim N.earlier) }
 {
-    let mut team = deal(alloc, &run, lim.tasks, 1, Some(first))?;
+    let entries = run.journal.len();
+    let mut team = deal(alloc, &run.state, entries, lim.tasks, 1, Some(first))?;
     let pending = AtomicU64::new(team.pending);
     let site = Site {
         gate,
@@ -68,7 +69,8 @@ pub fn together<'a, N: Named + Send + Sync, R: Threads + Wait + Sync, G: Gate + 
     requires keeps { Keeps N.prog N.lim N.earlier run }
     ensures { IfOk result (Keeps N.prog N.lim N.earlier) }
 {
-    let mut team = deal(alloc, &run, lim.tasks, workers, None)?;
+    let entries = run.journal.len();
+    let mut team = deal(alloc, &run.state, entries, lim.tasks, workers, None)?;
     let pending = AtomicU64::new(team.pending);
     let game: Game<'_, N> = Game::new(alloc, p, lim);
     let core = Mutex::new(RunCore::new(NamedRun::new(run)));
