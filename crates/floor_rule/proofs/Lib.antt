@@ -26,3 +26,5 @@ pub mod Along
 pub mod FirstFaults
 pub mod PlainRows
 pub mod ShownRows
+-- What a segment knows of the cells that it has touched.
+pub mod LastTouches

@@ -5,3 +5,4 @@ pub mod Fitting
 pub mod Rule
 pub mod Steps
 pub mod Shown
+pub mod LastTouches

@@ -8,6 +8,7 @@
 
 mod laws;
 mod shown_laws;
+mod touch_laws;
 mod view;
 
 pub use laws::{
@@ -18,4 +19,5 @@ pub use laws::{
     splitting_a_seat_keeps_the_rule, stores_keep_the_rule, storing_a_phase_keeps_the_rule,
 };
 pub use shown_laws::{journals_show_the_first_fault, slots_and_phases_show_the_rows};
+pub use touch_laws::loads_find_what_was_touched_last;
 pub use view::{DoneFact, HeldTurn, OpenSegment, Phase, TaskSlot, Touch};
