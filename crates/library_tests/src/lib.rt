@@ -9,5 +9,3 @@ mod elisions;
 mod journals;
 #[cfg(test)]
 mod printing;
-#[cfg(test)]
-mod resting;
