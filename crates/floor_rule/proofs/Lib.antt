@@ -21,3 +21,5 @@ pub mod RuleSteps
 pub mod QuietLemmas
 -- The value of a done task, which its frame has.
 pub mod DoneValues
+-- What a segment knows of the cells that it has touched.
+pub mod LastTouches

@@ -4,3 +4,4 @@ pub mod Touches
 pub mod Fitting
 pub mod Rule
 pub mod Steps
+pub mod LastTouches

@@ -1,5 +1,5 @@
 //! The floor on which workers run segments at the same time: calls on one table of atomic words and slots, each with one
-//! atomic step or a few. No call blocks. Only opening a floor and making room in a log take memory.
+//! atomic step or a few. No call blocks. Only opening a floor, making room in a log and carrying out a segment take memory.
 #![tactic(auto)]
 
 mod cells;
@@ -11,13 +11,21 @@ mod laws;
 mod leaving;
 mod opening;
 mod phases;
+mod resuming;
+mod segments;
+mod served;
 mod settling;
 mod stands;
 mod turns;
 mod words;
+mod working;
 
 pub use entries::Committed;
 pub use entry_log::EntryLog;
 pub use floor::{Floor, Stand};
 pub use laws::an_end_says_the_status;
+pub use resuming::Readiness;
+pub use segments::Seg;
+pub use served::Served;
 pub use turns::Busy;
+pub use working::FloorWorker;
