@@ -82,10 +82,10 @@ put_phase p lim id t v mine turn phase live below may =
     (store_phase_allowed p lim id t v mine turn phase live below may)
 
 pub get_phase : (p : Program) (lim : Bounds) (id t : ℕ) (v : View) (mine : List (ℕ × Option TaskSlot)) → v.kind ≢ Spent → t < lim.tasks
-    → Allows (TableKeeps p lim) lim.tasks id (v, mine) (phase_place p t) (λ n. n) (LoadsPhase p (step lim.tasks (phase_place p t) 0 0 core.none) (v, mine))
+    → Allows (TableKeeps p lim) lim.tasks id (v, mine) (phase_place p t) (λ n. n) (LoadsPhase p lim (step lim.tasks (phase_place p t) 0 0 core.none) (v, mine))
 get_phase p lim id t v mine live below =
-    told (TableKeeps p lim) lim.tasks id (v, mine) (phase_place p t) (λ n. n) (FoundPhase (v, mine) t) (LoadsPhase p (step lim.tasks (phase_place p t) 0 0 core.none) (v, mine))
-    (λ n after found u place. let same : t ≡ u = omega (arith, place) in subst (λ (k : ℕ). FoundPhase (v, mine) k n after) same found)
+    told (TableKeeps p lim) lim.tasks id (v, mine) (phase_place p t) (λ n. n) (FoundPhase lim (v, mine) t) (LoadsPhase p lim (step lim.tasks (phase_place p t) 0 0 core.none) (v, mine))
+    (λ n after found u place. let same : t ≡ u = omega (arith, place) in subst (λ (k : ℕ). FoundPhase lim (v, mine) k n after) same found)
     (load_phase_allowed p lim id t v mine live below)
 
 pub get_cell : (p : Program) (lim : Bounds) (id t c : ℕ) (v : View) (mine : List (ℕ × Option TaskSlot)) (any : ℤ) → v.kind ≢ Spent → c < cell_count p → IsLatest (v, mine) t

@@ -34,10 +34,10 @@ use Rattle.floor_rule.proofs.Puts.{put_here, some_one}
 use Rattle.floor_rule.proofs.RuleSteps.{commit, one_drawn}
 use Rattle.floor_table.specs.declared.view.SeatKind.TheVariants.{Spent}
 use Rattle.floor_table.specs.declared.view.View.{View}
-use Rattle.floor_table.specs.FloorOf.{Table, facts_at, floor_of, home_at, part_at, segment_at, turns_at, worker_at}
+use Rattle.floor_table.specs.FloorOf.{Table, facts_at, floor_of, home_at, part_at, segment_at, turn_in, turns_at, worker_at}
 use Rattle.floor_table.specs.Holds.{TableKeeps}
 use Rattle.floor_table.specs.Layout.{asked_of_clock, cell_place, cells_from, clock_place, entries_of_clock, number_at}
-use Rattle.floor_table.specs.Tells.{DrewEntry, DrewOne, IsLatest, MayDraw, Seat, clock_step, drawn_seat, drawn_view, drawn_with, with_turn}
+use Rattle.floor_table.specs.Tells.{DrewEntry, DrewOfLatest, DrewOne, HadNoneNext, IsLatest, MayDraw, Seat, clock_step, drawn_seat, drawn_view, drawn_with, with_turn}
 use Rattle.floor_table.proofs.Elements.{at_else, at_within, word_at}
 use Rattle.floor_table.proofs.Words.{cells_else, phases_kept, turns_kept}
 use Rattle.floor_table.proofs.Views.{seats_kept, seats_put}
@@ -239,6 +239,23 @@ module _ (p : Program) (lim : Bounds) (s : Table) (kept : TableKeeps p lim s) (i
       (λ i other has. let known = kept.rule.fits.rows i (f.asked + 1) other has in let made = slice_get_within st.tasks (f.asked + 1) known.row known.there in omega (arith, past, made))
       (kept.rule.fits.homes (f.asked + 1)))
 
+  -- and the seat has no turn of it
+  unheld_next : (n : ℕ) → n ≡ f.asked → n + 1 < lim.tasks → turn_in v.turns (n + 1) ≡ None
+  unheld_next n is below = none_held (turn_in v.turns (n + 1)) refl
+    where
+      none_held : (o : Option HeldTurn) → turn_in v.turns (n + 1) ≡ o → o ≡ None
+      none_held None held = refl
+      none_held (Some other) held =
+          let asked : n ≡ st.asked = is ∙ kept.rule.fits.asked in
+          let number : n + 1 ≡ length st.tasks =
+          ap (λ (m : ℕ). m + 1) asked ∙ (reached_stands p lim st kept.well reached).number (subst (λ (m : ℕ). m + 1 < lim.tasks) asked below) in
+          let known = kept.rule.fits.rows id (n + 1) other (ap (λ (g : ℕ → Option HeldTurn). g (n + 1)) (turns_id p lim s kept id v at live) ∙ held) in
+          let made = slice_get_within st.tasks (n + 1) known.row known.there in
+          absurd (omega (arith, number, made))
+
+  pub next_unheld : (mine : List (ℕ × Option TaskSlot)) → HadNoneNext lim (v, mine) (slice_index s.words clock_place)
+  next_unheld mine below = unheld_next (asked_of_clock (slice_index s.words clock_place)) (ap asked_of_clock (sym clock_is)) below
+
   making : (mine : List (ℕ × Option TaskSlot)) (child : Frame) (args : List ℤ) (effects : Summary) (spawned : Bool) (future : ℕ) (place : Place) (b : Bool) → nat_lt (f.asked + 1) lim.tasks ≡ b
       → KeepsRule p lim (kept.log ++ entry_drawn lim f t frame (stops.Make child args effects spawned future place) ∷ [])
       (cond {A = Floor} b (with_child (without_child lim f id t turn frame (stops.Make child args effects spawned future place)) id (f.asked + 1) (new_row lim (f.asked + 1) (parent_of t spawned) child args effects))
@@ -278,7 +295,7 @@ module _ (p : Program) (lim : Bounds) (s : Table) (kept : TableKeeps p lim s) (i
   same_seat me found t turn other_turn frame other stop last turns frames stops = λ k. drawn_seat lim found me t (turns k) (frames k) (stops k)
 
   draws_one : (mine : List (ℕ × Option TaskSlot)) (t : ℕ) (turn : HeldTurn) (frame : Frame) (stop : Stop) (found : ℕ) (after : Seat) → IsLatest (v, mine) t → MayDraw p (v, mine) t turn frame stop
-      → DrewEntry lim (v, mine) t turn frame stop found after → DrewOne p lim (v, mine) found after
+      → DrewEntry lim (v, mine) t turn frame stop found after → DrewOfLatest p lim (v, mine) found after
   draws_one mine t turn frame stop found after latest may drew u other_turn other last latest_too may_too =
       let heads : (t, latest.slot) ∷ latest.rest ≡ (u, latest_too.slot) ∷ latest_too.rest = sym latest.is ∙ latest_too.is in
       let tasks : u ≡ t = first_of_heads t u latest.slot latest_too.slot latest.rest latest_too.rest heads in
@@ -302,4 +319,5 @@ pub draw_allowed : (p : Program) (lim : Bounds) (id t : ℕ) (v : View) (mine : 
     → Allows (TableKeeps p lim) lim.tasks id (v, mine) clock_place (λ n. (n + clock_step stop) % 2 ^ 64) (DrewOne p lim (v, mine))
 draw_allowed p lim id t v mine turn frame stop live latest may s kept slots at small =
     let step = draw_step p lim s kept id v at live t turn frame mine stop may in
-    (step.0, step.1, step.2, step.3, draws_one p lim s kept id v at live mine t turn frame stop (slice_index s.words clock_place) (step.0, carried_after mine step.1) latest may step.4)
+    let of_latest = draws_one p lim s kept id v at live mine t turn frame stop (slice_index s.words clock_place) (step.0, carried_after mine step.1) latest may step.4 in
+    (step.0, step.1, step.2, step.3, (of_latest, next_unheld p lim s kept id v at live t turn frame mine))

@@ -26,25 +26,27 @@ use Rattle.floor_rule.specs.declared.view.TaskSlot.{TaskSlot}
 use Rattle.floor_rule.specs.declared.view.Touch.{Touch}
 use Rattle.floor_rule.specs.declared.view.Touch.TheVariants.{Read, Write}
 use Rattle.floor_rule.specs.Floors.{Floor, Holds, Free, Taken, put}
-use Rattle.floor_rule.specs.Fitting.{MayRunFrom, PhaseFits, RowIs}
+use Rattle.floor_rule.specs.Fitting.{MayRunFrom, PhaseFits, RowIs, TurnFits}
 use Rattle.floor_rule.specs.Rows.{phase_of, slot_of}
 use Rattle.floor_rule.specs.Rule.{KeepsRule}
 use Rattle.floor_rule.specs.Steps.{MayGive, MayStorePhase, MayTouch, after_finding_done, after_giving, after_load, after_phase, after_store, after_taking, IsPhaseFor, touched, with_row}
 use Rattle.floor_rule.specs.Touches.{cell_at, touches_of}
+use Rattle.floor_rule.specs.LastTouches.{last_touched}
 use Rattle.twe_machine.proofs.ReachedStands.{reached_stands}
 use Rattle.twe_machine.proofs.SettlesNext.{awaited_above}
 use Rattle.floor_rule.proofs.DoneValues.{reached_has}
 use Rattle.floor_rule.proofs.Puts.{put_else, put_here}
 use Rattle.floor_rule.proofs.TurnLemmas.{turn_here}
 use Rattle.floor_rule.proofs.RuleSteps.{find_done, give, load, store, store_phase, take}
+use Rattle.floor_rule.proofs.LastTouches.{load_last}
 use Rattle.floor_table.specs.declared.view.SeatKind.TheVariants.{Spent}
 use Rattle.floor_table.specs.declared.view.View.{View}
 use Rattle.floor_table.specs.FloorOf.{Table, facts_at, floor_of, home_at, part_at, segment_at, turn_in, turns_at, worker_at}
 use Rattle.floor_table.specs.Holds.{TableKeeps}
 use Rattle.floor_table.specs.Layout.{asked_of_clock, cell_place, cells_from, clock_place, entries_of_clock, free_word, number_at, phase_of_word, phase_place, phase_word_at, taken_word, turn_word_at, turn_of_word, turn_place, value_of_word, word_of_phase}
-use Rattle.floor_table.specs.Tells.{FoundPhase, GaveTurn, IsOwnPhase, MayGiveTurn, MayStore, MayTouchCell, ReadCell, StoredPhase, TriedTurn, WroteCell, with_touch, with_turn}
+use Rattle.floor_table.specs.Tells.{FoundPhase, GaveTurn, IsLastTouch, IsOwnPhase, MayGiveTurn, MayStore, MayTouchCell, ReadCell, StoredPhase, TriedTurn, WaitsAbove, WroteCell, with_touch, with_turn}
 use Rattle.floor_table.proofs.Elements.{at_else, at_within, set_same, word_at}
-use Rattle.floor_table.proofs.Words.{cells_at, cells_else, cells_put, phases_kept, phases_put, turns_kept, turns_put}
+use Rattle.floor_table.proofs.Words.{cells_at, cells_else, cells_length, cells_put, phases_kept, phases_put, turns_kept, turns_put}
 use Rattle.floor_table.proofs.Views.{seats_kept, seats_put}
 use Rattle.floor_table.proofs.SeatKinds.{seats_after}
 
@@ -212,6 +214,12 @@ module _ (p : Program) (lim : Bounds) (s : Table) (kept : TableKeeps p lim s) (i
         let has = reached_has p lim kept.well (state_after p lim (journal_of kept.log)) (reached_by p lim kept.log kept.rule.legal) t is.row is.there in
         ap (λ (r : TaskRow). r.frame.value) (sym is.same) ∙ (has (ap (λ (r : TaskRow). r.status) is.same ∙ done) ∙ ap (λ (r : TaskRow). r.value) is.same)
 
+    -- nobody has a turn that is free
+    had_none : f.turns t ≡ Free → turn_in v.turns t ≡ None
+    had_none free =
+        let fits = subst (TurnFits (state_after p lim (journal_of kept.log)) f.held f.workers t) free (kept.rule.fits.turns t) in
+        sym (ap (λ (g : ℕ → Option HeldTurn). g t) turns_id) ∙ fits.1 id
+
     pub take_step : (mine : List (ℕ × Option TaskSlot)) → slice_index s.words (turn_place p t) ≡ free_word
         → (w : View) × (a : Act (Option TaskSlot)) × Valid s.homes mine a × TableKeeps p lim (stepped s (turn_place p t) (taken_word v.worker) id mine w a)
         × TriedTurn (v, mine) t (slice_index s.words (turn_place p t)) (w, carried_after mine a)
@@ -230,6 +238,7 @@ module _ (p : Program) (lim : Bounds) (s : Table) (kept : TableKeeps p lim s) (i
           inl (
             found,
             record {
+              had_none = had_none free;
               turn = turn;
               taken = taken.1;
               phase = taken_phase turn free taken.3;
@@ -377,8 +386,18 @@ module _ (p : Program) (lim : Bounds) (s : Table) (kept : TableKeeps p lim s) (i
         let fits = subst (PhaseFits st t) (ap phase_word_at (word_at s.words (phase_place p t) (phase_within t below))) (kept.rule.fits.phases t) in
         phase_small p lim st kept.well kept.within (reached_by p lim kept.log kept.rule.legal) t found_phase fits
 
+    found_above : WaitsAbove lim t found_phase
+    found_above u waits =
+        let st = state_after p lim (journal_of kept.log) in
+        let found : f.phases t ≡ Waits u = ap phase_word_at (word_at s.words (phase_place p t) (phase_within t below)) ∙ waits in
+        let fits = subst (PhaseFits st t) found (kept.rule.fits.phases t) in
+        let stands = reached_stands p lim st kept.well (reached_by p lim kept.log kept.rule.legal) in
+        let above = awaited_above p lim st.tasks t fits.row.frame (stands.rows t fits.row fits.there).frame u fits.on in
+        let limit = stands.limit kept.within.tasks_least in
+        (above.0, omega (arith, above, limit))
+
     pub load_phase_step : (mine : List (ℕ × Option TaskSlot)) → (phase_of_word found_phase ≡ Done) ⊎ (phase_of_word found_phase ≢ Done)
-        → (w : View) × (a : Act (Option TaskSlot)) × Valid s.homes mine a × TableKeeps p lim (stepped s (phase_place p t) found_phase id mine w a) × FoundPhase (v, mine) t found_phase (w, carried_after mine a)
+        → (w : View) × (a : Act (Option TaskSlot)) × Valid s.homes mine a × TableKeeps p lim (stepped s (phase_place p t) found_phase id mine w a) × FoundPhase lim (v, mine) t found_phase (w, carried_after mine a)
     load_phase_step mine (inl done) =
         let i = phase_place p t in
         let is : f.phases t ≡ Done = ap phase_word_at (word_at s.words i (phase_within t below)) ∙ done in
@@ -390,14 +409,14 @@ module _ (p : Program) (lim : Bounds) (s : Table) (kept : TableKeeps p lim s) (i
           keeps,
           tt,
           subst (TableKeeps p lim) (sym (loaded i w (phase_within t below))) then,
-          (own_phase mine, found_small, inl (done, record { value = value; seat = refl })),
+          (own_phase mine, found_small, found_above, inl (done, record { value = value; seat = refl })),
         )
     load_phase_step mine (inr other) = (
       v,
       keeps,
       tt,
       subst (TableKeeps p lim) (sym (nothing_changes (phase_place p t) (phase_within t below))) kept,
-      (own_phase mine, found_small, inr (other, refl)),
+      (own_phase mine, found_small, found_above, inr (other, refl)),
     )
 
   -- Cells.
@@ -440,12 +459,15 @@ module _ (p : Program) (lim : Bounds) (s : Table) (kept : TableKeeps p lim s) (i
         let rule = load p kept.well kept.keeps lim kept.log f kept.rule id t c value value_is (may_touch mine (Reads c value) may_read) in
         let w = with_touch v t (Read c value) in
         let then = keeps_after s.words s.homes w refl refl refl refl kept.cells kept.log (subst (KeepsRule p lim kept.log) (sym (load_tie value)) rule) in
-        let small : found_cell < 2 ^ 32 = subst (λ (o : core.Option ℕ). number_at o < 2 ^ 32) found_is (kept.cells c below) in (
+        let small : found_cell < 2 ^ 32 = subst (λ (o : core.Option ℕ). number_at o < 2 ^ 32) found_is (kept.cells c below) in
+        let room : c < length f.cells = subst (λ (n : ℕ). c < n) (sym (cells_length s.words 8 (cell_count p))) below in
+        let last : IsLastTouch (v, mine) c value = λ known is.
+        load_last p kept.well kept.keeps lim kept.log f kept.rule id t c value known room value_is (may_touch mine (Reads c value) may_read) (ap (λ (o : Option OpenSegment). last_touched (touches_of o) c) segment_id ∙ is) in (
           w,
           keeps,
           tt,
           subst (TableKeeps p lim) (sym (loaded (cell_place c) w (cell_within c below))) then,
-          (small, refl),
+          (small, last, refl),
         )
 
     store_tie : (x : ℕ) (value : ℤ) → value_of_word x ≡ value
@@ -511,7 +533,7 @@ pub store_phase_allowed : (p : Program) (lim : Bounds) (id t : ℕ) (v : View) (
 store_phase_allowed p lim id t v mine turn phase live below may s kept slots at small = store_phase_step p lim s kept id v at live t below turn phase mine may
 
 pub load_phase_allowed : (p : Program) (lim : Bounds) (id t : ℕ) (v : View) (mine : List (ℕ × Option TaskSlot)) → v.kind ≢ Spent → t < lim.tasks
-    → Allows (TableKeeps p lim) lim.tasks id (v, mine) (phase_place p t) (λ n. n) (FoundPhase (v, mine) t)
+    → Allows (TableKeeps p lim) lim.tasks id (v, mine) (phase_place p t) (λ n. n) (FoundPhase lim (v, mine) t)
 load_phase_allowed p lim id t v mine live below s kept slots at small = load_phase_step p lim s kept id v at live t below mine (is_done (phase_of_word (slice_index s.words (phase_place p t))))
 
 -- Loading a cell, and storing to one.

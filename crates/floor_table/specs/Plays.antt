@@ -2,6 +2,7 @@
 -- is the latest that it has out.
 use Rattle.std.specs.Prelude.{◌≡◌, ℕ, ℤ, List, Option}
 use Rattle.atomic_table.specs.Table.{Step}
+use Rattle.twe_limits.specs.Limits.{Bounds}
 use Rattle.twe_program.specs.Program.{Program}
 use Rattle.floor_rule.specs.declared.view.HeldTurn.{HeldTurn}
 use Rattle.floor_rule.specs.declared.view.Phase.{Phase}
@@ -25,8 +26,8 @@ StoresPhase p s before found after =
     (t : ℕ) (turn : HeldTurn) (phase : Phase) → s.word ≡ phase_place p t → s.first ≡ word_of_phase phase → MayStore before t turn phase
     → StoredPhase before t turn phase after
 
-abbrev pub LoadsPhase : Program → FloorStep → Seat → ℕ → Seat → Type 0
-LoadsPhase p s before found after = (t : ℕ) → s.word ≡ phase_place p t → FoundPhase before t found after
+abbrev pub LoadsPhase : Program → Bounds → FloorStep → Seat → ℕ → Seat → Type 0
+LoadsPhase p lim s before found after = (t : ℕ) → s.word ≡ phase_place p t → FoundPhase lim before t found after
 
 abbrev pub LoadsCell : FloorStep → Seat → ℕ → Seat → Type 0
 LoadsCell s before found after = (t c : ℕ) → s.word ≡ cell_place c → IsLatest before t → ReadCell before t c found after

@@ -17,7 +17,7 @@ use Rattle.twe_program.specs.Program.{Program}
 use Rattle.floor_rule.specs.declared.view.HeldTurn.{HeldTurn}
 use Rattle.floor_rule.specs.declared.view.OpenSegment.{OpenSegment}
 use Rattle.floor_rule.specs.declared.view.Phase.{Phase}
-use Rattle.floor_rule.specs.declared.view.Phase.TheVariants.{Done, Running}
+use Rattle.floor_rule.specs.declared.view.Phase.TheVariants.{Done, Running, Waits}
 use Rattle.floor_rule.specs.declared.view.TaskSlot.{TaskSlot}
 use Rattle.floor_rule.specs.declared.view.Touch.{Touch}
 use Rattle.floor_rule.specs.declared.view.Touch.TheVariants.{Read, Write}
@@ -25,6 +25,7 @@ use Rattle.floor_rule.specs.Fitting.{MayRunFrom}
 use Rattle.floor_rule.specs.Rows.{phase_of, slot_of}
 use Rattle.floor_rule.specs.Steps.{IsPhaseFor, end_after, first_turn, row_after, with_row}
 use Rattle.floor_rule.specs.Touches.{IsAccessFrom, accesses_of, cell_accesses, touches_of}
+use Rattle.floor_rule.specs.LastTouches.{last_touched}
 use Rattle.floor_table.specs.declared.view.View.{View}
 use Rattle.floor_table.specs.FloorOf.{turn_in}
 use Rattle.floor_table.specs.Layout.{asked_of_clock, entries_of_clock, free_word, phase_of_word, value_of_word}
@@ -37,9 +38,10 @@ Seat = Me (Option TaskSlot) View
 abbrev pub with_turn : View → ℕ → Option HeldTurn → View
 with_turn v t turn = record v { turns = record { task = t; turn = turn } ∷ v.turns }
 
--- Taking a turn: if the turn word was free, the seat has the turn and the task's slot; otherwise nothing changes. The phase
--- word is the one of the task's row, and the frame of a done task has its value.
+-- Taking a turn: if the turn word was free, the seat has the turn and the task's slot; otherwise nothing changes. The seat did
+-- not have it before. The phase word is the one of the task's row, and the frame of a done task has its value.
 pub record TookTurn (before after : Seat) (t : ℕ) : Type 0 where
+  pub had_none : turn_in before.0.turns t ≡ None
   pub turn : HeldTurn
   pub taken : turn.first ≡ false
   pub phase : turn.phase ≡ phase_of turn.row
@@ -77,9 +79,13 @@ pub record FoundDone (before after : Seat) (t : ℕ) : Type 0 where
 abbrev pub IsOwnPhase : Seat → ℕ → ℕ → Type 0
 IsOwnPhase before t found = (turn : HeldTurn) → turn_in before.0.turns t ≡ Some turn → phase_of_word found ≡ turn.phase
 
-abbrev pub FoundPhase : Seat → ℕ → ℕ → Seat → Type 0
-FoundPhase before t found after =
-    IsOwnPhase before t found × (found < 2 ^ 32)
+-- A task waits for one with a higher number, which is one of the run.
+abbrev pub WaitsAbove : Bounds → ℕ → ℕ → Type 0
+WaitsAbove lim t found = (u : ℕ) → phase_of_word found ≡ Waits u → (t < u) × (u < lim.tasks)
+
+abbrev pub FoundPhase : Bounds → Seat → ℕ → ℕ → Seat → Type 0
+FoundPhase lim before t found after =
+    IsOwnPhase before t found × (found < 2 ^ 32) × WaitsAbove lim t found
     × (((phase_of_word found ≡ Done) × FoundDone before after t) ⊎ ((phase_of_word found ≢ Done) × (after ≡ before)))
 
 -- Touching a cell.
@@ -94,9 +100,14 @@ pub record MayTouchCell (p : Program) (me : Seat) (t : ℕ) (access : Access) : 
 abbrev pub with_touch : View → ℕ → Touch → View
 with_touch v t touch = record v { segment = Some (record { task = t; touches = touch ∷ touches_of v.segment }) }
 
--- the word found fits 32 bits, and its value was read
+-- if the open segment has touched the cell, this is the value of the last touch
+abbrev pub IsLastTouch : Seat → ℕ → ℤ → Type 0
+IsLastTouch me c value = (known : ℤ) → last_touched (touches_of me.0.segment) c ≡ Some known → value ≡ known
+
+-- the word found fits 32 bits, and its value was read; a cell that the segment has touched has the value of the last touch
 abbrev pub ReadCell : Seat → ℕ → ℕ → ℕ → Seat → Type 0
-ReadCell before t c found after = (found < 2 ^ 32) × (after ≡ (with_touch before.0 t (Read c (value_of_word found)), before.1))
+ReadCell before t c found after =
+    (found < 2 ^ 32) × IsLastTouch before c (value_of_word found) × (after ≡ (with_touch before.0 t (Read c (value_of_word found)), before.1))
 
 abbrev pub WroteCell : Seat → ℕ → ℕ → ℤ → Seat → Type 0
 WroteCell before t c value after = after ≡ (with_touch before.0 t (Write c value), before.1)
@@ -158,8 +169,15 @@ pub record IsLatest (me : Seat) (t : ℕ) : Type 0 where
   pub rest : List (ℕ × Option TaskSlot)
   pub is : me.1 ≡ (t, slot) ∷ rest
 
--- whatever entry the seat may draw of the task whose slot is its latest, it has drawn that one; there is one at most
-abbrev pub DrewOne : Program → Bounds → Seat → ℕ → Seat → Type 0
-DrewOne p lim before found after =
+-- Whatever entry the seat may draw of the task whose slot is its latest, it has drawn that one; there is one at most.
+abbrev pub DrewOfLatest : Program → Bounds → Seat → ℕ → Seat → Type 0
+DrewOfLatest p lim before found after =
     (t : ℕ) (turn : HeldTurn) (frame : Frame) (stop : Stop) → IsLatest before t → MayDraw p before t turn frame stop
     → DrewEntry lim before t turn frame stop found after
+
+-- if one more task may be made, the seat had no turn of it
+abbrev pub HadNoneNext : Bounds → Seat → ℕ → Type 0
+HadNoneNext lim before found = asked_of_clock found + 1 < lim.tasks → turn_in before.0.turns (asked_of_clock found + 1) ≡ None
+
+abbrev pub DrewOne : Program → Bounds → Seat → ℕ → Seat → Type 0
+DrewOne p lim before found after = DrewOfLatest p lim before found after × HadNoneNext lim before found

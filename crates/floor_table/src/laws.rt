@@ -62,15 +62,17 @@ pub fn a_phase_may_be_stored()
         (λ n. StoresPhase p (step lim.tasks (phase_place p t) (word_of_phase phase) 0 none) (v, mine) (word_of_phase phase)) }
 {}
 
-/// A seat may load a phase. If it finds that the task is done, it knows the task's value.
+/// A seat may load a phase. If it finds that the task is done, it knows the task's value. A task waits for one with a higher
+/// number, which is one of the run.
 pub fn a_phase_may_be_loaded()
     ensures { (p : Program) (lim : Bounds) (id t : ℕ) (v : View) (mine : List (ℕ × Option TaskSlot)) → v.kind ≢ Spent
         → t < lim.tasks
         → Allows (TableKeeps p lim) lim.tasks id (v, mine) (phase_place p t) (λ n. n)
-        (LoadsPhase p (step lim.tasks (phase_place p t) 0 0 none) (v, mine)) }
+        (LoadsPhase p lim (step lim.tasks (phase_place p t) 0 0 none) (v, mine)) }
 {}
 
-/// A seat may load a cell that the segment of its task may read. The word fits 32 bits.
+/// A seat may load a cell that the segment of its task may read. The word fits 32 bits. If the segment has touched the cell
+/// before, the value is that of the last touch.
 pub fn a_cell_may_be_loaded()
     ensures { (p : Program) (lim : Bounds) (id t c : ℕ) (v : View) (mine : List (ℕ × Option TaskSlot)) (any : ℤ)
         → v.kind ≢ Spent → c < cell_count p → IsLatest (v, mine) t → MayTouchCell p (v, mine) t (Reads c any)
@@ -88,8 +90,8 @@ pub fn a_cell_may_be_stored()
 {}
 
 /// A seat may draw an entry, by a fetch-and-add on the clock, once it has carried out the segment of the task whose slot is
-/// the latest that it has out. What it finds gives the entry its number, and a task that is made its number. The clock never
-/// overflows.
+/// the latest that it has out. What it finds gives the entry its number, and a task that is made its number; the seat had no
+/// turn of such a task. The clock never overflows.
 pub fn an_entry_may_be_drawn()
     ensures { (p : Program) (lim : Bounds) (id t : ℕ) (v : View) (mine : List (ℕ × Option TaskSlot)) (turn : HeldTurn)
         (frame : Frame) (stop : Stop) → v.kind ≢ Spent → IsLatest (v, mine) t → MayDraw p (v, mine) t turn frame stop

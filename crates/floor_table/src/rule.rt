@@ -84,7 +84,7 @@ pub struct LoadPhase<N: Named> {
 }
 
 impl<N: Named> Play<Option<TaskSlot>, View> for LoadPhase<N> {
-    ghost then = { LoadsPhase N.prog };
+    ghost then = { LoadsPhase N.prog N.lim };
 }
 
 /// A cell is loaded.

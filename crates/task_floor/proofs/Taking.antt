@@ -28,6 +28,7 @@ slot_is me after t x took is = ap slot_first (sym is ∙ ap (λ (m : Seat). m.1)
 pub has_taken : (me mid after : Seat) (t : ℕ) (x : Option TaskSlot) (slot : TaskSlot) (took : TookTurn me mid t) → mid.1 ≡ (t, x) ∷ rest mid.1 → x ≡ Some slot
     → after ≡ (mid.0, (t, None) ∷ rest mid.1) → HasTaken me after t slot
 has_taken me mid after t x slot took first is seat = record {
+  had_none = took.had_none;
   turn = took.turn;
   taken = took.taken;
   phase = took.phase;

@@ -19,9 +19,10 @@ holder_in zero = None
 holder_in (suc zero) = None
 holder_in (suc (suc worker)) = Some worker
 
--- The seat has taken the turn of task t and was handed what lay in the task's slot. It knows the task's row: the phase word is
--- the one of that row, and the frame of a done task has its value.
+-- The seat has taken the turn of task t, which it did not have, and was handed what lay in the task's slot. It knows the task's
+-- row: the phase word is the one of that row, and the frame of a done task has its value.
 pub record HasTaken (before after : Seat) (t : ℕ) (slot : TaskSlot) : Type 0 where
+  pub had_none : turn_in before.0.turns t ≡ None
   pub turn : HeldTurn
   pub taken : turn.first ≡ false
   pub phase : turn.phase ≡ phase_of turn.row

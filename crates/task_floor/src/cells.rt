@@ -3,7 +3,7 @@ ghost use Rattle.std.specs.Prelude.{◌≡◌, ◌≢◌, ◌<◌, ℕ, ℤ};
 ghost use Rattle.twe_program.specs.Program.{cell_count};
 ghost use Rattle.seg_exec.specs.Access.{Reads, Writes};
 ghost use Rattle.floor_table.specs.declared.view.SeatKind.TheVariants.{Spent};
-ghost use Rattle.floor_table.specs.Tells.{IsLatest, WroteCell};
+ghost use Rattle.floor_table.specs.Tells.{IsLastTouch, IsLatest, WroteCell};
 ghost use Rattle.task_floor.specs.Stands.{HasLoaded, MayAccess};
 
 use crate::floor::{Floor, Stand};
@@ -12,12 +12,14 @@ use floor_table::{LoadCell, Named, StoreCell};
 
 impl<N: Named> Floor<N> {
     /// Loads a cell for the task whose slot is the latest that the stand has out, if the segment of that task may read the cell.
+    /// If the segment has read or written the cell before, it finds the value that the segment read or wrote there last.
     pub fn load(&self, stand: &mut Stand, cell: u32) -> i32
         requires here { stand.old.table_id ≡ self.now }
         requires live { stand.old.me.0.kind ≢ Spent }
         requires cell { cell < cell_count N.prog }
         requires may { (any : ℤ) × MayAccess N.prog stand.old.me (Reads cell any) }
         ensures loaded { (t : ℕ) → IsLatest stand.old.me t → HasLoaded stand.old.me t cell result stand.new.me }
+        ensures last { IsLastTouch stand.old.me cell result }
         ensures same { (stand.new.table_id ≡ stand.old.table_id) × (stand.new.id ≡ stand.old.id) }
     {
         let place = self.cell_place(cell);

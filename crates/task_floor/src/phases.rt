@@ -12,12 +12,12 @@ use floor_table::{LoadPhase, Named, StorePhase};
 
 impl<N: Named> Floor<N> {
     /// What the phase word of a task says. A stand that finds `Done` knows the task's value from then on. One that has the
-    /// task's turn finds the phase that it knows.
+    /// task's turn finds the phase that it knows. A task waits for one with a higher number.
     pub fn status(&self, stand: &mut Stand, task: u32) -> Phase
         requires here { stand.old.table_id ≡ self.now }
         requires live { stand.old.me.0.kind ≢ Spent }
         requires task { task < N.lim.tasks }
-        ensures found { FoundPhase stand.old.me task (word_of_phase result) stand.new.me }
+        ensures found { FoundPhase N.lim stand.old.me task (word_of_phase result) stand.new.me }
         ensures same { (stand.new.table_id ≡ stand.old.table_id) × (stand.new.id ≡ stand.old.id) }
     {
         let place = self.phase_place(task);

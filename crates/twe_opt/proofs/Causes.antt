@@ -10,16 +10,16 @@ use Rattle.twe_report.specs.Texts.{refusal_text}
 use Rattle.command_line.specs.Options.{max_workers}
 use Rattle.command_line.proofs.Sizes.{in_range}
 use Rattle.text_streams.specs.Ends.{SourceTells, SinkTells, WasRead}
-use Rattle.text_answers.specs.declared.answer.Answer.{Answer}
+use Rattle.text_answers.specs.Answer.{Answer}
 use Rattle.text_answers.specs.declared.book.Book.{Book}
 use Rattle.text_answers.specs.declared.status.Status.{Status}
 use Rattle.text_answers.specs.declared.status.Status.TheVariants.{Refused}
-use Rattle.text_answers.specs.Answers.{Due, on_err}
+use Rattle.text_streams.specs.Answers.{TellsMade, on_err}
+use Rattle.text_answers.specs.Answers.{Due}
 use Rattle.text_answers.specs.Theorem.{HasRefusal}
 use Rattle.twe_opt.specs.Answers.{Answers, Cause, run_by}
 use Rattle.twe_opt.specs.Words.{workers_asked}
-use Rattle.twe_opt.specs.inner.Given.{AnswersRead}
-use Rattle.twe_opt.specs.inner.Writing.{TellsMade}
+use Rattle.twe_opt.specs.inner.Given.{AnswersRead, unwritten}
 
 -- the number of workers that words ask for is from 1 to 64
 pub asked_range : (words : List (List ℕ)) (workers : ℕ) → workers_asked words ≡ Some workers → (1 ≤ workers) × (workers ≤ max_workers)
@@ -42,7 +42,7 @@ cause_read tells words before after workers book (Err (reads.OutOfMemory memory)
 -- an answer that has its cause and is written
 pub answers_made : {S O E : Type 0} (src : SourceTells S) (out : SinkTells O) (err : SinkTells E) (words : List (List ℕ)) (before after : S)
     (out_from out_to : O) (err_from err_to : E) (book : Book) (made : Result Answer out_of.Memory) (status : Status) → IfOk made (Cause src words before after book)
-    → TellsMade out err out_from out_to err_from err_to made status → Answers src out err words before after out_from out_to err_from err_to book status
+    → TellsMade unwritten out err out_from out_to err_from err_to made status → Answers src out err words before after out_from out_to err_from err_to book status
 answers_made src out err words before after out_from out_to err_from err_to book (Ok a) status cause tells = Answers.answered cause tells
 answers_made src out err words before after out_from out_to err_from err_to book (Err e) status cause tells =
     subst (Answers src out err words before after out_from out_to err_from err_to book) (sym tells.0) (Answers.out_of_memory tells.1 tells.2)

@@ -4,12 +4,13 @@ use Rattle.twe_io.specs.declared.whole.ReadFail.TheVariants as reads
 use Rattle.twe_report.specs.Texts.{read_fault_text, too_long_text}
 use Rattle.command_line.specs.declared.command.Command.{Command}
 use Rattle.command_line.specs.declared.command.Command.TheVariants.{Run}
-use Rattle.text_streams.specs.Ends.{SourceTells, SinkTells, WasRead, Took, BrokeOff}
-use Rattle.text_answers.specs.declared.answer.Answer.{Answer}
+use Rattle.text_streams.specs.Answers.{Tells, on_err}
+use Rattle.text_streams.specs.Ends.{SourceTells, SinkTells, WasRead}
+use Rattle.text_answers.specs.Answer.{Answer}
 use Rattle.text_answers.specs.declared.book.Book.{Book}
 use Rattle.text_answers.specs.declared.status.Status.{Status}
 use Rattle.text_answers.specs.declared.status.Status.TheVariants.{Usage, ReadFault, WriteFault, Memory, TooLong}
-use Rattle.text_answers.specs.Answers.{Due, default_limits, on_err}
+use Rattle.text_answers.specs.Answers.{Due, default_limits}
 use Rattle.text_answers.specs.Theorem.{IsNew}
 use Rattle.twe_opt.specs.Words.{usage_text, workers_asked}
 
@@ -32,15 +33,9 @@ pub data Cause {S : Type 0} (tells : SourceTells S) (words : List (List ℕ)) (b
   text : {answer : Answer} (workers : ℕ) (bytes : List ℕ) → workers_asked words ≡ Some workers → WasRead tells before (Ok bytes) after
       → Due (run_by workers) bytes book answer → Cause tells words before after book answer
 
--- How an answer is written, out before err: all of it, or up to a write that fails, after which nothing is written.
-pub data Tells {O E : Type 0} (out : SinkTells O) (err : SinkTells E) (out_from out_to : O) (err_from err_to : E) (answer : Answer) : Status → Type 0 where
-  told : Took out answer.out out_from out_to → Took err answer.err err_from err_to → Tells out err out_from out_to err_from err_to answer answer.status
-  out_broke_off : BrokeOff out answer.out out_from out_to → err_to ≡ err_from → Tells out err out_from out_to err_from err_to answer WriteFault
-  err_broke_off : Took out answer.out out_from out_to → BrokeOff err answer.err err_from err_to → Tells out err out_from out_to err_from err_to answer WriteFault
-
 -- What a call of the program comes to: an answer that has its cause is written; or memory runs out, and nothing is written.
 pub data Answers {S O E : Type 0} (src : SourceTells S) (out : SinkTells O) (err : SinkTells E) (words : List (List ℕ))
     (src_from src_to : S) (out_from out_to : O) (err_from err_to : E) (book : Book) : Status → Type 0 where
-  answered : {answer : Answer} {status : Status} → Cause src words src_from src_to book answer → Tells out err out_from out_to err_from err_to answer status
+  answered : {answer : Answer} {status : Status} → Cause src words src_from src_to book answer → Tells WriteFault out err out_from out_to err_from err_to answer status
       → Answers src out err words src_from src_to out_from out_to err_from err_to book status
   out_of_memory : out_to ≡ out_from → err_to ≡ err_from → Answers src out err words src_from src_to out_from out_to err_from err_to book Memory

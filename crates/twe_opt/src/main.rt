@@ -2,7 +2,6 @@
 //! and writes what `twe run` with as many workers writes.
 #![tactic(auto)]
 
-mod telling;
 mod text;
 mod top;
 mod words;

@@ -9,7 +9,6 @@ ghost use Rattle.text_answers.specs.Theorem.{IsNew};
 ghost use Rattle.twe_opt.specs.Answers.{Answers, Cause, run_by};
 ghost use Rattle.twe_opt.specs.inner.Given.{AnswersRead};
 
-use crate::telling::tell;
 use crate::text::usage_text;
 use crate::words::workers_asked;
 use command_line::Command;
@@ -18,7 +17,7 @@ use std::alloc::Global;
 use std::sync::Wait;
 use std::thread::Threads;
 use text_answers::{Answer, Book, Status, answer_run, refuse};
-use text_streams::read_text;
+use text_streams::{Unwritten, read_text, tell};
 use twe_frontend::{FrontFail, read_program};
 use twe_io::{Bytes, Memory, ReadFail, Sink, Source, Word};
 use twe_limits::Limits;
@@ -46,7 +45,11 @@ pub fn opt_top<R: Threads + Wait + Sync, S: Source, O: Sink, E: Sink>(
         words.now src.old src.new out.old out.new err.old err.new book.new result }
 {
     let made = answer(rt, alloc, words, src, book);
-    tell(&made, out, err)
+    let unwritten = Unwritten {
+        write_fault: Status::WriteFault,
+        memory: Status::Memory,
+    };
+    tell(&made, unwritten, out, err)
 }
 
 /// The answer to these words.

@@ -6,7 +6,7 @@ use Rattle.floor_table.specs.Holds.{TableKeeps}
 use Rattle.floor_rule.specs.declared.view.Touch.TheVariants.{Read}
 use Rattle.floor_table.specs.Layout.{cell_place}
 use Rattle.floor_table.specs.Plays.{LoadsCell}
-use Rattle.floor_table.specs.Tells.{with_touch}
+use Rattle.floor_table.specs.Tells.{IsLastTouch, with_touch}
 use Rattle.floor_table.proofs.Calls.{get_cell}
 use Rattle.task_floor.proofs.floor.Floor.load.Goals as goal
 
@@ -39,4 +39,13 @@ returns-clause-loaded g c t latest =
     let small = read.0 in
     let is = c.value_of.ensures in
     let fits : FitsSigned w32 c.value_of.result = omega (arith, ints, small, is) in
-    subst (λ (value : ℤ). c.load-word.new.seat.me ≡ (with_touch me.0 t (Read c.args.cell value), me.1)) (sym (to_z-of_z w32 c.value_of.result fits ∙ is)) read.1
+    subst (λ (value : ℤ). c.load-word.new.seat.me ≡ (with_touch me.0 t (Read c.args.cell value), me.1)) (sym (to_z-of_z w32 c.value_of.result fits ∙ is)) read.2
+
+pub returns-clause-last : goal.returns-clause-last
+returns-clause-last g c =
+    let may = c.requires.may.1 in
+    let read = c.load-word.ensures.2 may.task c.args.cell c.cell_place-place.ensures may.latest in
+    let small = read.0 in
+    let is = c.value_of.ensures in
+    let fits : FitsSigned w32 c.value_of.result = omega (arith, ints, small, is) in
+    subst (IsLastTouch c.args.stand.now.me c.args.cell) (sym (to_z-of_z w32 c.value_of.result fits ∙ is)) read.1

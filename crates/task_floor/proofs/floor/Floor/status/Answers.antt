@@ -19,7 +19,7 @@ load-word-requires g c =
     let below = c.requires.task in
     let here = c.requires.here in
     let same = c.self.view_is in
-    let P : ℕ → ℕ → Type 0 = λ word slots. Allows (TableKeeps p lim) slots id me word (λ n. n) (LoadsPhase p (step slots word 0 0 none) me) in
+    let P : ℕ → ℕ → Type 0 = λ word slots. Allows (TableKeeps p lim) slots id me word (λ n. n) (LoadsPhase p lim (step slots word 0 0 none) me) in
     let allowed : P (phase_place p c.args.task) lim.tasks = get_phase p lim id c.args.task me.0 me.1 c.requires.live below in
     let at_word : P c.phase_place-place.result lim.tasks = subst (λ (w : ℕ). P w lim.tasks) (sym place) allowed in
     (cc (here, same), omega (arith, words, place, below), subst (P c.phase_place-place.result) (sym c.self.invariant.3) at_word)
@@ -29,4 +29,4 @@ phase_of-requires g c = (c.load-word.ensures.2 c.args.task c.phase_place-place.e
 
 pub returns-clause-found : goal.returns-clause-found
 returns-clause-found g c =
-    subst (λ (n : ℕ). FoundPhase c.args.stand.now.me c.args.task n c.load-word.new.seat.me) c.phase_of.ensures (c.load-word.ensures.2 c.args.task c.phase_place-place.ensures)
+    subst (λ (n : ℕ). FoundPhase g.N.Named.lim c.args.stand.now.me c.args.task n c.load-word.new.seat.me) c.phase_of.ensures (c.load-word.ensures.2 c.args.task c.phase_place-place.ensures)

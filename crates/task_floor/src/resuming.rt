@@ -1,0 +1,134 @@
+//! How a task that a stand has in hand goes on.
+ghost use Rattle.std.specs.Prelude.{◌≡◌, ◌≢◌, ◌<◌, None, IfSome};
+ghost use Rattle.floor_rule.specs.declared.view.HeldTurn.{HeldTurn};
+ghost use Rattle.floor_rule.specs.declared.view.Phase.TheVariants.{Waits};
+ghost use Rattle.floor_rule.specs.Rows.{phase_of};
+ghost use Rattle.floor_table.specs.declared.view.SeatKind.TheVariants.{Spent};
+ghost use Rattle.task_floor.specs.Resuming.{HasInHand, IsReadiness, KnowsMore, KnowsValue, MovesOn};
+
+use crate::floor::{Floor, Stand};
+use floor_rule::{Phase, TaskSlot};
+use floor_table::Named;
+use seg_exec::Frame;
+
+/// Whether the next segment of a task may run.
+#[derive(Clone, Copy, Debug, PartialEq, Eq)]
+pub enum Readiness {
+    /// It may run.
+    Runs,
+    /// The task waits for another, which was not found done.
+    Waits {
+        /// That task.
+        on: u32,
+    },
+    /// The task waits for its admission.
+    Made,
+    /// The task has ended.
+    Ended,
+}
+
+/// The value that lies in the slot of a done task.
+fn value_in(slot: &TaskSlot) -> i32
+    ensures { result ≡ slot.now.frame.value }
+{
+    slot.frame.value
+}
+
+impl<N: Named> Floor<N> {
+    /// The value of a task. `None` if its phase word does not say that it is done, or if another worker has its turn just then.
+    /// Otherwise the stand knows the task to be done with this value from then on.
+    pub fn value_of(&self, stand: &mut Stand, worker: u32, task: u32) -> Option<i32>
+        requires here { stand.old.table_id ≡ self.now }
+        requires live { stand.old.me.0.kind ≢ Spent }
+        requires task { task < N.lim.tasks }
+        requires worker { worker ≡ stand.old.me.0.worker }
+        requires closed { stand.old.me.0.segment ≡ None }
+        ensures value { IfSome result (λ value. KnowsValue stand.new.me task value) }
+        ensures more { KnowsMore stand.old.me stand.new.me }
+        ensures same { (stand.new.table_id ≡ stand.old.table_id) × (stand.new.id ≡ stand.old.id) }
+    {
+        match self.status(stand, task) {
+            Phase::Done => self.take_value(stand, worker, task),
+            _ => None,
+        }
+    }
+
+    /// The same of a task that was found done: its value lies in its slot.
+    fn take_value(&self, stand: &mut Stand, worker: u32, task: u32) -> Option<i32>
+        requires here { stand.old.table_id ≡ self.now }
+        requires live { stand.old.me.0.kind ≢ Spent }
+        requires task { task < N.lim.tasks }
+        requires worker { worker ≡ stand.old.me.0.worker }
+        requires closed { stand.old.me.0.segment ≡ None }
+        ensures value { IfSome result (λ value. KnowsValue stand.new.me task value) }
+        ensures more { KnowsMore stand.old.me stand.new.me }
+        ensures same { (stand.new.table_id ≡ stand.old.table_id) × (stand.new.id ≡ stand.old.id) }
+    {
+        let Ok(slot) = self.take_turn(stand, worker, task) else {
+            return None;
+        };
+        let value = value_in(&slot);
+        let phase = self.status(stand, task);
+        self.give_turn(stand, task, slot);
+        match phase {
+            Phase::Done => Some(value),
+            _ => None,
+        }
+    }
+
+    /// Looks whether the next segment of a task in hand may run, and makes it ready. If the task waits for one that is done, its
+    /// frame takes the awaited value, and its phase word says `Running` from then on.
+    pub fn make_ready(
+        &self,
+        stand: &mut Stand,
+        worker: u32,
+        task: u32,
+        frame: &mut Frame,
+    ) -> Readiness
+        requires here { stand.old.table_id ≡ self.now }
+        requires live { stand.old.me.0.kind ≢ Spent }
+        requires task { task < N.lim.tasks }
+        requires worker { worker ≡ stand.old.me.0.worker }
+        requires in_hand { (turn : HeldTurn) × HasInHand stand.old.me task turn frame.old }
+        ensures found { (turn : HeldTurn) → HasInHand stand.old.me task turn frame.old → IsReadiness turn stand.new.me task frame.new result }
+        ensures moves { MovesOn stand.old.me stand.new.me task }
+        ensures same { (stand.new.table_id ≡ stand.old.table_id) × (stand.new.id ≡ stand.old.id) }
+    {
+        match self.status(stand, task) {
+            Phase::Running => Readiness::Runs,
+            Phase::Waits { on } => self.resume(stand, worker, task, on, frame),
+            Phase::Made => Readiness::Made,
+            Phase::Done => Readiness::Ended,
+            Phase::Faulted => Readiness::Ended,
+            Phase::Absent => unreachable!(),
+        }
+    }
+
+    /// The same of a task that waits for another.
+    fn resume(
+        &self,
+        stand: &mut Stand,
+        worker: u32,
+        task: u32,
+        on: u32,
+        frame: &mut Frame,
+    ) -> Readiness
+        requires here { stand.old.table_id ≡ self.now }
+        requires live { stand.old.me.0.kind ≢ Spent }
+        requires task { task < N.lim.tasks }
+        requires on { on < N.lim.tasks }
+        requires worker { worker ≡ stand.old.me.0.worker }
+        requires in_hand { (turn : HeldTurn) × HasInHand stand.old.me task turn frame.old }
+        requires waits { (turn : HeldTurn) → HasInHand stand.old.me task turn frame.old → phase_of turn.row ≡ Waits on }
+        ensures found { (turn : HeldTurn) → HasInHand stand.old.me task turn frame.old → IsReadiness turn stand.new.me task frame.new result }
+        ensures moves { MovesOn stand.old.me stand.new.me task }
+        ensures same { (stand.new.table_id ≡ stand.old.table_id) × (stand.new.id ≡ stand.old.id) }
+    {
+        let Some(value) = self.value_of(stand, worker, on) else {
+            return Readiness::Waits { on };
+        };
+        self.set_phase(stand, task, Phase::Running);
+        frame.give(value);
+        Readiness::Runs
+    }
+}

@@ -1,0 +1,100 @@
+//! Segments over the cells of the floor.
+ghost use Rattle.std.specs.Prelude.{◌≡◌, ◌≢◌, ℕ, IfOk};
+ghost use Rattle.seg_exec.specs.Segment.{HasRoomToSpawn};
+ghost use Rattle.floor_rule.specs.declared.view.HeldTurn.{HeldTurn};
+ghost use Rattle.floor_table.specs.declared.view.SeatKind.TheVariants.{Spent};
+ghost use Rattle.task_floor.specs.Segments.{HasRun, MayReadCell, MayRun, MayWriteCell, StandFollows, stand_knows};
+
+use crate::floor::{Floor, Stand};
+use floor_table::Named;
+use seg_exec::{Cells, Frame, Stop, run_segment};
+use std::alloc::Global;
+use std::marker::Model;
+use twe_io::Memory;
+use twe_program::Prog;
+
+/// The cells of the floor, as the segment of one task sees them: the task whose slot is the latest that the stand has out. It
+/// has the stand while the segment is carried out. Clauses see the stand.
+#[derive(Drop)]
+pub struct Seg<'a, N: Named> {
+    floor: &'a Floor<N>,
+    stand: Stand,
+}
+
+impl<'a, N: Named> Model for Seg<'a, N> {
+    ghost use Rattle.std.specs.Prelude.{◌≡◌, ◌≢◌};
+    ghost use Rattle.floor_table.specs.declared.view.SeatKind.TheVariants.{Spent};
+    ghost use Rattle.task_floor.specs.Segments.{StandValue};
+
+    ghost Value = { StandValue };
+
+    ghost view = { λ seg. seg.stand };
+
+    ghost invariant = { λ seg. (seg.stand.table_id ≡ seg.floor.now) × (seg.stand.me.0.kind ≢ Spent) };
+}
+
+/// The stand knows the cells that the segment has touched: each has the value of its last touch. It may read and write what the
+/// segment may, over whatever cells. Each access is a touch of the open segment.
+impl<'a, N: Named> Cells for Seg<'a, N> {
+    ghost known = { stand_knows };
+
+    ghost may_read = { MayReadCell N.prog };
+
+    ghost may_write = { MayWriteCell N.prog };
+
+    ghost rule = { StandFollows };
+
+    fn get(&mut self, cell: u32) -> i32 {
+        self.floor.load(&mut self.stand, cell)
+    }
+
+    fn set(&mut self, cell: u32, value: i32) {
+        self.floor.store(&mut self.stand, cell, value);
+    }
+}
+
+impl<'a, N: Named> Seg<'a, N> {
+    /// The stand, with what the segment has touched so far.
+    pub fn into_stand(self) -> Stand
+        ensures { result ≡ self.entry }
+    {
+        let Seg { floor: _, stand } = self;
+        stand
+    }
+}
+
+impl<N: Named> Floor<N> {
+    /// The cells of the floor for the segment of the task whose slot is the latest that the stand has out.
+    pub fn segment(&self, stand: Stand) -> Seg<'_, N>
+        requires here { stand.table_id ≡ self.now }
+        requires live { stand.me.0.kind ≢ Spent }
+        ensures { result ≡ stand }
+    {
+        Seg { floor: self, stand }
+    }
+
+    /// Carries out the next segment of the task whose slot is the latest that the stand has out, from its frame. Returns how it
+    /// stopped. The segments of other tasks go on meanwhile. After that an entry of the segment may be drawn. If the segment
+    /// stops at a make that spawns, the frame has room for the child. After `Memory` the stand is gone.
+    pub fn run(
+        &self,
+        alloc: Global,
+        p: &Prog,
+        stand: Stand,
+        frame: &mut Frame,
+    ) -> Result<(Stand, Stop), Memory>
+        requires named { p.now ≡ N.prog }
+        requires here { stand.table_id ≡ self.now }
+        requires live { stand.me.0.kind ≢ Spent }
+        requires may { (t : ℕ) × (turn : HeldTurn) × MayRun stand.me t turn frame.old }
+        ensures ran { IfOk result (λ ran. (t : ℕ) (turn : HeldTurn) → MayRun stand.me t turn frame.old
+            → HasRun N.prog stand.me ran.0.me t turn frame.new ran.1) }
+        ensures room { IfOk result (λ ran. HasRoomToSpawn ran.1 frame.new) }
+        ensures same { IfOk result (λ ran. (ran.0.table_id ≡ stand.table_id) × (ran.0.id ≡ stand.id)) }
+    {
+        let _main = p.main;
+        let mut segment = self.segment(stand);
+        let stop = run_segment(alloc, p, frame, &mut segment)?;
+        Ok((segment.into_stand(), stop))
+    }
+}
