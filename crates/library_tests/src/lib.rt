@@ -1,13 +1,13 @@
-//! Tests of the libraries that no run of the program shows: a printed tree, the text of a journal, the sequential
-//! execution of a task, and a draft of a task that is held back. They also show that each call which may run out of memory can succeed. They stand in a crate of
-//! their own, since a crate with tests is proved twice.
+//! Tests of the libraries that no run of the program shows: a printed tree, the text of a journal, the sequential execution
+//! of a task, and the quiet points of a floor. They also show that each call which may run out of memory can succeed. They
+//! stand in a crate of their own, since a crate with tests is proved twice.
 #![tactic(auto)]
 
-#[cfg(test)]
-mod drafts;
 #[cfg(test)]
 mod elisions;
 #[cfg(test)]
 mod journals;
 #[cfg(test)]
 mod printing;
+#[cfg(test)]
+mod resting;
