@@ -1,0 +1,2 @@
+-- A run at rest.
+pub mod StillRuns
