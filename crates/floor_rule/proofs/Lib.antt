@@ -21,5 +21,10 @@ pub mod RuleSteps
 pub mod QuietLemmas
 -- The value of a done task, which its frame has.
 pub mod DoneValues
+-- What holds after each journal: the first fault, and what the rows of tasks say beside their slots.
+pub mod Along
+pub mod FirstFaults
+pub mod PlainRows
+pub mod ShownRows
 -- What a segment knows of the cells that it has touched.
 pub mod LastTouches

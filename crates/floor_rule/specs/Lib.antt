@@ -4,4 +4,5 @@ pub mod Touches
 pub mod Fitting
 pub mod Rule
 pub mod Steps
+pub mod Shown
 pub mod LastTouches

@@ -7,6 +7,7 @@
 #![tactic(auto)]
 
 mod laws;
+mod shown_laws;
 mod touch_laws;
 mod view;
 
@@ -17,5 +18,6 @@ pub use laws::{
     phases_say_the_truth, quiet_floors_show_the_state, segments_may_make_their_accesses,
     splitting_a_seat_keeps_the_rule, stores_keep_the_rule, storing_a_phase_keeps_the_rule,
 };
+pub use shown_laws::{journals_show_the_first_fault, slots_and_phases_show_the_rows};
 pub use touch_laws::loads_find_what_was_touched_last;
 pub use view::{DoneFact, HeldTurn, OpenSegment, Phase, TaskSlot, Touch};

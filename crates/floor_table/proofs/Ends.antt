@@ -110,7 +110,7 @@ among_at [] k d e below is = absurd (omega (arith, below))
 among_at (x ∷ xs) zero d e below is = inl (sym is)
 among_at (x ∷ xs) (suc k) d e below is = inr (among_at xs k d e (omega (arith, below)) is)
 
-contains_among : (xs : List NumberedEntry) (e : NumberedEntry) → Contains xs e → IsAmong e xs
+pub contains_among : (xs : List NumberedEntry) (e : NumberedEntry) → Contains xs e → IsAmong e xs
 contains_among xs e (k, below, is) = among_at xs k e e below is
 
 module _ (p : Program) (lim : Bounds) (s : Table) (kept : TableKeeps p lim s) (id : ℕ) (v : View) (at : get_elem? s.views id ≡ core.some v) (main : v.kind ≡ Main) (none : v.out ≡ 0) (given : HasGivenAll v) where
@@ -142,13 +142,13 @@ module _ (p : Program) (lim : Bounds) (s : Table) (kept : TableKeeps p lim s) (i
   part_by i core.none is other = refl
   part_by i (core.some x) is other = (others_have_nothing s.views kept.seats id v at main none i x other is).part
 
-  quiet : IsQuiet f
+  pub quiet : IsQuiet f
   quiet = record {
     no_turns = λ i t. turns_by i (get_elem? s.views i) refl t;
     closed = λ i. segment_by i (get_elem? s.views i) refl;
   }
 
-  showing : ShowsState (state_after p lim (journal_of kept.log)) f
+  pub showing : ShowsState (state_after p lim (journal_of kept.log)) f
   showing = shows p (state_after p lim (journal_of kept.log)) f kept.rule.fits quiet
 
   -- the seat has all entries
@@ -158,7 +158,7 @@ module _ (p : Program) (lim : Bounds) (s : Table) (kept : TableKeeps p lim s) (i
   part_id : f.parts id ≡ v.part
   part_id = ap part_at at
 
-  within : (e : NumberedEntry) → IsAmong e v.part → e.number < length kept.log
+  pub within : (e : NumberedEntry) → IsAmong e v.part → e.number < length kept.log
   within e among = slice_get_within kept.log e.number e (lies.entries id e (subst (IsAmong e) (sym part_id) among))
 
   drawn_one : (i n : ℕ) → n < length kept.log → lies.owner n ≡ i → times_drawn kept.log lies.owner i n ≡ 1
@@ -166,7 +166,7 @@ module _ (p : Program) (lim : Bounds) (s : Table) (kept : TableKeeps p lim s) (i
       ap (λ (b : Bool). cond {A = ℕ} (b && (lies.owner n == i)) 1 0) (lt-ltb n (length kept.log) below)
       ∙ ap (λ (b : Bool). cond {A = ℕ} (true && b) 1 0) (eq-eqb (lies.owner n) i is)
 
-  once : (n : ℕ) → n < length kept.log → count_by (has_number n) v.part ≡ 1
+  pub once : (n : ℕ) → n < length kept.log → count_by (has_number n) v.part ≡ 1
   once n below =
       ⊎_elim
       (λ (own : lies.owner n ≡ id). ap (count_by (has_number n)) (sym part_id) ∙ (lies.once id n ∙ drawn_one id n below own))
@@ -180,7 +180,7 @@ module _ (p : Program) (lim : Bounds) (s : Table) (kept : TableKeeps p lim s) (i
   pub size : length v.part ≡ length kept.log
   size = as_many (length kept.log) v.part within once
 
-  merged : IsMergeOf (v.part ∷ []) kept.log
+  pub merged : IsMergeOf (v.part ∷ []) kept.log
   merged = record {
     size = sym size ∙ ap length (sym (append-nil v.part));
     entries = λ e has.

@@ -16,5 +16,6 @@ pub mod Entries
 -- Starts and ends.
 pub mod Starts
 pub mod Ends
+pub mod Rests
 -- The steps in the form in which the calls of the table ask for them.
 pub mod Calls

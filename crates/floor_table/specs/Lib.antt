@@ -3,3 +3,4 @@ pub mod FloorOf
 pub mod Holds
 pub mod Tells
 pub mod Plays
+pub mod Shown

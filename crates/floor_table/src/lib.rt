@@ -3,7 +3,9 @@
 //! step happens. It is what `atomic_table` asks of whoever calls that step.
 #![tactic(auto)]
 
+mod brand;
 mod laws;
+mod quiet_laws;
 mod rule;
 mod view;
 
@@ -12,6 +14,7 @@ pub use laws::{
     a_phase_may_be_loaded, a_phase_may_be_stored, a_seat_may_be_split, a_table_may_be_opened,
     a_turn_may_be_given, a_turn_may_be_tried, an_entry_may_be_drawn, seats_may_be_joined,
 };
+pub use quiet_laws::a_closed_table_shows_the_rest;
 pub use rule::{
     BothSeats, DrawEntry, FloorLaw, GiveTurn, LoadCell, LoadPhase, Named, NextSeat, StoreCell,
     StorePhase, TryTurn,

@@ -9,3 +9,5 @@ mod elisions;
 mod journals;
 #[cfg(test)]
 mod printing;
+#[cfg(test)]
+mod resting;

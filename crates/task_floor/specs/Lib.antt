@@ -1,5 +1,7 @@
 pub mod Stands
 pub mod Opening
+pub mod Waking
+pub mod Resting
 pub mod Segments
 pub mod Resuming
 pub mod Leaving

@@ -2,7 +2,8 @@
 ghost use Rattle.std.specs.Prelude.{◌≡◌};
 ghost use Rattle.core.specs.Mem.Slots.{IsFull, slots_items};
 ghost use Rattle.floor_table.specs.declared.view.SeatKind.TheVariants.{Main};
-ghost use Rattle.floor_table.specs.Holds.{Ended, HasGivenAll};
+ghost use Rattle.floor_table.specs.Holds.{HasGivenAll};
+ghost use Rattle.floor_table.specs.Shown.{EndedQuiet};
 
 use crate::floor::{Floor, Stand};
 use atomic_table::Closed;
@@ -17,7 +18,7 @@ impl<N: Named> Floor<N> {
         requires here { stand.table_id ≡ self }
         requires main { stand.me.0.kind ≡ Main }
         requires alone { (stand.me.0.out ≡ 0) × HasGivenAll stand.me.0 }
-        ensures ended { Ended N.prog N.lim stand.me.0 (slots_items result.words) (slots_items result.slots) }
+        ensures ended { EndedQuiet N.prog N.lim stand.me.0 (slots_items result.words) (slots_items result.slots) }
         ensures full { IsFull result.words × IsFull result.slots }
     {
         let Floor {

@@ -11,6 +11,7 @@ use std::alloc::Global;
 use std::marker::Model;
 
 /// The floor of a run, which all workers share. `N` names the program and the limits. Clauses see the name of its table.
+#[derive(Drop)]
 pub struct Floor<N: Named> {
     pub(crate) table: Table<Option<TaskSlot>, View, Part, FloorLaw<N>, Global>,
     pub(crate) cells: usize,

@@ -1,0 +1,144 @@
+-- A table that is closed at a quiet point shows the rest of the state too, and its last seat's entries are numbered.
+use Rattle.std.proofs.Common.{◌≡◌, ◌<◌, ◌≤◌, ℕ, zero, suc, List, [], ◌∷◌, length, Option, None, Some, refl, sym, ap, subst, ◌∙◌, arith}
+use Rattle.std.specs.Prelude.{slice_get, count_by, Contains}
+use Rattle.std.proofs.lemmas.List.{append-nil}
+use Rattle.std.proofs.lemmas.Option.{slice_get_within}
+use mathlib.Core.Option as core
+use lib.ListN.{get_elem?}
+use Rattle.atomic_table.specs.Table.{Final, Seen}
+use Rattle.twe_limits.specs.Limits.{Bounds}
+use Rattle.twe_program.specs.Program.{Program, cell_count}
+use Rattle.twe_machine.specs.declared.state.State.{State}
+use Rattle.twe_machine.specs.Runs.{state_after}
+use Rattle.journal_merge.specs.declared.numbered.NumberedEntry.{NumberedEntry}
+use Rattle.journal_merge.specs.Merging.{AreNumbered, IsMergeOf, all_of, has_number, journal_of}
+use Rattle.journal_merge.proofs.Slots.{in_contains, occurs}
+use Rattle.floor_rule.specs.declared.view.TaskSlot.{TaskSlot}
+use Rattle.floor_rule.specs.Fitting.{HomeFits}
+use Rattle.floor_rule.specs.Floors.{Floor, Home, Away, Empty, Holds}
+use Rattle.floor_rule.specs.Steps.{IsQuiet, ShowsState}
+use Rattle.floor_rule.specs.Touches.{IsAmong}
+use Rattle.floor_rule.proofs.Puts.{none_some, some_one}
+use Rattle.floor_table.specs.declared.view.SeatKind.TheVariants.{Main}
+use Rattle.floor_table.specs.declared.view.View.{View}
+use Rattle.floor_table.specs.FloorOf.{Table, floor_of, home_at}
+use Rattle.floor_table.specs.Holds.{Ended, HasGivenAll, TableKeeps}
+use Rattle.floor_table.specs.Layout.{asked_of_clock, cells_from, clock_place, number_at, phase_place, phase_word_at}
+use Rattle.floor_table.specs.Shown.{EndedQuiet, ShowsRest}
+use Rattle.floor_table.proofs.Ends.{closed_ends, contains_among, merged, once, quiet, showing, size, within}
+
+-- Parts have one merge.
+
+same_entries : (a b : List NumberedEntry) → length a ≡ length b → ((n : ℕ) → n < length a → slice_get a n ≡ slice_get b n) → a ≡ b
+same_entries [] [] size same = refl
+same_entries [] (y ∷ b) size same = absurd (omega (arith, size))
+same_entries (x ∷ a) [] size same = absurd (omega (arith, size))
+same_entries (x ∷ a) (y ∷ b) size same =
+    let first : x ≡ y = some_one (same 0 (omega arith)) in
+    let rest : a ≡ b = same_entries a b (omega (arith, size)) (λ n below. same (suc n) (omega (arith, below))) in
+    λ k. first k ∷ rest k
+
+pub one_merge : (parts : List (List NumberedEntry)) (a b : List NumberedEntry) → AreNumbered parts → IsMergeOf parts a → IsMergeOf parts b → a ≡ b
+one_merge parts a b numbered one two =
+    let size_a = one.size in
+    same_entries a b (one.size ∙ sym two.size) (λ n below.
+    let e = occurs (all_of parts) n (numbered.once n (omega (arith, below, size_a))) in
+    let has = in_contains (all_of parts) e.0 e.1 in
+    subst (λ (k : ℕ). slice_get a k ≡ slice_get b k) e.2 (one.entries e.0 has ∙ sym (two.entries e.0 has)))
+
+-- entries that are shared out to parts in another way
+pub numbered_same : (parts others : List (List NumberedEntry)) → all_of parts ≡ all_of others → AreNumbered others → AreNumbered parts
+numbered_same parts others same numbered =
+    let count = ap length same in
+    record {
+      within = λ e has.
+          let below = numbered.within e (subst (λ (l : List NumberedEntry). Contains l e) same has) in
+          omega (arith, below, count);
+      once = λ n below. ap (count_by (has_number n)) same ∙ numbered.once n (omega (arith, below, count));
+    }
+
+pub merge_same : (parts others : List (List NumberedEntry)) (log : List NumberedEntry) → all_of parts ≡ all_of others → IsMergeOf others log → IsMergeOf parts log
+merge_same parts others log same merge = record {
+  size = merge.size ∙ sym (ap length same);
+  entries = λ e has. merge.entries e (subst (λ (l : List NumberedEntry). Contains l e) same has);
+}
+
+-- Slots.
+
+at_some : {A : Type 0} (l : List A) (i : ℕ) → i < length l → (x : A) × (get_elem? l i ≡ core.some x)
+at_some [] i below = absurd (omega (arith, below))
+at_some (x ∷ l) zero below = (x, refl)
+at_some (x ∷ l) (suc i) below = at_some l i (omega (arith, below))
+
+empty_slot : (home : core.Option (Option TaskSlot)) → home_at (core.some home) ≡ Empty → home ≡ core.some None
+empty_slot core.none is = absurd (cc (is))
+empty_slot (core.some None) is = refl
+empty_slot (core.some (Some slot)) is = absurd (cc (is))
+
+module _ (p : Program) (lim : Bounds) (s : Table) (kept : TableKeeps p lim s) (id : ℕ) (v : View) (at : get_elem? s.views id ≡ core.some v) (main : v.kind ≡ Main) (none : v.out ≡ 0) (given : HasGivenAll v) where
+  abbrev f : Floor
+  f = floor_of p s
+
+  abbrev st : State
+  st = state_after p lim (journal_of kept.log)
+
+  is_quiet : IsQuiet f
+  is_quiet = quiet p lim s kept id v at main none given
+
+  shown : ShowsState st f
+  shown = showing p lim s kept id v at main none given
+
+  numbered : AreNumbered (v.part ∷ [])
+  numbered =
+      let all : all_of (v.part ∷ []) ≡ v.part = append-nil v.part in
+      let count = ap length all in
+      let long = size p lim s kept id v at main none given in
+      record {
+        within = λ e has.
+            let among : IsAmong e v.part = contains_among v.part e (subst (λ (l : List NumberedEntry). Contains l e) all has) in
+            let below = within p lim s kept id v at main none given e among in
+            omega (arith, below, count, long);
+        once = λ n below. ap (count_by (has_number n)) all ∙ once p lim s kept id v at main none given n (omega (arith, below, count, long));
+      }
+
+  -- before a task is made its slot is empty
+  empty_by : (t : ℕ) → length st.tasks ≤ t → (home : Home) → HomeFits st f.held t home → home ≡ Empty
+  empty_by t past Away by = absurd (none_some (sym (is_quiet.no_turns by.seat t) ∙ by.has))
+  empty_by t past Empty fits = refl
+  empty_by t past (Holds slot) here = let below = slice_get_within st.tasks t here.1.row here.1.there in absurd (omega (arith, below, past))
+
+  empty_home : (t : ℕ) → length st.tasks ≤ t → t < lim.tasks → get_elem? s.homes t ≡ core.some (core.some None)
+  empty_home t past below =
+      let slots = kept.slots in
+      let found = at_some s.homes t (omega (arith, slots, below)) in
+      let empty : home_at (core.some found.0) ≡ Empty = sym (ap home_at found.1) ∙ empty_by t past (f.homes t) (kept.rule.fits.homes t) in
+      found.1 ∙ ap core.some (empty_slot found.0 empty)
+
+  module _ (words : List ℕ) (slots : List (Option TaskSlot)) (same : s.words ≡ words) (count : length s.homes ≡ length slots)
+      (homes : (k : ℕ) (y : Option TaskSlot) → get_elem? s.homes k ≡ core.some (core.some y) → get_elem? slots k ≡ core.some y) where
+    rest_shown : ShowsRest p lim st words slots
+    rest_shown = record {
+      word_count = sym (ap length same) ∙ kept.words;
+      slot_count = sym count ∙ kept.slots;
+      asked = sym (ap (λ (l : List ℕ). asked_of_clock (number_at (get_elem? l clock_place))) same) ∙ shown.asked;
+      cells = sym (ap (λ (l : List ℕ). cells_from l 8 (cell_count p)) same) ∙ shown.cells;
+      phases = λ t row there. sym (ap (λ (l : List ℕ). phase_word_at (get_elem? l (phase_place p t))) same) ∙ shown.phases t row there;
+      unmade = λ t past below. homes t None (empty_home t past below);
+    }
+
+    quietly : Ended p lim v words slots → EndedQuiet p lim v words slots
+    quietly ended =
+        let one : kept.log ≡ ended.log = one_merge (v.part ∷ []) kept.log ended.log numbered (merged p lim s kept id v at main none given) ended.merge in
+        record {
+          well = kept.well;
+          within = kept.within;
+          ended = ended;
+          numbered = numbered;
+          rest = subst (λ (l : List NumberedEntry). ShowsRest p lim (state_after p lim (journal_of l)) words slots) one rest_shown;
+        }
+
+-- A closed table.
+pub closed_quiet : (p : Program) (lim : Bounds) (id : ℕ) (v : View) (words : List ℕ) (slots : List (Option TaskSlot)) → v.kind ≡ Main → v.out ≡ 0 → HasGivenAll v
+    → Final (Seen (TableKeeps p lim) id v) words slots → EndedQuiet p lim v words slots
+closed_quiet p lim id v words slots main none given (s, seen, same, count, homes) =
+    quietly p lim s seen.0 id v seen.1 main none given words slots same count homes (closed_ends p lim id v words slots main none given (s, seen, same, count, homes))

@@ -1,0 +1,96 @@
+//! A floor goes on from a quiet point and comes to one. Nobody runs on it meanwhile, so what it rests with is what it woke
+//! with, and that was worked out by hand.
+ghost use Rattle.std.specs.Prelude.{◌≡◌};
+ghost use Rattle.twe_program.specs.WellFormed.{IsWellFormed};
+ghost use Rattle.soundness_laws.specs.KeepsEffects.{KeepsEffects};
+ghost use Rattle.twe_machine.specs.Runs.{IsRun};
+
+use floor_table::Named;
+use seg_journal::{Kind, Move};
+use std::alloc::Global;
+use std::marker::Brand;
+use std::test::Fail;
+use task_floor::{Floor, Rest};
+use twe_frontend::read_program;
+use twe_io::Memory;
+use twe_limits::Limits;
+use twe_machine::{TaskStatus, replay_journal};
+use twe_program::Prog;
+
+/// `main` prints 7 and spawns two children, of which it joins the first.
+const FAMILY: &[u8] =
+    b"region D;\nint d[2] in D;\ntask int set(int j) writes D:[j] { d[j] = 5; return j + 1; }\ntask void main() writes D:[0], D:[1], Console {\n  print(7);\n  future f = set.spawn(0);\n  future g = set.spawn(1);\n  int a = f.join();\n  print(a);\n}\n";
+
+/// What a new floor rests with.
+fn rest_of_new<N: Named>(alloc: Global, p: &Prog, lim: Limits) -> Result<Rest, Memory>
+    requires accepted { IsWellFormed N.prog × KeepsEffects N.prog }
+    requires named { (p.now ≡ N.prog) × (lim ≡ N.lim) }
+{
+    let (floor, stand, part) = Floor::<N>::new(alloc, p, lim)?;
+    floor.rest(alloc, stand, &[part])
+}
+
+/// What a floor rests with that woke so.
+fn rest_again<N: Named>(alloc: Global, lim: Limits, rest: Rest) -> Result<Rest, Memory>
+    requires accepted { IsWellFormed N.prog × KeepsEffects N.prog }
+    requires named { lim ≡ N.lim }
+    requires run { IsRun N.prog N.lim rest.journal rest.state }
+{
+    let (floor, stand, part) = Floor::<N>::wake(alloc, lim, rest)?;
+    floor.rest(alloc, stand, &[part])
+}
+
+/// What a floor rests with that woke after these moves of the family.
+fn rest_after(alloc: Global, lim: Limits, moves: &[Move]) -> Result<Rest, Fail> {
+    let p = read_program(alloc, FAMILY)?;
+    let (journal, state) = replay_journal(alloc, &p, lim, moves)?;
+    Ok(rest_again::<Brand>(alloc, lim, Rest { state, journal })?)
+}
+
+/// What a new floor for the family rests with.
+fn rest_at_start(alloc: Global, lim: Limits) -> Result<Rest, Fail> {
+    let p = read_program(alloc, FAMILY)?;
+    Ok(rest_of_new::<Brand>(alloc, &p, lim)?)
+}
+
+/// A segment of this task.
+fn run(task: u32) -> Move {
+    Move {
+        kind: Kind::Run,
+        task,
+    }
+}
+
+#[test]
+fn a_new_floor_rests_in_the_first_state(rt: HostRuntime) -> Result<(), Fail> {
+    let rest = rest_at_start(rt.alloc(), Limits::new(1000, 4))?;
+    assert_eq!(rt; rest.journal.len(), 0);
+    assert_eq!(rt; rest.state.cells.as_slice(), [0, 0].as_slice());
+    assert_eq!(rt; rest.state.tasks.len(), 1);
+    assert!(rt; rest.state.tasks.as_slice()[0].status == TaskStatus::Made);
+    Ok(())
+}
+
+#[test]
+fn a_floor_rests_in_the_state_that_it_woke_with(rt: HostRuntime) -> Result<(), Fail> {
+    let admit = Move {
+        kind: Kind::Admit,
+        task: 0,
+    };
+    let moves = [admit, run(0), run(0), run(1), run(0), run(0)];
+    let rest = rest_after(rt.alloc(), Limits::new(1000, 4), &moves)?;
+    let state = rest.state;
+    assert_eq!(rt; rest.journal.len(), 6);
+    assert_eq!(rt; state.prints.as_slice(), [7, 1].as_slice());
+    assert_eq!(rt; state.cells.as_slice(), [5, 0].as_slice());
+    assert_eq!(rt; state.asked, 2);
+    assert!(rt; state.first_fault.is_none());
+    let tasks = state.tasks.as_slice();
+    assert_eq!(rt; tasks.len(), 3);
+    assert_eq!(rt; tasks[0].out.as_slice(), [2].as_slice());
+    assert_eq!(rt; (tasks[1].value, tasks[1].joined), (1, true));
+    assert_eq!(rt; (tasks[2].parent, tasks[2].joined), (Some(0), false));
+    assert!(rt; tasks[2].status == TaskStatus::Enabled);
+    assert_eq!(rt; state.links.link(0).waits, Some(2));
+    Ok(())
+}
