@@ -4,7 +4,7 @@ ghost use Rattle.twe_machine.specs.Legal.{MayMove};
 ghost use Rattle.twe_machine.specs.LowestFirst.{IsOver};
 ghost use Rattle.twe_machine.specs.Runs.{IsReachable, IsRun};
 
-use crate::rest::Rest;
+use task_floor::Rest;
 use seg_journal::{Entry, Journal, Kind, Move};
 use std::alloc::Global;
 use twe_io::Memory;
