@@ -29,21 +29,21 @@ use Rattle.ast_printer.proofs.AgainStatement.{block_again}
 use Rattle.ast_printer.proofs.PlacedItem.{placed_elem, placed_elems, placed_path, placed_cell_elem, placed_cell_elems, placed_cell_path, placed_names, placed_params, placed_paths, placed_clause, placed_clauses, placed_decl, placed_item, placed_items}
 
 -- Two parts that are written one after the other.
-joined : (W : List Token → List Token → Type 0) (one two more : List TokenKind) (s : List Place) → W (tokens_at s (one ++ (two ++ more))) (tokens_at (after two (after one s)) more)
+pub joined : (W : List Token → List Token → Type 0) (one two more : List TokenKind) (s : List Place) → W (tokens_at s (one ++ (two ++ more))) (tokens_at (after two (after one s)) more)
     → W (tokens_at s ((one ++ two) ++ more)) (tokens_at (after (one ++ two) s) more)
 joined W one two more s writes =
     subst (λ (words : List TokenKind). W (tokens_at s words) (tokens_at (after (one ++ two) s) more)) (sym (append_assoc one two more))
     (subst (λ (end : List Place). W (tokens_at s (one ++ (two ++ more))) (tokens_at end more)) (sym (after_append one two s)) writes)
 
 -- the places after a path
-abbrev past_path : Path → List Place → List Place
+abbrev pub past_path : Path → List Place → List Place
 past_path path s = after (elems_tokens (needs_root path.elems) path.elems) (after (when (needs_root path.elems) fixed.Root) s)
 
 abbrev past_cell_path : CellPath → List Place → List Place
 past_cell_path path s = after (cell_elems_tokens (cell_needs_root path.elems) path.elems) (after (when (cell_needs_root path.elems) fixed.Root) s)
 
 -- the paths are written again; their `Root` and their elements are taken one by one
-abbrev AgainPath : Path → List Place → List TokenKind → Type 0
+abbrev pub AgainPath : Path → List Place → List TokenKind → Type 0
 AgainPath path s more =
     WritesPath (placed_path path s) (tokens_at s (when (needs_root path.elems) fixed.Root ++ (elems_tokens (needs_root path.elems) path.elems ++ more)))
     (tokens_at (past_path path s) more)
@@ -134,7 +134,7 @@ more_params_again : {names : List Name} {tokens rest : List Token} → MoreParam
 more_params_again no_more_params s more = no_more_params
 more_params_again (more_params {first = f} others) s more = more_params {first = placed_name f (second s)} (more_params_again others (third s) more)
 
-params_again : {names : List Name} {tokens rest : List Token} → WritesParams names tokens rest → (s : List Place) (more : List TokenKind)
+pub params_again : {names : List Name} {tokens rest : List Token} → WritesParams names tokens rest → (s : List Place) (more : List TokenKind)
     → WritesParams (placed_params false names (next s)) (tokens_at s (kinds.Fixed fixed.OpenParen ∷ (params_tokens false names ++ kinds.Fixed fixed.CloseParen ∷ more)))
     (tokens_at (next (after (params_tokens false names) (next s))) more)
 params_again no_params s more = no_params
@@ -172,7 +172,7 @@ decl_again (decl {name = n} {params = p} {effects = e} names effects body) s mor
     (decl {name = placed_name n (next s)} (params_again names (second s) _) (effects_again effects (next (after (params_tokens false p) (third s))) _)
     (block_again body (next (after (effects_tokens e) (next (after (params_tokens false p) (third s))))) more))
 
-item_again : {item : Item} {tokens rest : List Token} → WritesItem item tokens rest → (s : List Place) (more : List TokenKind)
+pub item_again : {item : Item} {tokens rest : List Token} → WritesItem item tokens rest → (s : List Place) (more : List TokenKind)
     → WritesItem (placed_item item s) (tokens_at s (item_tokens item ++ more)) (tokens_at (after (item_tokens item) s) more)
 item_again (regions {first = f} {others = o} names) s more =
     joined (λ tokens rest. WritesItem (placed_item (items.Regions (f ∷ o)) s) (word fixed.Region (here s) ∷ named (placed_name f (next s)) ∷ tokens) rest) (names_tokens true o) (kinds.Fixed fixed.Semicolon ∷ []) more (second s)

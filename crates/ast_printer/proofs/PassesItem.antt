@@ -129,7 +129,7 @@ more_params_pass : {names : List Name} {tokens rest : List Token} → MoreParams
 more_params_pass no_more_params more follows ended minus = follows ended minus
 more_params_pass (more_params others) more follows ended minus = step (step (step (more_params_pass others more follows true false)))
 
-params_pass : {names : List Name} {tokens rest : List Token} → WritesParams names tokens rest → {o p : ℕ} → (more : List TokenKind) → FromAny o p rest more
+pub params_pass : {names : List Name} {tokens rest : List Token} → WritesParams names tokens rest → {o p : ℕ} → (more : List TokenKind) → FromAny o p rest more
     → FromAny o p tokens (kinds.Fixed fixed.OpenParen ∷ (params_tokens false names ++ kinds.Fixed fixed.CloseParen ∷ more))
 params_pass no_params more follows ended minus = step (step (follows true false))
 params_pass (params others) more follows ended minus = step (step (step (more_params_pass others (kinds.Fixed fixed.CloseParen ∷ more) (λ e m. step (follows true false)) true false)))
@@ -143,7 +143,7 @@ clause_step : (write : Bool) {o p : ℕ} {ended minus : Bool} {place : Place} {t
 clause_step true follows = step follows
 clause_step false follows = step follows
 
-return_step : (type : ReturnType) {o p : ℕ} {ended minus : Bool} {place : Place} {tokens : List Token} {words : List TokenKind} → Passed o p false false tokens words
+pub return_step : (type : ReturnType) {o p : ℕ} {ended minus : Bool} {place : Place} {tokens : List Token} {words : List TokenKind} → Passed o p false false tokens words
     → Passed o p ended minus (word (return_word type) place ∷ tokens) (kinds.Fixed (return_word type) ∷ words)
 return_step returns.Int follows = step follows
 return_step returns.Void follows = step follows
@@ -166,7 +166,7 @@ decl_passes : {in_task : Bool} {d : Decl} {tokens rest : List Token} → WritesD
 decl_passes (decl {type = t} names effects body) more follows ended minus =
     simp append_assoc (return_step t (step (params_pass names _ (effects_pass effects _ (λ e m. step (block_passes body more follows false false))) true false)))
 
-item_passes : {item : Item} {tokens rest : List Token} → WritesItem item tokens rest → {o p : ℕ} → (more : List TokenKind) → FromAny o p rest more → FromAny o p tokens (item_tokens item ++ more)
+pub item_passes : {item : Item} {tokens rest : List Token} → WritesItem item tokens rest → {o p : ℕ} → (more : List TokenKind) → FromAny o p rest more → FromAny o p tokens (item_tokens item ++ more)
 item_passes (regions {others = o} names) more follows ended minus =
     step (step (regrouped (names_tokens true o) (kinds.Fixed fixed.Semicolon ∷ []) more (names_pass names (kinds.Fixed fixed.Semicolon ∷ more) (λ e m. step (follows false false)) true false)))
 item_passes (cell path start) more follows ended minus =

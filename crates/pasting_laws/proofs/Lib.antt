@@ -1,4 +1,11 @@
-pub mod Acts
-pub mod ControlPaths
-pub mod Rules
 pub mod Orders
+pub mod Names
+pub mod NeedsFit
+pub mod Clauses
+pub mod PastedItems
+pub mod PastedNames
+pub mod Sounds
+pub mod Words
+pub mod Fitting
+pub mod Written
+pub mod Whole

@@ -1,5 +1,5 @@
 -- The order of the effects in a summary does not matter to the rules on effects.
-use Rattle.std.proofs.Common.{◌≡◌, ◌⊎◌, ℕ, Bool, true, List, [], ◌∷◌, length, Option, None, Some, zero, suc, inl, inr, refl, sym, ap, ◌∙◌, subst, arith}
+use Rattle.std.proofs.Common.{◌≡◌, ℕ, true, List, [], ◌∷◌, length, Option, Some, zero, suc, inl, inr, refl, sym, ap, ◌∙◌, subst, arith}
 use Rattle.std.specs.Prelude.{slice_get}
 use Rattle.std.specs.List.{AllZip, Contains}
 use Rattle.twe_io.specs.declared.place.Place.{Place}
@@ -24,7 +24,6 @@ use Rattle.method_needs.specs.Choices.{with_each, with_summaries, NoRuleFails}
 use Rattle.method_needs.proofs.Relation.{with_one, with_each-in, with_each-got, get-in}
 use Rattle.method_needs.proofs.Soundness.{filled-in}
 use Rattle.method_needs.proofs.Leastness.{map-in}
-use Rattle.method_needs.proofs.Alike.{IsCallIn}
 use Rattle.method_needs.proofs.Narrowing.{IsNarrower, in-both, touch-too, tasks-pass}
 use Rattle.pasting_laws.specs.Pasted.{HaveSameEffects}
 

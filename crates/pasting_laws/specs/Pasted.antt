@@ -1,11 +1,12 @@
 -- Summaries that are written in the place of those that a text declares.
 use Rattle.std.specs.Prelude.{◌↔◌, List, Contains}
-use Rattle.std.specs.List.{AllZip}
+use Rattle.std.specs.List.{AllByRecursion, AllZip}
 use Rattle.effect_sets.specs.declared.effects.Effect.{Effect}
 use Rattle.effect_sets.specs.declared.effects.Summary.{Summary}
 use Rattle.twe_program.specs.Program.{Program}
 use Rattle.method_needs.specs.Choices.{with_summaries}
-use Rattle.pasting_laws.specs.Places.{EqualButForPlaces}
+use Rattle.place_laws.specs.Places.{EqualButForPlaces}
+use Rattle.pasting_laws.specs.Clauses.{CanBeWritten}
 
 -- the same effects, in any order
 abbrev pub HaveSameEffects : Summary → Summary → Type 0
@@ -17,3 +18,8 @@ pub record IsPasted (summaries : List Summary) (p q : Program) : Type 0 where
   pub written : List Summary
   pub same_effects : AllZip HaveSameEffects written summaries
   pub same_otherwise : EqualButForPlaces q (with_summaries written p)
+
+-- these are the summaries with their effects in any order, and a text can have them
+pub record CanBePasted (written summaries : List Summary) : Type 0 where
+  pub same : AllZip HaveSameEffects written summaries
+  pub can : AllByRecursion CanBeWritten written

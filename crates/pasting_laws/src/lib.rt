@@ -3,4 +3,7 @@
 
 mod laws;
 
-pub use laws::texts_with_these_summaries_are_accepted;
+pub use laws::{
+    inferred_summaries_can_be_pasted, pasted_trees_keep_names,
+    texts_with_these_summaries_are_accepted,
+};

@@ -16,3 +16,5 @@ pub mod Woken
 pub mod Taken
 pub mod Readings
 pub mod Rested
+-- A worker that serves a task.
+pub mod ServedTasks

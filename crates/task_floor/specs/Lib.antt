@@ -6,4 +6,5 @@ pub mod Segments
 pub mod Resuming
 pub mod Leaving
 pub mod Committing
+pub mod Working
 pub mod inner

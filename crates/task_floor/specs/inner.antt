@@ -1,3 +1,4 @@
 pub mod Laying
 pub mod Reading
 pub mod Bringing
+pub mod Holding

@@ -2,7 +2,6 @@
 use Rattle.std.proofs.Common.{◌≡◌, ℕ, Bool, true, false, List, [], ◌∷◌, ◌++◌, map, Option, None, Some, zero, suc, refl, sym, ap, ◌∙◌}
 use Rattle.std.specs.Prelude.{slice_get}
 use Rattle.std.proofs.lemmas.List.{map-append}
-use Rattle.twe_io.specs.declared.place.Place.{Place}
 use Rattle.region_paths.specs.declared.elements.Elem.{Elem}
 use Rattle.region_paths.specs.Written.{WrittenPath}
 use Rattle.effect_sets.specs.declared.effects.Summary.{Summary}
@@ -17,7 +16,7 @@ use Rattle.effect_check.specs.declared.act.ActKind.{ActKind}
 use Rattle.effect_check.specs.declared.act.ActKind.TheVariants as kinds
 use Rattle.effect_check.specs.Standing.{element_of, elements_of, elements_from, path_at}
 use Rattle.effect_check.specs.Acts.{filled_summary, is_deterministic, touch, call, make, acts_of, acts_of_all, acts_of_value, acts_in, acts_in_all, acts_in_one}
-use Rattle.pasting_laws.specs.Places.{nowhere, bare_expression, bare_arguments, bare_value, bare_statement, bare_statements, bare_arms, bare_cell, bare_decl, bare_program}
+use Rattle.place_laws.specs.Places.{nowhere, bare_expression, bare_arguments, bare_value, bare_statement, bare_statements, bare_arms, bare_cell, bare_decl, bare_program}
 
 abbrev pub bare_kind : ActKind → ActKind
 bare_kind (kinds.Touch effect place) = kinds.Touch effect nowhere

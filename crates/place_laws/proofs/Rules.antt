@@ -1,14 +1,10 @@
 -- The rules on effects do not depend on places.
-use Rattle.std.proofs.Common.{◌≡◌, ◌⊎◌, ℕ, Bool, true, false, List, [], ◌∷◌, map, inl, inr, refl, sym, ap, ◌∙◌, subst}
-use Rattle.std.specs.List.{Contains}
-use Rattle.std.specs.Prelude.{IsTrue}
+use Rattle.std.proofs.Common.{◌≡◌, ℕ, Bool, true, false, map, inl, inr, sym, ap, ◌∙◌, subst}
 use Rattle.twe_io.specs.declared.place.Place.{Place}
 use Rattle.effect_sets.specs.declared.effects.Effect.{Effect}
 use Rattle.effect_sets.specs.declared.effects.Summary.{Summary}
-use Rattle.effect_sets.specs.Covers.{covers}
 use Rattle.twe_program.specs.declared.program.Decl.{Decl}
 use Rattle.twe_program.specs.Program.{Program}
-use Rattle.cover_flow.specs.Out.{MayBeOut, SurelyOut}
 use Rattle.effect_check.specs.declared.act.Act.{Act}
 use Rattle.effect_check.specs.declared.act.ActKind.{ActKind}
 use Rattle.effect_check.specs.declared.act.ActKind.TheVariants as kinds
@@ -17,20 +13,10 @@ use Rattle.effect_check.specs.Acts.{acts_in_all}
 use Rattle.effect_check.specs.Covered.{Does, CoveredAt}
 use Rattle.effect_check.specs.FailsEffect.{TaskFails, MethodFails, FailsEffect, access, called, spawned, joined, spawned_again, made_later, waited, not_deterministic, access_outside, called_outside}
 use Rattle.first_failure.proofs.Members.{IsIn, contains-in, in-contains}
-use Rattle.method_needs.specs.Choices.{NoRuleFails}
-use Rattle.pasting_laws.specs.Places.{nowhere, bare_decl, bare_program}
-use Rattle.pasting_laws.proofs.Acts.{bare_kind, bare_act, of-statements}
-use Rattle.pasting_laws.proofs.ControlPaths.{may-to, may-from, surely-to, surely-from}
-
-in-map : {X Y : Type 0} (f : X → Y) (xs : List X) (x : X) → IsIn x xs → IsIn (f x) (map f xs)
-in-map f [] x h = absurd h
-in-map f (y ∷ ys) x (inl e) = inl (ap f e)
-in-map f (y ∷ ys) x (inr h) = inr (in-map f ys x h)
-
-map-in : {X Y : Type 0} (f : X → Y) (xs : List X) (y : Y) → IsIn y (map f xs) → (x : X) × IsIn x xs × (y ≡ f x)
-map-in f [] y h = absurd h
-map-in f (x ∷ xs) y (inl e) = (x, inl refl, e)
-map-in f (x ∷ xs) y (inr h) = let found = map-in f xs y h in (found.0, inr found.1, found.2)
+use Rattle.place_laws.specs.Places.{nowhere, bare_decl, bare_program}
+use Rattle.place_laws.proofs.Lists.{in-map, map-in}
+use Rattle.place_laws.proofs.Acts.{bare_kind, bare_act, of-statements}
+use Rattle.place_laws.proofs.ControlPaths.{may-to, may-from, surely-to, surely-from}
 
 -- which act it is without its places
 touch-is : (kind : ActKind) (effect : Effect) (place : Place) → bare_kind kind ≡ kinds.Touch effect place → (at : Place) × (kind ≡ kinds.Touch effect at)
@@ -203,9 +189,7 @@ fails-from p rule place (inr (method, there, fails)) =
     let found = method-from p was.0 rule place (subst (λ (d : Decl). MethodFails (bare_program p) d rule place) was.2 fails) in
     (found.0, inr (was.0, in-contains p.methods was.0 was.1, found.1))
 
--- two programs that are equal but for their places fail no rule together
-pub places-apart : (p q : Program) → bare_program q ≡ bare_program p → NoRuleFails p → NoRuleFails q
-places-apart p q same passes rule place fails =
-    let bare : FailsEffect (bare_program p) rule nowhere = subst (λ (r : Program). FailsEffect r rule nowhere) same (fails-to q rule place fails) in
-    let was = fails-from p rule nowhere bare in
-    passes rule was.0 was.1
+-- of two programs that are equal except for the places in them, one fails a rule if the other does
+pub fails-alike : (p q : Program) → bare_program p ≡ bare_program q → (rule : ERule) (place : Place) → FailsEffect p rule place → (at : Place) × FailsEffect q rule at
+fails-alike p q same rule place fails =
+    fails-from q rule nowhere (subst (λ (r : Program). FailsEffect r rule nowhere) same (fails-to p rule place fails))

@@ -1,11 +1,11 @@
 -- The control paths of a body without places are those of the body, without their places.
-use Rattle.std.proofs.Common.{◌≡◌, ◌⊎◌, ℕ, Bool, List, [], ◌∷◌, map, zero, suc, inl, inr, refl, sym, ap, ◌∙◌, subst}
-use Rattle.std.specs.Prelude.{IsTrue, true, not, ◌&&◌, ◌||◌}
+use Rattle.std.proofs.Common.{◌≡◌, ℕ, Bool, [], ◌∷◌, map, zero, suc, inl, inr, refl, sym, ap, ◌∙◌, subst}
+use Rattle.std.specs.Prelude.{not, ◌&&◌, ◌||◌}
 use Rattle.twe_program.specs.declared.program.Body.{Body}
 use Rattle.twe_program.specs.Statement.{Statement, Block, Let, Set, SetCell, SetArray, SetGrid, If, While, Return, Print, Call, Make, Wait, Statements, no_more, statement, Arms, arm, otherwise, no_else}
 use Rattle.cover_flow.specs.ControlPath.{Path, Repeated, Through, ThroughAll, ThroughOne, IsAt, Comes, ComesAll, ComesOne, ControlPath, end_of}
 use Rattle.cover_flow.specs.Out.{puts_out, takes_in, out_after, MayBeOut, SurelyOut}
-use Rattle.pasting_laws.specs.Places.{bare_statement, bare_statements, bare_arms, bare_body}
+use Rattle.place_laws.specs.Places.{bare_statement, bare_statements, bare_arms, bare_body}
 
 abbrev pub bare_path : Path → Path
 bare_path path = map bare_statement path
