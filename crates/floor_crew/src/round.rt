@@ -45,7 +45,81 @@ pub(crate) fn round<'a, N: Named + Send + Sync, R: Threads + Wait + Sync, G: Gat
     let (floor, stand, part) = Floor::<N>::wake(alloc, lim, rest)?;
     let mut parts = List::new(alloc);
     parts.push(part)?;
-    let lent = Lent { alloc, p, lim, workers };
-    let stand = lend::<N, Brand, R, G>(rt, &lent, &floor, stand, team, gate, &mut parts)?;
+    let terms = Terms {
+        alloc,
+        p,
+        lim,
+        workers,
+    };
+    let stand = lend::<N, Brand, R, G>(rt, &terms, &floor, stand, team, gate, &mut parts)?;
     floor.rest(alloc, stand, parts.as_slice())
+}
+
+/// What does not change in a round.
+struct Terms<'a> {
+    alloc: Global,
+    p: &'a Prog,
+    lim: Limits,
+    workers: u32,
+}
+
+/// Lends the floor to the workers. The main stand is joined with theirs, and the entries of each are kept beside its own.
+fn lend<
+    'a,
+    N: Named + Send + Sync,
+    F: Located + Send + Sync,
+    R: Threads + Wait + Sync,
+    G: Gate + Sync,
+>(
+    rt: &'a R,
+    terms: &'a Terms<'a>,
+    floor: &'a Floor<N>,
+    stand: Stand,
+    team: Team,
+    gate: &'a G,
+    parts: &mut List<Part>,
+) -> Result<Stand, Memory>
+    requires some { 1 ≤ terms.now.workers }
+    requires named { (terms.now.p.now ≡ N.prog) × (terms.now.lim ≡ N.lim) }
+    requires located { floor.now ≡ F.table }
+    requires new { IsNewOn F.table stand 0 }
+    requires parts { HasParts stand parts.old }
+    ensures main { IfOk result (λ stand. IsMainOn F.table stand 0) }
+    ensures parts { IfOk result (λ stand. HasParts stand parts.new) }
+{
+    let mut stand = stand;
+    let pending = AtomicU64::new(team.pending);
+    let faulted = AtomicBool::new(false);
+    let mut hands = split_all::<N, F>(terms.alloc, floor, &mut stand, team.workers)?;
+    let ground: Ground<'_, N, F> = Ground::new(terms.alloc, floor, terms.p, terms.lim, &faulted);
+    let shared = Shared {
+        rt,
+        gate,
+        pending: &pending,
+        ground: &ground,
+    };
+    let lent = hands.as_mut_slice();
+    thread::for_each_mut(rt, lent, terms.workers as usize, &|_, hand| shared.send(hand));
+    join_all::<N, F>(floor, &mut stand, hands, parts)?;
+    Ok(stand)
+}
+
+/// What the workers of a round share.
+#[derive(Drop)]
+struct Shared<'a, R: Wait, G, N: Named, F: Located> {
+    rt: &'a R,
+    gate: &'a G,
+    pending: &'a AtomicU64,
+    ground: &'a Ground<'a, N, F>,
+}
+
+impl<'a, R: Wait, G: Gate, N: Named, F: Located> Shared<'a, R, G, N, F> {
+    /// Sends a worker to work.
+    fn send(&self, hand: &mut Hand<F>) {
+        let site = Site {
+            gate: self.gate,
+            pending: self.pending,
+        };
+        hand.work(self.rt, self.ground, &site);
+    }
 }
