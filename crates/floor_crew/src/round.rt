@@ -45,22 +45,10 @@ pub(crate) fn round<'a, N: Named + Send + Sync, R: Threads + Wait + Sync, G: Gat
     let (floor, stand, part) = Floor::<N>::wake(alloc, lim, rest)?;
     let mut parts = List::new(alloc);
     parts.push(part)?;
-    let terms = Terms {
-        alloc,
-        p,
-        lim,
-        workers,
-    };
-    let stand = lend::<N, Brand, R, G>(rt, &terms, &floor, stand, team, gate, &mut parts)?;
+    let stand = lend::<N, Brand, R, G>(
+        rt, alloc, p, lim, workers, &floor, stand, team, gate, &mut parts,
+    )?;
     floor.rest(alloc, stand, parts.as_slice())
-}
-
-/// What does not change in a round.
-struct Terms<'a> {
-    alloc: Global,
-    p: &'a Prog,
-    lim: Limits,
-    workers: u32,
 }
 
 /// Lends the floor to the workers. The main stand is joined with theirs, and the entries of each are kept beside its own.
@@ -72,15 +60,18 @@ fn lend<
     G: Gate + Sync,
 >(
     rt: &'a R,
-    terms: &'a Terms<'a>,
+    alloc: Global,
+    p: &'a Prog,
+    lim: Limits,
+    workers: u32,
     floor: &'a Floor<N>,
     stand: Stand,
     team: Team,
     gate: &'a G,
     parts: &mut List<Part>,
 ) -> Result<Stand, Memory>
-    requires some { 1 ≤ terms.now.workers }
-    requires named { (terms.now.p.now ≡ N.prog) × (terms.now.lim ≡ N.lim) }
+    requires some { 1 ≤ workers }
+    requires named { (p.now ≡ N.prog) × (lim ≡ N.lim) }
     requires located { floor.now ≡ F.table }
     requires new { IsNewOn F.table stand 0 }
     requires parts { HasParts stand parts.old }
@@ -90,8 +81,8 @@ fn lend<
     let mut stand = stand;
     let pending = AtomicU64::new(team.pending);
     let faulted = AtomicBool::new(false);
-    let mut hands = split_all::<N, F>(terms.alloc, floor, &mut stand, team.workers)?;
-    let ground: Ground<'_, N, F> = Ground::new(terms.alloc, floor, terms.p, terms.lim, &faulted);
+    let mut hands = split_all::<N, F>(alloc, floor, &mut stand, team.workers)?;
+    let ground: Ground<'_, N, F> = Ground::new(alloc, floor, p, lim, &faulted);
     let shared = Shared {
         rt,
         gate,
@@ -99,7 +90,7 @@ fn lend<
         ground: &ground,
     };
     let lent = hands.as_mut_slice();
-    thread::for_each_mut(rt, lent, terms.workers as usize, &|_, hand| shared.send(hand));
+    thread::for_each_mut(rt, lent, workers as usize, &|_, hand| shared.send(hand));
     join_all::<N, F>(floor, &mut stand, hands, parts)?;
     Ok(stand)
 }

@@ -20,7 +20,7 @@ pub(crate) fn split_all<N: Named, F: Located>(
 ) -> Result<Vec<Hand<F>>, Memory>
     requires located { floor.now ≡ F.table }
     requires new { IsNewOn F.table stand.old 0 }
-    ensures { IfOk result (λ hands. IsNewOn F.table stand.new (length hands.items)) }
+    ensures split { IfOk result (λ hands. IsNewOn F.table stand.new (length hands.items)) }
     ensures part { IfOk result (λ hands. stand.new.me.0.part ≡ stand.old.me.0.part) }
 {
     let mut players = players;
