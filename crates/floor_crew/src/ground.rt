@@ -22,7 +22,7 @@ pub(crate) struct Ground<'a, N: Named, F: Located> {
     p: &'a Prog,
     lim: Limits,
     // Whether some task has met a fault. Then no worker begins another segment.
-    faulted: &'a AtomicBool,
+    faulted: AtomicBool,
     of: PhantomData<F>,
 }
 
@@ -39,13 +39,7 @@ impl<'a, N: Named, F: Located> Model for Ground<'a, N, F> {
 
 impl<'a, N: Named, F: Located> Ground<'a, N, F> {
     /// The ground of a round on this floor.
-    pub(crate) fn new(
-        alloc: Global,
-        floor: &'a Floor<N>,
-        p: &'a Prog,
-        lim: Limits,
-        faulted: &'a AtomicBool,
-    ) -> Self
+    pub(crate) fn new(alloc: Global, floor: &'a Floor<N>, p: &'a Prog, lim: Limits) -> Self
         requires located { floor.now ≡ F.table }
         requires named { (p.now ≡ N.prog) × (lim ≡ N.lim) }
     {
@@ -54,7 +48,7 @@ impl<'a, N: Named, F: Located> Ground<'a, N, F> {
             floor,
             p,
             lim,
-            faulted,
+            faulted: AtomicBool::new(false),
             of: PhantomData,
         }
     }

@@ -14,7 +14,7 @@ use journal_merge::Part;
 use std::alloc::Global;
 use std::marker::Brand;
 use std::sync::Wait;
-use std::sync::atomic::{AtomicBool, AtomicU64};
+use std::sync::atomic::AtomicU64;
 use std::thread;
 use std::thread::Threads;
 use task_floor::{Floor, Rest, Stand};
@@ -80,9 +80,8 @@ fn lend<
 {
     let mut stand = stand;
     let pending = AtomicU64::new(team.pending);
-    let faulted = AtomicBool::new(false);
     let mut hands = split_all::<N, F>(alloc, floor, &mut stand, team.workers)?;
-    let ground: Ground<'_, N, F> = Ground::new(alloc, floor, p, lim, &faulted);
+    let ground: Ground<'_, N, F> = Ground::new(alloc, floor, p, lim);
     let shared = Shared {
         rt,
         gate,
