@@ -2,3 +2,5 @@
 pub mod StillRuns
 -- The main stand of a round.
 pub mod MainStand
+-- The ground may be shared by threads.
+pub mod Crossing
