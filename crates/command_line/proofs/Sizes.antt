@@ -9,7 +9,8 @@ use Rattle.command_line.specs.declared.setting.Setting.TheVariants.{Workers, Fue
 use Rattle.command_line.specs.Words as words
 use Rattle.command_line.specs.Words.{Means, IsSized}
 
-in_range : (least most : ℕ) (word : List ℕ) (number : ℕ) → number_between least most word ≡ Some number → (least ≤ number) × (number ≤ most)
+-- a number between two others is in their range
+pub in_range : (least most : ℕ) (word : List ℕ) (number : ℕ) → number_between least most word ≡ Some number → (least ≤ number) × (number ≤ most)
 in_range least most word number e =
     let found = cond_some (is_number word && (nat_le least (number_of word) && nat_le (number_of word) most)) (number_of word) number e in
     let range = both (nat_le least (number_of word)) (nat_le (number_of word) most) (both (is_number word) (nat_le least (number_of word) && nat_le (number_of word) most) found.0).1 in

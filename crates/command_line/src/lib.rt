@@ -9,3 +9,4 @@ mod setting;
 
 pub use command::{Command, WordsFail, read_words};
 pub use laws::{every_list_is_decided, one_command};
+pub use number::number_between;

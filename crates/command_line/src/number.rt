@@ -8,7 +8,7 @@ ghost use Rattle.command_line.specs.Numbers.{is_number, number_of, number_betwee
 const TOO_LARGE: u64 = 10_000_000_000;
 
 /// The number that a word is, if it is one of 1 to 10 decimal digits, from `least` to `most`.
-pub(crate) fn number_between(least: u64, most: u64, word: &[u8]) -> Option<u64>
+pub fn number_between(least: u64, most: u64, word: &[u8]) -> Option<u64>
     requires { most < 10000000000 }
     ensures { result ≡ number_between least most word.now }
 {

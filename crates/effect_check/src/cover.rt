@@ -32,8 +32,8 @@ fn interferes_with_some(effect: &Effect, others: &Summary) -> bool
 fn bars(points: &Points, point: u32, effect: &Effect, marks: Marks, spawn: &Spawn) -> bool
     ensures { result ≡ bars points.now point effect.now marks spawn.now }
 {
-    points.may(point, spawn.future)
-        && meet(spawn.marks, marks)
+    meet(spawn.marks, marks)
+        && points.may(point, spawn.future)
         && interferes_with_some(effect, &spawn.effects)
 }
 

@@ -63,10 +63,10 @@ pub fn marks_of(effect: &Effect) -> Marks
 pub fn meet(first: Marks, second: Marks) -> bool
     ensures { result ≡ meet first second }
 {
-    first.near & second.near != 0
-        && first.far & second.far != 0
-        && first.index & second.index != 0
+    first.index & second.index != 0
         && first.far_index & second.far_index != 0
+        && first.near & second.near != 0
+        && first.far & second.far != 0
 }
 
 /// The marks of either.

@@ -1,26 +1,18 @@
 -- The books of a run that has not begun are in step with its first state.
-use Rattle.std.proofs.Common.{◌≡◌, ◌<◌, inl, ℕ, zero, suc, List, [], Some, None, refl, sym, ap, ◌∙◌, subst, arith}
-use Rattle.std.specs.Prelude.{slice_get}
+use Rattle.std.proofs.Common.{inl, ℕ, zero, suc}
 use Rattle.twe_limits.specs.Limits.{Bounds}
-use Rattle.wait_graph.specs.Link.{link_of}
 use Rattle.wait_graph.specs.Waiting.{WaitsFor}
 use Rattle.twe_program.specs.Program.{Program}
-use Rattle.twe_machine.specs.declared.state.TaskRow.{TaskRow}
-use Rattle.twe_machine.specs.declared.state.TaskStatus.TheVariants.{Made, Enabled}
+use Rattle.twe_machine.specs.declared.state.TaskStatus.TheVariants.{Made}
+use Rattle.twe_machine.specs.Listings.{IsListing}
 use Rattle.twe_machine.specs.Moves.{start_of}
 use Rattle.twe_machine.specs.Rows.{HasStatus}
-use Rattle.twe_machine.proofs.Places.{got_one}
-use Rattle.flat_sched.specs.inner.Books.{IsHeldBack, Keeps}
-use Rattle.flat_sched.specs.inner.Lists.{IsListed, IsReady}
+use Rattle.twe_machine.proofs.MadeTasks.{none_enabled}
+use Rattle.flat_sched.specs.inner.Books.{Keeps}
+use Rattle.flat_sched.specs.inner.Lists.{IsReady}
 use Rattle.flat_sched.specs.declared.books.Books.{Books}
 
 module _ (p : Program) (lim : Bounds) where
-  pub none_enabled : (t : ℕ) → ¬ HasStatus (start_of p lim) t Enabled
-  none_enabled zero has =
-      let made : has.0.status ≡ Made = ap (λ (r : TaskRow). r.status) (got_one (slice_get (start_of p lim).tasks 0) has.1 refl) in
-      cc (made, has.2)
-  none_enabled (suc t) has = cc (has.1)
-
   made_ready : (b : Books) (t : ℕ) → IsReady b.ready 0 → HasStatus (start_of p lim) t Made → IsReady b.ready t
   made_ready b zero ready has = ready
   made_ready b (suc t) ready has = absurd (cc (has.1))
@@ -29,11 +21,10 @@ module _ (p : Program) (lim : Bounds) where
   none_waits zero u wait = let some = wait.waits in cc (some)
   none_waits (suc s) u wait = let some = wait.waits in cc (some)
 
-  pub first_keeps : (b : Books) → IsReady b.ready 0 → b.active.path ≡ 0 → Keeps (start_of p lim) b
-  first_keeps b ready short = record {
-    runs = λ t run. absurd (none_enabled t run.0);
+  pub first_keeps : (b : Books) → IsReady b.ready 0 → IsListing (start_of p lim) b.enabled → Keeps (start_of p lim) b
+  first_keeps b ready listing = record {
+    runs = λ t run. absurd (none_enabled p lim t run.0);
     made = λ t made. inl (made_ready b t ready made);
     waits = λ s u wait. absurd (none_waits s u wait);
-    active = λ s has. absurd (none_enabled s has);
-    path = λ i s low here. absurd (omega (arith, low, short));
+    listing = listing;
   }

@@ -6,7 +6,6 @@ pub mod Holders
 pub mod SoFar
 pub mod Sound
 pub mod Listing
-pub mod Places
 pub mod LookedAt
 pub mod NotedMoves
 pub mod Step

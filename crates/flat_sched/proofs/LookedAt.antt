@@ -1,24 +1,17 @@
 -- What the books say of the tasks that are looked at.
-use Rattle.std.proofs.Common.{◌≡◌, ◌≢◌, ◌⊎◌, ◌<◌, ◌≤◌, inl, inr, ℕ, zero, suc, List, [], ◌∷◌, ◌++◌, length, take, Option, Some, None, false, refl, sym, ap, ◌∙◌, subst, arith}
-use Rattle.std.specs.Prelude.{slice_get}
-use Rattle.std.specs.List.{Contains}
-use Rattle.std.proofs.lemmas.Bool.{cases_eq, cases_lt, false≢true}
+use Rattle.std.proofs.Common.{◌≡◌, ◌≢◌, inl, inr, ℕ, List, sym, subst}
+use Rattle.std.proofs.lemmas.Bool.{cases_eq}
 use Rattle.seg_journal.specs.declared.moves.Kind.{Kind}
 use Rattle.seg_journal.specs.declared.moves.Kind.TheVariants.{Admit, Run}
-use Rattle.wait_graph.specs.Chain.{none}
-use Rattle.wait_graph.specs.Link.{link_of}
-use Rattle.wait_graph.specs.Waiting.{WaitsFor, WaitsOn, YieldsTo}
-use Rattle.wait_graph.proofs.ChainLemmas.{Chain-append}
+use Rattle.wait_graph.specs.Waiting.{WaitsFor}
 use Rattle.twe_machine.proofs.LinksAgree.{status_of}
 use Rattle.twe_machine.specs.declared.state.State.{State}
 use Rattle.twe_machine.specs.declared.state.TaskRow.{TaskRow}
 use Rattle.twe_machine.specs.declared.state.TaskStatus.TheVariants.{Made, Enabled}
-use Rattle.twe_machine.specs.Legal.{Interfere, IsBar, MayRun, MayTake}
+use Rattle.twe_machine.specs.Legal.{IsBar, MayRun, MayTake}
 use Rattle.twe_machine.specs.Rows.{HasStatus, IsRow}
-use Rattle.flat_sched.specs.inner.Books.{IsHeldBack, IsPath, Keeps}
+use Rattle.flat_sched.specs.inner.Books.{IsHeldBack, Keeps}
 use Rattle.flat_sched.specs.inner.Lists.{IsListed, IsReady}
-use Rattle.flat_sched.proofs.Places.{got_contained}
-use Rattle.flat_sched.specs.declared.active.Active.{Active}
 use Rattle.flat_sched.specs.declared.books.Books.{Books}
 
 -- a task with a legal move is to be looked at
@@ -49,45 +42,18 @@ keeps_without st b ready t keeps others no_move held = record {
     | inr ne ↦ elim (keeps.made u made) [ inl look ↦ inl (others u ne look) | inr h ↦ inr (held_on st b (record b { ready = ready }) u (λ v x h. h) h) ]
   ];
   waits = keeps.waits;
-  active = keeps.active;
-  path = keeps.path;
+  listing = keeps.listing;
 }
 
--- the path may change, and tasks may be put on the lists of bars
-pub keeps_looked : (st : State) (b : Books) (held : List (List ℕ)) (active : Active) → Keeps st b → ((u x : ℕ) → IsListed b.held u x → IsListed held u x)
-    → active.tasks ≡ b.active.tasks → IsPath st active → Keeps st (record b { held = held; active = active })
-keeps_looked st b held active keeps grows same path = record {
+-- tasks may be put on the lists of bars
+pub keeps_looked : (st : State) (b : Books) (held : List (List ℕ)) → Keeps st b → ((u x : ℕ) → IsListed b.held u x → IsListed held u x)
+    → Keeps st (record b { held = held })
+keeps_looked st b held keeps grows = record {
   runs = keeps.runs;
-  made = λ u made. elim (keeps.made u made) [ inl look ↦ inl look | inr h ↦ inr (held_on st b (record b { held = held; active = active }) u grows h) ];
+  made = λ u made. elim (keeps.made u made) [ inl look ↦ inl look | inr h ↦ inr (held_on st b (record b { held = held }) u grows h) ];
   waits = keeps.waits;
-  active = λ s has. subst (λ (tasks : List ℕ). Contains tasks s) (sym same) (keeps.active s has);
-  path = path;
+  listing = keeps.listing;
 }
-
--- Bars.
-
--- the first tasks wait for the end of the path, and so for t if it does
-pub known_path : (st : State) (active : Active) (t : ℕ) → IsPath st active → WaitsOn st.links active.end t → (link_of st.links active.end).done ≡ false
-    → (i s : ℕ) → i < active.path → slice_get active.tasks i ≡ Some s → WaitsOn st.links s t
-known_path st active t path chain undone i s low here =
-    elim (path i s low here) [
-      | inl to_end ↦ Chain-append to_end chain
-      | inr done ↦ absurd (false≢true (sym undone ∙ done))
-    ]
-
--- if no enabled task is a bar, the task may be admitted
-pub admits : (st : State) (tasks : List ℕ) (from t : ℕ) → ((i s : ℕ) → i < from → slice_get tasks i ≡ Some s → WaitsOn st.links s t)
-    → ((i s : ℕ) → from ≤ i → slice_get tasks i ≡ Some s → s ≢ t → HasStatus st s Enabled → Interfere st s t → YieldsTo st.links s t)
-    → ((s : ℕ) → HasStatus st s Enabled → Contains tasks s) → HasStatus st t Made → MayTake st Admit t
-admits st tasks from t before rest all made = (
-  made,
-  λ s ne has i.
-      let at = got_contained tasks s (all s has) in
-      elim (cases_lt at.0 from) [
-        | inl low ↦ (t, before at.0 s low at.1, none)
-        | inr high ↦ rest at.0 s high at.1 ne has i
-      ],
-)
 
 -- a task with a bar may not be admitted, and one that was made may not run
 pub barred : (st : State) (s t : ℕ) → HasStatus st t Made → IsBar st s t → (kind : Kind) → ¬ MayTake st kind t

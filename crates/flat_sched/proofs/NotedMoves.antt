@@ -1,42 +1,16 @@
 -- What the books say after a move was noted.
-use Rattle.std.proofs.Common.{◌≡◌, ◌≢◌, ◌⊎◌, ◌<◌, ◌≤◌, ◌+◌, inl, inr, ℕ, List, length, Option, Some, None, true, false, refl, sym, ap, ◌∙◌, subst, arith}
-use Rattle.std.specs.Prelude.{slice_get}
-use Rattle.std.specs.List.{Contains}
+use Rattle.std.proofs.Common.{◌≡◌, ◌≢◌, ◌⊎◌, ◌<◌, ◌≤◌, ◌+◌, inl, inr, ℕ, List, length, None, sym, ap, ◌∙◌, subst, arith}
 use Rattle.std.proofs.lemmas.Bool.{cases_eq, cases_lt, false≢true}
 use Rattle.std.proofs.lemmas.List.{get_or_past}
-use Rattle.std.proofs.lemmas.Option.{slice_get_within}
-use Rattle.seg_journal.specs.declared.journal.End.{End}
-use Rattle.seg_journal.specs.declared.journal.End.TheVariants as ends
-use Rattle.seg_journal.specs.declared.moves.Kind.{Kind}
-use Rattle.seg_journal.specs.declared.moves.Kind.TheVariants.{Admit, Run}
 use Rattle.seg_journal.specs.declared.moves.Move.{Move}
 use Rattle.wait_graph.specs.declared.tasks.Link.{Link}
 use Rattle.wait_graph.specs.Link.{link_of, new_link}
 use Rattle.wait_graph.specs.Waiting.{IsDone, WaitsFor}
+use Rattle.twe_machine.specs.declared.enabled_tasks.EnabledTasks.{EnabledTasks}
 use Rattle.twe_machine.specs.declared.state.State.{State}
-use Rattle.twe_machine.specs.declared.state.TaskStatus.TheVariants.{Enabled}
-use Rattle.twe_machine.specs.Changes.{made_by}
-use Rattle.twe_machine.specs.Rows.{HasStatus}
-use Rattle.flat_sched.specs.inner.Actives.{IsPathOf}
 use Rattle.flat_sched.specs.inner.Books.{Freed, Grown, IsEndOf, Noted, Woken}
 use Rattle.flat_sched.specs.inner.Lists.{IsListed, IsReady}
-use Rattle.flat_sched.specs.declared.active.Active.{Active}
 use Rattle.flat_sched.specs.declared.books.Books.{Books}
-
--- a move makes one task at most
-pub made_one : (end : End) → made_by end ≤ 1
-made_one (ends.Admitted) = omega arith
-made_one (ends.Made child) = omega arith
-made_one (ends.Waits on) = omega arith
-made_one (ends.Joins on) = omega arith
-made_one (ends.Done value) = omega arith
-made_one (ends.Fault kind place) = omega arith
-
-pub path_then : (a b c : Active) → IsPathOf a b → IsPathOf b c → IsPathOf a c
-path_then a b c one two = λ i s low here.
-    let later = two i s low here in
-    let first = one i s later.0 later.1 in
-    (first.0, first.1, later.2 ∙ first.2)
 
 -- who waits is there
 pub waiter_there : (links : List Link) (s u : ℕ) → WaitsFor links s u → s < length links
@@ -57,13 +31,13 @@ undone_or_other st t u s wait =
       | inr ne ↦ inl ne
     ]
 
--- One step and then another: the new task is entered first, and then what the mover has done is noted.
-pub noted_then : (st : State) (mv : Move) (before : ℕ) (b mid after : Books) → length st.links ≡ length st.tasks → length st.tasks ≤ before + 1
-    → Grown b mid → (before < length st.tasks → IsReady mid.ready before)
+-- One step and then another: once the list of the enabled tasks is up to date, the new task is entered, and then what the mover
+-- has done is noted.
+pub noted_then : (st : State) (mv : Move) (before : ℕ) (b mid after : Books) (enabled : EnabledTasks) → length st.links ≡ length st.tasks → length st.tasks ≤ before + 1
+    → Grown (record b { enabled = enabled }) mid → (before < length st.tasks → IsReady mid.ready before)
     → ((u : ℕ) → before < length st.tasks → WaitsFor st.links before u → IsListed mid.waiters u before)
-    → (before < length st.tasks → HasStatus st before Enabled → Contains mid.active.tasks before)
     → Noted st mv (length st.tasks) mid after → Noted st mv before b after
-noted_then st mv before b mid after linked one grown ready waits active noted = record {
+noted_then st mv before b mid after enabled linked one grown ready waits noted = record {
   ready = λ x h. noted.ready x (grown.ready x h);
   waiters = λ u x ne h. noted.waiters u x ne (grown.waiters u x h);
   held = λ u x ne h. noted.held u x ne (grown.held u x h);
@@ -82,36 +56,24 @@ noted_then st mv before b mid after linked one grown ready waits active noted = 
       let low : before < length st.tasks = omega arith in
       let own = subst (λ (n : ℕ). WaitsFor st.links n u) (sym is) wait in
       subst (λ (n : ℕ). IsListed after.waiters u n) is (noted.waiters u before (undone_or_other st mv.task u before own) (waits u low own));
-  active = λ s has h. noted.active s has (grown.active s h);
-  admitted = noted.admitted;
-  new_active = λ c new has.
-      let below = slice_get_within st.tasks c has.0 has.1 in
-      let is : before ≡ c = omega arith in
-      let low : before < length st.tasks = omega arith in
-      subst (λ (n : ℕ). Contains after.active.tasks n) is
-      (noted.active before (subst (λ (n : ℕ). HasStatus st n Enabled) (sym is) has) (active low (subst (λ (n : ℕ). HasStatus st n Enabled) (sym is) has)));
-  path = path_then b.active mid.active after.active grown.path noted.path;
 }
 
 -- what has become of the mover: it waits, was admitted, is done, or is no longer enabled
-pub noted_mover : (st : State) (mv : Move) (b waited admitted woken after : Books) → length st.links ≡ length st.tasks
+pub noted_mover : (st : State) (mv : Move) (b waited woken after : Books) → length st.links ≡ length st.tasks
     → Grown b waited → ((u : ℕ) → WaitsFor st.links mv.task u → IsListed waited.waiters u mv.task) → ((e : ℕ) × IsEndOf st mv.task waited e)
-    → Grown waited admitted → (mv.kind ≡ Admit → Contains admitted.active.tasks mv.task)
-    → Woken st mv.task admitted woken → Freed st mv.task woken after → Noted st mv (length st.tasks) b after
-noted_mover st mv b waited admitted woken after linked one waits end two active wakes frees =
+    → Woken st mv.task waited woken → Freed st mv.task woken after → Noted st mv (length st.tasks) b after
+noted_mover st mv b waited woken after linked one waits end wakes frees =
     let t = mv.task in
-    let ready : (x : ℕ) → IsReady waited.ready x → IsReady after.ready x = λ x h. frees.ready x (wakes.ready x (two.ready x h)) in
+    let ready : (x : ℕ) → IsReady waited.ready x → IsReady after.ready x = λ x h. frees.ready x (wakes.ready x h) in
     let to_waiters : (u x : ℕ) → (u ≢ t) ⊎ ¬ IsDone st.links t → IsListed waited.waiters u x → IsListed after.waiters u x =
-    λ u x ne h. subst (λ (lists : List (List ℕ)). IsListed lists u x) (sym frees.waiters) (wakes.waiters u x ne (two.waiters u x h)) in
+    λ u x ne h. subst (λ (lists : List (List ℕ)). IsListed lists u x) (sym frees.waiters) (wakes.waiters u x ne h) in
     let to_held : (u x : ℕ) → IsListed b.held u x → IsListed woken.held u x =
-    λ u x h. subst (λ (lists : List (List ℕ)). IsListed lists u x) (sym wakes.held) (two.held u x (one.held u x h)) in
-    let to_active : (s : ℕ) → HasStatus st s Enabled → Contains admitted.active.tasks s → Contains after.active.tasks s =
-    λ s has h. frees.active s has (subst (λ (a : Active). Contains a.tasks s) (sym wakes.active) h) in
+    λ u x h. subst (λ (lists : List (List ℕ)). IsListed lists u x) (sym wakes.held) (one.held u x h) in
     record {
       ready = λ x h. ready x (one.ready x h);
       waiters = λ u x ne h. to_waiters u x ne (one.waiters u x h);
       held = λ u x ne h. frees.held u x ne (to_held u x h);
-      woken = λ x done h. frees.ready x (wakes.woken x done (two.waiters t x (one.waiters t x h)));
+      woken = λ x done h. frees.ready x (wakes.woken x done (one.waiters t x h));
       freed = λ x over h. frees.freed x over (to_held t x h);
       waiting = λ u undone wait. to_waiters u t (inr undone) (waits u wait);
       end = end.0;
@@ -122,9 +84,4 @@ noted_mover st mv b waited admitted woken after linked one waits end two active 
       };
       new_ready = λ c new below. absurd (omega arith);
       new_waits = λ c u new wait. absurd (let below = waiter_there st.links c u wait in omega arith);
-      active = λ s has h. to_active s has (two.active s (one.active s h));
-      admitted = λ kind has. to_active t has (active kind);
-      new_active = λ c new has. absurd (let below = slice_get_within st.tasks c has.0 has.1 in omega arith);
-      path = path_then b.active admitted.active after.active (path_then b.active waited.active admitted.active one.path two.path)
-          (subst (λ (a : Active). IsPathOf a after.active) wakes.active frees.path);
     }

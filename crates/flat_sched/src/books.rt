@@ -1,10 +1,14 @@
 //! The books of a run: what it keeps beside its state, so that it looks at few tasks for each move.
 ghost use Rattle.std.specs.Prelude.{◌≡◌, []};
+ghost use Rattle.twe_limits.specs.Limits.{Bounds};
+ghost use Rattle.twe_program.specs.Program.{Program};
+ghost use Rattle.twe_machine.specs.Listings.{IsListing};
+ghost use Rattle.twe_machine.specs.Moves.{start_of};
 
-use crate::active::Active;
 use crate::ready::Ready;
 use std::alloc::Global;
 use twe_io::List;
+use twe_machine::EnabledTasks;
 
 /// The books of a run.
 #[derive(Drop)]
@@ -15,8 +19,8 @@ pub(crate) struct Books {
     pub waiters: List<List<u32>>,
     /// For each task, those that were found to be held by it.
     pub held: List<List<u32>>,
-    /// The tasks that may be enabled.
-    pub active: Active,
+    /// The enabled tasks.
+    pub enabled: EnabledTasks,
 }
 
 impl Books {
@@ -25,14 +29,13 @@ impl Books {
         ensures ready { result.ready ≡ [] }
         ensures waiters { result.waiters ≡ [] }
         ensures held { result.held ≡ [] }
-        ensures active { result.active.tasks ≡ [] }
-        ensures path { result.active.path ≡ 0 }
+        ensures enabled { (p : Program) (lim : Bounds) → IsListing (start_of p lim) result.enabled }
     {
         Books {
             ready: Ready::new(alloc),
             waiters: List::new(alloc),
             held: List::new(alloc),
-            active: Active::new(alloc),
+            enabled: EnabledTasks::new(alloc),
         }
     }
 }

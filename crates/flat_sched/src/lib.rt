@@ -2,7 +2,6 @@
 //! run is stuck, the cycle of tasks that keep one another from going on says why.
 #![tactic(auto)]
 
-mod active;
 mod books;
 mod held;
 mod laws;
@@ -15,7 +14,6 @@ mod stuck;
 
 pub use held::held_by;
 pub use laws::{one_stuck_cycle, stuck_cycles_have_true_edges};
-pub use looking::{bar_among, is_enabled};
 pub use lowest_run::run_lowest;
 pub use stuck::stuck_cycle;
 pub use twe_machine::lowest;

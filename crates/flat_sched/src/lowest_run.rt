@@ -16,10 +16,7 @@ use crate::noting::note;
 use seg_journal::{Entry, Journal, Limits, Move};
 use std::alloc::Global;
 use twe_io::Memory;
-use twe_machine::{
-    State, each_thing_happens_once, effects_are_filled, journals_are_short, links_agree, start,
-    step,
-};
+use twe_machine::{State, each_thing_happens_once, journals_are_short, links_agree, start, step};
 use twe_program::Prog;
 
 /// Runs the program under these limits to its end. Returns the journal of the run and the state that it leads to. At
@@ -90,7 +87,6 @@ fn lowest_ready(
     ensures ready { IfOk result (λ next. IfSome next (λ mv. IsReady books.new.ready mv.task)) }
 {
     links_agree();
-    effects_are_filled();
     let _main = p.main;
     'looking: while let Some(t) = books.ready.lowest() {
         if let Some(mv) = look(alloc, st, books, t)? {

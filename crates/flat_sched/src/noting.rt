@@ -1,23 +1,18 @@
 //! Noting a move in the books.
-ghost use Rattle.std.specs.Prelude.{◌≡◌, ◌≢◌, ◌≤◌, ◌<◌, ◌+◌, ℕ, length, IsTrue, OnOk, Some, slice_get};
+ghost use Rattle.std.specs.Prelude.{◌≡◌, ◌≤◌, ◌<◌, ◌+◌, ℕ, length, OnOk};
 ghost use Rattle.std.specs.List.{Contains};
-ghost use Rattle.seg_journal.specs.declared.moves.Kind.{Kind};
 ghost use Rattle.wait_graph.specs.Waiting.{WaitsFor};
-ghost use Rattle.twe_machine.specs.declared.state.TaskStatus.TheVariants.{Enabled};
-ghost use Rattle.twe_machine.specs.Rows.{HasStatus};
-ghost use Rattle.flat_sched.specs.inner.Actives.{IsPathOf};
+ghost use Rattle.twe_machine.specs.Listings.{IsListing, WasListing};
 ghost use Rattle.flat_sched.specs.inner.Books.{Freed, Grown, IsEndOf, Noted, Woken};
 ghost use Rattle.flat_sched.specs.inner.Lists.{IsListed, IsReady};
 
-use crate::active::Active;
 use crate::books::Books;
 use crate::lists::{add, take};
-use crate::looking::is_enabled;
 use crate::ready::Ready;
-use seg_journal::{Kind, Move};
+use seg_journal::Move;
 use std::alloc::Global;
 use twe_io::{List, Memory};
-use twe_machine::State;
+use twe_machine::{State, is_enabled};
 
 /// Adds all tasks of a list to those that are to be looked at.
 fn wake(ready: &mut Ready, tasks: &[u32]) -> Result<(), Memory>
@@ -30,51 +25,16 @@ fn wake(ready: &mut Ready, tasks: &[u32]) -> Result<(), Memory>
     Ok(())
 }
 
-/// How many of the first tasks there are up to the last one that is enabled.
-fn live(st: &State, tasks: &[u32]) -> usize
-    ensures { (i s : ℕ) → result ≤ i → slice_get tasks.now i ≡ Some s → ¬ HasStatus st.now s Enabled }
-{
-    let mut count = tasks.len();
-    'over: while 0 < count && !is_enabled(st, tasks[count - 1]) {
-        count -= 1;
-    }
-    count
-}
-
-/// Takes the tasks that are not enabled off the end of the active ones.
-fn drop_over(st: &State, active: &mut Active)
-    ensures kept { (s : ℕ) → HasStatus st.now s Enabled → Contains active.old.tasks s → Contains active.new.tasks s }
-    ensures path { IsPathOf active.old active.new }
-{
-    let count = live(st, active.tasks.as_slice());
-    active.truncate(count);
-}
-
-/// Enters a new task: it is to be looked at, is on the list of the task that it waits for, and is active if it is enabled.
+/// Enters a new task: it is to be looked at, and is on the list of the task that it waits for.
 fn enroll(alloc: Global, st: &State, books: &mut Books, t: u32) -> Result<(), Memory>
     requires there { t < length st.now.tasks }
     requires linked { length st.now.links ≡ length st.now.tasks }
     ensures grown { OnOk result (Grown books.old books.new) }
     ensures ready { OnOk result (IsReady books.new.ready t) }
     ensures waits { OnOk result ((u : ℕ) → WaitsFor st.now.links t u → IsListed books.new.waiters u t) }
-    ensures active { OnOk result (HasStatus st.now t Enabled → Contains books.new.active.tasks t) }
 {
     books.ready.add(t)?;
     await_task(alloc, st, &mut books.waiters, t)?;
-    add_if_enabled(st, &mut books.active, t)?;
-    Ok(())
-}
-
-/// Adds a task to the active ones if it is enabled.
-fn add_if_enabled(st: &State, active: &mut Active, t: u32) -> Result<(), Memory>
-    ensures added { OnOk result (HasStatus st.now t Enabled → Contains active.new.tasks t) }
-    ensures kept { OnOk result ((s : ℕ) → Contains active.old.tasks s → Contains active.new.tasks s) }
-    ensures path { OnOk result (IsPathOf active.old active.new) }
-{
-    if !is_enabled(st, t) {
-        return Ok(());
-    }
-    active.add(t)?;
     Ok(())
 }
 
@@ -122,7 +82,6 @@ fn free_held(alloc: Global, st: &State, books: &mut Books, t: u32) -> Result<(),
     }
     let held = take(alloc, &mut books.held, t);
     wake(&mut books.ready, held.as_slice())?;
-    drop_over(st, &mut books.active);
     Ok(())
 }
 
@@ -144,28 +103,14 @@ fn note_wait(alloc: Global, st: &State, books: &mut Books, t: u32) -> Result<(),
     Ok(())
 }
 
-/// Notes that a task was admitted, if the move is an admission.
-fn note_admission(books: &mut Books, mv: Move) -> Result<(), Memory>
-    ensures grown { OnOk result (Grown books.old books.new) }
-    ensures admitted { OnOk result (mv.kind ≡ Kind.Admit → Contains books.new.active.tasks mv.task) }
-{
-    match mv.kind {
-        Kind::Run => Ok(()),
-        Kind::Admit => {
-            books.active.add(mv.task)?;
-            Ok(())
-        }
-    }
-}
-
 /// Notes what has become of the task that has made a move.
 fn note_mover(alloc: Global, st: &State, books: &mut Books, mv: Move) -> Result<(), Memory>
     requires there { mv.task < length st.now.tasks }
     requires linked { length st.now.links ≡ length st.now.tasks }
-    ensures { OnOk result (Noted st.now mv (length st.now.tasks) books.old books.new) }
+    ensures noted { OnOk result (Noted st.now mv (length st.now.tasks) books.old books.new) }
+    ensures enabled { OnOk result (books.new.enabled ≡ books.old.enabled) }
 {
     note_wait(alloc, st, books, mv.task)?;
-    note_admission(books, mv)?;
     wake_waiters(alloc, st, books, mv.task)?;
     free_held(alloc, st, books, mv.task)?;
     Ok(())
@@ -177,7 +122,6 @@ fn enroll_new(alloc: Global, st: &State, books: &mut Books, before: u32) -> Resu
     ensures grown { OnOk result (Grown books.old books.new) }
     ensures ready { OnOk result (before < length st.now.tasks → IsReady books.new.ready before) }
     ensures waits { OnOk result ((u : ℕ) → before < length st.now.tasks → WaitsFor st.now.links before u → IsListed books.new.waiters u before) }
-    ensures active { OnOk result (before < length st.now.tasks → HasStatus st.now before Enabled → Contains books.new.active.tasks before) }
 {
     if st.links.task_count() <= before {
         return Ok(());
@@ -197,8 +141,11 @@ pub(crate) fn note(
     requires there { mv.task < length st.now.tasks }
     requires linked { length st.now.links ≡ length st.now.tasks }
     requires one { length st.now.tasks ≤ before + 1 }
-    ensures { OnOk result (Noted st.now mv before books.old books.new) }
+    requires was { WasListing st.now mv before books.old.enabled }
+    ensures noted { OnOk result (Noted st.now mv before books.old books.new) }
+    ensures listing { OnOk result (IsListing st.now books.new.enabled) }
 {
+    books.enabled.note(st, mv, before)?;
     enroll_new(alloc, st, books, before)?;
     note_mover(alloc, st, books, mv)?;
     Ok(())

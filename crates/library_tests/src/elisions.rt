@@ -11,8 +11,21 @@ const QUOTIENT: &[u8] =
     b"deterministic task int z(int a) pure { return 1 / a; }\ntask void main() pure {\n}\n";
 
 /// Two children add 5 to an element each and return it.
-const BOTH: &[u8] =
-    b"region D;\nint d[2] in D;\ndeterministic task int half(int j) writes D:[j] { d[j] = d[j] + 5; return d[j]; }\ndeterministic task int both() writes D:[0], D:[1] {\n  future f = half.spawn(0);\n  future g = half.spawn(1);\n  int a = f.join();\n  int b = g.join();\n  return a * 100 + b;\n}\ntask void main() writes D:[0], D:[1], Console {\n  future f = both.executeLater();\n  int v = f.getValue();\n  print(v);\n}\n";
+const BOTH: &[u8] = b"region D;\n\
+int d[2] in D;\n\
+deterministic task int half(int j) writes D:[j] { d[j] = d[j] + 5; return d[j]; }\n\
+deterministic task int both() writes D:[0], D:[1] {\n\
+future f = half.spawn(0);\n\
+future g = half.spawn(1);\n\
+int a = f.join();\n\
+int b = g.join();\n\
+return a * 100 + b;\n\
+}\n\
+task void main() writes D:[0], D:[1], Console {\n\
+future f = both.executeLater();\n\
+int v = f.getValue();\n\
+print(v);\n\
+}\n";
 
 /// The sequential execution of a declaration of the text on the cells as they are at the start.
 fn elide_from_start(

@@ -1,6 +1,6 @@
-//! Tests of the libraries that no run of the program shows: a printed tree, the text of a journal, and the sequential
-//! execution of a task. They also show that each call which may run out of memory can succeed. They stand in a crate of
-//! their own, since a crate with tests is proved twice.
+//! Tests of the libraries that no run of the program shows: a printed tree, the text of a journal, the sequential execution
+//! of a task, and the quiet points of a floor. They also show that each call which may run out of memory can succeed. They
+//! stand in a crate of their own, since a crate with tests is proved twice.
 #![tactic(auto)]
 
 #[cfg(test)]

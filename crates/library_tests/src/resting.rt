@@ -14,7 +14,7 @@ use task_floor::{Floor, Rest};
 use twe_frontend::read_program;
 use twe_io::Memory;
 use twe_limits::Limits;
-use twe_machine::{TaskStatus, replay_journal};
+use twe_machine::{State, TaskRow, TaskStatus, replay_journal};
 use twe_program::Prog;
 
 /// `main` prints 7 and spawns two children, of which it joins the first.
@@ -30,27 +30,31 @@ fn rest_of_new<N: Named>(alloc: Global, p: &Prog, lim: Limits) -> Result<Rest, M
     floor.rest(alloc, stand, &[part])
 }
 
-/// What a floor rests with that woke so.
-fn rest_again<N: Named>(alloc: Global, lim: Limits, rest: Rest) -> Result<Rest, Memory>
+/// What a floor for this program rests with that woke so.
+fn rest_again<N: Named>(alloc: Global, p: &Prog, lim: Limits, rest: Rest) -> Result<Rest, Memory>
     requires accepted { IsWellFormed N.prog × KeepsEffects N.prog }
-    requires named { lim ≡ N.lim }
+    requires named { (p.now ≡ N.prog) × (lim ≡ N.lim) }
     requires run { IsRun N.prog N.lim rest.journal rest.state }
 {
+    let _main = p.main;
     let (floor, stand, part) = Floor::<N>::wake(alloc, lim, rest)?;
     floor.rest(alloc, stand, &[part])
-}
-
-/// What a floor rests with that woke after these moves of the family.
-fn rest_after(alloc: Global, lim: Limits, moves: &[Move]) -> Result<Rest, Fail> {
-    let p = read_program(alloc, FAMILY)?;
-    let (journal, state) = replay_journal(alloc, &p, lim, moves)?;
-    Ok(rest_again::<Brand>(alloc, lim, Rest { state, journal })?)
 }
 
 /// What a new floor for the family rests with.
 fn rest_at_start(alloc: Global, lim: Limits) -> Result<Rest, Fail> {
     let p = read_program(alloc, FAMILY)?;
+    let _main = p.main;
     Ok(rest_of_new::<Brand>(alloc, &p, lim)?)
+}
+
+/// What a floor for the family rests with that woke after these moves.
+fn rest_after(alloc: Global, lim: Limits, moves: &[Move]) -> Result<Rest, Fail> {
+    let p = read_program(alloc, FAMILY)?;
+    let _main = p.main;
+    let (journal, state) = replay_journal(alloc, &p, lim, moves)?;
+    let rest = Rest { state, journal };
+    Ok(rest_again::<Brand>(alloc, &p, lim, rest)?)
 }
 
 /// A segment of this task.
@@ -61,13 +65,35 @@ fn run(task: u32) -> Move {
     }
 }
 
+/// Whether the family has printed 7 and 1 and has set the first cell, and two tasks were asked for.
+fn has_results(state: &State) -> bool {
+    state.prints.as_slice() == [7, 1].as_slice()
+        && state.cells.as_slice() == [5, 0].as_slice()
+        && state.asked == 2
+        && state.first_fault.is_none()
+}
+
+/// Whether `main` has joined its first child, which is done, and waits for the second, which is not joined.
+fn has_tasks(rows: &[TaskRow]) -> bool {
+    match rows {
+        [main, first, second] => {
+            main.out.as_slice() == [2].as_slice()
+                && first.joined
+                && first.value == 1
+                && !second.joined
+                && second.parent == Some(0)
+                && second.status == TaskStatus::Enabled
+        }
+        _ => false,
+    }
+}
+
 #[test]
 fn a_new_floor_rests_in_the_first_state(rt: HostRuntime) -> Result<(), Fail> {
     let rest = rest_at_start(rt.alloc(), Limits::new(1000, 4))?;
-    assert_eq!(rt; rest.journal.len(), 0);
-    assert_eq!(rt; rest.state.cells.as_slice(), [0, 0].as_slice());
-    assert_eq!(rt; rest.state.tasks.len(), 1);
-    assert!(rt; rest.state.tasks.as_slice()[0].status == TaskStatus::Made);
+    assert!(rt; rest.journal.is_empty());
+    assert!(rt; rest.state.cells.as_slice() == [0, 0].as_slice());
+    assert!(rt; rest.state.tasks.len() == 1);
     Ok(())
 }
 
@@ -79,18 +105,8 @@ fn a_floor_rests_in_the_state_that_it_woke_with(rt: HostRuntime) -> Result<(), F
     };
     let moves = [admit, run(0), run(0), run(1), run(0), run(0)];
     let rest = rest_after(rt.alloc(), Limits::new(1000, 4), &moves)?;
-    let state = rest.state;
-    assert_eq!(rt; rest.journal.len(), 6);
-    assert_eq!(rt; state.prints.as_slice(), [7, 1].as_slice());
-    assert_eq!(rt; state.cells.as_slice(), [5, 0].as_slice());
-    assert_eq!(rt; state.asked, 2);
-    assert!(rt; state.first_fault.is_none());
-    let tasks = state.tasks.as_slice();
-    assert_eq!(rt; tasks.len(), 3);
-    assert_eq!(rt; tasks[0].out.as_slice(), [2].as_slice());
-    assert_eq!(rt; (tasks[1].value, tasks[1].joined), (1, true));
-    assert_eq!(rt; (tasks[2].parent, tasks[2].joined), (Some(0), false));
-    assert!(rt; tasks[2].status == TaskStatus::Enabled);
-    assert_eq!(rt; state.links.link(0).waits, Some(2));
+    assert!(rt; rest.journal.len() == 6);
+    assert!(rt; has_results(&rest.state));
+    assert!(rt; has_tasks(rest.state.tasks.as_slice()));
     Ok(())
 }

@@ -1,23 +1,26 @@
 -- A bound above the fuel is never met: a larger one changes nothing.
-use Rattle.std.proofs.Common.{◌≡◌, ℕ, ◌<◌, false, [], ◌∷◌, None, ap, arith}
+use Rattle.std.proofs.Common.{◌≡◌, ℕ, ◌<◌, false, List, [], ◌∷◌, None, ap, sym, arith}
 use Rattle.twe_program.specs.Program.{Program}
 use Rattle.twe_program.specs.Statement.{Statement}
+use Rattle.seg_exec.specs.declared.frame.Position.{Position}
+use Rattle.seg_exec.specs.declared.operation.Operation.{Operation}
 use Rattle.seg_exec.specs.declared.operation.Operation.TheVariants as operations
 use Rattle.seg_exec.specs.declared.request.Ending.TheVariants.{Returned, Faulted, Suspended}
+use Rattle.seg_exec.specs.inner.Endings.{suspended_at}
 use Rattle.seg_exec.specs.Store.{Store, Flow, goes, returns, fails, stops}
 use Rattle.seg_exec.specs.Meaning.{done_within}
 use Rattle.seg_exec.specs.inner.Continuations.{Execute, Suspend}
-use Rattle.seg_exec.specs.inner.Runs.{Moment, Outcome, Over, moment, run}
+use Rattle.seg_exec.specs.inner.Runs.{Moment, Outcome, Over, Unfinished, moment, run}
 use Rattle.seg_exec.proofs.Simulation.{FlowTo, within_meets}
 use Rattle.seg_exec.proofs.Whole.{IsOver, once}
 
 module _ (p : Program) where
   -- how a run ends that has an operation to stop at after the statement
   abbrev marked : ℕ → Flow → Outcome
-  marked n (goes s) = Over (Suspended (operations.Wait n false None) []) s
+  marked n (goes s) = Over (suspended_at (operations.Wait n false None) []) s
   marked n (returns value s) = Over (Returned value) s
   marked n (fails kind place s) = Over (Faulted kind place) s
-  marked n (stops operation positions s) = Over (Suspended operation positions) s
+  marked n (stops operation positions s) = Over (suspended_at operation positions) s
 
   marked_over : (n : ℕ) (f : Flow) → IsOver p (marked n f)
   marked_over n (goes s) = tt
@@ -31,22 +34,41 @@ module _ (p : Program) where
   ends_marked n bound from (fails kind place s) h = h.by
   ends_marked n bound from (stops operation positions s) h = let x = h.1.by 2 in (x.0, x.2)
 
+  -- the operation at which a run ends, and the positions of the open blocks
+  abbrev operation_in : Outcome → Operation
+  operation_in (Over (Suspended held) s) = held.operation
+  operation_in (Over (Returned value) s) = operations.Wait 0 false None
+  operation_in (Over (Faulted kind place) s) = operations.Wait 0 false None
+  operation_in Unfinished = operations.Wait 0 false None
+
+  abbrev positions_in : Outcome → List Position
+  positions_in (Over (Suspended held) s) = held.positions
+  positions_in (Over (Returned value) s) = []
+  positions_in (Over (Faulted kind place) s) = []
+  positions_in Unfinished = []
+
+  -- it is not one that waits for two futures
+  one_future : (operation : Operation) → operations.Wait 0 false None ≡ operation → operations.Wait 1 false None ≡ operation → ⊥
+  one_future operation e e' = cc
+
   -- a flow is known by how it ends before two different operations
   known : (f g : Flow) → marked 0 f ≡ marked 0 g → marked 1 f ≡ marked 1 g → f ≡ g
   known (goes s) (goes s') e e' = let same : s ≡ s' = cc in ap goes same
   known (returns value s) (returns value' s') e e' = cc
   known (fails kind place s) (fails kind' place' s') e e' = cc
-  known (stops operation positions s) (stops operation' positions' s') e e' = cc
+  known (stops operation positions s) (stops operation' positions' s') e e' =
+      let a : operation ≡ operation' = ap operation_in e in let b : positions ≡ positions' = ap positions_in e in let same : s ≡ s' = cc in
+      cc
   known (goes s) (returns value' s') e e' = absurd (cc)
   known (goes s) (fails kind' place' s') e e' = absurd (cc)
-  known (goes s) (stops operation' positions' s') e e' = absurd (cc)
+  known (goes s) (stops operation' positions' s') e e' = absurd (one_future operation' (ap operation_in e) (ap operation_in e'))
   known (returns value s) (goes s') e e' = absurd (cc)
   known (returns value s) (fails kind' place' s') e e' = absurd (cc)
   known (returns value s) (stops operation' positions' s') e e' = absurd (cc)
   known (fails kind place s) (goes s') e e' = absurd (cc)
   known (fails kind place s) (returns value' s') e e' = absurd (cc)
   known (fails kind place s) (stops operation' positions' s') e e' = absurd (cc)
-  known (stops operation positions s) (goes s') e e' = absurd (cc)
+  known (stops operation positions s) (goes s') e e' = absurd (one_future operation (ap operation_in (sym e)) (ap operation_in (sym e')))
   known (stops operation positions s) (returns value' s') e e' = absurd (cc)
   known (stops operation positions s) (fails kind' place' s') e e' = absurd (cc)
 

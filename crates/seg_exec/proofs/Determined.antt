@@ -7,7 +7,8 @@ use Rattle.seg_exec.specs.declared.frame.OpenBody.{OpenBody}
 use Rattle.seg_exec.specs.declared.request.Request.{Request}
 use Rattle.seg_exec.specs.declared.request.Request.TheVariants.{Nothing, Read, Write, Print, End}
 use Rattle.seg_exec.specs.declared.request.Ending.{Ending}
-use Rattle.seg_exec.specs.declared.request.Ending.TheVariants.{Returned, Faulted, Suspended}
+use Rattle.seg_exec.specs.declared.request.Ending.TheVariants.{Returned, Faulted}
+use Rattle.seg_exec.specs.inner.Endings.{suspended_at}
 use Rattle.seg_exec.specs.Access.{Access, Reads, Agrees, after, value_in}
 use Rattle.seg_exec.specs.Segment.{AgreesWithItself, Stopped, flow_of, segment, stopped_by}
 use Rattle.seg_exec.specs.Store.{Store, Flow, goes, returns, fails, stops}
@@ -89,7 +90,7 @@ module _ (p : Program) (frame : Frame) where
   ends_as (goes s) = record { ending = Returned (pos 0); end = s; outcome = refl; stopped = refl }
   ends_as (returns value s) = record { ending = Returned value; end = s; outcome = refl; stopped = refl }
   ends_as (fails kind place s) = record { ending = Faulted kind place; end = s; outcome = refl; stopped = refl }
-  ends_as (stops operation positions s) = record { ending = Suspended operation positions; end = s; outcome = refl; stopped = refl }
+  ends_as (stops operation positions s) = record { ending = suspended_at operation positions; end = s; outcome = refl; stopped = refl }
 
   body_agrees : (body : Option OpenBody) (cells : List ℤ) → AgreesWithItself cells (stopped_by p frame (flow_of p frame body cells))
   body_agrees None cells = record { agrees = tt; cells_after = refl }

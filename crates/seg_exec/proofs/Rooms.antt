@@ -40,8 +40,8 @@ spawns_have_room p frame cells = flow_has_room p frame (flow_of p frame frame.bo
 pub finished_has_room : (p : Program) (frame : Frame) (vars : List ℤ) (ending : Ending) → HasRoomToSpawn (finished p frame vars ending).1 (finished p frame vars ending).0
 finished_has_room p frame vars (Returned value) = closing_has_room frame.out.items value (finished p frame vars (Returned value)).0
 finished_has_room p frame vars (Faulted kind place) = tt
-finished_has_room p frame vars (Suspended operation positions) =
-    operation_has_room p frame (finished p frame vars (Suspended operation positions)).0 operation frame.out.room refl
+finished_has_room p frame vars (Suspended held) =
+    operation_has_room p frame (finished p frame vars (Suspended held)).0 held.operation frame.out.room refl
 
 pub so_has_room : (p : Program) (frame new_frame : Frame) (stop : Stop) (vars : List ℤ) (ending : Ending) → (new_frame, stop) ≡ finished p frame vars ending
     → HasRoomToSpawn stop new_frame

@@ -7,7 +7,8 @@ use Rattle.seg_exec.specs.declared.frame.Frame.{Frame}
 use Rattle.seg_exec.specs.declared.machine.Machine.{Machine}
 use Rattle.seg_exec.specs.declared.stop.Stop.{Stop}
 use Rattle.seg_exec.specs.declared.request.Ending.{Ending}
-use Rattle.seg_exec.specs.declared.request.Ending.TheVariants.{Returned, Faulted, Suspended}
+use Rattle.seg_exec.specs.declared.request.Ending.TheVariants.{Returned, Faulted}
+use Rattle.seg_exec.specs.inner.Endings.{suspended_at}
 use Rattle.seg_exec.specs.Access.{MayAll, Ways, after, printed}
 use Rattle.seg_exec.specs.Meaning.{body_of, done_within}
 use Rattle.seg_exec.specs.Remaining.{resumed}
@@ -50,8 +51,8 @@ module _ (p : Program) where
       let a : Faulted kind place ≡ ending = cc in let b : s0 ≡ s = cc in
       ap (λ (x : Store). left frame (Faulted kind place) x) b ∙ ap (λ (x : Ending). left frame x s) a
   stopped_so frame (stops operation positions s0) ending s e =
-      let a : Suspended operation positions ≡ ending = cc in let b : s0 ≡ s = cc in
-      ap (λ (x : Store). left frame (Suspended operation positions) x) b ∙ ap (λ (x : Ending). left frame x s) a
+      let a : suspended_at operation positions ≡ ending = cc in let b : s0 ≡ s = cc in
+      ap (λ (x : Store). left frame (suspended_at operation positions) x) b ∙ ap (λ (x : Ending). left frame x s) a
 
   -- over a list of cells
   pub flow_so : (frame : Frame) (opened : Option OpenBody) (start : Config) (cells : List ℤ) → config_at p frame opened ≡ Some start
@@ -94,7 +95,7 @@ module _ (p : Program) where
     may_end frame cells from (goes s) may x = (x.0, Returned (pos 0), s, x.1, may)
     may_end frame cells from (returns value s) may x = (x.0, Returned value, s, x.1, may)
     may_end frame cells from (fails kind place s) may x = (x.0, Faulted kind place, s, x.1, may)
-    may_end frame cells from (stops operation positions s) may x = (x.0, Suspended operation positions, s, x.1, may)
+    may_end frame cells from (stops operation positions s) may x = (x.0, suspended_at operation positions, s, x.1, may)
 
     pub may_run : (frame : Frame) (from : Machine) (cells : C) (prints : List ℤ) → MayCarryOut p ways frame cells → config_at p frame frame.body ≡ Some (config_of from)
         → MayRun p ways (standing from cells prints)

@@ -5,7 +5,8 @@ use Rattle.twe_program.specs.Statement.{Statement, While, Statements}
 use Rattle.seg_exec.specs.declared.frame.Position.{Position}
 use Rattle.seg_exec.specs.declared.request.Request.{Request}
 use Rattle.seg_exec.specs.declared.request.Request.TheVariants as requests
-use Rattle.seg_exec.specs.declared.request.Ending.TheVariants.{Returned, Faulted, Suspended}
+use Rattle.seg_exec.specs.declared.request.Ending.TheVariants.{Returned, Faulted}
+use Rattle.seg_exec.specs.inner.Endings.{suspended_at}
 use Rattle.seg_exec.specs.Store.{Store, Flow, goes, returns, fails, stops}
 use Rattle.seg_exec.specs.Meaning.{Below, done_all}
 use Rattle.seg_exec.specs.Remaining.{after_first, last_of_first, block_of, block_at, turned_again, resumed}
@@ -42,7 +43,7 @@ module _ (p : Program) where
   outcome_of (goes s) = Over (Returned (pos 0)) s
   outcome_of (returns value s) = Over (Returned value) s
   outcome_of (fails kind place s) = Over (Faulted kind place) s
-  outcome_of (stops operation positions s) = Over (Suspended operation positions) s
+  outcome_of (stops operation positions s) = Over (suspended_at operation positions) s
 
   pub ends_so : (bound : ℕ) (from : Moment) (f : Flow) → FlowTo p bound from [] [] f → (k : ℕ) × (run p k from ≡ outcome_of f)
   ends_so bound from (goes s) h = let x = h.1.by 1 in (x.0, x.2)

@@ -1,5 +1,6 @@
 pub mod Assignments
 pub mod Continuations
+pub mod Endings
 pub mod Finished
 pub mod Plainly
 pub mod Reached

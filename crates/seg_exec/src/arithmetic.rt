@@ -42,6 +42,7 @@ fn remainder(x: i32, y: i32) -> Option<i32>
 
 /// The value of an operator on its two operands; sums, differences and products wrap. Returns none exactly if the
 /// operator divides by zero.
+#[inline(always)]
 pub(crate) fn operate(op: BinOp, x: i32, y: i32) -> Option<i32>
     ensures { result ≡ operated op x y }
 {
@@ -64,6 +65,7 @@ pub(crate) fn operate(op: BinOp, x: i32, y: i32) -> Option<i32>
 
 /// The value of an operator if its left operand alone decides it: a true operand decides `||`, and a false one decides
 /// `&&`. Returns none otherwise.
+#[inline(always)]
 pub(crate) fn decide(op: BinOp, left: bool) -> Option<i32>
     ensures { result ≡ decided op left }
 {

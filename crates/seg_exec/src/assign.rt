@@ -33,6 +33,7 @@ fn put_var(vars: &mut Ints, var: u32, value: i32)
 }
 
 /// Evaluates an expression and assigns its value to a variable.
+#[inline(always)]
 fn set_var<C: Cells>(var: u32, value: &Expr, p: &Prog, vars: &mut Ints, cells: &mut C) -> Carried
     requires { MayDo p.now (ways_of C.known C.may_read C.may_write C.rule) (to_variable value.now var) vars.old cells.old }
     ensures { Does p.now (ways_of C.known C.may_read C.may_write C.rule) (to_variable value.now var) vars.old cells.old result vars.new cells.new }
@@ -50,6 +51,7 @@ fn set_var<C: Cells>(var: u32, value: &Expr, p: &Prog, vars: &mut Ints, cells: &
 }
 
 /// Evaluates an expression and assigns its value to a cell.
+#[inline(always)]
 fn set_cell<C: Cells>(cell: u32, value: &Expr, p: &Prog, vars: &mut Ints, cells: &mut C) -> Carried
     requires { MayDo p.now (ways_of C.known C.may_read C.may_write C.rule) (to_cell value.now cell) vars.old cells.old }
     ensures { Does p.now (ways_of C.known C.may_read C.may_write C.rule) (to_cell value.now cell) vars.old cells.old result vars.new cells.new }
@@ -67,6 +69,7 @@ fn set_cell<C: Cells>(cell: u32, value: &Expr, p: &Prog, vars: &mut Ints, cells:
 }
 
 /// Writes an element. It is a fault if there is no such element.
+#[inline(always)]
 fn write<C: Cells>(cells: &mut C, cell: Option<u32>, value: i32, place: Place) -> Carried
     requires { MayWriteAt (ways_of C.known C.may_read C.may_write C.rule) cells.old cell }
     ensures { WritesAt (ways_of C.known C.may_read C.may_write C.rule) cell value place cells.old result cells.new }
@@ -84,6 +87,7 @@ fn write<C: Cells>(cells: &mut C, cell: Option<u32>, value: i32, place: Place) -
 }
 
 /// Evaluates an index and an expression and assigns the value to an element of an array.
+#[inline(always)]
 fn set_element<C: Cells>(
     array: u32,
     index: &Expr,
@@ -113,6 +117,7 @@ fn set_element<C: Cells>(
 }
 
 /// Executes an assignment to a variable, a cell or an element of an array, if its expressions call no method.
+#[inline(always)]
 pub(crate) fn assign<C: Cells>(stmt: &Stmt, p: &Prog, vars: &mut Ints, cells: &mut C) -> Carried
     requires { MayDo p.now (ways_of C.known C.may_read C.may_write C.rule) (executing stmt.now) vars.old cells.old }
     ensures { Does p.now (ways_of C.known C.may_read C.may_write C.rule) (executing stmt.now) vars.old cells.old result vars.new cells.new }

@@ -9,6 +9,7 @@ ghost use Rattle.seg_exec.specs.inner.Views.{config_of};
 ghost use Rattle.seg_exec.specs.declared.continuation.Goal.TheVariants.{Enter};
 
 use crate::continuation::{Continuation, Gathering, Goal, Suspension};
+use crate::held::Held;
 use crate::machine::{Machine, fault};
 use crate::operation::Operation;
 use crate::request::Request;
@@ -19,6 +20,7 @@ use twe_limits::{FaultKind, MAX_ACTIVE_CALLS};
 use twe_program::{Args, Decl, Expr, Prog, Stmt};
 
 /// The statements of a declaration; none if there is no such declaration.
+#[inline(always)]
 pub(crate) fn statements(decl: Option<&Decl>) -> &[Stmt]
     ensures { statements_of result.now ≡ body_of (option_copied decl.entry) }
 {
@@ -29,6 +31,7 @@ pub(crate) fn statements(decl: Option<&Decl>) -> &[Stmt]
 }
 
 /// How many variables a body has; 0 if there is no such declaration.
+#[inline(always)]
 fn var_count(decl: Option<&Decl>) -> usize
     ensures { result ≡ var_count_of (option_copied decl.entry) }
 {
@@ -39,10 +42,14 @@ fn var_count(decl: Option<&Decl>) -> usize
 }
 
 /// The variables of a body at its start: the arguments, and then 0 for each local.
+#[inline(always)]
 pub(crate) fn vars_at_start(alloc: Global, decl: Option<&Decl>, args: Ints) -> Result<Ints, Memory>
     ensures { IfOk result (λ vars. vars ≡ vars_at_start (option_copied decl.entry) args) }
 {
     let locals = var_count(decl).saturating_sub(args.len());
+    if locals == 0 {
+        return Ok(args);
+    }
     let zeros = vec![in alloc; 0i32; locals]?;
     let mut vars = args;
     vars.push_all(zeros.as_slice())?;
@@ -51,6 +58,7 @@ pub(crate) fn vars_at_start(alloc: Global, decl: Option<&Decl>, args: Ints) -> R
 
 impl<'a> Machine<'a> {
     /// Schedules the evaluation of arguments.
+    #[inline(always)]
     pub(crate) fn gather(&mut self, alloc: Global, args: &'a Args, goal: Goal) -> Result<(), Memory>
         ensures { IfOk result (λ _. config_of self.new ≡ to_do (Gather [] args.now goal) (config_of self.old)) }
     {
@@ -63,6 +71,7 @@ impl<'a> Machine<'a> {
     }
 
     /// Schedules the call of a method. Its arguments are evaluated first, from the left.
+    #[inline(always)]
     pub(crate) fn call(
         &mut self,
         alloc: Global,
@@ -77,6 +86,7 @@ impl<'a> Machine<'a> {
     }
 
     /// Schedules the evaluation of the next argument; if there is none, does what the arguments are for.
+    #[inline(always)]
     pub(crate) fn gather_next(
         &mut self,
         alloc: Global,
@@ -116,6 +126,7 @@ impl<'a> Machine<'a> {
     }
 
     /// Does what the arguments are for, once all of them have values.
+    #[inline(always)]
     fn gathered(
         &mut self,
         alloc: Global,
@@ -150,6 +161,7 @@ impl<'a> Machine<'a> {
 
     /// Enters a method, which takes a unit of fuel. It is a fault if no fuel is left, or if `MAX_ACTIVE_CALLS` calls are
     /// active already.
+    #[inline(always)]
     fn enter(
         &mut self,
         alloc: Global,
@@ -195,7 +207,7 @@ impl<'a> Machine<'a> {
             operation,
             positions: Stack::new(alloc),
         };
-        self.push(Continuation::Suspend(Box::new(alloc, suspension)?))?;
+        self.push(Continuation::Suspend(Held::new(alloc, suspension)?))?;
         Ok(Request::Nothing)
     }
 }

@@ -16,6 +16,7 @@ use twe_io::{Ints, Memory};
 use twe_program::{Arm, Arms, Block, Prog};
 
 /// Tries the arms of an `if` from the one numbered `block` on, and uses the condition of that arm if it calls no method.
+#[inline(always)]
 pub(crate) fn choose<'a, C: Cells>(
     alloc: Global,
     p: &'a Prog,
@@ -48,6 +49,7 @@ pub(crate) fn choose<'a, C: Cells>(
 }
 
 /// Tries the arms of an `if` from the first on.
+#[inline(always)]
 pub(crate) fn choose_first<'a, C: Cells>(
     alloc: Global,
     p: &'a Prog,

@@ -4,6 +4,7 @@ ghost use Rattle.seg_exec.specs.inner.Steps.{recovered_from};
 ghost use Rattle.seg_exec.specs.inner.Views.{continuation_of};
 
 use crate::frame::Position;
+use crate::held::Held;
 use crate::operation::Operation;
 use twe_io::{Ints, Place, Stack};
 use twe_program::{Arm, BinOp, Block, Expr, Stmt};
@@ -168,7 +169,7 @@ pub(crate) enum Continuation<'a> {
     /// Use the value of an argument, then evaluate those after it.
     Take(Box<Gathering<'a>>),
     /// Stop the segment at a task operation.
-    Suspend(Box<Suspension>),
+    Suspend(Held),
     /// Return 0 from a method to its caller, which has these variables.
     Leave(Ints),
 }
@@ -186,6 +187,7 @@ pub(crate) enum Recovered {
 
 impl Continuation<'_> {
     /// What unwinding recovers from this frame.
+    #[inline(always)]
     pub(crate) fn recovered(self) -> Recovered
         ensures { result ≡ recovered_from (continuation_of self.entry) }
     {

@@ -30,6 +30,7 @@ fn plain_argument(args: &[Expr], at: usize) -> Option<&Expr>
 }
 
 /// Makes the next step: evaluates an argument that calls a method, or does what the arguments are for.
+#[inline(always)]
 fn gather_next<'a, C: Cells>(
     alloc: Global,
     p: &'a Prog,
@@ -50,6 +51,7 @@ fn gather_next<'a, C: Cells>(
 }
 
 /// Evaluates the arguments up to the first that calls a method, and then makes the next step.
+#[inline(always)]
 pub(crate) fn gather<'a, C: Cells>(
     alloc: Global,
     p: &'a Prog,
@@ -79,6 +81,7 @@ pub(crate) fn gather<'a, C: Cells>(
 }
 
 /// Evaluates the arguments of a call as far as they call no method; if all have values, enters the method.
+#[inline(always)]
 pub(crate) fn call<'a, C: Cells>(
     alloc: Global,
     p: &'a Prog,
@@ -94,7 +97,7 @@ pub(crate) fn call<'a, C: Cells>(
     ensures { IfOk result (λ ending. Carries p.now (ways_of C.known C.may_read C.may_write C.rule)
         (doing (Gather [] args.now (Enter method place)) (standing machine.old cells.old prints.old)) ending (standing machine.new cells.new prints.new)) }
 {
-    let taken = Ints::new(alloc);
+    let taken = Ints::with_capacity(alloc, args.items.len())?;
     let goal = Goal::Enter { method, place };
     gather(
         alloc,

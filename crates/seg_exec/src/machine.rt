@@ -7,8 +7,9 @@ ghost use Rattle.seg_exec.specs.declared.request.Ending.TheVariants.{Faulted};
 ghost use Rattle.seg_exec.specs.inner.Views.{continuation_of, config_of, use_of};
 
 use crate::continuation::{Continuation, ValueUse};
+use crate::pushdown::Pushdown;
 use crate::request::{Ending, Request};
-use twe_io::{Ints, Memory, Place, Stack};
+use twe_io::{Ints, Memory, Place};
 use twe_limits::FaultKind;
 use twe_program::Expr;
 
@@ -23,9 +24,9 @@ pub(crate) fn fault(kind: FaultKind, place: Place) -> Request
 #[derive(Debug, Drop)]
 pub(crate) struct Machine<'a> {
     /// The continuation frames, the next one on top.
-    pub(crate) work: Stack<Continuation<'a>>,
+    pub(crate) work: Pushdown<Continuation<'a>>,
     /// The operand stack: the values that were computed and not yet used, the latest on top.
-    pub(crate) operands: Stack<i32>,
+    pub(crate) operands: Pushdown<i32>,
     /// The values of the variables of the active body.
     pub(crate) vars: Ints,
     /// The fuel that is left, in units.
@@ -36,6 +37,7 @@ pub(crate) struct Machine<'a> {
 
 impl<'a> Machine<'a> {
     /// Pushes a continuation frame.
+    #[inline(always)]
     pub(crate) fn push(&mut self, work: Continuation<'a>) -> Result<(), Memory>
         ensures { IfOk result (λ _. config_of self.new ≡ to_do (continuation_of work.entry) (config_of self.old)) }
     {
@@ -43,6 +45,7 @@ impl<'a> Machine<'a> {
     }
 
     /// Pushes a value onto the operand stack.
+    #[inline(always)]
     pub(crate) fn push_operand(&mut self, value: i32) -> Result<(), Memory>
         ensures { IfOk result (λ _. config_of self.new ≡ with_operand value (config_of self.old)) }
     {
@@ -50,6 +53,7 @@ impl<'a> Machine<'a> {
     }
 
     /// A value was evaluated, and nothing is asked for.
+    #[inline(always)]
     pub(crate) fn evaluated_to(&mut self, value: i32) -> Result<Request, Memory>
         ensures { IfOk result (λ request. (request, config_of self.new) ≡ on (with_operand value (config_of self.old))) }
     {
@@ -71,6 +75,7 @@ impl<'a> Machine<'a> {
     }
 
     /// Pops the latest value; returns 0 if there is none.
+    #[inline(always)]
     pub(crate) fn pop_operand(&mut self) -> i32
         ensures value { result ≡ top self.old.operands }
         ensures config { config_of self.new ≡ without_operand (config_of self.old) }

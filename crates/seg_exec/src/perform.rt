@@ -20,6 +20,7 @@ use twe_io::{Ints, Memory};
 use twe_program::{Prog, Stmt, StmtKind};
 
 /// Executes a statement as far as its expressions call no method.
+#[inline(always)]
 fn execute<'a, C: Cells>(
     alloc: Global,
     p: &'a Prog,
@@ -73,6 +74,7 @@ fn execute<'a, C: Cells>(
 }
 
 /// Executes the next statement of a block as far as its expressions call no method.
+#[inline(always)]
 fn begin_statement<'a, C: Cells>(
     alloc: Global,
     p: &'a Prog,
@@ -99,6 +101,7 @@ fn begin_statement<'a, C: Cells>(
 }
 
 /// Executes the statements of a block from the one at `at` on: assignments at once, up to the first other statement.
+#[inline(always)]
 fn go_on<'a, C: Cells>(
     alloc: Global,
     p: &'a Prog,
@@ -129,6 +132,7 @@ fn go_on<'a, C: Cells>(
 }
 
 /// Does what a continuation frame is for, in one step or in several. Returns the ending if the last of them is the end.
+#[inline(always)]
 pub(crate) fn perform<'a, C: Cells>(
     alloc: Global,
     p: &'a Prog,

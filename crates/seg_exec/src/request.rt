@@ -1,8 +1,7 @@
 //! What one step of the evaluator requests from whoever runs it, and how a run ends.
 
-use crate::frame::Position;
-use crate::operation::Operation;
-use twe_io::{Place, Stack};
+use crate::held::Held;
+use twe_io::Place;
 use twe_limits::FaultKind;
 
 /// How a run of the evaluator ends.
@@ -18,12 +17,7 @@ pub(crate) enum Ending {
         place: Place,
     },
     /// A task operation suspended it.
-    Suspended {
-        /// The operation.
-        operation: Operation,
-        /// The positions of the open blocks, the outermost on top.
-        positions: Stack<Position>,
-    },
+    Suspended(Held),
 }
 
 /// What a step requests.

@@ -6,8 +6,8 @@ ghost use Rattle.seg_exec.specs.inner.Steps.{back_with, chosen_next, choosing, o
 ghost use Rattle.seg_exec.specs.inner.Views.{config_of, continuations_of};
 
 use crate::arithmetic::is_true;
-use crate::continuation::{Continuation, Recovered, Suspension, ValueUse};
-use crate::frame::Position;
+use crate::continuation::{Continuation, Recovered, ValueUse};
+use crate::held::Held;
 use crate::machine::{Machine, fault};
 use crate::request::{Ending, Request};
 use twe_io::{Ints, Memory, Place};
@@ -36,6 +36,7 @@ impl<'a> Machine<'a> {
     }
 
     /// Schedules the arms of an `if` from the one numbered `block` on.
+    #[inline(always)]
     pub(crate) fn choose(
         &mut self,
         block: usize,
@@ -65,6 +66,7 @@ impl<'a> Machine<'a> {
     }
 
     /// Schedules the body of an arm if its condition is true, and the arms after it otherwise.
+    #[inline(always)]
     pub(crate) fn chosen(
         &mut self,
         block: usize,
@@ -93,6 +95,7 @@ impl<'a> Machine<'a> {
     }
 
     /// Schedules a turn of a loop if its condition is true. A turn takes a unit of fuel; it is a fault if none is left.
+    #[inline(always)]
     pub(crate) fn turn(
         &mut self,
         again: &'a Stmt,
@@ -117,6 +120,7 @@ impl<'a> Machine<'a> {
     }
 
     /// Returns to the caller of a method, whose variables are `vars`, with a value.
+    #[inline(always)]
     pub(crate) fn back(&mut self, value: i32, vars: Ints) -> Result<(), Memory>
         ensures { IfOk result (λ _. config_of self.new ≡ back_with value vars (config_of self.old)) }
     {
@@ -127,6 +131,7 @@ impl<'a> Machine<'a> {
     }
 
     /// Returns from a method at the end of its body, with 0.
+    #[inline(always)]
     pub(crate) fn leave(&mut self, vars: Ints) -> Result<Request, Memory>
         ensures { IfOk result (λ request. (request, config_of self.new) ≡ on (back_with (pos 0) vars (config_of self.old))) }
     {
@@ -153,6 +158,7 @@ impl<'a> Machine<'a> {
     }
 
     /// Returns the latest value to the caller of the active method, or from the whole body, at once.
+    #[inline(always)]
     pub(crate) fn give_back(&mut self) -> Result<Request, Memory>
         ensures { IfOk result (λ request. (request, config_of self.new) ≡ returned (continuations_of self.old.work) (config_of self.old)) }
     {
@@ -173,25 +179,18 @@ impl<'a> Machine<'a> {
     }
 
     /// Unwinds the continuation up to its end and collects the positions of the open blocks, then ends with the operation.
-    pub(crate) fn suspend_on(&mut self, suspension: Box<Suspension>) -> Result<Request, Memory>
+    pub(crate) fn suspend_on(&mut self, suspension: Held) -> Result<Request, Memory>
         ensures { IfOk result (λ request. (request, config_of self.new) ≡
-            suspended suspension.value.operation suspension.value.positions (continuations_of self.old.work) (config_of self.old)) }
+            suspended suspension.operation suspension.positions (continuations_of self.old.work) (config_of self.old)) }
     {
-        let mut suspension = suspension;
         let Some(work) = self.work.pop() else {
-            let Suspension {
-                operation,
-                positions,
-            } = Box::into_inner(suspension);
-            return Ok(Request::End(Ending::Suspended {
-                operation,
-                positions,
-            }));
+            return Ok(Request::End(Ending::Suspended(suspension)));
         };
         match work.recovered() {
             Recovered::Caller(vars) => self.back(0, vars)?,
             Recovered::Block(position) => {
-                suspension.positions.push(position)?;
+                let mut suspension = suspension;
+                suspension.close(position)?;
                 self.push(Continuation::Suspend(suspension))?;
             }
             Recovered::Nothing => self.push(Continuation::Suspend(suspension))?,

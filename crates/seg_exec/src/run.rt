@@ -13,6 +13,7 @@ use twe_io::{Ints, Memory};
 use twe_program::Prog;
 
 /// Does what the next continuation frame is for. Returns the ending if that ends the run.
+#[inline(always)]
 fn advance<'a, C: Cells>(
     alloc: Global,
     p: &'a Prog,

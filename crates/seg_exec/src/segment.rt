@@ -11,15 +11,17 @@ ghost use Rattle.seg_exec.specs.inner.Views.{config_of};
 use crate::call::statements;
 use crate::cells::Cells;
 use crate::children::Children;
+use crate::continuation::Suspension;
 use crate::entry::{effects_at, entry_frame};
 use crate::frame::{Frame, Next, OpenBody};
 use crate::machine::Machine;
 use crate::operation::Operation;
+use crate::pushdown::Pushdown;
 use crate::request::Ending;
 use crate::run::run;
 use crate::stop::Stop;
 use std::alloc::Global;
-use twe_io::{Ints, List, Memory, Stack};
+use twe_io::{Ints, List, Memory};
 use twe_program::Prog;
 
 /// The task that a future stands for; 0 if it stands for none.
@@ -133,10 +135,11 @@ fn finish(
             frame.next = Next::Ended;
             Ok(Stop::Fault { kind, place })
         }
-        Ending::Suspended {
-            operation,
-            positions,
-        } => {
+        Ending::Suspended(held) => {
+            let Suspension {
+                operation,
+                positions,
+            } = held.into_inner();
             frame.body = Some(OpenBody {
                 vars,
                 open_blocks: positions.into_list(),
@@ -156,8 +159,8 @@ fn machine_at<'a>(alloc: Global, p: &'a Prog, frame: &Frame) -> Result<Option<Ma
         return Ok(None);
     };
     let mut machine = Machine {
-        work: Stack::new(alloc),
-        operands: Stack::new(alloc),
+        work: Pushdown::new(alloc),
+        operands: Pushdown::new(alloc),
         vars: body.vars.copy(alloc)?,
         fuel: frame.fuel,
         calls: 0,

@@ -13,6 +13,7 @@ use twe_program::Prog;
 
 impl<'a> Machine<'a> {
     /// Uses the latest value.
+    #[inline(always)]
     pub(crate) fn use_value(&mut self, p: &Prog, then: &ValueUse<'a>) -> Result<Request, Memory>
         ensures { IfOk result (λ request. (request, config_of self.new) ≡ worked p.now (use_of then.now) (config_of self.old)) }
     {

@@ -19,6 +19,7 @@ use twe_io::{Ints, Memory, Place};
 use twe_program::{BinOp, Expr, ExprKind, Prog};
 
 /// Serves what a step requests. Returns the ending if the step is the last.
+#[inline(always)]
 pub(crate) fn serve<C: Cells>(
     machine: &mut Machine<'_>,
     cells: &mut C,
@@ -60,6 +61,7 @@ pub(crate) fn step<'a, C: Cells>(
 }
 
 /// Returns the latest value from the active body.
+#[inline(always)]
 pub(crate) fn leave<'a, C: Cells>(
     p: &'a Prog,
     machine: &mut Machine<'a>,
@@ -76,6 +78,7 @@ pub(crate) fn leave<'a, C: Cells>(
 }
 
 /// Makes the one step that uses the latest value.
+#[inline(always)]
 fn use_now<'a, C: Cells>(
     p: &'a Prog,
     machine: &mut Machine<'a>,
@@ -92,6 +95,7 @@ fn use_now<'a, C: Cells>(
 }
 
 /// Uses the latest value.
+#[inline(always)]
 pub(crate) fn use_value<'a, C: Cells>(
     p: &'a Prog,
     machine: &mut Machine<'a>,
@@ -110,6 +114,7 @@ pub(crate) fn use_value<'a, C: Cells>(
 }
 
 /// Begins to evaluate an expression: the arguments if it is a call, and else its first step.
+#[inline(always)]
 fn begin_one<'a, C: Cells>(
     alloc: Global,
     p: &'a Prog,
@@ -136,6 +141,7 @@ fn begin_one<'a, C: Cells>(
 }
 
 /// Evaluates an operand at once if it calls no method, and makes its first step otherwise.
+#[inline(always)]
 fn operand<'a, C: Cells>(
     alloc: Global,
     p: &'a Prog,
@@ -160,7 +166,9 @@ fn operand<'a, C: Cells>(
     }
 }
 
-/// Begins to evaluate an expression, and the left operand if it is an operator.
+/// Begins to evaluate an expression, and the left operand if it is an operator. It stands apart, so that what is inlined
+/// for an expression that calls no method stays small.
+#[inline(never)]
 fn begin<'a, C: Cells>(
     alloc: Global,
     p: &'a Prog,
@@ -218,6 +226,7 @@ pub(crate) fn evaluate<'a, C: Cells>(
 }
 
 /// Evaluates an expression and uses its value for `then`. If the expression calls a method, it makes only the first step.
+#[inline(always)]
 pub(crate) fn evaluate_then<'a, C: Cells>(
     alloc: Global,
     p: &'a Prog,
@@ -248,6 +257,7 @@ pub(crate) fn evaluate_then<'a, C: Cells>(
 
 /// Evaluates the right operand of an operator and applies the operator, unless the left operand decides. If the right operand
 /// calls a method, it makes only its first step.
+#[inline(always)]
 pub(crate) fn right_of<'a, C: Cells>(
     alloc: Global,
     p: &'a Prog,

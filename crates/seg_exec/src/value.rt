@@ -35,6 +35,7 @@ impl Fault {
 }
 
 /// The value of a variable; 0 if there is no such variable.
+#[inline(always)]
 fn var_in(vars: &[i32], var: u32) -> i32
     ensures { result ≡ value_in (slice_get vars.now var) }
 {
@@ -45,6 +46,7 @@ fn var_in(vars: &[i32], var: u32) -> i32
 }
 
 /// Reads an element. It is a fault if there is no such element.
+#[inline(always)]
 fn read<C: Cells>(cells: &mut C, cell: Option<u32>, place: Place) -> Result<i32, Fault>
     requires { MayReadAt (ways_of C.known C.may_read C.may_write C.rule) cells.old cell }
     ensures { ReadsAt (ways_of C.known C.may_read C.may_write C.rule) cell place cells.old result cells.new }

@@ -43,6 +43,7 @@ impl<'a> Machine<'a> {
     }
 
     /// Schedules the right operand, unless the left one on the stack decides the value.
+    #[inline(always)]
     pub(crate) fn right(
         &mut self,
         op: BinOp,
@@ -64,6 +65,7 @@ impl<'a> Machine<'a> {
     }
 
     /// Replaces the two latest values by the value of an operator on them. It is a fault if the operator divides by zero.
+    #[inline(always)]
     pub(crate) fn apply(&mut self, op: BinOp, place: Place) -> Result<Request, Memory>
         ensures { IfOk result (λ request. (request, config_of self.new) ≡ applying op place (config_of self.old)) }
     {
@@ -102,6 +104,7 @@ impl<'a> Machine<'a> {
     }
 
     /// Assigns the latest value to a variable.
+    #[inline(always)]
     pub(crate) fn give_var(&mut self, var: u32) -> Request
         ensures { (result, config_of self.new) ≡ giving_var var (config_of self.old) }
     {
@@ -139,6 +142,7 @@ impl<'a> Machine<'a> {
     }
 
     /// Requests that the latest value is printed, which takes a unit of fuel. It is a fault if none is left.
+    #[inline(always)]
     pub(crate) fn print(&mut self, place: Place) -> Request
         ensures { (result, config_of self.new) ≡ printing place (config_of self.old) }
     {

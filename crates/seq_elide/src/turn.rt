@@ -37,7 +37,8 @@ pub(crate) fn take_turn(
     progress: &mut Progress,
 ) -> Result<Turn, ElideFail>
     requires { length progress.old.cells ≡ cell_count p.now }
-    ensures goes { IfOk result (λ turn. IsTurn (turn_after lim callers.old progress.old (segment p.now frame progress.old.cells)) turn callers.new progress.new) }
+    ensures goes { IfOk result (λ turn. IsTurn (turn_after lim callers.old progress.old (segment p.now frame progress.old.cells))
+        turn callers.new progress.new) }
     ensures fails { IfErr result (λ fail. IsFailure (turn_after lim callers.old progress.old (segment p.now frame progress.old.cells)) fail) }
 {
     let mut frame = frame;

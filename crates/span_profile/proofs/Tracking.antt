@@ -24,6 +24,7 @@ use Rattle.twe_machine.specs.declared.state.State.{State}
 use Rattle.twe_machine.specs.declared.state.TaskRow.{TaskRow}
 use Rattle.twe_machine.specs.Changes.{next_segment}
 use Rattle.twe_machine.specs.Legal.{MayMove, MayTake}
+use Rattle.twe_machine.specs.Listings.{IsListing}
 use Rattle.twe_machine.specs.Moves.{move_result, ready_frame, start_of}
 use Rattle.twe_machine.specs.Rows.{IsRow}
 use Rattle.twe_machine.specs.Runs.{IsRun, Legal, counted, entry_of, is_done, is_fault}
@@ -119,9 +120,11 @@ noted p st Run t row there deed watched did =
 
 -- The start of a run.
 pub tracked_start : (p : Program) (lim : Bounds) (next : Tracked) → next.st ≡ start_of p lim → next.journal ≡ [] → next.over ≡ false → ArePlaces p next.places
-    → next.watched.reads ≡ no_cells (cell_count p) → next.watched.writes ≡ no_cells (cell_count p) → Holds [] next.chains → IsTracked p lim next
-tracked_start p lim next st_is journal_is over places reads writes holds = record {
+    → next.watched.reads ≡ no_cells (cell_count p) → next.watched.writes ≡ no_cells (cell_count p) → Holds [] next.chains
+    → IsListing (start_of p lim) next.enabled → IsTracked p lim next
+tracked_start p lim next st_is journal_is over places reads writes holds listing = record {
   is_run = subst (λ (j : List Entry). IsRun p lim j next.st) (sym journal_is) (record { legal = tt; same = st_is });
+  listing = subst (λ (st : State). IsListing st next.enabled) (sym st_is) listing;
   over = over ∙ sym (ap has_fault journal_is);
   places = places;
   reads = reads;
@@ -199,7 +202,7 @@ module _ (p : Program) (lim : Bounds) (well : IsWellFormed p) (within : IsWithin
   module _ (chains : Chains) (ended : Bool) (over : ended ≡ (run.over || is_fault deed.end)) (kept : run.over ≡ true → chains ≡ run.chains)
       (added : run.over ≡ false → Holds (t.nodes ++ node_of run.places deed watched ∷ []) chains) (next : Tracked)
       (st_is : next.st ≡ after) (journal_is : next.journal ≡ all) (over_is : next.over ≡ ended) (places_are : next.places ≡ run.places) (reads : next.watched.reads ≡ no_cells (cell_count p))
-      (writes : next.watched.writes ≡ no_cells (cell_count p)) (chains_are : next.chains ≡ chains) where
+      (writes : next.watched.writes ≡ no_cells (cell_count p)) (chains_are : next.chains ≡ chains) (listing : IsListing next.st next.enabled) where
     places_next : ArePlaces p next.places
     places_next = subst (ArePlaces p) (sym places_are) t.places
 
@@ -210,6 +213,7 @@ module _ (p : Program) (lim : Bounds) (well : IsWellFormed p) (within : IsWithin
     tracked_with : (nodes : List Node) → Holds nodes chains → AllZip (Shows t.places.nodes) nodes (strands p lim (counted all)) → IsTracked p lim next
     tracked_with nodes holds show = record {
       is_run = subst (λ (j : List Entry). IsRun p lim j next.st) (sym journal_is) (subst (IsRun p lim all) (sym st_is) runs_on);
+      listing = listing;
       over = over_next;
       places = record { nodes = t.places.nodes; tree = t.places.tree; cells = λ cell below. places_cell cell below; console = places_console };
       reads = reads;

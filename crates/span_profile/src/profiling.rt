@@ -25,13 +25,15 @@ use heaviest_chain::{Chains, Heaviest};
 use seg_journal::{End, Entry, Journal, Kind, Limits, Move};
 use std::alloc::Global;
 use twe_io::{Ints, Memory};
-use twe_machine::{ReplayFail, State, may, start, step};
+use twe_machine::{EnabledTasks, ReplayFail, State, start, step};
 use twe_program::Prog;
 
 /// A run with its journal so far, and the chains of the entries of its counted part.
 #[derive(Debug, Drop)]
 struct Tracked {
     st: State,
+    /// The enabled tasks of the state.
+    enabled: EnabledTasks,
     journal: Journal,
     /// Whether an entry has met a fault: the entries after it do not count.
     over: bool,
@@ -51,6 +53,7 @@ impl Tracked {
         let size = st.cells.len();
         Ok(Tracked {
             st,
+            enabled: EnabledTasks::new(alloc),
             journal: Journal::new(alloc),
             over: false,
             places: number_places(alloc, p)?,
@@ -81,11 +84,13 @@ impl Tracked {
     {
         let _main = p.main;
         let _tasks = lim.tasks;
-        if let Err(why) = may(p, &self.st, mv) {
+        if let Err(why) = self.enabled.may(p, &self.st, mv) {
             return Err(ReplayFail::Illegal { n, why });
         }
+        let before = self.st.links.task_count();
         let deed = advance(alloc, p, lim, &mut self.st, mv, &mut self.watched)?;
         self.journal.push(Entry { mv, end: deed.end })?;
+        self.enabled.note(&self.st, mv, before)?;
         let chains = &mut self.chains;
         self.over = count_entry(alloc, self.over, chains, &self.places, &self.watched, &deed)?;
         self.watched.reads.clear();

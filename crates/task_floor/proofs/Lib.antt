@@ -8,6 +8,8 @@ pub mod InHand
 pub mod LeavingTurns
 pub mod Bringing
 pub mod CommittedEntries
+-- A worker that serves a task.
+pub mod ServedTasks
 -- The start from a state: its entries, and the words and slots that show it.
 pub mod Logs
 pub mod Laid
@@ -16,5 +18,3 @@ pub mod Woken
 pub mod Taken
 pub mod Readings
 pub mod Rested
--- A worker that serves a task.
-pub mod ServedTasks

@@ -12,7 +12,6 @@ use Rattle.seg_exec.specs.Segment.{HasRoomToSpawn}
 use Rattle.twe_machine.specs.declared.state.TaskRow.{TaskRow}
 use Rattle.journal_merge.specs.declared.numbered.NumberedEntry.{NumberedEntry}
 use Rattle.floor_rule.specs.declared.view.HeldTurn.{HeldTurn}
-use Rattle.floor_rule.specs.declared.view.Phase.TheVariants as phases
 use Rattle.floor_rule.specs.declared.view.TaskSlot.{TaskSlot}
 use Rattle.floor_rule.specs.Rows.{phase_of}
 use Rattle.floor_rule.specs.Steps.{first_turn, row_after}
@@ -22,8 +21,8 @@ use Rattle.floor_table.specs.declared.view.TurnChange.{TurnChange}
 use Rattle.floor_table.specs.declared.view.SeatKind.TheVariants.{Spent}
 use Rattle.floor_table.specs.declared.view.View.{View}
 use Rattle.floor_table.specs.FloorOf.{turn_in}
-use Rattle.floor_table.specs.Layout.{asked_of_clock, phase_of_word}
-use Rattle.floor_table.specs.Tells.{FoundDone, FoundPhase, GaveTurn, Seat, drawn_view, entry_at}
+use Rattle.floor_table.specs.Layout.{asked_of_clock}
+use Rattle.floor_table.specs.Tells.{GaveTurn, Seat, drawn_view, entry_at}
 use Rattle.task_floor.specs.Stands.{MayGiveBack}
 use Rattle.task_floor.specs.Leaving.{HasLeft}
 use Rattle.task_floor.specs.Committing.{HasCommitted, Log, MayCommitEntry, child_row, with_brought}

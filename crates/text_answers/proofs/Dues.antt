@@ -13,10 +13,11 @@ use Rattle.twe_machine.specs.declared.state.State.{State}
 use Rattle.twe_report.specs.Texts.{accepted_text, refusal_text}
 use Rattle.command_line.specs.declared.command.Command.{Command}
 use Rattle.command_line.specs.declared.command.Command.TheVariants.{Check, Run, Replay, Load}
-use Rattle.text_answers.specs.declared.answer.Answer.{Answer}
+use Rattle.text_answers.specs.Answer.{Answer}
 use Rattle.text_answers.specs.declared.book.Book.{Book}
-use Rattle.text_answers.specs.declared.status.Status.TheVariants.{Refused}
-use Rattle.text_answers.specs.Answers.{Due, AnswersReplay, IsAnswerTo, default_limits, on_err, on_out}
+use Rattle.text_answers.specs.declared.status.Status.TheVariants.{Done, Refused}
+use Rattle.text_streams.specs.Answers.{on_err, on_out}
+use Rattle.text_answers.specs.Answers.{Due, AnswersReplay, IsAnswerTo, default_limits}
 use Rattle.text_answers.specs.Input.{program_text, journal_text}
 use Rattle.text_answers.specs.Running.{IsDueForProgram, IsRunFor, IsWholeRun}
 use Rattle.text_answers.specs.Theorem.{HasProgram, HasRefusal}
@@ -74,7 +75,7 @@ due_replayed cmd lim p journal book (Err e) command answers = tt
 
 -- a program that was accepted
 pub due_accepted : (cmd : Command) (p : Program) (journal : List ℕ) (book : Book) (made : Result Answer out_of.Memory) → cmd ≡ Check
-    → OnOk made (HasProgram p book) → IfOk made (λ a. a ≡ on_out accepted_text) → IfOk made (IsDueFor cmd p journal book)
+    → OnOk made (HasProgram p book) → IfOk made (λ a. a ≡ on_out Done accepted_text) → IfOk made (IsDueFor cmd p journal book)
 due_accepted cmd p journal book (Ok a) command has same = λ input accepted is. subst (Due cmd input book) (sym same) (Due.accepted p command accepted has)
 due_accepted cmd p journal book (Err e) command has same = tt
 

@@ -27,10 +27,11 @@ use Rattle.twe_report.specs.Texts as texts
 use Rattle.command_line.specs.declared.command.Command.{Command}
 use Rattle.command_line.specs.declared.command.Command.TheVariants.{Check, Run, Replay, Load}
 use Rattle.command_line.specs.Words.{workers_of}
-use Rattle.text_answers.specs.declared.answer.Answer.{Answer}
+use Rattle.text_answers.specs.Answer.{Answer}
 use Rattle.text_answers.specs.declared.book.Book.{Book}
 use Rattle.text_answers.specs.declared.status.Status.TheVariants as statuses
-use Rattle.text_answers.specs.Answers.{AnswersReplay, AnswersRun, Due, IsAnswerTo, after_prints, default_limits, for_load, limits_with, on_err, on_out, with_journal}
+use Rattle.text_streams.specs.Answers.{on_err, on_out}
+use Rattle.text_answers.specs.Answers.{AnswersReplay, AnswersRun, Due, IsAnswerTo, after_prints, default_limits, for_load, limits_with, with_journal}
 use Rattle.text_answers.specs.Input.{journal_text, program_text}
 use Rattle.text_answers.specs.Theorem.{HasJournal, HasReplay, HasRun}
 
@@ -122,7 +123,7 @@ one_replay p lim text book second a b (AnswersReplay.replayed head moves outcome
 -- What an accepted program has for an answer, command by command.
 
 abbrev AcceptedAnswer : Command → Program → List ℕ → Answer → Type 0
-AcceptedAnswer Check p input answer = answer ≡ on_out texts.accepted_text
+AcceptedAnswer Check p input answer = answer ≡ on_out statuses.Done texts.accepted_text
 AcceptedAnswer (Run workers lim asked) p input answer =
     (book : Book) × (outcome : Outcome) × (plain : Answer) × HasRun p lim workers outcome book × Answers p lim book.journal outcome plain
     × (answer ≡ with_journal asked lim book.journal plain)
@@ -158,7 +159,7 @@ module _ (one_program : (text : List ℕ) (p other : Program) → Accepted text 
   accepted_answer : (command : Command) (input : List ℕ) (p : Program) (book : Book) (a : Answer) → Accepted (program_text command input) p → Due command input book a
       → AcceptedAnswer command p input a
   accepted_answer command input p book a accepted (Due.refused r is has) = absurd (not_refused (program_text command input) p r accepted is)
-  accepted_answer command input p book a accepted (Due.accepted q same is has) = subst (λ (c : Command). AcceptedAnswer c p input (on_out texts.accepted_text)) (sym same) refl
+  accepted_answer command input p book a accepted (Due.accepted q same is has) = subst (λ (c : Command). AcceptedAnswer c p input (on_out statuses.Done texts.accepted_text)) (sym same) refl
   accepted_answer command input p book a accepted (Due.ran workers lim asked q outcome plain same is has answers) =
       let answer = with_journal asked lim book.journal plain in
       subst (λ (c : Command). AcceptedAnswer c p input answer) (sym same)

@@ -19,10 +19,11 @@ use Rattle.twe_machine.specs.declared.replaying.ReplayFail.TheVariants.{Illegal}
 use Rattle.twe_machine.specs.Runs.{LegalFrom, counted, is_fault, state_after}
 use Rattle.twe_machine.proofs.Replayed.{one_from}
 use Rattle.twe_report.specs.Texts.{not_a_move_text, not_legal_text}
-use Rattle.text_answers.specs.declared.answer.Answer.{Answer}
+use Rattle.text_answers.specs.Answer.{Answer}
 use Rattle.text_answers.specs.declared.book.Book.{Book}
 use Rattle.text_answers.specs.declared.status.Status.TheVariants.{BadJournal}
-use Rattle.text_answers.specs.Answers.{AnswersReplay, limits_with, on_err}
+use Rattle.text_streams.specs.Answers.{on_err}
+use Rattle.text_answers.specs.Answers.{AnswersReplay, limits_with}
 use Rattle.text_answers.specs.Theorem.{HasProgram}
 use Rattle.text_answers.specs.inner.Given.{AnswersFound, ArePrintsAfter, IsAnswerOfReplay}
 

@@ -19,7 +19,8 @@ use Rattle.twe_machine.specs.Runs.{state_after, counted}
 use Rattle.flat_sched.specs.Stuck.{IsCycleOfReasons, IsStuckCycle}
 use Rattle.twe_report.specs.Texts.{result_text, prints_text, fault_text, stuck_text, unfinished_text, not_a_move_text, not_legal_text, accepted_text, refusal_text}
 use Rattle.twe_report.specs.Texts as texts
-use Rattle.text_answers.specs.declared.answer.Answer.{Answer}
+use Rattle.text_streams.specs.Answers.{on_err, on_out}
+use Rattle.text_answers.specs.Answer.{Answer}
 use Rattle.text_answers.specs.declared.book.Book.{Book}
 use Rattle.text_answers.specs.declared.status.Status.{Status}
 use Rattle.text_answers.specs.declared.status.Status.TheVariants.{Done, Refused, Fault, Stuck, BadJournal, Unfinished}
@@ -28,14 +29,6 @@ use Rattle.command_line.specs.declared.command.Command.TheVariants.{Check, Run, 
 use Rattle.text_answers.specs.Codes.{is_done}
 use Rattle.text_answers.specs.Theorem.{HasProgram, HasReplay, HasRun, HasRefusal}
 use Rattle.text_answers.specs.Input.{program_text, journal_text}
-
--- an answer on err alone: this line, and nothing on out
-abbrev pub on_err : Status → List ℕ → Answer
-on_err status line = record { status = status; out = []; err = line }
-
--- an answer of success: these lines on out, and nothing on err
-abbrev pub on_out : List ℕ → Answer
-on_out lines = record { status = Done; out = lines; err = [] }
 
 -- an answer with the printed numbers on out, and this line on err
 abbrev pub after_prints : Status → List ℤ → List ℕ → Answer
@@ -48,7 +41,7 @@ with_journal asked lim journal answer = record answer { out = if asked then answ
 -- The answer to the run of a load that has come to this state. If all tasks are done, it has the result of the load, and else
 -- nothing on out.
 abbrev pub for_load : ℕ → State → Answer → Answer
-for_load n last answer = if is_done answer.status then on_out (texts.load_result_text n last) else on_err answer.status answer.err
+for_load n last answer = if is_done answer.status then on_out Done (texts.load_result_text n last) else on_err answer.status answer.err
 
 -- the limits of a run, if no option gives them
 abbrev pub default_limits : Bounds
@@ -57,7 +50,7 @@ default_limits = record { fuel = default_fuel; tasks = default_tasks }
 -- The answer to a journal by its outcome. `last` is the state that the journal leads to, and `prints` are the numbers that
 -- were printed up to the first fault.
 abbrev pub AnswersRun : Program → State → List ℤ → Outcome → Answer → Type 0
-AnswersRun p last prints outcomes.AllDone answer = answer ≡ on_out (result_text p last)
+AnswersRun p last prints outcomes.AllDone answer = answer ≡ on_out Done (result_text p last)
 AnswersRun p last prints (outcomes.Fault task kind place) answer = answer ≡ after_prints Fault prints (fault_text task kind place)
 AnswersRun p last prints outcomes.Stuck answer =
     (cycle : List Edge) × IsStuckCycle last cycle × IsCycleOfReasons last cycle
@@ -87,7 +80,7 @@ pub data Due (command : Command) (text : List ℕ) (book : Book) : Answer → Ty
   -- the text is refused, and the book has the refusal
   refused : (r : Refusal) → IsRefusal (program_text command text) r → HasRefusal r book → Due command text book (on_err Refused (refusal_text r))
   -- the text is accepted, and the book has its program
-  accepted : (p : Program) → command ≡ Check → Accepted (program_text command text) p → HasProgram p book → Due command text book (on_out accepted_text)
+  accepted : (p : Program) → command ≡ Check → Accepted (program_text command text) p → HasProgram p book → Due command text book (on_out Done accepted_text)
   -- the run theorem: the text is accepted, and the book has a run of its program
   ran : (workers : ℕ) (lim : Bounds) (asked : Bool) (p : Program) (outcome : Outcome) (answer : Answer) → command ≡ Run workers lim asked
       → Accepted (program_text command text) p → HasRun p lim workers outcome book

@@ -1,3 +1,4 @@
+pub mod Answer
 pub mod Answers
 pub mod Codes
 pub mod Input

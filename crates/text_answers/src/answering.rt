@@ -4,9 +4,10 @@ ghost use Rattle.command_line.specs.Words.{IsSized};
 ghost use Rattle.twe_limits.specs.Language.{max_text_bytes};
 ghost use Rattle.soundness_laws.specs.KeepsEffects.{KeepsEffects};
 ghost use Rattle.twe_report.specs.Texts as texts;
-ghost use Rattle.text_answers.specs.Answers.{Due, IsAnswerTo, on_err, on_out};
+ghost use Rattle.text_streams.specs.Answers.{on_err, on_out};
+ghost use Rattle.text_answers.specs.Answers.{Due, IsAnswerTo};
 ghost use Rattle.text_answers.specs.Theorem.{HasProgram, HasRefusal, IsNew};
-ghost use Rattle.text_answers.specs.declared.status.Status.TheVariants.{Refused};
+ghost use Rattle.text_answers.specs.declared.status.Status.TheVariants.{Done, Refused};
 ghost use Rattle.text_answers.specs.inner.Given.{IsDueFor, IsDueForTexts};
 
 use crate::answer::Answer;
@@ -105,11 +106,11 @@ fn answer_program(
 fn accept(alloc: Global, p: Prog, book: &mut Book) -> Result<Answer, Memory>
     requires { IsNew book.old }
     ensures program { OnOk result (HasProgram p book.new) }
-    ensures answer { IfOk result (λ answer. answer ≡ on_out texts.accepted_text) }
+    ensures answer { IfOk result (λ answer. answer ≡ on_out Done texts.accepted_text) }
 {
     let lines = accepted_text(alloc)?;
     book.prog = Some(p);
-    Ok(Answer::on_out(alloc, lines))
+    Ok(Answer::on_out(alloc, Status::Done, lines))
 }
 
 /// The answer that refuses a text. Afterwards the book has the refusal.

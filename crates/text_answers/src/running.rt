@@ -3,10 +3,11 @@ ghost use Rattle.std.specs.Prelude.{◌≡◌, Some, IfOk, OnOk};
 ghost use Rattle.soundness_laws.specs.KeepsEffects.{KeepsEffects};
 ghost use Rattle.twe_machine.specs.Runs.{IsReachable, IsOutcome};
 ghost use Rattle.twe_report.specs.Texts as texts;
-ghost use Rattle.text_answers.specs.Answers.{AnswersRun, after_prints, for_load, on_err, on_out, with_journal};
+ghost use Rattle.text_streams.specs.Answers.{on_err, on_out};
+ghost use Rattle.text_answers.specs.Answers.{AnswersRun, after_prints, for_load, with_journal};
 ghost use Rattle.text_answers.specs.Running.{IsDueForProgram, IsRunFor, IsWholeRun, limits_to_run};
 ghost use Rattle.text_answers.specs.Theorem.{IsNew};
-ghost use Rattle.text_answers.specs.declared.status.Status.TheVariants.{Unfinished};
+ghost use Rattle.text_answers.specs.declared.status.Status.TheVariants.{Done, Unfinished};
 ghost use Rattle.text_answers.specs.inner.Given.{IsAnswerOfRun};
 ghost use Rattle.twe_machine.specs.declared.ending.Outcome.TheVariants as outcomes;
 
@@ -127,7 +128,7 @@ fn answer_load(alloc: Global, n: u32, st: &State, plain: Answer) -> Result<Answe
     ensures { IfOk result (λ answer. answer ≡ for_load n st.now plain) }
 {
     if plain.status.is_done() {
-        return Ok(Answer::on_out(alloc, load_result_text(alloc, n, st)?));
+        return Ok(Answer::on_out(alloc, Status::Done, load_result_text(alloc, n, st)?));
     }
     let Answer { status, err, .. } = plain;
     Ok(Answer::on_err(alloc, status, err))
@@ -160,9 +161,9 @@ pub(crate) fn answer_outcome(
 
 /// The answer to a run in which all tasks are done.
 fn answer_done(alloc: Global, p: &Prog, st: &State) -> Result<Answer, Memory>
-    ensures { IfOk result (λ answer. answer ≡ on_out (texts.result_text p.now st.now)) }
+    ensures { IfOk result (λ answer. answer ≡ on_out Done (texts.result_text p.now st.now)) }
 {
-    Ok(Answer::on_out(alloc, result_text(alloc, p, st)?))
+    Ok(Answer::on_out(alloc, Status::Done, result_text(alloc, p, st)?))
 }
 
 /// The answer to a run that is stuck in this state.

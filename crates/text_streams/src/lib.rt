@@ -1,9 +1,10 @@
-//! What a program that answers a text does outside: it reads the text whole from a source, and it writes the two texts of its
-//! answer, the one for out before the one for err.
+//! What a program that answers a text does outside: it reads the text whole from a source, and it writes its answer, the text
+//! for out before the text for err.
 #![tactic(auto)]
 
+mod answer;
 mod reading;
 mod writing;
 
+pub use answer::{Answer, Unwritten, tell};
 pub use reading::read_text;
-pub use writing::write_both;

@@ -5,7 +5,7 @@ ghost use Rattle.text_streams.specs.Writing.{Wrote, WroteBoth};
 use twe_io::{Sink, WriteFault, write_whole};
 
 /// Writes a text to out, and then a text to err. After a failed write nothing more is written. It takes no memory.
-pub fn write_both<O: Sink, E: Sink>(
+pub(crate) fn write_both<O: Sink, E: Sink>(
     for_out: &[u8],
     for_err: &[u8],
     out: &mut O,

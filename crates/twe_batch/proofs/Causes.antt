@@ -6,11 +6,13 @@ use Rattle.twe_io.specs.declared.whole.ReadFail.TheVariants as reads
 use Rattle.twe_limits.specs.Language.{max_text_bytes}
 use Rattle.text_streams.specs.Ends.{SourceTells, SinkTells, WasRead}
 use Rattle.par_check.specs.declared.job.Job.{Job}
-use Rattle.twe_batch.specs.declared.answer.Answer.{Answer}
+use Rattle.text_streams.specs.declared.answer.Answer.{Answer}
 use Rattle.twe_batch.specs.declared.status.BatchStatus.{BatchStatus}
 use Rattle.twe_batch.specs.Words.{IsMeaning}
-use Rattle.twe_batch.specs.Answers.{Cause, Answers, on_out}
-use Rattle.twe_batch.specs.inner.Given.{AnswersRead, TellsMade}
+use Rattle.text_streams.specs.Answers.{on_out}
+use Rattle.twe_batch.specs.Answers.{Cause, Answers}
+use Rattle.twe_batch.specs.inner.Given.{AnswersRead, unwritten}
+use Rattle.text_streams.specs.Answers.{TellsMade}
 
 -- a batch that was read is not too long
 pub short_read : {S : Type 0} (tells : SourceTells S) (before after : S) (read : Result (List ℕ) ReadFail) → WasRead tells before read after
@@ -19,7 +21,7 @@ short_read tells before after (Ok batch) was = was.told.2
 short_read tells before after (Err fail) was = tt
 
 -- the answer to what was read
-pub cause_read : {S : Type 0} (tells : SourceTells S) (words : List (List ℕ)) (before after : S) (job : Job) (read : Result (List ℕ) ReadFail) (made : Result Answer out_of.Memory)
+pub cause_read : {S : Type 0} (tells : SourceTells S) (words : List (List ℕ)) (before after : S) (job : Job) (read : Result (List ℕ) ReadFail) (made : Result (Answer BatchStatus) out_of.Memory)
     → IsMeaning words (Some job) → WasRead tells before read after → IfOk made (AnswersRead job read) → IfOk made (Cause tells words before after)
 cause_read tells words before after job read (Err e) means was answers = tt
 cause_read tells words before after job (Ok batch) (Ok a) means was answers =
@@ -30,8 +32,8 @@ cause_read tells words before after job (Err (reads.OutOfMemory memory)) (Ok a) 
 
 -- an answer that has its cause and is written
 pub answers_made : {S O E : Type 0} (src : SourceTells S) (out : SinkTells O) (err : SinkTells E) (words : List (List ℕ)) (before after : S)
-    (out_from out_to : O) (err_from err_to : E) (made : Result Answer out_of.Memory) (status : BatchStatus) → IfOk made (Cause src words before after)
-    → TellsMade out err out_from out_to err_from err_to made status → Answers src out err words before after out_from out_to err_from err_to status
+    (out_from out_to : O) (err_from err_to : E) (made : Result (Answer BatchStatus) out_of.Memory) (status : BatchStatus) → IfOk made (Cause src words before after)
+    → TellsMade unwritten out err out_from out_to err_from err_to made status → Answers src out err words before after out_from out_to err_from err_to status
 answers_made src out err words before after out_from out_to err_from err_to (Ok a) status cause tells = Answers.answered cause tells
 answers_made src out err words before after out_from out_to err_from err_to (Err e) status cause tells =
     subst (Answers src out err words before after out_from out_to err_from err_to) (sym tells.0) (Answers.out_of_memory tells.1 tells.2)

@@ -2,7 +2,6 @@
 //! runs them in several threads, and writes their answers in order.
 #![tactic(auto)]
 
-mod answer;
 mod status;
 mod text;
 mod top;

@@ -6,16 +6,18 @@ ghost use Rattle.par_check.specs.Batch.{IsBatch};
 ghost use Rattle.twe_batch.specs.Answers.{Answers, Cause};
 ghost use Rattle.twe_batch.specs.inner.Given.{AnswersRead};
 
-use crate::answer::{Answer, tell};
 use crate::status::BatchStatus;
 use crate::text::usage_text;
 use crate::words::job_of;
 use par_check::{Job, answer_all, batch_text, programs_of};
 use std::alloc::Global;
 use std::thread::Threads;
-use text_streams::read_text;
+use text_streams::{Unwritten, read_text, tell};
 use twe_io::{Bytes, Memory, ReadFail, Sink, Source, Word};
 use twe_report::{read_fault_text, too_long_text};
+
+/// An answer of this program.
+type Answer = text_streams::Answer<BatchStatus>;
 
 /// Reads a batch of programs from the source, checks or runs each of them, and writes their answers in order, with the number
 /// of each program and its status.
@@ -35,7 +37,11 @@ pub fn batch_top<R: Threads + Sync, S: Source, O: Sink, E: Sink>(
         words.now src.old src.new out.old out.new err.old err.new result }
 {
     let made = answer(rt, alloc, words, src);
-    tell(&made, out, err)
+    let unwritten = Unwritten {
+        write_fault: BatchStatus::WriteFault,
+        memory: BatchStatus::Memory,
+    };
+    tell(&made, unwritten, out, err)
 }
 
 /// The answer to these words.
@@ -69,7 +75,7 @@ fn answer_read<R: Threads + Sync>(
     match read {
         Ok(batch) => {
             let text = answer_batch(rt, alloc, job, batch.as_slice())?;
-            Ok(Answer::on_out(alloc, text))
+            Ok(Answer::on_out(alloc, BatchStatus::Done, text))
         }
         Err(ReadFail::ReadFault) => Ok(Answer::on_err(
             alloc,

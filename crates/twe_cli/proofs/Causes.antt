@@ -11,18 +11,20 @@ use Rattle.command_line.specs.declared.command.Command.{Command}
 use Rattle.command_line.specs.declared.command.Command.TheVariants.{Check, Run, Replay, Load}
 use Rattle.command_line.specs.Words.{IsSized}
 use Rattle.text_streams.specs.Ends.{SourceTells, SinkTells, WasRead}
-use Rattle.text_answers.specs.declared.answer.Answer.{Answer}
+use Rattle.text_answers.specs.Answer.{Answer}
 use Rattle.text_answers.specs.declared.book.Book.{Book}
 use Rattle.text_answers.specs.declared.status.Status.{Status}
 use Rattle.text_answers.specs.declared.status.Status.TheVariants.{ReadFault, Refused, TooLong, Usage}
-use Rattle.text_answers.specs.Answers.{Due, on_err}
+use Rattle.text_streams.specs.Answers.{on_err}
+use Rattle.text_answers.specs.Answers.{Due}
 use Rattle.text_answers.specs.Input.{has_input, journal_text, program_text}
 use Rattle.text_answers.specs.Theorem.{HasRefusal, IsNew}
 use Rattle.twe_cli.specs.Answers.{Cause, Answers}
 use Rattle.twe_cli.specs.declared.reading.Input.{Input}
 use Rattle.twe_cli.specs.declared.reading.Input.TheVariants.{Given, Failed}
 use Rattle.twe_cli.specs.inner.Given.{IsDueForText, IsInputOf}
-use Rattle.twe_cli.specs.inner.Writing.{TellsMade}
+use Rattle.text_streams.specs.Answers.{TellsMade}
+use Rattle.twe_cli.specs.inner.Writing.{unwritten}
 
 -- a load has one answer whatever the input
 due_of_load : (workers n : ℕ) (input other : List ℕ) (book : Book) (answer : Answer) → Due (Load workers n) input book answer → Due (Load workers n) other book answer
@@ -69,7 +71,7 @@ cause_given tells cmd before after input book (Err e) read due = tt
 -- an answer that has its cause and is written
 pub answers_made : {S O E : Type 0} (src : SourceTells S) (out : SinkTells O) (err : SinkTells E) (command : Option Command) (before after : S)
     (out_from out_to : O) (err_from err_to : E) (book : Book) (made : Result Answer out_of.Memory) (status : Status) → IfOk made (Cause src command before after book)
-    → TellsMade out err out_from out_to err_from err_to made status → Answers src out err command before after out_from out_to err_from err_to book status
+    → TellsMade unwritten out err out_from out_to err_from err_to made status → Answers src out err command before after out_from out_to err_from err_to book status
 answers_made src out err command before after out_from out_to err_from err_to book (Ok a) status cause tells = Answers.answered cause tells
 answers_made src out err command before after out_from out_to err_from err_to book (Err e) status cause tells =
     subst (Answers src out err command before after out_from out_to err_from err_to book) (sym tells.0) (Answers.out_of_memory tells.1 tells.2)

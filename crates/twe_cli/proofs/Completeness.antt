@@ -16,12 +16,13 @@ use Rattle.twe_machine.specs.declared.state.State.{State}
 use Rattle.twe_machine.specs.Runs.{state_after}
 use Rattle.command_line.specs.declared.command.Command.{Command}
 use Rattle.command_line.specs.declared.command.Command.TheVariants.{Check, Run, Replay, Load}
-use Rattle.text_answers.specs.declared.answer.Answer.{Answer}
+use Rattle.text_answers.specs.Answer.{Answer}
 use Rattle.text_answers.specs.declared.book.Book.{Book}
 use Rattle.text_answers.specs.declared.status.Status.{Status}
 use Rattle.text_answers.specs.declared.status.Status.TheVariants.{Done, Refused, Usage, Fault, Stuck, ReadFault, WriteFault, Memory, TooLong, BadJournal, Unfinished}
-use Rattle.text_answers.specs.Answers.{AnswersReplay, AnswersRun, Due, default_limits, for_load, on_err, on_out}
-use Rattle.twe_cli.specs.Answers.{Answers, Cause, Tells}
+use Rattle.text_streams.specs.Answers.{Tells, on_err, on_out}
+use Rattle.text_answers.specs.Answers.{AnswersReplay, AnswersRun, Due, default_limits, for_load}
+use Rattle.twe_cli.specs.Answers.{Answers, Cause}
 use Rattle.text_answers.specs.Codes.{is_done}
 use Rattle.twe_report.specs.Texts as texts
 use Rattle.twe_cli.specs.Complete.{Completes, IsAmong, IsComplete, statuses_of}
@@ -47,7 +48,7 @@ replayed_status p st prints outcomes.Stuck answer is = inr (inr (inl (ap (λ (a 
 replayed_status p st prints outcomes.Unfinished answer is = inr (inr (inr (inr (inr (inl (ap (λ (a : Answer). a.status) is))))))
 
 -- a load keeps the status of its run
-load_keeps : (n : ℕ) (st : State) (status : Status) (answer : Answer) → (cond (is_done status) (on_out (texts.load_result_text n st)) (on_err status answer.err)).status ≡ status
+load_keeps : (n : ℕ) (st : State) (status : Status) (answer : Answer) → (cond (is_done status) (on_out Done (texts.load_result_text n st)) (on_err status answer.err)).status ≡ status
 load_keeps n st Done answer = refl
 load_keeps n st Refused answer = refl
 load_keeps n st Usage answer = refl

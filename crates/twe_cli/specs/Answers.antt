@@ -7,12 +7,13 @@ use Rattle.twe_report.specs.Texts.{usage_text, read_fault_text, too_long_text}
 use Rattle.load_text.specs.Text.{load_text_of}
 use Rattle.command_line.specs.declared.command.Command.{Command}
 use Rattle.command_line.specs.declared.command.Command.TheVariants.{Load}
-use Rattle.text_streams.specs.Ends.{SourceTells, SinkTells, WasRead, Took, BrokeOff}
-use Rattle.text_answers.specs.declared.answer.Answer.{Answer}
+use Rattle.text_streams.specs.Ends.{SourceTells, SinkTells, WasRead}
+use Rattle.text_answers.specs.Answer.{Answer}
 use Rattle.text_answers.specs.declared.book.Book.{Book}
 use Rattle.text_answers.specs.declared.status.Status.{Status}
 use Rattle.text_answers.specs.declared.status.Status.TheVariants.{Usage, ReadFault, WriteFault, Memory, TooLong}
-use Rattle.text_answers.specs.Answers.{Due, on_err}
+use Rattle.text_streams.specs.Answers.{Tells, on_err}
+use Rattle.text_answers.specs.Answers.{Due}
 use Rattle.text_answers.specs.Input.{HasInput}
 use Rattle.text_answers.specs.Theorem.{IsNew}
 
@@ -33,17 +34,11 @@ pub data Cause {S : Type 0} (tells : SourceTells S) (command : Option Command) (
   no_input : {answer : Answer} (workers n : ℕ) → command ≡ Some (Load workers n) → after ≡ before → ((r : Refusal) → ¬ IsRefusal (load_text_of n) r)
       → Due (Load workers n) [] book answer → Cause tells command before after book answer
 
--- How an answer is written, out before err: all of it, or up to a write that fails, after which nothing is written.
-pub data Tells {O E : Type 0} (out : SinkTells O) (err : SinkTells E) (out_from out_to : O) (err_from err_to : E) (answer : Answer) : Status → Type 0 where
-  told : Took out answer.out out_from out_to → Took err answer.err err_from err_to → Tells out err out_from out_to err_from err_to answer answer.status
-  out_broke_off : BrokeOff out answer.out out_from out_to → err_to ≡ err_from → Tells out err out_from out_to err_from err_to answer WriteFault
-  err_broke_off : Took out answer.out out_from out_to → BrokeOff err answer.err err_from err_to → Tells out err out_from out_to err_from err_to answer WriteFault
-
 -- What a call of the program comes to: an answer that has its cause is written; or memory runs out, and nothing is written.
 pub data Answers {S O E : Type 0} (src : SourceTells S) (out : SinkTells O) (err : SinkTells E) (command : Option Command)
     (src_from src_to : S) (out_from out_to : O) (err_from err_to : E) (book : Book) : Status → Type 0 where
   answered : {answer : Answer} {status : Status} → Cause src command src_from src_to book answer
-      → Tells out err out_from out_to err_from err_to answer status
+      → Tells WriteFault out err out_from out_to err_from err_to answer status
       → Answers src out err command src_from src_to out_from out_to err_from err_to book status
   out_of_memory : out_to ≡ out_from → err_to ≡ err_from
       → Answers src out err command src_from src_to out_from out_to err_from err_to book Memory

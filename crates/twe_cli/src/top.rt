@@ -1,6 +1,6 @@
 //! The top call: the whole program, apart from where its bytes come from and go to.
 ghost use Rattle.std.specs.Prelude.{◌≡◌, Option, Some, IfOk};
-ghost use Rattle.text_answers.specs.Answers.{on_err};
+ghost use Rattle.text_streams.specs.Answers.{on_err};
 ghost use Rattle.twe_cli.specs.Answers.{Answers};
 ghost use Rattle.twe_cli.specs.Complete.{Completes};
 ghost use Rattle.text_streams.specs.Ends.{source, sink};

@@ -3,22 +3,23 @@ use Rattle.std.proofs.Common.{◌≡◌, ℕ, List, [], ◌∷◌, Result, Ok, E
 use Rattle.twe_io.specs.declared.memory.Memory as out_of
 use Rattle.twe_io.specs.declared.whole.ReadFail.{ReadFail}
 use Rattle.twe_io.specs.declared.whole.ReadFail.TheVariants as reads
-use Rattle.twe_infer.specs.declared.answer.Answer.{Answer}
+use Rattle.text_streams.specs.declared.answer.Answer.{Answer}
 use Rattle.twe_infer.specs.declared.status.InferStatus.{InferStatus}
 use Rattle.twe_infer.specs.declared.status.InferStatus.TheVariants.{Usage}
-use Rattle.twe_infer.specs.Answers.{Due, Cause, Answers, on_err}
+use Rattle.text_streams.specs.Answers.{on_err}
+use Rattle.twe_infer.specs.Answers.{Due, Cause, Answers}
 use Rattle.text_streams.specs.Ends.{SourceTells, SinkTells, WasRead}
 use Rattle.twe_infer.specs.Texts.{usage_text}
-use Rattle.twe_infer.specs.inner.Given.{AnswersRead}
-use Rattle.twe_infer.specs.inner.Writing.{TellsMade}
+use Rattle.twe_infer.specs.inner.Given.{AnswersRead, unwritten}
+use Rattle.text_streams.specs.Answers.{TellsMade}
 
 -- an answer that is made as the lines say is due
-pub due_as : (text : List ℕ) (made : Result Answer out_of.Memory) (answer : Answer) → Due text answer → IfOk made (λ a. a ≡ answer) → IfOk made (Due text)
+pub due_as : (text : List ℕ) (made : Result (Answer InferStatus) out_of.Memory) (answer : Answer InferStatus) → Due text answer → IfOk made (λ a. a ≡ answer) → IfOk made (Due text)
 due_as text (Ok a) answer due same = subst (Due text) (sym same) due
 due_as text (Err e) answer due same = tt
 
 -- the answer to what was read
-pub cause_read : {S : Type 0} (tells : SourceTells S) (words : List (List ℕ)) (before after : S) (read : Result (List ℕ) ReadFail) (made : Result Answer out_of.Memory)
+pub cause_read : {S : Type 0} (tells : SourceTells S) (words : List (List ℕ)) (before after : S) (read : Result (List ℕ) ReadFail) (made : Result (Answer InferStatus) out_of.Memory)
     → words ≡ [] → WasRead tells before read after → IfOk made (AnswersRead read) → IfOk made (Cause tells words before after)
 cause_read tells words before after read (Err e) none was answers = tt
 cause_read tells words before after (Ok text) (Ok a) none was answers = Cause.text text none was answers
@@ -28,8 +29,8 @@ cause_read tells words before after (Err (reads.OutOfMemory memory)) (Ok a) none
 
 -- an answer that has its cause and is written
 pub answers_made : {S O E : Type 0} (src : SourceTells S) (out : SinkTells O) (err : SinkTells E) (words : List (List ℕ)) (before after : S)
-    (out_from out_to : O) (err_from err_to : E) (made : Result Answer out_of.Memory) (status : InferStatus) → IfOk made (Cause src words before after)
-    → TellsMade out err out_from out_to err_from err_to made status → Answers src out err words before after out_from out_to err_from err_to status
+    (out_from out_to : O) (err_from err_to : E) (made : Result (Answer InferStatus) out_of.Memory) (status : InferStatus) → IfOk made (Cause src words before after)
+    → TellsMade unwritten out err out_from out_to err_from err_to made status → Answers src out err words before after out_from out_to err_from err_to status
 answers_made src out err words before after out_from out_to err_from err_to (Ok a) status cause tells = Answers.answered cause tells
 answers_made src out err words before after out_from out_to err_from err_to (Err e) status cause tells =
     subst (Answers src out err words before after out_from out_to err_from err_to) (sym tells.0) (Answers.out_of_memory tells.1 tells.2)

@@ -1,2 +1,4 @@
 pub mod Causes
 pub mod Ascending
+pub mod Blanks
+pub mod SameEffects

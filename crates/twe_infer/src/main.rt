@@ -2,7 +2,6 @@
 //! writes a line for each method.
 #![tactic(auto)]
 
-mod answer;
 mod laws;
 mod order;
 mod read;

@@ -5,16 +5,18 @@ ghost use Rattle.text_streams.specs.Ends.{sink, source};
 ghost use Rattle.twe_infer.specs.Meaning.{Means};
 ghost use Rattle.twe_infer.specs.inner.Given.{AnswersRead};
 
-use crate::answer::{Answer, tell};
 use crate::read::{Meaning, read_meaning};
 use crate::status::InferStatus;
 use crate::text::{lines_of, too_many_text, usage_text};
 use effect_infer::{InferFail, infer};
 use std::alloc::Global;
-use text_streams::read_text;
+use text_streams::{Unwritten, read_text, tell};
 use twe_frontend::FrontFail;
 use twe_io::{Bytes, Memory, ReadFail, Sink, Source, Word};
 use twe_report::{read_fault_text, refusal_text, too_long_text};
+
+/// An answer of this program.
+type Answer = text_streams::Answer<InferStatus>;
 
 /// Reads the text of a program from the source, and writes the least summary of each of its methods, a line for each.
 ///
@@ -31,7 +33,11 @@ pub fn infer_top<S: Source, O: Sink, E: Sink>(
         words.now src.old src.new out.old out.new err.old err.new result }
 {
     let made = answer(alloc, words, src);
-    tell(&made, out, err)
+    let unwritten = Unwritten {
+        write_fault: InferStatus::WriteFault,
+        memory: InferStatus::Memory,
+    };
+    tell(&made, unwritten, out, err)
 }
 
 /// The answer to these words.
@@ -93,7 +99,7 @@ fn answer_meaning(alloc: Global, text: &[u8], meaning: &Meaning) -> Result<Answe
         Ok(summaries) => {
             let items = meaning.tree.items.as_slice();
             let lines = lines_of(alloc, p.regions.as_slice(), summaries.as_slice(), items)?;
-            Ok(Answer::on_out(alloc, lines))
+            Ok(Answer::on_out(alloc, InferStatus::Done, lines))
         }
         Err(InferFail::TooMany { method }) => {
             let decl = &p.methods.as_slice()[method as usize];

@@ -23,6 +23,10 @@ pub mod LeftAlone
 pub mod Linked
 pub mod LinkedMoves
 pub mod LinksAgree
+pub mod ListEdits
+pub mod Listed
+pub mod ListedBars
+pub mod MadeTasks
 pub mod Members
 pub mod MoveCounts
 pub mod Movers
@@ -32,6 +36,7 @@ pub mod OneLowest
 pub mod OneSegment
 pub mod Ordered
 pub mod OtherRows
+pub mod OtherTasks
 pub mod Places
 pub mod ReachedStands
 pub mod Ready

@@ -16,7 +16,8 @@ use Rattle.twe_machine.specs.declared.state.State.{State}
 use Rattle.twe_machine.specs.declared.state.TaskRow.{TaskRow}
 use Rattle.twe_machine.specs.Moves.{MaySettle, done_row, faulted_row, first_fault_of, going_row, state_after_join, joined_child, joined_row, joined_rows, making_frame, new_row, parent_of, ran, ready_frame, settling_result, stop_result, stopped_frame}
 use Rattle.twe_machine.specs.Rows.{awaited}
-use Rattle.twe_machine.specs.inner.Settling.{SettlesAfter, without_frame}
+use Rattle.twe_machine.specs.FramesOut.{without_frame}
+use Rattle.twe_machine.specs.inner.Settling.{SettlesAfter}
 use Rattle.twe_machine.proofs.Ended.{set_again}
 use Rattle.twe_machine.proofs.Places.{set_same}
 

@@ -1,5 +1,7 @@
 pub mod Changes
+pub mod FramesOut
 pub mod Legal
+pub mod Listings
 pub mod LowestFirst
 pub mod Moves
 pub mod Replays

@@ -28,7 +28,7 @@ pub fn bar(st: &State, t: u32) -> Option<u32>
 }
 
 /// Whether `s` is a bar to the admission of `t`.
-fn is_bar(st: &State, s: u32, t: u32) -> bool
+pub(crate) fn is_bar(st: &State, s: u32, t: u32) -> bool
     requires bar { s < length st.now.tasks }
     requires there { t < length st.now.tasks }
     requires linked { length st.now.links ≡ length st.now.tasks }
@@ -39,8 +39,8 @@ fn is_bar(st: &State, s: u32, t: u32) -> bool
     s != t && is_enabled(st, s) && interfere(st, s, t) && !st.links.yields(s, t)
 }
 
-/// Whether a task is enabled.
-fn is_enabled(st: &State, t: u32) -> bool
+/// Whether a task was made and is enabled. It takes no memory.
+pub fn is_enabled(st: &State, t: u32) -> bool
     ensures { IsTrue result ↔ HasStatus st.now t Enabled }
 {
     match st.tasks.get(t as usize) {

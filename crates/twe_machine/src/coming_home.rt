@@ -10,8 +10,8 @@ use seg_exec::{Frame, Next};
 use std::alloc::Global;
 use twe_io::{Ints, List, Memory};
 
-/// The task that the next operation waits for, if it is a wait.
-pub(crate) fn awaited(next: Next) -> Option<u32>
+/// The task that the next operation waits for, if it is a wait. It takes no memory.
+pub fn awaited(next: Next) -> Option<u32>
     ensures { result ≡ awaited next }
 {
     match next {

@@ -4,10 +4,13 @@
 
 mod bars;
 mod coming_home;
+mod enabled_tasks;
 mod ending;
 mod first_state;
 mod laws;
 mod legal;
+mod listed_bars;
+mod listed_moves;
 mod lowest_move;
 mod making;
 mod new_task;
@@ -20,7 +23,9 @@ mod state;
 mod taken_joins;
 mod task_end;
 
-pub use bars::bar;
+pub use bars::{bar, is_enabled};
+pub use coming_home::awaited;
+pub use enabled_tasks::EnabledTasks;
 pub use ending::Outcome;
 pub use first_state::start;
 pub use laws::{
@@ -35,6 +40,7 @@ pub use outcomes::outcome;
 pub use replaying::{
     ReplayFail, moves_make_the_journal, one_first_illegal, replay, replay_journal,
 };
+pub use running::take_ready;
 pub use seg_exec::{Frame, Next, OpenBody, Position, Stop};
 pub use settling::settle;
 pub use state::{FirstFault, State, TaskRow, TaskStatus};

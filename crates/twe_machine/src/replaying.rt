@@ -9,10 +9,12 @@ ghost use Rattle.twe_machine.specs.declared.legal.Why.{Why};
 ghost use Rattle.twe_machine.specs.declared.replaying.ReplayFail.TheVariants.{Illegal, OutOfMemory};
 ghost use Rattle.twe_machine.specs.Legal.{Forbids};
 ghost use Rattle.twe_machine.specs.Replays.{AreLegal, IsFirstIllegal, IsOutOfMemory, IsReplay};
-ghost use Rattle.twe_machine.specs.Runs.{IsRun, Legal};
+ghost use Rattle.twe_machine.specs.Runs.{Legal};
+ghost use Rattle.twe_machine.specs.inner.UnderWay.{IsUnderWay};
 
+use crate::enabled_tasks::EnabledTasks;
 use crate::first_state::start;
-use crate::legal::{Why, may};
+use crate::legal::Why;
 use crate::one_move::step;
 use crate::state::State;
 use seg_journal::{Entry, Journal, Move};
@@ -67,37 +69,59 @@ pub fn replay_journal(
     ensures replayed { IfOk result (λ run. IsReplay p.now lim moves.now run.0 run.1) }
     ensures illegal { (n : ℕ) (why : Why) → IsErrOf result (Illegal n why) → IsFirstIllegal p.now lim moves.now n why }
 {
-    let mut st = start(alloc, p, lim)?;
-    let mut journal = Journal::new(alloc);
+    let st = start(alloc, p, lim)?;
+    let journal = Journal::new(alloc);
+    let enabled = EnabledTasks::new(alloc);
+    let mut run = Replaying {
+        journal,
+        st,
+        enabled,
+    };
     for (i, mv) in moves.iter().enumerate() {
-        take_move(alloc, p, lim, &mut st, &mut journal, *mv, i as u64 + 1)?;
+        run.take_move(alloc, p, lim, *mv, i as u64 + 1)?;
     }
+    let Replaying { journal, st, .. } = run;
     Ok((journal, st))
 }
 
-/// Takes the move with the number `n` of a replay and enters it into the journal, if it is legal.
-fn take_move(
-    alloc: Global,
-    p: &Prog,
-    lim: Limits,
-    st: &mut State,
-    journal: &mut Journal,
-    mv: Move,
-    n: u64,
-) -> Result<(), ReplayFail>
-    requires { IsRun p.now lim journal.old st.old }
-    ensures run { OnOk result (IsRun p.now lim journal.new st.new) }
-    ensures moves { OnOk result (map move_of journal.new ≡ map move_of journal.old ++ mv ∷ []) }
-    ensures count { OnOk result (length journal.new ≡ length journal.old + 1) }
-    ensures number { (m : ℕ) (why : Why) → IsErrOf result (Illegal m why) → m ≡ n }
-    ensures forbids { (m : ℕ) (why : Why) → IsErrOf result (Illegal m why) → Forbids st.old mv.kind mv.task why }
-{
-    if let Err(why) = may(p, st, mv) {
-        return Err(ReplayFail::Illegal { n, why });
+/// A replay under way.
+#[derive(Drop)]
+struct Replaying {
+    /// The entries so far.
+    journal: Journal,
+    /// The state after them.
+    st: State,
+    /// Its enabled tasks.
+    enabled: EnabledTasks,
+}
+
+impl Replaying {
+    /// Takes the move with the number `n` and enters it into the journal, if it is legal.
+    fn take_move(
+        &mut self,
+        alloc: Global,
+        p: &Prog,
+        lim: Limits,
+        mv: Move,
+        n: u64,
+    ) -> Result<(), ReplayFail>
+        requires { IsUnderWay p.now lim self.old }
+        ensures goes_on { OnOk result (IsUnderWay p.now lim self.new) }
+        ensures moves { OnOk result (map move_of self.new.journal ≡ map move_of self.old.journal ++ mv ∷ []) }
+        ensures count { OnOk result (length self.new.journal ≡ length self.old.journal + 1) }
+        ensures number { (m : ℕ) (why : Why) → IsErrOf result (Illegal m why) → m ≡ n }
+        ensures forbids { (m : ℕ) (why : Why) → IsErrOf result (Illegal m why) → Forbids self.old.st mv.kind mv.task why }
+    {
+        let _main = p.main;
+        if let Err(why) = self.enabled.may(p, &self.st, mv) {
+            return Err(ReplayFail::Illegal { n, why });
+        }
+        let before = self.st.links.task_count();
+        let end = step(alloc, p, lim, &mut self.st, mv)?;
+        self.journal.push(Entry { mv, end })?;
+        self.enabled.note(&self.st, mv, before)?;
+        Ok(())
     }
-    let end = step(alloc, p, lim, st, mv)?;
-    journal.push(Entry { mv, end })?;
-    Ok(())
 }
 
 /// Legal moves have no first illegal one. A list of moves has one first illegal move at most, and one reason for it.

@@ -2,9 +2,10 @@
 ghost use Rattle.std.specs.Prelude.{◌≡◌, ◌<◌, length, IfOk, Some, slice_get, slice_set, option_copied};
 ghost use Rattle.twe_program.specs.Program.{cell_count};
 ghost use Rattle.twe_machine.specs.declared.state.TaskRow.{TaskRow};
+ghost use Rattle.twe_machine.specs.FramesOut.{no_frame, without_frame};
 ghost use Rattle.twe_machine.specs.Moves.{awaited_value, ran, ready_frame, value_of};
 ghost use Rattle.twe_machine.specs.Rows.{awaited};
-ghost use Rattle.twe_machine.specs.inner.Settling.{SettlesAfter, no_frame, without_frame};
+ghost use Rattle.twe_machine.specs.inner.Settling.{SettlesAfter};
 
 use crate::coming_home::awaited;
 use crate::settling::settle;
@@ -34,8 +35,9 @@ pub(crate) fn run(
     settle(alloc, lim, st, t, frame, stop)
 }
 
-/// Takes the frame out of the row of a task, with the value that it has waited for.
-fn take_ready(alloc: Global, rows: &mut List<TaskRow>, t: u32) -> Frame
+/// Takes the frame out of the row of a task, with the value that it has waited for. The row is left with a frame that has
+/// nothing to run. It takes no memory.
+pub fn take_ready(alloc: Global, rows: &mut List<TaskRow>, t: u32) -> Frame
     requires { t < length rows.old }
     ensures frame { (row : TaskRow) → slice_get rows.old t ≡ Some row → result ≡ ready_frame rows.old row.frame }
     ensures rows { (row : TaskRow) → slice_get rows.old t ≡ Some row → rows.new ≡ slice_set rows.old t (without_frame row) }

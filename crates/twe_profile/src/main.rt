@@ -3,7 +3,6 @@
 //! chain of entries.
 #![tactic(auto)]
 
-mod answer;
 mod status;
 mod text;
 mod top;

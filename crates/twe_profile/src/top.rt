@@ -6,18 +6,20 @@ ghost use Rattle.text_streams.specs.Ends.{sink, source};
 ghost use Rattle.twe_profile.specs.Answers.{Answers, AnswersJournal, Cause, Due};
 ghost use Rattle.twe_profile.specs.inner.Given.{AnswersFound, AnswersRead, IsShort};
 
-use crate::answer::{Answer, tell};
 use crate::status::ProfileStatus;
 use crate::text::{profile_text, usage_text};
 use seg_journal::{JournalFail, JournalText, Limits, Move, read_journal};
 use span_profile::{ProfileFail, profile};
 use std::alloc::Global;
 use text_answers::cut_input;
-use text_streams::read_text;
+use text_streams::{Unwritten, read_text, tell};
 use twe_frontend::{FrontFail, read_program};
 use twe_io::{Bytes, Memory, ReadFail, Sink, Source, Word};
 use twe_program::Prog;
 use twe_report::{not_a_move_text, not_legal_text, read_fault_text, refusal_text, too_long_text};
+
+/// An answer of this program.
+type Answer = text_streams::Answer<ProfileStatus>;
 
 /// Reads the text of a program from the source, and after the first line that is exactly `%%` the text of a journal. Writes the work
 /// and the span of the journal, and its heaviest chain. Without such a line the journal is empty. A journal may be unfinished or
@@ -36,7 +38,11 @@ pub fn profile_top<S: Source, O: Sink, E: Sink>(
         words.now src.old src.new out.old out.new err.old err.new result }
 {
     let made = answer(alloc, words, src);
-    tell(&made, out, err)
+    let unwritten = Unwritten {
+        write_fault: ProfileStatus::WriteFault,
+        memory: ProfileStatus::Memory,
+    };
+    tell(&made, unwritten, out, err)
 }
 
 /// The answer to these words.
@@ -112,7 +118,11 @@ fn answer_found(alloc: Global, p: &Prog, found: &JournalText) -> Result<Answer, 
     let lim = found.head.unwrap_or(Limits::default());
     let moves = found.moves.as_slice();
     match profile(alloc, p, lim, moves) {
-        Ok(profile) => Ok(Answer::on_out(alloc, profile_text(alloc, &profile)?)),
+        Ok(profile) => Ok(Answer::on_out(
+            alloc,
+            ProfileStatus::Done,
+            profile_text(alloc, &profile)?,
+        )),
         Err(ProfileFail::Illegal { n, .. }) => Ok(Answer::on_err(
             alloc,
             ProfileStatus::BadJournal,

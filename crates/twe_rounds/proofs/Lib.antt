@@ -2,8 +2,6 @@
 pub mod Beginnings
 -- a run that has met no fault, and one entry more
 pub mod Faultless
--- the list of the enabled tasks after a move
-pub mod Listed
 -- what a run that keeps to its round has
 pub mod Keepings
 -- a quiet step and a round of a run, as those of the crew that has the run

@@ -1,12 +1,10 @@
 -- What the run of a round keeps, whoever takes its moves.
-use Rattle.std.specs.Prelude.{◌≡◌, ℕ, false, List, [], ◌∷◌, None}
-use Rattle.std.specs.List.{Contains}
+use Rattle.std.specs.Prelude.{◌≡◌, false, List, [], ◌∷◌, None}
 use mathlib.Core.List.{IsPrefix}
 use Rattle.seg_journal.specs.declared.journal.Entry.{Entry}
 use Rattle.twe_limits.specs.Limits.{Bounds}
 use Rattle.twe_program.specs.Program.{Program}
-use Rattle.twe_machine.specs.declared.state.TaskStatus.TheVariants.{Enabled}
-use Rattle.twe_machine.specs.Rows.{HasStatus}
+use Rattle.twe_machine.specs.Listings.{IsListing}
 use Rattle.twe_machine.specs.Runs.{IsRun, counted, is_fault}
 use Rattle.twe_rounds.specs.declared.run.Run.{Run}
 
@@ -16,12 +14,12 @@ NoFaults [] = Unit {0}
 NoFaults (entry ∷ entries) = (is_fault entry.end ≡ false) × NoFaults entries
 
 -- A run so far. Its journal is legal for the program under the limits, and leads to its state. Nothing comes after a
--- fault. Each enabled task is on its list.
+-- fault. Its list is that of the enabled tasks of its state.
 pub record IsSound (p : Program) (lim : Bounds) (run : Run) : Type 0 where
   pub run_is : IsRun p lim run.journal run.state
   pub clear : run.state.first_fault ≡ None → NoFaults run.journal
   pub counts : counted run.journal ≡ run.journal
-  pub listed : (s : ℕ) → HasStatus run.state s Enabled → Contains run.enabled s
+  pub listing : IsListing run.state run.enabled
 
 -- The run is one of the program under the limits, and its journal begins with the journal from before the round.
 pub record Keeps (p : Program) (lim : Bounds) (earlier : List Entry) (run : Run) : Type 0 where

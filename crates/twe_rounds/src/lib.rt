@@ -9,7 +9,6 @@ mod access;
 mod bars;
 mod crew;
 mod dealing;
-mod enabled;
 mod game;
 mod gate;
 mod meet_gate;

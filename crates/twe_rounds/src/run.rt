@@ -5,12 +5,11 @@ ghost use Rattle.twe_machine.specs.Moves.{start_of};
 ghost use Rattle.twe_machine.specs.Runs.{entry_of};
 ghost use Rattle.twe_rounds.specs.Keeping.{IsSound};
 
-use crate::enabled::note;
 use seg_journal::{End, Entry, Journal, Move};
 use std::alloc::Global;
-use twe_io::{List, Memory};
+use twe_io::Memory;
 use twe_limits::Limits;
-use twe_machine::{State, start, step};
+use twe_machine::{EnabledTasks, State, start, step};
 use twe_program::Prog;
 
 /// The journal of a run so far, the state to which it leads, and its enabled tasks.
@@ -20,8 +19,8 @@ pub struct Run {
     pub journal: Journal,
     /// The state after them.
     pub state: State,
-    /// Each enabled task, and perhaps some that are over.
-    pub enabled: List<u32>,
+    /// The enabled tasks of that state.
+    pub enabled: EnabledTasks,
 }
 
 impl Run {
@@ -33,7 +32,7 @@ impl Run {
         Ok(Run {
             journal: Journal::new(alloc),
             state: start(alloc, p, lim)?,
-            enabled: List::new(alloc),
+            enabled: EnabledTasks::new(alloc),
         })
     }
 
@@ -50,7 +49,7 @@ impl Run {
         let before = self.state.links.task_count();
         let end = step(alloc, p, lim, &mut self.state, mv)?;
         self.journal.push(Entry { mv, end })?;
-        note(alloc, &self.state, &mut self.enabled, mv, before)?;
+        self.enabled.note(&self.state, mv, before)?;
         Ok(end)
     }
 }

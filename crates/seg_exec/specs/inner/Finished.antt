@@ -15,5 +15,5 @@ ended_with frame value = record frame { body = None; next = closing frame.out.it
 abbrev pub finished : Program → Frame → List ℤ → Ending → Frame × Stop
 finished p frame vars (Returned value) = (ended_with frame value, closing_stop frame.out.items value)
 finished p frame vars (Faulted kind place) = (record frame { body = None; next = Ended }, Fault kind place)
-finished p frame vars (Suspended operation positions) =
-    (record frame { body = Some (record { vars = vars; open_blocks = positions }); next = operation_next frame operation; out = operation_out operation frame.out }, operation_stop p frame operation)
+finished p frame vars (Suspended held) =
+    (record frame { body = Some (record { vars = vars; open_blocks = held.positions }); next = operation_next frame held.operation; out = operation_out held.operation frame.out }, operation_stop p frame held.operation)

@@ -24,6 +24,7 @@ use Rattle.seg_exec.specs.Arithmetic.{number_of, is_true, operated, decided, neg
 use Rattle.seg_exec.specs.Cells.{cell_number, element_number, grid_element_number}
 use Rattle.seg_exec.specs.Meaning.{body_of, vars_at_start}
 use Rattle.twe_io.specs.Stacks.{below}
+use Rattle.seg_exec.specs.inner.Endings.{suspended_at}
 use Rattle.seg_exec.specs.inner.Continuations.{Continuation, Evaluate, Execute, Rest, Choose, Chosen, Turn, Gather, Take, Negate, Invert, Right, Apply, ReadElement, ReadGridElement, GiveVar, GiveCell, GiveElement, GiveGridElement, PrintValue, Discard, Unwind, Suspend, Leave, Config, top, to_do, with_operand, without_operand, var_value}
 
 -- a step makes a request and leads to a configuration
@@ -211,7 +212,7 @@ suspended_past (recovers.Block position) operation positions c = on (to_do (Susp
 suspended_past recovers.Nothing operation positions c = on (to_do (Suspend operation positions) c)
 
 abbrev pub suspended : Operation → List Position → List Continuation → Config → Step
-suspended operation positions [] c = (requests.End (endings.Suspended operation positions), c)
+suspended operation positions [] c = (requests.End (suspended_at operation positions), c)
 suspended operation positions (next ∷ work) c = suspended_past (recovered_from next) operation positions (record c { work = work })
 
 -- one continuation frame is run, with the others in the configuration

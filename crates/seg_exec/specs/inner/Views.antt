@@ -35,7 +35,7 @@ continuation_of (held.Choose block arms last) = Choose block (arms_of (drop bloc
 continuation_of (held.UseValue then) = use_of then
 continuation_of (held.Gather g) = Gather g.value.taken (arguments_of g.value.args.now) g.value.goal
 continuation_of (held.Take g) = Take g.value.taken (arguments_of g.value.args.now) g.value.goal
-continuation_of (held.Suspend s) = Suspend s.value.operation s.value.positions
+continuation_of (held.Suspend s) = Suspend s.operation s.positions
 continuation_of (held.Leave vars) = Leave vars
 
 abbrev pub continuations_of : List Held → List Continuation

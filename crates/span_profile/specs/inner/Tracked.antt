@@ -4,6 +4,7 @@ use Rattle.std.specs.List.{AllZip, list_any}
 use Rattle.seg_journal.specs.declared.journal.Entry.{Entry}
 use Rattle.twe_limits.specs.Limits.{Bounds}
 use Rattle.twe_program.specs.Program.{Program, cell_count}
+use Rattle.twe_machine.specs.Listings.{IsListing}
 use Rattle.twe_machine.specs.Runs.{IsRun, counted, is_fault}
 use Rattle.heaviest_chain.specs.Built.{Holds}
 use Rattle.heaviest_chain.specs.Nodes.{Node}
@@ -17,10 +18,11 @@ use Rattle.span_profile.specs.inner.Shows.{Shows}
 abbrev pub has_fault : List Entry → Bool
 has_fault entries = list_any (λ (entry : Entry). is_fault entry.end) entries
 
--- A run under way: the state is the one that the journal leads to, and the chains hold a node for each entry of its counted
--- part, which shows what the entry did.
+-- A run under way: the state is the one that the journal leads to, and the list is one of its enabled tasks. The chains hold a
+-- node for each entry of the counted part, which shows what the entry did.
 pub record IsTracked (p : Program) (lim : Bounds) (run : Tracked) : Type 0 where
   pub is_run : IsRun p lim run.journal run.st
+  pub listing : IsListing run.st run.enabled
   pub over : run.over ≡ has_fault run.journal
   pub places : ArePlaces p run.places
   pub reads : run.watched.reads ≡ no_cells (cell_count p)

@@ -7,7 +7,7 @@ use Rattle.twe_machine.specs.declared.ending.Outcome.{Outcome}
 use Rattle.twe_machine.specs.declared.state.State.{State}
 use Rattle.twe_machine.specs.Replays.{IsReplay}
 use Rattle.twe_machine.specs.Runs.{state_after, counted}
-use Rattle.text_answers.specs.declared.answer.Answer.{Answer}
+use Rattle.text_answers.specs.Answer.{Answer}
 use Rattle.text_answers.specs.declared.book.Book.{Book}
 use Rattle.command_line.specs.declared.command.Command.{Command}
 use Rattle.text_answers.specs.Answers.{Due, AnswersReplay, AnswersRun, default_limits, for_load, with_journal}

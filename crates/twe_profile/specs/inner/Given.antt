@@ -1,4 +1,4 @@
--- The answer to what the reading of a source came to.
+-- The answer to what the reading of a source came to, and the statuses of one that was not written.
 use Rattle.std.specs.Prelude.{◌≡◌, ◌≤◌, ℕ, List, Result, Ok, Err, length}
 use Rattle.twe_io.specs.declared.whole.ReadFail.{ReadFail}
 use Rattle.twe_io.specs.declared.whole.ReadFail.TheVariants as reads
@@ -7,11 +7,14 @@ use Rattle.seg_journal.specs.Spelling.{Spells}
 use Rattle.twe_limits.specs.Language.{max_text_bytes}
 use Rattle.twe_program.specs.Program.{Program}
 use Rattle.twe_report.specs.Texts.{read_fault_text, too_long_text}
-use Rattle.twe_profile.specs.declared.answer.Answer.{Answer}
-use Rattle.twe_profile.specs.declared.status.ProfileStatus.TheVariants.{ReadFault, TooLong}
-use Rattle.twe_profile.specs.Answers.{AnswersJournal, Due, on_err}
+use Rattle.text_streams.specs.declared.answer.Answer.{Answer}
+use Rattle.text_streams.specs.declared.answer.Unwritten.{Unwritten}
+use Rattle.twe_profile.specs.declared.status.ProfileStatus.{ProfileStatus}
+use Rattle.twe_profile.specs.declared.status.ProfileStatus.TheVariants.{ReadFault, WriteFault, TooLong, Memory}
+use Rattle.text_streams.specs.Answers.{on_err}
+use Rattle.twe_profile.specs.Answers.{AnswersJournal, Due}
 
-abbrev pub AnswersRead : Result (List ℕ) ReadFail → Answer → Type 0
+abbrev pub AnswersRead : Result (List ℕ) ReadFail → Answer ProfileStatus → Type 0
 AnswersRead (Ok text) answer = Due text answer
 AnswersRead (Err reads.ReadFault) answer = answer ≡ on_err ReadFault read_fault_text
 AnswersRead (Err reads.TooLong) answer = answer ≡ on_err TooLong too_long_text
@@ -23,5 +26,9 @@ IsShort (Ok text) = length text ≤ max_text_bytes
 IsShort (Err fail) = Unit {0}
 
 -- the answer to each journal text in which this was found
-abbrev pub AnswersFound : Program → JournalText → Answer → Type 0
+abbrev pub AnswersFound : Program → JournalText → Answer ProfileStatus → Type 0
 AnswersFound p found answer = (text : List ℕ) → Spells text found.head found.moves → AnswersJournal p text answer
+
+-- the statuses of a call whose answer was not written, or not whole
+abbrev pub unwritten : Unwritten ProfileStatus
+unwritten = record { write_fault = WriteFault; memory = Memory }

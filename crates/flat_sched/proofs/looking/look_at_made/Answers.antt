@@ -1,10 +1,5 @@
 use Rattle.flat_sched.proofs.LookedAt.{keeps_looked}
 use Rattle.flat_sched.proofs.looking.look_at_made.Goals as goal
 
-pub returns-in-None-clause-keeps : goal.returns-in-None-clause-keeps
-returns-in-None-clause-keeps c =
-    keeps_looked c.args.st.now c.args.books.now c.args.books.now.held c.find_bar.new.active c.requires.keeps (λ u x h. h) c.find_bar.ensures.tasks c.find_bar.ensures.path
-
 pub returns-in_ok-add-in-Some-clause-keeps : goal.returns-in_ok-add-in-Some-clause-keeps
-returns-in_ok-add-in-Some-clause-keeps c =
-    keeps_looked c.args.st.now c.args.books.now c.add.new.lists c.find_bar.new.active c.requires.keeps c.in_ok-add-in-Some.ensures.kept c.find_bar.ensures.tasks c.find_bar.ensures.path
+returns-in_ok-add-in-Some-clause-keeps c = keeps_looked c.args.st.now c.args.books.now c.add.new.lists c.requires.keeps c.in_ok-add-in-Some.ensures.kept

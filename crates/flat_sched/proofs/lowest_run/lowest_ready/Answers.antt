@@ -1,4 +1,4 @@
-use Rattle.std.proofs.Common.{◌≡◌, ◌≤◌, List, ℕ, Option, length, ap, sym, subst, arith}
+use Rattle.std.proofs.Common.{◌≡◌, List, ℕ, Option, length, ap, sym, subst, arith}
 use Rattle.std.specs.Prelude.{IfNone, IfSome}
 use Rattle.seg_journal.specs.declared.moves.Kind.{Kind}
 use Rattle.twe_machine.specs.declared.state.TaskStatus.TheVariants.{Made}
@@ -8,23 +8,15 @@ use Rattle.twe_machine.specs.Legal.{MayMove, MayTake}
 use Rattle.twe_machine.specs.Rows.{HasStatus}
 use Rattle.flat_sched.specs.inner.Books.{IsHeldBack}
 use Rattle.flat_sched.specs.inner.Lists.{IsReady}
-use Rattle.twe_machine.proofs.ReachedStands.{reached_stands}
 use Rattle.flat_sched.proofs.HeldUp.{linked}
 use Rattle.flat_sched.proofs.LookedAt.{keeps_without, ready_of}
-use Rattle.flat_sched.proofs.Step.{made_row, orphan_by}
 use Rattle.flat_sched.proofs.lowest_run.lowest_ready.Goals as goal
 
 pub look-requires-clause-linked : goal.look-requires-clause-linked
 look-requires-clause-linked c = linked c.args.st.now (c.links_agree.ensures c.args.p.now c.args.st.now c.requires.reachable)
 
-pub look-requires-clause-filled : goal.look-requires-clause-filled
-look-requires-clause-filled c = c.effects_are_filled.ensures c.args.p.now c.args.st.now (subst IsWellFormed c.p.view_is c.p.invariant) c.requires.reachable
-
-pub look-requires-clause-orphans : goal.look-requires-clause-orphans
-look-requires-clause-orphans c = λ u q made.
-    let lim = c.requires.reachable.0 in
-    let stands = reached_stands c.args.p.now lim c.args.st.now (subst IsWellFormed c.p.view_is c.p.invariant) c.requires.reachable.1 in
-    orphan_by c.args.st.now u (made_row c.args.p.now lim c.args.st.now u stands made).1 q
+pub look-requires-clause-reachable : goal.look-requires-clause-reachable
+look-requires-clause-reachable c = (c.args.p.now, subst IsWellFormed c.p.view_is c.p.invariant, c.requires.reachable)
 
 -- the move of the lowest task that is to be looked at is the lowest
 pub returns-in-Some-2-clause-lowest : goal.returns-in-Some-2-clause-lowest

@@ -1,4 +1,4 @@
-use Rattle.std.proofs.Common.{ℕ, length}
+use Rattle.std.proofs.Common.{length}
 use Rattle.flat_sched.specs.inner.Books.{Keeps}
 use Rattle.flat_sched.proofs.lowest_run.lowest_ready.Given as goal
 

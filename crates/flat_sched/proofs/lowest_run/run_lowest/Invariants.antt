@@ -1,4 +1,4 @@
-use Rattle.std.proofs.Common.{◌≡◌, ◌-◌, ◌*◌, ◌+◌, ℕ, None, length}
+use Rattle.std.proofs.Common.{◌≡◌, ◌-◌, ◌*◌, ◌+◌, None, length}
 use Rattle.flat_sched.specs.inner.Books.{Keeps}
 use Rattle.flat_sched.proofs.Going.{IsGoing}
 use Rattle.flat_sched.proofs.lowest_run.run_lowest.Given as goal

@@ -12,6 +12,5 @@ returns c = record {
   ];
   freed = λ x over h. c.in_ok-wake.ensures.woken x (subst (λ (l : List ℕ). Contains l x) (sym c.as_slice.ensures) (c.take-held.ensures.taken x h));
   waiters = refl;
-  active = c.drop_over.ensures.kept;
-  path = c.drop_over.ensures.path;
+  enabled = refl;
 }

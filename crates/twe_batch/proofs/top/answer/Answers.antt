@@ -1,7 +1,8 @@
 use Rattle.std.proofs.Common.{sym, ap, ◌∙◌, refl, subst}
 use Rattle.text_streams.specs.Ends.{source}
 use Rattle.twe_batch.specs.declared.status.BatchStatus.TheVariants.{Usage}
-use Rattle.twe_batch.specs.Answers.{Cause, on_err}
+use Rattle.text_streams.specs.Answers.{on_err}
+use Rattle.twe_batch.specs.Answers.{Cause}
 use Rattle.twe_batch.proofs.Causes.{cause_read, short_read}
 use Rattle.twe_batch.proofs.top.answer.Goals as goal
 

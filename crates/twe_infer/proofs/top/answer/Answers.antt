@@ -1,7 +1,8 @@
 use Rattle.std.proofs.Common.{◌≡◌, ◌≤◌, ◌<◌, ℕ, List, [], ◌∷◌, length, refl, sym, ap, ◌∙◌, subst, arith}
 use Rattle.std.proofs.lemmas.List.{nil_from_length}
 use Rattle.twe_infer.specs.declared.status.InferStatus.TheVariants.{Usage}
-use Rattle.twe_infer.specs.Answers.{Cause, on_err}
+use Rattle.text_streams.specs.Answers.{on_err}
+use Rattle.twe_infer.specs.Answers.{Cause}
 use Rattle.text_streams.specs.Ends.{source}
 use Rattle.twe_infer.proofs.Causes.{cause_read}
 use Rattle.twe_infer.proofs.top.answer.Goals as goal

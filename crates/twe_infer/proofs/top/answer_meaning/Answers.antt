@@ -7,8 +7,9 @@ use Rattle.twe_program.specs.declared.program.Decl.{Decl}
 use Rattle.twe_program.specs.Program.{Program}
 use Rattle.effect_infer.specs.declared.fail.InferFail.{InferFail}
 use Rattle.effect_infer.specs.Inferred.{HasCause}
-use Rattle.twe_infer.specs.declared.status.InferStatus.TheVariants.{TooMany}
-use Rattle.twe_infer.specs.Answers.{Due, on_err, on_out}
+use Rattle.twe_infer.specs.declared.status.InferStatus.TheVariants.{Done, TooMany}
+use Rattle.text_streams.specs.Answers.{on_err, on_out}
+use Rattle.twe_infer.specs.Answers.{Due}
 use Rattle.twe_infer.specs.Texts.{lines_of, too_many_text}
 use Rattle.twe_infer.proofs.top.answer_meaning.Goals as goal
 
@@ -22,7 +23,7 @@ returns-in_ok-lines-in-Ok c =
     c.in_ok-lines-in-Ok.ensures ∙ ap (λ (names : List (List ℕ)). lines_of names c.as_slice-in-Ok.result.now c.as_slice-items.result.now) regions
     ∙ ap (λ (summaries : List Summary). lines_of p.regions summaries c.as_slice-items.result.now) c.as_slice-in-Ok.ensures
     ∙ ap (λ (items : List Item). lines_of p.regions c.in-Ok.summaries items) c.as_slice-items.ensures in
-    subst (Due c.args.text.now) (sym (c.on_out.ensures ∙ ap on_out is))
+    subst (Due c.args.text.now) (sym (c.on_out.ensures ∙ ap (on_out Done) is))
     (Due.inferred tree p c.in-Ok.summaries c.requires c.in-Ok.ensures.least)
 
 -- the name of the first method with too many effects

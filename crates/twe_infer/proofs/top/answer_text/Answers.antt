@@ -1,7 +1,8 @@
 use Rattle.std.proofs.Common.{◌≡◌, sym, ap, ◌∙◌, subst}
 use Rattle.twe_frontend.specs.declared.read.FrontFail.{FrontFail}
 use Rattle.twe_infer.specs.declared.status.InferStatus.TheVariants.{Refused}
-use Rattle.twe_infer.specs.Answers.{Due, on_err}
+use Rattle.text_streams.specs.Answers.{on_err}
+use Rattle.twe_infer.specs.Answers.{Due}
 use Rattle.twe_infer.specs.Reading.{HasCause}
 use Rattle.twe_infer.proofs.top.answer_text.Goals as goal
 

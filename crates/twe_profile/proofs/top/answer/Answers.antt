@@ -1,7 +1,8 @@
 use Rattle.std.proofs.Common.{◌≡◌, ◌≤◌, ◌<◌, ℕ, List, [], ◌∷◌, length, refl, sym, ap, ◌∙◌, subst, arith}
 use Rattle.std.proofs.lemmas.List.{nil_from_length}
 use Rattle.twe_profile.specs.declared.status.ProfileStatus.TheVariants.{Usage}
-use Rattle.twe_profile.specs.Answers.{Cause, on_err}
+use Rattle.text_streams.specs.Answers.{on_err}
+use Rattle.twe_profile.specs.Answers.{Cause}
 use Rattle.text_streams.specs.Ends.{source}
 use Rattle.twe_profile.proofs.Causes.{cause_read, short_read}
 use Rattle.twe_profile.proofs.top.answer.Goals as goal

@@ -4,8 +4,8 @@ use Rattle.heaviest_chain.specs.declared.chains.Heaviest.{Heaviest}
 use Rattle.seg_journal.specs.Spelling.{head_lines}
 use Rattle.twe_limits.specs.Limits.{Bounds}
 use Rattle.text_answers.proofs.Replays.{illegal_within}
-use Rattle.twe_profile.specs.declared.status.ProfileStatus.TheVariants.{BadJournal}
-use Rattle.twe_profile.specs.Answers.{on_err, on_out}
+use Rattle.twe_profile.specs.declared.status.ProfileStatus.TheVariants.{Done, BadJournal}
+use Rattle.text_streams.specs.Answers.{on_err, on_out}
 use Rattle.twe_profile.specs.Texts.{profile_text}
 use Rattle.twe_profile.proofs.Causes.{found_illegal, found_profiled}
 use Rattle.twe_profile.proofs.top.answer_found.Goals as goal
@@ -23,7 +23,7 @@ returns-in_ok-profile_text-in-Ok c =
     let h = c.in-Ok.profile in
     let limits = c.unwrap_or-lim.ensures ∙ ap (λ (d : Bounds). unwrap_or c.args.found.now.head d) c.default.ensures in
     found_profiled c.args.p.now c.args.found.now c.unwrap_or-lim.result c.as_slice-moves.result.now h.work h.span h.chain c.on_out.result limits c.as_slice-moves.ensures c.in-Ok.ensures.profiled
-    (c.on_out.ensures ∙ (ap on_out c.in_ok-profile_text-in-Ok.ensures ∙ ap (λ (g : Heaviest). on_out (profile_text g.work g.span g.chain)) c.in-Ok.profile-is))
+    (c.on_out.ensures ∙ (ap (on_out Done) c.in_ok-profile_text-in-Ok.ensures ∙ ap (λ (g : Heaviest). on_out Done (profile_text g.work g.span g.chain)) c.in-Ok.profile-is))
 
 -- or the line of the move that is not legal
 pub returns-in_ok-not_legal_text-in-Err-Illegal : goal.returns-in_ok-not_legal_text-in-Err-Illegal

@@ -5,7 +5,8 @@ use Rattle.twe_frontend.specs.declared.read.FrontFail.{FrontFail}
 use Rattle.twe_frontend.specs.declared.refusal.Refusal.{Refusal}
 use Rattle.twe_report.specs.Texts.{refusal_text}
 use Rattle.twe_profile.specs.declared.status.ProfileStatus.TheVariants.{Refused}
-use Rattle.twe_profile.specs.Answers.{Due, on_err}
+use Rattle.text_streams.specs.Answers.{on_err}
+use Rattle.twe_profile.specs.Answers.{Due}
 use Rattle.twe_profile.proofs.Causes.{due_accepted}
 use Rattle.twe_profile.proofs.top.answer_text.Goals as goal
 

@@ -1,4 +1,4 @@
-use Rattle.std.proofs.Common.{◌≡◌, ◌≢◌, ◌≤◌, ◌+◌, ℕ, subst, arith, length}
+use Rattle.std.proofs.Common.{◌≡◌, arith}
 use Rattle.flat_sched.proofs.ready.Ready.drop_lowest.Goals as goal
 
 pub returns-clause-kept : goal.returns-clause-kept

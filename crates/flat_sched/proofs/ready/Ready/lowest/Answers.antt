@@ -1,4 +1,4 @@
-use Rattle.std.proofs.Common.{◌≡◌, ◌≤◌, ◌-◌, List, ℕ, rules, sym, subst, arith}
+use Rattle.std.proofs.Common.{◌≤◌, ◌-◌, List, ℕ, rules, sym, subst, arith}
 use Rattle.flat_sched.specs.inner.Lists.{IsReady}
 use Rattle.flat_sched.proofs.ready.Ready.lowest.Goals as goal
 

@@ -1,4 +1,4 @@
-use Rattle.std.proofs.Common.{◌≡◌, ◌≢◌, ◌≤◌, ◌-◌, ℕ, List, rules, refl, sym, subst, arith}
+use Rattle.std.proofs.Common.{◌≢◌, ◌≤◌, ◌-◌, ℕ, List, rules, refl, sym, subst, arith}
 use Rattle.std.proofs.lemmas.List.Sorted.{Contains-permutation, IsPermutation-sym}
 use Rattle.flat_sched.specs.inner.Lists.{IsReady}
 use Rattle.flat_sched.proofs.Listing.{contains_rest}

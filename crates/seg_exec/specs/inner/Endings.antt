@@ -1,0 +1,9 @@
+-- How a run of the evaluator ends at a task operation.
+use Rattle.std.specs.Prelude.{List}
+use Rattle.seg_exec.specs.declared.frame.Position.{Position}
+use Rattle.seg_exec.specs.declared.operation.Operation.{Operation}
+use Rattle.seg_exec.specs.declared.request.Ending.{Ending}
+use Rattle.seg_exec.specs.declared.request.Ending.TheVariants.{Suspended}
+
+abbrev pub suspended_at : Operation → List Position → Ending
+suspended_at operation positions = Suspended (record { operation = operation; positions = positions })
