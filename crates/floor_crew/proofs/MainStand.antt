@@ -4,8 +4,7 @@ use Rattle.std.proofs.lemmas.List.{append-nil}
 use Rattle.atomic_table.specs.Seated.{TableId}
 use Rattle.journal_merge.specs.declared.numbered.NumberedEntry.{NumberedEntry}
 use Rattle.journal_merge.specs.Merging.{all_of}
-use Rattle.floor_table.specs.declared.view.SeatKind.{SeatKind}
-use Rattle.floor_table.specs.declared.view.SeatKind.TheVariants.{Main, Other, Spent}
+use Rattle.floor_table.specs.declared.view.SeatKind.TheVariants.{Other, Spent}
 use Rattle.floor_table.specs.FloorOf.{turn_in}
 use Rattle.floor_table.specs.Holds.{first_view, joined_view, left_view, right_view}
 use Rattle.floor_table.specs.Tells.{Seat}

@@ -4,9 +4,9 @@ ghost use Rattle.twe_machine.specs.Legal.{MayMove};
 ghost use Rattle.twe_machine.specs.LowestFirst.{IsOver};
 ghost use Rattle.twe_machine.specs.Runs.{IsReachable, IsRun};
 
-use task_floor::Rest;
 use seg_journal::{Entry, Journal, Kind, Move};
 use std::alloc::Global;
+use task_floor::Rest;
 use twe_io::Memory;
 use twe_limits::Limits;
 use twe_machine::{State, lowest, may, start, step};
@@ -52,12 +52,7 @@ pub(crate) fn take(
 }
 
 /// Admits each task that may be admitted, in the order of their numbers.
-pub(crate) fn admit_all(
-    alloc: Global,
-    p: &Prog,
-    lim: Limits,
-    rest: &mut Rest,
-) -> Result<(), Memory>
+pub(crate) fn admit_all(alloc: Global, p: &Prog, lim: Limits, rest: &mut Rest) -> Result<(), Memory>
     requires { IsRun p.now lim rest.old.journal rest.old.state }
     ensures { OnOk result (IsRun p.now lim rest.new.journal rest.new.state) }
 {
@@ -69,13 +64,7 @@ pub(crate) fn admit_all(
 }
 
 /// Admits a task if it may be admitted.
-fn admit(
-    alloc: Global,
-    p: &Prog,
-    lim: Limits,
-    rest: &mut Rest,
-    task: u32,
-) -> Result<(), Memory>
+fn admit(alloc: Global, p: &Prog, lim: Limits, rest: &mut Rest, task: u32) -> Result<(), Memory>
     requires { IsRun p.now lim rest.old.journal rest.old.state }
     ensures { OnOk result (IsRun p.now lim rest.new.journal rest.new.state) }
 {

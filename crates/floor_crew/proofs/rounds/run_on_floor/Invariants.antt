@@ -1,5 +1,3 @@
-use Rattle.std.proofs.Common.{◌≡◌}
-use Rattle.soundness_laws.specs.KeepsEffects.{KeepsEffects}
 use Rattle.twe_machine.specs.Runs.{IsRun}
 use Rattle.floor_crew.proofs.rounds.run_on_floor.Given as goal
 

@@ -1,4 +1,4 @@
-use Rattle.std.proofs.Common.{◌≡◌, length, ℕ}
+use Rattle.std.proofs.Common.{length}
 use Rattle.floor_crew.specs.inner.Lent.{HasParts, IsMainOn}
 use Rattle.floor_crew.proofs.stands.join_all.Given as goal
 

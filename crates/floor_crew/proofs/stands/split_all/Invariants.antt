@@ -1,4 +1,4 @@
-use Rattle.std.proofs.Common.{◌≡◌, length, ℕ}
+use Rattle.std.proofs.Common.{◌≡◌, length}
 use Rattle.floor_crew.specs.inner.Lent.{IsNewOn}
 use Rattle.floor_crew.proofs.stands.split_all.Given as goal
 
