@@ -1,0 +1,74 @@
+//! What a worker knows of tasks that have ended, for the tasks of its list that wait for them.
+
+use seg_journal::{End, Entry, Journal, Kind, Move};
+use std::alloc::Global;
+use twe_io::Memory;
+use twe_rounds::Waiting;
+
+/// Tasks that were found done, and those for which others wait.
+#[derive(Drop)]
+pub(crate) struct Ended {
+    // The ends of the tasks that were found done, as entries of a journal, which a list of waiting tasks reads.
+    ends: Journal,
+    // The awaited tasks that were not found done yet.
+    awaited: Vec<u32>,
+    // Which of them is looked at next.
+    at: usize,
+}
+
+impl Ended {
+    /// Nothing is known.
+    pub(crate) fn new(alloc: Global) -> Self {
+        Ended {
+            ends: Journal::new(alloc),
+            awaited: Vec::new(alloc),
+            at: 0,
+        }
+    }
+
+    /// A task has ended with a value.
+    pub(crate) fn end(&mut self, task: u32) -> Result<(), Memory> {
+        let mv = Move {
+            kind: Kind::Run,
+            task,
+        };
+        self.ends.push(Entry {
+            mv,
+            end: End::Done { value: 0 },
+        })
+    }
+
+    /// Some task waits for this one.
+    pub(crate) fn await_end(&mut self, task: u32) -> Result<(), Memory> {
+        self.awaited.push(task)?;
+        Ok(())
+    }
+
+    /// The awaited task that is looked at next, the latest first.
+    pub(crate) fn next_awaited(&mut self) -> Option<u32> {
+        if self.awaited.is_empty() {
+            return None;
+        }
+        if self.at == 0 || self.at > self.awaited.len() {
+            self.at = self.awaited.len();
+        }
+        self.at -= 1;
+        self.awaited.get(self.at).copied()
+    }
+
+    /// Notes what was found of the awaited task that was looked at last.
+    pub(crate) fn note(&mut self, task: u32, done: bool) -> Result<(), Memory> {
+        if !done {
+            return Ok(());
+        }
+        if self.at < self.awaited.len() {
+            self.awaited.swap_remove(self.at);
+        }
+        self.end(task)
+    }
+
+    /// Tells a worker's list which tasks were found done.
+    pub(crate) fn tell(&self, waiting: &mut Waiting) -> Result<(), Memory> {
+        waiting.read(self.ends.as_slice())
+    }
+}

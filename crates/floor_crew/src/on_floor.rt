@@ -1,0 +1,131 @@
+//! How a worker of a round comes to the floor. It holds no lock.
+ghost use Rattle.std.specs.Prelude.{IfSome};
+ghost use Rattle.floor_crew.specs.inner.Lent.{IsOtherOn};
+
+use crate::ended::Ended;
+use crate::ground::Ground;
+use crate::located::Located;
+use floor_rule::Phase;
+use floor_table::Named;
+use seg_journal::End;
+use std::marker::Model;
+use task_floor::{FloorWorker, Served};
+use twe_io::Memory;
+use twe_rounds::{Access, Look, Waiting, lost};
+
+/// How many awaited tasks a worker looks at before it goes on.
+const GLANCES: usize = 64;
+
+/// A worker's way to the floor.
+#[derive(Drop)]
+pub(crate) struct OnFloor<'a, N: Named, F: Located> {
+    ground: &'a Ground<'a, N, F>,
+    // `None` once the worker found no memory.
+    worker: Option<FloorWorker>,
+    // A task whose turn another worker had. That one goes on with it.
+    busy: Option<u32>,
+    ended: Ended,
+}
+
+impl<'a, N: Named, F: Located> Model for OnFloor<'a, N, F> {
+    ghost use Rattle.std.specs.Prelude.{Option, IfSome};
+    ghost use Rattle.task_floor.specs.Segments.{StandValue};
+    ghost use Rattle.floor_crew.specs.inner.Lent.{IsOtherOn};
+
+    ghost Value = { Option StandValue };
+
+    ghost view = { λ access. access.worker };
+
+    ghost invariant = { λ access. IfSome access.worker (IsOtherOn F.table) };
+}
+
+impl<'a, N: Named, F: Located> OnFloor<'a, N, F> {
+    /// The way of this worker.
+    pub(crate) fn new(ground: &'a Ground<'a, N, F>, worker: Option<FloorWorker>) -> Self
+        requires { IfSome worker (IsOtherOn F.table) }
+    {
+        OnFloor {
+            ground,
+            worker,
+            busy: None,
+            ended: Ended::new(ground.alloc()),
+        }
+    }
+
+    /// The worker, unless it found no memory.
+    pub(crate) fn into_worker(self) -> Option<FloorWorker>
+        ensures { IfSome result (IsOtherOn F.table) }
+    {
+        let OnFloor { worker, .. } = self;
+        worker
+    }
+
+    /// Looks at a few of the tasks that others of this worker's list wait for, and notes which of them have ended.
+    fn glance(&mut self) -> Result<(), Memory> {
+        for _ in 0..GLANCES {
+            let Some(task) = self.ended.next_awaited() else {
+                break;
+            };
+            let Some(mut worker) = self.worker.take() else {
+                return Err(lost());
+            };
+            let phase = self.ground.phase(&mut worker, task);
+            self.worker = Some(worker);
+            self.ended.note(task, phase == Phase::Done)?;
+        }
+        Ok(())
+    }
+
+    /// Notes how a segment of a task has ended.
+    fn note(&mut self, task: u32, end: End) -> Result<(), Memory> {
+        match end {
+            End::Done { .. } => self.ended.end(task),
+            End::Fault { .. } => {
+                self.ground.stop();
+                Ok(())
+            }
+            _ => Ok(()),
+        }
+    }
+}
+
+impl<'a, N: Named, F: Located> Access for OnFloor<'a, N, F> {
+    fn look(&mut self, task: u32) -> Result<Look, Memory> {
+        if self.busy.take() == Some(task) {
+            return Ok(Look::Over);
+        }
+        let Some(mut worker) = self.worker.take() else {
+            return Err(lost());
+        };
+        let look = self.ground.look(&mut worker, task);
+        self.worker = Some(worker);
+        if let Look::Waits { on, .. } = look {
+            self.ended.await_end(on)?;
+        }
+        Ok(look)
+    }
+
+    fn run(&mut self, task: u32) -> Result<Option<End>, Memory> {
+        let Some(worker) = self.worker.take() else {
+            return Err(lost());
+        };
+        let (worker, served) = self.ground.serve(worker, task)?;
+        self.worker = Some(worker);
+        match served {
+            Some(Served::Ran { end }) => {
+                self.note(task, end)?;
+                Ok(Some(end))
+            }
+            Some(Served::Busy { .. }) => {
+                self.busy = Some(task);
+                Ok(None)
+            }
+            _ => Ok(None),
+        }
+    }
+
+    fn tell(&mut self, waiting: &mut Waiting) -> Result<(), Memory> {
+        self.glance()?;
+        self.ended.tell(waiting)
+    }
+}

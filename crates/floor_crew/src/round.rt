@@ -1,0 +1,115 @@
+//! A round on the floor.
+ghost use Rattle.std.specs.Prelude.{◌≡◌, ◌≤◌, length, IfOk};
+ghost use Rattle.twe_program.specs.WellFormed.{IsWellFormed};
+ghost use Rattle.soundness_laws.specs.KeepsEffects.{KeepsEffects};
+ghost use Rattle.twe_machine.specs.Runs.{IsRun};
+ghost use Rattle.floor_crew.specs.inner.Lent.{HasParts, IsMainOn, IsNewOn};
+
+use crate::ground::Ground;
+use crate::hand::Hand;
+use crate::located::Located;
+use crate::stands::{join_all, split_all};
+use floor_table::Named;
+use journal_merge::Part;
+use std::alloc::Global;
+use std::marker::Brand;
+use std::sync::Wait;
+use std::sync::atomic::AtomicU64;
+use std::thread;
+use std::thread::Threads;
+use task_floor::{Floor, Rest, Stand};
+use twe_io::{List, Memory};
+use twe_limits::Limits;
+use twe_program::Prog;
+use twe_rounds::{Gate, Site, Team, deal};
+
+/// A round of so many workers: the run goes on a floor, on which they run segments at the same time, until they find no more that
+/// may run. Returns the run after that.
+pub(crate) fn round<'a, N: Named + Send + Sync, R: Threads + Wait + Sync, G: Gate + Sync>(
+    rt: &'a R,
+    alloc: Global,
+    p: &'a Prog,
+    lim: Limits,
+    workers: u32,
+    rest: Rest,
+    gate: &'a G,
+) -> Result<Rest, Memory>
+    requires some { 1 ≤ workers }
+    requires accepted { KeepsEffects N.prog }
+    requires named { (p.now ≡ N.prog) × (lim ≡ N.lim) }
+    requires run { IsRun N.prog N.lim rest.journal rest.state }
+    ensures { IfOk result (λ rest. IsRun N.prog N.lim rest.journal rest.state) }
+{
+    let _main = p.main;
+    let team = deal(alloc, &rest.state, 0, lim.tasks, workers, None)?;
+    let (floor, stand, part) = Floor::<N>::wake(alloc, lim, rest)?;
+    let mut parts = List::new(alloc);
+    parts.push(part)?;
+    let stand = lend::<N, Brand, R, G>(
+        rt, alloc, p, lim, workers, &floor, stand, team, gate, &mut parts,
+    )?;
+    floor.rest(alloc, stand, parts.as_slice())
+}
+
+/// Lends the floor to the workers. The main stand is joined with theirs, and the entries of each are kept beside its own.
+fn lend<
+    'a,
+    N: Named + Send + Sync,
+    F: Located + Send + Sync,
+    R: Threads + Wait + Sync,
+    G: Gate + Sync,
+>(
+    rt: &'a R,
+    alloc: Global,
+    p: &'a Prog,
+    lim: Limits,
+    workers: u32,
+    floor: &'a Floor<N>,
+    stand: Stand,
+    team: Team,
+    gate: &'a G,
+    parts: &mut List<Part>,
+) -> Result<Stand, Memory>
+    requires some { 1 ≤ workers }
+    requires named { (p.now ≡ N.prog) × (lim ≡ N.lim) }
+    requires located { floor.now ≡ F.table }
+    requires new { IsNewOn F.table stand 0 }
+    requires parts { HasParts stand parts.old }
+    ensures main { IfOk result (λ stand. IsMainOn F.table stand 0) }
+    ensures parts { IfOk result (λ stand. HasParts stand parts.new) }
+{
+    let mut stand = stand;
+    let pending = AtomicU64::new(team.pending);
+    let mut hands = split_all::<N, F>(alloc, floor, &mut stand, team.workers)?;
+    let ground: Ground<'_, N, F> = Ground::new(alloc, floor, p, lim);
+    let shared = Shared {
+        rt,
+        gate,
+        pending: &pending,
+        ground: &ground,
+    };
+    let lent = hands.as_mut_slice();
+    thread::for_each_mut(rt, lent, workers as usize, &|_, hand| shared.send(hand));
+    join_all::<N, F>(floor, &mut stand, hands, parts)?;
+    Ok(stand)
+}
+
+/// What the workers of a round share.
+#[derive(Drop)]
+struct Shared<'a, R: Wait, G, N: Named, F: Located> {
+    rt: &'a R,
+    gate: &'a G,
+    pending: &'a AtomicU64,
+    ground: &'a Ground<'a, N, F>,
+}
+
+impl<'a, R: Wait, G: Gate, N: Named, F: Located> Shared<'a, R, G, N, F> {
+    /// Sends a worker to work.
+    fn send(&self, hand: &mut Hand<F>) {
+        let site = Site {
+            gate: self.gate,
+            pending: self.pending,
+        };
+        hand.work(self.rt, self.ground, &site);
+    }
+}

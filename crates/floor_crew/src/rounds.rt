@@ -1,0 +1,48 @@
+//! A whole run by workers on the floor: moves at rest and a round in turn, until the run is over.
+ghost use Rattle.std.specs.Prelude.{◌≡◌, ◌≤◌, IfOk};
+ghost use Rattle.soundness_laws.specs.KeepsEffects.{KeepsEffects};
+ghost use Rattle.twe_machine.specs.LowestFirst.{IsOver};
+ghost use Rattle.twe_machine.specs.Runs.{Legal, state_after};
+
+use crate::quiet::{admit_all, begin, next_move, take};
+use crate::round::round;
+use seg_journal::Journal;
+use std::alloc::Global;
+use std::marker::Brand;
+use std::sync::Wait;
+use std::thread::Threads;
+use twe_io::Memory;
+use twe_limits::Limits;
+use twe_machine::State;
+use twe_program::Prog;
+use twe_rounds::Gate;
+
+/// Runs the program under these limits to its end, by this many workers, 1 to 64, who run segments at the same time on one floor.
+/// Returns the journal of the run and the state that it leads to. Which of the legal journals it is depends on the workers. After a
+/// fault there may be entries of segments that had begun before.
+pub fn run_on_floor<R: Threads + Wait + Sync, G: Gate + Sync>(
+    rt: &R,
+    alloc: Global,
+    p: &Prog,
+    lim: Limits,
+    workers: u32,
+    gate: &G,
+) -> Result<(Journal, State), Memory>
+    requires accepted { KeepsEffects p.now }
+    requires some { 1 ≤ workers }
+    requires most { workers ≤ 64 }
+    ensures legal { IfOk result (λ run. Legal p.now lim run.0) }
+    ensures state { IfOk result (λ run. run.1 ≡ state_after p.now lim run.0) }
+    ensures ended { IfOk result (λ run. IsOver run.1) }
+{
+    let mut rest = begin(alloc, p, lim)?;
+    'rounds: for _ in rt.forever() {
+        let Some(mv) = next_move(p, &rest.state) else {
+            return Ok((rest.journal, rest.state));
+        };
+        take(alloc, p, lim, &mut rest, mv)?;
+        admit_all(alloc, p, lim, &mut rest)?;
+        rest = round::<Brand, R, G>(rt, alloc, p, lim, workers, rest, gate)?;
+    }
+    unreachable!()
+}

@@ -1,0 +1,62 @@
+//! How the workers of a round get their stands, and how these are joined again.
+ghost use Rattle.std.specs.Prelude.{◌≡◌, length, IfOk, OnOk};
+ghost use Rattle.floor_crew.specs.inner.Lent.{HasParts, IsMainOn, IsNewOn};
+
+use crate::hand::Hand;
+use crate::located::Located;
+use floor_table::Named;
+use journal_merge::Part;
+use std::alloc::Global;
+use task_floor::{EntryLog, Floor, FloorWorker, Stand};
+use twe_io::{List, Memory};
+use twe_rounds::{Worker, lost};
+
+/// A stand for each worker, split off from the main one.
+pub(crate) fn split_all<N: Named, F: Located>(
+    alloc: Global,
+    floor: &Floor<N>,
+    stand: &mut Stand,
+    players: Vec<Worker>,
+) -> Result<Vec<Hand<F>>, Memory>
+    requires located { floor.now ≡ F.table }
+    requires new { IsNewOn F.table stand.old 0 }
+    ensures split { IfOk result (λ hands. IsNewOn F.table stand.new (length hands.items)) }
+    ensures part { IfOk result (λ hands. stand.new.me.0.part ≡ stand.old.me.0.part) }
+{
+    let mut players = players;
+    let mut hands = Vec::new(alloc);
+    while let Some(player) = players.pop() {
+        let Ok(number) = u32::try_from(hands.len() + 1) else {
+            return Err(lost());
+        };
+        let other = floor.split(stand);
+        let worker = FloorWorker::new(number, other, EntryLog::new(alloc));
+        hands.push(Hand::new(player, worker))?;
+    }
+    Ok(hands)
+}
+
+/// Joins the stands of all workers to the main one, and keeps the entries of each.
+pub(crate) fn join_all<N: Named, F: Located>(
+    floor: &Floor<N>,
+    stand: &mut Stand,
+    hands: Vec<Hand<F>>,
+    parts: &mut List<Part>,
+) -> Result<(), Memory>
+    requires located { floor.now ≡ F.table }
+    requires main { IsMainOn F.table stand.old (length hands.items) }
+    requires parts { HasParts stand.old parts.old }
+    ensures main { OnOk result (IsMainOn F.table stand.new 0) }
+    ensures parts { OnOk result (HasParts stand.new parts.new) }
+{
+    let mut hands = hands;
+    while let Some(hand) = hands.pop() {
+        let Some(worker) = hand.into_worker() else {
+            return Err(lost());
+        };
+        let (other, log) = worker.into_stand();
+        floor.join(stand, other);
+        parts.push(log.into_part())?;
+    }
+    Ok(())
+}
