@@ -41,11 +41,13 @@ pub fn pasted_trees_keep_names()
 /// as `infer` promises for an accepted text, such a text is accepted.
 pub fn inferred_summaries_can_be_pasted()
     ensures printed { (text : List ℕ) (p : Program) (meaning : IsMeaningOf text p) (summaries written : List Summary) → AreLeast p summaries
-        → CanBePasted written summaries → (its : Ast) × IsTreeOf (printed (pasted written meaning.tree)) its × trees.EqualButForPlaces (pasted written meaning.tree) its }
+        → CanBePasted written summaries
+        → (its : Ast) × IsTreeOf (printed (pasted written meaning.tree)) its
+        × trees.EqualButForPlaces (pasted written meaning.tree) its }
     ensures meant { (text other : List ℕ) (p : Program) (its : Ast) (meaning : IsMeaningOf text p) (summaries written : List Summary) → AreLeast p summaries
         → CanBePasted written summaries → IsTreeOf other its → trees.EqualButForPlaces (pasted written meaning.tree) its
         → (q : Program) × IsMeaningOf other q × IsPasted summaries p q }
-    ensures accepted { (text other : List ℕ) (p : Program) (its : Ast) (meaning : IsMeaningOf text p) (summaries written : List Summary) → AreLeast p summaries
-        → CanBePasted written summaries → IsTreeOf other its → trees.EqualButForPlaces (pasted written meaning.tree) its
+    ensures accepted { (text other : List ℕ) (p : Program) (its : Ast) (meaning : IsMeaningOf text p) (summaries written : List Summary)
+        → AreLeast p summaries → CanBePasted written summaries → IsTreeOf other its → trees.EqualButForPlaces (pasted written meaning.tree) its
         → NoRuleFails (with_summaries summaries p) → (q : Program) × Accepted other q × IsPasted summaries p q }
 {}
