@@ -1,5 +1,5 @@
 -- The rules on effects: when a program fails them, and which failure comes first.
-use Rattle.std.specs.Prelude.{◌≡◌, ◌⊎◌, ◌<◌, ◌≤◌, ℕ, Bool, true, false, IsTrue, Contains}
+use Rattle.std.specs.Prelude.{◌⊎◌, ℕ, Bool, true, false, IsTrue, Contains}
 use Rattle.twe_io.specs.declared.place.Place.{Place}
 use Rattle.first_failure.specs.declared.failure.Failure.{Failure}
 use Rattle.first_failure.specs.Order as order

@@ -4,10 +4,11 @@ ghost use Rattle.effect_check.specs.inner.Failures.{HasMarks, JudgesGroup, Judge
 
 use crate::act::{Act, ActKind};
 use crate::body::acts_of_body;
-use crate::cover::{are_free, are_inside, is_free, is_inside};
+use crate::cover::{are_inside, is_inside};
 use crate::futures::{Futures, Spawn, followed, spawns_among};
 use crate::marks::marks_of_all;
 use crate::rule::ERule;
+use crate::settled::{report_effect, report_effects};
 use cover_flow::{FUTURES_AT_ONCE, flow};
 use first_failure::{Failure, report_if};
 use std::alloc::Global;
@@ -72,12 +73,10 @@ fn judge_futures(futures: &Futures, point: u32, kind: &ActKind, first: &mut Opti
 {
     match kind {
         ActKind::Touch { effect, place } => {
-            let free = is_free(futures, point, effect);
-            report_if(first, !free, ERule::E1, *place);
+            report_effect(first, futures, point, effect, ERule::E1, *place);
         }
         ActKind::Call { effects, place } => {
-            let free = are_free(futures, point, effects);
-            report_if(first, !free, ERule::E2, *place);
+            report_effects(first, futures, point, effects, ERule::E2, *place);
         }
         ActKind::Make {
             future,
@@ -88,9 +87,8 @@ fn judge_futures(futures: &Futures, point: u32, kind: &ActKind, first: &mut Opti
             ..
         } => {
             let out = futures.points.may(point, *future);
-            let free = are_free(futures, point, effects);
             report_if(first, out, ERule::E5, *future_place);
-            report_if(first, !free, ERule::E3, *place);
+            report_effects(first, futures, point, effects, ERule::E3, *place);
         }
         ActKind::Make { spawned: false, .. } => {}
         ActKind::Wait {

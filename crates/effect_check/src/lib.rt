@@ -12,6 +12,7 @@ mod futures;
 mod judge;
 mod marks;
 mod rule;
+mod settled;
 mod whole;
 
 pub use rule::{CheckFail, ERule};

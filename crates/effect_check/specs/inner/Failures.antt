@@ -1,5 +1,6 @@
 -- The failures of a body, listed from what it does and from the answers on its futures.
-use Rattle.std.specs.Prelude.{◌≡◌, ◌<◌, ℕ, Bool, true, false, not, ◌&&◌, if◌then◌else◌, IsTrue, List, [], ◌∷◌, ◌++◌, Option}
+use Rattle.std.specs.Prelude.{◌≡◌, ◌<◌, ◌==◌, nat_lt, ℕ, Bool, true, false, not, ◌&&◌, ◌||◌, if◌then◌else◌, IsTrue, List, [], ◌∷◌, ◌++◌, Option, None, Some}
+use Rattle.twe_io.specs.declared.place.Place.{Place}
 use Rattle.std.specs.List.{list_any, list_all, AllByRecursion}
 use Rattle.first_failure.specs.First.{failure_if}
 use Rattle.first_failure.specs.First as failures
@@ -111,6 +112,11 @@ method_failures method (act ∷ acts) = method_failures_at method act.kind ++ me
 -- the first of all, of the first so far and these
 abbrev pub first_from : Option EffectFailure → List EffectFailure → Option EffectFailure
 first_from first others = failures.first_from number_of first others
+
+-- the first so far is at an earlier place, so none at this place comes before it
+abbrev pub is_settled : Option EffectFailure → Place → Bool
+is_settled None place = false
+is_settled (Some first) place = nat_lt first.place.line place.line || ((first.place.line == place.line) && nat_lt first.place.col place.col)
 
 -- what the analysis of the task's body says of 128 futures, and the spawns into them
 pub record IsGroupOf (p : Program) (task : Decl) (futures : Futures) : Type 0 where

@@ -1,5 +1,5 @@
 -- The first of all failures that there are.
-use Rattle.std.specs.Prelude.{List, Option, None, Some, Contains}
+use Rattle.std.specs.Prelude.{List, Option, Contains}
 use Rattle.twe_program.specs.declared.program.Decl.{Decl}
 use Rattle.twe_program.specs.Program.{Program}
 use Rattle.first_failure.specs.Order as order
