@@ -16,5 +16,9 @@ pub mod Records
 pub mod RecordEvents
 -- What seats learn, and admission.
 pub mod Facts
+-- The steps of the floor on turns and seats: the tasks of the core once a turn was set, and these steps as events.
+pub mod TaskChanges
+pub mod TurnEvents
+pub mod SeatSteps
 -- Starts.
 pub mod Rests

@@ -4,4 +4,5 @@ pub mod Rule
 pub mod LockSteps
 pub mod RecordSteps
 pub mod FactSteps
+pub mod TurnSteps
 pub mod Starts
