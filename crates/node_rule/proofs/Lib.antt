@@ -20,5 +20,9 @@ pub mod Facts
 pub mod TaskChanges
 pub mod TurnEvents
 pub mod SeatSteps
+pub mod LastMade
+pub mod EntryTasks
+pub mod EntryEvents
+pub mod EntryCases
 -- Starts.
 pub mod Rests

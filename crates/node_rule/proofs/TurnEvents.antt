@@ -272,7 +272,7 @@ module _ (nodes : List (List Elem)) (p : Program) (lim : Bounds) (log : List Num
       first ∙ (second ∙ is)
 
   -- no child of a task is still to be placed if the seat with the task's turn has no first turn of one
-  children_placed : (i t : ℕ) (task : Task) → IsTask core.tasks t task → task.turn ≡ Taken i
+  pub children_placed : (i t : ℕ) (task : Task) → IsTask core.tasks t task → task.turn ≡ Taken i
       → ((c : ℕ) (child : HeldTurn) → f.held i c ≡ Some child → child.first ≡ true → child.row.parent ≢ Some t) → ChildrenArePlaced core.tasks t
   children_placed i t task is taken none c child spawned is_c =
       ⊎_elim

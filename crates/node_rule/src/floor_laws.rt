@@ -1,18 +1,20 @@
 //! The laws on the steps of the floor, beside which the nodes keep their rule. A step on a turn is one event of the core of
 //! admission on its tasks; the others change nothing that the core knows.
-ghost use Rattle.std.specs.Prelude.{◌≡◌, ◌≢◌, ℕ, ℤ, List, None, Some, false};
+ghost use Rattle.std.specs.Prelude.{◌≡◌, ◌≢◌, ◌++◌, ℕ, ℤ, List, [], ◌∷◌, None, Some, false};
 ghost use Rattle.region_paths.specs.declared.elements.Elem.{Elem};
 ghost use Rattle.twe_limits.specs.Limits.{Bounds};
 ghost use Rattle.twe_program.specs.Program.{Program};
+ghost use Rattle.seg_exec.specs.declared.frame.Frame.{Frame};
+ghost use Rattle.seg_exec.specs.declared.stop.Stop.{Stop};
 ghost use Rattle.journal_merge.specs.declared.numbered.NumberedEntry.{NumberedEntry};
 ghost use Rattle.floor_rule.specs.declared.view.HeldTurn.{HeldTurn};
 ghost use Rattle.floor_rule.specs.declared.view.Phase.{Phase};
 ghost use Rattle.floor_rule.specs.Floors.{Floor, Free};
-ghost use Rattle.floor_rule.specs.Steps.{after_finding_done, after_giving, after_join, after_load, after_phase, after_split, after_store, after_taking};
+ghost use Rattle.floor_rule.specs.Steps.{MayCommit, after_entry, after_finding_done, after_giving, after_join, after_load, after_phase, after_split, after_store, after_taking, entry_drawn};
 ghost use Rattle.admission_core.specs.States.{State};
 ghost use Rattle.node_rule.specs.Rule.{KeepsBoth, KeepsNodes};
 ghost use Rattle.node_rule.specs.Trees.{Tree};
-ghost use Rattle.node_rule.specs.TurnSteps.{IsTaskEvent, MayGiveFirst, MayGiveTaken, after_forgetting, after_joining};
+ghost use Rattle.node_rule.specs.TurnSteps.{HasPlacedChildren, IsTaskEvent, MayGiveFirst, MayGiveTaken, after_forgetting, after_joining};
 
 /// Steps on cells and on phases, and what a seat learns from them, change nothing of the nodes.
 pub fn cells_and_phases_leave_the_nodes()
@@ -52,6 +54,14 @@ pub fn giving_a_first_turn_keeps_the_nodes()
         (core : State) (i t : ℕ) (turn : HeldTurn) → KeepsBoth nodes p lim log f tree core
         → MayGiveFirst nodes f.held tree i t turn
         → IsTaskEvent nodes p lim log (after_giving f i t turn) (after_forgetting tree i t) core }
+{}
+
+/// An entry of a segment keeps the rule on nodes, if the seat has placed all children of its task.
+pub fn entries_keep_the_nodes()
+    ensures { (nodes : List (List Elem)) (p : Program) (lim : Bounds) (log : List NumberedEntry) (f : Floor) (tree : Tree)
+        (core : State) (i t : ℕ) (turn : HeldTurn) (frame : Frame) (stop : Stop) → KeepsBoth nodes p lim log f tree core
+        → MayCommit p f i t turn frame stop → HasPlacedChildren f.held i t
+        → IsTaskEvent nodes p lim (log ++ entry_drawn lim f t frame stop ∷ []) (after_entry lim f i t turn frame stop) tree core }
 {}
 
 /// A new seat, which does nothing in the tree, keeps the rule, and so does a seat that is joined to another.

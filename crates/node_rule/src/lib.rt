@@ -17,7 +17,7 @@ pub use fact_laws::{
     following_a_wait_keeps_the_rule, records_stand_at_their_places,
 };
 pub use floor_laws::{
-    cells_and_phases_leave_the_nodes, giving_a_first_turn_keeps_the_nodes,
+    cells_and_phases_leave_the_nodes, entries_keep_the_nodes, giving_a_first_turn_keeps_the_nodes,
     giving_a_turn_keeps_the_nodes, seats_keep_the_nodes, taking_a_turn_keeps_the_nodes,
 };
 pub use lock_laws::{
