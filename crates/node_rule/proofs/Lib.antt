@@ -24,5 +24,7 @@ pub mod LastMade
 pub mod EntryTasks
 pub mod EntryEvents
 pub mod EntryCases
+pub mod AdmitFloor
+pub mod AdmitEvents
 -- Starts.
 pub mod Rests

@@ -5,4 +5,5 @@ pub mod LockSteps
 pub mod RecordSteps
 pub mod FactSteps
 pub mod TurnSteps
+pub mod AdmitSteps
 pub mod Starts

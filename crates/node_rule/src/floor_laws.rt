@@ -10,8 +10,11 @@ ghost use Rattle.journal_merge.specs.declared.numbered.NumberedEntry.{NumberedEn
 ghost use Rattle.floor_rule.specs.declared.view.HeldTurn.{HeldTurn};
 ghost use Rattle.floor_rule.specs.declared.view.Phase.{Phase};
 ghost use Rattle.floor_rule.specs.Floors.{Floor, Free};
-ghost use Rattle.floor_rule.specs.Steps.{MayCommit, after_entry, after_finding_done, after_giving, after_join, after_load, after_phase, after_split, after_store, after_taking, entry_drawn};
+ghost use Rattle.floor_rule.specs.Steps.{MayCommit, after_entry, after_finding_done, after_giving, after_join, after_load, after_phase};
+ghost use Rattle.floor_rule.specs.Steps.{after_split, after_store, after_taking, entry_drawn};
 ghost use Rattle.admission_core.specs.States.{State};
+ghost use Rattle.floor_rule.specs.Rule.{KeepsRule};
+ghost use Rattle.node_rule.specs.AdmitSteps.{MayDrawAdmission, admission_drawn, after_admission};
 ghost use Rattle.node_rule.specs.Rule.{KeepsBoth, KeepsNodes};
 ghost use Rattle.node_rule.specs.Trees.{Tree};
 ghost use Rattle.node_rule.specs.TurnSteps.{HasPlacedChildren, IsTaskEvent, MayGiveFirst, MayGiveTaken, after_forgetting, after_joining};
@@ -62,6 +65,17 @@ pub fn entries_keep_the_nodes()
         (core : State) (i t : ℕ) (turn : HeldTurn) (frame : Frame) (stop : Stop) → KeepsBoth nodes p lim log f tree core
         → MayCommit p f i t turn frame stop → HasPlacedChildren f.held i t
         → IsTaskEvent nodes p lim (log ++ entry_drawn lim f t frame stop ∷ []) (after_entry lim f i t turn frame stop) tree core }
+{}
+
+/// A seat that has placed a record for each effect of a task that is still to be admitted may draw the task's admission.
+/// The floor keeps its rule, with the log that has the entry, and the nodes keep theirs.
+pub fn admissions_keep_the_rules()
+    ensures floor { (nodes : List (List Elem)) (p : Program) (lim : Bounds) (log : List NumberedEntry) (f : Floor) (tree : Tree)
+        (core : State) (i t : ℕ) → KeepsBoth nodes p lim log f tree core → (may : MayDrawAdmission nodes f.held tree i t)
+        → KeepsRule p lim (log ++ admission_drawn f t ∷ []) (after_admission f i t may.placed.turn) }
+    ensures nodes { (nodes : List (List Elem)) (p : Program) (lim : Bounds) (log : List NumberedEntry) (f : Floor) (tree : Tree)
+        (core : State) (i t : ℕ) → KeepsBoth nodes p lim log f tree core → (may : MayDrawAdmission nodes f.held tree i t)
+        → IsTaskEvent nodes p lim (log ++ admission_drawn f t ∷ []) (after_admission f i t may.placed.turn) tree core }
 {}
 
 /// A new seat, which does nothing in the tree, keeps the rule, and so does a seat that is joined to another.
