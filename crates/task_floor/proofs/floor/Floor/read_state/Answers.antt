@@ -46,10 +46,10 @@ returns g c =
     let tasks =
     tasks_are p lim well (state_after p lim journal) reached words slots c.requires.shows rest c.as_slice-words.result.now (16 + c.args.cells) c.in_ok-tasks.tasks c.as_slice-words.ensures
     (ap (λ (n : ℕ). 16 + n) c.requires.cells) c.in_ok-tasks.ensures in
-    let clock : c.asked_of.result ≡ (state_after p lim journal).asked =
-    c.asked_of.ensures.value ∙ ap (λ (l : List ℕ). asked_of_clock (slice_index l 0)) read ∙ (sym (ap (λ (o : core.Option ℕ). asked_of_clock (number_at o)) (word_at words 0 (omega (arith, many)))) ∙ rest.asked) in
+    let clock : c.asked_of-asked.result ≡ (state_after p lim journal).asked =
+    c.asked_of-asked.ensures.value ∙ ap (λ (l : List ℕ). asked_of_clock (slice_index l 0)) read ∙ (sym (ap (λ (o : core.Option ℕ). asked_of_clock (number_at o)) (word_at words 0 (omega (arith, many)))) ∙ rest.asked) in
     state_is p lim well (state_after p lim journal) reached words slots c.requires.shows rest c.in_ok-values.values c.in_ok-tasks.tasks c.in_ok-links.links c.args.prints
-    c.asked_of.result c.first_fault_in.result
+    c.asked_of-asked.result c.first_fault_in.result
     (c.in_ok-values.ensures ∙ (ap (λ (l : List ℕ). cells_from l 8 c.args.cells) read ∙ (ap (cells_from words 8) c.requires.cells ∙ rest.cells)))
     tasks
     (c.in_ok-links.ensures ∙ ap (λ (l : List TaskRow). map link_of_row l) c.as_slice.ensures)
