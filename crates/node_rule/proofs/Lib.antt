@@ -16,6 +16,7 @@ pub mod Records
 pub mod RecordEvents
 -- What seats learn, and admission.
 pub mod Facts
+pub mod Bars
 -- The steps of the floor on turns and seats: the tasks of the core once a turn was set, and these steps as events.
 pub mod TaskChanges
 pub mod TurnEvents

@@ -15,6 +15,7 @@ mod start_laws;
 pub use fact_laws::{
     a_placed_task_is_legal_to_admit, finding_a_node_clear_keeps_the_rule,
     following_a_wait_keeps_the_rule, records_stand_at_their_places,
+    what_is_in_the_way_forbids_the_admission,
 };
 pub use floor_laws::{
     admissions_keep_the_rules, cells_and_phases_leave_the_nodes, entries_keep_the_nodes,
