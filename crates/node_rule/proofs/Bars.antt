@@ -28,7 +28,7 @@ use Rattle.node_rule.specs.Rule.{KeepsBoth}
 use Rattle.node_rule.specs.Trees.{Tree}
 use Rattle.node_rule.proofs.Facts.{stands_placed}
 
-enabled_or_not : (x : TaskStatus) → (x ≡ status.Enabled) ⊎ (x ≢ status.Enabled)
+pub enabled_or_not : (x : TaskStatus) → (x ≡ status.Enabled) ⊎ (x ≢ status.Enabled)
 enabled_or_not status.Made = inr (λ h. cc)
 enabled_or_not status.Enabled = inl refl
 enabled_or_not status.Done = inr (λ h. cc)

@@ -27,5 +27,6 @@ pub mod EntryEvents
 pub mod EntryCases
 pub mod AdmitFloor
 pub mod AdmitEvents
--- Starts.
+-- Starts, and quiet points.
 pub mod Rests
+pub mod Quiet

@@ -30,4 +30,6 @@ pub use lock_laws::{
 pub use record_laws::{
     a_childs_record_may_be_placed, a_record_may_be_placed, a_record_may_be_removed,
 };
-pub use start_laws::{nodes_start_by_the_rule, nodes_wake_by_the_rule};
+pub use start_laws::{
+    nodes_start_by_the_rule, nodes_wake_by_the_rule, quiet_nodes_show_the_enabled_tasks,
+};
