@@ -1,7 +1,8 @@
 -- The counts of placings and removals once a seat has placed or removed a record.
-use Rattle.std.proofs.Common.{◌≡◌, ◌≢◌, ◌+◌, ◌≤◌, ◌<◌, ℕ, zero, suc, Bool, cond, List, [], ◌∷◌, refl, sym, ap, ◌∙◌, ⊎_elim, arith}
+use Rattle.std.proofs.Common.{◌≡◌, ◌≢◌, ◌+◌, ◌++◌, ◌≤◌, ◌<◌, ℕ, zero, suc, Bool, cond, List, [], ◌∷◌, refl, ap, ◌∙◌, ⊎_elim, arith}
 use Rattle.std.specs.Prelude.{count_by}
 use Rattle.std.proofs.lemmas.Bool.{cases_eq}
+use Rattle.std.proofs.lemmas.List.Sums.{sum_by-append}
 use Rattle.floor_rule.specs.Floors.{put}
 use Rattle.floor_rule.proofs.Puts.{put_else, put_here}
 use Rattle.admission_core.specs.States.{Record}
@@ -33,29 +34,37 @@ module _ (test : Record → Bool) (lists : ℕ → List Record) where
       let rest : counted test (put lists i x) n ≡ counted test lists n = counted_apart i x n (omega (arith, below)) in
       ap (λ (l : List Record). count_by test l + counted test (put lists i x) n) (put_else lists i n x other) ∙ ap (λ (m : ℕ). count_by test (lists n) + m) rest
 
-  -- one record more in the list of a seat counts once
-  counted_more : (i : ℕ) (r : Record) (n : ℕ) → i < n → counted test (put lists i (r ∷ lists i)) n ≡ one_more test r + counted test lists n
-  counted_more i r zero within = absurd (omega (arith, within))
-  counted_more i r (suc n) within =
+  -- a list that was set counts in place of the one before
+  pub counted_set : (i : ℕ) (x : List Record) (n : ℕ) → i < n → counted test (put lists i x) n + count_by test (lists i) ≡ counted test lists n + count_by test x
+  counted_set i x zero within = absurd (omega (arith, within))
+  counted_set i x (suc n) within =
       ⊎_elim
       (λ (same : n ≡ i).
       let low : n ≤ i = omega (arith, same) in
-      let here : count_by test (put lists i (r ∷ lists i) n) ≡ one_more test r + count_by test (lists n) =
-      ap (λ (x : ℕ). count_by test (put lists i (r ∷ lists i) x)) same
-      ∙ (ap (count_by test) (put_here lists i (r ∷ lists i)) ∙ (count_cons test r (lists i) ∙ ap (λ (x : ℕ). one_more test r + count_by test (lists x)) (sym same))) in
-      sum_here (count_by test (put lists i (r ∷ lists i) n)) (counted test (put lists i (r ∷ lists i)) n) (one_more test r) (count_by test (lists n)) (counted test lists n)
-      here (counted_apart i (r ∷ lists i) n low))
+      let here : count_by test (put lists i x n) ≡ count_by test x = ap (λ (m : ℕ). count_by test (put lists i x m)) same ∙ ap (count_by test) (put_here lists i x) in
+      let old : count_by test (lists n) ≡ count_by test (lists i) = ap (λ (m : ℕ). count_by test (lists m)) same in
+      sum_here (count_by test (put lists i x n)) (counted test (put lists i x) n) (count_by test x) (count_by test (lists n)) (counted test lists n) (count_by test (lists i))
+      here (counted_apart i x n low) old)
       (λ (other : n ≢ i).
       let more : i < n = omega (arith, within, other) in
-      sum_rest (count_by test (put lists i (r ∷ lists i) n)) (counted test (put lists i (r ∷ lists i)) n) (one_more test r) (count_by test (lists n)) (counted test lists n)
-      (ap (count_by test) (put_else lists i n (r ∷ lists i) other)) (counted_more i r n more))
+      sum_rest (count_by test (put lists i x n)) (counted test (put lists i x) n) (count_by test x) (count_by test (lists n)) (counted test lists n) (count_by test (lists i))
+      (ap (count_by test) (put_else lists i n x other)) (counted_set i x n more))
       (cases_eq n i)
     where
-      sum_here : (a b m c d : ℕ) → a ≡ m + c → b ≡ d → a + b ≡ m + (c + d)
-      sum_here a b m c d first second = omega (arith, first, second)
+      sum_here : (a b m c d e : ℕ) → a ≡ m → b ≡ d → c ≡ e → (a + b) + e ≡ (c + d) + m
+      sum_here a b m c d e first second third = omega (arith, first, second, third)
 
-      sum_rest : (a b m c d : ℕ) → a ≡ c → b ≡ m + d → a + b ≡ m + (c + d)
-      sum_rest a b m c d first second = omega (arith, first, second)
+      sum_rest : (a b m c d e : ℕ) → a ≡ c → b + e ≡ d + m → (a + b) + e ≡ (c + d) + m
+      sum_rest a b m c d e first second = omega (arith, first, second)
+
+  -- one record more in the list of a seat counts once
+  counted_more : (i : ℕ) (r : Record) (n : ℕ) → i < n → counted test (put lists i (r ∷ lists i)) n ≡ one_more test r + counted test lists n
+  counted_more i r n within =
+      sums (counted test (put lists i (r ∷ lists i)) n) (count_by test (lists i)) (counted test lists n) (one_more test r) (count_by test (r ∷ lists i))
+      (counted_set i (r ∷ lists i) n within) (count_cons test r (lists i))
+    where
+      sums : (a b c m l : ℕ) → a + b ≡ c + l → l ≡ m + b → a ≡ m + c
+      sums a b c m l first second = omega (arith, first, second)
 
 empty_put : (lists : ℕ → List Record) (i k n : ℕ) (x : List Record) → i < k → ((j : ℕ) → n ≤ j → lists j ≡ []) → n ≤ k → (j : ℕ) → k ≤ j → put lists i x j ≡ []
 empty_put lists i k n x within empty below j past =
@@ -110,3 +119,53 @@ module _ (standing : List Record) (placed removed : ℕ → List Record) (counts
     where
       sums : (m a b c d e s less : ℕ) → a ≡ m + b → b ≡ c → d ≡ e → e ≡ c + s → s ≡ m + less → d ≡ a + less
       sums m a b c d e s less first second third fourth fifth = omega (arith, first, second, third, fourth, fifth)
+
+-- A seat is joined to another.
+
+-- the records of seat j are with those of seat i
+abbrev moved : (ℕ → List Record) → ℕ → ℕ → ℕ → List Record
+moved lists i j = put (put lists i (lists i ++ lists j)) j []
+
+module _ (test : Record → Bool) (lists : ℕ → List Record) (i j n : ℕ) (other : j ≢ i) (first : i < n) (second : j < n) where
+  counted_moved : counted test (moved lists i j) n ≡ counted test lists n
+  counted_moved =
+      let both : List Record = lists i ++ lists j in
+      let added = counted_set test lists i both n first in
+      let cleared = counted_set test (put lists i both) j [] n second in
+      let kept : count_by test (put lists i both j) ≡ count_by test (lists j) = ap (count_by test) (put_else lists i j both other) in
+      let sum : count_by test both ≡ count_by test (lists i) + count_by test (lists j) = sum_by-append (λ (y : Record). cond {A = ℕ} (test y) 1 0) (lists i) (lists j) in
+      sums (counted test (put lists i both) n) (count_by test (lists i)) (counted test lists n) (count_by test both) (counted test (moved lists i j) n)
+      (count_by test (put lists i both j)) (count_by test (lists j)) added cleared kept sum
+    where
+      sums : (c1 a c0 ab c2 b1 b : ℕ) → c1 + a ≡ c0 + ab → c2 + b1 ≡ c1 + 0 → b1 ≡ b → ab ≡ a + b → c2 ≡ c0
+      sums c1 a c0 ab c2 b1 b added cleared kept sum = omega (arith, added, cleared, kept, sum)
+
+module _ (standing : List Record) (placed removed : ℕ → List Record) (counts : AreCounted standing placed removed) (i j : ℕ) (other : j ≢ i) where
+  abbrev all_seats : ℕ
+  all_seats = (suc i + suc j) + counts.seats
+
+  all_before : (test : Record → Bool) (lists : ℕ → List Record) → ((k : ℕ) → counts.seats ≤ k → lists k ≡ []) → counted test lists all_seats ≡ counted test lists counts.seats
+  all_before test lists empty = counted_beyond test lists counts.seats (suc i + suc j) empty
+
+  moved_empty : (lists : ℕ → List Record) → ((k : ℕ) → counts.seats ≤ k → lists k ≡ []) → (k : ℕ) → all_seats ≤ k → moved lists i j k ≡ []
+  moved_empty lists empty k past =
+      let not_i : k ≢ i = λ same. omega (arith, past, same) in
+      let not_j : k ≢ j = λ same. omega (arith, past, same) in
+      put_else (put lists i (lists i ++ lists j)) j k [] not_j ∙ (put_else lists i k (lists i ++ lists j) not_i ∙ empty k (omega (arith, past)))
+
+  pub counts_joined : AreCounted standing (put (put placed i (placed i ++ placed j)) j []) (put (put removed i (removed i ++ removed j)) j [])
+  counts_joined = record {
+    seats = all_seats;
+    beyond = λ k past. (
+      moved_empty placed (λ m far. (counts.beyond m far).0) k past,
+      moved_empty removed (λ m far. (counts.beyond m far).1) k past,
+    );
+    balance = λ test.
+        sums (counted test (moved placed i j) all_seats) (counted test placed all_seats) (counted test placed counts.seats)
+        (counted test (moved removed i j) all_seats) (counted test removed all_seats) (counted test removed counts.seats) (count_by test standing)
+        (counted_moved test placed i j all_seats other (omega arith) (omega arith)) (all_before test placed (λ m far. (counts.beyond m far).0))
+        (counted_moved test removed i j all_seats other (omega arith) (omega arith)) (all_before test removed (λ m far. (counts.beyond m far).1)) (counts.balance test);
+  }
+    where
+      sums : (a b c d e f s : ℕ) → a ≡ b → b ≡ c → d ≡ e → e ≡ f → c ≡ f + s → a ≡ d + s
+      sums a b c d e f s first second third fourth fifth = omega (arith, first, second, third, fourth, fifth)

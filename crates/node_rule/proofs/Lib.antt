@@ -16,5 +16,15 @@ pub mod Records
 pub mod RecordEvents
 -- What seats learn, and admission.
 pub mod Facts
+-- The steps of the floor on turns and seats: the tasks of the core once a turn was set, and these steps as events.
+pub mod TaskChanges
+pub mod TurnEvents
+pub mod SeatSteps
+pub mod LastMade
+pub mod EntryTasks
+pub mod EntryEvents
+pub mod EntryCases
+pub mod AdmitFloor
+pub mod AdmitEvents
 -- Starts.
 pub mod Rests

@@ -4,4 +4,6 @@ pub mod Rule
 pub mod LockSteps
 pub mod RecordSteps
 pub mod FactSteps
+pub mod TurnSteps
+pub mod AdmitSteps
 pub mod Starts

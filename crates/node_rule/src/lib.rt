@@ -7,6 +7,7 @@
 #![tactic(auto)]
 
 mod fact_laws;
+mod floor_laws;
 mod lock_laws;
 mod record_laws;
 mod start_laws;
@@ -14,6 +15,11 @@ mod start_laws;
 pub use fact_laws::{
     a_placed_task_is_legal_to_admit, finding_a_node_clear_keeps_the_rule,
     following_a_wait_keeps_the_rule, records_stand_at_their_places,
+};
+pub use floor_laws::{
+    admissions_keep_the_rules, cells_and_phases_leave_the_nodes, entries_keep_the_nodes,
+    giving_a_first_turn_keeps_the_nodes, giving_a_turn_keeps_the_nodes, seats_keep_the_nodes,
+    taking_a_turn_keeps_the_nodes,
 };
 pub use lock_laws::{
     a_finished_node_may_be_unlocked, a_node_below_may_be_locked, a_node_may_be_given_back,
