@@ -1,5 +1,5 @@
 -- The books of a run that has not begun are in step with its first state.
-use Rattle.std.proofs.Common.{inl, ℕ, zero, suc}
+use Rattle.std.proofs.Common.{◌≡◌, inl, ℕ, zero, suc, List, [], Option, subst, sym}
 use Rattle.twe_limits.specs.Limits.{Bounds}
 use Rattle.wait_graph.specs.Waiting.{WaitsFor}
 use Rattle.twe_program.specs.Program.{Program}
@@ -9,8 +9,11 @@ use Rattle.twe_machine.specs.Moves.{start_of}
 use Rattle.twe_machine.specs.Rows.{HasStatus}
 use Rattle.twe_machine.proofs.MadeTasks.{none_enabled}
 use Rattle.flat_sched.specs.inner.Books.{Keeps}
+use Rattle.flat_sched.specs.inner.Groups.{AreGroups}
 use Rattle.flat_sched.specs.inner.Lists.{IsReady}
 use Rattle.flat_sched.specs.declared.books.Books.{Books}
+use Rattle.flat_sched.specs.declared.groups.Group.{Group}
+use Rattle.twe_machine.specs.declared.state.State.{State}
 
 module _ (p : Program) (lim : Bounds) where
   made_ready : (b : Books) (t : ℕ) → IsReady b.ready 0 → HasStatus (start_of p lim) t Made → IsReady b.ready t
@@ -21,10 +24,14 @@ module _ (p : Program) (lim : Bounds) where
   none_waits zero u wait = let some = wait.waits in cc (some)
   none_waits (suc s) u wait = let some = wait.waits in cc (some)
 
-  pub first_keeps : (b : Books) → IsReady b.ready 0 → IsListing (start_of p lim) b.enabled → Keeps (start_of p lim) b
-  first_keeps b ready listing = record {
+  no_groups : (st : State) → AreGroups st []
+  no_groups st u g has = cc (has)
+
+  pub first_keeps : (b : Books) → IsReady b.ready 0 → b.groups ≡ [] → IsListing (start_of p lim) b.enabled → Keeps (start_of p lim) b
+  first_keeps b ready none listing = record {
     runs = λ t run. absurd (none_enabled p lim t run.0);
     made = λ t made. inl (made_ready b t ready made);
     waits = λ s u wait. absurd (none_waits s u wait);
+    groups = subst (λ (groups : List (Option Group)). AreGroups (start_of p lim) groups) (sym none) (no_groups (start_of p lim));
     listing = listing;
   }

@@ -5,6 +5,8 @@ pub mod HeldUp
 pub mod Holders
 pub mod SoFar
 pub mod Sound
+pub mod Alike
+pub mod PassedOn
 pub mod Listing
 pub mod LookedAt
 pub mod NotedMoves

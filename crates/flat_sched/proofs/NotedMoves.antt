@@ -1,5 +1,5 @@
 -- What the books say after a move was noted.
-use Rattle.std.proofs.Common.{◌≡◌, ◌≢◌, ◌⊎◌, ◌<◌, ◌≤◌, ◌+◌, inl, inr, ℕ, List, length, None, sym, ap, ◌∙◌, subst, arith}
+use Rattle.std.proofs.Common.{◌≡◌, ◌≢◌, ◌⊎◌, ◌<◌, ◌≤◌, ◌+◌, inl, inr, ℕ, List, length, Option, None, sym, ap, ◌∙◌, subst, arith}
 use Rattle.std.proofs.lemmas.Bool.{cases_eq, cases_lt, false≢true}
 use Rattle.std.proofs.lemmas.List.{get_or_past}
 use Rattle.seg_journal.specs.declared.moves.Move.{Move}
@@ -9,8 +9,10 @@ use Rattle.wait_graph.specs.Waiting.{IsDone, WaitsFor}
 use Rattle.twe_machine.specs.declared.enabled_tasks.EnabledTasks.{EnabledTasks}
 use Rattle.twe_machine.specs.declared.state.State.{State}
 use Rattle.flat_sched.specs.inner.Books.{Freed, Grown, IsEndOf, Noted, Woken}
+use Rattle.flat_sched.specs.inner.Groups.{AreGroups, IsMember}
 use Rattle.flat_sched.specs.inner.Lists.{IsListed, IsReady}
 use Rattle.flat_sched.specs.declared.books.Books.{Books}
+use Rattle.flat_sched.specs.declared.groups.Group.{Group}
 
 -- who waits is there
 pub waiter_there : (links : List Link) (s u : ℕ) → WaitsFor links s u → s < length links
@@ -43,6 +45,11 @@ noted_then st mv before b mid after enabled linked one grown ready waits noted =
   held = λ u x ne h. noted.held u x ne (grown.held u x h);
   woken = λ x done h. noted.woken x done (grown.waiters mv.task x h);
   freed = λ x over h. noted.freed x over (grown.held mv.task x h);
+  members = λ u x ne h. noted.members u x ne (subst (λ (groups : List (Option Group)). IsMember groups u x) (sym grown.groups) h);
+  passed = λ are x over h made.
+      noted.passed (subst (λ (groups : List (Option Group)). AreGroups st groups) (sym grown.groups) are) x over
+      (subst (λ (groups : List (Option Group)). IsMember groups mv.task x) (sym grown.groups) h) made;
+  groups = λ are. noted.groups (subst (λ (groups : List (Option Group)). AreGroups st groups) (sym grown.groups) are);
   waiting = noted.waiting;
   end = noted.end;
   is_end = noted.is_end;
@@ -69,12 +76,18 @@ noted_mover st mv b waited woken after linked one waits end wakes frees =
     λ u x ne h. subst (λ (lists : List (List ℕ)). IsListed lists u x) (sym frees.waiters) (wakes.waiters u x ne h) in
     let to_held : (u x : ℕ) → IsListed b.held u x → IsListed woken.held u x =
     λ u x h. subst (λ (lists : List (List ℕ)). IsListed lists u x) (sym wakes.held) (one.held u x h) in
+    let same : woken.groups ≡ b.groups = wakes.groups ∙ one.groups in
     record {
       ready = λ x h. ready x (one.ready x h);
       waiters = λ u x ne h. to_waiters u x ne (one.waiters u x h);
       held = λ u x ne h. frees.held u x ne (to_held u x h);
       woken = λ x done h. frees.ready x (wakes.woken x done (one.waiters t x h));
       freed = λ x over h. frees.freed x over (to_held t x h);
+      members = λ u x ne h. frees.members u x ne (subst (λ (groups : List (Option Group)). IsMember groups u x) (sym same) h);
+      passed = λ are x over h made.
+          frees.passed (subst (λ (groups : List (Option Group)). AreGroups st groups) (sym same) are) x over
+          (subst (λ (groups : List (Option Group)). IsMember groups t x) (sym same) h) made;
+      groups = λ are. frees.groups (subst (λ (groups : List (Option Group)). AreGroups st groups) (sym same) are);
       waiting = λ u undone wait. to_waiters u t (inr undone) (waits u wait);
       end = end.0;
       is_end = record {

@@ -1,3 +1,4 @@
 -- What only private clauses cite.
-pub mod Books
 pub mod Lists
+pub mod Groups
+pub mod Books

@@ -5,6 +5,7 @@ ghost use Rattle.twe_program.specs.Program.{Program};
 ghost use Rattle.twe_machine.specs.Listings.{IsListing};
 ghost use Rattle.twe_machine.specs.Moves.{start_of};
 
+use crate::groups::Groups;
 use crate::ready::Ready;
 use std::alloc::Global;
 use twe_io::List;
@@ -17,8 +18,10 @@ pub(crate) struct Books {
     pub ready: Ready,
     /// For each task that is not done, those that wait for it.
     pub waiters: List<List<u32>>,
-    /// For each task, those that were found to be held by it.
+    /// For each task, those that were found to be held by it, and are not in its group.
     pub held: List<List<u32>>,
+    /// For each task its group of those that it holds, or that are looked at after it.
+    pub groups: Groups,
     /// The enabled tasks.
     pub enabled: EnabledTasks,
 }
@@ -29,12 +32,14 @@ impl Books {
         ensures ready { result.ready ≡ [] }
         ensures waiters { result.waiters ≡ [] }
         ensures held { result.held ≡ [] }
+        ensures groups { result.groups ≡ [] }
         ensures enabled { (p : Program) (lim : Bounds) → IsListing (start_of p lim) result.enabled }
     {
         Books {
             ready: Ready::new(alloc),
             waiters: List::new(alloc),
             held: List::new(alloc),
+            groups: List::new(alloc),
             enabled: EnabledTasks::new(alloc),
         }
     }

@@ -3,12 +3,14 @@
 #![tactic(auto)]
 
 mod books;
+mod groups;
 mod held;
 mod laws;
 mod lists;
 mod looking;
 mod lowest_run;
 mod noting;
+mod passing;
 mod ready;
 mod stuck;
 

@@ -5,18 +5,23 @@ ghost use Rattle.twe_program.specs.Program.{Program};
 ghost use Rattle.twe_program.specs.WellFormed.{IsWellFormed};
 ghost use Rattle.twe_machine.specs.declared.state.TaskStatus.TheVariants.{Made, Enabled};
 ghost use Rattle.twe_machine.specs.Legal.{MayMove, MayTake};
-ghost use Rattle.twe_machine.specs.Rows.{HasStatus};
+ghost use Rattle.twe_machine.specs.Listings.{IsListing};
+ghost use Rattle.twe_machine.specs.Rows.{EffectsAreFilled, HasStatus};
 ghost use Rattle.twe_machine.specs.Runs.{IsReachable};
-ghost use Rattle.flat_sched.specs.inner.Books.{IsHeldBack, Keeps};
+ghost use Rattle.flat_sched.specs.inner.Books.{HeldMore, IsUnder, Looked};
+ghost use Rattle.flat_sched.specs.inner.Groups.{AreGroups};
 
 use crate::books::Books;
+use crate::groups::join;
 use crate::lists::add;
+use crate::passing::release;
 use seg_journal::{Kind, Move};
 use std::alloc::Global;
 use twe_io::Memory;
-use twe_machine::{State, TaskStatus};
+use twe_machine::{State, TaskStatus, effects_are_filled};
 
-/// Looks at a task: returns its legal move, if it has one. If it was made and has a bar, it is put on the list of a bar.
+/// Looks at a task: returns its legal move, if it has one. If it was made and has a bar, it is put on the list of a bar or in its
+/// group, and those of its own group are to be looked at.
 pub(crate) fn look(
     alloc: Global,
     st: &State,
@@ -25,13 +30,12 @@ pub(crate) fn look(
 ) -> Result<Option<Move>, Memory>
     requires linked { length st.now.links ≡ length st.now.tasks }
     requires reachable { (p : Program) × IsWellFormed p × IsReachable p st.now }
-    requires keeps { Keeps st.now books.old }
+    requires groups { AreGroups st.now books.old.groups }
+    requires listing { IsListing st.now books.old.enabled }
     ensures legal { IfOk result (λ mv. IfSome mv (MayMove st.now)) }
     ensures task { IfOk result (λ mv. IfSome mv (λ m. m.task ≡ t)) }
-    ensures none { IfOk result (λ mv. IfNone mv ((kind : Kind) → ¬ MayTake st.now kind t)) }
-    ensures held { IfOk result (λ mv. IfNone mv (HasStatus st.now t Made → IsHeldBack st.now books.new t)) }
-    ensures keeps { OnOk result (Keeps st.now books.new) }
-    ensures ready { OnOk result (books.new.ready ≡ books.old.ready) }
+    ensures same { IfOk result (λ mv. IfSome mv (λ m. books.new ≡ books.old)) }
+    ensures looked { IfOk result (λ mv. IfNone mv (Looked st.now t books.old books.new)) }
 {
     let Some(row) = st.tasks.get(t as usize) else {
         return Ok(None);
@@ -60,7 +64,7 @@ fn run_of(st: &State, t: u32) -> Option<Move>
     }
 }
 
-/// The admission of a task that was made, if it has no bar. Else it is put on the list of a bar.
+/// The admission of a task that was made, if it has no bar. Else it is put on the list of a bar or in its group.
 fn look_at_made(
     alloc: Global,
     st: &State,
@@ -69,22 +73,37 @@ fn look_at_made(
 ) -> Result<Option<Move>, Memory>
     requires made { HasStatus st.now t Made }
     requires reachable { (p : Program) × IsWellFormed p × IsReachable p st.now }
-    requires keeps { Keeps st.now books.old }
+    requires groups { AreGroups st.now books.old.groups }
+    requires listing { IsListing st.now books.old.enabled }
     ensures legal { IfOk result (λ mv. IfSome mv (MayMove st.now)) }
     ensures task { IfOk result (λ mv. IfSome mv (λ m. m.task ≡ t)) }
-    ensures none { IfOk result (λ mv. IfNone mv ((kind : Kind) → ¬ MayTake st.now kind t)) }
-    ensures held { IfOk result (λ mv. IfNone mv (HasStatus st.now t Made → IsHeldBack st.now books.new t)) }
-    ensures keeps { OnOk result (Keeps st.now books.new) }
-    ensures ready { OnOk result (books.new.ready ≡ books.old.ready) }
+    ensures same { IfOk result (λ mv. IfSome mv (λ m. books.new ≡ books.old)) }
+    ensures looked { IfOk result (λ mv. IfNone mv (Looked st.now t books.old books.new)) }
 {
+    effects_are_filled();
     match books.enabled.bar(st, t) {
         None => Ok(Some(Move {
             kind: Kind::Admit,
             task: t,
         })),
         Some(s) => {
-            add(alloc, &mut books.held, s, t)?;
+            hold(alloc, st, books, s, t)?;
+            release(books, t)?;
             Ok(None)
         }
     }
+}
+
+/// Puts a task that `s` holds into the group of `s`, if it is like the others there, and else on the list of `s`.
+fn hold(alloc: Global, st: &State, books: &mut Books, s: u32, t: u32) -> Result<(), Memory>
+    requires filled { EffectsAreFilled st.now }
+    requires groups { AreGroups st.now books.old.groups }
+    ensures under { OnOk result (IsUnder books.new s t) }
+    ensures held { OnOk result (HeldMore st.now books.old books.new) }
+{
+    if join(alloc, st, &mut books.groups, s, t)? {
+        return Ok(());
+    }
+    add(alloc, &mut books.held, s, t)?;
+    Ok(())
 }

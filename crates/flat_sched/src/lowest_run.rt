@@ -88,11 +88,12 @@ fn lowest_ready(
 {
     links_agree();
     let _main = p.main;
-    'looking: while let Some(t) = books.ready.lowest() {
+    let mut from: u64 = 0;
+    'looking: while let Some(t) = books.ready.lowest_from(from) {
         if let Some(mv) = look(alloc, st, books, t)? {
             return Ok(Some(mv));
         }
-        books.ready.drop_lowest();
+        from = u64::from(t) + 1;
     }
     Ok(None)
 }

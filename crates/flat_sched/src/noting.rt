@@ -8,6 +8,7 @@ ghost use Rattle.flat_sched.specs.inner.Lists.{IsListed, IsReady};
 
 use crate::books::Books;
 use crate::lists::{add, take};
+use crate::passing::pass_on;
 use crate::ready::Ready;
 use seg_journal::Move;
 use std::alloc::Global;
@@ -73,7 +74,7 @@ fn wake_waiters(alloc: Global, st: &State, books: &mut Books, t: u32) -> Result<
     Ok(())
 }
 
-/// Has those looked at whom a task held, if it is not enabled.
+/// Has those looked at whom a task held, if it is not enabled. Its group is passed on.
 fn free_held(alloc: Global, st: &State, books: &mut Books, t: u32) -> Result<(), Memory>
     ensures { OnOk result (Freed st.now t books.old books.new) }
 {
@@ -82,6 +83,7 @@ fn free_held(alloc: Global, st: &State, books: &mut Books, t: u32) -> Result<(),
     }
     let held = take(alloc, &mut books.held, t);
     wake(&mut books.ready, held.as_slice())?;
+    pass_on(st, books, t)?;
     Ok(())
 }
 

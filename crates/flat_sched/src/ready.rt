@@ -1,6 +1,6 @@
 //! The tasks that a run has to look at, and the lowest of them.
-ghost use Rattle.std.specs.Prelude.{◌≡◌, ◌≢◌, ◌≤◌, ◌+◌, ℕ, [], length, IfSome, IfNone, OnOk, OnSome};
-ghost use Rattle.flat_sched.specs.inner.Lists.{IsReady};
+ghost use Rattle.std.specs.Prelude.{◌≡◌, ◌≢◌, ◌⊎◌, ◌≤◌, ◌+◌, ℕ, [], length, IfSome, IfNone, OnOk, OnSome};
+ghost use Rattle.flat_sched.specs.inner.Lists.{IsReady, IsReadyFrom};
 
 use std::alloc::Global;
 use std::collections::BinaryHeap;
@@ -40,6 +40,7 @@ impl Ready {
     pub fn add(&mut self, t: u32) -> Result<(), Memory>
         ensures added { OnOk result (IsReady self.new t) }
         ensures kept { OnOk result ((u : ℕ) → IsReady self.old u → IsReady self.new u) }
+        ensures back { OnOk result ((u : ℕ) → IsReady self.new u → IsReady self.old u ⊎ (u ≡ t)) }
     {
         self.heap.push(u32::MAX - t)?;
         Ok(())
@@ -66,11 +67,28 @@ impl Ready {
         };
     }
 
-    /// Takes the lowest of the tasks out, once.
-    fn take_lowest(&mut self) -> Option<u32>
+    /// The lowest of the tasks from a number on, if there is one. It removes those below the number.
+    pub fn lowest_from(&mut self, from: u64) -> Option<u32>
+        ensures some { IfSome result (λ t. (u : ℕ) → IsReadyFrom from self.new u → t ≤ u) }
+        ensures there { IfSome result (IsReadyFrom from self.new) }
+        ensures kept { (u : ℕ) → IsReadyFrom from self.old u → IsReadyFrom from self.new u }
+        ensures none { IfNone result ((u : ℕ) → ¬ IsReadyFrom from self.new u) }
+    {
+        'dropping: while let Some(t) = self.lowest() {
+            if from <= u64::from(t) {
+                return Some(t);
+            }
+            self.drop_lowest();
+        }
+        None
+    }
+
+    /// Takes the lowest of the tasks out, once. It takes no memory.
+    pub fn take_lowest(&mut self) -> Option<u32>
         ensures some { IfSome result (λ t. (u : ℕ) → IsReady self.old u → t ≤ u) }
         ensures there { IfSome result (IsReady self.old) }
         ensures kept { IfSome result (λ t. (u : ℕ) → u ≢ t → IsReady self.old u → IsReady self.new u) }
+        ensures back { (u : ℕ) → IsReady self.new u → IsReady self.old u }
         ensures none { IfNone result ((u : ℕ) → ¬ IsReady self.old u) }
         ensures fewer { OnSome result (length self.new + 1 ≡ length self.old) }
     {

@@ -16,5 +16,6 @@ returns c =
       ];
       woken = λ x is h. c.in_ok-wake.ensures.woken x (subst (λ (l : List ℕ). Contains l x) (sym c.as_slice.ensures) (c.take-waiters.ensures.taken x h));
       held = refl;
+      groups = refl;
       enabled = refl;
     }

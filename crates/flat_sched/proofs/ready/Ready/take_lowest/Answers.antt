@@ -1,7 +1,7 @@
 use Rattle.std.proofs.Common.{◌≢◌, ◌≤◌, ◌-◌, ℕ, List, rules, refl, sym, subst, arith}
 use Rattle.std.proofs.lemmas.List.Sorted.{Contains-permutation, IsPermutation-sym}
 use Rattle.flat_sched.specs.inner.Lists.{IsReady}
-use Rattle.flat_sched.proofs.Listing.{contains_rest}
+use Rattle.flat_sched.proofs.Listing.{contains_more, contains_rest}
 use Rattle.flat_sched.proofs.ready.Ready.take_lowest.Goals as goal
 
 pub returns-clause-kept : goal.returns-clause-kept
@@ -15,3 +15,8 @@ returns-clause-there c =
     let fits : c.in_ok-top.top ≤ 4294967295 = search rules in
     let was = Contains-permutation _ _ _ (IsPermutation-sym _ _ c.in_ok-top.ensures.permutation) (0, omega arith, refl) in
     subst (λ (ready : List ℕ). IsReady ready (4294967295 - c.in_ok-top.top)) c.self.view_is (c.in_ok-top.top, was, omega (arith, fits))
+
+pub returns-clause-back : goal.returns-clause-back
+returns-clause-back c = λ u h.
+    let was = Contains-permutation _ _ _ (IsPermutation-sym _ _ c.in_ok-top.ensures.permutation) (contains_more _ _ _ h.1) in
+    subst (λ (ready : List ℕ). IsReady ready u) c.self.view_is (h.0, was, h.2)
