@@ -20,7 +20,7 @@ pub use fact_laws::{
 pub use floor_laws::{
     admissions_keep_the_rules, cells_and_phases_leave_the_nodes, entries_keep_the_nodes,
     giving_a_first_turn_keeps_the_nodes, giving_a_turn_keeps_the_nodes, seats_keep_the_nodes,
-    taking_a_turn_keeps_the_nodes,
+    taking_a_turn_keeps_the_nodes, the_next_task_has_no_record,
 };
 pub use lock_laws::{
     a_finished_node_may_be_unlocked, a_node_below_may_be_locked, a_node_may_be_given_back,
