@@ -1,5 +1,5 @@
 -- What seats learn keeps the rule, and what they know licenses an admission.
-use Rattle.std.proofs.Common.{◌≡◌, ◌≢◌, ℕ, List, ◌∷◌, Some, sym, ap, subst, ◌∙◌, inl, inr, ⊎_elim}
+use Rattle.std.proofs.Common.{refl, ◌≡◌, ◌≢◌, ℕ, List, ◌∷◌, Some, sym, ap, subst, ◌∙◌, inl, inr, ⊎_elim, ◌+◌, ◌<◌, length, arith}
 use Rattle.std.specs.Prelude.{Contains}
 use Rattle.region_paths.specs.declared.elements.Elem.{Elem}
 use Rattle.effect_sets.specs.declared.effects.Effect.{Effect}
@@ -17,6 +17,8 @@ use Rattle.twe_machine.specs.declared.state.TaskStatus.TheVariants as status
 use Rattle.twe_machine.specs.Legal.{Interfere, MayAdmit}
 use Rattle.twe_machine.specs.Rows.{HasStatus, IsRow}
 use Rattle.twe_machine.specs.Runs.{state_after}
+use Rattle.twe_machine.proofs.LinksAgree.{reached_linked}
+use Rattle.std.proofs.lemmas.Option.{slice_get_within}
 use Rattle.isolation_laws.proofs.rows.LinksOfRows.{enabled_undone, link_there}
 use Rattle.journal_merge.specs.declared.numbered.NumberedEntry.{NumberedEntry}
 use Rattle.journal_merge.specs.Merging.{journal_of}
@@ -69,6 +71,16 @@ module _ (nodes : List (List Elem)) (p : Program) (lim : Bounds) (log : List Num
         there = row.there;
         effect = subst (λ (es : List Effect). Contains es r.effect) row.effects home.task.2;
       }
+
+  -- no record of the task that is made next was placed
+  pub next_unplaced : (i : ℕ) (r : Record) → f.asked + 1 < lim.tasks → IsAmong r (tree.fresh i) → r.task ≢ f.asked + 1
+  next_unplaced i r few among same =
+      let placed = stands_placed r (keep.known.fresh_stand i r among).0 in
+      let made : r.task < length st.tasks = slice_get_within st.tasks r.task placed.row placed.there in
+      let asked : f.asked ≡ st.asked = both.floor.fits.asked in
+      let small : st.asked + 1 < lim.tasks = subst (λ (n : ℕ). n + 1 < lim.tasks) asked few in
+      let number = (reached_linked p lim st (record { journal = journal_of log; legal = both.floor.legal; same = refl })).number small in
+      omega (arith, made, asked, number, same)
 
   -- A node is found clear.
 

@@ -16,6 +16,7 @@ pub mod Records
 pub mod RecordEvents
 -- What seats learn, and admission.
 pub mod Facts
+pub mod Bars
 -- The steps of the floor on turns and seats: the tasks of the core once a turn was set, and these steps as events.
 pub mod TaskChanges
 pub mod TurnEvents
@@ -26,5 +27,6 @@ pub mod EntryEvents
 pub mod EntryCases
 pub mod AdmitFloor
 pub mod AdmitEvents
--- Starts.
+-- Starts, and quiet points.
 pub mod Rests
+pub mod Quiet

@@ -125,7 +125,7 @@ module _ (nodes : List (List Elem)) (p : Program) (lim : Bounds) (log : List Num
         (has_more f.held i t (record turn { phase = phase })) keep.known;
   }
 
-free_turn : (turns : Turns) (t : ℕ) → IsUnheld turns t → (turn : Turn) (unplaced : Bool) → TurnIs turns t turn unplaced → (turn ≡ Free) × (unplaced ≡ false)
+pub free_turn : (turns : Turns) (t : ℕ) → IsUnheld turns t → (turn : Turn) (unplaced : Bool) → TurnIs turns t turn unplaced → (turn ≡ Free) × (unplaced ≡ false)
 free_turn turns t none Free unplaced is = (refl, is.1)
 free_turn turns t none (Taken j) unplaced is = absurd (none_some (sym (none j) ∙ is.0.1))
 free_turn turns t none (New j) unplaced is = absurd (none_some (sym (none j) ∙ is.1))

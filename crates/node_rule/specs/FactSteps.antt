@@ -2,6 +2,9 @@
 use Rattle.std.specs.Prelude.{◌≡◌, ◌≢◌, ◌⊎◌, ℕ, false, List, ◌∷◌, Some, Contains}
 use Rattle.region_paths.specs.declared.elements.Elem.{Elem}
 use Rattle.effect_sets.specs.declared.effects.Effect.{Effect}
+use Rattle.effect_sets.specs.Interference.{Interferes}
+use Rattle.wait_graph.specs.Waiting.{WaitsForNobody, WaitsOn}
+use Rattle.twe_machine.specs.declared.state.State.{State}
 use Rattle.twe_machine.specs.declared.state.TaskStatus.TheVariants as status
 use Rattle.floor_rule.specs.declared.view.HeldTurn.{HeldTurn}
 use Rattle.floor_rule.specs.Floors.{put}
@@ -41,3 +44,22 @@ pub record HasPlacedAll (nodes : List (List Elem)) (turns : Turns) (tree : Tree)
   pub made : turn.row.status ≡ status.Made
   pub all : (e : Effect) → Contains turn.row.effects.effects e
       → (n : ℕ) × IsPlaceOf nodes e n × IsAmong (record { task = t; effect = e; node = n }) (tree.fresh i)
+
+-- no seat has a turn but one of task t
+abbrev pub HasOnly : Turns → ℕ → Type 0
+HasOnly turns t = (i u : ℕ) → HasTurn turns i u → u ≡ t
+
+-- Record r stands in the way of task t, whose turn seat i has: it is of another task and interferes with an effect of t, and
+-- the waits of its task end at a task that waits for nobody and is not t.
+pub record IsInTheWay (st : State) (turns : Turns) (standing : List Record) (i t : ℕ) (r : Record) : Type 0 where
+  pub stands : IsAmong r standing
+  pub other : r.task ≢ t
+  pub turn : HeldTurn
+  pub has : turns i t ≡ Some turn
+  pub effect : Effect
+  pub among : Contains turn.row.effects.effects effect
+  pub meets : Interferes r.effect effect
+  pub end : ℕ
+  pub chain : WaitsOn st.links r.task end
+  pub free : WaitsForNobody st.links end
+  pub away : end ≢ t

@@ -11,7 +11,7 @@ ghost use Rattle.floor_rule.specs.declared.view.Phase.TheVariants.{Waits};
 ghost use Rattle.floor_rule.specs.Floors.{Floor};
 ghost use Rattle.admission_core.specs.States.{IsAmong, Record, State};
 ghost use Rattle.node_rule.specs.Fitting.{IsPlaced};
-ghost use Rattle.node_rule.specs.FactSteps.{FindsClear, HasPlacedAll, IsKnownToWait, after_finding_clear, after_following};
+ghost use Rattle.node_rule.specs.FactSteps.{FindsClear, HasOnly, HasPlacedAll, IsInTheWay, IsKnownToWait, after_finding_clear, after_following};
 ghost use Rattle.node_rule.specs.Rule.{KeepsBoth, KeepsNodes};
 ghost use Rattle.node_rule.specs.Trees.{Tree};
 
@@ -28,6 +28,15 @@ pub fn a_placed_task_is_legal_to_admit()
     ensures { (nodes : List (List Elem)) (p : Program) (lim : Bounds) (log : List NumberedEntry) (f : Floor) (tree : Tree)
         (core : State) (i t : ℕ) → KeepsBoth nodes p lim log f tree core → HasPlacedAll nodes f.held tree i t
         → MayAdmit (state_after p lim (journal_of log)) t }
+{}
+
+/// If no worker has a turn but one that has the turn of a task, and a record stands in the way of that task, then its
+/// admission is not legal. So a single worker that meets such a record may leave the task.
+pub fn what_is_in_the_way_forbids_the_admission()
+    ensures { (nodes : List (List Elem)) (p : Program) (lim : Bounds) (log : List NumberedEntry) (f : Floor) (tree : Tree)
+        (core : State) (i t : ℕ) (r : Record) → KeepsBoth nodes p lim log f tree core → HasOnly f.held t
+        → IsInTheWay (state_after p lim (journal_of log)) f.held core.records i t r
+        → ¬ MayAdmit (state_after p lim (journal_of log)) t }
 {}
 
 /// A worker that has the turn of a task, and finds no record of it in the content of a node, knows that none stands there.

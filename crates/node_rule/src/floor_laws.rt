@@ -1,6 +1,6 @@
 //! The laws on the steps of the floor, beside which the nodes keep their rule. A step on a turn is one event of the core of
 //! admission on its tasks; the others change nothing that the core knows.
-ghost use Rattle.std.specs.Prelude.{◌≡◌, ◌≢◌, ◌++◌, ℕ, ℤ, List, [], ◌∷◌, None, Some, false};
+ghost use Rattle.std.specs.Prelude.{◌≡◌, ◌≢◌, ◌+◌, ◌++◌, ◌<◌, ℕ, ℤ, List, [], ◌∷◌, None, Some, false};
 ghost use Rattle.region_paths.specs.declared.elements.Elem.{Elem};
 ghost use Rattle.twe_limits.specs.Limits.{Bounds};
 ghost use Rattle.twe_program.specs.Program.{Program};
@@ -12,7 +12,7 @@ ghost use Rattle.floor_rule.specs.declared.view.Phase.{Phase};
 ghost use Rattle.floor_rule.specs.Floors.{Floor, Free};
 ghost use Rattle.floor_rule.specs.Steps.{MayCommit, after_entry, after_finding_done, after_giving, after_join, after_load, after_phase};
 ghost use Rattle.floor_rule.specs.Steps.{after_split, after_store, after_taking, entry_drawn};
-ghost use Rattle.admission_core.specs.States.{State};
+ghost use Rattle.admission_core.specs.States.{IsAmong, Record, State};
 ghost use Rattle.floor_rule.specs.Rule.{KeepsRule};
 ghost use Rattle.node_rule.specs.AdmitSteps.{MayDrawAdmission, admission_drawn, after_admission};
 ghost use Rattle.node_rule.specs.Rule.{KeepsBoth, KeepsNodes};
@@ -76,6 +76,14 @@ pub fn admissions_keep_the_rules()
     ensures nodes { (nodes : List (List Elem)) (p : Program) (lim : Bounds) (log : List NumberedEntry) (f : Floor) (tree : Tree)
         (core : State) (i t : ℕ) → KeepsBoth nodes p lim log f tree core → (may : MayDrawAdmission nodes f.held tree i t)
         → IsTaskEvent nodes p lim (log ++ admission_drawn f t ∷ []) (after_admission f i t may.placed.turn) tree core }
+{}
+
+/// The task that is made next has nothing in the tree: no seat has placed a record of it. So the first turn of a task that is
+/// to be admitted can be given at once.
+pub fn the_next_task_has_no_record()
+    ensures { (nodes : List (List Elem)) (p : Program) (lim : Bounds) (log : List NumberedEntry) (f : Floor) (tree : Tree)
+        (core : State) (i : ℕ) (r : Record) → KeepsBoth nodes p lim log f tree core → f.asked + 1 < lim.tasks
+        → IsAmong r (tree.fresh i) → r.task ≢ f.asked + 1 }
 {}
 
 /// A new seat, which does nothing in the tree, keeps the rule, and so does a seat that is joined to another.

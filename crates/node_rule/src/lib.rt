@@ -15,11 +15,12 @@ mod start_laws;
 pub use fact_laws::{
     a_placed_task_is_legal_to_admit, finding_a_node_clear_keeps_the_rule,
     following_a_wait_keeps_the_rule, records_stand_at_their_places,
+    what_is_in_the_way_forbids_the_admission,
 };
 pub use floor_laws::{
     admissions_keep_the_rules, cells_and_phases_leave_the_nodes, entries_keep_the_nodes,
     giving_a_first_turn_keeps_the_nodes, giving_a_turn_keeps_the_nodes, seats_keep_the_nodes,
-    taking_a_turn_keeps_the_nodes,
+    taking_a_turn_keeps_the_nodes, the_next_task_has_no_record,
 };
 pub use lock_laws::{
     a_finished_node_may_be_unlocked, a_node_below_may_be_locked, a_node_may_be_given_back,
@@ -29,4 +30,6 @@ pub use lock_laws::{
 pub use record_laws::{
     a_childs_record_may_be_placed, a_record_may_be_placed, a_record_may_be_removed,
 };
-pub use start_laws::{nodes_start_by_the_rule, nodes_wake_by_the_rule};
+pub use start_laws::{
+    nodes_start_by_the_rule, nodes_wake_by_the_rule, quiet_nodes_show_the_enabled_tasks,
+};
