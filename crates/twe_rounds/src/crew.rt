@@ -7,11 +7,11 @@ ghost use Rattle.twe_rounds.specs.Crews.{CrewRun, GoesOn, StepsQuietly, is_end, 
 ghost use Rattle.twe_rounds.specs.Keeping.{IsSound};
 ghost use Rattle.twe_rounds.specs.Stepping.{Steps};
 
-use crate::gate::Gate;
 use crate::run::Run;
 use crate::run_core::lost;
 use crate::sharing::{alone, together};
 use flat_sched::stuck_cycle;
+use run_gates::Gate;
 use seg_journal::{Journal, Kind};
 use std::alloc::Global;
 use std::marker::{Brand, Model};

@@ -4,7 +4,7 @@ ghost use Rattle.twe_machine.specs.LowestFirst.{IsOver};
 ghost use Rattle.twe_machine.specs.Runs.{Legal, counted, state_after};
 
 use crate::crew::Crew;
-use crate::gate::Gate;
+use run_gates::Gate;
 use seg_journal::Journal;
 use std::alloc::Global;
 use std::sync::Wait;
