@@ -18,8 +18,16 @@ use twe_machine::{State, TaskRow, TaskStatus, replay_journal};
 use twe_program::Prog;
 
 /// `main` prints 7 and spawns two children, of which it joins the first.
-const FAMILY: &[u8] =
-    b"region D;\nint d[2] in D;\ntask int set(int j) writes D:[j] { d[j] = 5; return j + 1; }\ntask void main() writes D:[0], D:[1], Console {\n  print(7);\n  future f = set.spawn(0);\n  future g = set.spawn(1);\n  int a = f.join();\n  print(a);\n}\n";
+const FAMILY: &[u8] = b"region D;\n\
+int d[2] in D;\n\
+task int set(int j) writes D:[j] { d[j] = 5; return j + 1; }\n\
+task void main() writes D:[0], D:[1], Console {\n\
+print(7);\n\
+future f = set.spawn(0);\n\
+future g = set.spawn(1);\n\
+int a = f.join();\n\
+print(a);\n\
+}\n";
 
 /// What a new floor rests with.
 fn rest_of_new<N: Named>(alloc: Global, p: &Prog, lim: Limits) -> Result<Rest, Memory>
