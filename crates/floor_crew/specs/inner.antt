@@ -1,1 +1,4 @@
+-- What only private clauses cite.
 pub mod Lent
+pub mod GoingOn
+pub mod Keeping

@@ -1,16 +1,26 @@
-//! Runs by workers on the floor. Between rounds a run lies still: a legal move is taken, and the tasks that may be admitted are
-//! admitted. A round puts the run on a floor, on which workers run segments at the same time, and takes it back.
+//! Runs by workers on the floor. Between rounds a run lies still: moves are taken one by one, and tasks that may be admitted are
+//! admitted, as long as no two tasks may run beside each other. A round puts the run on a floor, on which workers run segments at
+//! the same time, and takes it back.
 #![tactic(auto)]
 
+mod alone;
+mod at_rest;
+mod book;
+mod brief;
+mod crew;
+mod enabled;
 mod ended;
+mod going_on;
 mod ground;
 mod hand;
 mod located;
+mod looking;
 mod on_floor;
 mod quiet;
 mod round;
 mod rounds;
 mod stands;
 
+pub use crew::FloorCrew;
 pub use rounds::run_on_floor;
 pub use twe_rounds::{FreeGate, Gate, MeetGate};

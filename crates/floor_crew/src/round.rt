@@ -1,5 +1,6 @@
 //! A round on the floor.
 ghost use Rattle.std.specs.Prelude.{◌≡◌, ◌≤◌, length, IfOk};
+ghost use mathlib.Core.List.{IsPrefix};
 ghost use Rattle.twe_program.specs.WellFormed.{IsWellFormed};
 ghost use Rattle.soundness_laws.specs.KeepsEffects.{KeepsEffects};
 ghost use Rattle.twe_machine.specs.Runs.{IsRun};
@@ -24,7 +25,7 @@ use twe_program::Prog;
 use twe_rounds::{Gate, Site, Team, deal};
 
 /// A round of so many workers: the run goes on a floor, on which they run segments at the same time, until they find no more that
-/// may run. Returns the run after that.
+/// may run. Returns the run after that, whose journal begins with the one from before.
 pub(crate) fn round<'a, N: Named + Send + Sync, R: Threads + Wait + Sync, G: Gate + Sync>(
     rt: &'a R,
     alloc: Global,
@@ -38,7 +39,8 @@ pub(crate) fn round<'a, N: Named + Send + Sync, R: Threads + Wait + Sync, G: Gat
     requires accepted { KeepsEffects N.prog }
     requires named { (p.now ≡ N.prog) × (lim ≡ N.lim) }
     requires run { IsRun N.prog N.lim rest.journal rest.state }
-    ensures { IfOk result (λ rest. IsRun N.prog N.lim rest.journal rest.state) }
+    ensures run { IfOk result (λ after. IsRun N.prog N.lim after.journal after.state) }
+    ensures begins { IfOk result (λ after. IsPrefix rest.journal after.journal) }
 {
     let _main = p.main;
     let team = deal(alloc, &rest.state, 0, lim.tasks, workers, None)?;
@@ -77,6 +79,7 @@ fn lend<
     requires parts { HasParts stand parts.old }
     ensures main { IfOk result (λ stand. IsMainOn F.table stand 0) }
     ensures parts { IfOk result (λ stand. HasParts stand parts.new) }
+    ensures kept { IfOk result (λ _. IsPrefix parts.old parts.new) }
 {
     let mut stand = stand;
     let pending = AtomicU64::new(team.pending);

@@ -1,14 +1,12 @@
-//! A whole run by workers on the floor: moves at rest and a round in turn, until the run is over.
+//! A whole run by workers on the floor: a quiet step and a round in turn, until the run is over.
 ghost use Rattle.std.specs.Prelude.{◌≡◌, ◌≤◌, IfOk};
 ghost use Rattle.soundness_laws.specs.KeepsEffects.{KeepsEffects};
 ghost use Rattle.twe_machine.specs.LowestFirst.{IsOver};
 ghost use Rattle.twe_machine.specs.Runs.{Legal, state_after};
 
-use crate::quiet::{admit_all, begin, next_move, take};
-use crate::round::round;
+use crate::crew::FloorCrew;
 use seg_journal::Journal;
 use std::alloc::Global;
-use std::marker::Brand;
 use std::sync::Wait;
 use std::thread::Threads;
 use twe_io::Memory;
@@ -35,14 +33,13 @@ pub fn run_on_floor<R: Threads + Wait + Sync, G: Gate + Sync>(
     ensures state { IfOk result (λ run. run.1 ≡ state_after p.now lim run.0) }
     ensures ended { IfOk result (λ run. IsOver run.1) }
 {
-    let mut rest = begin(alloc, p, lim)?;
+    let mut crew = FloorCrew::new(alloc, p, lim, workers)?;
     'rounds: for _ in rt.forever() {
-        let Some(mv) = next_move(p, &rest.state) else {
-            return Ok((rest.journal, rest.state));
-        };
-        take(alloc, p, lim, &mut rest, mv)?;
-        admit_all(alloc, p, lim, &mut rest)?;
-        rest = round::<Brand, R, G>(rt, alloc, p, lim, workers, rest, gate)?;
+        let found = crew.quiet_step(p)?;
+        if found.is_end() {
+            return crew.close();
+        }
+        crew.round(rt, p, gate)?;
     }
     unreachable!()
 }

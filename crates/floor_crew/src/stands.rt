@@ -1,5 +1,6 @@
 //! How the workers of a round get their stands, and how these are joined again.
 ghost use Rattle.std.specs.Prelude.{◌≡◌, length, IfOk, OnOk};
+ghost use mathlib.Core.List.{IsPrefix};
 ghost use Rattle.floor_crew.specs.inner.Lent.{HasParts, IsMainOn, IsNewOn};
 
 use crate::hand::Hand;
@@ -48,6 +49,7 @@ pub(crate) fn join_all<N: Named, F: Located>(
     requires parts { HasParts stand.old parts.old }
     ensures main { OnOk result (IsMainOn F.table stand.new 0) }
     ensures parts { OnOk result (HasParts stand.new parts.new) }
+    ensures kept { OnOk result (IsPrefix parts.old parts.new) }
 {
     let mut hands = hands;
     while let Some(hand) = hands.pop() {

@@ -1,9 +1,6 @@
-use Rattle.twe_machine.specs.Runs.{IsRun}
+use Rattle.std.proofs.Common.{◌≡◌}
 use Rattle.floor_crew.proofs.rounds.run_on_floor.Given as goal
 
--- the rounds are about the program and the limits
-abbrev pub ghosts-round : goal.ghosts-round
-ghosts-round g a = record { prog = a.p.now; lim = a.lim }
-
+-- the crew stays one of the program under the limits
 abbrev pub invariant-rounds : goal.invariant-rounds
-invariant-rounds g l = IsRun l.p l.fn.lim l.rest.journal l.rest.state
+invariant-rounds g l = (l.crew.prog ≡ l.p) × (l.crew.lim ≡ l.fn.lim)

@@ -1,0 +1,82 @@
+-- A quiet step in a run, as a step of the crew that has the run.
+use Rattle.std.proofs.Common.{◌≡◌, ◌<◌, ℕ, List, [], ◌∷◌, ◌++◌, Option, Some, length, refl, sym, ap, ◌∙◌, subst}
+use Rattle.std.proofs.lemmas.Option.{same_Some}
+use mathlib.Core.List.{IsPrefix}
+use Rattle.seg_journal.specs.declared.journal.Entry.{Entry}
+use Rattle.twe_limits.specs.Limits.{Bounds}
+use Rattle.twe_program.specs.Program.{Program}
+use Rattle.twe_machine.specs.declared.ending.Outcome.TheVariants as outcomes
+use Rattle.twe_machine.specs.declared.state.State.{State}
+use Rattle.twe_machine.specs.LowestFirst.{IsLowest}
+use Rattle.twe_machine.specs.Runs.{IsOutcome, entry_of, state_after}
+use Rattle.flat_sched.specs.Stuck.{IsStuckCycle}
+use Rattle.twe_rounds.specs.declared.crew.Quietly.{Quietly}
+use Rattle.twe_rounds.specs.declared.crew.Quietly.TheVariants.{Faulted, AllDone, Stuck, Moved}
+use Rattle.twe_rounds.specs.Crews.{CrewRun, GoesOn, StepsFrom, StepsQuietly}
+use Rattle.floor_crew.specs.declared.at_rest.RunAtRest.{RunAtRest}
+use Rattle.floor_crew.specs.inner.GoingOn.{IsSound}
+use Rattle.floor_crew.specs.Rounds.{GrowsUnlessOver}
+use Rattle.floor_crew.specs.inner.Keeping.{IsKept, Steps, journal_of}
+
+module _ (p : Program) (lim : Bounds) (workers : ℕ) where
+  -- the crew whose run has this journal
+  abbrev pub crew_of : List Entry → CrewRun
+  crew_of journal = record { prog = p; lim = lim; workers = workers; journal = Some journal }
+
+  pub steps_from : (old new : RunAtRest) (found : Quietly) → IsSound p lim old → Steps p lim old new found → StepsFrom (crew_of old.rest.journal) (crew_of new.rest.journal) old.rest.journal found
+  steps_from old new Faulted sound steps =
+      (ap (λ (r : RunAtRest). crew_of r.rest.journal) steps.0, (steps.1.0, steps.1.1, steps.1.2, subst (λ (st : State). IsOutcome st (outcomes.Fault steps.1.0 steps.1.1 steps.1.2)) sound.run_is.same steps.1.3))
+  steps_from old new AllDone sound steps =
+      (ap (λ (r : RunAtRest). crew_of r.rest.journal) steps.0, subst (λ (st : State). IsOutcome st outcomes.AllDone) sound.run_is.same steps.1)
+  steps_from old new (Stuck cycle) sound steps =
+      (ap (λ (r : RunAtRest). crew_of r.rest.journal) steps.0, subst (λ (st : State). IsOutcome st outcomes.Stuck) sound.run_is.same steps.1, subst (λ (st : State). IsStuckCycle st cycle) sound.run_is.same steps.2)
+  steps_from old new Moved sound steps =
+      let mv = steps.1.0 in (
+        subst (λ (st : State). IsOutcome st outcomes.Unfinished) sound.run_is.same steps.0,
+        (
+          mv,
+          subst (λ (st : State). IsLowest st mv) sound.run_is.same steps.1.1,
+          ap crew_of (steps.1.2 ∙ ap (λ (st : State). old.rest.journal ++ entry_of p lim st mv ∷ []) sound.run_is.same),
+        ),
+      )
+
+  -- a quiet step of a crew that has the run `old`
+  pub quiet_kept : (crew : CrewRun) (kept : Option RunAtRest) (old new : RunAtRest) (found : Quietly) → kept ≡ Some old → IsKept p lim kept
+      → record { prog = p; lim = lim; workers = workers; journal = journal_of kept } ≡ crew → Steps p lim old new found → StepsQuietly crew (crew_of new.rest.journal) found
+  quiet_kept crew kept old new found is sound view steps =
+      let same : crew_of old.rest.journal ≡ crew = ap (λ (k : Option RunAtRest). record { prog = p; lim = lim; workers = workers; journal = journal_of k }) (sym is) ∙ view in
+      let sound_now : IsSound p lim old = subst (IsKept p lim) is sound in
+      subst (λ (c : CrewRun). StepsQuietly c (crew_of new.rest.journal) found) same (old.rest.journal, refl, sound_now.run_is.legal, steps_from old new found sound_now steps)
+
+  -- a round of a crew that has the run `old`
+  pub round_kept : (crew : CrewRun) (kept : Option RunAtRest) (old new : RunAtRest) → kept ≡ Some old → IsKept p lim kept
+      → record { prog = p; lim = lim; workers = workers; journal = journal_of kept } ≡ crew → IsSound p lim new → IsPrefix old.rest.journal new.rest.journal
+      → (workers ≡ 1 → IsOutcome old.rest.state outcomes.Unfinished → length old.rest.journal < length new.rest.journal) → GoesOn crew (crew_of new.rest.journal)
+  round_kept crew kept old new is sound view after begins longer =
+      let same : crew_of old.rest.journal ≡ crew = ap (λ (k : Option RunAtRest). record { prog = p; lim = lim; workers = workers; journal = journal_of k }) (sym is) ∙ view in
+      let sound_now : IsSound p lim old = subst (IsKept p lim) is sound in
+      let goes : GoesOn (crew_of old.rest.journal) (crew_of new.rest.journal) = record {
+        journal = old.rest.journal;
+        later = new.rest.journal;
+        was = refl;
+        is = refl;
+        legal = after.run_is.legal;
+        begins = begins;
+        longer = λ one unfinished. longer one (subst (λ (st : State). IsOutcome st outcomes.Unfinished) (sym sound_now.run_is.same) unfinished);
+      } in
+      subst (λ (c : CrewRun). GoesOn c (crew_of new.rest.journal)) same goes
+
+  -- its journal is longer if the run could go on
+  pub grows_kept : (crew : CrewRun) (kept : Option RunAtRest) (old new : RunAtRest) → kept ≡ Some old → IsKept p lim kept
+      → record { prog = p; lim = lim; workers = workers; journal = journal_of kept } ≡ crew
+      → (IsOutcome old.rest.state outcomes.Unfinished → length old.rest.journal < length new.rest.journal) → GrowsUnlessOver crew (crew_of new.rest.journal)
+  grows_kept crew kept old new is sound view longer =
+      let same : crew_of old.rest.journal ≡ crew = ap (λ (k : Option RunAtRest). record { prog = p; lim = lim; workers = workers; journal = journal_of k }) (sym is) ∙ view in
+      let sound_now : IsSound p lim old = subst (IsKept p lim) is sound in
+      let grows : GrowsUnlessOver (crew_of old.rest.journal) (crew_of new.rest.journal) = λ journal later was then unfinished.
+      let first : old.rest.journal ≡ journal = same_Some old.rest.journal journal was in
+      let last : new.rest.journal ≡ later = same_Some new.rest.journal later then in
+      let state : state_after p lim journal ≡ old.rest.state = ap (state_after p lim) (sym first) ∙ sym sound_now.run_is.same in
+      let more = longer (subst (λ (st : State). IsOutcome st outcomes.Unfinished) state unfinished) in
+      subst (λ (l : List Entry). length journal < length l) last (subst (λ (l : List Entry). length l < length new.rest.journal) first more) in
+      subst (λ (c : CrewRun). GrowsUnlessOver c (crew_of new.rest.journal)) same grows

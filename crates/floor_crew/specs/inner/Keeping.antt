@@ -1,0 +1,36 @@
+-- The run of a crew, and what a quiet step does to it.
+use Rattle.std.specs.Prelude.{◌≡◌, ℕ, List, [], ◌∷◌, ◌++◌, Option, None, Some}
+use Rattle.seg_journal.specs.declared.journal.Entry.{Entry}
+use Rattle.seg_journal.specs.declared.moves.Move.{Move}
+use Rattle.twe_limits.specs.Limits.{Bounds}
+use Rattle.twe_limits.specs.declared.fault.FaultKind.{FaultKind}
+use Rattle.twe_io.specs.declared.place.Place.{Place}
+use Rattle.twe_program.specs.Program.{Program}
+use Rattle.twe_machine.specs.declared.ending.Outcome.TheVariants as outcomes
+use Rattle.twe_machine.specs.LowestFirst.{IsLowest}
+use Rattle.twe_machine.specs.Runs.{IsOutcome, entry_of}
+use Rattle.flat_sched.specs.Stuck.{IsStuckCycle}
+use Rattle.twe_rounds.specs.declared.crew.Quietly.{Quietly}
+use Rattle.twe_rounds.specs.declared.crew.Quietly.TheVariants.{Faulted, AllDone, Stuck, Moved}
+use Rattle.floor_crew.specs.declared.at_rest.RunAtRest.{RunAtRest}
+use Rattle.floor_crew.specs.inner.GoingOn.{IsSound}
+
+-- the journal of a crew, or None once memory ran out
+abbrev pub journal_of : Option RunAtRest → Option (List Entry)
+journal_of None = None
+journal_of (Some run) = Some run.rest.journal
+
+-- the run of a crew is one of its program under its limits
+abbrev pub IsKept : Program → Bounds → Option RunAtRest → Type 0
+IsKept p lim None = Unit {0}
+IsKept p lim (Some run) = IsSound p lim run
+
+-- by the outcome of the run so far: the step takes the lowest legal move, if the run can go on, and else changes nothing
+abbrev pub Steps : Program → Bounds → RunAtRest → RunAtRest → Quietly → Type 0
+Steps p lim old new Faulted =
+    (new ≡ old) × ((task : ℕ) × (kind : FaultKind) × (place : Place) × IsOutcome old.rest.state (outcomes.Fault task kind place))
+Steps p lim old new AllDone = (new ≡ old) × IsOutcome old.rest.state outcomes.AllDone
+Steps p lim old new (Stuck cycle) = (new ≡ old) × IsOutcome old.rest.state outcomes.Stuck × IsStuckCycle old.rest.state cycle
+Steps p lim old new Moved =
+    IsOutcome old.rest.state outcomes.Unfinished
+    × ((mv : Move) × IsLowest old.rest.state mv × (new.rest.journal ≡ old.rest.journal ++ entry_of p lim old.rest.state mv ∷ []))

@@ -1,0 +1,152 @@
+//! Moves of a run at rest, up to the point at which tasks may run beside each other.
+//!
+//! A task that may run alone runs its segments at rest, and so does one whose next segment ends at once. All others wait for a
+//! round.
+ghost use Rattle.std.specs.Prelude.{◌≡◌, ◌∷◌, ◌++◌, [], OnOk};
+ghost use Rattle.twe_machine.specs.Legal.{MayMove};
+ghost use Rattle.twe_machine.specs.Runs.{entry_of};
+ghost use Rattle.floor_crew.specs.inner.GoingOn.{HasGoneOn, IsSound};
+
+use crate::at_rest::RunAtRest;
+use crate::book::Book;
+use crate::brief::is_brief;
+use crate::looking::{Found, look};
+use seg_journal::{Kind, Move};
+use std::alloc::Global;
+use twe_io::Memory;
+use twe_limits::Limits;
+use twe_machine::State;
+use twe_program::Prog;
+
+/// Takes moves until two tasks may run beside each other, or none may run. Returns whether two may.
+pub(crate) fn go_on_alone(
+    alloc: Global,
+    p: &Prog,
+    lim: Limits,
+    run: &mut RunAtRest,
+    book: &mut Book,
+) -> Result<bool, Memory>
+    requires { IsSound p.now lim run.old }
+    ensures { OnOk result (HasGoneOn p.now lim run.old.rest.journal run.new) }
+{
+    'moves: for _ in 0..u64::MAX {
+        look_at_ready(alloc, p, lim, run, book)?;
+        if run.rest.state.first_fault.is_some() {
+            return Ok(false);
+        }
+        if !go_on_once(alloc, p, lim, run, book)? {
+            return Ok(book.has_two());
+        }
+    }
+    Ok(false)
+}
+
+/// Runs the next segment that is run alone, if there is one. Returns whether there may be another, perhaps after a look at the
+/// tasks that are to be looked at.
+fn go_on_once(
+    alloc: Global,
+    p: &Prog,
+    lim: Limits,
+    run: &mut RunAtRest,
+    book: &mut Book,
+) -> Result<bool, Memory>
+    requires { IsSound p.now lim run.old }
+    ensures { OnOk result (HasGoneOn p.now lim run.old.rest.journal run.new) }
+{
+    let Some(task) = book.next_alone() else {
+        return book.look_again();
+    };
+    run_next(alloc, p, lim, run, book, task)?;
+    Ok(true)
+}
+
+/// Looks at the tasks that are to be looked at, and admits each that may be admitted.
+fn look_at_ready(
+    alloc: Global,
+    p: &Prog,
+    lim: Limits,
+    run: &mut RunAtRest,
+    book: &mut Book,
+) -> Result<(), Memory>
+    requires { IsSound p.now lim run.old }
+    ensures { OnOk result (HasGoneOn p.now lim run.old.rest.journal run.new) }
+{
+    'looks: for _ in 0..u64::MAX {
+        let Some(task) = book.next() else {
+            break;
+        };
+        look_at(alloc, p, lim, run, book, task)?;
+    }
+    Ok(())
+}
+
+/// Looks at a task, and admits it if it may be admitted.
+fn look_at(
+    alloc: Global,
+    p: &Prog,
+    lim: Limits,
+    run: &mut RunAtRest,
+    book: &mut Book,
+    task: u32,
+) -> Result<(), Memory>
+    requires { IsSound p.now lim run.old }
+    ensures { OnOk result (HasGoneOn p.now lim run.old.rest.journal run.new) }
+{
+    match look(p, &run.rest.state, &run.enabled, task) {
+        Found::Admissible => {
+            let kind = Kind::Admit;
+            take(alloc, p, lim, run, book, Move { kind, task })
+        }
+        Found::Held { by } => book.hold(task, by),
+        Found::Runs => book.add_running(task, ends_at_once(p, &run.rest.state, task)),
+        Found::Waits { on, next } => book.wait(task, on, next),
+        Found::Over => Ok(()),
+    }
+}
+
+/// Runs the next segment of a task, if it may run.
+fn run_next(
+    alloc: Global,
+    p: &Prog,
+    lim: Limits,
+    run: &mut RunAtRest,
+    book: &mut Book,
+    task: u32,
+) -> Result<(), Memory>
+    requires { IsSound p.now lim run.old }
+    ensures { OnOk result (HasGoneOn p.now lim run.old.rest.journal run.new) }
+{
+    match look(p, &run.rest.state, &run.enabled, task) {
+        Found::Runs => {
+            let kind = Kind::Run;
+            take(alloc, p, lim, run, book, Move { kind, task })
+        }
+        _ => Ok(()),
+    }
+}
+
+/// Takes a legal move, and notes it in the book.
+pub(crate) fn take(
+    alloc: Global,
+    p: &Prog,
+    lim: Limits,
+    run: &mut RunAtRest,
+    book: &mut Book,
+    mv: Move,
+) -> Result<(), Memory>
+    requires sound { IsSound p.now lim run.old }
+    requires legal { MayMove run.old.rest.state mv }
+    ensures gone { OnOk result (HasGoneOn p.now lim run.old.rest.journal run.new) }
+    ensures journal { OnOk result (run.new.rest.journal ≡ run.old.rest.journal ++ entry_of p.now lim run.old.rest.state mv ∷ []) }
+{
+    run.take(alloc, p, lim, mv)?;
+    book.read(run.rest.journal.as_slice())
+}
+
+/// Whether the next segment of a task is known to end at once.
+fn ends_at_once(p: &Prog, st: &State, task: u32) -> bool {
+    match st.tasks.get(task as usize) {
+        Some(row) => is_brief(p, &row.frame),
+        None => false,
+    }
+}

@@ -1,0 +1,202 @@
+//! The book of a run that lies still: which of its tasks are to be looked at, and which may run.
+//!
+//! The book says only where to look. Whether a move is legal is found in the state. A task that waits is kept beside the task
+//! that it waits for, and one that is held back beside a bar to it. The entries of the journal say what has changed.
+
+use seg_journal::{End, Entry};
+use std::alloc::Global;
+use std::collections::{BTreeMap, VecDeque};
+use std::mem;
+use twe_io::Memory;
+
+/// How many tasks that one bar held are found held again before the others of them wait for the next bar unseen.
+const MOST_MISSES: u32 = 8;
+
+/// How many tasks are found that may run before a round begins. The others wait for the next one.
+const MOST_RUNNING: usize = 1024;
+
+/// Which tasks are to be looked at, and which were found to wait, to be held back, or to be able to run.
+#[derive(Drop)]
+pub(crate) struct Book {
+    alloc: Global,
+    // Tasks to be looked at one by one.
+    ready: VecDeque<u32>,
+    // Tasks that one bar held, which has ended. They are looked at after those.
+    group: VecDeque<u32>,
+    // How many tasks of that group were found held again.
+    misses: u32,
+    // Whether the task that is looked at is of that group.
+    grouped: bool,
+    // Further groups.
+    freed: Vec<VecDeque<u32>>,
+    // Beside each task the one that waits for it. Only the task that made it does.
+    waiters: BTreeMap<u32, u32>,
+    // Beside each task those that were found held by it.
+    held: BTreeMap<u32, VecDeque<u32>>,
+    // Tasks that may run, and whose next segment ends at once.
+    brief: Vec<u32>,
+    // The other tasks that may run.
+    running: Vec<u32>,
+    // How many entries of the journal were read.
+    read: usize,
+    // Whether an entry was read since all tasks that were held back were looked at.
+    moved: bool,
+}
+
+impl Book {
+    /// The book of a run that has not begun.
+    pub(crate) fn new(alloc: Global) -> Self {
+        Book {
+            alloc,
+            ready: VecDeque::new(alloc),
+            group: VecDeque::new(alloc),
+            misses: 0,
+            grouped: false,
+            freed: Vec::new(alloc),
+            waiters: BTreeMap::new(alloc),
+            held: BTreeMap::new(alloc),
+            brief: Vec::new(alloc),
+            running: Vec::new(alloc),
+            read: 0,
+            moved: false,
+        }
+    }
+
+    /// Reads the entries of the journal that are new.
+    pub(crate) fn read(&mut self, journal: &[Entry]) -> Result<(), Memory> {
+        for at in self.read..journal.len() {
+            if let Some(entry) = journal.get(at) {
+                self.note(*entry)?;
+                self.moved = true;
+            }
+        }
+        self.read = journal.len();
+        Ok(())
+    }
+
+    /// Notes an entry. Its task is to be looked at again, and so is one that it has made. If its task has ended, so is the one
+    /// that waited for it, and so are those that it held.
+    fn note(&mut self, entry: Entry) -> Result<(), Memory> {
+        match entry.end {
+            End::Done { .. } => self.end(entry.mv.task),
+            End::Fault { .. } => self.end(entry.mv.task),
+            End::Made { child } => {
+                self.ready.push_back(child)?;
+                self.ready.push_back(entry.mv.task)?;
+                Ok(())
+            }
+            _ => {
+                self.ready.push_back(entry.mv.task)?;
+                Ok(())
+            }
+        }
+    }
+
+    // A task has ended.
+    fn end(&mut self, task: u32) -> Result<(), Memory> {
+        if let Some(waiter) = self.waiters.remove(&task) {
+            self.ready.push_back(waiter)?;
+        }
+        if let Some(group) = self.held.remove(&task) {
+            self.freed.push(group)?;
+        }
+        Ok(())
+    }
+
+    /// The next task to be looked at. `None` if there is none, or if so many tasks may run that a round can begin.
+    pub(crate) fn next(&mut self) -> Option<u32> {
+        if self.running.len() >= MOST_RUNNING {
+            return None;
+        }
+        self.grouped = false;
+        if let Some(task) = self.ready.pop_front() {
+            return Some(task);
+        }
+        if self.group.is_empty() {
+            self.group = self.freed.pop()?;
+            self.misses = 0;
+        }
+        self.grouped = true;
+        self.group.pop_front()
+    }
+
+    /// Keeps a task that waits until `on` has ended. `next` is a task to be looked at now, if there is one.
+    pub(crate) fn wait(&mut self, task: u32, on: u32, next: Option<u32>) -> Result<(), Memory> {
+        self.waiters.insert(on, task)?;
+        if let Some(next) = next {
+            self.ready.push_back(next)?;
+        }
+        Ok(())
+    }
+
+    /// Keeps a task that is held back until its bar has ended. If it is one of many that a bar held before, the others wait with
+    /// it.
+    pub(crate) fn hold(&mut self, task: u32, by: u32) -> Result<(), Memory> {
+        let alloc = self.alloc;
+        let group = self.held.entry(by)?.or_insert_with(|| VecDeque::new(alloc));
+        group.push_back(task)?;
+        if self.grouped {
+            self.misses = self.misses.saturating_add(1);
+            if self.misses > MOST_MISSES {
+                group.append(&mut self.group)?;
+            }
+        }
+        Ok(())
+    }
+
+    /// Keeps a task that may run. `brief` says that its next segment ends at once.
+    pub(crate) fn add_running(&mut self, task: u32, brief: bool) -> Result<(), Memory> {
+        if brief {
+            self.brief.push(task)?;
+        } else {
+            self.running.push(task)?;
+        }
+        Ok(())
+    }
+
+    /// The task whose next segment is run while the others lie still: one whose segment ends at once, or else the only one that
+    /// may run.
+    pub(crate) fn next_alone(&mut self) -> Option<u32> {
+        match self.brief.pop() {
+            Some(task) => Some(task),
+            None if self.running.len() == 1 => self.running.pop(),
+            None => None,
+        }
+    }
+
+    /// Whether two tasks may run beside each other.
+    pub(crate) fn has_two(&self) -> bool {
+        self.running.len() >= 2
+    }
+
+    /// Whether all tasks that are held back are to be looked at once more, since nothing else is left to do. So they are if an
+    /// entry was read since the last time.
+    pub(crate) fn look_again(&mut self) -> Result<bool, Memory> {
+        if !self.moved || !self.running.is_empty() {
+            return Ok(false);
+        }
+        self.moved = false;
+        let held = mem::replace(&mut self.held, BTreeMap::new(self.alloc));
+        for group in held.values() {
+            self.look_at_all(group)?;
+        }
+        Ok(true)
+    }
+
+    // All tasks of a group are to be looked at, one by one.
+    fn look_at_all(&mut self, group: &VecDeque<u32>) -> Result<(), Memory> {
+        for task in group.iter() {
+            self.ready.push_back(*task)?;
+        }
+        Ok(())
+    }
+
+    /// The tasks that may run are about to run in a round. They are to be looked at after it.
+    pub(crate) fn begin_round(&mut self) -> Result<(), Memory> {
+        for task in self.running.iter() {
+            self.ready.push_back(*task)?;
+        }
+        self.running.clear();
+        Ok(())
+    }
+}

@@ -1,0 +1,156 @@
+//! A crew whose rounds run on a floor: a run whose moves are taken one by one between the rounds, and by workers in them.
+ghost use Rattle.std.specs.Prelude.{◌≡◌, ◌≤◌, [], Some, None, IfOk, IfErr, OnOk, OnErr};
+ghost use Rattle.soundness_laws.specs.KeepsEffects.{KeepsEffects};
+ghost use Rattle.twe_machine.specs.Runs.{Legal};
+ghost use Rattle.twe_rounds.specs.Crews.{CrewRun, GoesOn, StepsQuietly, lost, state_of};
+ghost use Rattle.floor_crew.specs.Rounds.{GrowsUnlessOver};
+ghost use Rattle.floor_crew.specs.inner.GoingOn.{IsSound};
+ghost use Rattle.floor_crew.specs.inner.Keeping.{Steps};
+
+use crate::alone::take;
+use crate::at_rest::RunAtRest;
+use crate::book::Book;
+use crate::going_on::go_on;
+use flat_sched::stuck_cycle;
+use seg_journal::Journal;
+use std::alloc::Global;
+use std::marker::Model;
+use std::snapshot::Snapshot;
+use std::sync::Wait;
+use std::thread::Threads;
+use twe_io::Memory;
+use twe_limits::Limits;
+use twe_machine::{Outcome, State, lowest, outcome};
+use twe_program::Prog;
+use twe_rounds::{Gate, Quietly, lost};
+
+/// A run of a program by workers on a floor. Once memory runs out, a crew has lost its run, and answers `Memory` from then on.
+#[derive(Drop)]
+pub struct FloorCrew {
+    alloc: Global,
+    prog: Snapshot<Prog>,
+    lim: Limits,
+    workers: u32,
+    run: Option<RunAtRest>,
+    book: Book,
+}
+
+impl Model for FloorCrew {
+    ghost use Rattle.std.specs.Prelude.{◌≤◌};
+    ghost use Rattle.soundness_laws.specs.KeepsEffects.{KeepsEffects};
+    ghost use Rattle.twe_rounds.specs.Crews.{CrewRun};
+    ghost use Rattle.floor_crew.specs.inner.Keeping.{IsKept, journal_of};
+
+    ghost Value = { CrewRun };
+
+    ghost use Rattle.std.specs.Coded.{codes};
+    ghost use Rattle.twe_program.specs.contracts.program.CellDecl as cell;
+    ghost use Rattle.twe_program.specs.contracts.program.Decl as decl;
+
+    ghost coded = { Prim.hlevel (codes, cell.the_row.coded, decl.the_row.coded) };
+
+    ghost view = { λ crew. record { prog = crew.prog.value; lim = crew.lim; workers = crew.workers; journal = journal_of crew.run } };
+
+    ghost invariant = { λ crew. (1 ≤ crew.workers) × (crew.workers ≤ 64) × KeepsEffects crew.prog.value × IsKept crew.prog.value crew.lim crew.run };
+}
+
+impl FloorCrew {
+    /// A crew of this many workers, 1 to 64, for a run of the program that has not begun.
+    pub fn new(alloc: Global, p: &Prog, lim: Limits, workers: u32) -> Result<Self, Memory>
+        requires accepted { KeepsEffects p.now }
+        requires some { 1 ≤ workers }
+        requires most { workers ≤ 64 }
+        ensures { IfOk result (λ crew. crew ≡ record { prog = p.now; lim = lim; workers = workers; journal = Some [] }) }
+    {
+        let run = RunAtRest::begin(alloc, p, lim)?;
+        Ok(FloorCrew {
+            alloc,
+            prog: Snapshot::of(p),
+            lim,
+            workers,
+            run: Some(run),
+            book: Book::new(alloc),
+        })
+    }
+
+    /// Takes the lowest legal move, if the run can go on. If it cannot, the crew stays as it is, and the answer says how
+    /// the run has ended.
+    pub fn quiet_step(&mut self, p: &Prog) -> Result<Quietly, Memory>
+        requires { p.now ≡ self.old.prog }
+        ensures ok { IfOk result (StepsQuietly self.old self.new) }
+        ensures err { OnErr result (self.new ≡ lost self.old) }
+    {
+        let mut run = self.run.take().ok_or(lost())?;
+        let found = step_quietly(self.alloc, p, self.lim, &mut run, &mut self.book)?;
+        self.run = Some(run);
+        Ok(found)
+    }
+
+    /// Takes the lowest legal move, if the run can go on, and then goes on until no task may. As long as no two tasks may run
+    /// beside each other, moves are taken at rest. If two may, the workers run segments on a floor until they find no more that
+    /// may run.
+    pub fn round<R: Threads + Wait + Sync, G: Gate + Sync>(
+        &mut self,
+        rt: &R,
+        p: &Prog,
+        gate: &G,
+    ) -> Result<(), Memory>
+        requires { p.now ≡ self.old.prog }
+        ensures ok { OnOk result (GoesOn self.old self.new) }
+        ensures longer { OnOk result (GrowsUnlessOver self.old self.new) }
+        ensures err { OnErr result (self.new ≡ lost self.old) }
+    {
+        let run = self.run.take().ok_or(lost())?;
+        let after = go_on(
+            rt,
+            self.alloc,
+            p,
+            self.lim,
+            self.workers,
+            run,
+            &mut self.book,
+            gate,
+        )?;
+        self.run = Some(after);
+        Ok(())
+    }
+
+    /// The journal of the run, and the state to which it leads. After a fault there may be entries of segments that had begun
+    /// before it.
+    pub fn close(self) -> Result<(Journal, State), Memory>
+        ensures journal { IfOk result (λ run. self.journal ≡ Some run.0) }
+        ensures legal { IfOk result (λ run. Legal self.prog self.lim run.0) }
+        ensures state { IfOk result (λ run. run.1 ≡ state_of self run.0) }
+        ensures lost { IfErr result (λ _. self.journal ≡ None) }
+    {
+        let FloorCrew { run, .. } = self;
+        let run = run.ok_or(lost())?;
+        Ok((run.rest.journal, run.rest.state))
+    }
+}
+
+/// A quiet step in a run.
+fn step_quietly(
+    alloc: Global,
+    p: &Prog,
+    lim: Limits,
+    run: &mut RunAtRest,
+    book: &mut Book,
+) -> Result<Quietly, Memory>
+    requires { IsSound p.now lim run.old }
+    ensures sound { OnOk result (IsSound p.now lim run.new) }
+    ensures steps { IfOk result (Steps p.now lim run.old run.new) }
+{
+    match outcome(p, &run.rest.state) {
+        Outcome::Fault { .. } => Ok(Quietly::Faulted),
+        Outcome::AllDone => Ok(Quietly::AllDone),
+        Outcome::Stuck => Ok(Quietly::Stuck(stuck_cycle(alloc, p, &run.rest.state)?)),
+        Outcome::Unfinished => {
+            let Some(mv) = lowest(p, &run.rest.state) else {
+                unreachable!()
+            };
+            take(alloc, p, lim, run, book, mv)?;
+            Ok(Quietly::Moved)
+        }
+    }
+}

@@ -1,0 +1,98 @@
+//! How a crew goes on from a run at rest: moves at rest and rounds in turn.
+ghost use Rattle.std.specs.Prelude.{◌≡◌, ◌≤◌, ◌<◌, length, IfOk};
+ghost use mathlib.Core.List.{IsPrefix};
+ghost use Rattle.soundness_laws.specs.KeepsEffects.{KeepsEffects};
+ghost use Rattle.twe_machine.specs.declared.ending.Outcome.TheVariants.{Unfinished};
+ghost use Rattle.twe_machine.specs.Runs.{IsOutcome};
+ghost use Rattle.floor_crew.specs.inner.GoingOn.{HasGoneOn, IsSound};
+
+use crate::alone::{go_on_alone, take};
+use crate::at_rest::RunAtRest;
+use crate::book::Book;
+use crate::quiet::next_move;
+use crate::round::round;
+use std::alloc::Global;
+use std::marker::Brand;
+use std::sync::Wait;
+use std::thread::Threads;
+use twe_io::Memory;
+use twe_limits::Limits;
+use twe_program::Prog;
+use twe_rounds::Gate;
+
+/// Takes the lowest legal move, if the run can go on, and then moves at rest, and a round whenever two tasks may run beside each
+/// other, until no task may go on. Returns the run after that.
+#[tactic(auto, using(twe_rounds::proofs::Beginnings::prefix_self))]
+pub(crate) fn go_on<R: Threads + Wait + Sync, G: Gate + Sync>(
+    rt: &R,
+    alloc: Global,
+    p: &Prog,
+    lim: Limits,
+    workers: u32,
+    run: RunAtRest,
+    book: &mut Book,
+    gate: &G,
+) -> Result<RunAtRest, Memory>
+    requires some { 1 ≤ workers }
+    requires accepted { KeepsEffects p.now }
+    requires sound { IsSound p.now lim run }
+    ensures sound { IfOk result (IsSound p.now lim) }
+    ensures begins { IfOk result (λ after. IsPrefix run.rest.journal after.rest.journal) }
+    ensures longer { IfOk result (λ after. IsOutcome run.rest.state Unfinished → length run.rest.journal < length after.rest.journal) }
+{
+    let mut run = run;
+    let Some(mv) = next_move(p, &run.rest.state) else {
+        return Ok(run);
+    };
+    take(alloc, p, lim, &mut run, book, mv)?;
+    go_on_from(rt, alloc, p, lim, workers, run, book, gate)
+}
+
+/// Takes moves at rest, and a round whenever two tasks may run beside each other, until no task may go on.
+#[tactic(auto, using(crate::proofs::GoingOn::still_there, crate::proofs::GoingOn::gone_on))]
+fn go_on_from<R: Threads + Wait + Sync, G: Gate + Sync>(
+    rt: &R,
+    alloc: Global,
+    p: &Prog,
+    lim: Limits,
+    workers: u32,
+    run: RunAtRest,
+    book: &mut Book,
+    gate: &G,
+) -> Result<RunAtRest, Memory>
+    requires some { 1 ≤ workers }
+    requires accepted { KeepsEffects p.now }
+    requires sound { IsSound p.now lim run }
+    ensures { IfOk result (HasGoneOn p.now lim run.rest.journal) }
+{
+    let mut run = run;
+    'rounds: for _ in rt.forever() {
+        if !go_on_alone(alloc, p, lim, &mut run, book)? {
+            return Ok(run);
+        }
+        book.begin_round()?;
+        run = side_by_side(rt, alloc, p, lim, workers, run, gate)?;
+        book.read(run.rest.journal.as_slice())?;
+    }
+    unreachable!()
+}
+
+/// The run after a round of the workers.
+fn side_by_side<R: Threads + Wait + Sync, G: Gate + Sync>(
+    rt: &R,
+    alloc: Global,
+    p: &Prog,
+    lim: Limits,
+    workers: u32,
+    run: RunAtRest,
+    gate: &G,
+) -> Result<RunAtRest, Memory>
+    requires some { 1 ≤ workers }
+    requires accepted { KeepsEffects p.now }
+    requires sound { IsSound p.now lim run }
+    ensures { IfOk result (HasGoneOn p.now lim run.rest.journal) }
+{
+    let RunAtRest { rest, .. } = run;
+    let rest = round::<Brand, R, G>(rt, alloc, p, lim, workers, rest, gate)?;
+    RunAtRest::of(alloc, p, lim, rest)
+}
