@@ -6,7 +6,7 @@ use Rattle.twe_program.specs.Program.{Program}
 use Rattle.twe_frontend.specs.Accepted.{Accepted}
 use Rattle.twe_machine.specs.declared.state.State.{State}
 use Rattle.twe_machine.specs.LowestFirst.{IsOver, LowestFirst}
-use Rattle.twe_machine.specs.Runs.{Legal, counted, state_after}
+use Rattle.twe_machine.specs.Runs.{Legal, state_after}
 use Rattle.command_line.specs.declared.command.Command.{Command}
 use Rattle.command_line.specs.declared.command.Command.TheVariants.{Check, Run, Replay, Load}
 use Rattle.command_line.specs.Words.{workers_of}
@@ -22,13 +22,12 @@ limits_to_run (Run workers lim asked) = Some lim
 limits_to_run (Replay lim) = None
 limits_to_run (Load workers n) = Some default_limits
 
--- The journal is that of a run of the program which is over and has come to this state. Nothing comes after a fault. With no
--- workers the journal is the lowest-first one.
+-- The journal is that of a run of the program which is over and has come to this state. With no workers the journal is the
+-- lowest-first one.
 pub record IsWholeRun (p : Program) (lim : Bounds) (workers : ℕ) (journal : List Entry) (st : State) : Type 0 where
   pub legal : Legal p lim journal
   pub state : st ≡ state_after p lim journal
   pub over : IsOver st
-  pub counts : counted journal ≡ journal
   pub lowest : workers ≡ 0 → LowestFirst p lim journal
 
 -- the run is the one that the command asks for

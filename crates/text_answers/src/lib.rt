@@ -5,6 +5,8 @@
 mod answer;
 mod answering;
 mod book;
+mod counting;
+mod ended;
 mod input;
 mod laws;
 mod replaying;

@@ -2,27 +2,26 @@
 ghost use Rattle.std.specs.Prelude.{◌≡◌, ◌+◌, ◌≤◌, length, IfOk};
 ghost use Rattle.seg_journal.specs.Spelling.{head_lines};
 ghost use Rattle.soundness_laws.specs.KeepsEffects.{KeepsEffects};
-ghost use Rattle.twe_machine.specs.Replays.{AreLegal, IsReplay};
-ghost use Rattle.twe_machine.specs.Runs.{counted, state_after};
+ghost use Rattle.twe_machine.specs.Replays.{IsReplay};
 ghost use Rattle.text_streams.specs.Answers.{on_err};
 ghost use Rattle.text_answers.specs.Answers.{AnswersReplay};
 ghost use Rattle.text_answers.specs.Theorem.{HasProgram, IsNew};
 ghost use Rattle.text_answers.specs.declared.status.Status.TheVariants.{BadJournal};
-ghost use Rattle.text_answers.specs.inner.Given.{AnswersFound, ArePrintsAfter, IsAnswerOfReplay};
+ghost use Rattle.text_answers.specs.inner.Given.{AnswersFound, IsAnswerOfReplay};
 
 use crate::answer::Answer;
 use crate::book::Book;
-use crate::running::answer_outcome;
+use crate::ended::answer_ended;
 use crate::status::Status;
 use determinism_results::{
     deterministic_mains_have_their_results, deterministic_tasks_have_results,
 };
 use isolation_laws::accepted_runs_are_isolated;
-use seg_journal::{End, Entry, Journal, JournalFail, JournalText, Move, read_journal};
+use seg_journal::{Journal, JournalFail, JournalText, Move, read_journal};
 use std::alloc::Global;
-use twe_io::{Bytes, Ints, Memory};
+use twe_io::{Bytes, Memory};
 use twe_limits::Limits;
-use twe_machine::{ReplayFail, State, each_thing_happens_once, outcome, replay, replay_journal};
+use twe_machine::{ReplayFail, State, each_thing_happens_once, outcome, replay_journal};
 use twe_program::Prog;
 use twe_report::{not_a_move_text, not_legal_text};
 
@@ -116,54 +115,9 @@ fn answer_replay(
     each_thing_happens_once();
     let _tasks = lim.tasks;
     let ended = outcome(&p, &st);
-    let prints = counted_prints(alloc, &p, lim, moves, &journal, &st)?;
-    let answer = answer_outcome(alloc, &p, &st, prints.as_slice(), ended)?;
+    let answer = answer_ended(alloc, &p, lim, &journal, &st, ended)?;
     book.outcome = Some(ended);
     book.journal = journal;
     book.prog = Some(p);
     Ok(answer)
-}
-
-/// The numbers that a run printed up to its first fault, or all of them if it has none. These are the moves of the run, its
-/// journal, and the state that it has come to.
-fn counted_prints(
-    alloc: Global,
-    p: &Prog,
-    lim: Limits,
-    moves: &[Move],
-    journal: &Journal,
-    st: &State,
-) -> Result<Ints, Memory>
-    requires { IsReplay p.now lim moves.now journal.now st.now }
-    ensures { IfOk result (λ prints. prints ≡ (state_after p.now lim (counted journal.now)).prints) }
-{
-    let count = counted_length(journal.as_slice());
-    if count == moves.len() {
-        return st.prints.copy(alloc);
-    }
-    prints_after(alloc, p, lim, &moves[..count])
-}
-
-/// The numbers that legal moves print.
-fn prints_after(alloc: Global, p: &Prog, lim: Limits, moves: &[Move]) -> Result<Ints, Memory>
-    requires { AreLegal p.now lim moves.now }
-    ensures { IfOk result (ArePrintsAfter p.now lim moves.now) }
-{
-    match replay(alloc, p, lim, moves) {
-        Ok(st) => st.prints.copy(alloc),
-        Err(ReplayFail::Illegal { .. }) => unreachable!(),
-        Err(ReplayFail::OutOfMemory(memory)) => Err(memory),
-    }
-}
-
-/// The number of entries up to the first fault, the fault's entry counted, or of all entries if there is none.
-fn counted_length(entries: &[Entry]) -> usize
-    ensures { result ≡ length (counted entries.now) }
-{
-    for (i, entry) in entries.iter().enumerate() {
-        if matches!(entry.end, End::Fault { .. }) {
-            return i + 1;
-        }
-    }
-    entries.len()
 }

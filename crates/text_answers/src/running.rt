@@ -1,35 +1,28 @@
 //! The run of an accepted program, and the answer to it.
 ghost use Rattle.std.specs.Prelude.{◌≡◌, Some, IfOk, OnOk};
 ghost use Rattle.soundness_laws.specs.KeepsEffects.{KeepsEffects};
-ghost use Rattle.twe_machine.specs.Runs.{IsReachable, IsOutcome};
-ghost use Rattle.twe_report.specs.Texts as texts;
-ghost use Rattle.text_streams.specs.Answers.{on_err, on_out};
-ghost use Rattle.text_answers.specs.Answers.{AnswersRun, after_prints, for_load, with_journal};
+ghost use Rattle.text_answers.specs.Answers.{for_load, with_journal};
 ghost use Rattle.text_answers.specs.Running.{IsDueForProgram, IsRunFor, IsWholeRun, limits_to_run};
 ghost use Rattle.text_answers.specs.Theorem.{IsNew};
-ghost use Rattle.text_answers.specs.declared.status.Status.TheVariants.{Done, Unfinished};
 ghost use Rattle.text_answers.specs.inner.Given.{IsAnswerOfRun};
-ghost use Rattle.twe_machine.specs.declared.ending.Outcome.TheVariants as outcomes;
 
 use crate::answer::Answer;
 use crate::book::Book;
+use crate::ended::answer_ended;
 use crate::status::Status;
 use command_line::Command;
 use determinism_results::{
     deterministic_mains_have_their_results, deterministic_tasks_have_results,
 };
-use flat_sched::{run_lowest, stuck_cycle};
+use flat_sched::run_lowest;
 use isolation_laws::accepted_runs_are_isolated;
 use seg_journal::Journal;
 use std::alloc::Global;
-use twe_io::{Bytes, Memory};
+use twe_io::Memory;
 use twe_limits::Limits;
-use twe_machine::{Outcome, State, each_thing_happens_once, outcome};
+use twe_machine::{State, each_thing_happens_once, outcome};
 use twe_program::Prog;
-use twe_report::{
-    fault_text, journal_part, load_result_text, prints_text, result_text, stuck_text,
-    unfinished_text,
-};
+use twe_report::{journal_part, load_result_text};
 
 /// The limits of the run that a command asks for, or `None` if it asks for none.
 pub fn limits_to_run(cmd: &Command) -> Option<Limits>
@@ -61,7 +54,7 @@ pub(crate) fn run_lowest_first(
 }
 
 /// The answer to the run that a command asks for. The run is over, with this journal and in this state, whoever made its moves.
-/// Afterwards the book has the program, the journal and the outcome.
+/// If entries come after the first fault, the journal is written with them, and the numbers that they printed are not. Afterwards the book has the program, the journal and the outcome.
 pub fn answer_run(
     alloc: Global,
     cmd: &Command,
@@ -115,7 +108,7 @@ fn answer_whole(
     each_thing_happens_once();
     let (_workers, _tasks) = (workers, lim.tasks);
     let ended = outcome(&p, st);
-    let answer = answer_outcome(alloc, &p, st, st.prints.as_slice(), ended)?;
+    let answer = answer_ended(alloc, &p, lim, &journal, st, ended)?;
     book.outcome = Some(ended);
     book.journal = journal;
     book.prog = Some(p);
@@ -132,72 +125,6 @@ fn answer_load(alloc: Global, n: u32, st: &State, plain: Answer) -> Result<Answe
     }
     let Answer { status, err, .. } = plain;
     Ok(Answer::on_err(alloc, status, err))
-}
-
-/// The answer to a run that has come to this state, by its outcome: its result; or, after a fault or if it is stuck, the
-/// numbers that were printed up to the first fault, with the fault or the cycle of the tasks that hold one another up; or, if
-/// it can go on, how many tasks are not done.
-pub(crate) fn answer_outcome(
-    alloc: Global,
-    p: &Prog,
-    st: &State,
-    prints: &[i32],
-    ended: Outcome,
-) -> Result<Answer, Memory>
-    requires reachable { IsReachable p.now st.now }
-    requires outcome { IsOutcome st.now ended }
-    ensures { IfOk result (AnswersRun p.now st.now prints.now ended) }
-{
-    match ended {
-        Outcome::AllDone => answer_done(alloc, p, st),
-        Outcome::Fault { task, kind, place } => {
-            let line = fault_text(alloc, task, kind, place)?;
-            answer_prints(alloc, prints, Status::Fault, line)
-        }
-        Outcome::Stuck => answer_stuck(alloc, p, st, prints),
-        Outcome::Unfinished => answer_unfinished(alloc, st),
-    }
-}
-
-/// The answer to a run in which all tasks are done.
-fn answer_done(alloc: Global, p: &Prog, st: &State) -> Result<Answer, Memory>
-    ensures { IfOk result (λ answer. answer ≡ on_out Done (texts.result_text p.now st.now)) }
-{
-    Ok(Answer::on_out(alloc, Status::Done, result_text(alloc, p, st)?))
-}
-
-/// The answer to a run that is stuck in this state.
-fn answer_stuck(alloc: Global, p: &Prog, st: &State, prints: &[i32]) -> Result<Answer, Memory>
-    requires reachable { IsReachable p.now st.now }
-    requires stuck { IsOutcome st.now outcomes.Stuck }
-    ensures { IfOk result (AnswersRun p.now st.now prints.now outcomes.Stuck) }
-{
-    let cycle = stuck_cycle(alloc, p, st)?;
-    let line = stuck_text(alloc, &cycle)?;
-    answer_prints(alloc, prints, Status::Stuck, line)
-}
-
-/// The answer to a run that can go on in this state.
-fn answer_unfinished(alloc: Global, st: &State) -> Result<Answer, Memory>
-    ensures { IfOk result (λ answer. answer ≡ on_err Unfinished (texts.unfinished_text st.now)) }
-{
-    Ok(Answer::on_err(alloc, Status::Unfinished, unfinished_text(alloc, st)?))
-}
-
-/// An answer with the printed numbers on out, and this line on err.
-fn answer_prints(
-    alloc: Global,
-    prints: &[i32],
-    status: Status,
-    line: Bytes,
-) -> Result<Answer, Memory>
-    ensures { IfOk result (λ answer. answer ≡ after_prints status prints.now line) }
-{
-    Ok(Answer {
-        status,
-        out: prints_text(alloc, prints)?,
-        err: line,
-    })
 }
 
 /// The answer with the journal after its lines on out, if `asked` is true.

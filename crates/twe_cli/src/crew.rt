@@ -13,6 +13,7 @@ ghost use Rattle.twe_cli.specs.inner.Given.{IsDueForText};
 use crate::reading::{Input, input_of};
 use crate::telling::tell;
 use command_line::Command;
+use floor_crew::{Gate, run_on_floor};
 use load_text::load_text;
 use std::alloc::Global;
 use std::sync::Wait;
@@ -21,10 +22,10 @@ use text_answers::{Answer, Book, Status, answer_run, limits_to_run, refuse};
 use twe_frontend::{FrontFail, read_program, refused_or_accepted};
 use twe_io::{Memory, Sink, Source};
 use twe_limits::Limits;
-use twe_rounds::{Gate, run_in_rounds};
 
 /// Carries out a command that asks for workers, as `twe_single` does one that asks for none. The workers run the program, each on a
-/// thread of its own if there are several, and pass the gate before each segment. Which of the legal journals it is depends on them.
+/// thread of its own if there are several, and run segments of different tasks at the same time. They pass the gate before each
+/// segment. Which of the legal journals it is depends on them.
 pub(crate) fn twe_crew<R: Threads + Wait + Sync, S: Source, O: Sink, E: Sink, G: Gate + Sync>(
     rt: &R,
     alloc: Global,
@@ -119,7 +120,7 @@ fn answer_text<R: Threads + Wait + Sync, G: Gate + Sync>(
 {
     match read_program(alloc, text) {
         Ok(p) => {
-            let (journal, st) = run_in_rounds(rt, alloc, &p, lim, cmd.workers(), gate)?;
+            let (journal, st) = run_on_floor(rt, alloc, &p, lim, cmd.workers(), gate)?;
             answer_run(alloc, cmd, p, journal, st, book)
         }
         Err(FrontFail::Refused(refusal)) => refuse(alloc, refusal, book),

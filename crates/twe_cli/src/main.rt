@@ -10,6 +10,7 @@ mod telling;
 mod tests;
 mod top;
 
+use floor_crew::FreeGate;
 use std::alloc::{AllocError, Global};
 use std::env;
 use std::io::ErrorKind;
@@ -18,7 +19,6 @@ use std::rt::Env;
 use text_answers::Book;
 use top::twe;
 use twe_io::{Memory, StdSink, StdSource, Word};
-use twe_rounds::FreeGate;
 
 fn main(rt: HostRuntime) -> ExitCode {
     let alloc = rt.alloc();

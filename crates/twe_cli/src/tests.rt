@@ -1,5 +1,6 @@
 //! What no run of the program shows: ends that fail, and workers that are at work at once. The rest is in `tests/cases/`.
 use crate::top::twe;
+use floor_crew::{FreeGate, Gate, MeetGate};
 use std::alloc::Global;
 use std::sync::Wait;
 use std::test::Fail;
@@ -8,7 +9,6 @@ use text_answers::Book;
 use twe_io::{
     Bytes, Calls, MemSink, MemSource, Memory, PlainSink, PlainSource, Sink, Source, Word,
 };
-use twe_rounds::{FreeGate, Gate, MeetGate};
 
 const INCREMENT: &[u8] = b"region A;\nint x in A = 41;\ntask void main() writes A { x = x + 1; }\n";
 
@@ -22,6 +22,14 @@ const REFUSAL: &[u8] = b"refused: E1 at 3:28\n";
 
 const TWO_TASKS: &[u8] = b"task void c() pure { }
 task void main() pure { future f = c.executeLater(); future g = c.executeLater(); }
+";
+
+const TWO_WRITERS: &[u8] = b"region A, B;
+int x in A;
+int y in B;
+task void c() writes A { x = 1; }
+task void e() writes B { y = 1; }
+task void main() pure { future f = c.executeLater(); future g = e.executeLater(); }
 ";
 
 /// Makes one call over these ends and with this gate, and says its status.
@@ -123,16 +131,37 @@ fn a_sink_of_errors_that_fails_at_any_call_keeps_what_it_took(rt: HostRuntime) -
     Ok(())
 }
 
-#[test]
-fn two_workers_run_segments_at_once(rt: HostRuntime) -> Result<(), Fail> {
-    let gate = MeetGate::new(100_000_000, false);
-    let mut src = PlainSource::new(Bytes::from_slice(rt.alloc(), TWO_TASKS)?);
-    let mut out = PlainSink::new(rt.alloc(), 200)?;
-    let mut err = PlainSink::new(rt.alloc(), 200)?;
+/// Runs a text by two workers, with this gate, and says the status and what was written.
+fn run_by_two<R: Threads + Wait + Sync>(
+    rt: &R,
+    alloc: Global,
+    text: &[u8],
+    gate: &MeetGate,
+) -> Result<(u8, Bytes), Memory> {
+    let mut src = PlainSource::new(Bytes::from_slice(alloc, text)?);
+    let mut out = PlainSink::new(alloc, 200)?;
+    let mut err = PlainSink::new(alloc, 200)?;
     let words = ["run", "--workers", "2"];
-    let status = call(&rt, rt.alloc(), &words, &mut src, &mut out, &mut err, &gate)?;
+    let status = call(rt, alloc, &words, &mut src, &mut out, &mut err, gate)?;
+    Ok((status, Bytes::from_slice(alloc, out.bytes())?))
+}
+
+#[test]
+fn two_workers_begin_segments_at_once(rt: HostRuntime) -> Result<(), Fail> {
+    let gate = MeetGate::new(100_000_000, false);
+    let (status, out) = run_by_two(&rt, rt.alloc(), TWO_TASKS, &gate)?;
     assert_eq!(rt; status, 0);
-    assert_eq!(rt; out.bytes(), b"tasks 3\n".as_slice());
+    assert_eq!(rt; out.as_slice(), b"tasks 3\n".as_slice());
+    assert!(rt; gate.met());
+    Ok(())
+}
+
+#[test]
+fn two_workers_touch_cells_at_once(rt: HostRuntime) -> Result<(), Fail> {
+    let gate = MeetGate::new(100_000_000, true);
+    let (status, out) = run_by_two(&rt, rt.alloc(), TWO_WRITERS, &gate)?;
+    assert_eq!(rt; status, 0);
+    assert_eq!(rt; out.as_slice(), b"x = 1\ny = 1\ntasks 3\n".as_slice());
     assert!(rt; gate.met());
     Ok(())
 }

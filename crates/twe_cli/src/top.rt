@@ -14,13 +14,13 @@ use crate::crew::twe_crew;
 use crate::single::twe_single;
 use crate::telling::tell;
 use command_line::{Command, WordsFail, every_list_is_decided, one_command, read_words};
+use floor_crew::Gate;
 use std::alloc::Global;
 use std::sync::Wait;
 use std::thread::Threads;
 use text_answers::{Answer, Book, Status};
 use twe_io::{Memory, Sink, Source, Word};
 use twe_report::usage_text;
-use twe_rounds::Gate;
 
 /// Carries out the command that the words mean. If it asks for workers, they run the program on threads of their own and pass the gate
 /// before each segment; else all of it happens on the calling thread.

@@ -1,11 +1,9 @@
 -- The answers to an accepted program and to a run, apart from how they came about.
-use Rattle.std.specs.Prelude.{◌≡◌, ℕ, ℤ, Bool, List}
+use Rattle.std.specs.Prelude.{◌≡◌, ℕ, Bool, List}
 use Rattle.twe_limits.specs.Limits.{Bounds}
 use Rattle.twe_program.specs.Program.{Program}
 use Rattle.twe_frontend.specs.Accepted.{Accepted}
 use Rattle.twe_machine.specs.declared.ending.Outcome.{Outcome}
-use Rattle.twe_machine.specs.declared.state.State.{State}
-use Rattle.twe_machine.specs.Replays.{IsReplay}
 use Rattle.twe_machine.specs.Runs.{state_after, counted}
 use Rattle.text_answers.specs.Answer.{Answer}
 use Rattle.text_answers.specs.declared.book.Book.{Book}
@@ -13,7 +11,6 @@ use Rattle.command_line.specs.declared.command.Command.{Command}
 use Rattle.text_answers.specs.Answers.{Due, AnswersReplay, AnswersRun, default_limits, for_load, with_journal}
 use Rattle.text_answers.specs.Theorem.{HasReplay, HasRun}
 use Rattle.text_answers.specs.Input.{program_text, journal_text}
-use Rattle.seg_journal.specs.declared.journal.Entry.{Entry}
 use Rattle.seg_journal.specs.declared.moves.Move.{Move}
 use Rattle.seg_journal.specs.declared.text.JournalText.{JournalText}
 use Rattle.seg_journal.specs.Spelling.{Spells}
@@ -37,10 +34,6 @@ abbrev pub IsAnswerOfReplay : Program → Bounds → List Move → Book → Answ
 IsAnswerOfReplay p lim moves book answer =
     (outcome : Outcome) × HasReplay p lim moves outcome book
     × AnswersRun p (state_after p lim book.journal) (state_after p lim (counted book.journal)).prints outcome answer
-
--- these are the numbers that the moves print
-abbrev pub ArePrintsAfter : Program → Bounds → List Move → List ℤ → Type 0
-ArePrintsAfter p lim moves prints = (journal : List Entry) × (st : State) × IsReplay p lim moves journal st × (prints ≡ st.prints)
 
 -- the book has a run, and this is the answer to it
 pub record IsAnswerOfRun (p : Program) (lim : Bounds) (workers : ℕ) (book : Book) (answer : Answer) : Type 0 where

@@ -1,8 +1,8 @@
-use Rattle.std.proofs.Common.{ℤ, List, refl, sym, ◌∙◌, subst}
+use Rattle.std.proofs.Common.{refl, sym, subst}
 use Rattle.twe_limits.specs.Limits.{Bounds, IsWithin}
 use Rattle.twe_program.specs.WellFormed.{IsWellFormed}
 use Rattle.twe_machine.specs.declared.state.State.{State}
-use Rattle.twe_machine.specs.Runs.{AllTasksDone, EachOnce, IsOutcome, state_after}
+use Rattle.twe_machine.specs.Runs.{AllTasksDone, EachOnce, IsOutcome, counted, state_after}
 use Rattle.twe_machine.specs.declared.ending.Outcome.TheVariants.{AllDone}
 use Rattle.text_answers.specs.Answers.{AnswersRun}
 use Rattle.text_answers.proofs.Outcomes.{has_journal}
@@ -31,6 +31,5 @@ returns c =
         has = has_journal p lim journal st ended run c.outcome-ended.ensures once (laws.at_most_once p lim journal well run.legal) isolated covered results of_main _ refl c.requires.new.refusal refl refl;
         replays = c.requires.replayed.has;
       },
-      subst (λ (xs : List ℤ). AnswersRun p (state_after p lim journal) xs ended answer) (c.as_slice.ensures ∙ c.in_ok-prints.ensures)
-          (subst (λ (s : State). AnswersRun p s c.as_slice.result.now ended answer) run.same c.in_ok-answer.ensures),
+      subst (λ (s : State). AnswersRun p s (state_after p lim (counted journal)).prints ended answer) run.same c.in_ok-answer.ensures,
     )

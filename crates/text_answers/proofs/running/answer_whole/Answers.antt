@@ -1,19 +1,18 @@
-use Rattle.std.proofs.Common.{ℤ, List, refl, sym, subst}
-use Rattle.seg_journal.specs.declared.journal.Entry.{Entry}
+use Rattle.std.proofs.Common.{refl, sym, subst}
 use Rattle.twe_limits.specs.Limits.{Bounds, IsWithin}
 use Rattle.twe_program.specs.WellFormed.{IsWellFormed}
 use Rattle.twe_machine.specs.declared.ending.Outcome.TheVariants.{AllDone}
 use Rattle.twe_machine.specs.declared.state.State.{State}
-use Rattle.twe_machine.specs.Runs.{AllTasksDone, EachOnce, IsOutcome, state_after}
+use Rattle.twe_machine.specs.Runs.{AllTasksDone, EachOnce, IsOutcome, counted, state_after}
 use Rattle.text_answers.specs.Answers.{AnswersRun}
 use Rattle.text_answers.proofs.Outcomes.{has_journal}
 use Rattle.text_answers.proofs.running.answer_whole.Goals as goal
 
-pub answer_outcome-requires : goal.answer_outcome-requires
-answer_outcome-requires c =
+pub answer_ended-requires : goal.answer_ended-requires
+answer_ended-requires c =
     let ran = c.requires.whole in
     record {
-      reachable = (c.args.lim, record { journal = c.args.journal; legal = ran.legal; same = ran.state });
+      run = record { legal = ran.legal; same = ran.state };
       outcome = c.outcome-ended.ensures;
     }
 
@@ -44,6 +43,5 @@ returns-clause-answer c =
         lowest = ran.lowest;
         over = ran.over ended is;
       };
-      answers = subst (λ (counts : List Entry). AnswersRun p (state_after p lim journal) (state_after p lim counts).prints ended answer) (sym ran.counts)
-          (subst (λ (s : State). AnswersRun p s s.prints ended answer) ran.state (subst (λ (xs : List ℤ). AnswersRun p st xs ended answer) c.as_slice.ensures c.in_ok-answer.ensures));
+      answers = subst (λ (s : State). AnswersRun p s (state_after p lim (counted journal)).prints ended answer) ran.state c.in_ok-answer.ensures;
     }

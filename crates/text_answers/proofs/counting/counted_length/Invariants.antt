@@ -1,6 +1,6 @@
 use Rattle.std.proofs.Common.{◌≡◌, ◌+◌, drop, length}
 use Rattle.twe_machine.specs.Runs.{counted}
-use Rattle.text_answers.proofs.replaying.counted_length.Given as goal
+use Rattle.text_answers.proofs.counting.counted_length.Given as goal
 
 -- no entry before this place is a fault
 abbrev pub invariant-loop-i : goal.invariant-loop-i

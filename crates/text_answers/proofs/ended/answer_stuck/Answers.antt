@@ -1,6 +1,6 @@
 use Rattle.flat_sched.specs.Stuck.{IsCycleOfReasons}
 use Rattle.text_answers.proofs.Outcomes.{stuck_answer}
-use Rattle.text_answers.proofs.running.answer_stuck.Goals as goal
+use Rattle.text_answers.proofs.ended.answer_stuck.Goals as goal
 
 -- the cycle is the one of the stuck run
 pub returns : goal.returns
