@@ -2,8 +2,8 @@
 
 use crate::access::Access;
 use crate::gate::Gate;
+use crate::look::Look;
 use crate::own_deck::OwnDeck;
-use crate::run_core::Look;
 use crate::waiting::Waiting;
 use crossbeam_utils::Backoff;
 use seg_journal::End;
