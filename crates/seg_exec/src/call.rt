@@ -197,7 +197,8 @@ impl<'a> Machine<'a> {
         operation: Operation,
         place: Place,
     ) -> Result<Request, Memory>
-        ensures { IfOk result (λ request. (request, config_of self.new) ≡ asked_unit place (config_of self.old) (λ c. on (to_do (Suspend operation []) c))) }
+        ensures { IfOk result (λ request. (request, config_of self.new)
+            ≡ asked_unit place (config_of self.old) (λ c. on (to_do (Suspend operation []) c))) }
     {
         if self.fuel == 0 {
             return Ok(fault(FaultKind::Fuel, place));

@@ -1,0 +1,45 @@
+//! The laws on what workers learn of nodes and of waits, and the law that admission rests on.
+ghost use Rattle.std.specs.Prelude.{◌≡◌, ℕ, List};
+ghost use Rattle.region_paths.specs.declared.elements.Elem.{Elem};
+ghost use Rattle.twe_limits.specs.Limits.{Bounds};
+ghost use Rattle.twe_program.specs.Program.{Program};
+ghost use Rattle.twe_machine.specs.Legal.{MayAdmit};
+ghost use Rattle.twe_machine.specs.Runs.{state_after};
+ghost use Rattle.journal_merge.specs.declared.numbered.NumberedEntry.{NumberedEntry};
+ghost use Rattle.journal_merge.specs.Merging.{journal_of};
+ghost use Rattle.floor_rule.specs.declared.view.Phase.TheVariants.{Waits};
+ghost use Rattle.floor_rule.specs.Floors.{Floor};
+ghost use Rattle.admission_core.specs.States.{IsAmong, Record, State};
+ghost use Rattle.node_rule.specs.Fitting.{IsPlaced};
+ghost use Rattle.node_rule.specs.FactSteps.{FindsClear, HasPlacedAll, IsKnownToWait, after_finding_clear, after_following};
+ghost use Rattle.node_rule.specs.Rule.{KeepsBoth, KeepsNodes};
+ghost use Rattle.node_rule.specs.Trees.{Tree};
+
+/// Each record that stands is of a task that was made and of one of its effects, and stands at that effect's place.
+pub fn records_stand_at_their_places()
+    ensures { (nodes : List (List Elem)) (p : Program) (lim : Bounds) (log : List NumberedEntry) (f : Floor) (tree : Tree)
+        (core : State) (r : Record) → KeepsBoth nodes p lim log f tree core → IsAmong r core.records
+        → IsPlaced nodes (state_after p lim (journal_of log)) r }
+{}
+
+/// If a worker has placed a record for each effect of a task that is still to be admitted, the admission of the task is
+/// legal: each enabled task that interferes with it yields to it.
+pub fn a_placed_task_is_legal_to_admit()
+    ensures { (nodes : List (List Elem)) (p : Program) (lim : Bounds) (log : List NumberedEntry) (f : Floor) (tree : Tree)
+        (core : State) (i t : ℕ) → KeepsBoth nodes p lim log f tree core → HasPlacedAll nodes f.held tree i t
+        → MayAdmit (state_after p lim (journal_of log)) t }
+{}
+
+/// A worker that has the turn of a task, and finds no record of it in the content of a node, knows that none stands there.
+pub fn finding_a_node_clear_keeps_the_rule()
+    ensures { (nodes : List (List Elem)) (p : Program) (lim : Bounds) (log : List NumberedEntry) (f : Floor) (tree : Tree)
+        (core : State) (i t n : ℕ) → KeepsBoth nodes p lim log f tree core → FindsClear f.held tree i t n
+        → KeepsNodes nodes p lim log f (after_finding_clear tree i t n) core }
+{}
+
+/// A worker that knows of a chain of waits, and finds that its last task waits for another, knows that chain too.
+pub fn following_a_wait_keeps_the_rule()
+    ensures { (nodes : List (List Elem)) (p : Program) (lim : Bounds) (log : List NumberedEntry) (f : Floor) (tree : Tree)
+        (core : State) (i s u v : ℕ) → KeepsBoth nodes p lim log f tree core → IsKnownToWait tree i s u → f.phases u ≡ Waits v
+        → KeepsNodes nodes p lim log f (after_following tree i s v) core }
+{}
