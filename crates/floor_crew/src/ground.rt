@@ -12,7 +12,7 @@ use task_floor::{Floor, FloorWorker, Served};
 use twe_io::Memory;
 use twe_limits::Limits;
 use twe_program::Prog;
-use twe_rounds::Look;
+use twe_rounds::{Gate, Look};
 
 /// The floor of a round.
 #[derive(Drop)]
@@ -92,10 +92,11 @@ impl<'a, N: Named, F: Located> Ground<'a, N, F> {
     }
 
     /// Lets a worker run the next segment of a task. `None` if no task of this number may be made.
-    pub(crate) fn serve(
+    pub(crate) fn serve<G: Gate>(
         &self,
         worker: FloorWorker,
         task: u32,
+        gate: &G,
     ) -> Result<(FloorWorker, Option<Served>), Memory>
         requires { IsOtherOn F.table worker }
         ensures { IfOk result (λ served. IsOtherOn F.table served.0) }
@@ -105,7 +106,7 @@ impl<'a, N: Named, F: Located> Ground<'a, N, F> {
         }
         let (worker, served) = self
             .floor
-            .serve(self.alloc, self.p, self.lim, worker, task)?;
+            .serve(self.alloc, self.p, self.lim, worker, task, gate)?;
         Ok((worker, Some(served)))
     }
 

@@ -59,7 +59,7 @@ impl<F: Located> Hand<F> {
         site: &Site<'_, G>,
     ) {
         let worker = self.worker.take();
-        let mut access = OnFloor::new(ground, worker);
+        let mut access = OnFloor::new(ground, site.gate, worker);
         self.player.work(rt, &mut access, site);
         self.worker = access.into_worker();
     }

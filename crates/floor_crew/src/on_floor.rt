@@ -11,15 +11,17 @@ use seg_journal::End;
 use std::marker::Model;
 use task_floor::{FloorWorker, Served};
 use twe_io::Memory;
-use twe_rounds::{Access, Look, Waiting, lost};
+use twe_rounds::{Access, Gate, Look, Waiting, lost};
 
 /// How many awaited tasks a worker looks at before it goes on.
 const GLANCES: usize = 64;
 
 /// A worker's way to the floor.
 #[derive(Drop)]
-pub(crate) struct OnFloor<'a, N: Named, F: Located> {
+pub(crate) struct OnFloor<'a, N: Named, F: Located, G> {
     ground: &'a Ground<'a, N, F>,
+    // What is told of each access to a cell.
+    gate: &'a G,
     // `None` once the worker found no memory.
     worker: Option<FloorWorker>,
     // A task whose turn another worker had. That one goes on with it.
@@ -27,7 +29,7 @@ pub(crate) struct OnFloor<'a, N: Named, F: Located> {
     ended: Ended,
 }
 
-impl<'a, N: Named, F: Located> Model for OnFloor<'a, N, F> {
+impl<'a, N: Named, F: Located, G> Model for OnFloor<'a, N, F, G> {
     ghost use Rattle.std.specs.Prelude.{Option, IfSome};
     ghost use Rattle.task_floor.specs.Segments.{StandValue};
     ghost use Rattle.floor_crew.specs.inner.Lent.{IsOtherOn};
@@ -39,13 +41,18 @@ impl<'a, N: Named, F: Located> Model for OnFloor<'a, N, F> {
     ghost invariant = { λ access. IfSome access.worker (IsOtherOn F.table) };
 }
 
-impl<'a, N: Named, F: Located> OnFloor<'a, N, F> {
+impl<'a, N: Named, F: Located, G: Gate> OnFloor<'a, N, F, G> {
     /// The way of this worker.
-    pub(crate) fn new(ground: &'a Ground<'a, N, F>, worker: Option<FloorWorker>) -> Self
+    pub(crate) fn new(
+        ground: &'a Ground<'a, N, F>,
+        gate: &'a G,
+        worker: Option<FloorWorker>,
+    ) -> Self
         requires { IfSome worker (IsOtherOn F.table) }
     {
         OnFloor {
             ground,
+            gate,
             worker,
             busy: None,
             ended: Ended::new(ground.alloc()),
@@ -89,7 +96,7 @@ impl<'a, N: Named, F: Located> OnFloor<'a, N, F> {
     }
 }
 
-impl<'a, N: Named, F: Located> Access for OnFloor<'a, N, F> {
+impl<'a, N: Named, F: Located, G: Gate> Access for OnFloor<'a, N, F, G> {
     fn look(&mut self, task: u32) -> Result<Look, Memory> {
         if self.busy.take() == Some(task) {
             return Ok(Look::Over);
@@ -109,7 +116,7 @@ impl<'a, N: Named, F: Located> Access for OnFloor<'a, N, F> {
         let Some(worker) = self.worker.take() else {
             return Err(lost());
         };
-        let (worker, served) = self.ground.serve(worker, task)?;
+        let (worker, served) = self.ground.serve(worker, task, self.gate)?;
         self.worker = Some(worker);
         match served {
             Some(Served::Ran { end }) => {

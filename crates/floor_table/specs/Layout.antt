@@ -8,8 +8,9 @@ use Rattle.floor_rule.specs.declared.view.Phase.{Phase}
 use Rattle.floor_rule.specs.declared.view.Phase.TheVariants.{Absent, Made, Running, Waits, Done, Faulted}
 use Rattle.floor_rule.specs.Floors.{TurnWord, Free, Taken, New}
 
--- Word 0 is the clock. The words up to the first cell are not used, so that the clock has a cache line of its own. The cells
--- follow, and then for each task its turn word and its phase word.
+-- Word 0 is the clock. The cells follow, and then for each task its turn word and its phase word. Before the first cell and
+-- behind the last one are words that are not used. So no cell is less than eight words away from the clock or from a turn word:
+-- it lies in no cache line of 64 bytes with them, wherever the table begins.
 abbrev pub clock_place : ℕ
 clock_place = 0
 
@@ -17,14 +18,14 @@ abbrev pub cell_place : ℕ → ℕ
 cell_place c = 8 + c
 
 abbrev pub turn_place : Program → ℕ → ℕ
-turn_place p t = 8 + cell_count p + 2 * t
+turn_place p t = 16 + cell_count p + 2 * t
 
 abbrev pub phase_place : Program → ℕ → ℕ
-phase_place p t = 8 + cell_count p + 2 * t + 1
+phase_place p t = 16 + cell_count p + 2 * t + 1
 
 -- how many words there are
 abbrev pub word_count : Program → Bounds → ℕ
-word_count p lim = 8 + cell_count p + 2 * lim.tasks
+word_count p lim = 16 + cell_count p + 2 * lim.tasks
 
 -- the clock counts entries by 1 and makes by 2 ^ 45
 abbrev pub entries_of_clock : ℕ → ℕ

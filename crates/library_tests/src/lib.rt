@@ -1,13 +1,17 @@
 //! Tests of the libraries that no run of the program shows: a printed tree, the text of a journal, the sequential execution
-//! of a task, and the quiet points of a floor. They also show that each call which may run out of memory can succeed. They
-//! stand in a crate of their own, since a crate with tests is proved twice.
+//! of a task, the quiet points of a floor, and a worker on it. They also show that each call which may run out of memory can
+//! succeed. They stand in a crate of their own, since a crate with tests is proved twice.
 #![tactic(auto)]
 
 #[cfg(test)]
 mod elisions;
+#[cfg(test)]
+mod family;
 #[cfg(test)]
 mod journals;
 #[cfg(test)]
 mod printing;
 #[cfg(test)]
 mod resting;
+#[cfg(test)]
+mod serving;

@@ -5,6 +5,7 @@ ghost use Rattle.twe_program.specs.WellFormed.{IsWellFormed};
 ghost use Rattle.soundness_laws.specs.KeepsEffects.{KeepsEffects};
 ghost use Rattle.twe_machine.specs.Runs.{IsRun};
 
+use crate::family::FAMILY;
 use floor_table::Named;
 use seg_journal::{Kind, Move};
 use std::alloc::Global;
@@ -16,10 +17,6 @@ use twe_io::Memory;
 use twe_limits::Limits;
 use twe_machine::{State, TaskRow, TaskStatus, replay_journal};
 use twe_program::Prog;
-
-/// `main` prints 7 and spawns two children, of which it joins the first.
-const FAMILY: &[u8] =
-    b"region D;\nint d[2] in D;\ntask int set(int j) writes D:[j] { d[j] = 5; return j + 1; }\ntask void main() writes D:[0], D:[1], Console {\n  print(7);\n  future f = set.spawn(0);\n  future g = set.spawn(1);\n  int a = f.join();\n  print(a);\n}\n";
 
 /// What a new floor rests with.
 fn rest_of_new<N: Named>(alloc: Global, p: &Prog, lim: Limits) -> Result<Rest, Memory>

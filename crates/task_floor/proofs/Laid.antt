@@ -13,7 +13,7 @@ use Rattle.floor_rule.specs.Steps.{phase_at_start}
 use Rattle.floor_rule.specs.Touches.{cell_at}
 use Rattle.floor_table.specs.Holds.{IsLaidOut, IsWordOf, slot_of_row, turn_word_of}
 use Rattle.floor_table.specs.Layout.{cell_place, phase_place, turn_place, value_of_word, word_of_phase}
-use Rattle.task_floor.specs.inner.Laying.{AreWordsOf, head_words, held_slot, made_words, unmade_words}
+use Rattle.task_floor.specs.inner.Laying.{AreWordsOf, gap_words, head_words, held_slot, made_words, unmade_words}
 
 -- beyond the first of two lists
 pub get_past : {A : Type 0} (a b : List A) (i j : ℕ) → i ≡ length a + j → get_elem? (a ++ b) i ≡ get_elem? b j
@@ -133,7 +133,7 @@ module _ (p : Program) (lim : Bounds) (log : List NumberedEntry) (st : State) (e
   tasks = made_words st.tasks ++ unmade_words (lim.tasks - length st.tasks)
 
   abbrev whole : List ℕ
-  whole = head_words st.asked entries ++ (cells ++ tasks)
+  whole = head_words st.asked entries ++ (cells ++ (gap_words ++ tasks))
 
   abbrev held : List (Option TaskSlot)
   held = map held_slot st.tasks ++ drop (length st.tasks) (replicate lim.tasks None)
@@ -141,27 +141,27 @@ module _ (p : Program) (lim : Bounds) (log : List NumberedEntry) (st : State) (e
   cells_count : length cells ≡ cell_count p
   cells_count = as_many st.cells cells are ∙ size
 
-  whole_count : length whole ≡ 8 + cell_count p + 2 * lim.tasks
+  whole_count : length whole ≡ 16 + cell_count p + 2 * lim.tasks
   whole_count =
       let made = made_count st.tasks in
       let unmade = unmade_count (lim.tasks - length st.tasks) in
       let both = length-append (made_words st.tasks) (unmade_words (lim.tasks - length st.tasks)) in
-      let all = length-append cells tasks in
+      let all = length-append cells (gap_words ++ tasks) in
       let own = cells_count in
       omega (arith, made, unmade, both, all, own, few)
 
-  task_word : (i j : ℕ) → i ≡ 8 + cell_count p + j → get_elem? whole i ≡ get_elem? tasks j
+  task_word : (i j : ℕ) → i ≡ 16 + cell_count p + j → get_elem? whole i ≡ get_elem? tasks j
   task_word i j is =
       let own = cells_count in
-      get_past (head_words st.asked entries) (cells ++ tasks) i (cell_count p + j) (omega (arith, is))
-      ∙ get_past cells tasks (cell_count p + j) j (omega (arith, own))
+      get_past (head_words st.asked entries) (cells ++ (gap_words ++ tasks)) i (cell_count p + (8 + j)) (omega (arith, is))
+      ∙ (get_past cells (gap_words ++ tasks) (cell_count p + (8 + j)) (8 + j) (omega (arith, own)) ∙ get_past gap_words tasks (8 + j) j (omega arith))
 
   cell_word : (c : ℕ) → c < cell_count p → IsWordOf whole (cell_place c) (cell_at st.cells c)
   cell_word c below =
-      let word = word_there st.cells cells tasks c are (omega (arith, size, below)) in
+      let word = word_there st.cells cells (gap_words ++ tasks) c are (omega (arith, size, below)) in
       record {
         word = word.word;
-        there = get_past (head_words st.asked entries) (cells ++ tasks) (cell_place c) c refl ∙ word.there;
+        there = get_past (head_words st.asked entries) (cells ++ (gap_words ++ tasks)) (cell_place c) c refl ∙ word.there;
         small = word.small;
         means = word.means;
       }

@@ -222,7 +222,7 @@ module _ (p : Program) (lim : Bounds) (well : IsWellFormed p) (st : State) (reac
   pub held_all : held_in slots ≡ map slot_of st.tasks
   held_all = held_is st.tasks slots are_slots
 
-  say_rows : SayRows words (8 + cell_count p) (map slot_of st.tasks) 0 st.tasks
+  say_rows : SayRows words (16 + cell_count p) (map slot_of st.tasks) 0 st.tasks
   say_rows = record {
     are = λ t n row is there.
         let here : IsRow st n row = subst (λ (k : ℕ). IsRow st k row) (omega (arith, is)) there in
@@ -230,12 +230,12 @@ module _ (p : Program) (lim : Bounds) (well : IsWellFormed p) (st : State) (reac
         ∙ ap (λ (phase : Phase). row_by (slot_of row) phase (is_joined n row.parent (map slot_of st.tasks))) (sym (rest.phases n row here));
   }
 
-  pub tasks_read : rows_from words (8 + cell_count p) (held_in slots) 0 slots ≡ st.tasks
+  pub tasks_read : rows_from words (16 + cell_count p) (held_in slots) 0 slots ≡ st.tasks
   tasks_read =
-      ap (λ (all : List TaskSlot). rows_from words (8 + cell_count p) all 0 slots) held_all
-      ∙ rows_are words (8 + cell_count p) (map slot_of st.tasks) 0 st.tasks slots are_slots say_rows
+      ap (λ (all : List TaskSlot). rows_from words (16 + cell_count p) all 0 slots) held_all
+      ∙ rows_are words (16 + cell_count p) (map slot_of st.tasks) 0 st.tasks slots are_slots say_rows
 
-  pub tasks_are : (read : List ℕ) (first : ℕ) (tasks : List TaskRow) → read ≡ words → first ≡ 8 + cell_count p → tasks ≡ rows_from read first (held_in slots) 0 slots → tasks ≡ st.tasks
+  pub tasks_are : (read : List ℕ) (first : ℕ) (tasks : List TaskRow) → read ≡ words → first ≡ 16 + cell_count p → tasks ≡ rows_from read first (held_in slots) 0 slots → tasks ≡ st.tasks
   tasks_are read first tasks same first_is is =
       is
       ∙ (ap (λ (l : List ℕ). rows_from l first (held_in slots) 0 slots) same

@@ -10,6 +10,7 @@ ghost use Rattle.floor_table.specs.Tells.{DrewOne, IsLatest, MayDraw, Seat, cloc
 ghost use Rattle.task_floor.specs.Committing.{HasCommitted, MayCommitEntry, with_brought};
 ghost use Rattle.task_floor.specs.inner.Bringing.{MayBring};
 
+use crate::clock::{asked_of, clock_step, entries_of};
 use crate::entry_log::EntryLog;
 use crate::floor::{Floor, Stand};
 use crate::settling::{new_phase, settle, take_prints};
@@ -20,9 +21,6 @@ use seg_exec::Stop;
 use seg_journal::{End, Entry, Kind, Limits, Move};
 use std::alloc::Global;
 
-/// What the clock rises by if a task is made; it rises by 1 for each entry.
-const MAKE: u64 = 35_184_372_088_832;
-
 /// An entry that was drawn.
 #[derive(Clone, Copy, Debug, PartialEq, Eq)]
 pub struct Committed {
@@ -30,34 +28,6 @@ pub struct Committed {
     pub number: u64,
     /// How it ends.
     pub end: End,
-}
-
-/// What the clock rises by at an entry whose segment stops so.
-fn clock_step(stop: &Stop) -> u64
-    ensures { result ≡ clock_step stop.now }
-{
-    match stop {
-        Stop::Make { .. } => MAKE + 1,
-        Stop::Waits { .. } => 1,
-        Stop::Joins { .. } => 1,
-        Stop::Done { .. } => 1,
-        Stop::Fault { .. } => 1,
-    }
-}
-
-/// How many entries were drawn, if the clock says this.
-fn entries_of(clock: u64) -> u64
-    ensures { result ≡ entries_of_clock clock }
-{
-    clock % MAKE
-}
-
-/// How many tasks were asked for, if the clock says this.
-fn asked_of(clock: u64) -> u32
-    ensures value { result ≡ asked_of_clock clock }
-    ensures few { result + 1 < 2 ^ 32 }
-{
-    (clock / MAKE) as u32
 }
 
 impl<N: Named> Floor<N> {

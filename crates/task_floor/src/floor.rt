@@ -69,7 +69,7 @@ impl<N: Named> Floor<N> {
         ensures { result ≡ turn_place N.prog task }
     {
         let _words = self.words;
-        8 + self.cells + 2 * task as usize
+        16 + self.cells + 2 * task as usize
     }
 
     /// Where the phase word of a task lies.
@@ -78,6 +78,6 @@ impl<N: Named> Floor<N> {
         ensures { result ≡ phase_place N.prog task }
     {
         let _words = self.words;
-        8 + self.cells + 2 * task as usize + 1
+        16 + self.cells + 2 * task as usize + 1
     }
 }

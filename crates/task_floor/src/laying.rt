@@ -1,17 +1,15 @@
 //! The words and the slots of a floor that starts from a state.
 ghost use Rattle.std.specs.Prelude.{◌≡◌, ◌<◌, ◌≤◌, ◌-◌, ◌^◌, ◌++◌, ℕ, List, None, length, map, replicate, drop, IfOk, OnOk};
 ghost use Rattle.floor_rule.specs.Rows.{slot_of};
-ghost use Rattle.task_floor.specs.inner.Laying.{AreWordsOf, head_words, held_slot, made_words, unmade_words};
+ghost use Rattle.task_floor.specs.inner.Laying.{AreWordsOf, gap_words, head_words, held_slot, made_words, unmade_words};
 
+use crate::clock::clock_of;
 use crate::row_phase::phase_of;
 use crate::words::{word_of, word_of_value};
 use floor_rule::TaskSlot;
 use std::alloc::Global;
 use twe_io::{List, Memory};
 use twe_machine::{State, TaskRow};
-
-/// What a make adds to the clock.
-const PER_MAKE: u64 = 35_184_372_088_832;
 
 /// The words that show a state after this many entries, if so many tasks may be made.
 pub(crate) fn words_of(
@@ -23,10 +21,11 @@ pub(crate) fn words_of(
     requires clock { (st.now.asked < 2 ^ 19) × (entries < 2 ^ 45) }
     requires tasks { length st.now.tasks ≤ tasks }
     ensures { IfOk result (λ words. (cells : List ℕ) × AreWordsOf st.now.cells cells
-        × (words ≡ head_words st.now.asked entries ++ (cells ++ (made_words st.now.tasks ++ unmade_words (tasks - length st.now.tasks))))) }
+        × (words ≡ head_words st.now.asked entries ++ (cells ++ (gap_words ++ (made_words st.now.tasks ++ unmade_words (tasks - length st.now.tasks)))))) }
 {
     let mut words = head_words(alloc, st.asked, entries)?;
     add_cells(&mut words, st.cells.as_slice())?;
+    add_gap(&mut words)?;
     add_made(&mut words, st.tasks.as_slice())?;
     add_unmade(&mut words, tasks - st.tasks.len() as u32)?;
     Ok(words)
@@ -37,8 +36,7 @@ fn head_words(alloc: Global, asked: u32, entries: usize) -> Result<List<u64>, Me
     requires { (asked < 2 ^ 19) × (entries < 2 ^ 45) }
     ensures { IfOk result (λ words. words ≡ head_words asked entries) }
 {
-    let clock = asked as u64 * PER_MAKE + entries as u64;
-    List::from_slice(alloc, &[clock, 0, 0, 0, 0, 0, 0, 0])
+    List::from_slice(alloc, &[clock_of(asked, entries), 0, 0, 0, 0, 0, 0, 0])
 }
 
 /// Adds the words of cells.
@@ -49,6 +47,13 @@ fn add_cells(words: &mut List<u64>, cells: &[i32]) -> Result<(), Memory>
         words.push(word_of_value(*value))?;
     }
     Ok(())
+}
+
+/// Adds the words between the last cell and the first task.
+fn add_gap(words: &mut List<u64>) -> Result<(), Memory>
+    ensures { OnOk result (words.new ≡ words.old ++ gap_words) }
+{
+    words.push_all(&[0, 0, 0, 0, 0, 0, 0, 0])
 }
 
 /// Adds the words of tasks that were made: their turns are free.

@@ -1,30 +1,15 @@
 //! How a worker leaves a task: its phase is stored, what its last entry left goes into its slot, and its turn is given.
 ghost use Rattle.std.specs.Prelude.{◌≡◌, ◌≢◌, ◌<◌, ℕ, List, Option};
-ghost use Rattle.twe_machine.specs.declared.state.TaskStatus.TheVariants.{Enabled};
-ghost use Rattle.twe_machine.specs.Rows.{awaited};
 ghost use Rattle.floor_rule.specs.declared.view.HeldTurn.{HeldTurn};
 ghost use Rattle.floor_rule.specs.declared.view.TaskSlot.{TaskSlot};
-ghost use Rattle.floor_rule.specs.Rows.{phase_at, phase_of};
+ghost use Rattle.floor_rule.specs.Rows.{phase_of};
 ghost use Rattle.floor_table.specs.declared.view.SeatKind.TheVariants.{Spent};
 ghost use Rattle.task_floor.specs.Leaving.{HasLeft, MayFinish, MayLeave, MayPark};
 
 use crate::floor::{Floor, Stand};
+use crate::row_phase::enabled_phase;
 use floor_rule::{Phase, TaskSlot};
 use floor_table::Named;
-use seg_exec::Next;
-
-/// The phase of an enabled task that does this next.
-pub(crate) fn enabled_phase(next: Next) -> Phase
-    ensures { result ≡ phase_at Enabled (awaited next) }
-{
-    match next {
-        Next::Go => Phase::Running,
-        Next::Get { on, .. } => Phase::Waits { on },
-        Next::Join { on, .. } => Phase::Waits { on },
-        Next::Closing { on } => Phase::Waits { on },
-        Next::Ended => Phase::Running,
-    }
-}
 
 impl<N: Named> Floor<N> {
     /// Leaves an enabled task whose slot is the latest that the stand has out, with what its last entry left: stores its phase,

@@ -4,6 +4,7 @@
 #![tactic(auto)]
 
 mod cells;
+mod clock;
 mod closing;
 mod emptying;
 mod entries;

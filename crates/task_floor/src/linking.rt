@@ -5,10 +5,9 @@ ghost use Rattle.wait_graph.specs.Link.{IsOrdered, link_of, new_link, with_done,
 ghost use Rattle.twe_machine.specs.Rows.{awaited, is_done_status, link_of_row};
 ghost use Rattle.task_floor.specs.inner.Reading.{links_to};
 
-use crate::row_phase::awaited;
 use std::alloc::Global;
 use twe_io::Memory;
-use twe_machine::{TaskRow, TaskStatus};
+use twe_machine::{TaskRow, TaskStatus, awaited};
 use wait_graph::Links;
 
 /// The links of the tasks with these rows.

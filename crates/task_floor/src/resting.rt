@@ -10,6 +10,7 @@ ghost use Rattle.floor_table.specs.Holds.{HasGivenAll, ShowsEnd};
 ghost use Rattle.floor_table.specs.Shown.{ShowsRest};
 ghost use Rattle.task_floor.specs.Resting.{IsRestOf};
 
+use crate::clock::asked_of;
 use crate::emptying::Emptied;
 use crate::floor::{Floor, Stand};
 use crate::linking::links_of;
@@ -59,16 +60,16 @@ impl<N: Named> Floor<N> {
     {
         let Emptied { words, slots } = left;
         let words = words.as_slice();
-        let asked = words[0] / 35_184_372_088_832;
+        let asked = asked_of(words[0]);
         let values = cells_of(alloc, words, cells)?;
-        let tasks = rows_of(alloc, words, 8 + cells, slots)?;
+        let tasks = rows_of(alloc, words, 16 + cells, slots)?;
         let links = links_of(alloc, tasks.as_slice())?;
         Ok(State {
             cells: values,
             tasks,
             links,
             prints,
-            asked: asked as u32,
+            asked,
             first_fault: first_fault_in(journal),
         })
     }

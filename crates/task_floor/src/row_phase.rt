@@ -1,4 +1,4 @@
-//! The phase of a task, by its row.
+//! The phase of a task, by its row or by its frame.
 ghost use Rattle.std.specs.Prelude.{◌≡◌};
 ghost use Rattle.twe_machine.specs.declared.state.TaskStatus.TheVariants.{Enabled};
 ghost use Rattle.twe_machine.specs.Rows.{awaited};
@@ -6,7 +6,7 @@ ghost use Rattle.floor_rule.specs.Rows.{phase_at, phase_of};
 
 use floor_rule::Phase;
 use seg_exec::Next;
-use twe_machine::{TaskRow, TaskStatus};
+use twe_machine::{TaskRow, TaskStatus, awaited};
 
 /// What the phase word of a task with this row says while nobody has its turn.
 pub(crate) fn phase_of(row: &TaskRow) -> Phase
@@ -14,31 +14,18 @@ pub(crate) fn phase_of(row: &TaskRow) -> Phase
 {
     match row.status {
         TaskStatus::Made => Phase::Made,
-        TaskStatus::Enabled => enabled_phase(awaited(row.frame.next)),
+        TaskStatus::Enabled => enabled_phase(row.frame.next),
         TaskStatus::Done => Phase::Done,
         TaskStatus::Faulted => Phase::Faulted,
     }
 }
 
-/// The phase of an enabled task whose next operation waits for this one, if it is a wait.
-fn enabled_phase(on: Option<u32>) -> Phase
-    ensures { result ≡ phase_at Enabled on }
+/// The phase of an enabled task that does this next.
+pub(crate) fn enabled_phase(next: Next) -> Phase
+    ensures { result ≡ phase_at Enabled (awaited next) }
 {
-    match on {
+    match awaited(next) {
         None => Phase::Running,
         Some(on) => Phase::Waits { on },
-    }
-}
-
-/// The task that the next operation waits for, if it is a wait.
-pub(crate) fn awaited(next: Next) -> Option<u32>
-    ensures { result ≡ awaited next }
-{
-    match next {
-        Next::Go => None,
-        Next::Get { on, .. } => Some(on),
-        Next::Join { on, .. } => Some(on),
-        Next::Closing { on } => Some(on),
-        Next::Ended => None,
     }
 }

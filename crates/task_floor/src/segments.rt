@@ -7,6 +7,7 @@ ghost use Rattle.task_floor.specs.Segments.{HasRun, MayReadCell, MayRun, MayWrit
 
 use crate::floor::{Floor, Stand};
 use floor_table::Named;
+use run_gates::Gate;
 use seg_exec::{Cells, Frame, Stop, run_segment};
 use std::alloc::Global;
 use std::marker::Model;
@@ -14,14 +15,17 @@ use twe_io::Memory;
 use twe_program::Prog;
 
 /// The cells of the floor, as the segment of one task sees them: the task whose slot is the latest that the stand has out. It
-/// has the stand while the segment is carried out. Clauses see the stand.
+/// has the stand while the segment is carried out, and tells the gate of each access before it is made. Clauses see the stand.
 #[derive(Drop)]
-pub struct Seg<'a, N: Named> {
+pub struct Seg<'a, N: Named, G> {
     floor: &'a Floor<N>,
+    gate: &'a G,
+    // The number that the gate is told.
+    task: u32,
     stand: Stand,
 }
 
-impl<'a, N: Named> Model for Seg<'a, N> {
+impl<'a, N: Named, G> Model for Seg<'a, N, G> {
     ghost use Rattle.std.specs.Prelude.{◌≡◌, ◌≢◌};
     ghost use Rattle.floor_table.specs.declared.view.SeatKind.TheVariants.{Spent};
     ghost use Rattle.task_floor.specs.Segments.{StandValue};
@@ -35,7 +39,7 @@ impl<'a, N: Named> Model for Seg<'a, N> {
 
 /// The stand knows the cells that the segment has touched: each has the value of its last touch. It may read and write what the
 /// segment may, over whatever cells. Each access is a touch of the open segment.
-impl<'a, N: Named> Cells for Seg<'a, N> {
+impl<'a, N: Named, G: Gate> Cells for Seg<'a, N, G> {
     ghost known = { stand_knows };
 
     ghost may_read = { MayReadCell N.prog };
@@ -45,43 +49,53 @@ impl<'a, N: Named> Cells for Seg<'a, N> {
     ghost rule = { StandFollows };
 
     fn get(&mut self, cell: u32) -> i32 {
+        self.gate.touch(self.task);
         self.floor.load(&mut self.stand, cell)
     }
 
     fn set(&mut self, cell: u32, value: i32) {
+        self.gate.touch(self.task);
         self.floor.store(&mut self.stand, cell, value);
     }
 }
 
-impl<'a, N: Named> Seg<'a, N> {
+impl<'a, N: Named, G> Seg<'a, N, G> {
     /// The stand, with what the segment has touched so far.
     pub fn into_stand(self) -> Stand
         ensures { result ≡ self.entry }
     {
-        let Seg { floor: _, stand } = self;
+        let Seg { stand, .. } = self;
         stand
     }
 }
 
 impl<N: Named> Floor<N> {
-    /// The cells of the floor for the segment of the task whose slot is the latest that the stand has out.
-    pub fn segment(&self, stand: Stand) -> Seg<'_, N>
+    /// The cells of the floor for the segment of the task whose slot is the latest that the stand has out. The gate is told of
+    /// each access with this number.
+    pub fn segment<'a, G: Gate>(&'a self, stand: Stand, task: u32, gate: &'a G) -> Seg<'a, N, G>
         requires here { stand.table_id ≡ self.now }
         requires live { stand.me.0.kind ≢ Spent }
         ensures { result ≡ stand }
     {
-        Seg { floor: self, stand }
+        Seg {
+            floor: self,
+            gate,
+            task,
+            stand,
+        }
     }
 
     /// Carries out the next segment of the task whose slot is the latest that the stand has out, from its frame. Returns how it
     /// stopped. The segments of other tasks go on meanwhile. After that an entry of the segment may be drawn. If the segment
-    /// stops at a make that spawns, the frame has room for the child. After `Memory` the stand is gone.
-    pub fn run(
+    /// stops at a make that spawns, the frame has room for the child. The gate is told of each access to a cell before it is
+    /// made. After `Memory` the stand is gone.
+    pub fn run<G: Gate>(
         &self,
         alloc: Global,
         p: &Prog,
         stand: Stand,
         frame: &mut Frame,
+        gate: &G,
     ) -> Result<(Stand, Stop), Memory>
         requires named { p.now ≡ N.prog }
         requires here { stand.table_id ≡ self.now }
@@ -93,7 +107,7 @@ impl<N: Named> Floor<N> {
         ensures same { IfOk result (λ ran. (ran.0.table_id ≡ stand.table_id) × (ran.0.id ≡ stand.id)) }
     {
         let _main = p.main;
-        let mut segment = self.segment(stand);
+        let mut segment = self.segment(stand, frame.task, gate);
         let stop = run_segment(alloc, p, frame, &mut segment)?;
         Ok((segment.into_stand(), stop))
     }

@@ -8,7 +8,7 @@ ghost use Rattle.floor_rule.specs.Steps.{end_after};
 ghost use Rattle.task_floor.specs.Committing.{child_row};
 ghost use Rattle.task_floor.specs.inner.Bringing.{frame_after};
 
-use crate::leaving::enabled_phase;
+use crate::row_phase::enabled_phase;
 use effect_sets::Summary;
 use floor_rule::{Phase, TaskSlot};
 use seg_exec::{Children, Frame, Next, Stop};

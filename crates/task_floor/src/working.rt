@@ -17,6 +17,7 @@ use crate::resuming::Readiness;
 use crate::served::Served;
 use floor_rule::{Phase, TaskSlot};
 use floor_table::Named;
+use run_gates::Gate;
 use seg_journal::{End, Limits};
 use std::alloc::Global;
 use std::marker::Model;
@@ -78,14 +79,16 @@ struct Holding {
 impl<N: Named> Floor<N> {
     /// Lets a worker run the next segment of a task and draw its entry, if the task's turn is free and the task may run. If
     /// the task waits for one that is done, it takes that one's value first. The segments of other tasks go on meanwhile.
-    /// Afterwards the worker has nothing in hand again. It never blocks. After `Memory` the worker is gone.
-    pub fn serve(
+    /// Afterwards the worker has nothing in hand again. The gate is told of each access to a cell before it is made. Apart
+    /// from that it never blocks. After `Memory` the worker is gone.
+    pub fn serve<G: Gate>(
         &self,
         alloc: Global,
         p: &Prog,
         lim: Limits,
         worker: FloorWorker,
         task: u32,
+        gate: &G,
     ) -> Result<(FloorWorker, Served), Memory>
         requires named { (p.now ≡ N.prog) × (lim ≡ N.lim) }
         requires here { worker.table_id ≡ self.now }
@@ -107,7 +110,7 @@ impl<N: Named> Floor<N> {
                     task,
                     slot,
                 };
-                self.serve_taken(alloc, p, lim, holding)
+                self.serve_taken(alloc, p, lim, holding, gate)
             }
             Err(busy) => {
                 let worker = FloorWorker { number, stand, log };
@@ -133,12 +136,13 @@ impl<N: Named> Floor<N> {
     }
 
     /// The same of a task whose turn was taken.
-    fn serve_taken(
+    fn serve_taken<G: Gate>(
         &self,
         alloc: Global,
         p: &Prog,
         lim: Limits,
         holding: Holding,
+        gate: &G,
     ) -> Result<(FloorWorker, Served), Memory>
         requires named { (p.now ≡ N.prog) × (lim ≡ N.lim) }
         requires here { holding.stand.table_id ≡ self.now }
@@ -163,7 +167,7 @@ impl<N: Named> Floor<N> {
             slot,
         };
         match readiness {
-            Readiness::Runs => self.run_taken(alloc, p, lim, held),
+            Readiness::Runs => self.run_taken(alloc, p, lim, held, gate),
             Readiness::Waits { on } => Ok((self.give_back(held), Served::Waits { on })),
             Readiness::Made => Ok((self.give_back(held), Served::Made)),
             Readiness::Ended => Ok((self.give_back(held), Served::Ended)),
@@ -192,12 +196,13 @@ impl<N: Named> Floor<N> {
     }
 
     /// Runs the next segment of the task in hand, draws its entry and leaves the task.
-    fn run_taken(
+    fn run_taken<G: Gate>(
         &self,
         alloc: Global,
         p: &Prog,
         lim: Limits,
         holding: Holding,
+        gate: &G,
     ) -> Result<(FloorWorker, Served), Memory>
         requires named { (p.now ≡ N.prog) × (lim ≡ N.lim) }
         requires here { holding.stand.table_id ≡ self.now }
@@ -214,7 +219,7 @@ impl<N: Named> Floor<N> {
             mut slot,
         } = holding;
         log.reserve()?;
-        let (mut stand, stop) = self.run(alloc, p, stand, &mut slot.frame)?;
+        let (mut stand, stop) = self.run(alloc, p, stand, &mut slot.frame, gate)?;
         let drawn = self.commit(alloc, lim, &mut stand, &mut log, task, &mut slot, stop);
         self.leave_after(&mut stand, task, slot, drawn.end);
         let worker = FloorWorker { number, stand, log };

@@ -1,11 +1,11 @@
 //! A worker of a round. It takes numbers of tasks from the decks and makes the moves of those tasks.
 
 use crate::access::Access;
-use crate::gate::Gate;
 use crate::look::Look;
 use crate::own_deck::OwnDeck;
 use crate::waiting::Waiting;
 use crossbeam_utils::Backoff;
+use run_gates::Gate;
 use seg_journal::End;
 use std::alloc::Global;
 use std::sync::Wait;

@@ -5,8 +5,13 @@ use Rattle.floor_rule.specs.declared.view.TaskSlot.{TaskSlot}
 use Rattle.floor_rule.specs.Rows.{phase_of, slot_of}
 use Rattle.floor_table.specs.Layout.{free_word, new_word, value_of_word, word_of_phase}
 
+-- the clock, and the words that are not used up to the first cell
 abbrev pub head_words : ℕ → ℕ → List ℕ
 head_words asked entries = (asked * 2 ^ 45 + entries) ∷ 0 ∷ 0 ∷ 0 ∷ 0 ∷ 0 ∷ 0 ∷ 0 ∷ []
+
+-- those that are not used behind the last cell
+abbrev pub gap_words : List ℕ
+gap_words = 0 ∷ 0 ∷ 0 ∷ 0 ∷ 0 ∷ 0 ∷ 0 ∷ 0 ∷ []
 
 -- each word is that of the value at its place
 abbrev pub AreWordsOf : List ℤ → List ℕ → Type 0

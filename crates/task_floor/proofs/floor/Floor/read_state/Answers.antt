@@ -1,4 +1,4 @@
-use Rattle.std.proofs.Common.{◌≡◌, ◌<◌, ◌+◌, ◌/◌, ℕ, List, map, refl, sym, ap, subst, ◌∙◌, arith}
+use Rattle.std.proofs.Common.{◌≡◌, ◌<◌, ◌+◌, ℕ, List, map, refl, sym, ap, subst, ◌∙◌, arith}
 use Rattle.std.specs.Prelude.{◌^◌, slice_index}
 use mathlib.Core.Option as core
 use lib.ListN.{get_elem?}
@@ -27,8 +27,8 @@ links_of-requires g c =
     let words = c.args.left.words in
     let slots = c.args.left.slots in
     let tasks =
-    tasks_are p lim well (state_after p lim journal) reached words slots c.requires.shows c.requires.rest c.as_slice-words.result.now (8 + c.args.cells) c.in_ok-tasks.tasks c.as_slice-words.ensures
-    (ap (λ (n : ℕ). 8 + n) c.requires.cells) c.in_ok-tasks.ensures in
+    tasks_are p lim well (state_after p lim journal) reached words slots c.requires.shows c.requires.rest c.as_slice-words.result.now (16 + c.args.cells) c.in_ok-tasks.tasks c.as_slice-words.ensures
+    (ap (λ (n : ℕ). 16 + n) c.requires.cells) c.in_ok-tasks.ensures in
     rows_ordered p lim well (state_after p lim journal) reached words slots c.requires.shows c.requires.rest c.requires.accepted.1 c.as_slice.result.now (c.as_slice.ensures ∙ tasks)
 
 pub returns : goal.returns
@@ -44,12 +44,12 @@ returns g c =
     let read = c.as_slice-words.ensures in
     let many = rest.word_count in
     let tasks =
-    tasks_are p lim well (state_after p lim journal) reached words slots c.requires.shows rest c.as_slice-words.result.now (8 + c.args.cells) c.in_ok-tasks.tasks c.as_slice-words.ensures
-    (ap (λ (n : ℕ). 8 + n) c.requires.cells) c.in_ok-tasks.ensures in
-    let clock : slice_index c.as_slice-words.result.now 0 / 2 ^ 45 ≡ (state_after p lim journal).asked =
-    ap (λ (l : List ℕ). slice_index l 0 / 2 ^ 45) read ∙ (sym (ap (λ (o : core.Option ℕ). asked_of_clock (number_at o)) (word_at words 0 (omega (arith, many)))) ∙ rest.asked) in
+    tasks_are p lim well (state_after p lim journal) reached words slots c.requires.shows rest c.as_slice-words.result.now (16 + c.args.cells) c.in_ok-tasks.tasks c.as_slice-words.ensures
+    (ap (λ (n : ℕ). 16 + n) c.requires.cells) c.in_ok-tasks.ensures in
+    let clock : c.asked_of-asked.result ≡ (state_after p lim journal).asked =
+    c.asked_of-asked.ensures.value ∙ ap (λ (l : List ℕ). asked_of_clock (slice_index l 0)) read ∙ (sym (ap (λ (o : core.Option ℕ). asked_of_clock (number_at o)) (word_at words 0 (omega (arith, many)))) ∙ rest.asked) in
     state_is p lim well (state_after p lim journal) reached words slots c.requires.shows rest c.in_ok-values.values c.in_ok-tasks.tasks c.in_ok-links.links c.args.prints
-    (slice_index c.as_slice-words.result.now 0 / 2 ^ 45) c.first_fault_in.result
+    c.asked_of-asked.result c.first_fault_in.result
     (c.in_ok-values.ensures ∙ (ap (λ (l : List ℕ). cells_from l 8 c.args.cells) read ∙ (ap (cells_from words 8) c.requires.cells ∙ rest.cells)))
     tasks
     (c.in_ok-links.ensures ∙ ap (λ (l : List TaskRow). map link_of_row l) c.as_slice.ensures)

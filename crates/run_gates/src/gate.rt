@@ -1,11 +1,12 @@
-//! Where a worker passes before each segment. Tests watch workers there; the program does not.
+//! What a worker tells of the segments that it runs. Tests watch workers there; the program does not.
 
 /// A place that workers pass. Nothing is promised of it.
 pub trait Gate {
     /// A worker is about to run a segment of this task. It holds no lock.
     fn pass(&self, task: u32);
 
-    /// A worker is about to touch a cell in a segment of this task. Over one locked core no worker calls it.
+    /// A worker is about to read or write a cell in a segment of this task. It holds no lock. A worker that runs its segments
+    /// under a lock never calls it.
     fn touch(&self, task: u32);
 }
 
