@@ -34,7 +34,7 @@ use Rattle.std.proofs.marker.PhantomData.TheSendSync as phantom
 use Rattle.twe_limits.proofs.limits.Limits.TheSendSync as limits
 use Rattle.twe_rounds.specs.contracts.game.Game as Game
 use Rattle.twe_rounds.specs.contracts.game.Game.TheInside as inside
-use Rattle.twe_rounds.specs.declared.named_run.Named.{Ghosts}
+use Rattle.twe_rounds.specs.declared.named.Named.{Ghosts}
 
 truth : IsSync (as_row bool-field)
 truth = as_row_sync bool-field (plain_sync _ _ _ _ _)

@@ -12,8 +12,6 @@ use Rattle.twe_machine.specs.declared.state.State.{State}
 use Rattle.twe_machine.specs.LowestFirst.{IsLowest}
 use Rattle.twe_machine.specs.Runs.{IsOutcome, Legal, entry_of, state_after}
 use Rattle.flat_sched.specs.Stuck.{IsStuckCycle}
-use Rattle.twe_rounds.specs.declared.run.Run.{Run}
-use Rattle.twe_rounds.specs.Keeping.{IsSound}
 use Rattle.twe_rounds.specs.declared.crew.Quietly.{Quietly}
 use Rattle.twe_rounds.specs.declared.crew.Quietly.TheVariants.{Faulted, AllDone, Stuck, Moved}
 
@@ -23,15 +21,6 @@ pub record CrewRun : Type 0 where
   pub lim : Bounds
   pub workers : ℕ
   pub journal : Option (List Entry)
-
-abbrev pub journal_of : Option Run → Option (List Entry)
-journal_of None = None
-journal_of (Some run) = Some run.journal
-
--- the run of a crew is one of its program under its limits
-abbrev pub IsKept : Program → Bounds → Option Run → Type 0
-IsKept p lim None = Unit {0}
-IsKept p lim (Some run) = IsSound p lim run
 
 -- the crew with this journal
 abbrev pub with_journal : CrewRun → List Entry → CrewRun

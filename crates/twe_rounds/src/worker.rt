@@ -1,8 +1,8 @@
 //! A worker of a round. It takes numbers of tasks from the decks and makes the moves of those tasks.
 
 use crate::access::Access;
+use crate::look::Look;
 use crate::own_deck::OwnDeck;
-use crate::run_core::Look;
 use crate::waiting::Waiting;
 use crossbeam_utils::Backoff;
 use run_gates::Gate;

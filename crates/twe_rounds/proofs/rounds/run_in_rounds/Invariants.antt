@@ -1,6 +1,0 @@
-use Rattle.std.proofs.Common.{◌≡◌}
-use Rattle.twe_rounds.proofs.rounds.run_in_rounds.Given as goal
-
--- the crew stays one of the program under the limits
-abbrev pub invariant-rounds : goal.invariant-rounds
-invariant-rounds g l = (l.crew.prog ≡ l.p) × (l.crew.lim ≡ l.fn.lim)

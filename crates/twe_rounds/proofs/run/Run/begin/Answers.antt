@@ -1,5 +1,0 @@
-use Rattle.twe_rounds.proofs.Faultless.{begins_sound}
-use Rattle.twe_rounds.proofs.run.Run.begin.Goals as goal
-
-pub returns-clause-sound : goal.returns-clause-sound
-returns-clause-sound c = begins_sound c.args.p.now c.args.lim _ c.new.ensures c.in_ok-start.ensures (c.new-2.ensures c.args.p.now c.args.lim)
