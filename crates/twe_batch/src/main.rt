@@ -7,13 +7,10 @@ mod text;
 mod top;
 mod words;
 
-use std::alloc::{AllocError, Global};
-use std::env;
-use std::io::ErrorKind;
 use std::process::ExitCode;
-use std::rt::Env;
+use text_streams::words_of;
 use top::batch_top;
-use twe_io::{Memory, StdSink, StdSource, Word};
+use twe_io::{StdSink, StdSource};
 
 fn main(rt: HostRuntime) -> ExitCode {
     let alloc = rt.alloc();
@@ -25,19 +22,4 @@ fn main(rt: HostRuntime) -> ExitCode {
     let mut err = StdSink::new(rt.stderr());
     let status = batch_top(&rt, alloc, words.as_slice(), &mut src, &mut out, &mut err);
     ExitCode::from(status.code())
-}
-
-/// The words after the program's name. Each counts, also one that is no text.
-fn words_of(rt: &(impl Env + Alloc<A = Global>)) -> Result<Vec<Word>, Memory> {
-    let mut words = Vec::new(rt.alloc());
-    match env::args(rt) {
-        Ok(args) => {
-            for word in args.skip(1) {
-                words.push(Word::from(word))?;
-            }
-        }
-        Err(e) if e.kind() == ErrorKind::OutOfMemory => return Err(Memory::from(AllocError)),
-        Err(_) => words.push(Word::new(rt.alloc()))?,
-    }
-    Ok(words)
 }

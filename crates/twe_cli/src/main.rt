@@ -10,15 +10,12 @@ mod telling;
 mod tests;
 mod top;
 
-use floor_crew::FreeGate;
-use std::alloc::{AllocError, Global};
-use std::env;
-use std::io::ErrorKind;
 use std::process::ExitCode;
-use std::rt::Env;
 use text_answers::Book;
+use text_streams::words_of;
 use top::twe;
-use twe_io::{Memory, StdSink, StdSource, Word};
+use twe_io::{StdSink, StdSource};
+use twe_rounds::FreeGate;
 
 fn main(rt: HostRuntime) -> ExitCode {
     let alloc = rt.alloc();
@@ -40,19 +37,4 @@ fn main(rt: HostRuntime) -> ExitCode {
         &mut book,
     );
     ExitCode::from(status.code())
-}
-
-/// The words after the program's name. Where one of them is no text there are none, which is no command either.
-fn words_of(rt: &(impl Env + Alloc<A = Global>)) -> Result<Vec<Word>, Memory> {
-    let mut words = Vec::new(rt.alloc());
-    match env::args(rt) {
-        Ok(args) => {
-            for word in args.skip(1) {
-                words.push(Word::from(word))?;
-            }
-        }
-        Err(e) if e.kind() == ErrorKind::OutOfMemory => return Err(Memory::from(AllocError)),
-        Err(_) => {}
-    }
-    Ok(words)
 }

@@ -6,14 +6,11 @@ mod text;
 mod top;
 mod words;
 
-use std::alloc::{AllocError, Global};
-use std::env;
-use std::io::ErrorKind;
 use std::process::ExitCode;
-use std::rt::Env;
 use text_answers::Book;
+use text_streams::words_of;
 use top::opt_top;
-use twe_io::{Memory, StdSink, StdSource, Word};
+use twe_io::{StdSink, StdSource};
 
 fn main(rt: HostRuntime) -> ExitCode {
     let alloc = rt.alloc();
@@ -34,19 +31,4 @@ fn main(rt: HostRuntime) -> ExitCode {
         &mut book,
     );
     ExitCode::from(status.code())
-}
-
-/// The words after the program's name. If one of them is no text there are none, which ask for nothing either.
-fn words_of(rt: &(impl Env + Alloc<A = Global>)) -> Result<Vec<Word>, Memory> {
-    let mut words = Vec::new(rt.alloc());
-    match env::args(rt) {
-        Ok(args) => {
-            for word in args.skip(1) {
-                words.push(Word::from(word))?;
-            }
-        }
-        Err(e) if e.kind() == ErrorKind::OutOfMemory => return Err(Memory::from(AllocError)),
-        Err(_) => {}
-    }
-    Ok(words)
 }
