@@ -20,7 +20,7 @@ use Rattle.tree_table.proofs.Locks.{lock_allowed}
 use Rattle.tree_table.proofs.Unlocks.{go_on_allowed, stop_allowed}
 
 -- a step may tell less, or the same in other words
-told : (holds : State TreeSlot TreeView → Type 0) (slots id : ℕ) (me : TreeSeat) (i : ℕ) (f : ℕ → ℕ) (tells other : ℕ → TreeSeat → Type 0)
+pub told : (holds : State TreeSlot TreeView → Type 0) (slots id : ℕ) (me : TreeSeat) (i : ℕ) (f : ℕ → ℕ) (tells other : ℕ → TreeSeat → Type 0)
     → ((n : ℕ) (after : TreeSeat) → tells n after → other n after) → Allows holds slots id me i f tells → Allows holds slots id me i f other
 told holds slots id me i f tells other more allowed s kept count at small =
     let result = allowed s kept count at small in

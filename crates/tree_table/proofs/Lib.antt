@@ -14,5 +14,10 @@ pub mod Seen
 -- Locking and unlocking.
 pub mod Locks
 pub mod Unlocks
+-- Whether two records are the same; records without one.
+pub mod Withouts
+-- Placing, removing, and finding that a node is clear.
+pub mod Marks
 -- The steps in the form in which the calls of the table ask for them.
 pub mod Calls
+pub mod MarkCalls

@@ -61,20 +61,22 @@ module _ (nodes : List (List Elem)) (p : Program) (lim : Bounds) (s : TreeTable)
   abbrev log : List NumberedEntry
   log = kept.floor.log
 
-  -- what a seat has a content of is a node
-  held_below : (n : ℕ) (content : List Record) → content_in v.kept n ≡ Some content → n < length nodes
-  held_below n content has = ⊎_elim (λ (below : n < length nodes). below) (λ (past : length nodes ≤ n). absurd (unlocked past id holds)) (below_or n (length nodes))
-    where
-      holds : Holds tree.activities id n
-      holds =
-          let fits = subst (KeptFits kept.core.records tree.activities id n) (kept_node nodes p lim s id v at n ∙ has) (kept.both.nodes_keep.contents.out id n) in
-          fits.0
+  module _ (n : ℕ) (content : List Record) (has : content_in v.kept n ≡ Some content) where
+    -- a seat holds a node that it has a content of
+    pub holds_kept : Holds tree.activities id n
+    holds_kept =
+        let fits = subst (KeptFits kept.core.records tree.activities id n) (kept_node nodes p lim s id v at n ∙ has) (kept.both.nodes_keep.contents.out id n) in
+        fits.0
 
-      unlocked : length nodes ≤ n → IsUnlocked tree.activities n
-      unlocked past =
-          let size = kept.words in
-          let free : tree.locks n ≡ Unlocked = ap lock_at (beyond s.words (lock_place p lim n) (omega (arith, size, past))) in
-          subst (LockFits f.workers tree.activities n) free (kept.both.nodes_keep.locks.words n)
+    unlocked : length nodes ≤ n → IsUnlocked tree.activities n
+    unlocked past =
+        let size = kept.words in
+        let free : tree.locks n ≡ Unlocked = ap lock_at (beyond s.words (lock_place p lim n) (omega (arith, size, past))) in
+        subst (LockFits f.workers tree.activities n) free (kept.both.nodes_keep.locks.words n)
+
+    -- and it is one
+    pub held_below : n < length nodes
+    held_below = ⊎_elim (λ (below : n < length nodes). below) (λ (past : length nodes ≤ n). absurd (unlocked past id holds_kept)) (below_or n (length nodes))
 
   -- the events
 

@@ -1,6 +1,7 @@
 //! The rule of the floor with nodes, as a rule of its table.
 ghost use Rattle.tree_table.specs.Holds.{TreeKeeps, first_tree_view};
 ghost use Rattle.tree_table.specs.Plays.{GoesOn, StopsAt, TriesNode};
+ghost use Rattle.tree_table.specs.RecordSeats.{MarksClear, MarksPlaced, MarksRemoved};
 
 use crate::record::NodeRecord;
 use crate::slot::TreeSlot;
@@ -65,4 +66,31 @@ pub struct StopAt<N: Named + Planted> {
 
 impl<N: Named + Planted> Play<TreeSlot, TreeView> for StopAt<N> {
     ghost then = { StopsAt N.prog N.lim };
+}
+
+/// A record is marked as placed.
+pub struct MarkPlaced<N: Named + Planted> {
+    of: PhantomData<N>,
+}
+
+impl<N: Named + Planted> Play<TreeSlot, TreeView> for MarkPlaced<N> {
+    ghost then = { MarksPlaced N.nodes N.prog N.lim };
+}
+
+/// A record is marked as removed.
+pub struct MarkRemoved<N: Named + Planted> {
+    of: PhantomData<N>,
+}
+
+impl<N: Named + Planted> Play<TreeSlot, TreeView> for MarkRemoved<N> {
+    ghost then = { MarksRemoved N.prog N.lim };
+}
+
+/// A node is marked as clear of a task.
+pub struct MarkClear<N: Named + Planted> {
+    of: PhantomData<N>,
+}
+
+impl<N: Named + Planted> Play<TreeSlot, TreeView> for MarkClear<N> {
+    ghost then = { MarksClear N.prog N.lim };
 }
