@@ -41,6 +41,17 @@ module _ {A : Type 0} where
   map_set f (x ∷ l) zero a b at same = let first : f b ≡ f x = same ∙ ap f (sym (some-injective x a at)) in λ k. first k ∷ map f l
   map_set {B} f (x ∷ l) (suc i) a b at same = ap (λ (t : List B). f x ∷ t) (map_set f l i a b at same)
 
+  pub take_there : (l : List A) (n i : ℕ) → i < n → get_elem? (take n l) i ≡ get_elem? l i
+  take_there l zero i low = absurd (omega (arith, low))
+  take_there [] (suc n) i low = refl
+  take_there (x ∷ l) (suc n) zero low = refl
+  take_there (x ∷ l) (suc n) (suc i) low = take_there l n i (omega (arith, low))
+
+  pub map_put : {B : Type 0} (f : A → B) (l : List A) (i : ℕ) (b : A) → map f (slice_set l i b) ≡ slice_set (map f l) i (f b)
+  map_put f [] i b = refl
+  map_put f (x ∷ l) zero b = refl
+  map_put {B} f (x ∷ l) (suc i) b = ap (λ (t : List B). f x ∷ t) (map_put f l i b)
+
   pub take_map : {B : Type 0} (f : A → B) (n : ℕ) (l : List A) → take n (map f l) ≡ map f (take n l)
   take_map f zero l = refl
   take_map f (suc n) [] = refl

@@ -21,3 +21,5 @@ pub mod Marks
 -- The steps in the form in which the calls of the table ask for them.
 pub mod Calls
 pub mod MarkCalls
+-- Loading a phase word.
+pub mod Following

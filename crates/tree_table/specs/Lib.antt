@@ -5,4 +5,5 @@ pub mod Seats
 pub mod Plays
 pub mod Without
 pub mod RecordSeats
+pub mod Follows
 pub mod inner

@@ -4,6 +4,7 @@
 #![tactic(auto)]
 
 mod activity;
+mod follow_laws;
 mod lock_laws;
 mod record;
 mod record_laws;
@@ -13,6 +14,7 @@ mod start_laws;
 mod view;
 
 pub use activity::NodeActivity;
+pub use follow_laws::a_wait_may_be_followed;
 pub use lock_laws::{a_lock_may_be_tried, a_node_may_be_left, a_seat_may_stop};
 pub use record::{KnownClear, KnownWait, NodeRecord};
 pub use record_laws::{
@@ -20,7 +22,8 @@ pub use record_laws::{
     the_others_are_left,
 };
 pub use rule::{
-    GoOn, MarkClear, MarkPlaced, MarkRemoved, Planted, StopAt, TreeLaw, TreeStart, TryNode,
+    FollowWait, GoOn, MarkClear, MarkPlaced, MarkRemoved, Planted, StopAt, TreeLaw, TreeStart,
+    TryNode,
 };
 pub use slot::{Errand, ErrandKind, TreeSlot};
 pub use start_laws::a_tree_table_may_be_opened;

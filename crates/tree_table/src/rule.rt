@@ -1,4 +1,5 @@
 //! The rule of the floor with nodes, as a rule of its table.
+ghost use Rattle.tree_table.specs.Follows.{Follows};
 ghost use Rattle.tree_table.specs.Holds.{TreeKeeps, first_tree_view};
 ghost use Rattle.tree_table.specs.Plays.{GoesOn, StopsAt, TriesNode};
 ghost use Rattle.tree_table.specs.RecordSeats.{MarksClear, MarksPlaced, MarksRemoved};
@@ -93,4 +94,13 @@ pub struct MarkClear<N: Named + Planted> {
 
 impl<N: Named + Planted> Play<TreeSlot, TreeView> for MarkClear<N> {
     ghost then = { MarksClear N.prog N.lim };
+}
+
+/// A phase is loaded to follow a wait.
+pub struct FollowWait<N: Named + Planted> {
+    of: PhantomData<N>,
+}
+
+impl<N: Named + Planted> Play<TreeSlot, TreeView> for FollowWait<N> {
+    ghost then = { Follows N.prog N.lim };
 }
