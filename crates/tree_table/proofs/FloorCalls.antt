@@ -52,7 +52,7 @@ module _ (nodes : List (List Elem)) (p : Program) (lim : Bounds) (id : ℕ) (v :
       (moved.0, moved.1, moved.2, moved.3, ((w, carried_after out a), tell, moved.4))
 
   -- a step after which the seat has the same turns
-  quiet : (s : TreeTable) (kept : TreeKeeps nodes p lim s) (at : get_elem? s.views id ≡ core.some v) (w : View) → turn_in w.turns ≡ turn_in v.floor.turns → w.worker ≡ v.floor.worker
+  pub quiet : (s : TreeTable) (kept : TreeKeeps nodes p lim s) (at : get_elem? s.views id ≡ core.some v) (w : View) → turn_in w.turns ≡ turn_in v.floor.turns → w.worker ≡ v.floor.worker
       → KeepsBeside nodes p lim s kept id v at w
   quiet s kept at w turns worker =
       let views = (fs nodes p lim s kept id v at).views in

@@ -27,3 +27,4 @@ pub mod Following
 pub mod Lifts
 pub mod FloorSteps
 pub mod FloorCalls
+pub mod TurnCalls

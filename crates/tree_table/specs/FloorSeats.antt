@@ -3,8 +3,9 @@ use Rattle.std.specs.Prelude.{◌≡◌, ◌<◌, ℕ, List, [], ◌∷◌, Opti
 use mathlib.Core.Option as core
 use Rattle.atomic_table.specs.Table.{step}
 use Rattle.twe_limits.specs.Limits.{Bounds}
+use Rattle.twe_program.specs.Program.{Program}
 use Rattle.floor_rule.specs.declared.view.TaskSlot.{TaskSlot}
-use Rattle.floor_table.specs.Plays.{FloorStep, LoadsCell, StoresCell}
+use Rattle.floor_table.specs.Plays.{FloorStep, LoadsCell, StoresCell, StoresPhase, TriesTurn}
 use Rattle.floor_table.specs.Tells.{Seat}
 use Rattle.tree_table.specs.declared.slot.TreeSlot.{TreeSlot}
 use Rattle.tree_table.specs.declared.slot.TreeSlot.TheVariants as kinds
@@ -46,3 +47,9 @@ LoadsTreeCell lim s before = TellsFloor (LoadsCell (floor_step lim s) (floor_sea
 
 abbrev pub StoresTreeCell : Bounds → TreeStep → TreeSeat → ℕ → TreeSeat → Type 0
 StoresTreeCell lim s before = TellsFloor (StoresCell (floor_step lim s) (floor_seat before)) before
+
+abbrev pub StoresTreePhase : Program → Bounds → TreeStep → TreeSeat → ℕ → TreeSeat → Type 0
+StoresTreePhase p lim s before = TellsFloor (StoresPhase p (floor_step lim s) (floor_seat before)) before
+
+abbrev pub TriesTreeTurn : Program → Bounds → TreeStep → TreeSeat → ℕ → TreeSeat → Type 0
+TriesTreeTurn p lim s before = TellsFloor (TriesTurn p (floor_step lim s) (floor_seat before)) before
