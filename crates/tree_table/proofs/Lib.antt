@@ -28,3 +28,5 @@ pub mod Lifts
 pub mod FloorSteps
 pub mod FloorCalls
 pub mod TurnCalls
+-- Seats.
+pub mod Splits

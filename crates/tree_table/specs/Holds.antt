@@ -8,7 +8,7 @@ use Rattle.twe_program.specs.Program.{Program}
 use Rattle.twe_machine.specs.declared.state.State as machine
 use Rattle.journal_merge.specs.declared.numbered.NumberedEntry.{NumberedEntry}
 use Rattle.floor_rule.specs.declared.view.TaskSlot.{TaskSlot}
-use Rattle.floor_table.specs.Holds.{IsLaidOut, TableKeeps, first_view}
+use Rattle.floor_table.specs.Holds.{IsLaidOut, TableKeeps, first_view, left_view, right_view}
 use Rattle.floor_table.specs.Layout.{word_count}
 use Rattle.admission_core.specs.States.{Record, State}
 use Rattle.node_rule.specs.Fitting.{AreRecordsAt}
@@ -27,6 +27,14 @@ pub record TreeKeeps (nodes : List (List Elem)) (p : Program) (lim : Bounds) (s 
   pub floor : TableKeeps p lim (floor_part p lim s)
   pub core : State
   pub both : KeepsBoth nodes p lim floor.log (floor_shown p lim s) (tree_of p lim s) core
+
+-- a seat is split off, which does nothing in the tree and knows nothing of nodes
+abbrev pub left_tree_view : TreeView → TreeView
+left_tree_view v = record v { floor = left_view v.floor }
+
+abbrev pub right_tree_view : TreeView → TreeView
+right_tree_view v =
+    record { floor = right_view v.floor; activity = None; kept = []; placed = []; removed = []; fresh = []; clear = []; waits = [] }
 
 -- Starts.
 

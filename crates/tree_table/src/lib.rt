@@ -10,6 +10,7 @@ mod lock_laws;
 mod record;
 mod record_laws;
 mod rule;
+mod seat_laws;
 mod slot;
 mod start_laws;
 mod view;
@@ -27,9 +28,10 @@ pub use record_laws::{
     the_others_are_left,
 };
 pub use rule::{
-    FollowWait, GoOn, LoadTreeCell, MarkClear, MarkPlaced, MarkRemoved, Planted, StopAt,
-    StoreTreeCell, StoreTreePhase, TreeLaw, TreeStart, TryNode, TryTreeTurn,
+    FollowWait, GoOn, LoadTreeCell, MarkClear, MarkPlaced, MarkRemoved, NextTreeSeat, Planted,
+    StopAt, StoreTreeCell, StoreTreePhase, TreeLaw, TreeStart, TryNode, TryTreeTurn,
 };
+pub use seat_laws::a_tree_seat_may_be_split;
 pub use slot::{Errand, ErrandKind, TreeSlot};
 pub use start_laws::a_tree_table_may_be_opened;
 pub use view::{ContentChange, TreeView};

@@ -1,14 +1,14 @@
 //! The rule of the floor with nodes, as a rule of its table.
 ghost use Rattle.tree_table.specs.FloorSeats.{LoadsTreeCell, StoresTreeCell, StoresTreePhase, TriesTreeTurn};
 ghost use Rattle.tree_table.specs.Follows.{Follows};
-ghost use Rattle.tree_table.specs.Holds.{TreeKeeps, first_tree_view};
+ghost use Rattle.tree_table.specs.Holds.{TreeKeeps, first_tree_view, left_tree_view, right_tree_view};
 ghost use Rattle.tree_table.specs.Plays.{GoesOn, StopsAt, TriesNode};
 ghost use Rattle.tree_table.specs.RecordSeats.{MarksClear, MarksPlaced, MarksRemoved};
 
 use crate::record::NodeRecord;
 use crate::slot::TreeSlot;
 use crate::view::TreeView;
-use atomic_table::{Play, TableRule};
+use atomic_table::{Play, Split, TableRule};
 use floor_table::Named;
 use journal_merge::Part;
 use std::marker::PhantomData;
@@ -41,6 +41,15 @@ impl<N: Named + Planted> TableRule<TreeSlot, TreeView, TreeStart> for TreeLaw<N>
     ghost holds = { λ start. TreeKeeps N.nodes N.prog N.lim };
 
     ghost first = { λ start. first_tree_view start.part start.records };
+}
+
+/// A seat for the next worker.
+pub struct NextTreeSeat;
+
+impl Split<TreeView> for NextTreeSeat {
+    ghost left = { left_tree_view };
+
+    ghost right = { right_tree_view };
 }
 
 /// A try to lock a node.
