@@ -30,3 +30,4 @@ pub mod FloorCalls
 pub mod TurnCalls
 -- Seats.
 pub mod Splits
+pub mod Joins

@@ -1,5 +1,5 @@
 -- The rule of the table, and how a table is laid out.
-use Rattle.std.specs.Prelude.{◌≡◌, ◌<◌, ℕ, List, [], Option, None, length, map, take}
+use Rattle.std.specs.Prelude.{◌≡◌, ◌<◌, ◌++◌, ℕ, List, [], Option, None, length, map, take}
 use mathlib.Core.Option as core
 use lib.ListN.{get_elem?}
 use Rattle.region_paths.specs.declared.elements.Elem.{Elem}
@@ -8,7 +8,7 @@ use Rattle.twe_program.specs.Program.{Program}
 use Rattle.twe_machine.specs.declared.state.State as machine
 use Rattle.journal_merge.specs.declared.numbered.NumberedEntry.{NumberedEntry}
 use Rattle.floor_rule.specs.declared.view.TaskSlot.{TaskSlot}
-use Rattle.floor_table.specs.Holds.{IsLaidOut, TableKeeps, first_view, left_view, right_view}
+use Rattle.floor_table.specs.Holds.{IsLaidOut, TableKeeps, first_view, joined_view, left_view, right_view, spent_view}
 use Rattle.floor_table.specs.Layout.{word_count}
 use Rattle.admission_core.specs.States.{Record, State}
 use Rattle.node_rule.specs.Fitting.{AreRecordsAt}
@@ -17,7 +17,7 @@ use Rattle.tree_table.specs.declared.slot.TreeSlot.{TreeSlot}
 use Rattle.tree_table.specs.declared.slot.TreeSlot.TheVariants as kinds
 use Rattle.tree_table.specs.declared.view.TreeView.{TreeView}
 use Rattle.tree_table.specs.Layout.{content_place, free_lock, lock_place, tree_slot_count, tree_word_count}
-use Rattle.tree_table.specs.TreeOf.{TreeTable, floor_part, floor_shown, tree_of}
+use Rattle.tree_table.specs.TreeOf.{TreeTable, content_in, floor_part, floor_shown, tree_of}
 
 -- The table has the words and slots of the program, the limits and the nodes. Its floor's part keeps the rule of the table of
 -- the floor, and the nodes that it shows keep theirs beside that floor, with the same log and some state of the core.
@@ -35,6 +35,27 @@ left_tree_view v = record v { floor = left_view v.floor }
 abbrev pub right_tree_view : TreeView → TreeView
 right_tree_view v =
     record { floor = right_view v.floor; activity = None; kept = []; placed = []; removed = []; fresh = []; clear = []; waits = [] }
+
+-- Two seats are joined: the first one has placed and removed what both have, and knows the waits that both know. The other one is
+-- left with nothing.
+abbrev pub joined_tree_view : TreeView → TreeView → TreeView
+joined_tree_view v w = record v {
+  floor = joined_view v.floor w.floor;
+  placed = v.placed ++ w.placed;
+  removed = v.removed ++ w.removed;
+  waits = v.waits ++ w.waits;
+}
+
+abbrev pub spent_tree_view : TreeView
+spent_tree_view =
+    record { floor = spent_view; activity = None; kept = []; placed = []; removed = []; fresh = []; clear = []; waits = [] }
+
+-- the seat does nothing in the tree, and knows nothing of the records of a task whose turn it has
+pub record HasLeftTree (v : TreeView) : Type 0 where
+  pub activity : v.activity ≡ None
+  pub kept : (n : ℕ) → content_in v.kept n ≡ None
+  pub fresh : v.fresh ≡ []
+  pub clear : v.clear ≡ []
 
 -- Starts.
 

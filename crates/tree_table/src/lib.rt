@@ -28,10 +28,11 @@ pub use record_laws::{
     the_others_are_left,
 };
 pub use rule::{
-    FollowWait, GoOn, LoadTreeCell, MarkClear, MarkPlaced, MarkRemoved, NextTreeSeat, Planted,
-    StopAt, StoreTreeCell, StoreTreePhase, TreeLaw, TreeStart, TryNode, TryTreeTurn,
+    BothTreeSeats, FollowWait, GoOn, LoadTreeCell, MarkClear, MarkPlaced, MarkRemoved,
+    NextTreeSeat, Planted, StopAt, StoreTreeCell, StoreTreePhase, TreeLaw, TreeStart, TryNode,
+    TryTreeTurn,
 };
-pub use seat_laws::a_tree_seat_may_be_split;
+pub use seat_laws::{a_tree_seat_may_be_split, tree_seats_may_be_joined};
 pub use slot::{Errand, ErrandKind, TreeSlot};
 pub use start_laws::a_tree_table_may_be_opened;
 pub use view::{ContentChange, TreeView};

@@ -1,14 +1,14 @@
 //! The rule of the floor with nodes, as a rule of its table.
 ghost use Rattle.tree_table.specs.FloorSeats.{LoadsTreeCell, StoresTreeCell, StoresTreePhase, TriesTreeTurn};
 ghost use Rattle.tree_table.specs.Follows.{Follows};
-ghost use Rattle.tree_table.specs.Holds.{TreeKeeps, first_tree_view, left_tree_view, right_tree_view};
+ghost use Rattle.tree_table.specs.Holds.{TreeKeeps, first_tree_view, joined_tree_view, left_tree_view, right_tree_view, spent_tree_view};
 ghost use Rattle.tree_table.specs.Plays.{GoesOn, StopsAt, TriesNode};
 ghost use Rattle.tree_table.specs.RecordSeats.{MarksClear, MarksPlaced, MarksRemoved};
 
 use crate::record::NodeRecord;
 use crate::slot::TreeSlot;
 use crate::view::TreeView;
-use atomic_table::{Play, Split, TableRule};
+use atomic_table::{Join, Play, Split, TableRule};
 use floor_table::Named;
 use journal_merge::Part;
 use std::marker::PhantomData;
@@ -50,6 +50,15 @@ impl Split<TreeView> for NextTreeSeat {
     ghost left = { left_tree_view };
 
     ghost right = { right_tree_view };
+}
+
+/// Two seats become one.
+pub struct BothTreeSeats;
+
+impl Join<TreeView> for BothTreeSeats {
+    ghost both = { joined_tree_view };
+
+    ghost spent = { spent_tree_view };
 }
 
 /// A try to lock a node.
