@@ -1,0 +1,80 @@
+-- What the steps on records ask of the seat that takes them, in the words of the rule on nodes, and what it knows afterwards. Each
+-- is a store to the lock word of a node that the seat has locked, and leaves the word as it was.
+use Rattle.std.specs.Prelude.{◌≡◌, ℕ, List, ◌∷◌, Some}
+use Rattle.region_paths.specs.declared.elements.Elem.{Elem}
+use Rattle.effect_sets.specs.declared.effects.Effect.{Effect}
+use Rattle.twe_limits.specs.Limits.{Bounds}
+use Rattle.twe_program.specs.Program.{Program}
+use Rattle.admission_core.specs.States.{Activity, Admit, Child, Purpose, Record, Remove, effect_of}
+use Rattle.node_rule.specs.FactSteps.{FindsClear}
+use Rattle.node_rule.specs.LockSteps.{stopped}
+use Rattle.node_rule.specs.RecordSteps.{MayPlace, MayPlaceChild, MayTakeOut, not_clear}
+use Rattle.tree_table.specs.declared.view.TreeView.{TreeView}
+use Rattle.tree_table.specs.Layout.{lock_place}
+use Rattle.tree_table.specs.Plays.{TreeStep}
+use Rattle.tree_table.specs.Seats.{TreeSeat, tree_seen, turns_seen}
+use Rattle.tree_table.specs.Without.{without}
+
+-- the task that an activity is about, and the record of its effect
+abbrev pub task_of : Purpose → ℕ
+task_of (Admit t e) = t
+task_of (Child t e) = t
+task_of (Remove t e) = t
+
+abbrev pub record_about : Activity → Record
+record_about a = record { task = task_of a.purpose; effect = effect_of a.purpose; node = a.place }
+
+-- Placing.
+
+-- A seat with this view, which does this, may place the record that it went for, at its place, which has this content: that of a
+-- task that is to be admitted, or that of a spawned child.
+pub data MayMark (nodes : List (List Elem)) (v : TreeView) (a : Activity) (content : List Record) : Type 0 where
+  marks : (t : ℕ) (e : Effect) (done : List ℕ) → MayPlace nodes (tree_seen v) 0 a t e done content → MayMark nodes v a content
+  marks_child : (c : ℕ) (e : Effect) (done : List ℕ) → MayPlaceChild (turns_seen v) (tree_seen v) 0 a c e done content → MayMark nodes v a content
+
+abbrev pub marked_view : TreeView → Activity → List Record → TreeView
+marked_view v a content = record v {
+  activity = Some (stopped a);
+  kept = record { node = a.place; content = Some (record_about a ∷ content) } ∷ v.kept;
+  placed = record_about a ∷ v.placed;
+  fresh = record_about a ∷ v.fresh;
+  clear = not_clear (task_of a.purpose) a.place v.clear;
+}
+
+abbrev pub MarksPlaced : List (List Elem) → Program → Bounds → TreeStep → TreeSeat → ℕ → TreeSeat → Type 0
+MarksPlaced nodes p lim s before found after =
+    (a : Activity) (content : List Record) → s.word ≡ lock_place p lim a.place → MayMark nodes before.0 a content
+    → after ≡ (marked_view before.0 a content, before.1)
+
+-- Removing.
+
+-- A seat with this view, which does this, may remove the record that it went for from its place, which has this content.
+pub record MayUnmark (v : TreeView) (a : Activity) (content : List Record) : Type 0 where
+  pub task : ℕ
+  pub effect : Effect
+  pub done : List ℕ
+  pub may : MayTakeOut (turns_seen v) (tree_seen v) 0 a task effect done content (without (record_about a) content) (without (record_about a) v.fresh)
+
+abbrev pub unmarked_view : TreeView → Activity → List Record → TreeView
+unmarked_view v a content = record v {
+  activity = Some (stopped a);
+  kept = record { node = a.place; content = Some (without (record_about a) content) } ∷ v.kept;
+  removed = record_about a ∷ v.removed;
+  fresh = without (record_about a) v.fresh;
+}
+
+abbrev pub MarksRemoved : Program → Bounds → TreeStep → TreeSeat → ℕ → TreeSeat → Type 0
+MarksRemoved p lim s before found after =
+    (a : Activity) (content : List Record) → s.word ≡ lock_place p lim a.place → MayUnmark before.0 a content
+    → after ≡ (unmarked_view before.0 a content, before.1)
+
+-- Finding that a node is clear.
+
+abbrev pub clear_view : TreeView → ℕ → ℕ → TreeView
+clear_view v t n = record v { clear = record { task = t; node = n } ∷ v.clear }
+
+-- a seat that holds node n and finds no record of the task that it went for there knows that
+abbrev pub MarksClear : Program → Bounds → TreeStep → TreeSeat → ℕ → TreeSeat → Type 0
+MarksClear p lim s before found after =
+    (a : Activity) (n : ℕ) → s.word ≡ lock_place p lim n → before.0.activity ≡ Some a
+    → FindsClear (turns_seen before.0) (tree_seen before.0) 0 (task_of a.purpose) n → after ≡ (clear_view before.0 (task_of a.purpose) n, before.1)

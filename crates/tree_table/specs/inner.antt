@@ -1,0 +1,2 @@
+-- What only the models of types cite.
+pub mod Activities

@@ -1,0 +1,30 @@
+//! The floor with the nodes of the tree as one table of atomic words and slots: where each word and slot lies, and the rules of
+//! the floor and of the nodes as a rule of the table. Each law says that one atomic step of a seat keeps that rule, whatever the
+//! table is when the step happens. It is what `atomic_table` asks of whoever calls that step.
+#![tactic(auto)]
+
+mod activity;
+mod follow_laws;
+mod lock_laws;
+mod record;
+mod record_laws;
+mod rule;
+mod slot;
+mod start_laws;
+mod view;
+
+pub use activity::NodeActivity;
+pub use follow_laws::a_wait_may_be_followed;
+pub use lock_laws::{a_lock_may_be_tried, a_node_may_be_left, a_seat_may_stop};
+pub use record::{KnownClear, KnownWait, NodeRecord};
+pub use record_laws::{
+    a_node_may_be_marked_clear, a_record_may_be_marked_placed, a_record_may_be_marked_removed,
+    the_others_are_left,
+};
+pub use rule::{
+    FollowWait, GoOn, MarkClear, MarkPlaced, MarkRemoved, Planted, StopAt, TreeLaw, TreeStart,
+    TryNode,
+};
+pub use slot::{Errand, ErrandKind, TreeSlot};
+pub use start_laws::a_tree_table_may_be_opened;
+pub use view::{ContentChange, TreeView};

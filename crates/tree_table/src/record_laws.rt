@@ -1,0 +1,52 @@
+//! The steps on records. Each is a store to the lock word of a node that the seat has locked, and leaves the word as it was.
+ghost use Rattle.std.specs.Prelude.{◌≡◌, ℕ, List, Some};
+ghost use Rattle.atomic_table.specs.Table.{Allows, step};
+ghost use mathlib.Core.Option.{none};
+ghost use Rattle.region_paths.specs.declared.elements.Elem.{Elem};
+ghost use Rattle.twe_limits.specs.Limits.{Bounds};
+ghost use Rattle.twe_program.specs.Program.{Program};
+ghost use Rattle.admission_core.specs.States.{Activity, Record};
+ghost use Rattle.node_rule.specs.FactSteps.{FindsClear};
+ghost use Rattle.node_rule.specs.RecordSteps.{IsWithout};
+ghost use Rattle.tree_table.specs.declared.slot.TreeSlot.{TreeSlot};
+ghost use Rattle.tree_table.specs.declared.view.TreeView.{TreeView};
+ghost use Rattle.tree_table.specs.Holds.{TreeKeeps};
+ghost use Rattle.tree_table.specs.Layout.{lock_place, taken_lock, tree_slot_count};
+ghost use Rattle.tree_table.specs.RecordSeats.{MarksClear, MarksPlaced, MarksRemoved, MayMark, MayUnmark, task_of};
+ghost use Rattle.tree_table.specs.Seats.{tree_seen, turns_seen};
+ghost use Rattle.tree_table.specs.Without.{without};
+
+/// A seat at its place may mark the record that it went for as placed.
+pub fn a_record_may_be_marked_placed()
+    ensures { (nodes : List (List Elem)) (p : Program) (lim : Bounds) (id : ℕ) (v : TreeView) (mine : List (ℕ × TreeSlot))
+        (a : Activity) (content : List Record) → MayMark nodes v a content
+        → Allows (TreeKeeps nodes p lim) (tree_slot_count nodes lim) id (v, mine) (lock_place p lim a.place)
+        (λ x. taken_lock v.floor.worker)
+        (λ x. MarksPlaced nodes p lim (step (tree_slot_count nodes lim) (lock_place p lim a.place) (taken_lock v.floor.worker) 0 none)
+        (v, mine) (taken_lock v.floor.worker)) }
+{}
+
+/// A seat at its place may mark the record that it went for as removed.
+pub fn a_record_may_be_marked_removed()
+    ensures { (nodes : List (List Elem)) (p : Program) (lim : Bounds) (id : ℕ) (v : TreeView) (mine : List (ℕ × TreeSlot))
+        (a : Activity) (content : List Record) → MayUnmark v a content
+        → Allows (TreeKeeps nodes p lim) (tree_slot_count nodes lim) id (v, mine) (lock_place p lim a.place)
+        (λ x. taken_lock v.floor.worker)
+        (λ x. MarksRemoved p lim (step (tree_slot_count nodes lim) (lock_place p lim a.place) (taken_lock v.floor.worker) 0 none)
+        (v, mine) (taken_lock v.floor.worker)) }
+{}
+
+/// A seat that holds a node and finds no record there of the task that it went for may keep that in mind.
+pub fn a_node_may_be_marked_clear()
+    ensures { (nodes : List (List Elem)) (p : Program) (lim : Bounds) (id n : ℕ) (v : TreeView) (mine : List (ℕ × TreeSlot))
+        (a : Activity) → v.activity ≡ Some a → FindsClear (turns_seen v) (tree_seen v) 0 (task_of a.purpose) n
+        → Allows (TreeKeeps nodes p lim) (tree_slot_count nodes lim) id (v, mine) (lock_place p lim n)
+        (λ x. taken_lock v.floor.worker)
+        (λ x. MarksClear p lim (step (tree_slot_count nodes lim) (lock_place p lim n) (taken_lock v.floor.worker) 0 none) (v, mine)
+        (taken_lock v.floor.worker)) }
+{}
+
+/// What `without` leaves of a list are the other records.
+pub fn the_others_are_left()
+    ensures { (r : Record) (l : List Record) → IsWithout r l (without r l) }
+{}

@@ -1,0 +1,106 @@
+//! The rule of the floor with nodes, as a rule of its table.
+ghost use Rattle.tree_table.specs.Follows.{Follows};
+ghost use Rattle.tree_table.specs.Holds.{TreeKeeps, first_tree_view};
+ghost use Rattle.tree_table.specs.Plays.{GoesOn, StopsAt, TriesNode};
+ghost use Rattle.tree_table.specs.RecordSeats.{MarksClear, MarksPlaced, MarksRemoved};
+
+use crate::record::NodeRecord;
+use crate::slot::TreeSlot;
+use crate::view::TreeView;
+use atomic_table::{Play, TableRule};
+use floor_table::Named;
+use journal_merge::Part;
+use std::marker::PhantomData;
+use twe_io::List;
+
+/// The nodes of the tree of a run. The type of the table names them.
+pub trait Planted {
+    ghost use Rattle.std.specs.Prelude.{List};
+    ghost use Rattle.region_paths.specs.declared.elements.Elem.{Elem};
+
+    /// The paths of the nodes.
+    ghost nodes: { List (List Elem) };
+}
+
+/// What the table is told when it is made.
+#[derive(Debug, Drop)]
+pub struct TreeStart {
+    /// The entries of the run so far.
+    pub part: Part,
+    /// The records that stand.
+    pub records: List<NodeRecord>,
+}
+
+/// The rule of the floor with nodes, for this program, these limits and these nodes.
+pub struct TreeLaw<N: Named + Planted> {
+    of: PhantomData<N>,
+}
+
+impl<N: Named + Planted> TableRule<TreeSlot, TreeView, TreeStart> for TreeLaw<N> {
+    ghost holds = { λ start. TreeKeeps N.nodes N.prog N.lim };
+
+    ghost first = { λ start. first_tree_view start.part start.records };
+}
+
+/// A try to lock a node.
+pub struct TryNode<N: Named + Planted> {
+    of: PhantomData<N>,
+}
+
+impl<N: Named + Planted> Play<TreeSlot, TreeView> for TryNode<N> {
+    ghost then = { TriesNode N.nodes N.prog N.lim };
+}
+
+/// A node is unlocked by a seat that goes on.
+pub struct GoOn<N: Named + Planted> {
+    of: PhantomData<N>,
+}
+
+impl<N: Named + Planted> Play<TreeSlot, TreeView> for GoOn<N> {
+    ghost then = { GoesOn N.nodes N.prog N.lim };
+}
+
+/// A node is unlocked by a seat that stops.
+pub struct StopAt<N: Named + Planted> {
+    of: PhantomData<N>,
+}
+
+impl<N: Named + Planted> Play<TreeSlot, TreeView> for StopAt<N> {
+    ghost then = { StopsAt N.prog N.lim };
+}
+
+/// A record is marked as placed.
+pub struct MarkPlaced<N: Named + Planted> {
+    of: PhantomData<N>,
+}
+
+impl<N: Named + Planted> Play<TreeSlot, TreeView> for MarkPlaced<N> {
+    ghost then = { MarksPlaced N.nodes N.prog N.lim };
+}
+
+/// A record is marked as removed.
+pub struct MarkRemoved<N: Named + Planted> {
+    of: PhantomData<N>,
+}
+
+impl<N: Named + Planted> Play<TreeSlot, TreeView> for MarkRemoved<N> {
+    ghost then = { MarksRemoved N.prog N.lim };
+}
+
+/// A node is marked as clear of a task.
+pub struct MarkClear<N: Named + Planted> {
+    of: PhantomData<N>,
+}
+
+impl<N: Named + Planted> Play<TreeSlot, TreeView> for MarkClear<N> {
+    ghost then = { MarksClear N.prog N.lim };
+}
+
+/// A phase is loaded to follow a wait.
+pub struct FollowWait<N: Named + Planted> {
+    of: PhantomData<N>,
+}
+
+impl<N: Named + Planted> Play<TreeSlot, TreeView> for FollowWait<N> {
+    ghost then = { Follows N.prog N.lim };
+}

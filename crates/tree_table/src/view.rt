@@ -1,0 +1,36 @@
+//! What a worker knows of the floor and of the nodes. Views exist in proofs alone.
+
+use crate::activity::NodeActivity;
+use crate::record::{KnownClear, KnownWait, NodeRecord};
+use floor_table::View;
+use twe_io::List;
+
+/// A worker took the content of a node, or gave it, or changed it.
+#[derive(Debug, Drop)]
+pub struct ContentChange {
+    /// The number of the node.
+    pub node: u32,
+    /// The content; `None` if it was given.
+    pub content: Option<List<NodeRecord>>,
+}
+
+/// What a worker knows.
+#[derive(Debug, Drop)]
+pub struct TreeView {
+    /// What it knows of the floor.
+    pub floor: View,
+    /// What it does in the tree, if it does something.
+    pub activity: Option<NodeActivity>,
+    /// The contents of nodes that it has had and given, the latest first.
+    pub kept: List<ContentChange>,
+    /// The records that it has placed.
+    pub placed: List<NodeRecord>,
+    /// The records that it has removed.
+    pub removed: List<NodeRecord>,
+    /// The records that it has placed since it got their task's turn, and has not removed.
+    pub fresh: List<NodeRecord>,
+    /// The nodes that it knows to have no record of a task whose turn it has.
+    pub clear: List<KnownClear>,
+    /// The waits that it knows.
+    pub waits: List<KnownWait>,
+}
