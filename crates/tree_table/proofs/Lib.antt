@@ -23,3 +23,8 @@ pub mod Calls
 pub mod MarkCalls
 -- Loading a phase word.
 pub mod Following
+-- Steps of the floor.
+pub mod Lifts
+pub mod FloorSteps
+pub mod FloorCalls
+pub mod TurnCalls

@@ -6,4 +6,5 @@ pub mod Plays
 pub mod Without
 pub mod RecordSeats
 pub mod Follows
+pub mod FloorSeats
 pub mod inner

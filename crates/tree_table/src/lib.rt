@@ -4,6 +4,7 @@
 #![tactic(auto)]
 
 mod activity;
+mod floor_laws;
 mod follow_laws;
 mod lock_laws;
 mod record;
@@ -14,6 +15,10 @@ mod start_laws;
 mod view;
 
 pub use activity::NodeActivity;
+pub use floor_laws::{
+    a_cell_may_be_loaded_beside_nodes, a_cell_may_be_stored_beside_nodes,
+    a_phase_may_be_stored_beside_nodes, a_turn_may_be_tried_beside_nodes,
+};
 pub use follow_laws::a_wait_may_be_followed;
 pub use lock_laws::{a_lock_may_be_tried, a_node_may_be_left, a_seat_may_stop};
 pub use record::{KnownClear, KnownWait, NodeRecord};
@@ -22,8 +27,8 @@ pub use record_laws::{
     the_others_are_left,
 };
 pub use rule::{
-    FollowWait, GoOn, MarkClear, MarkPlaced, MarkRemoved, Planted, StopAt, TreeLaw, TreeStart,
-    TryNode,
+    FollowWait, GoOn, LoadTreeCell, MarkClear, MarkPlaced, MarkRemoved, Planted, StopAt,
+    StoreTreeCell, StoreTreePhase, TreeLaw, TreeStart, TryNode, TryTreeTurn,
 };
 pub use slot::{Errand, ErrandKind, TreeSlot};
 pub use start_laws::a_tree_table_may_be_opened;

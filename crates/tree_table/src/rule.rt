@@ -1,4 +1,5 @@
 //! The rule of the floor with nodes, as a rule of its table.
+ghost use Rattle.tree_table.specs.FloorSeats.{LoadsTreeCell, StoresTreeCell, StoresTreePhase, TriesTreeTurn};
 ghost use Rattle.tree_table.specs.Follows.{Follows};
 ghost use Rattle.tree_table.specs.Holds.{TreeKeeps, first_tree_view};
 ghost use Rattle.tree_table.specs.Plays.{GoesOn, StopsAt, TriesNode};
@@ -103,4 +104,40 @@ pub struct FollowWait<N: Named + Planted> {
 
 impl<N: Named + Planted> Play<TreeSlot, TreeView> for FollowWait<N> {
     ghost then = { Follows N.prog N.lim };
+}
+
+/// A cell is loaded.
+pub struct LoadTreeCell<N: Named> {
+    of: PhantomData<N>,
+}
+
+impl<N: Named> Play<TreeSlot, TreeView> for LoadTreeCell<N> {
+    ghost then = { LoadsTreeCell N.lim };
+}
+
+/// A value is stored to a cell.
+pub struct StoreTreeCell<N: Named> {
+    of: PhantomData<N>,
+}
+
+impl<N: Named> Play<TreeSlot, TreeView> for StoreTreeCell<N> {
+    ghost then = { StoresTreeCell N.lim };
+}
+
+/// A phase is stored.
+pub struct StoreTreePhase<N: Named> {
+    of: PhantomData<N>,
+}
+
+impl<N: Named> Play<TreeSlot, TreeView> for StoreTreePhase<N> {
+    ghost then = { StoresTreePhase N.prog N.lim };
+}
+
+/// A try to take a turn.
+pub struct TryTreeTurn<N: Named> {
+    of: PhantomData<N>,
+}
+
+impl<N: Named> Play<TreeSlot, TreeView> for TryTreeTurn<N> {
+    ghost then = { TriesTreeTurn N.prog N.lim };
 }
