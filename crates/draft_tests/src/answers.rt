@@ -83,7 +83,8 @@ pub(crate) fn answer_to<N: Named>(p: &Prog, core: &mut Core<N>, d: Drafted) -> R
     requires named { p.now ≡ N.prog }
     requires drafted { IsDraftedOf p.now d }
 {
-    Ok(hand_in(p, core, d)?.0)
+    let (told, _back) = hand_in(p, core, d)?;
+    Ok(told)
 }
 
 /// What the core answers to a draft; none if there is no draft.

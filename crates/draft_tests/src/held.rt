@@ -31,7 +31,7 @@ struct Seen {
     /// Whether the draft of `inc` has read the 4 in the cell and nothing else, and has left a 5 there.
     adds_one: bool,
     /// The answer to it before the second segment of `main`.
-    held: Option<Told>,
+    held: Told,
     /// The answer to that segment.
     second: Option<Told>,
     /// The answer to the draft that was given back.
@@ -69,29 +69,42 @@ fn follow<N: Named>(
     Ok((held, second?, changed))
 }
 
-/// What is seen of a draft of `inc` that is made once `main` waits, while `main` runs its second segment.
+/// What is seen of this draft of `inc`, while `main` runs its second segment.
+fn watch_draft<N: Named>(
+    alloc: Global,
+    p: &Prog,
+    core: &mut Core<N>,
+    first: Option<Told>,
+    inc: Drafted,
+) -> Result<Seen, Memory>
+    requires named { p.now ≡ N.prog }
+    requires drafted { IsDraftedOf p.now inc }
+{
+    let adds_one = adds_one(&inc);
+    let (held, second, changed) = follow(alloc, p, core, inc)?;
+    let last = run_next(alloc, p, core, 1)?;
+    Ok(Seen {
+        first,
+        adds_one,
+        held,
+        second,
+        changed,
+        last,
+        left: cell_of(core),
+    })
+}
+
+/// What is seen of a draft of `inc` that is made once `main` has run its first segment; none if there is no draft.
 fn watch<N: Named>(alloc: Global, p: &Prog, lim: Limits) -> Result<Option<Seen>, Memory>
     requires named { (p.now ≡ N.prog) × (lim ≡ N.lim) }
     requires first { N.earlier ≡ [] }
 {
     let mut core: Core<N> = begin(alloc, p, lim)?;
     let first = run_next(alloc, p, &mut core, 0)?;
-    let Some(inc) = run_draft_of(alloc, p, &core, 1)? else {
-        return Ok(None);
-    };
-    let adds_one = adds_one(&inc);
-    let (held, second, changed) = follow(alloc, p, &mut core, inc)?;
-    let last = run_next(alloc, p, &mut core, 1)?;
-    let left = cell_of(&core);
-    Ok(Some(Seen {
-        first,
-        adds_one,
-        held: Some(held),
-        second,
-        changed,
-        last,
-        left,
-    }))
+    match run_draft_of(alloc, p, &core, 1)? {
+        Some(inc) => Ok(Some(watch_draft(alloc, p, &mut core, first, inc)?)),
+        None => Ok(None),
+    }
 }
 
 /// What is seen of it in the text.
@@ -112,7 +125,7 @@ fn a_held_draft_is_given_back_and_its_read_has_changed(rt: HostRuntime) -> Resul
     let wanted = Seen {
         first: Some(Told::Committed(1)),
         adds_one: true,
-        held: Some(Told::Held(0)),
+        held: Told::Held(0),
         second: Some(Told::Committed(2)),
         changed: Some(change),
         last: Some(Told::Committed(4)),
