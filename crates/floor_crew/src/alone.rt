@@ -1,12 +1,13 @@
 //! Moves of a run at rest, up to the point at which tasks may run beside each other.
 //!
 //! A task that may run alone runs its segments at rest, and so does one whose next segment ends at once. All others wait for a
-//! round.
+//! round, unless the work since the last one has not paid for another.
 ghost use Rattle.std.specs.Prelude.{◌≡◌, ◌∷◌, ◌++◌, [], OnOk};
 ghost use Rattle.twe_machine.specs.Legal.{MayMove};
 ghost use Rattle.twe_machine.specs.Runs.{entry_of};
 ghost use Rattle.floor_crew.specs.inner.GoingOn.{HasGoneOn, IsSound};
 
+use crate::account::fuel_left;
 use crate::at_rest::RunAtRest;
 use crate::book::Book;
 use crate::brief::is_brief;
@@ -139,7 +140,10 @@ pub(crate) fn take(
     ensures gone { OnOk result (HasGoneOn p.now lim run.old.rest.journal run.new) }
     ensures journal { OnOk result (run.new.rest.journal ≡ run.old.rest.journal ++ entry_of p.now lim run.old.rest.state mv ∷ []) }
 {
+    let before = fuel_left(&run.rest.state, mv.task);
     run.take(alloc, p, lim, mv)?;
+    let after = fuel_left(&run.rest.state, mv.task);
+    book.account.count(before.saturating_sub(after));
     book.read(run.rest.journal.as_slice())
 }
 

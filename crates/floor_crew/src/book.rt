@@ -3,6 +3,7 @@
 //! The book says only where to look. Whether a move is legal is found in the state. A task that waits is kept beside the task
 //! that it waits for, and one that is held back beside a bar to it. The entries of the journal say what has changed.
 
+use crate::account::Account;
 use seg_journal::{End, Entry};
 use std::alloc::Global;
 use std::collections::{BTreeMap, VecDeque};
@@ -41,6 +42,8 @@ pub(crate) struct Book {
     read: usize,
     // Whether an entry was read since all tasks that were held back were looked at.
     moved: bool,
+    /// Whether another floor is worth what it costs.
+    pub account: Account,
 }
 
 impl Book {
@@ -59,6 +62,7 @@ impl Book {
             running: Vec::new(alloc),
             read: 0,
             moved: false,
+            account: Account::new(),
         }
     }
 
@@ -154,19 +158,19 @@ impl Book {
         Ok(())
     }
 
-    /// The task whose next segment is run while the others lie still: one whose segment ends at once, or else the only one that
-    /// may run.
+    /// The task whose next segment is run while the others lie still: one whose segment ends at once, or else one that may run, if it
+    /// is the only one or no floor is paid for yet.
     pub(crate) fn next_alone(&mut self) -> Option<u32> {
         match self.brief.pop() {
             Some(task) => Some(task),
-            None if self.running.len() == 1 => self.running.pop(),
+            None if self.running.len() == 1 || !self.account.is_paid() => self.running.pop(),
             None => None,
         }
     }
 
-    /// Whether two tasks may run beside each other.
+    /// Whether two tasks may run beside each other, and a floor for them is paid for.
     pub(crate) fn has_two(&self) -> bool {
-        self.running.len() >= 2
+        self.running.len() >= 2 && self.account.is_paid()
     }
 
     /// Whether all tasks that are held back are to be looked at once more, since nothing else is left to do. So they are if an

@@ -70,8 +70,10 @@ fn go_on_from<R: Threads + Wait + Sync, G: Gate + Sync>(
         if !go_on_alone(alloc, p, lim, &mut run, book)? {
             return Ok(run);
         }
+        book.account.lay_out(lim, &run.rest);
         book.begin_round()?;
         run = side_by_side(rt, alloc, p, lim, workers, run, gate)?;
+        book.account.recount(lim, &run.rest);
         book.read(run.rest.journal.as_slice())?;
     }
     unreachable!()

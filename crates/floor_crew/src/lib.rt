@@ -3,6 +3,7 @@
 //! the same time, and takes it back.
 #![tactic(auto)]
 
+mod account;
 mod alone;
 mod at_rest;
 mod book;
