@@ -142,7 +142,7 @@ impl Book {
         if self.grouped {
             self.misses = self.misses.saturating_add(1);
             if self.misses > MOST_MISSES {
-                group.append(&mut self.group)?;
+                put_before(group, &mut self.group)?;
             }
         }
         Ok(())
@@ -203,4 +203,15 @@ impl Book {
         self.running.clear();
         Ok(())
     }
+}
+
+/// Puts the tasks of a short list before those of another one. Afterwards the first list has all of them, and the other has none.
+fn put_before(few: &mut VecDeque<u32>, others: &mut VecDeque<u32>) -> Result<(), Memory> {
+    for _ in 0..few.len() {
+        if let Some(task) = few.pop_back() {
+            others.push_front(task)?;
+        }
+    }
+    mem::swap(few, others);
+    Ok(())
 }
