@@ -11,6 +11,7 @@ use first_failure::{Failure, report_if};
 use twe_io::Place;
 
 /// Whether the first failure so far is at an earlier place.
+#[inline(always)]
 fn is_settled(first: Option<Failure<ERule>>, place: Place) -> bool
     ensures { result ≡ is_settled first place }
 {
@@ -24,6 +25,7 @@ fn is_settled(first: Option<Failure<ERule>>, place: Place) -> bool
 
 /// Reports the rule at the place if a spawned task that may be out at the point interferes with the effect. It looks at
 /// no spawned task if that would change nothing.
+#[inline(always)]
 pub fn report_effect(
     first: &mut Option<Failure<ERule>>,
     futures: &Futures,
@@ -43,6 +45,7 @@ pub fn report_effect(
 }
 
 /// The same for several effects: it reports the rule if one of them is not free.
+#[inline(always)]
 pub fn report_effects(
     first: &mut Option<Failure<ERule>>,
     futures: &Futures,

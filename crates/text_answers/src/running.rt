@@ -53,8 +53,9 @@ pub(crate) fn run_lowest_first(
     answer_run(alloc, cmd, p, journal, st, book)
 }
 
-/// The answer to the run that a command asks for. The run is over, with this journal and in this state, whoever made its moves.
-/// If entries come after the first fault, the journal is written with them, and the numbers that they printed are not. Afterwards the book has the program, the journal and the outcome.
+/// The answer to the run that a command asks for. The run is over, with this journal and in this state, whoever made its
+/// moves. If entries come after the first fault, the journal is written with them, and the numbers that they printed are
+/// not. Afterwards the book has the program, the journal and the outcome.
 pub fn answer_run(
     alloc: Global,
     cmd: &Command,

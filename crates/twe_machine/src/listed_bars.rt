@@ -18,7 +18,8 @@ use twe_program::Prog;
 
 impl EnabledTasks {
     /// Some bar to the admission of a task that was made, if there is one, in a reached state of some well-formed program. It
-    /// need not be the lowest one. It takes no memory, and looks at the enabled tasks that are not known to wait for the task.
+    /// need not be the lowest one. It takes no memory, and looks at the enabled tasks that are not known to wait for the task,
+    /// first at the one at which the chain of waits ends. A task without effects has no bar, and no look is taken for it.
     pub fn bar(&self, st: &State, t: u32) -> Option<u32>
         requires reachable { (p : Program) × IsWellFormed p × IsReachable p st.now }
         requires listing { IsListing st.now self.now }
@@ -26,10 +27,12 @@ impl EnabledTasks {
         ensures some { IfSome result (λ s. IsBar st.now s t) }
         ensures none { IfNone result (MayAdmit st.now t) }
     {
-        let from = self.known(st, t);
-        match bar_from(st, self.tasks.as_slice(), from, t) {
+        if is_pure(st, t) {
+            return None;
+        }
+        match self.bar_at_end(st, t) {
             Some(s) => Some(s),
-            None => None,
+            None => bar_from(st, self.tasks.as_slice(), self.known(st, t), t),
         }
     }
 
@@ -63,6 +66,17 @@ impl EnabledTasks {
         }
     }
 
+    /// The task at which the chain of waits ends, if it is a bar to the admission of `t`.
+    fn bar_at_end(&self, st: &State, t: u32) -> Option<u32>
+        requires there { t < length st.now.tasks }
+        requires linked { length st.now.links ≡ length st.now.tasks }
+        requires filled { EffectsAreFilled st.now }
+        ensures { IfSome result (λ s. IsBar st.now s t) }
+    {
+        let s = *self.tasks.get(self.path)?;
+        if bars(st, s, t) { Some(s) } else { None }
+    }
+
     /// How many of the first tasks are known to wait for `t`, which has no parent.
     fn known(&self, st: &State, t: u32) -> usize
         requires there { t < length st.now.tasks }
@@ -77,6 +91,17 @@ impl EnabledTasks {
         } else {
             0
         }
+    }
+}
+
+/// Whether a task was made that has no effects.
+fn is_pure(st: &State, t: u32) -> bool
+    requires { EffectsAreFilled st.now }
+    ensures { IsTrue result → (s : ℕ) → ¬ Interfere st.now s t }
+{
+    match st.tasks.get(t as usize) {
+        None => false,
+        Some(row) => row.effects.effects.len() == 0,
     }
 }
 
