@@ -1,1 +1,2 @@
 pub mod WayLemmas
+pub mod ApartLemmas

@@ -1,11 +1,11 @@
 -- How ways lead down, and why two nodes right below one do not lie above the same node.
-use Rattle.std.proofs.Common.{◌≡◌, ◌≢◌, ℕ, List, [], ◌∷◌, ◌++◌, sym, ap, subst, ◌∙◌}
+use Rattle.std.proofs.Common.{◌≡◌, ◌≢◌, ℕ, zero, suc, ◌+◌, ◌<◌, ◌≤◌, List, [], ◌∷◌, ◌++◌, length, length-append, sym, ap, subst, ◌∙◌, arith}
 use Rattle.region_paths.specs.declared.elements.Elem.{Elem}
 use Rattle.prefix_tree.specs.Prefix.{IsPrefix}
 use Rattle.prefix_tree.specs.Nodes.{path_of, IsParent, IsTreeOfPaths}
 use Rattle.admission_core.specs.States.{IsAbove}
 use Rattle.admission_core.proofs.TreeLemmas.{above_refl, above_trans, parent_above, parent_over, over_above}
-use Rattle.tree_ways.specs.Ways.{LeadsTo}
+use Rattle.tree_ways.specs.Ways.{LeadsTo, longest, room_below}
 
 module _ (nodes : List (List Elem)) (tree : IsTreeOfPaths nodes) where
   -- a node lies above the end of each way that leads on from it
@@ -35,3 +35,15 @@ module _ (nodes : List (List Elem)) (tree : IsTreeOfPaths nodes) where
       let second = subst (λ (a : List Elem). IsPrefix a (path_of nodes m)) q.2.1 k.prefix in
       let same = same_next (path_of nodes n) (path_of nodes m) p.2.0 q.2.0 first second in
       tree.once c d p.1 q.1 (p.2.1 ∙ ap (λ (e : Elem). path_of nodes n ++ e ∷ []) same ∙ sym q.2.1)
+
+below_longest : (nodes : List (List Elem)) (n : ℕ) → length (path_of nodes n) ≤ longest nodes
+below_longest [] zero = omega arith
+below_longest [] (suc n) = omega arith
+below_longest (path ∷ paths) zero = omega arith
+below_longest (path ∷ paths) (suc n) = let rest = below_longest paths n in omega (arith, rest)
+
+pub room_shrinks : (nodes : List (List Elem)) (n c : ℕ) → IsParent nodes n c → room_below nodes c < room_below nodes n
+room_shrinks nodes n c h =
+    let longer : length (path_of nodes c) ≡ length (path_of nodes n) + 1 = ap length h.2.1 ∙ length-append (path_of nodes n) (h.2.0 ∷ []) in
+    let within = below_longest nodes c in
+    omega (arith, longer, within)

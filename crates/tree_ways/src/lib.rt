@@ -6,6 +6,8 @@ mod laws;
 mod way;
 mod wild;
 
-pub use laws::{siblings_lie_apart, ways_lead_down};
+pub use laws::{
+    room_below_shrinks, siblings_lie_apart, the_test_of_effects_is_safe, ways_lead_down,
+};
 pub use way::way_below_root;
 pub use wild::is_solid;
