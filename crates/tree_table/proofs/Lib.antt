@@ -28,6 +28,13 @@ pub mod Lifts
 pub mod FloorSteps
 pub mod FloorCalls
 pub mod TurnCalls
+-- Entries.
+pub mod SameParts
+pub mod LogSteps
+pub mod Entries
+pub mod Admissions
+-- Chains of waits.
+pub mod Chains
 -- Seats.
 pub mod Splits
 pub mod Joins

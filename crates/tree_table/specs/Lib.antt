@@ -7,4 +7,6 @@ pub mod Without
 pub mod RecordSeats
 pub mod Follows
 pub mod FloorSeats
+pub mod EntrySeats
+pub mod Chains
 pub mod inner
