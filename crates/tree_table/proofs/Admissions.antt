@@ -48,7 +48,8 @@ use Rattle.tree_table.proofs.LogSteps as beside
 use Rattle.tree_table.proofs.SameParts.{same_parts}
 use Rattle.tree_table.proofs.Seen.{activity_id, fresh_id, held_id}
 
-module _ (nodes : List (List Elem)) (p : Program) (lim : Bounds) (s : TreeTable) (kept : TreeKeeps nodes p lim s) (id : ℕ) (v : TreeView) (at : get_elem? s.views id ≡ core.some v) (live : v.floor.kind ≢ Spent)
+module _ (nodes : List (List Elem)) (p : Program) (lim : Bounds) (s : TreeTable) (kept : TreeKeeps nodes p lim s) (id : ℕ) (v : TreeView)
+    (at : get_elem? s.views id ≡ core.some v) (live : v.floor.kind ≢ Spent)
     (t : ℕ) (may : MayDrawAdmission nodes (turns_seen v) (tree_seen v) 0 t) where
   abbrev fs : Table
   fs = floor_part p lim s
@@ -136,7 +137,9 @@ module _ (nodes : List (List Elem)) (p : Program) (lim : Bounds) (s : TreeTable)
   no_more n = omega arith
 
   small_now : (c : ℕ) → c < cell_count p → number_at (get_elem? words (cell_place c)) < 2 ^ 32
-  small_now c below = subst (λ (o : core.Option ℕ). number_at o < 2 ^ 32) (sym (at_else fs.words clock_place (cell_place c) now (λ same. omega (arith, same)))) (kept.floor.cells c below)
+  small_now c below =
+      subst (λ (o : core.Option ℕ). number_at o < 2 ^ 32) (sym (at_else fs.words clock_place (cell_place c) now (λ same. omega (arith, same))))
+      (kept.floor.cells c below)
 
   -- The floor.
 
@@ -158,7 +161,8 @@ module _ (nodes : List (List Elem)) (p : Program) (lim : Bounds) (s : TreeTable)
       (seats_kept worker_at fs.views id v.floor view at_floor refl)
       (seats_put part_at fs.views id v.floor view at_floor (f.parts id ++ admission_drawn f t ∷ [])
       (ap (λ (l : List NumberedEntry). l ++ admission_drawn f t ∷ []) (sym (ap part_at at_floor))))
-      (seats_put turns_at fs.views id v.floor view at_floor (put (f.held id) t new) (ap (λ (g : ℕ → Option HeldTurn). put g t new) (sym (ap turns_at at_floor))))
+      (seats_put turns_at fs.views id v.floor view at_floor (put (f.held id) t new)
+      (ap (λ (g : ℕ → Option HeldTurn). put g t new) (sym (ap turns_at at_floor))))
       (seats_kept segment_at fs.views id v.floor view at_floor refl)
       (seats_kept facts_at fs.views id v.floor view at_floor refl)
 
@@ -172,7 +176,8 @@ module _ (nodes : List (List Elem)) (p : Program) (lim : Bounds) (s : TreeTable)
       let after : Floor = floor_of p (stepped fs clock_place now id [] view keeps) in
       same_parts keep.log more after.parts keep.rule.parts (subst (λ (g : Floor). LiesInParts more g.parts) (sym tie) rule.parts)
 
-  nodes_keep : (core_after : State) × KeepsNodes nodes p lim keep.log (floor_of p (stepped (floor_part p lim s) clock_place now id [] view keeps)) tree core_after
+  nodes_keep : (core_after : State)
+      × KeepsNodes nodes p lim keep.log (floor_of p (stepped (floor_part p lim s) clock_place now id [] view keeps)) tree core_after
   nodes_keep =
       let core_after : State = record kept.core { tasks = event.0 } in
       let after : Floor = floor_of p (stepped fs clock_place now id [] view keeps) in (
@@ -189,8 +194,13 @@ module _ (nodes : List (List Elem)) (p : Program) (lim : Bounds) (s : TreeTable)
 
   pub admit_step : (mine : List (ℕ × TreeSlot)) → Drawn mine (slice_index s.words clock_place)
   admit_step mine =
-      subst (Drawn mine) clock_found
-      (admitted_view clock v t turn, keeps, tt, beside.keeps_after nodes p lim s kept id v at clock_place now (omega arith) [] view keeps keep tt tt nodes_keep, refl)
+      subst (Drawn mine) clock_found (
+        admitted_view clock v t turn,
+        keeps,
+        tt,
+        beside.keeps_after nodes p lim s kept id v at clock_place now (omega arith) [] view keeps keep tt tt nodes_keep,
+        refl,
+      )
 
 -- the latest slot is of one task
 one_latest : (me : TreeSeat) (t u : ℕ) → IsLatest (floor_seat me) t → IsLatest (floor_seat me) u → t ≡ u
@@ -203,8 +213,9 @@ one_latest me t u a b = heads (sym a.is ∙ b.is)
     heads : (t, a.slot) ∷ a.rest ≡ (u, b.slot) ∷ b.rest → t ≡ u
     heads same = ap head_task same
 
-pub draw_admission : (nodes : List (List Elem)) (p : Program) (lim : Bounds) (slots id t : ℕ) (v : TreeView) (mine : List (ℕ × TreeSlot)) (turn : HeldTurn) → v.floor.kind ≢ Spent
-    → MayAdmitLatest nodes (v, mine) t turn → Allows (TreeKeeps nodes p lim) slots id (v, mine) clock_place (λ n. (n + 1) % 2 ^ 64) (DrewAdmission nodes (v, mine))
+pub draw_admission : (nodes : List (List Elem)) (p : Program) (lim : Bounds) (slots id t : ℕ) (v : TreeView) (mine : List (ℕ × TreeSlot)) (turn : HeldTurn)
+    → v.floor.kind ≢ Spent → MayAdmitLatest nodes (v, mine) t turn
+    → Allows (TreeKeeps nodes p lim) slots id (v, mine) clock_place (λ n. (n + 1) % 2 ^ 64) (DrewAdmission nodes (v, mine))
 draw_admission nodes p lim slots id t v mine had live may s kept count at small =
     let step = admit_step nodes p lim s kept id v at live t may.may mine in
     let found = slice_index s.words clock_place in

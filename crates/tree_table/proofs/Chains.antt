@@ -42,16 +42,21 @@ led_keeps u t (fact ∷ facts) x among = by (λ later. led_keeps u t facts x lat
     by rest false (inr later) = inr (rest later)
 
 -- whoever waits for u waits for t
-led_adds : (u t s : ℕ) (facts : List WaitFact) → IsAmong (record { waiter = s; awaited = u }) facts → IsAmong (record { waiter = s; awaited = t }) (led_on u t facts)
+led_adds : (u t s : ℕ) (facts : List WaitFact) → IsAmong (record { waiter = s; awaited = u }) facts
+    → IsAmong (record { waiter = s; awaited = t }) (led_on u t facts)
 led_adds u t s [] among = absurd among
 led_adds u t s (fact ∷ facts) (inl first) =
     let test : (fact.awaited == u) ≡ true = eq-eqb fact.awaited u (ap (λ (x : WaitFact). x.awaited) (sym first)) in
-    subst (λ (b : Bool). IsAmong (record { waiter = s; awaited = t }) (if b then record { waiter = fact.waiter; awaited = t } ∷ fact ∷ led_on u t facts else fact ∷ led_on u t facts)) (sym test)
+    subst
+    (λ (b : Bool). IsAmong (record { waiter = s; awaited = t })
+    (if b then record { waiter = fact.waiter; awaited = t } ∷ fact ∷ led_on u t facts else fact ∷ led_on u t facts))
+    (sym test)
     (inl (λ k. record { waiter = ap (λ (x : WaitFact). x.waiter) first k; awaited = t }))
 led_adds u t s (fact ∷ facts) (inr later) = by (led_adds u t s facts later) (fact.awaited == u)
   where
     by : IsAmong (record { waiter = s; awaited = t }) (led_on u t facts) → (b : Bool)
-        → IsAmong (record { waiter = s; awaited = t }) (if b then record { waiter = fact.waiter; awaited = t } ∷ fact ∷ led_on u t facts else fact ∷ led_on u t facts)
+        → IsAmong (record { waiter = s; awaited = t })
+        (if b then record { waiter = fact.waiter; awaited = t } ∷ fact ∷ led_on u t facts else fact ∷ led_on u t facts)
     by rest true = inr (inr rest)
     by rest false = inr rest
 
@@ -70,8 +75,8 @@ learned Faulted before u after same = subst (HasFollowed before) (sym same) (fol
 pub phase_kept : (lim : Bounds) (before after : TreeSeat) (u found : ℕ) → FollowedPhase lim before u found after → HasFollowed before after
 phase_kept lim before after u found loaded = learned (phase_of_word found) before u after loaded.3
 
-pub phase_leads : (lim : Bounds) (before after : TreeSeat) (s u w found : ℕ) → FollowedPhase lim before u found after → phase_of_word found ≡ Waits w → KnowsWait before s u
-    → IsAmong (record { waiter = s; awaited = w }) after.0.waits
+pub phase_leads : (lim : Bounds) (before after : TreeSeat) (s u w found : ℕ) → FollowedPhase lim before u found after
+    → phase_of_word found ≡ Waits w → KnowsWait before s u → IsAmong (record { waiter = s; awaited = w }) after.0.waits
 phase_leads lim before after s u w found loaded is known =
     let seat : Learns (Waits w) before u after = subst (λ (phase : Phase). Learns phase before u after) is loaded.3 in
     subst (λ (me : TreeSeat). IsAmong (record { waiter = s; awaited = w }) me.0.waits) (sym seat) (leads known)
@@ -123,17 +128,20 @@ pub waits_pass : (me : TreeSeat) (t : ℕ) (e : Effect) (r : Record) → KnowsWa
 waits_pass me t e r (inl same) = own same
 waits_pass me t e r (inr among) = waiting among
 
-pass_still : (before after : List WaitFact) → ((fact : WaitFact) → IsAmong fact before → IsAmong fact after) → (t : ℕ) (e : Effect) (r : Record) → IsKnownToPass before t e r → IsKnownToPass after t e r
+pass_still : (before after : List WaitFact) → ((fact : WaitFact) → IsAmong fact before → IsAmong fact after) → (t : ℕ) (e : Effect) (r : Record)
+    → IsKnownToPass before t e r → IsKnownToPass after t e r
 pass_still before after more t e r (apart not) = apart not
 pass_still before after more t e r (own same) = own same
 pass_still before after more t e r (waiting among) = waiting (more (record { waiter = r.task; awaited = t }) among)
 
-pub passes_still : (before after : TreeSeat) (purpose : Purpose) (r : Record) → HasFollowed before after → PassesHere before.0.waits purpose r → PassesHere after.0.waits purpose r
+pub passes_still : (before after : TreeSeat) (purpose : Purpose) (r : Record) → HasFollowed before after
+    → PassesHere before.0.waits purpose r → PassesHere after.0.waits purpose r
 passes_still before after (Admit t e) r more passes = pass_still before.0.waits after.0.waits more.waits t e r passes
 passes_still before after (Child t e) r more passes = tt
 passes_still before after (Remove t e) r more passes = tt
 
-pub sees_still : (before after : TreeSeat) (purpose : Purpose) (n : ℕ) → HasFollowed before after → SeesPass (tree_seen before.0) 0 purpose n → SeesPass (tree_seen after.0) 0 purpose n
+pub sees_still : (before after : TreeSeat) (purpose : Purpose) (n : ℕ) → HasFollowed before after
+    → SeesPass (tree_seen before.0) 0 purpose n → SeesPass (tree_seen after.0) 0 purpose n
 sees_still before after purpose n more sees = record {
   records = sees.records;
   has = ap (λ (me : TreeSeat). content_in me.0.kept n) more.rest ∙ sees.has;

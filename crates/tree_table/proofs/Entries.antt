@@ -1,5 +1,5 @@
 -- An entry of a segment, drawn by a fetch-and-add on the clock, keeps the rule of the table with nodes.
-use Rattle.std.proofs.Common.{◌≡◌, ◌≢◌, ◌+◌, ◌++◌, ◌%◌, ℕ, Bool, true, false, cond, List, [], ◌∷◌, Option, Some, refl, sym, ap, subst, ◌∙◌, arith, nat_lt}
+use Rattle.std.proofs.Common.{◌≡◌, ◌≢◌, ◌<◌, ◌+◌, ◌++◌, ◌%◌, ℕ, Bool, true, false, cond, List, [], ◌∷◌, Option, Some, refl, sym, ap, subst, ◌∙◌, arith, nat_lt}
 use Rattle.std.specs.Prelude.{◌==◌, ◌^◌, slice_index}
 use mathlib.Core.Option as core
 use lib.ListN.{get_elem?}
@@ -29,7 +29,7 @@ use Rattle.floor_table.specs.declared.view.SeatKind.TheVariants.{Spent}
 use Rattle.floor_table.specs.declared.view.View.{View}
 use Rattle.floor_table.specs.FloorOf.{Table, floor_of, part_at, turn_in, turns_at, worker_at}
 use Rattle.floor_table.specs.Holds.{TableKeeps}
-use Rattle.floor_table.specs.Layout.{clock_place, number_at}
+use Rattle.floor_table.specs.Layout.{clock_place, number_at, word_count}
 use Rattle.floor_table.specs.Tells.{DrewOne, IsLatest, MayDraw, Seat, clock_step, drawn_seat, drawn_view, drawn_with, with_turn}
 use Rattle.floor_table.proofs.Elements.{word_at}
 use Rattle.floor_table.proofs.Entries.{draw_allowed}
@@ -49,7 +49,7 @@ use Rattle.tree_table.specs.Holds.{TreeKeeps}
 use Rattle.tree_table.specs.Seats.{turns_seen}
 use Rattle.tree_table.specs.TreeOf.{TreeTable, floor_part, floor_shown, floor_view, tree_of}
 use Rattle.tree_table.proofs.FloorSteps.{floor_finds}
-use Rattle.tree_table.proofs.LogSteps.{lift_after}
+use Rattle.tree_table.proofs.LogSteps.{KeepsAfter, lift_after}
 use Rattle.tree_table.proofs.SameParts.{same_parts}
 use Rattle.tree_table.proofs.Seen.{fresh_id, held_id}
 
@@ -61,7 +61,8 @@ put_twice {X} g k x y = λ i j. twice (j == k) (g j) i
     twice true z = refl
     twice false z = refl
 
-module _ (nodes : List (List Elem)) (p : Program) (lim : Bounds) (s : TreeTable) (kept : TreeKeeps nodes p lim s) (id : ℕ) (v : TreeView) (at : get_elem? s.views id ≡ core.some v) (live : v.floor.kind ≢ Spent) where
+module _ (nodes : List (List Elem)) (p : Program) (lim : Bounds) (s : TreeTable) (kept : TreeKeeps nodes p lim s) (id : ℕ) (v : TreeView)
+    (at : get_elem? s.views id ≡ core.some v) (live : v.floor.kind ≢ Spent) where
   abbrev fs : Table
   fs = floor_part p lim s
 
@@ -127,33 +128,41 @@ module _ (nodes : List (List Elem)) (p : Program) (lim : Bounds) (s : TreeTable)
     }
 
     -- the two turns, as they are put one after the other
-    turns_both : (stop : Stop) (c : ℕ) (first : Option HeldTurn) → put_turn (put_turn f.held id t (new stop)) id c first ≡ put f.held id (put (put (turn_in v.floor.turns) t (new stop)) c first)
+    turns_both : (stop : Stop) (c : ℕ) (first : Option HeldTurn)
+        → put_turn (put_turn f.held id t (new stop)) id c first ≡ put f.held id (put (put (turn_in v.floor.turns) t (new stop)) c first)
     turns_both stop c first =
         let one : ℕ → Option HeldTurn = put (f.held id) t (new stop) in
         ap (λ (h : ℕ → Option HeldTurn). put (put f.held id one) id (put h c first)) (put_here f.held id one)
         ∙ (put_twice f.held id one (put one c first) ∙ ap (λ (h : ℕ → Option HeldTurn). put f.held id (put (put h t (new stop)) c first)) had)
 
     with_one : (stop : Stop) (c : ℕ) (row : TaskRow)
-        → IsDrawn (with_child (without_child lim f id t turn frame stop) id c row) stop (with_turn (drawn_view lim clock v.floor t turn frame stop) c (Some (first_turn row)))
+        → IsDrawn (with_child (without_child lim f id t turn frame stop) id c row) stop
+        (with_turn (drawn_view lim clock v.floor t turn frame stop) c (Some (first_turn row)))
     with_one stop c row = record { part = refl; worker = refl; parts = refl; held = turns_both stop c (Some (first_turn row)); workers = refl }
 
     -- the seat after an entry that asks for a task, which is made if one more may be
     made : (out : List (ℕ × Option TaskSlot)) (stop : Stop) (row : TaskRow) (b : Bool)
-        → IsDrawn (cond {A = Floor} b (with_child (without_child lim f id t turn frame stop) id (f.asked + 1) row) (without_child lim f id t turn frame stop)) stop
-        (cond {A = Seat} b (drawn_with (drawn_view lim clock v.floor t turn frame stop, out) (f.asked + 1) row) (drawn_view lim clock v.floor t turn frame stop, out)).0
+        → IsDrawn
+        (cond {A = Floor} b (with_child (without_child lim f id t turn frame stop) id (f.asked + 1) row) (without_child lim f id t turn frame stop))
+        stop
+        (cond {A = Seat} b (drawn_with (drawn_view lim clock v.floor t turn frame stop, out) (f.asked + 1) row)
+        (drawn_view lim clock v.floor t turn frame stop, out)).0
     made out stop row true = with_one stop (f.asked + 1) row
     made out stop row false = plain stop
 
-    drawn : (out : List (ℕ × Option TaskSlot)) (stop : Stop) → IsDrawn (after_entry lim f id t turn frame stop) stop (drawn_seat lim clock (v.floor, out) t turn frame stop).0
+    drawn : (out : List (ℕ × Option TaskSlot)) (stop : Stop)
+        → IsDrawn (after_entry lim f id t turn frame stop) stop (drawn_seat lim clock (v.floor, out) t turn frame stop).0
     drawn out (stops.Waits on) = plain (stops.Waits on)
     drawn out (stops.Joins on) = plain (stops.Joins on)
     drawn out (stops.Done value) = plain (stops.Done value)
     drawn out (stops.Fault kind place) = plain (stops.Fault kind place)
     drawn out (stops.Make child args effects spawned future place) =
-        made out (stops.Make child args effects spawned future place) (new_row lim (f.asked + 1) (parent_of t spawned) child args effects) (nat_lt (f.asked + 1) lim.tasks)
+        made out (stops.Make child args effects spawned future place) (new_row lim (f.asked + 1) (parent_of t spawned) child args effects)
+        (nat_lt (f.asked + 1) lim.tasks)
 
     -- The nodes keep their rule beside the floor after the entry.
-    module _ (out : List (ℕ × Option TaskSlot)) (stop : Stop) (may : MayDraw p (v.floor, out) t turn frame stop) (placed : HasPlacedChildren (turns_seen v) 0 t) where
+    module _ (out : List (ℕ × Option TaskSlot)) (stop : Stop) (may : MayDraw p (v.floor, out) t turn frame stop)
+        (placed : HasPlacedChildren (turns_seen v) 0 t) where
       abbrev more : List NumberedEntry
       more = log ++ entry_drawn lim f t frame stop ∷ []
 
@@ -166,9 +175,9 @@ module _ (nodes : List (List Elem)) (p : Program) (lim : Bounds) (s : TreeTable)
       event : IsTaskEvent nodes p lim more after (tree_of p lim s) kept.core
       event = entering nodes p lim log f (tree_of p lim s) kept.core kept.both id t turn frame stop (may_commit out stop may) (placed_here placed)
 
-      beside_drawn : (x : ℕ) (w : View) (a : Act (Option TaskSlot)) → IsDrawn after stop w → (keep : TableKeeps p lim (stepped (floor_part p lim s) clock_place x id out w a))
-          → (core_after : State) × KeepsNodes nodes p lim keep.log (floor_of p (stepped (floor_part p lim s) clock_place x id out w a)) (tree_of p lim s) core_after
-      beside_drawn x w a is keep =
+      beside_drawn : (x : ℕ) (low : clock_place < word_count p lim) (w : View) (a : Act (Option TaskSlot)) → IsDrawn after stop w
+          → (keep : TableKeeps p lim (stepped (floor_part p lim s) clock_place x id out w a)) → KeepsAfter nodes p lim s kept id v at clock_place x low out w a keep
+      beside_drawn x low w a is keep =
           let g : Floor = floor_of p (stepped fs clock_place x id out w a) in
           let parts : g.parts ≡ after.parts =
           seats_put part_at fs.views id v.floor w at_floor (f.parts id ++ entry_drawn lim f t frame stop ∷ [])
@@ -183,16 +192,19 @@ module _ (nodes : List (List Elem)) (p : Program) (lim : Bounds) (s : TreeTable)
                 (floor_same nodes p lim more after (tree_of p lim s) core_after event.2 g held workers),
           )
 
-      pub draws_beside : (w : View) (a : Act (Option TaskSlot)) → IsLatest (v.floor, out) t
-          → (keep : TableKeeps p lim (stepped (floor_part p lim s) clock_place ((slice_index s.words clock_place + clock_step stop) % 2 ^ 64) id out w a)) → (carried : List (ℕ × Option TaskSlot))
-          → DrewOne p lim (v.floor, out) (slice_index s.words clock_place) (w, carried)
-          → (core_after : State)
-          × KeepsNodes nodes p lim keep.log (floor_of p (stepped (floor_part p lim s) clock_place ((slice_index s.words clock_place + clock_step stop) % 2 ^ 64) id out w a)) (tree_of p lim s) core_after
-      draws_beside w a latest keep carried drew =
+      -- what the clock says afterwards
+      abbrev now : ℕ
+      now = (slice_index s.words clock_place + clock_step stop) % 2 ^ 64
+
+      pub draws_beside : (low : clock_place < word_count p lim) (w : View) (a : Act (Option TaskSlot)) → IsLatest (v.floor, out) t
+          → (keep : TableKeeps p lim (stepped (floor_part p lim s) clock_place ((slice_index s.words clock_place + clock_step stop) % 2 ^ 64) id out w a))
+          → (carried : List (ℕ × Option TaskSlot)) → DrewOne p lim (v.floor, out) (slice_index s.words clock_place) (w, carried)
+          → KeepsAfter nodes p lim s kept id v at clock_place ((slice_index s.words clock_place + clock_step stop) % 2 ^ 64) low out w a keep
+      draws_beside low w a latest keep carried drew =
           let seat = drew.0 t turn frame stop latest may in
           let at_found : IsDrawn after stop (drawn_seat lim (slice_index s.words clock_place) (v.floor, out) t turn frame stop).0 =
           subst (λ (n : ℕ). IsDrawn after stop (drawn_seat lim n (v.floor, out) t turn frame stop).0) clock_found (drawn out stop) in
-          beside_drawn ((slice_index s.words clock_place + clock_step stop) % 2 ^ 64) w a (subst (λ (x : Seat). IsDrawn after stop x.0) (sym seat) at_found) keep
+          beside_drawn now low w a (subst (λ (x : Seat). IsDrawn after stop x.0) (sym seat) at_found) keep
 
   -- no record is known of the task that is made next
   pub none_of_next : HasNoneOfNext lim v (slice_index s.words clock_place)
@@ -201,14 +213,17 @@ module _ (nodes : List (List Elem)) (p : Program) (lim : Bounds) (s : TreeTable)
       (λ few r among.
       next_unplaced nodes p lim log f (tree_of p lim s) kept.core kept.both id r few (subst (IsAmong r) (sym (fresh_id nodes p lim s id v at)) among))
 
-pub draw_tree_entry : (nodes : List (List Elem)) (p : Program) (lim : Bounds) (slots id t : ℕ) (v : TreeView) (mine : List (ℕ × TreeSlot)) (turn : HeldTurn) (frame : Frame) (stop : Stop)
-    → HasTaskSlots lim.tasks mine → v.floor.kind ≢ Spent → IsLatest (floor_seat (v, mine)) t → MayDraw p (floor_seat (v, mine)) t turn frame stop → HasPlacedChildren (turns_seen v) 0 t
+pub draw_tree_entry : (nodes : List (List Elem)) (p : Program) (lim : Bounds) (slots id t : ℕ) (v : TreeView) (mine : List (ℕ × TreeSlot))
+    (turn : HeldTurn) (frame : Frame) (stop : Stop) → HasTaskSlots lim.tasks mine → v.floor.kind ≢ Spent → IsLatest (floor_seat (v, mine)) t
+    → MayDraw p (floor_seat (v, mine)) t turn frame stop → HasPlacedChildren (turns_seen v) 0 t
     → Allows (TreeKeeps nodes p lim) slots id (v, mine) clock_place (λ n. (n + clock_step stop) % 2 ^ 64) (DrewTreeEntry p lim (v, mine))
 draw_tree_entry nodes p lim slots id t v mine turn frame stop has live latest may placed s kept count at small =
     let out = tasks_out mine in
+    let low : clock_place < word_count p lim = omega arith in
     let lifted =
-    lift_after nodes p lim id v mine has slots clock_place (λ n. (n + clock_step stop) % 2 ^ 64) (DrewOne p lim (floor_seat (v, mine))) (omega arith)
+    lift_after nodes p lim id v mine has slots clock_place (λ n. (n + clock_step stop) % 2 ^ 64) (DrewOne p lim (floor_seat (v, mine))) low
     (draw_allowed p lim id t v.floor out turn frame stop live latest may)
-    (λ table table_kept here w a keep tell. draws_beside nodes p lim table table_kept id v here live t turn frame out stop may placed w a latest keep (carried_after out a) tell)
+    (λ table table_kept here w a keep tell.
+    draws_beside nodes p lim table table_kept id v here live t turn frame out stop may placed low w a latest keep (carried_after out a) tell)
     s kept count at small in
     (lifted.0, lifted.1, lifted.2, lifted.3, (lifted.4, none_of_next nodes p lim s kept id v at live))

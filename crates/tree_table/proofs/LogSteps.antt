@@ -31,14 +31,16 @@ use Rattle.tree_table.proofs.FloorSteps.{at_floor, floor_finds}
 use Rattle.tree_table.proofs.Lifts.{AreBelow, IsLifted, lift, lifted, out_again, out_below, take_put}
 use Rattle.tree_table.proofs.Ties.{same_floor, tree_is}
 
-module _ (nodes : List (List Elem)) (p : Program) (lim : Bounds) (s : TreeTable) (kept : TreeKeeps nodes p lim s) (id : ℕ) (v : TreeView) (at : get_elem? s.views id ≡ core.some v) where
+module _ (nodes : List (List Elem)) (p : Program) (lim : Bounds) (s : TreeTable) (kept : TreeKeeps nodes p lim s) (id : ℕ) (v : TreeView)
+    (at : get_elem? s.views id ≡ core.some v) where
   abbrev fs : Table
   fs = floor_part p lim s
 
   abbrev tree : Tree
   tree = tree_of p lim s
 
-  module _ (i x : ℕ) (low : i < word_count p lim) (mine : List (ℕ × Option TaskSlot)) (w : View) (a : Act (Option TaskSlot)) (keep : TableKeeps p lim (stepped (floor_part p lim s) i x id mine w a)) where
+  module _ (i x : ℕ) (low : i < word_count p lim) (mine : List (ℕ × Option TaskSlot)) (w : View) (a : Act (Option TaskSlot))
+      (keep : TableKeeps p lim (stepped (floor_part p lim s) i x id mine w a)) where
     abbrev floor_next : Table
     floor_next = stepped fs i x id mine w a
 
@@ -101,10 +103,12 @@ module _ (nodes : List (List Elem)) (p : Program) (lim : Bounds) (s : TreeTable)
 
 module _ (nodes : List (List Elem)) (p : Program) (lim : Bounds) (id : ℕ) (v : TreeView) (mine : List (ℕ × TreeSlot)) (has : HasTaskSlots lim.tasks mine) where
   -- a step that the floor allows
-  pub lift_after : (slots i : ℕ) (g : ℕ → ℕ) (tells : ℕ → Seat → Type 0) → i < word_count p lim → Allows (TableKeeps p lim) lim.tasks id (floor_seat (v, mine)) i g tells
+  pub lift_after : (slots i : ℕ) (g : ℕ → ℕ) (tells : ℕ → Seat → Type 0) (low : i < word_count p lim)
+      → Allows (TableKeeps p lim) lim.tasks id (floor_seat (v, mine)) i g tells
       → ((s : TreeTable) (kept : TreeKeeps nodes p lim s) (at : get_elem? s.views id ≡ core.some v) (w : View) (a : Act (Option TaskSlot))
-      (keep : TableKeeps p lim (stepped (floor_part p lim s) i (g (slice_index s.words i)) id (tasks_out mine) w a)) → tells (slice_index s.words i) (w, carried_after (tasks_out mine) a)
-      → (core_after : State) × KeepsNodes nodes p lim keep.log (floor_of p (stepped (floor_part p lim s) i (g (slice_index s.words i)) id (tasks_out mine) w a)) (tree_of p lim s) core_after)
+      (keep : TableKeeps p lim (stepped (floor_part p lim s) i (g (slice_index s.words i)) id (tasks_out mine) w a))
+      → tells (slice_index s.words i) (w, carried_after (tasks_out mine) a)
+      → KeepsAfter nodes p lim s kept id v at i (g (slice_index s.words i)) low (tasks_out mine) w a keep)
       → Allows (TreeKeeps nodes p lim) slots id (v, mine) i g (TellsFloor tells (v, mine))
   lift_after slots i g tells low allowed beside s kept count at small =
       let found = slice_index s.words i in
@@ -116,7 +120,8 @@ module _ (nodes : List (List Elem)) (p : Program) (lim : Bounds) (id : ℕ) (v :
       let a : Act (Option TaskSlot) = result.1 in
       let keep : TableKeeps p lim (stepped f i (g found) id out w a) = subst (λ (n : ℕ). TableKeeps p lim (stepped f i (g n) id out w a)) same result.3 in
       let tell : tells found (w, carried_after out a) = subst (λ (n : ℕ). tells n (w, carried_after out a)) same result.4 in
-      let moved = step_beside nodes p lim s kept id v at i (g found) low out w a keep (out_below lim.tasks mine has) result.2 (beside s kept at w a keep tell) in
+      let moved =
+      step_beside nodes p lim s kept id v at i (g found) low out w a keep (out_below lim.tasks mine has) result.2 (beside s kept at w a keep tell) in
       subst
       (λ (l : List (ℕ × TreeSlot)). (u : TreeView) × (b : Act TreeSlot) × Valid s.homes l b × TreeKeeps nodes p lim (stepped s i (g found) id l u b)
       × TellsFloor tells (v, mine) found (u, carried_after l b))

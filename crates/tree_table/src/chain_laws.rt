@@ -30,8 +30,10 @@ pub fn waits_are_followed_one_after_the_other()
 /// A seat that came from one task to another along a chain of waits knows that the first waits for the other. Numbers rise
 /// along the chain and stay below the limit, so it ends.
 pub fn a_chain_is_known_where_it_came_to()
-    ensures kept { (lim : Bounds) (before : TreeSeat) (s u : ℕ) (after : TreeSeat) → CameTo lim before s u after → HasFollowed before after }
-    ensures waits { (lim : Bounds) (before : TreeSeat) (s u : ℕ) (after : TreeSeat) → CameTo lim before s u after → KnowsWait after s u }
+    ensures kept { (lim : Bounds) (before : TreeSeat) (s u : ℕ) (after : TreeSeat) → CameTo lim before s u after
+        → HasFollowed before after }
+    ensures waits { (lim : Bounds) (before : TreeSeat) (s u : ℕ) (after : TreeSeat) → CameTo lim before s u after
+        → KnowsWait after s u }
     ensures above { (lim : Bounds) (before : TreeSeat) (s u : ℕ) (after : TreeSeat) → CameTo lim before s u after → s ≤ u }
     ensures below { (lim : Bounds) (before : TreeSeat) (s u : ℕ) (after : TreeSeat) → CameTo lim before s u after → s < lim.tasks
         → u < lim.tasks }
@@ -39,8 +41,10 @@ pub fn a_chain_is_known_where_it_came_to()
 
 /// A seat that followed a chain to its end knows that its first task waits for its last one, unless they are one.
 pub fn a_chain_is_known_to_its_end()
-    ensures kept { (lim : Bounds) (before : TreeSeat) (s u : ℕ) (after : TreeSeat) → EndedAt lim before s u after → HasFollowed before after }
-    ensures waits { (lim : Bounds) (before : TreeSeat) (s u : ℕ) (after : TreeSeat) → EndedAt lim before s u after → KnowsWait after s u }
+    ensures kept { (lim : Bounds) (before : TreeSeat) (s u : ℕ) (after : TreeSeat) → EndedAt lim before s u after
+        → HasFollowed before after }
+    ensures waits { (lim : Bounds) (before : TreeSeat) (s u : ℕ) (after : TreeSeat) → EndedAt lim before s u after
+        → KnowsWait after s u }
 {}
 
 /// If the task of a record is known to wait for a task, or is that task, the record passes for each effect of that task.
