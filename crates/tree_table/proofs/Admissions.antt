@@ -17,7 +17,7 @@ use Rattle.journal_merge.specs.Merging.{journal_of}
 use Rattle.floor_rule.specs.declared.view.HeldTurn.{HeldTurn}
 use Rattle.floor_rule.specs.declared.view.TaskSlot.{TaskSlot}
 use Rattle.floor_rule.specs.Floors.{Floor, put}
-use Rattle.floor_rule.specs.Rule.{KeepsRule, LiesInParts}
+use Rattle.floor_rule.specs.Rule.{KeepsRule}
 use Rattle.floor_rule.proofs.Puts.{some_one}
 use Rattle.floor_table.specs.declared.view.SeatKind.TheVariants.{Spent}
 use Rattle.floor_table.specs.declared.view.View.{View}
@@ -30,9 +30,8 @@ use Rattle.floor_table.proofs.Elements.{at_else, at_within, word_at}
 use Rattle.floor_table.proofs.Steps.{floor_is, keeps_after}
 use Rattle.floor_table.proofs.Views.{seats_kept, seats_put}
 use Rattle.floor_table.proofs.Words.{cells_else, phases_kept, turns_kept}
-use Rattle.admission_core.specs.States.{IsAmong, State}
+use Rattle.admission_core.specs.States.{IsAmong}
 use Rattle.node_rule.specs.AdmitSteps.{MayDrawAdmission, admission_drawn, after_admission}
-use Rattle.node_rule.specs.Rule.{KeepsNodes}
 use Rattle.node_rule.specs.Trees.{Tree}
 use Rattle.node_rule.specs.TurnSteps.{IsTaskEvent}
 use Rattle.node_rule.proofs.AdmitEvents.{floor_keeps, nodes_admit}
@@ -43,9 +42,8 @@ use Rattle.tree_table.specs.FloorSeats.{floor_seat}
 use Rattle.tree_table.specs.Holds.{TreeKeeps}
 use Rattle.tree_table.specs.Seats.{TreeSeat, tree_seen, turns_seen}
 use Rattle.tree_table.specs.TreeOf.{TreeTable, floor_part, floor_shown, floor_view, tree_of}
-use Rattle.tree_table.proofs.FloorSteps.{floor_finds}
-use Rattle.tree_table.proofs.LogSteps as beside
-use Rattle.tree_table.proofs.SameParts.{same_parts}
+use Rattle.tree_table.proofs.FloorSteps.{StepsBeside, floor_finds, next_step}
+use Rattle.tree_table.proofs.LogSteps.{grows_beside}
 use Rattle.tree_table.proofs.Seen.{activity_id, fresh_id, held_id}
 
 module _ (nodes : List (List Elem)) (p : Program) (lim : Bounds) (s : TreeTable) (kept : TreeKeeps nodes p lim s) (id : ℕ) (v : TreeView)
@@ -171,20 +169,11 @@ module _ (nodes : List (List Elem)) (p : Program) (lim : Bounds) (s : TreeTable)
       keeps_after p lim fs kept.floor id v.floor at_floor live words fs.homes view refl refl (length-set fs.words clock_place now) refl small_now more
       (subst (KeepsRule p lim more) (sym tie) rule)
 
-  same_log : keep.log ≡ more
-  same_log =
-      let after : Floor = floor_of p (stepped fs clock_place now id [] view keeps) in
-      same_parts keep.log more after.parts keep.rule.parts (subst (λ (g : Floor). LiesInParts more g.parts) (sym tie) rule.parts)
-
-  nodes_keep : (core_after : State)
-      × KeepsNodes nodes p lim keep.log (floor_of p (stepped (floor_part p lim s) clock_place now id [] view keeps)) tree core_after
-  nodes_keep =
-      let core_after : State = record kept.core { tasks = event.0 } in
-      let after : Floor = floor_of p (stepped fs clock_place now id [] view keeps) in (
-        core_after,
-        subst (λ (l : List NumberedEntry). KeepsNodes nodes p lim l after tree core_after) (sym same_log)
-            (subst (λ (g : Floor). KeepsNodes nodes p lim more g tree core_after) (sym tie) event.2),
-      )
+  steps : StepsBeside nodes p lim s kept id v at clock_place now (admitted_view clock v t turn)
+  steps =
+      grows_beside nodes p lim s kept id v at now [] view keeps keep more (after_admission f id t turn) (record kept.core { tasks = event.0 }) rule.parts
+      event.2
+      (ap (λ (g : Floor). g.parts) tie) (ap (λ (g : Floor). g.held) tie) (ap (λ (g : Floor). g.workers) tie)
 
   -- what the step gives, at this clock
   abbrev Drawn : List (ℕ × TreeSlot) → ℕ → Type 0
@@ -194,13 +183,8 @@ module _ (nodes : List (List Elem)) (p : Program) (lim : Bounds) (s : TreeTable)
 
   pub admit_step : (mine : List (ℕ × TreeSlot)) → Drawn mine (slice_index s.words clock_place)
   admit_step mine =
-      subst (Drawn mine) clock_found (
-        admitted_view clock v t turn,
-        keeps,
-        tt,
-        beside.keeps_after nodes p lim s kept id v at clock_place now (omega arith) [] view keeps keep tt tt nodes_keep,
-        refl,
-      )
+      let moved = next_step nodes p lim s kept id v at clock_place now (omega arith) [] tt (admitted_view clock v t turn) keeps tt keep steps in
+      subst (Drawn mine) clock_found (admitted_view clock v t turn, keeps, tt, moved.1, refl)
 
 -- the latest slot is of one task
 one_latest : (me : TreeSeat) (t u : ℕ) → IsLatest (floor_seat me) t → IsLatest (floor_seat me) u → t ≡ u

@@ -1,9 +1,9 @@
 -- An entry of a segment, drawn by a fetch-and-add on the clock, keeps the rule of the table with nodes.
-use Rattle.std.proofs.Common.{◌≡◌, ◌≢◌, ◌<◌, ◌+◌, ◌++◌, ◌%◌, ℕ, Bool, true, false, cond, List, [], ◌∷◌, Option, Some, refl, sym, ap, subst, ◌∙◌, arith, nat_lt}
+use Rattle.std.proofs.Common.{◌≡◌, ◌≢◌, ◌+◌, ◌++◌, ◌%◌, ℕ, Bool, true, false, cond, List, [], ◌∷◌, Option, Some, refl, sym, ap, subst, ◌∙◌, arith, nat_lt}
 use Rattle.std.specs.Prelude.{◌==◌, ◌^◌, slice_index}
 use mathlib.Core.Option as core
 use lib.ListN.{get_elem?}
-use Rattle.atomic_table.specs.Table.{Act, Allows, carried_after, stepped}
+use Rattle.atomic_table.specs.Table.{Act, Allows, stepped}
 use Rattle.atomic_table.proofs.Lists.{at_map}
 use Rattle.region_paths.specs.declared.elements.Elem.{Elem}
 use Rattle.twe_limits.specs.Limits.{Bounds}
@@ -20,27 +20,25 @@ use Rattle.floor_rule.specs.declared.view.OpenSegment.{OpenSegment}
 use Rattle.floor_rule.specs.declared.view.TaskSlot.{TaskSlot}
 use Rattle.floor_rule.specs.Fitting.{MayRunFrom}
 use Rattle.floor_rule.specs.Floors.{Floor, put, put_turn}
-use Rattle.floor_rule.specs.Rule.{KeepsRule, LiesInParts}
+use Rattle.floor_rule.specs.Rule.{KeepsRule}
 use Rattle.floor_rule.specs.Steps.{MayCommit, after_entry, entry_drawn, first_turn, row_after, with_child, without_child}
 use Rattle.floor_rule.specs.Touches.{accesses_of, touches_of}
 use Rattle.floor_rule.proofs.Puts.{put_here}
 use Rattle.floor_rule.proofs.RuleSteps.{commit}
 use Rattle.floor_table.specs.declared.view.SeatKind.TheVariants.{Spent}
 use Rattle.floor_table.specs.declared.view.View.{View}
-use Rattle.floor_table.specs.FloorOf.{Table, floor_of, part_at, turn_in, turns_at, worker_at}
+use Rattle.floor_table.specs.FloorOf.{Table, part_at, turn_in, turns_at, worker_at}
 use Rattle.floor_table.specs.Holds.{TableKeeps}
-use Rattle.floor_table.specs.Layout.{clock_place, number_at, word_count}
+use Rattle.floor_table.specs.Layout.{clock_place, number_at}
 use Rattle.floor_table.specs.Tells.{DrewOne, IsLatest, MayDraw, Seat, clock_step, drawn_seat, drawn_view, drawn_with, with_turn}
 use Rattle.floor_table.proofs.Elements.{word_at}
 use Rattle.floor_table.proofs.Entries.{draw_allowed}
 use Rattle.floor_table.proofs.Steps.{facts_id, segment_id, turns_id}
 use Rattle.floor_table.proofs.Views.{seats_kept, seats_put}
-use Rattle.admission_core.specs.States.{IsAmong, State}
-use Rattle.node_rule.specs.Rule.{KeepsNodes}
+use Rattle.admission_core.specs.States.{IsAmong}
 use Rattle.node_rule.specs.TurnSteps.{HasPlacedChildren, IsTaskEvent}
 use Rattle.node_rule.proofs.EntryCases.{entering}
 use Rattle.node_rule.proofs.Facts.{next_unplaced}
-use Rattle.node_rule.proofs.TurnEvents.{floor_same}
 use Rattle.tree_table.specs.declared.slot.TreeSlot.{TreeSlot}
 use Rattle.tree_table.specs.declared.view.TreeView.{TreeView}
 use Rattle.tree_table.specs.EntrySeats.{DrewTreeEntry, HasNoneOfNext}
@@ -48,9 +46,9 @@ use Rattle.tree_table.specs.FloorSeats.{HasTaskSlots, floor_seat, tasks_out}
 use Rattle.tree_table.specs.Holds.{TreeKeeps}
 use Rattle.tree_table.specs.Seats.{turns_seen}
 use Rattle.tree_table.specs.TreeOf.{TreeTable, floor_part, floor_shown, floor_view, tree_of}
-use Rattle.tree_table.proofs.FloorSteps.{floor_finds}
-use Rattle.tree_table.proofs.LogSteps.{KeepsAfter, lift_after}
-use Rattle.tree_table.proofs.SameParts.{same_parts}
+use Rattle.tree_table.proofs.FloorSteps.{StepsBeside, floor_finds}
+use Rattle.tree_table.proofs.FloorCalls.{lift_step}
+use Rattle.tree_table.proofs.LogSteps.{grows_beside}
 use Rattle.tree_table.proofs.Seen.{fresh_id, held_id}
 
 -- a value that is set twice is the second one
@@ -175,36 +173,26 @@ module _ (nodes : List (List Elem)) (p : Program) (lim : Bounds) (s : TreeTable)
       event : IsTaskEvent nodes p lim more after (tree_of p lim s) kept.core
       event = entering nodes p lim log f (tree_of p lim s) kept.core kept.both id t turn frame stop (may_commit out stop may) (placed_here placed)
 
-      beside_drawn : (x : ℕ) (low : clock_place < word_count p lim) (w : View) (a : Act (Option TaskSlot)) → IsDrawn after stop w
-          → (keep : TableKeeps p lim (stepped (floor_part p lim s) clock_place x id out w a)) → KeepsAfter nodes p lim s kept id v at clock_place x low out w a keep
-      beside_drawn x low w a is keep =
-          let g : Floor = floor_of p (stepped fs clock_place x id out w a) in
-          let parts : g.parts ≡ after.parts =
-          seats_put part_at fs.views id v.floor w at_floor (f.parts id ++ entry_drawn lim f t frame stop ∷ [])
+      beside_drawn : (x : ℕ) (w : View) (a : Act (Option TaskSlot)) → IsDrawn after stop w
+          → TableKeeps p lim (stepped (floor_part p lim s) clock_place x id out w a)
+          → StepsBeside nodes p lim s kept id v at clock_place x (record v { floor = w })
+      beside_drawn x w a is keep =
+          grows_beside nodes p lim s kept id v at x out w a keep more after (record kept.core { tasks = event.0 }) rule.parts event.2
+          (seats_put part_at fs.views id v.floor w at_floor (f.parts id ++ entry_drawn lim f t frame stop ∷ [])
           (is.part ∙ ap (λ (l : List NumberedEntry). l ++ entry_drawn lim f t frame stop ∷ []) (sym part_id))
-          ∙ sym is.parts in
-          let held : g.held ≡ after.held = seats_put turns_at fs.views id v.floor w at_floor (turn_in w.turns) refl ∙ sym is.held in
-          let workers : g.workers ≡ after.workers = seats_kept worker_at fs.views id v.floor w at_floor is.worker ∙ sym is.workers in
-          let same_log : keep.log ≡ more = same_parts keep.log more g.parts keep.rule.parts (subst (LiesInParts more) (sym parts) rule.parts) in
-          let core_after : State = record kept.core { tasks = event.0 } in (
-            core_after,
-            subst (λ (l : List NumberedEntry). KeepsNodes nodes p lim l g (tree_of p lim s) core_after) (sym same_log)
-                (floor_same nodes p lim more after (tree_of p lim s) core_after event.2 g held workers),
-          )
+          ∙ sym is.parts)
+          (seats_put turns_at fs.views id v.floor w at_floor (turn_in w.turns) refl ∙ sym is.held)
+          (seats_kept worker_at fs.views id v.floor w at_floor is.worker ∙ sym is.workers)
 
-      -- what the clock says afterwards
-      abbrev now : ℕ
-      now = (slice_index s.words clock_place + clock_step stop) % 2 ^ 64
-
-      pub draws_beside : (low : clock_place < word_count p lim) (w : View) (a : Act (Option TaskSlot)) → IsLatest (v.floor, out) t
-          → (keep : TableKeeps p lim (stepped (floor_part p lim s) clock_place ((slice_index s.words clock_place + clock_step stop) % 2 ^ 64) id out w a))
+      pub draws_beside : (x : ℕ) (w : View) (a : Act (Option TaskSlot)) → IsLatest (v.floor, out) t
+          → TableKeeps p lim (stepped (floor_part p lim s) clock_place x id out w a)
           → (carried : List (ℕ × Option TaskSlot)) → DrewOne p lim (v.floor, out) (slice_index s.words clock_place) (w, carried)
-          → KeepsAfter nodes p lim s kept id v at clock_place ((slice_index s.words clock_place + clock_step stop) % 2 ^ 64) low out w a keep
-      draws_beside low w a latest keep carried drew =
+          → StepsBeside nodes p lim s kept id v at clock_place x (record v { floor = w })
+      draws_beside x w a latest keep carried drew =
           let seat = drew.0 t turn frame stop latest may in
           let at_found : IsDrawn after stop (drawn_seat lim (slice_index s.words clock_place) (v.floor, out) t turn frame stop).0 =
           subst (λ (n : ℕ). IsDrawn after stop (drawn_seat lim n (v.floor, out) t turn frame stop).0) clock_found (drawn out stop) in
-          beside_drawn now low w a (subst (λ (x : Seat). IsDrawn after stop x.0) (sym seat) at_found) keep
+          beside_drawn x w a (subst (λ (y : Seat). IsDrawn after stop y.0) (sym seat) at_found) keep
 
   -- no record is known of the task that is made next
   pub none_of_next : HasNoneOfNext lim v (slice_index s.words clock_place)
@@ -217,13 +205,14 @@ pub draw_tree_entry : (nodes : List (List Elem)) (p : Program) (lim : Bounds) (s
     (turn : HeldTurn) (frame : Frame) (stop : Stop) → HasTaskSlots lim.tasks mine → v.floor.kind ≢ Spent → IsLatest (floor_seat (v, mine)) t
     → MayDraw p (floor_seat (v, mine)) t turn frame stop → HasPlacedChildren (turns_seen v) 0 t
     → Allows (TreeKeeps nodes p lim) slots id (v, mine) clock_place (λ n. (n + clock_step stop) % 2 ^ 64) (DrewTreeEntry p lim (v, mine))
-draw_tree_entry nodes p lim slots id t v mine turn frame stop has live latest may placed s kept count at small =
-    let out = tasks_out mine in
-    let low : clock_place < word_count p lim = omega arith in
-    let lifted =
-    lift_after nodes p lim id v mine has slots clock_place (λ n. (n + clock_step stop) % 2 ^ 64) (DrewOne p lim (floor_seat (v, mine))) low
-    (draw_allowed p lim id t v.floor out turn frame stop live latest may)
-    (λ table table_kept here w a keep tell.
-    draws_beside nodes p lim table table_kept id v here live t turn frame out stop may placed low w a latest keep (carried_after out a) tell)
-    s kept count at small in
-    (lifted.0, lifted.1, lifted.2, lifted.3, (lifted.4, none_of_next nodes p lim s kept id v at live))
+draw_tree_entry nodes p lim slots id t v mine turn frame stop has live latest may placed =
+    lift_step nodes p lim id v mine has slots clock_place (λ n. (n + clock_step stop) % 2 ^ 64) (DrewOne p lim (floor_seat (v, mine)))
+    (DrewTreeEntry p lim (v, mine)) (omega arith)
+    (draw_allowed p lim id t v.floor (tasks_out mine) turn frame stop live latest may)
+    (λ s kept at me a keep tell. (
+      record v { floor = me.0 },
+      refl,
+      draws_beside nodes p lim s kept id v at live t turn frame (tasks_out mine) stop may placed ((slice_index s.words clock_place + clock_step stop) % 2 ^ 64)
+          me.0 a latest keep me.1 tell,
+      ((me, tell, refl), none_of_next nodes p lim s kept id v at live),
+    ))

@@ -7,6 +7,7 @@ pub mod Without
 pub mod RecordSeats
 pub mod Follows
 pub mod FloorSeats
+pub mod TurnSeats
 pub mod EntrySeats
 pub mod Chains
 pub mod inner
