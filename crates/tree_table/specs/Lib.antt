@@ -8,4 +8,6 @@ pub mod RecordSeats
 pub mod Follows
 pub mod FloorSeats
 pub mod TurnSeats
+pub mod EntrySeats
+pub mod Chains
 pub mod inner

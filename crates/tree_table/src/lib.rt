@@ -4,6 +4,8 @@
 #![tactic(auto)]
 
 mod activity;
+mod chain_laws;
+mod entry_laws;
 mod floor_laws;
 mod follow_laws;
 mod lock_laws;
@@ -17,6 +19,12 @@ mod turn_laws;
 mod view;
 
 pub use activity::NodeActivity;
+pub use chain_laws::{
+    a_chain_is_known_to_its_end, a_chain_is_known_where_it_came_to,
+    a_followed_phase_adds_to_what_is_known, a_record_that_waits_for_a_task_passes,
+    waits_are_followed_one_after_the_other, what_passed_still_passes,
+};
+pub use entry_laws::{an_admission_may_be_drawn, an_entry_may_be_drawn_beside_nodes};
 pub use floor_laws::{
     a_cell_may_be_loaded_beside_nodes, a_cell_may_be_stored_beside_nodes,
     a_phase_may_be_stored_beside_nodes,
@@ -29,9 +37,9 @@ pub use record_laws::{
     the_others_are_left,
 };
 pub use rule::{
-    BothTreeSeats, FollowWait, GiveTreeTurn, GoOn, LoadTreeCell, MarkClear, MarkPlaced,
-    MarkRemoved, NextTreeSeat, Planted, StopAt, StoreTreeCell, StoreTreePhase, TreeLaw, TreeStart,
-    TryNode, TryTreeTurn,
+    BothTreeSeats, DrawAdmission, DrawTreeEntry, FollowWait, GiveTreeTurn, GoOn, LoadTreeCell,
+    MarkClear, MarkPlaced, MarkRemoved, NextTreeSeat, Planted, StopAt, StoreTreeCell,
+    StoreTreePhase, TreeLaw, TreeStart, TryNode, TryTreeTurn,
 };
 pub use seat_laws::{a_tree_seat_may_be_split, tree_seats_may_be_joined};
 pub use slot::{Errand, ErrandKind, TreeSlot};
