@@ -4,18 +4,21 @@
 #![tactic(auto)]
 
 mod activity;
+mod content;
 mod floor_laws;
 mod follow_laws;
 mod lock_laws;
 mod record;
 mod record_laws;
 mod rule;
+mod same_effect;
 mod seat_laws;
 mod slot;
 mod start_laws;
 mod view;
 
 pub use activity::NodeActivity;
+pub use content::NodeContent;
 pub use floor_laws::{
     a_cell_may_be_loaded_beside_nodes, a_cell_may_be_stored_beside_nodes,
     a_phase_may_be_stored_beside_nodes, a_turn_may_be_tried_beside_nodes,
