@@ -2,6 +2,13 @@
 //! atomic words and slots, each with one atomic step or a few. No call blocks.
 #![tactic(auto)]
 
+mod contents;
 mod floor;
+mod following;
+mod locking;
+mod marking;
+mod turning;
+mod unlocking;
+mod words;
 
 pub use floor::{Floor, Stand};
