@@ -30,9 +30,13 @@ impl EnabledTasks {
         if is_pure(st, t) {
             return None;
         }
-        match self.bar_at_end(st, t) {
+        if let Some(s) = self.bar_at_end(st, t) {
+            return Some(s);
+        }
+        let from = self.known(st, t);
+        match bar_from(st, self.tasks.as_slice(), from, t) {
             Some(s) => Some(s),
-            None => bar_from(st, self.tasks.as_slice(), self.known(st, t), t),
+            None => None,
         }
     }
 

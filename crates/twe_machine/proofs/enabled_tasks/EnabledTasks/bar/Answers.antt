@@ -12,6 +12,24 @@ use Rattle.twe_machine.proofs.ReachedStands.{reached_stands}
 use Rattle.twe_machine.proofs.SettlesNext.{as_many_links}
 use Rattle.twe_machine.proofs.enabled_tasks.EnabledTasks.bar.Goals as goal
 
+pub is_pure-requires : goal.is_pure-requires
+is_pure-requires c = let r = c.requires.reachable in reached_filled r.0 r.2.0 c.args.st.now r.1 r.2.1
+
+-- a task without effects interferes with none
+pub returns-then-is_pure-clause-none : goal.returns-then-is_pure-clause-none
+returns-then-is_pure-clause-none c =
+    (c.requires.made, λ s ne has meets. elim ((c.is_pure.ensures c.if-is_pure.true s) meets) [ ])
+
+pub bar_at_end-requires-clause-there : goal.bar_at_end-requires-clause-there
+bar_at_end-requires-clause-there c = slice_get_within c.args.st.now.tasks c.args.t c.requires.made.0 c.requires.made.1
+
+pub bar_at_end-requires-clause-linked : goal.bar_at_end-requires-clause-linked
+bar_at_end-requires-clause-linked c =
+    let r = c.requires.reachable in as_many_links r.0 r.2.0 c.args.st.now (reached_stands r.0 r.2.0 c.args.st.now r.1 r.2.1)
+
+pub bar_at_end-requires-clause-filled : goal.bar_at_end-requires-clause-filled
+bar_at_end-requires-clause-filled c = let r = c.requires.reachable in reached_filled r.0 r.2.0 c.args.st.now r.1 r.2.1
+
 pub known-from-requires-clause-there : goal.known-from-requires-clause-there
 known-from-requires-clause-there c = slice_get_within c.args.st.now.tasks c.args.t c.requires.made.0 c.requires.made.1
 
