@@ -41,10 +41,7 @@ fn has_record(records: &[NodeRecord], task: u32, effect: &Effect, node: u32) -> 
     ensures { result
         ≡ list_any (λ r. same_record r (record { task = task; effect = effect.now; node = node })) (reverse records.now) }
 {
-    records
-        .iter()
-        .rev()
-        .any(|r| r.is_of(task, effect, node))
+    records.iter().rev().any(|r| r.is_of(task, effect, node))
 }
 
 /// Whether a record of this task is there. The last is looked at first.

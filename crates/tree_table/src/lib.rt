@@ -5,6 +5,7 @@
 
 mod activity;
 mod content;
+mod content_laws;
 mod floor_laws;
 mod follow_laws;
 mod lock_laws;
@@ -19,6 +20,7 @@ mod view;
 
 pub use activity::NodeActivity;
 pub use content::NodeContent;
+pub use content_laws::{what_is_found_is_there, what_is_not_met_passes};
 pub use floor_laws::{
     a_cell_may_be_loaded_beside_nodes, a_cell_may_be_stored_beside_nodes,
     a_phase_may_be_stored_beside_nodes, a_turn_may_be_tried_beside_nodes,

@@ -45,8 +45,7 @@ fn same_path(a: &Path, b: &Path) -> bool
     ensures { result ≡ same_path a.now b.now }
 {
     same_elems(a.elems().as_slice(), b.elems().as_slice())
-        && (same_truth(a.star(), b.star())
-            && same_elems(a.tail().as_slice(), b.tail().as_slice()))
+        && (same_truth(a.star(), b.star()) && same_elems(a.tail().as_slice(), b.tail().as_slice()))
 }
 
 /// Whether two effects are the same.
