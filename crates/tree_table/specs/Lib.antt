@@ -8,4 +8,5 @@ pub mod Meeting
 pub mod RecordSeats
 pub mod Follows
 pub mod FloorSeats
+pub mod TurnSeats
 pub mod inner
