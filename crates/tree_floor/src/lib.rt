@@ -4,13 +4,19 @@
 
 mod cells;
 mod clock;
+mod contents;
 mod entry_log;
 mod floor;
+mod following;
+mod locking;
+mod marking;
 mod phases;
 mod row_phase;
 mod segments;
 mod settling;
 mod stands;
+mod turning;
+mod unlocking;
 mod words;
 
 pub use entry_log::EntryLog;

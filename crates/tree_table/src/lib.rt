@@ -5,6 +5,8 @@
 
 mod activity;
 mod chain_laws;
+mod content;
+mod content_laws;
 mod entry_laws;
 mod floor_laws;
 mod follow_laws;
@@ -12,6 +14,7 @@ mod lock_laws;
 mod record;
 mod record_laws;
 mod rule;
+mod same_effect;
 mod seat_laws;
 mod slot;
 mod start_laws;
@@ -25,6 +28,8 @@ pub use chain_laws::{
     waits_are_followed_one_after_the_other, what_passed_still_passes,
 };
 pub use entry_laws::{an_admission_may_be_drawn, an_entry_may_be_drawn_beside_nodes};
+pub use content::NodeContent;
+pub use content_laws::{what_is_found_is_there, what_is_not_met_passes};
 pub use floor_laws::{
     a_cell_may_be_loaded_beside_nodes, a_cell_may_be_stored_beside_nodes,
     a_phase_may_be_stored_beside_nodes,

@@ -1,0 +1,69 @@
+//! How a worker marks what it has done at a node that it has locked. Each call has one atomic step, which leaves the lock word as
+//! it was. The content that the worker has in hand is its own: it has to change it as the mark says before it gives it back.
+ghost use Rattle.std.specs.Prelude.{◌≡◌, ◌<◌, List, Some, length};
+ghost use Rattle.admission_core.specs.States.{Activity, Record};
+ghost use Rattle.node_rule.specs.FactSteps.{FindsClear};
+ghost use Rattle.tree_table.specs.RecordSeats.{MayMark, MayUnmark, clear_view, marked_view, task_of, unmarked_view};
+ghost use Rattle.tree_table.specs.Seats.{tree_seen, turns_seen};
+
+use crate::floor::{Floor, Stand};
+use floor_table::Named;
+use tree_table::{MarkClear, MarkPlaced, MarkRemoved, Planted};
+
+impl<N: Named + Planted> Floor<N> {
+    /// Marks the record that this worker, whose stand it is, went for as placed at its place. The record is in front of the content
+    /// from then on. The stand only gives back the nodes that it holds.
+    pub fn mark_placed(&self, stand: &mut Stand, worker: u32, node: u32)
+        requires here { stand.old.table_id ≡ self.now }
+        requires node { node < length N.nodes }
+        requires worker { worker ≡ stand.old.me.0.floor.worker }
+        requires may { (a : Activity) × (content : List Record) × (a.place ≡ node) × MayMark N.nodes stand.old.me.0 a content }
+        ensures marked { (a : Activity) (content : List Record) → a.place ≡ node → MayMark N.nodes stand.old.me.0 a content
+            → stand.new.me ≡ (marked_view stand.old.me.0 a content, stand.old.me.1) }
+        ensures same { (stand.new.table_id ≡ stand.old.table_id) × (stand.new.id ≡ stand.old.id) }
+    {
+        let place = self.lock_place(node);
+        let taken = worker as u64 + 1;
+        self.table
+            .shared
+            .store::<MarkPlaced<N>>(stand, place, taken);
+    }
+
+    /// Marks the record that this worker, whose stand it is, went for as removed from its place. The content is without the record
+    /// from then on. The stand only gives back the nodes that it holds.
+    pub fn mark_removed(&self, stand: &mut Stand, worker: u32, node: u32)
+        requires here { stand.old.table_id ≡ self.now }
+        requires node { node < length N.nodes }
+        requires worker { worker ≡ stand.old.me.0.floor.worker }
+        requires may { (a : Activity) × (content : List Record) × (a.place ≡ node) × MayUnmark stand.old.me.0 a content }
+        ensures marked { (a : Activity) (content : List Record) → a.place ≡ node → MayUnmark stand.old.me.0 a content
+            → stand.new.me ≡ (unmarked_view stand.old.me.0 a content, stand.old.me.1) }
+        ensures same { (stand.new.table_id ≡ stand.old.table_id) × (stand.new.id ≡ stand.old.id) }
+    {
+        let place = self.lock_place(node);
+        let taken = worker as u64 + 1;
+        self.table
+            .shared
+            .store::<MarkRemoved<N>>(stand, place, taken);
+    }
+
+    /// Marks a node that this worker, whose stand it is, has locked as clear of the task that it went for: the content has no record
+    /// of that task.
+    pub fn mark_clear(&self, stand: &mut Stand, worker: u32, node: u32)
+        requires here { stand.old.table_id ≡ self.now }
+        requires node { node < length N.nodes }
+        requires worker { worker ≡ stand.old.me.0.floor.worker }
+        requires may { (a : Activity) × (stand.old.me.0.activity ≡ Some a)
+            × FindsClear (turns_seen stand.old.me.0) (tree_seen stand.old.me.0) 0 (task_of a.purpose) node }
+        ensures marked { (a : Activity) → stand.old.me.0.activity ≡ Some a
+            → FindsClear (turns_seen stand.old.me.0) (tree_seen stand.old.me.0) 0 (task_of a.purpose) node
+            → stand.new.me ≡ (clear_view stand.old.me.0 (task_of a.purpose) node, stand.old.me.1) }
+        ensures same { (stand.new.table_id ≡ stand.old.table_id) × (stand.new.id ≡ stand.old.id) }
+    {
+        let place = self.lock_place(node);
+        let taken = worker as u64 + 1;
+        self.table
+            .shared
+            .store::<MarkClear<N>>(stand, place, taken);
+    }
+}
