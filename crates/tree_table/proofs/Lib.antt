@@ -43,3 +43,5 @@ pub mod Chains
 -- Seats.
 pub mod Splits
 pub mod Joins
+-- The end.
+pub mod Closings
