@@ -27,9 +27,9 @@ pub use chain_laws::{
     a_followed_phase_adds_to_what_is_known, a_record_that_waits_for_a_task_passes,
     waits_are_followed_one_after_the_other, what_passed_still_passes,
 };
-pub use entry_laws::{an_admission_may_be_drawn, an_entry_may_be_drawn_beside_nodes};
 pub use content::NodeContent;
 pub use content_laws::{what_is_found_is_there, what_is_not_met_passes};
+pub use entry_laws::{an_admission_may_be_drawn, an_entry_may_be_drawn_beside_nodes};
 pub use floor_laws::{
     a_cell_may_be_loaded_beside_nodes, a_cell_may_be_stored_beside_nodes,
     a_phase_may_be_stored_beside_nodes,
