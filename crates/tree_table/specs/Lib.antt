@@ -11,4 +11,5 @@ pub mod FloorSeats
 pub mod TurnSeats
 pub mod EntrySeats
 pub mod Chains
+pub mod Shown
 pub mod inner
