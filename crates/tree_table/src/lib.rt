@@ -37,9 +37,8 @@ pub use floor_laws::{
 };
 pub use follow_laws::a_wait_may_be_followed;
 pub use lock_laws::{a_lock_may_be_tried, a_node_may_be_left, a_seat_may_stop};
-pub use record::{KnownWait, NodeRecord};
 pub use quiet_laws::a_closed_tree_table_shows_the_rest;
-pub use record::{KnownClear, KnownWait, NodeRecord};
+pub use record::{KnownWait, NodeRecord};
 pub use record_laws::{
     a_node_may_be_marked_clear, a_record_may_be_marked_placed, a_record_may_be_marked_removed,
     the_others_are_left,
