@@ -5,6 +5,7 @@ pub mod Seats
 pub mod Plays
 pub mod Without
 pub mod RecordSeats
+pub mod Effects
 pub mod Follows
 pub mod FloorSeats
 pub mod TurnSeats

@@ -4,6 +4,7 @@
 #![tactic(auto)]
 
 mod activity;
+mod effect_laws;
 mod floor_laws;
 mod follow_laws;
 mod lock_laws;
@@ -17,6 +18,10 @@ mod turn_laws;
 mod view;
 
 pub use activity::NodeActivity;
+pub use effect_laws::{
+    a_record_stays, a_task_has_left_none_if_no_effect_has, a_task_is_placed_if_each_effect_is,
+    the_effects_of_a_task_are_placed_one_by_one,
+};
 pub use floor_laws::{
     a_cell_may_be_loaded_beside_nodes, a_cell_may_be_stored_beside_nodes,
     a_phase_may_be_stored_beside_nodes,
