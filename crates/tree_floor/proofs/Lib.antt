@@ -6,3 +6,9 @@ pub mod Carrying
 -- Turns that were taken, that are given, and tasks that are left.
 pub mod Taking
 pub mod LeavingTasks
+-- Trying to lock a node.
+pub mod Tries
+-- The order of slots.
+pub mod Rotations
+-- Contents that are taken out and given back.
+pub mod Givings

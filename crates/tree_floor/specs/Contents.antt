@@ -1,5 +1,5 @@
 -- What a stand has of the content of a node that it has locked. While the content is handed out, nothing lies in the node's slot.
-use Rattle.std.specs.Prelude.{◌≡◌, ◌×◌, ℕ, List, ◌∷◌, None, Some}
+use Rattle.std.specs.Prelude.{◌≡◌, ℕ, List, ◌∷◌, None, Some}
 use Rattle.twe_limits.specs.Limits.{Bounds}
 use Rattle.admission_core.specs.States.{Record}
 use Rattle.tree_table.specs.declared.slot.TreeSlot.{TreeSlot}

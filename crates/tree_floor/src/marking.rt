@@ -3,7 +3,7 @@
 ghost use Rattle.std.specs.Prelude.{◌≡◌, ◌<◌, List, Some, length};
 ghost use Rattle.admission_core.specs.States.{Activity, Record};
 ghost use Rattle.node_rule.specs.FactSteps.{FindsClear};
-ghost use Rattle.tree_table.specs.RecordSeats.{MayMark, MayUnmark, clear_view, marked_view, task_of, unmarked_view};
+ghost use Rattle.tree_table.specs.RecordSeats.{MayMark, MayUnmark, clear_view, marked_view, record_about, unmarked_view};
 ghost use Rattle.tree_table.specs.Seats.{tree_seen, turns_seen};
 
 use crate::floor::{Floor, Stand};
@@ -30,7 +30,7 @@ impl<N: Named + Planted> Floor<N> {
     }
 
     /// Marks the record that this worker, whose stand it is, went for as removed from its place. The content is without the record
-    /// from then on. The stand only gives back the nodes that it holds.
+    /// from then on, and the stand knows that the record does not stand. The stand only gives back the nodes that it holds.
     pub fn mark_removed(&self, stand: &mut Stand, worker: u32, node: u32)
         requires here { stand.old.table_id ≡ self.now }
         requires node { node < length N.nodes }
@@ -47,23 +47,21 @@ impl<N: Named + Planted> Floor<N> {
             .store::<MarkRemoved<N>>(stand, place, taken);
     }
 
-    /// Marks a node that this worker, whose stand it is, has locked as clear of the task that it went for: the content has no record
-    /// of that task.
+    /// Marks the record that this worker, whose stand it is, went for as not there: the content of its place does not have it. The
+    /// stand knows from then on that the record does not stand.
     pub fn mark_clear(&self, stand: &mut Stand, worker: u32, node: u32)
         requires here { stand.old.table_id ≡ self.now }
         requires node { node < length N.nodes }
         requires worker { worker ≡ stand.old.me.0.floor.worker }
-        requires may { (a : Activity) × (stand.old.me.0.activity ≡ Some a)
-            × FindsClear (turns_seen stand.old.me.0) (tree_seen stand.old.me.0) 0 (task_of a.purpose) node }
-        ensures marked { (a : Activity) → stand.old.me.0.activity ≡ Some a
-            → FindsClear (turns_seen stand.old.me.0) (tree_seen stand.old.me.0) 0 (task_of a.purpose) node
-            → stand.new.me ≡ (clear_view stand.old.me.0 (task_of a.purpose) node, stand.old.me.1) }
+        requires may { (a : Activity) × (a.place ≡ node) × (stand.old.me.0.activity ≡ Some a)
+            × FindsClear (turns_seen stand.old.me.0) (tree_seen stand.old.me.0) 0 (record_about a) }
+        ensures marked { (a : Activity) → a.place ≡ node → stand.old.me.0.activity ≡ Some a
+            → FindsClear (turns_seen stand.old.me.0) (tree_seen stand.old.me.0) 0 (record_about a)
+            → stand.new.me ≡ (clear_view stand.old.me.0 (record_about a), stand.old.me.1) }
         ensures same { (stand.new.table_id ≡ stand.old.table_id) × (stand.new.id ≡ stand.old.id) }
     {
         let place = self.lock_place(node);
         let taken = worker as u64 + 1;
-        self.table
-            .shared
-            .store::<MarkClear<N>>(stand, place, taken);
+        self.table.shared.store::<MarkClear<N>>(stand, place, taken);
     }
 }
