@@ -14,8 +14,9 @@ use Rattle.admission_core.proofs.EffectLemmas.{one_place}
 use Rattle.node_rule.specs.FactSteps.{HasPlacedAll}
 use Rattle.node_rule.specs.RecordSteps.{not_clear}
 use Rattle.node_rule.specs.TurnSteps.{IsClearOf, LeavesNone, MayGiveFirst}
+use Rattle.node_rule.proofs.Records.{clear_among}
 use Rattle.tree_table.specs.declared.view.TreeView.{TreeView}
-use Rattle.tree_table.specs.Effects.{HasOnlyOf, HasRecord}
+use Rattle.tree_table.specs.Effects.{HasOnlyOf, HasRecord, HasSameOfOthers}
 use Rattle.tree_table.specs.Seats.{tree_seen, turns_seen}
 use Rattle.tree_table.specs.Without.{without}
 use Rattle.tree_table.proofs.Withouts.{without_is}
@@ -41,6 +42,29 @@ stays_added nodes records r t e has = record { place = has.place; is = has.is; a
 pub stays_forgotten : (nodes : List (List Elem)) (records : List Record) (t u n : ℕ) (e : Effect) → t ≢ u → HasRecord nodes records t e → HasRecord nodes (not_clear u n records) t e
 stays_forgotten nodes records t u n e other has =
     record { place = has.place; is = has.is; among = other_among u n (record { task = t; effect = e; node = has.place }) records other has.among }
+
+-- Records of other tasks.
+
+pub others_added : (records : List Record) (r : Record) (t : ℕ) → r.task ≡ t → HasSameOfOthers t records (r ∷ records)
+others_added records r t own x other = (
+  λ among. inr among,
+  λ among. ⊎_elim (λ (same : x ≡ r). absurd (other (ap (λ (y : Record). y.task) same ∙ own))) (λ (rest : IsAmong x records). rest) among,
+)
+
+pub others_removed : (records : List Record) (r : Record) (t : ℕ) → r.task ≡ t → HasSameOfOthers t records (without r records)
+others_removed records r t own x other = (
+  λ among. (without_is r records x).1 (among, λ same. other (ap (λ (y : Record). y.task) same ∙ own)),
+  λ among. ((without_is r records x).0 among).0,
+)
+
+pub others_forgotten : (records : List Record) (t n : ℕ) → HasSameOfOthers t records (not_clear t n records)
+others_forgotten records t n x other = (λ among. other_among t n x records other among, λ among. (clear_among t n x records among).0)
+
+pub others_same : (records : List Record) (t : ℕ) → HasSameOfOthers t records records
+others_same records t x other = (λ among. among, λ among. among)
+
+pub others_again : (a b c : List Record) (t : ℕ) → HasSameOfOthers t a b → HasSameOfOthers t b c → HasSameOfOthers t a c
+others_again a b c t one two x other = (λ among. (two x other).0 ((one x other).0 among), λ among. (one x other).1 ((two x other).1 among))
 
 -- Records of one effect more, or less.
 

@@ -1,5 +1,5 @@
 -- What a seat knows of the records of a task's effects at the effects' places, from one errand to the next.
-use Rattle.std.specs.Prelude.{◌≡◌, ℕ, List, Contains}
+use Rattle.std.specs.Prelude.{◌≡◌, ◌≢◌, ◌↔◌, ℕ, List, Contains}
 use Rattle.region_paths.specs.declared.elements.Elem.{Elem}
 use Rattle.effect_sets.specs.declared.effects.Effect.{Effect}
 use Rattle.admission_core.specs.States.{IsAmong, IsPlaceOf, Record}
@@ -14,3 +14,7 @@ pub record HasRecord (nodes : List (List Elem)) (records : List Record) (t : ℕ
 -- of task t there are only records of these effects, at their places
 abbrev pub HasOnlyOf : List (List Elem) → List Record → ℕ → List Effect → Type 0
 HasOnlyOf nodes records t effects = (r : Record) → IsAmong r records → r.task ≡ t → Contains effects r.effect × IsPlaceOf nodes r.effect r.node
+
+-- of tasks other than t both have the same records
+abbrev pub HasSameOfOthers : ℕ → List Record → List Record → Type 0
+HasSameOfOthers t before after = (r : Record) → r.task ≢ t → IsAmong r before ↔ IsAmong r after

@@ -11,7 +11,7 @@ ghost use Rattle.node_rule.specs.FactSteps.{HasPlacedAll};
 ghost use Rattle.node_rule.specs.RecordSteps.{not_clear};
 ghost use Rattle.node_rule.specs.TurnSteps.{IsClearOf, MayGiveFirst};
 ghost use Rattle.tree_table.specs.declared.view.TreeView.{TreeView};
-ghost use Rattle.tree_table.specs.Effects.{HasOnlyOf, HasRecord};
+ghost use Rattle.tree_table.specs.Effects.{HasOnlyOf, HasRecord, HasSameOfOthers};
 ghost use Rattle.tree_table.specs.Seats.{tree_seen, turns_seen};
 ghost use Rattle.tree_table.specs.Without.{without};
 
@@ -39,6 +39,15 @@ pub fn the_effects_of_a_task_are_placed_one_by_one()
         → ¬ IsAmong (record { task = t; effect = e; node = n }) records → HasOnlyOf nodes records t effects }
     ensures none { (nodes : List (List Elem)) (records : List Record) (t : ℕ) (r : Record) → HasOnlyOf nodes records t []
         → IsAmong r records → r.task ≢ t }
+{}
+
+/// What an errand for a task changes leaves the records of other tasks.
+pub fn the_records_of_other_tasks_stay()
+    ensures added { (records : List Record) (r : Record) (t : ℕ) → r.task ≡ t → HasSameOfOthers t records (r ∷ records) }
+    ensures removed { (records : List Record) (r : Record) (t : ℕ) → r.task ≡ t → HasSameOfOthers t records (without r records) }
+    ensures forgotten { (records : List Record) (t n : ℕ) → HasSameOfOthers t records (not_clear t n records) }
+    ensures same { (records : List Record) (t : ℕ) → HasSameOfOthers t records records }
+    ensures again { (a b c : List Record) (t : ℕ) → HasSameOfOthers t a b → HasSameOfOthers t b c → HasSameOfOthers t a c }
 {}
 
 /// A seat that has placed the record of each effect of a task may draw the task's admission, once it does nothing in the tree. If
