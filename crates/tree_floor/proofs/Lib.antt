@@ -6,3 +6,11 @@ pub mod Carrying
 -- Turns that were taken, that are given, and tasks that are left.
 pub mod Taking
 pub mod LeavingTasks
+-- A task in hand, and what is found of it.
+pub mod Forgetting
+pub mod Looking
+pub mod Valuing
+pub mod GoingOn
+-- Entries, and the tasks that they make.
+pub mod Bringing
+pub mod DrawnBeside
