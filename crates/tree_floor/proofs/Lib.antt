@@ -12,3 +12,11 @@ pub mod Tries
 pub mod Rotations
 -- Contents that are taken out and given back.
 pub mod Givings
+-- A task in hand, and what is found of it.
+pub mod Forgetting
+pub mod Looking
+pub mod Valuing
+pub mod GoingOn
+-- Entries, and the tasks that they make.
+pub mod Bringing
+pub mod DrawnBeside

@@ -3,3 +3,6 @@ pub mod Segments
 pub mod Contents
 pub mod Turns
 pub mod Leaving
+pub mod Resuming
+pub mod Committing
+pub mod inner

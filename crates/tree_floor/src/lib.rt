@@ -5,6 +5,7 @@
 mod cells;
 mod clock;
 mod contents;
+mod entries;
 mod entry_log;
 mod floor;
 mod following;
@@ -12,6 +13,7 @@ mod leaving;
 mod locking;
 mod marking;
 mod phases;
+mod resuming;
 mod row_phase;
 mod segments;
 mod settling;
@@ -21,6 +23,7 @@ mod turns;
 mod unlocking;
 mod words;
 
+pub use entries::Committed;
 pub use entry_log::EntryLog;
 pub use floor::{Floor, Stand};
 pub use segments::Seg;
