@@ -2,13 +2,23 @@
 //! atomic words and slots, each with one atomic step or a few. No call blocks.
 #![tactic(auto)]
 
+mod cells;
+mod clock;
 mod contents;
+mod entry_log;
 mod floor;
 mod following;
 mod locking;
 mod marking;
+mod phases;
+mod row_phase;
+mod segments;
+mod settling;
+mod stands;
 mod turning;
 mod unlocking;
 mod words;
 
+pub use entry_log::EntryLog;
 pub use floor::{Floor, Stand};
+pub use segments::Seg;

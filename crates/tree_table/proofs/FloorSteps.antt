@@ -107,7 +107,7 @@ module _ (nodes : List (List Elem)) (p : Program) (lim : Bounds) (s : TreeTable)
   next_log i x mine w a keep after is = one_log keep.log (floor_of p (stepped fs i x id mine w a)).parts keep.rule.parts after (sym keep.rule.entries ∙ is.0) is.1
 
   -- the nodes stay as they were if only the floor's view of the seat changes
-  unseated : (w : View) → seated (record v { floor = w }) ≡ tree
+  pub unseated : (w : View) → seated (record v { floor = w }) ≡ tree
   unseated w =
       let u : TreeView = record v { floor = w } in
       tree_is _ tree refl refl (elements_kept activity_at s.views id v u at refl) (elements_kept kept_at s.views id v u at refl) (elements_kept placed_at s.views id v u at refl)

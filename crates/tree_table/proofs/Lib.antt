@@ -33,6 +33,15 @@ pub mod FloorCalls
 pub mod PhaseCalls
 pub mod Takes
 pub mod Gives
+-- Entries.
+pub mod SameParts
+pub mod LogSteps
+pub mod Entries
+pub mod Admissions
+-- Chains of waits.
+pub mod Chains
 -- Seats.
 pub mod Splits
 pub mod Joins
+-- The end.
+pub mod Closings

@@ -9,4 +9,7 @@ pub mod RecordSeats
 pub mod Follows
 pub mod FloorSeats
 pub mod TurnSeats
+pub mod EntrySeats
+pub mod Chains
+pub mod Shown
 pub mod inner

@@ -58,14 +58,21 @@ fn meets(r: &NodeRecord, task: u32, effect: &Effect) -> bool
     r.task() != task && interferes(r.effect(), effect)
 }
 
+/// The records but for the last `count` of them; none if there are no more.
+fn all_but(records: &[NodeRecord], count: usize) -> &[NodeRecord]
+    ensures { reverse result.now ≡ drop count (reverse records.now) }
+{
+    let left = records.len().saturating_sub(count);
+    &records[..left]
+}
+
 /// How many records come before the first that the task meets with this effect, from the last on but for `from` of them.
 fn first_met(records: &[NodeRecord], from: usize, task: u32, effect: &Effect) -> Option<usize>
     ensures { result ≡ position (meets task effect.now) (drop from (reverse records.now)) }
 {
-    records
+    all_but(records, from)
         .iter()
         .rev()
-        .skip(from)
         .position(|r| meets(r, task, effect))
 }
 
@@ -73,7 +80,11 @@ fn first_met(records: &[NodeRecord], from: usize, task: u32, effect: &Effect) ->
 fn record_at(records: &[NodeRecord], at: usize) -> Option<&NodeRecord>
     ensures { option_copied result ≡ slice_get (reverse records.now) at }
 {
-    records.iter().rev().nth(at)
+    if at < records.len() {
+        records.get(records.len() - 1 - at)
+    } else {
+        None
+    }
 }
 
 impl NodeContent {

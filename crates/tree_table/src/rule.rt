@@ -1,4 +1,5 @@
 //! The rule of the floor with nodes, as a rule of its table.
+ghost use Rattle.tree_table.specs.EntrySeats.{DrewAdmission, DrewTreeEntry};
 ghost use Rattle.tree_table.specs.FloorSeats.{LoadsTreeCell, StoresTreeCell, StoresTreePhase};
 ghost use Rattle.tree_table.specs.Follows.{Follows};
 ghost use Rattle.tree_table.specs.Holds.{TreeKeeps, first_tree_view, joined_tree_view, left_tree_view, right_tree_view, spent_tree_view};
@@ -168,4 +169,22 @@ pub struct GiveTreeTurn<N: Named + Planted> {
 
 impl<N: Named + Planted> Play<TreeSlot, TreeView> for GiveTreeTurn<N> {
     ghost then = { GivesTreeTurn N.nodes N.prog };
+}
+
+/// An entry of a segment is drawn.
+pub struct DrawTreeEntry<N: Named> {
+    of: PhantomData<N>,
+}
+
+impl<N: Named> Play<TreeSlot, TreeView> for DrawTreeEntry<N> {
+    ghost then = { λ s. DrewTreeEntry N.prog N.lim };
+}
+
+/// The entry of an admission is drawn.
+pub struct DrawAdmission<N: Named + Planted> {
+    of: PhantomData<N>,
+}
+
+impl<N: Named + Planted> Play<TreeSlot, TreeView> for DrawAdmission<N> {
+    ghost then = { λ s. DrewAdmission N.nodes };
 }

@@ -1,0 +1,95 @@
+-- How a worker sets out.
+use Rattle.std.proofs.Common.{◌≡◌, ◌≢◌, ◌⊎◌, ℕ, Bool, true, false, List, [], ◌∷◌, Option, Some, None, if◌then◌else◌, refl, sym, ap, subst, ◌∙◌, inl, inr, ⊎_elim}
+use Rattle.std.specs.Prelude.{◌==◌, Contains, slice_get}
+use Rattle.std.proofs.lemmas.Bool.{cases_eq}
+use Rattle.std.proofs.lemmas.Bool.Decides.{Decides-eqb}
+use Rattle.std.proofs.lemmas.List.Elements.{Contains-get_or}
+use Rattle.std.proofs.lemmas.Option.{get_or_from_slice_get, slice_get_within}
+use mathlib.Core.Option as core
+use Rattle.region_paths.specs.declared.elements.Elem.{Elem}
+use Rattle.effect_sets.specs.declared.effects.Effect.{Effect}
+use Rattle.prefix_tree.specs.Nodes.{IsParent, IsTreeOfPaths}
+use Rattle.floor_rule.specs.declared.view.HeldTurn.{HeldTurn}
+use Rattle.floor_table.specs.FloorOf.{turn_in}
+use Rattle.admission_core.specs.States.{Activity, Descends, IsAbove, IsPlaceOf, Stage, Walks, effect_of}
+use Rattle.admission_core.specs.Events.{HasCome}
+use Rattle.node_rule.specs.LockSteps.{MayEnter, MaySetOut}
+use Rattle.tree_table.specs.declared.slot.Errand.{Errand}
+use Rattle.tree_table.specs.declared.slot.ErrandKind.{ErrandKind}
+use Rattle.tree_table.specs.declared.slot.ErrandKind.TheVariants.{Admission, Placing, Removal}
+use Rattle.tree_table.specs.declared.slot.TreeSlot.{TreeSlot}
+use Rattle.tree_table.specs.declared.slot.TreeSlot.TheVariants as kinds
+use Rattle.tree_table.specs.declared.view.TreeView.{TreeView}
+use Rattle.tree_table.specs.Seats.{MayLock, activity_for, effect_known, enters, errand_of, purpose_for, tree_seen, turns_seen}
+use Rattle.tree_ways.specs.Ways.{LeadsTo}
+use Rattle.tree_ways.proofs.WayLemmas.{next_above, not_yet}
+use Rattle.tree_admit.specs.Going.{HasOnlyLearned, IsOutside}
+use Rattle.tree_admit.specs.Errands.{KnowsErrand, MaySetOutFor, come_to, errand_at}
+use Rattle.tree_admit.proofs.Marks.{turn_known}
+
+-- Coming to a node.
+
+choose_true : (b : Bool) (x y : Stage) → b ≡ true → (if b then x else y) ≡ x
+choose_true true x y h = refl
+choose_true false x y h = absurd (let no = h in cc)
+
+choose_false : (b : Bool) (x y : Stage) → b ≢ true → (if b then x else y) ≡ y
+choose_false true x y h = absurd (h refl)
+choose_false false x y h = refl
+
+pub come_there : (place n : ℕ) → n ≡ place → come_to place n ≡ Walks (n ∷ []) []
+come_there place n same = choose_true (place == n) (Walks (n ∷ []) []) (Descends n) ((Decides-eqb place n).1 (sym same))
+
+pub come_above : (place n : ℕ) → n ≢ place → come_to place n ≡ Descends n
+come_above place n other = choose_false (place == n) (Walks (n ∷ []) []) (Descends n) (λ same. other (sym ((Decides-eqb place n).0 same)))
+
+pub has_come : (place n : ℕ) → HasCome place n (come_to place n)
+has_come place n = ⊎_elim (λ (at : n ≡ place). inr (at, come_there place n at)) (λ (above : n ≢ place). inl (above, come_above place n above)) (cases_eq n place)
+
+-- who has not come to its place yet goes on
+pub goes_on : (nodes : List (List Elem)) → IsTreeOfPaths nodes → (place n c : ℕ) (way : List ℕ) → LeadsTo nodes n (c ∷ way) place
+    → (come_to place n ≡ Descends n) × IsParent nodes n c × IsAbove nodes c place × LeadsTo nodes c way place
+goes_on nodes tree place n c way leads =
+    (come_above place n (not_yet nodes tree n c place way leads), leads.0, next_above nodes tree n c place way leads, leads.1)
+
+-- Errands.
+
+pub has_effect : (effects : List Effect) (k : ℕ) (e : Effect) → slice_get effects k ≡ Some e → Contains effects e
+has_effect effects k e is = subst (Contains effects) (get_or_from_slice_get effects k e e is) (Contains-get_or effects k e (slice_get_within effects k e is))
+
+-- what is known of an errand stays known
+pub errand_known : (nodes : List (List Elem)) (v w : TreeView) (errand : Errand) (e : Effect) → HasOnlyLearned v w → KnowsErrand nodes v errand e → KnowsErrand nodes w errand e
+errand_known nodes v w errand e learned knows = record {
+  turn = knows.turn;
+  has = turn_known v w errand.task knows.turn learned knows.has;
+  effect = knows.effect;
+  place = knows.place;
+  may = knows.may;
+}
+
+effect_is : (kind : ErrandKind) (t : ℕ) (e : Effect) → effect_of (purpose_for kind t e) ≡ e
+effect_is Admission t e = refl
+effect_is Placing t e = refl
+effect_is Removal t e = refl
+
+may_set_out : (v : TreeView) (kind : ErrandKind) (t : ℕ) (e : Effect) (turn : HeldTurn) → turn_in v.floor.turns t ≡ Some turn → Contains turn.row.effects.effects e → MaySetOutFor kind turn
+    → MaySetOut (turns_seen v) 0 (purpose_for kind t e)
+may_set_out v Admission t e turn has effect may = record { turn = turn; has = has; taken = may.0; made = may.1; effect = effect }
+may_set_out v Placing t e turn has effect may = tt
+may_set_out v Removal t e turn has effect may = tt
+
+module _ (nodes : List (List Elem)) (v : TreeView) (errand : Errand) (e : Effect) (knows : KnowsErrand nodes v errand e) where
+  errand_is : errand_of v (core.some (kinds.Errand errand)) ≡ Some (errand_at errand e 0)
+  errand_is =
+      ap (λ (turn : Option HeldTurn). activity_for errand (effect_known turn errand.effect)) knows.has
+      ∙ ap (λ (effect : Option Effect). activity_for errand effect) knows.effect
+
+  pub may_enter : IsOutside v → MayLock nodes v (core.some (kinds.Errand errand)) 0 (errand_at errand e 0)
+  may_enter outside =
+      enters refl errand_is
+      (record {
+        idle = outside.idle;
+        purpose = may_set_out v errand.kind errand.task e knows.turn knows.has (has_effect knows.turn.row.effects.effects errand.effect e knows.effect) knows.may;
+        place = subst (λ (f : Effect). IsPlaceOf nodes f errand.place) (sym (effect_is errand.kind errand.task e)) knows.place;
+        stage = has_come errand.place 0;
+      })

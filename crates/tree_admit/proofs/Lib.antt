@@ -1,0 +1,8 @@
+-- What views know, and what of contents is known after a change.
+pub mod Learning
+pub mod Contents
+-- The steps of a worker in the tree.
+pub mod Steps
+pub mod Marks
+pub mod Entering
+pub mod Following

@@ -1,0 +1,58 @@
+-- What a worker goes down the tree for, and what it has to know.
+use Rattle.std.specs.Prelude.{◌≡◌, ◌==◌, ◌≢◌, ◌<◌, ℕ, false, List, [], ◌∷◌, Some, if◌then◌else◌, slice_get}
+use Rattle.region_paths.specs.declared.elements.Elem.{Elem}
+use Rattle.effect_sets.specs.declared.effects.Effect.{Effect}
+use Rattle.twe_machine.specs.declared.state.TaskStatus.TheVariants as status
+use Rattle.floor_rule.specs.declared.view.HeldTurn.{HeldTurn}
+use Rattle.floor_table.specs.FloorOf.{turn_in}
+use Rattle.admission_core.specs.States.{Activity, Admit, Descends, IsAmong, IsPlaceOf, Purpose, Record, Stage, Walks}
+use Rattle.node_rule.specs.LockSteps.{PassesHere}
+use Rattle.node_rule.specs.RecordSteps.{not_clear}
+use Rattle.node_rule.specs.Trees.{WaitFact}
+use Rattle.tree_table.specs.declared.slot.Errand.{Errand}
+use Rattle.tree_table.specs.declared.slot.ErrandKind.{ErrandKind}
+use Rattle.tree_table.specs.declared.slot.ErrandKind.TheVariants.{Admission, Placing, Removal}
+use Rattle.tree_table.specs.declared.view.TreeView.{TreeView}
+use Rattle.tree_table.specs.Seats.{purpose_for}
+use Rattle.tree_table.specs.Without.{without}
+
+-- the stage of who holds node n alone on the way to a place, or at it
+abbrev pub come_to : ℕ → ℕ → Stage
+come_to place n = if place == n then Walks (n ∷ []) [] else Descends n
+
+-- what a worker does on this errand for this effect that has come to node n
+abbrev pub errand_at : Errand → Effect → ℕ → Activity
+errand_at errand e n = record { purpose = purpose_for errand.kind errand.task e; place = errand.place; stage = come_to errand.place n }
+
+-- the task of an errand is still to be admitted, if the errand is for that
+abbrev pub MaySetOutFor : ErrandKind → HeldTurn → Type 0
+MaySetOutFor Admission turn = (turn.first ≡ false) × (turn.row.status ≡ status.Made)
+MaySetOutFor Placing turn = Unit {0}
+MaySetOutFor Removal turn = Unit {0}
+
+-- A seat with this view has the turn of the errand's task, of which this is the effect, and the errand names its place.
+pub record KnowsErrand (nodes : List (List Elem)) (v : TreeView) (errand : Errand) (e : Effect) : Type 0 where
+  pub turn : HeldTurn
+  pub has : turn_in v.floor.turns errand.task ≡ Some turn
+  pub effect : slice_get turn.row.effects.effects errand.effect ≡ Some e
+  pub place : IsPlaceOf nodes e errand.place
+  pub may : MaySetOutFor errand.kind turn
+
+-- each of the records passes
+abbrev pub AllPass : List WaitFact → Purpose → List Record → Type 0
+AllPass waits purpose content = (r : Record) → IsAmong r content → PassesHere waits purpose r
+
+-- the record that an errand is about
+abbrev pub record_of : Errand → Effect → Record
+record_of errand e = record { task = errand.task; effect = e; node = errand.place }
+
+-- What a view knows once a record was placed, or removed, and that a node is clear of a task.
+
+abbrev pub with_placed : Record → TreeView → TreeView
+with_placed r v = record v { placed = r ∷ v.placed; fresh = r ∷ v.fresh; clear = not_clear r.task r.node v.clear }
+
+abbrev pub with_removed : Record → TreeView → TreeView
+with_removed r v = record v { removed = r ∷ v.removed; fresh = without r v.fresh }
+
+abbrev pub with_clear : ℕ → ℕ → TreeView → TreeView
+with_clear t n v = record v { clear = record { task = t; node = n } ∷ v.clear }

@@ -1,0 +1,49 @@
+-- How ways lead down, and why two nodes right below one do not lie above the same node.
+use Rattle.std.proofs.Common.{◌≡◌, ◌≢◌, ℕ, zero, suc, ◌+◌, ◌<◌, ◌≤◌, List, [], ◌∷◌, ◌++◌, length, length-append, sym, ap, subst, ◌∙◌, arith}
+use Rattle.region_paths.specs.declared.elements.Elem.{Elem}
+use Rattle.prefix_tree.specs.Prefix.{IsPrefix}
+use Rattle.prefix_tree.specs.Nodes.{path_of, IsParent, IsTreeOfPaths}
+use Rattle.admission_core.specs.States.{IsAbove}
+use Rattle.admission_core.proofs.TreeLemmas.{above_refl, above_trans, parent_above, parent_over, over_above}
+use Rattle.tree_ways.specs.Ways.{LeadsTo, longest, room_below}
+
+module _ (nodes : List (List Elem)) (tree : IsTreeOfPaths nodes) where
+  -- a node lies above the end of each way that leads on from it
+  pub lead_above : (n end : ℕ) (way : List ℕ) → IsAbove nodes n n → LeadsTo nodes n way end → IsAbove nodes n end
+  lead_above n end [] here h = subst (λ (m : ℕ). IsAbove nodes n m) h here
+  lead_above n end (c ∷ way) here h =
+      above_trans nodes tree n c end (parent_above nodes tree n c h.0) (lead_above c end way (above_refl nodes tree c h.0.1) h.1)
+
+  pub next_above : (n c end : ℕ) (way : List ℕ) → LeadsTo nodes n (c ∷ way) end → IsAbove nodes c end
+  next_above n c end way h = lead_above c end way (above_refl nodes tree c h.0.1) h.1
+
+  pub not_yet : (n c end : ℕ) (way : List ℕ) → LeadsTo nodes n (c ∷ way) end → n ≢ end
+  not_yet n c end way h same =
+      let over = over_above nodes tree n c end (parent_over nodes tree n c h.0) (next_above n c end way h) in
+      over.other same
+
+  -- two prefixes of one path that end in one element more than a third are one
+  same_next : (a path : List Elem) (e f : Elem) → IsPrefix (a ++ e ∷ []) path → IsPrefix (a ++ f ∷ []) path → e ≡ f
+  same_next [] [] e f h k = absurd h
+  same_next [] (x ∷ xs) e f h k = h.0 ∙ sym k.0
+  same_next (y ∷ ys) [] e f h k = absurd h
+  same_next (y ∷ ys) (x ∷ xs) e f h k = same_next ys xs e f h.1 k.1
+
+  pub siblings : (n c d m : ℕ) → IsParent nodes n c → IsParent nodes n d → IsAbove nodes c m → IsAbove nodes d m → c ≡ d
+  siblings n c d m p q h k =
+      let first = subst (λ (a : List Elem). IsPrefix a (path_of nodes m)) p.2.1 h.prefix in
+      let second = subst (λ (a : List Elem). IsPrefix a (path_of nodes m)) q.2.1 k.prefix in
+      let same = same_next (path_of nodes n) (path_of nodes m) p.2.0 q.2.0 first second in
+      tree.once c d p.1 q.1 (p.2.1 ∙ ap (λ (e : Elem). path_of nodes n ++ e ∷ []) same ∙ sym q.2.1)
+
+below_longest : (nodes : List (List Elem)) (n : ℕ) → length (path_of nodes n) ≤ longest nodes
+below_longest [] zero = omega arith
+below_longest [] (suc n) = omega arith
+below_longest (path ∷ paths) zero = omega arith
+below_longest (path ∷ paths) (suc n) = let rest = below_longest paths n in omega (arith, rest)
+
+pub room_shrinks : (nodes : List (List Elem)) (n c : ℕ) → IsParent nodes n c → room_below nodes c < room_below nodes n
+room_shrinks nodes n c h =
+    let longer : length (path_of nodes c) ≡ length (path_of nodes n) + 1 = ap length h.2.1 ∙ length-append (path_of nodes n) (h.2.0 ∷ []) in
+    let within = below_longest nodes c in
+    omega (arith, longer, within)
