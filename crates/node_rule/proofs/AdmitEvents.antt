@@ -44,7 +44,7 @@ use Rattle.node_rule.proofs.EntryTasks.{ran_tasks}
 use Rattle.node_rule.proofs.Facts.{admissible}
 use Rattle.node_rule.proofs.KnownTasks.{KnownTask, taken_turn, task_of_turn}
 use Rattle.node_rule.proofs.LastMade.{made_has_none, made_other, made_own}
-use Rattle.node_rule.proofs.TaskChanges.{has_more, turn_else}
+use Rattle.node_rule.proofs.TaskChanges.{first_back, has_more, not_first, turn_else}
 
 module _ (nodes : List (List Elem)) (p : Program) (lim : Bounds) (log : List NumberedEntry) (f : Floor) (tree : Tree) (core : State)
     (both : KeepsBoth nodes p lim log f tree core) (i t : ℕ) (may : MayDrawAdmission nodes f.held tree i t) where
@@ -198,6 +198,9 @@ module _ (nodes : List (List Elem)) (p : Program) (lim : Bounds) (log : List Num
         let before = keep.known.owned r at among (was r.task at differ there) other in
         (before.0, has_more f.held i t new before.0 r.task before.1, before.2))
         (cases_eq r.task t);
+    first_fresh = λ j r y stands at first.
+        let before = first_back f.held i t new (not_first f.held i t new may.placed.taken) j r.task y at first in
+        keep.known.first_fresh j r before.0 stands before.1 before.2;
     fresh_stand = λ j r among. let before = keep.known.fresh_stand j r among in (before.0, has_more f.held i t new j r.task before.1);
     clear_are = λ j fact among. let before = keep.known.clear_are j fact among in (has_more f.held i t new j fact.task before.0, before.1);
     waits_hold = λ j fact among.

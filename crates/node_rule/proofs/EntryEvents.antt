@@ -49,11 +49,11 @@ use Rattle.floor_rule.specs.Steps.{MayCommit, end_after, entry_drawn, first_turn
 use Rattle.floor_rule.proofs.EntryLemmas.{Stays, stays}
 use Rattle.floor_rule.proofs.EntrySteps.{end_is, may_move, running, segment_is}
 use Rattle.floor_rule.proofs.RunLemmas as run_lemmas
-use Rattle.floor_rule.proofs.TurnLemmas.{turn_here, turn_of_other}
+use Rattle.floor_rule.proofs.TurnLemmas.{turn_here, turn_of_other, turn_was}
 use Rattle.admission_core.specs.Conditions.{MeetsConditions}
 use Rattle.admission_core.specs.Tasks.{Status, Task, Tasks, Turn, Free, Taken, New, IsTask, HasStatus}
 use Rattle.admission_core.specs.Tasks as tasks
-use Rattle.admission_core.specs.States.{State}
+use Rattle.admission_core.specs.States.{IsAmong, Record, State}
 use Rattle.admission_core.specs.Entries.{Becomes, IsJoined, MayRun, TaskEvent, links_ended, links_joined, new_task, parent_if}
 use Rattle.admission_core.specs.Entries as events
 use Rattle.admission_core.specs.Rule.{by_task}
@@ -68,7 +68,7 @@ use Rattle.node_rule.proofs.Facts.{stands_placed}
 use Rattle.node_rule.proofs.KnownTasks.{KnownTask, row_of, taken_turn, task_of_row, task_of_turn}
 use Rattle.node_rule.proofs.LastMade.{made_other, made_own, never_made}
 use Rattle.node_rule.proofs.LockEvents.{links_agree}
-use Rattle.node_rule.proofs.TaskChanges.{has_more, turn_else}
+use Rattle.node_rule.proofs.TaskChanges.{first_back, has_more, not_first, turn_else}
 use Rattle.node_rule.proofs.TurnEvents.{children_placed}
 
 -- Lists.
@@ -243,9 +243,11 @@ module _ (nodes : List (List Elem)) (p : Program) (lim : Bounds) (log : List Num
 
   -- What the seats know, if each turn stays where it is.
 
-  ran_known : (g : Turns) → ((j u : ℕ) → HasTurn f.held j u → HasTurn g j u) → ((row : TaskRow) → IsRow after t row → row.status ≢ status.Made)
+  ran_known : (g : Turns) → ((j u : ℕ) → HasTurn f.held j u → HasTurn g j u)
+      → ((j : ℕ) (r : Record) (y : HeldTurn) → IsAmong r core.records → g j r.task ≡ Some y → y.first ≡ true → (before : HeldTurn) × (f.held j r.task ≡ Some before) × (before.first ≡ true))
+      → ((row : TaskRow) → IsRow after t row → row.status ≢ status.Made)
       → KnowledgeFits after g core.records tree.fresh tree.clear tree.waits
-  ran_known g lift own = record {
+  ran_known g lift back own = record {
     owned = λ r row among there other.
         ⊎_elim
         (λ (same : r.task ≡ t). (
@@ -261,6 +263,7 @@ module _ (nodes : List (List Elem)) (p : Program) (lim : Bounds) (log : List Num
         let before = keep.known.owned r at.row among at.there (λ enabled. other (sym status_same ∙ enabled)) in
         (before.0, lift before.0 r.task before.1, λ made. before.2 (status_same ∙ made)))
         (cases_eq r.task t);
+    first_fresh = λ j r y stands at first. let before = back j r y stands at first in keep.known.first_fresh j r before.0 stands before.1 before.2;
     fresh_stand = λ j r among. let before = keep.known.fresh_stand j r among in (before.0, lift j r.task before.1);
     clear_are = λ j fact among. let before = keep.known.clear_are j fact among in (lift j fact.task before.0, before.1);
     waits_hold = λ j fact among.
@@ -367,6 +370,7 @@ module _ (nodes : List (List Elem)) (p : Program) (lim : Bounds) (log : List Num
         known =
             ran_known g.held
             (λ j u has. subst (λ (h : Turns). HasTurn h j u) (sym held) (has_more f.held i t new j u has))
+            (λ j r y stands at is. first_back f.held i t new (not_first f.held i t new first) j r.task y (ap (λ (h : Turns). h j r.task) (sym held) ∙ at) is)
             own_ran;
       },
     )
@@ -495,6 +499,15 @@ module _ (nodes : List (List Elem)) (p : Program) (lim : Bounds) (log : List Num
           conditions = made_meets;
         })
 
+    -- no record of the child stands, and its maker's turn is no first one
+    first_was : (j : ℕ) (r : Record) (y : HeldTurn) → IsAmong r core.records → g.held j r.task ≡ Some y → y.first ≡ true → (before : HeldTurn) × (f.held j r.task ≡ Some before) × (before.first ≡ true)
+    first_was j r y stands at is =
+        let placed = stands_placed nodes p lim log f tree core both r stands in
+        ⊎_elim
+        (λ (here : (j ≡ i) × (r.task ≡ c) × (Some (first_turn child_row) ≡ Some y)). absurd (below_child r.task placed.row placed.there here.1))
+        (λ (there : ((j ≡ i) → r.task ≢ c) × (put_turn f.held i t (Some new) j r.task ≡ Some y)). first_back f.held i t new (not_first f.held i t new first) j r.task y there.1 is)
+        (turn_was (put_turn f.held i t (Some new)) i c (Some (first_turn child_row)) j r.task y (ap (λ (h : Turns). h j r.task) (sym held) ∙ at))
+
     pub made_one : IsTaskEvent nodes p lim more g tree core
     made_one = (
       grown_tasks,
@@ -511,6 +524,7 @@ module _ (nodes : List (List Elem)) (p : Program) (lim : Bounds) (log : List Num
             (λ j u has.
             subst (λ (h : Turns). HasTurn h j u) (sym held)
             (has_more (put_turn f.held i t (Some new)) i c (first_turn child_row) j u (has_more f.held i t new j u has)))
+            first_was
             maker_ran;
       },
     )

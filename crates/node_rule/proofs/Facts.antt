@@ -94,6 +94,7 @@ module _ (nodes : List (List Elem)) (p : Program) (lim : Bounds) (log : List Num
       knows tree.fresh (put tree.clear i (r ∷ tree.clear i)) tree.waits
       (record {
         owned = keep.known.owned;
+        first_fresh = keep.known.first_fresh;
         fresh_stand = keep.known.fresh_stand;
         clear_are = put_all (λ (j : ℕ) (records : List Record). (x : Record) → IsAmong x records → IsClear j x) tree.clear i (r ∷ tree.clear i)
             (λ x among.
@@ -124,6 +125,7 @@ module _ (nodes : List (List Elem)) (p : Program) (lim : Bounds) (log : List Num
       knows tree.fresh tree.clear (put tree.waits i (record { waiter = s; awaited = v } ∷ tree.waits i))
       (record {
         owned = keep.known.owned;
+        first_fresh = keep.known.first_fresh;
         fresh_stand = keep.known.fresh_stand;
         clear_are = keep.known.clear_are;
         waits_hold = put_all (λ (j : ℕ) (facts : List WaitFact). (fact : WaitFact) → IsAmong fact facts → Holds fact) tree.waits i (record { waiter = s; awaited = v } ∷ tree.waits i)

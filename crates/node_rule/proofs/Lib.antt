@@ -17,6 +17,7 @@ pub mod RecordEvents
 -- What seats learn, and admission.
 pub mod Facts
 pub mod Bars
+pub mod OwnRecords
 -- The steps of the floor on turns and seats: the tasks of the core once a turn was set, and these steps as events.
 pub mod TaskChanges
 pub mod TurnEvents

@@ -126,6 +126,14 @@ module _ (st : State) (turns : Turns) (one : OneHolder turns) (standing : List R
         let old = known.owned x row rest there other in
         (old.0, old.1, λ made. fresh_more old.0 x (old.2 made)))
         among;
+    first_fresh = λ j x other among at first.
+        ⊎_elim
+        (λ (is : x ≡ r).
+        let mine : HasTurn turns i x.task = subst (λ (y : Record). HasTurn turns i y.task) (sym is) turn in
+        let seat : j ≡ i = one j i x.task other mine.0 at mine.1 in
+        subst (λ (k : ℕ). IsAmong x (put fresh i (r ∷ fresh i) k)) (sym seat) (subst (λ (xs : List Record). IsAmong x xs) (sym (put_here fresh i (r ∷ fresh i))) (inl is)))
+        (λ (rest : IsAmong x standing). fresh_more j x (known.first_fresh j x other rest at first))
+        among;
     fresh_stand = λ j x among.
         ⊎_elim
         (λ (own : (j ≡ i) × (r ∷ fresh i ≡ put fresh i (r ∷ fresh i) j)).
@@ -200,6 +208,7 @@ module _ (st : State) (turns : Turns) (one : OneHolder turns) (standing : List R
           let was = (out x).0 among in
           let old = known.owned x row was.0 there other in
           (old.0, old.1, λ made. fresh_less old.0 x was.1 (old.2 made));
+      first_fresh = λ j x other among at first. let was = (out x).0 among in fresh_less j x was.1 (known.first_fresh j x other was.0 at first);
       fresh_stand = λ j x among.
           ⊎_elim
           (λ (own : (j ≡ i) × (less ≡ put fresh i less j)).

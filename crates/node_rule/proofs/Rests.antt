@@ -148,6 +148,7 @@ module _ (nodes : List (List Elem)) (p : Program) (lim : Bounds) (log : List Num
           let there_st : IsRow st r.task row = subst (λ (s : State). IsRow s r.task row) (sym run.same) there in
           let same : own.placed.row ≡ row = got_one (slice_get st.tasks r.task) own.placed.there there_st in
           absurd (other (sym (ap (λ (x : TaskRow). x.status) same) ∙ own.enabled));
+      first_fresh = λ i r turn stands has first. absurd (none_some has);
       fresh_stand = λ i r among. absurd among;
       clear_are = λ i fact among. absurd among;
       waits_hold = λ i fact among. absurd among;

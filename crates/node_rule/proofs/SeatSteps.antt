@@ -59,6 +59,7 @@ module _ (nodes : List (List Elem)) (p : Program) (lim : Bounds) (log : List Num
     records = record { once = keep.records.once; counts = counts_joined core.records tree.placed tree.removed keep.records.counts i j other };
     known = record {
       owned = keep.known.owned;
+      first_fresh = keep.known.first_fresh;
       fresh_stand = keep.known.fresh_stand;
       clear_are = keep.known.clear_are;
       waits_hold =

@@ -175,6 +175,7 @@ module _ (nodes : List (List Elem)) (p : Program) (lim : Bounds) (log : List Num
           → KnowledgeFits st after core.records tree.fresh (put tree.clear i (clear_after_taking nodes t turn.row.status turn.row.effects.effects (tree.clear i))) tree.waits
       knows_clear old = record {
         owned = old.owned;
+        first_fresh = old.first_fresh;
         fresh_stand = old.fresh_stand;
         clear_are = put_all (λ (j : ℕ) (records : List Record). (r : Record) → IsAmong r records → IsClear j r) tree.clear i
             (clear_after_taking nodes t turn.row.status turn.row.effects.effects (tree.clear i)) (learned turn.row.status turn.row.effects.effects none_inactive (old.clear_are i))

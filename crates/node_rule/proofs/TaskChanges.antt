@@ -1,5 +1,5 @@
 -- The tasks of the core, and what seats know, once the turn of one task was set.
-use Rattle.std.proofs.Common.{◌≡◌, ◌≢◌, ℕ, Bool, List, [], ◌∷◌, Option, Some, None, if◌then◌else◌, refl, sym, ap, subst, ◌∙◌, inl, inr, ⊎_elim, eq-eqb, ne_eqb}
+use Rattle.std.proofs.Common.{◌≡◌, ◌≢◌, ℕ, Bool, true, false, List, [], ◌∷◌, Option, Some, None, if◌then◌else◌, refl, sym, ap, subst, ◌∙◌, inl, inr, ⊎_elim, eq-eqb, ne_eqb}
 use Rattle.std.specs.Prelude.{slice_get, slice_set}
 use Rattle.std.proofs.lemmas.Bool.{cases_eq}
 use Rattle.seg_journal.specs.declared.journal.Entry.{Entry}
@@ -10,7 +10,8 @@ use Rattle.isolation_laws.specs.Admission.{made_last}
 use Rattle.floor_rule.specs.declared.view.HeldTurn.{HeldTurn}
 use Rattle.floor_rule.specs.Fitting.{IsUnheld, Turns}
 use Rattle.floor_rule.specs.Floors.{put_turn}
-use Rattle.floor_rule.proofs.TurnLemmas.{turn_here, turn_of_other, turns_elsewhere, unheld_else}
+use Rattle.floor_rule.proofs.Puts.{some_one}
+use Rattle.floor_rule.proofs.TurnLemmas.{turn_here, turn_of_other, turn_was, turns_elsewhere, unheld_else}
 use Rattle.admission_core.specs.Tasks.{Task, Tasks, Turn, Free, Taken, New, IsTask}
 use Rattle.admission_core.specs.Entries.{Becomes}
 use Rattle.admission_core.specs.States.{IsAmong, Record}
@@ -88,6 +89,24 @@ has_more turns i t turn j u has =
 
 pub has_else : (turns : Turns) (i t : ℕ) (x : Option HeldTurn) (j u : ℕ) → u ≢ t → HasTurn turns j u → HasTurn (put_turn turns i t x) j u
 has_else turns i t x j u other has = (has.0, turn_of_other turns i t x j u other ∙ has.1)
+
+-- a first turn is one that was set, or was one before
+pub first_back : (turns : Turns) (i t : ℕ) (new : HeldTurn) → (new.first ≡ true → (old : HeldTurn) × (turns i t ≡ Some old) × (old.first ≡ true)) → (j u : ℕ) (y : HeldTurn)
+    → put_turn turns i t (Some new) j u ≡ Some y → y.first ≡ true → (old : HeldTurn) × (turns j u ≡ Some old) × (old.first ≡ true)
+first_back turns i t new own j u y at first =
+    ⊎_elim
+    (λ (here : (j ≡ i) × (u ≡ t) × (Some new ≡ Some y)).
+    let was = own (ap (λ (h : HeldTurn). h.first) (some_one here.2) ∙ first) in
+    (was.0, ap (λ (n : ℕ). turns n u) here.0 ∙ (ap (turns i) here.1 ∙ was.1), was.2))
+    (λ (there : ((j ≡ i) → u ≢ t) × (turns j u ≡ Some y)). (y, there.1, first))
+    (turn_was turns i t (Some new) j u y at)
+
+-- no first turn is set
+pub not_first : (turns : Turns) (i t : ℕ) (new : HeldTurn) → new.first ≡ false → new.first ≡ true → (old : HeldTurn) × (turns i t ≡ Some old) × (old.first ≡ true)
+not_first turns i t new taken first = absurd (false_true (sym taken ∙ first))
+  where
+    false_true : false ≡ true → ⊥
+    false_true h = cc
 
 none_of : {A : Type 0} (o : Option A) → ((x : A) → o ≡ Some x → ⊥) → o ≡ None
 none_of None never = refl

@@ -25,8 +25,8 @@ use Rattle.floor_rule.specs.Fitting.{IsMade, IsUnheld, TurnFits, Turns}
 use Rattle.floor_rule.specs.Floors.{Floor, put, put_turn}
 use Rattle.floor_rule.specs.Floors as floors
 use Rattle.floor_rule.specs.Steps.{after_giving, after_phase, after_taking}
-use Rattle.floor_rule.proofs.Puts.{none_some, put_all, some_one}
-use Rattle.floor_rule.proofs.TurnLemmas.{turn_here, turns_elsewhere}
+use Rattle.floor_rule.proofs.Puts.{none_some, put_all, put_else, some_one}
+use Rattle.floor_rule.proofs.TurnLemmas.{turn_here, turn_was, turns_elsewhere}
 use Rattle.admission_core.specs.Tasks.{Task, Turn, Free, Taken, New, IsTask}
 use Rattle.admission_core.specs.States.{State, IsAmong, Record}
 use Rattle.admission_core.specs.Entries.{AllStand, ChildrenArePlaced, TaskEvent, TakeTurn, GiveTurn, GiveFirst}
@@ -39,13 +39,16 @@ use Rattle.node_rule.specs.TurnSteps.{IsClearOf, IsTaskEvent, LeavesNone, MayGiv
 use Rattle.node_rule.proofs.Facts.{stands_placed}
 use Rattle.node_rule.proofs.KnownTasks.{KnownTask, first_turn, taken_turn, task_of_row, task_of_turn}
 use Rattle.node_rule.proofs.LockEvents.{invariant, links_agree}
-use Rattle.node_rule.proofs.TaskChanges.{among_others, becomes, given_away, has_else, has_more, others_among, tasks_set, turn_else, with_task}
+use Rattle.node_rule.proofs.TaskChanges.{among_others, becomes, first_back, given_away, has_else, has_more, not_first, others_among, tasks_set, turn_else, with_task}
 
 -- what the seats know stays if each turn stays where it is
 known_more : (st : machine.State) (turns more : Turns) (standing : List Record) (fresh : ℕ → List Record) (clear : ℕ → List Record) (waits : ℕ → List WaitFact)
-    → ((j u : ℕ) → HasTurn turns j u → HasTurn more j u) → KnowledgeFits st turns standing fresh clear waits → KnowledgeFits st more standing fresh clear waits
-known_more st turns more standing fresh clear waits lift known = record {
+    → ((j u : ℕ) → HasTurn turns j u → HasTurn more j u)
+    → ((j u : ℕ) (turn : HeldTurn) → more j u ≡ Some turn → turn.first ≡ true → (old : HeldTurn) × (turns j u ≡ Some old) × (old.first ≡ true))
+    → KnowledgeFits st turns standing fresh clear waits → KnowledgeFits st more standing fresh clear waits
+known_more st turns more standing fresh clear waits lift back known = record {
   owned = λ r row among there other. let old = known.owned r row among there other in (old.0, lift old.0 r.task old.1, old.2);
+  first_fresh = λ i r turn stands has first. let old = back i r.task turn has first in known.first_fresh i r old.0 stands old.1 old.2;
   fresh_stand = λ i r among. let old = known.fresh_stand i r among in (old.0, lift i r.task old.1);
   clear_are = λ i fact among. let old = known.clear_are i fact among in (lift i fact.task old.0, old.1);
   waits_hold = known.waits_hold;
@@ -122,7 +125,7 @@ module _ (nodes : List (List Elem)) (p : Program) (lim : Bounds) (log : List Num
     contents = keep.contents;
     records = keep.records;
     known = known_more (state_after p lim (journal_of log)) f.held (put_turn f.held i t (Some (record turn { phase = phase }))) core.records tree.fresh tree.clear tree.waits
-        (has_more f.held i t (record turn { phase = phase })) keep.known;
+        (has_more f.held i t (record turn { phase = phase })) (first_back f.held i t (record turn { phase = phase }) (λ first. (turn, has, first))) keep.known;
   }
 
 pub free_turn : (turns : Turns) (t : ℕ) → IsUnheld turns t → (turn : Turn) (unplaced : Bool) → TurnIs turns t turn unplaced → (turn ≡ Free) × (unplaced ≡ false)
@@ -165,7 +168,8 @@ module _ (nodes : List (List Elem)) (p : Program) (lim : Bounds) (log : List Num
           locks = keep.locks;
           contents = keep.contents;
           records = keep.records;
-          known = known_more st f.held (put_turn f.held i t (Some turn)) core.records tree.fresh tree.clear tree.waits (has_more f.held i t turn) keep.known;
+          known = known_more st f.held (put_turn f.held i t (Some turn)) core.records tree.fresh tree.clear tree.waits (has_more f.held i t turn)
+              (first_back f.held i t turn (not_first f.held i t turn taken)) keep.known;
         },
       )
 
@@ -228,6 +232,20 @@ module _ (nodes : List (List Elem)) (p : Program) (lim : Bounds) (log : List Num
         (λ r among. among_others t r (tree.clear i) among)
         (λ j differ r among. (among, λ same. differ (alone j r.task same (keep.known.clear_are j r among).0)))
 
+    -- a first turn that is left is of another task, or at another seat
+    first_kept : (j : ℕ) (r : Record) (other : HeldTurn) → IsAmong r core.records → put_turn f.held i t None j r.task ≡ Some other → other.first ≡ true
+        → IsAmong r (put tree.fresh i (of_others t (tree.fresh i)) j)
+    first_kept j r other stands at first =
+        ⊎_elim
+        (λ (here : (j ≡ i) × (r.task ≡ t) × (None ≡ Some other)). absurd (none_some here.2))
+        (λ (there : ((j ≡ i) → r.task ≢ t) × (f.held j r.task ≡ Some other)).
+        let among = keep.known.first_fresh j r other stands there.1 first in
+        ⊎_elim
+        (λ (same : j ≡ i). fresh_kept j r (there.0 same) among)
+        (λ (differ : j ≢ i). subst (IsAmong r) (sym (put_else tree.fresh i j (of_others t (tree.fresh i)) differ)) among)
+        (cases_eq j i))
+        (turn_was f.held i t None j r.task other at)
+
     known_given : KnowledgeFits (state_after p lim (journal_of log)) (put_turn f.held i t None) core.records (put tree.fresh i (of_others t (tree.fresh i)))
         (put tree.clear i (of_others t (tree.clear i))) tree.waits
     known_given = record {
@@ -235,6 +253,7 @@ module _ (nodes : List (List Elem)) (p : Program) (lim : Bounds) (log : List Num
           let apart = none_left r row among there other in
           let old = keep.known.owned r row among there other in
           (old.0, has_else f.held i t None old.0 r.task apart old.1, λ made. fresh_kept old.0 r apart (old.2 made));
+      first_fresh = λ j r other stands at first. first_kept j r other stands at first;
       fresh_stand = λ j r among.
           let was = fresh_was j r among in
           let old = keep.known.fresh_stand j r was.0 in

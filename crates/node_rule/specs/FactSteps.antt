@@ -1,5 +1,5 @@
 -- What seats learn of nodes and of waits, and what it is worth.
-use Rattle.std.specs.Prelude.{◌≡◌, ◌≢◌, ◌⊎◌, ℕ, false, List, ◌∷◌, Some, Contains}
+use Rattle.std.specs.Prelude.{◌≡◌, ◌≢◌, ◌⊎◌, ℕ, true, false, List, ◌∷◌, Some, Contains}
 use Rattle.region_paths.specs.declared.elements.Elem.{Elem}
 use Rattle.effect_sets.specs.declared.effects.Effect.{Effect}
 use Rattle.effect_sets.specs.Interference.{Interferes}
@@ -24,6 +24,10 @@ pub record FindsClear (turns : Turns) (tree : Tree) (i : ℕ) (r : Record) : Typ
 
 abbrev pub after_finding_clear : Tree → ℕ → Record → Tree
 after_finding_clear tree i r = record tree { clear = put tree.clear i (r ∷ tree.clear i) }
+
+-- The task of this turn is new or still to be admitted, so its records are to be placed by the seat that has the turn.
+abbrev pub IsToPlace : HeldTurn → Type 0
+IsToPlace turn = (turn.first ≡ true) ⊎ (turn.row.status ≡ status.Made)
 
 -- Waits.
 

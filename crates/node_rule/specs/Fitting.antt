@@ -120,6 +120,8 @@ IsOwned turns fresh r row = (i : ℕ) × HasTurn turns i r.task × (row.status �
 pub record KnowledgeFits (st : State) (turns : Turns) (standing : List Record) (fresh : ℕ → List Record) (clear : ℕ → List Record) (waits : ℕ → List WaitFact) : Type 0 where
   -- a record of a task that is not enabled stands only while a seat has the task's turn
   pub owned : (r : Record) (row : TaskRow) → IsAmong r standing → IsRow st r.task row → row.status ≢ status.Enabled → IsOwned turns fresh r row
+  -- a record of a task whose first turn a seat has was placed by that seat
+  pub first_fresh : (i : ℕ) (r : Record) (turn : HeldTurn) → IsAmong r standing → turns i r.task ≡ Some turn → turn.first ≡ true → IsAmong r (fresh i)
   -- what a seat has placed since it got the turn stands, and the seat has the turn
   pub fresh_stand : (i : ℕ) (r : Record) → IsAmong r (fresh i) → IsAmong r standing × HasTurn turns i r.task
   -- what a seat knows not to stand does not stand, and the seat has the turn

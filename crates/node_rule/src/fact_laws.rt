@@ -1,5 +1,5 @@
 //! The laws on what workers learn of nodes and of waits, and the law that admission rests on.
-ghost use Rattle.std.specs.Prelude.{◌≡◌, ℕ, List};
+ghost use Rattle.std.specs.Prelude.{◌≡◌, ℕ, List, Some};
 ghost use Rattle.region_paths.specs.declared.elements.Elem.{Elem};
 ghost use Rattle.twe_limits.specs.Limits.{Bounds};
 ghost use Rattle.twe_program.specs.Program.{Program};
@@ -7,11 +7,12 @@ ghost use Rattle.twe_machine.specs.Legal.{MayAdmit};
 ghost use Rattle.twe_machine.specs.Runs.{state_after};
 ghost use Rattle.journal_merge.specs.declared.numbered.NumberedEntry.{NumberedEntry};
 ghost use Rattle.journal_merge.specs.Merging.{journal_of};
+ghost use Rattle.floor_rule.specs.declared.view.HeldTurn.{HeldTurn};
 ghost use Rattle.floor_rule.specs.declared.view.Phase.TheVariants.{Waits};
 ghost use Rattle.floor_rule.specs.Floors.{Floor};
 ghost use Rattle.admission_core.specs.States.{IsAmong, Record, State};
 ghost use Rattle.node_rule.specs.Fitting.{IsPlaced};
-ghost use Rattle.node_rule.specs.FactSteps.{FindsClear, HasOnly, HasPlacedAll, IsInTheWay, IsKnownToWait, after_finding_clear, after_following};
+ghost use Rattle.node_rule.specs.FactSteps.{FindsClear, HasOnly, HasPlacedAll, IsInTheWay, IsKnownToWait, IsToPlace, after_finding_clear, after_following};
 ghost use Rattle.node_rule.specs.Rule.{KeepsBoth, KeepsNodes};
 ghost use Rattle.node_rule.specs.Trees.{Tree};
 
@@ -45,6 +46,18 @@ pub fn not_finding_a_record_keeps_the_rule()
     ensures { (nodes : List (List Elem)) (p : Program) (lim : Bounds) (log : List NumberedEntry) (f : Floor) (tree : Tree)
         (core : State) (i : ℕ) (r : Record) → KeepsBoth nodes p lim log f tree core → FindsClear f.held tree i r
         → KeepsNodes nodes p lim log f (after_finding_clear tree i r) core }
+{}
+
+/// The content of a node has what a worker has placed there. Of a task that is new or still to be admitted it has nothing else, if
+/// the worker has the task's turn.
+pub fn a_node_has_what_its_worker_has_placed()
+    ensures there { (nodes : List (List Elem)) (p : Program) (lim : Bounds) (log : List NumberedEntry) (f : Floor) (tree : Tree)
+        (core : State) (i n : ℕ) (content : List Record) (r : Record) → KeepsBoth nodes p lim log f tree core
+        → tree.contents n ≡ Some content → IsAmong r (tree.fresh i) → r.node ≡ n → IsAmong r content }
+    ensures own { (nodes : List (List Elem)) (p : Program) (lim : Bounds) (log : List NumberedEntry) (f : Floor) (tree : Tree)
+        (core : State) (i n : ℕ) (content : List Record) (r : Record) (turn : HeldTurn) → KeepsBoth nodes p lim log f tree core
+        → tree.contents n ≡ Some content → IsAmong r content → f.held i r.task ≡ Some turn → IsToPlace turn
+        → IsAmong r (tree.fresh i) }
 {}
 
 /// A worker that knows of a chain of waits, and finds that its last task waits for another, knows that chain too.

@@ -14,9 +14,9 @@ mod start_laws;
 mod taking_laws;
 
 pub use fact_laws::{
-    a_placed_task_is_legal_to_admit, following_a_wait_keeps_the_rule,
-    not_finding_a_record_keeps_the_rule, records_stand_at_their_places,
-    what_is_in_the_way_forbids_the_admission,
+    a_node_has_what_its_worker_has_placed, a_placed_task_is_legal_to_admit,
+    following_a_wait_keeps_the_rule, not_finding_a_record_keeps_the_rule,
+    records_stand_at_their_places, what_is_in_the_way_forbids_the_admission,
 };
 pub use floor_laws::{
     admissions_keep_the_rules, cells_and_phases_leave_the_nodes, entries_keep_the_nodes,

@@ -3,6 +3,9 @@ pub mod Told
 -- Segments over a stand.
 pub mod Touching
 pub mod Carrying
+-- Turns that were taken, that are given, and tasks that are left.
+pub mod Taking
+pub mod LeavingTasks
 -- Trying to lock a node.
 pub mod Tries
 -- The order of slots.

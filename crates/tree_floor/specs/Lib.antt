@@ -1,3 +1,5 @@
 pub mod Stands
 pub mod Segments
 pub mod Contents
+pub mod Turns
+pub mod Leaving

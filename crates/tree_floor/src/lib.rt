@@ -8,6 +8,7 @@ mod contents;
 mod entry_log;
 mod floor;
 mod following;
+mod leaving;
 mod locking;
 mod marking;
 mod phases;
@@ -16,6 +17,7 @@ mod segments;
 mod settling;
 mod stands;
 mod turning;
+mod turns;
 mod unlocking;
 mod words;
 

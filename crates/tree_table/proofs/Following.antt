@@ -150,6 +150,7 @@ module _ (nodes : List (List Elem)) (p : Program) (lim : Bounds) (s : TreeTable)
           records = keep.records;
           known = record {
             owned = keep.known.owned;
+            first_fresh = keep.known.first_fresh;
             fresh_stand = keep.known.fresh_stand;
             clear_are = keep.known.clear_are;
             waits_hold = put_all (λ j waits. (fact : WaitFact) → IsAmong fact waits → IsTrueWait fact) tree.waits id (followed u t v.waits) all_true (λ j other. keep.known.waits_hold j);

@@ -24,6 +24,8 @@ pub mod Marks
 -- The steps in the form in which the calls of the table ask for them.
 pub mod Calls
 pub mod MarkCalls
+-- The records of a task's effects.
+pub mod Effects
 -- Loading a phase word.
 pub mod Following
 -- Steps of the floor.

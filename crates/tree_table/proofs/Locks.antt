@@ -13,20 +13,21 @@ use Rattle.floor_rule.specs.Floors.{Floor, put}
 use Rattle.floor_rule.proofs.Puts.{none_some, some_one}
 use Rattle.floor_table.specs.Layout.{word_count}
 use Rattle.floor_table.proofs.Elements.{set_same, word_at}
-use Rattle.admission_core.specs.States.{Activity, Record, State}
+use Rattle.admission_core.specs.States.{Activity, IsAmong, Record, State}
 use Rattle.node_rule.specs.LockSteps.{LocksNode, after_locking}
 use Rattle.node_rule.specs.Rule.{KeepsNodes}
 use Rattle.node_rule.specs.Trees.{Locked, Tree, Unlocked}
 use Rattle.node_rule.proofs.LockEvents.{entering, going_down, walking_down}
+use Rattle.node_rule.proofs.OwnRecords.{fresh_there, own_fresh}
 use Rattle.tree_table.specs.declared.slot.TreeSlot.{TreeSlot}
 use Rattle.tree_table.specs.declared.slot.TreeSlot.TheVariants as kinds
 use Rattle.tree_table.specs.declared.view.TreeView.{TreeView}
 use Rattle.tree_table.specs.Holds.{TreeKeeps}
 use Rattle.tree_table.specs.Layout.{content_place, free_lock, lock_at, lock_of_word, lock_place, taken_lock}
-use Rattle.tree_table.specs.Seats.{MayLock, TriedNode, enters, goes_down, locked_view, walks_down}
+use Rattle.tree_table.specs.Seats.{HasOwn, MayLock, TriedNode, enters, goes_down, locked_view, walks_down}
 use Rattle.tree_table.specs.TreeOf.{TreeTable, activity_at, clear_at, content_at, floor_part, floor_shown, floor_view, fresh_at, kept_at, placed_at, removed_at, task_home, tree_of, waits_at}
 use Rattle.tree_table.proofs.Elements.{at_some, elements_kept, elements_put, map_set, places_put, take_set}
-use Rattle.tree_table.proofs.Seen.{down_seen, enter_seen, kept_id, walk_seen, worker_id}
+use Rattle.tree_table.proofs.Seen.{down_seen, enter_seen, fresh_id, held_id, kept_id, walk_seen, worker_id}
 use Rattle.tree_table.proofs.Ties.{keeps_after, tree_is}
 
 -- a slot that shows a content holds it
@@ -107,6 +108,16 @@ module _ (nodes : List (List Elem)) (p : Program) (lim : Bounds) (s : TreeTable)
         let home = at_some s.homes (content_place lim n) (content_within n below) in
         home.1 ∙ ap core.some (node_home home.0 records (sym (ap content_at home.1) ∙ is))
 
+    -- what the node has of the seat's own records
+    owns : (records : List Record) → tree.contents n ≡ Some records → HasOwn v n records
+    owns records is = record {
+      there = λ r among node.
+          fresh_there nodes p lim kept.floor.log f tree kept.core kept.both id n records is r (subst (IsAmong r) (sym (fresh_id nodes p lim s id v at)) among) node;
+      fresh = λ r turn among held to_place.
+          subst (IsAmong r) (fresh_id nodes p lim s id v at)
+          (own_fresh nodes p lim kept.floor.log f tree kept.core kept.both id n records is r turn among (held_id nodes p lim s id v at r.task ∙ held) to_place);
+    }
+
     free_shown : slice_index s.words (lock_place p lim n) ≡ free_lock → tree.locks n ≡ Unlocked
     free_shown found = ap lock_at (word_at s.words (lock_place p lim n) (lock_within n below)) ∙ ap lock_of_word found
 
@@ -118,7 +129,7 @@ module _ (nodes : List (List Elem)) (p : Program) (lim : Bounds) (s : TreeTable)
       takes (content_place lim n) (kinds.Node records),
       home_there records there,
       keeps_with n (taken_lock v.floor.worker) core.none (locked_view v n records next) refl (after_locking f tree id n records next) core_after (lock_tie records next) nodes_keep,
-      inl (found, record { records = records; seat = refl }),
+      inl (found, record { records = records; own = owns records there; seat = refl }),
     )
 
     -- a step that changes nothing

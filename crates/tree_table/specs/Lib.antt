@@ -6,6 +6,7 @@ pub mod Plays
 pub mod Without
 pub mod Meeting
 pub mod RecordSeats
+pub mod Effects
 pub mod Follows
 pub mod FloorSeats
 pub mod TurnSeats

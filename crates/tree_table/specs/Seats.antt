@@ -8,7 +8,8 @@ use Rattle.twe_limits.specs.Limits.{Bounds}
 use Rattle.floor_rule.specs.declared.view.HeldTurn.{HeldTurn}
 use Rattle.floor_rule.specs.Fitting.{Turns}
 use Rattle.floor_table.specs.FloorOf.{turn_in}
-use Rattle.admission_core.specs.States.{Activity, Admit, Child, Leaves, Purpose, Record, Remove, Stage, Descends, Steps, Walks, held}
+use Rattle.admission_core.specs.States.{Activity, Admit, Child, IsAmong, Leaves, Purpose, Record, Remove, Stage, Descends, Steps, Walks, held}
+use Rattle.node_rule.specs.FactSteps.{IsToPlace}
 use Rattle.node_rule.specs.LockSteps.{MayEnter, MayGiveParent, MayGoDown, MayWalkDown, MayWalkUp}
 use Rattle.node_rule.specs.Trees.{Tree, Unlocked}
 use Rattle.tree_table.specs.declared.slot.Errand.{Errand}
@@ -83,9 +84,16 @@ pub data MayLock (nodes : List (List Elem)) (v : TreeView) (said : core.Option T
 abbrev pub locked_view : TreeView → ℕ → List Record → Activity → TreeView
 locked_view v n records next = record v { activity = Some next; kept = record { node = n; content = Some records } ∷ v.kept }
 
+-- What a seat with this view has placed at node n is among its records. Of a task that is new or still to be admitted, and whose
+-- turn the seat has, nothing else is.
+pub record HasOwn (v : TreeView) (n : ℕ) (records : List Record) : Type 0 where
+  pub there : (r : Record) → IsAmong r v.fresh → r.node ≡ n → IsAmong r records
+  pub fresh : (r : Record) (turn : HeldTurn) → IsAmong r records → turn_in v.floor.turns r.task ≡ Some turn → IsToPlace turn → IsAmong r v.fresh
+
 -- the seat has locked node n, and has its content
 pub record TookNode (lim : Bounds) (before : TreeSeat) (n : ℕ) (next : Activity) (after : TreeSeat) : Type 0 where
   pub records : List Record
+  pub own : HasOwn before.0 n records
   pub seat : after ≡ (locked_view before.0 n records next, (content_place lim n, kinds.Node records) ∷ before.1)
 
 -- if the lock word was free, the seat has locked the node; otherwise nothing changes

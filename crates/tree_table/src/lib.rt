@@ -7,6 +7,7 @@ mod activity;
 mod chain_laws;
 mod content;
 mod content_laws;
+mod effect_laws;
 mod entry_laws;
 mod floor_laws;
 mod follow_laws;
@@ -30,6 +31,10 @@ pub use chain_laws::{
 };
 pub use content::NodeContent;
 pub use content_laws::{what_is_found_is_there, what_is_not_met_passes};
+pub use effect_laws::{
+    a_record_stays, a_task_has_left_none_if_no_effect_has, a_task_is_placed_if_each_effect_is,
+    the_effects_of_a_task_are_placed_one_by_one,
+};
 pub use entry_laws::{an_admission_may_be_drawn, an_entry_may_be_drawn_beside_nodes};
 pub use floor_laws::{
     a_cell_may_be_loaded_beside_nodes, a_cell_may_be_stored_beside_nodes,

@@ -7,7 +7,7 @@ use Rattle.floor_table.specs.Tells.{Seat}
 use Rattle.tree_table.specs.FloorSeats.{StoresTreePhase, floor_seat}
 use Rattle.tree_table.specs.Holds.{TreeKeeps}
 use Rattle.tree_table.specs.Layout.{tree_slot_count}
-use Rattle.tree_table.proofs.TurnCalls.{store_phase}
+use Rattle.tree_table.proofs.PhaseCalls.{store_phase}
 use Rattle.tree_floor.proofs.Told.{stays, told}
 use Rattle.tree_floor.proofs.floor.Floor.set_phase.Goals as goal
 

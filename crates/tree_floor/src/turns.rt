@@ -1,0 +1,93 @@
+//! The turns of tasks.
+ghost use Rattle.std.specs.Prelude.{◌≡◌, ◌≢◌, ◌<◌, ℕ, List, Option, IfOk, IfErr};
+ghost use Rattle.floor_rule.specs.declared.view.HeldTurn.{HeldTurn};
+ghost use Rattle.floor_rule.specs.declared.view.TaskSlot.{TaskSlot};
+ghost use Rattle.floor_table.specs.declared.view.SeatKind.TheVariants.{Spent};
+ghost use Rattle.task_floor.specs.Stands.{holder_in};
+ghost use Rattle.tree_table.specs.declared.slot.TreeSlot as slots;
+ghost use Rattle.tree_table.specs.declared.slot.TreeSlot.TheVariants.{Task};
+ghost use Rattle.tree_table.specs.FloorSeats.{HasTaskSlots};
+ghost use Rattle.tree_table.specs.TurnSeats.{GaveTreeTurn};
+ghost use Rattle.tree_floor.specs.Turns.{FoundBusy, HasTakenTask, MayGiveTask};
+
+use crate::floor::{Floor, Stand};
+use floor_rule::TaskSlot;
+use floor_table::Named;
+use task_floor::Busy;
+use tree_table::{GiveTreeTurn, Planted, TreeSlot, TryTreeTurn};
+
+/// Whom a turn word names that is not free.
+fn found_busy(word: u64) -> Busy
+    ensures { result.holder ≡ holder_in word }
+{
+    Busy {
+        holder: if word < 2 { None } else { Some(word - 2) },
+    }
+}
+
+/// What lies in the slot of a task.
+pub(crate) fn task_in(slot: TreeSlot) -> Option<TaskSlot>
+    requires { (held : Option TaskSlot) × (slot ≡ Task held) }
+    ensures { slot ≡ Task result }
+{
+    match slot {
+        TreeSlot::Task(held) => held,
+        TreeSlot::Node(_) => unreachable!(),
+        TreeSlot::Errand(_) => unreachable!(),
+    }
+}
+
+impl<N: Named + Planted> Floor<N> {
+    /// Takes the turn of a task for this worker, whose stand it is, and what lies in the task's slot. Unless the task is enabled,
+    /// the stand knows then that no record of it stands. `Busy` if the turn word was not free; then the stand is as it was. The
+    /// stand holds no node.
+    pub fn take_turn(&self, stand: &mut Stand, worker: u32, task: u32) -> Result<TaskSlot, Busy>
+        requires here { stand.old.table_id ≡ self.now }
+        requires live { stand.old.me.0.floor.kind ≢ Spent }
+        requires slots { HasTaskSlots N.lim.tasks stand.old.me.1 }
+        requires task { task < N.lim.tasks }
+        requires worker { worker ≡ stand.old.me.0.floor.worker }
+        ensures taken { IfOk result (λ slot. HasTakenTask N.nodes stand.old.me stand.new.me task slot) }
+        ensures busy { IfErr result (λ busy. FoundBusy stand.old.me stand.new.me busy.holder) }
+        ensures same { (stand.new.table_id ≡ stand.old.table_id) × (stand.new.id ≡ stand.old.id) }
+    {
+        let place = self.turn_place(task);
+        let taken = worker as u64 + 2;
+        let found = self
+            .table
+            .shared
+            .compare_exchange::<TryTreeTurn<N>>(stand, place, 0, taken);
+        if found != 0 {
+            return Err(found_busy(found));
+        }
+        let home = self
+            .table
+            .shared
+            .exchange(stand, task as usize, TreeSlot::Task(None));
+        match task_in(home) {
+            Some(slot) => Ok(slot),
+            None => unreachable!(),
+        }
+    }
+
+    /// Gives the turn of a task whose slot is the latest that the stand has out. What its last entry left goes into the slot. A
+    /// stand that gives the turn of a done task knows the task's value from then on. Of records of the task it knows nothing any
+    /// more. The stand holds no node.
+    pub fn give_turn(&self, stand: &mut Stand, task: u32, slot: TaskSlot)
+        requires here { stand.old.table_id ≡ self.now }
+        requires live { stand.old.me.0.floor.kind ≢ Spent }
+        requires slots { HasTaskSlots N.lim.tasks stand.old.me.1 }
+        requires task { task < N.lim.tasks }
+        requires may { (turn : HeldTurn) × (rest : List (ℕ × slots.TreeSlot)) × MayGiveTask N.nodes stand.old.me task slot turn rest }
+        ensures gave { (turn : HeldTurn) (rest : List (ℕ × slots.TreeSlot)) → MayGiveTask N.nodes stand.old.me task slot turn rest
+            → GaveTreeTurn stand.old.me task turn rest stand.new.me }
+        ensures same { (stand.new.table_id ≡ stand.old.table_id) × (stand.new.id ≡ stand.old.id) }
+    {
+        let place = self.turn_place(task);
+        let _empty = self
+            .table
+            .shared
+            .exchange(stand, task as usize, TreeSlot::Task(Some(slot)));
+        self.table.shared.store::<GiveTreeTurn<N>>(stand, place, 0);
+    }
+}
