@@ -7,12 +7,14 @@ use Rattle.admission_core.specs.States.{Activity}
 use Rattle.tree_table.specs.Layout.{free_lock}
 use Rattle.tree_table.specs.Seats.{TookNode, TreeSeat, TriedNode}
 
-pub took_is : (lim : Bounds) (before : TreeSeat) (n : ℕ) (next : Activity) (found : ℕ) (after : TreeSeat) → (found == 0) ≡ true → TriedNode lim before n next found after → TookNode lim before n next after
+pub took_is : (lim : Bounds) (before : TreeSeat) (n : ℕ) (next : Activity) (found : ℕ) (after : TreeSeat) → (found == 0) ≡ true
+    → TriedNode lim before n next found after → TookNode lim before n next after
 took_is lim before n next found after free tried =
     ⊎_elim (λ (took : (found ≡ free_lock) × TookNode lim before n next after). took.1)
     (λ (missed : (found ≢ free_lock) × (after ≡ before)). absurd (missed.0 (eqb-true found 0 free))) tried
 
-pub missed_is : (lim : Bounds) (before : TreeSeat) (n : ℕ) (next : Activity) (found : ℕ) (after : TreeSeat) → (found == 0) ≡ false → TriedNode lim before n next found after → after ≡ before
+pub missed_is : (lim : Bounds) (before : TreeSeat) (n : ℕ) (next : Activity) (found : ℕ) (after : TreeSeat) → (found == 0) ≡ false
+    → TriedNode lim before n next found after → after ≡ before
 missed_is lim before n next found after busy tried =
     ⊎_elim (λ (took : (found ≡ free_lock) × TookNode lim before n next after). absurd (false≢true (sym busy ∙ eq-eqb found 0 took.0)))
     (λ (missed : (found ≢ free_lock) × (after ≡ before)). missed.1) tried

@@ -1,9 +1,12 @@
 -- The contents of nodes: records without one, and what is found in them.
 use Rattle.std.proofs.Common.{◌≡◌, ◌≢◌, ◌⊎◌, ◌↔◌, ℕ, Bool, true, false, cond, not, ◌&&◌, List, [], ◌∷◌, ◌++◌, reverse, take, zero, suc, None, Some, length, refl, sym, ap, subst, ◌∙◌, inl, inr, ⊎_elim, if◌then◌else◌, append-nil, eqb-true, eq-eqb, arith, take_all}
-use Rattle.std.specs.Prelude.{◌+◌, ◌≤◌, ◌==◌, ◌||◌, nat_lt}
+use Rattle.std.specs.Prelude.{◌+◌, ◌-◌, ◌<◌, ◌≤◌, ◌==◌, ◌||◌, drop, nat_lt, slice_get}
 use Rattle.std.specs.List.{filter, list_any, position, position_or_len}
-use Rattle.std.proofs.lemmas.Bool.{false≢true, ltb-false}
+use Rattle.std.proofs.lemmas.Bool.{cases_lt, false≢true, ltb-false}
 use Rattle.std.proofs.lemmas.Grind.{reverse_onto}
+use Rattle.std.proofs.lemmas.List.{drop_all, get_or-reverse, length-drop, length-reverse, reverse-append, take-append-drop}
+use Rattle.std.proofs.lemmas.Option.{slice_get-get_or, slice_get_past}
+use Rattle.std.proofs.Math.Seq.{drop-append_seam}
 use Rattle.effect_sets.specs.declared.effects.Effect.{Effect}
 use Rattle.effect_sets.specs.Interference.{statically_interferes}
 use Rattle.floor_rule.proofs.Puts.{none_some, some_one}
@@ -39,10 +42,12 @@ without_append r (x ∷ xs) ys = by (same_record x r) (without_append r xs ys)
 pub without_reversed : (r : Record) (l : List Record) → reverse (without r l) ≡ without r (reverse l)
 without_reversed r [] = refl
 without_reversed r (x ∷ xs) =
-    let parts : without r (reverse (x ∷ xs)) ≡ without r (reverse xs) ++ without r (x ∷ []) = ap (without r) (reverse_onto xs x []) ∙ without_append r (reverse xs) (x ∷ []) in
+    let parts : without r (reverse (x ∷ xs)) ≡ without r (reverse xs) ++ without r (x ∷ []) =
+    ap (without r) (reverse_onto xs x []) ∙ without_append r (reverse xs) (x ∷ []) in
     by (same_record x r) (without_reversed r xs) ∙ sym parts
   where
-    by : (b : Bool) → reverse (without r xs) ≡ without r (reverse xs) → reverse (if b then without r xs else x ∷ without r xs) ≡ without r (reverse xs) ++ (if b then [] else x ∷ [])
+    by : (b : Bool) → reverse (without r xs) ≡ without r (reverse xs)
+        → reverse (if b then without r xs else x ∷ without r xs) ≡ without r (reverse xs) ++ (if b then [] else x ∷ [])
     by true others = others ∙ sym (append-nil (without r (reverse xs)))
     by false others = reverse_onto (without r xs) x [] ∙ ap (λ (l : List Record). l ++ x ∷ []) others
 
@@ -61,7 +66,8 @@ pub found_among : (r : Record) (l : List Record) → (list_any (λ x. same_recor
 found_among r [] = (λ found. absurd (false≢true found), λ among. absurd among)
 found_among r (x ∷ xs) = (by (same_record x r) refl (found_among r xs).0, back (found_among r xs).1)
   where
-    by : (b : Bool) → same_record x r ≡ b → (list_any (λ y. same_record y r) xs ≡ true → IsAmong r xs) → (b || list_any (λ y. same_record y r) xs) ≡ true → IsAmong r (x ∷ xs)
+    by : (b : Bool) → same_record x r ≡ b → (list_any (λ y. same_record y r) xs ≡ true → IsAmong r xs)
+        → (b || list_any (λ y. same_record y r) xs) ≡ true → IsAmong r (x ∷ xs)
     by true is others found = inl (sym ((record_decided x r).0 is))
     by false is others found = inr (others found)
 
@@ -121,13 +127,44 @@ position_is f l k found = by (nat_lt (position_or_len f l) (length l)) found
     by false h = absurd (none_some h)
 
 -- if none is met, all pass
-pub all_pass : (waits : List WaitFact) (t : ℕ) (e : Effect) (l : List Record) → position (meets t e) l ≡ None → (r : Record) → IsAmong r l → IsKnownToPass waits t e r
+pub all_pass : (waits : List WaitFact) (t : ℕ) (e : Effect) (l : List Record) → position (meets t e) l ≡ None → (r : Record) → IsAmong r l
+    → IsKnownToPass waits t e r
 all_pass waits t e l none r among =
     not_met waits t e r
-    (passed_by (meets t e) l (length l) (no_position (meets t e) l none) r (subst (λ (xs : List Record). IsAmong r xs) (sym (take_all (length l) l (omega arith))) among))
+    (passed_by (meets t e) l (length l) (no_position (meets t e) l none) r
+    (subst (λ (xs : List Record). IsAmong r xs) (sym (take_all (length l) l (omega arith))) among))
 
 -- those before the first that is met pass
-pub first_pass : (waits : List WaitFact) (t : ℕ) (e : Effect) (l : List Record) (k : ℕ) → position (meets t e) l ≡ Some k → (r : Record) → IsAmong r (take k l) → IsKnownToPass waits t e r
+pub first_pass : (waits : List WaitFact) (t : ℕ) (e : Effect) (l : List Record) (k : ℕ) → position (meets t e) l ≡ Some k → (r : Record)
+    → IsAmong r (take k l) → IsKnownToPass waits t e r
 first_pass waits t e l k found r among =
     let is = position_is (meets t e) l k found in
     not_met waits t e r (passed_by (meets t e) l k (omega (arith, is)) r among)
+
+-- Lists from their end.
+
+module _ {X : Type 0} where
+  pub reversed_but : (l : List X) (count : ℕ) → reverse (take (length l - count) l) ≡ drop count (reverse l)
+  reversed_but l count =
+      ⊎_elim
+      (λ (none_left : length l < count).
+      let none : length l - count ≡ 0 = omega (arith, none_left) in
+      ap (λ (n : ℕ). reverse (take n l)) none ∙ sym (drop_all count (reverse l) (omega (arith, none_left, length-reverse l))))
+      (λ (some_left : count ≤ length l).
+      let left = length l - count in
+      let front = take left l in
+      let back = drop left l in
+      let parts : reverse l ≡ reverse back ++ reverse front = ap reverse (sym (take-append-drop left l)) ∙ reverse-append front back in
+      let long : length (reverse back) ≡ count = omega (arith, some_left, length-reverse back, length-drop left l) in
+      sym (ap (drop count) parts ∙ (ap (λ (n : ℕ). drop n (reverse back ++ reverse front)) (sym long) ∙ drop-append_seam (reverse back) (reverse front))))
+      (cases_lt (length l) count)
+
+  pub from_the_end : (l : List X) (at : ℕ) → at < length l → slice_get l (length l - 1 - at) ≡ slice_get (reverse l) at
+  from_the_end [] at low = absurd (omega (arith, low))
+  from_the_end (x ∷ xs) at low =
+      let l = x ∷ xs in
+      slice_get-get_or l (length l - 1 - at) x (omega (arith, low))
+      ∙ (ap Some (sym (get_or-reverse l at x low)) ∙ sym (slice_get-get_or (reverse l) at x (omega (arith, low, length-reverse l))))
+
+  pub past_the_end : (l : List X) (at : ℕ) → length l ≤ at → None ≡ slice_get (reverse l) at
+  past_the_end l at past = sym (slice_get_past (reverse l) at (omega (arith, past, length-reverse l)))

@@ -58,22 +58,37 @@ fn meets(r: &NodeRecord, task: u32, effect: &Effect) -> bool
     r.task() != task && interferes(r.effect(), effect)
 }
 
-/// How many records come before the first that the task meets with this effect, from the last on but for `from` of them.
-fn first_met(records: &[NodeRecord], from: usize, task: u32, effect: &Effect) -> Option<usize>
-    ensures { result ≡ position (meets task effect.now) (drop from (reverse records.now)) }
+/// The records but for the last `count` of them; none if there are no more.
+fn all_but(records: &[NodeRecord], count: usize) -> &[NodeRecord]
+    ensures { reverse result.now ≡ drop count (reverse records.now) }
 {
-    records
-        .iter()
-        .rev()
-        .skip(from)
-        .position(|r| meets(r, task, effect))
+    let left = records.len().saturating_sub(count);
+    &records[..left]
+}
+
+/// How many records come after the last that the task meets with this effect.
+fn count_after_met(records: &[NodeRecord], task: u32, effect: &Effect) -> Option<usize>
+    ensures { result ≡ position (meets task effect.now) (reverse records.now) }
+{
+    records.iter().rev().position(|r| meets(r, task, effect))
+}
+
+/// The record at this index.
+fn record_from_start(records: &[NodeRecord], at: usize) -> Option<&NodeRecord>
+    ensures { option_copied result ≡ slice_get records.now at }
+{
+    records.get(at)
 }
 
 /// The record at this index, counted from the last one.
 fn record_at(records: &[NodeRecord], at: usize) -> Option<&NodeRecord>
     ensures { option_copied result ≡ slice_get (reverse records.now) at }
 {
-    records.iter().rev().nth(at)
+    if at < records.len() {
+        record_from_start(records, records.len() - 1 - at)
+    } else {
+        None
+    }
 }
 
 impl NodeContent {
@@ -137,7 +152,8 @@ impl NodeContent {
     pub fn next_met(&self, from: usize, task: u32, effect: &Effect) -> Option<usize>
         ensures { result ≡ option_map (λ k. from + k) (position (meets task effect.now) (drop from self.now)) }
     {
-        let after = first_met(self.records.as_slice(), from, task, effect)?;
+        let left = all_but(self.records.as_slice(), from);
+        let after = count_after_met(left, task, effect)?;
         Some(from + after)
     }
 

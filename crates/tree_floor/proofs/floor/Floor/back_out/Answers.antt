@@ -33,9 +33,11 @@ store-requires g c =
     let may = c.requires.may in
     let given = c.give_content.ensures.given may.1 may.3.slot in
     let view = same_view lim me mid n c.args.content may.1 given in
-    let P : ℕ → ℕ → Type 0 = λ word slots. Allows (TreeKeeps nodes p lim) slots id mid word (λ k. free_lock) (λ k. StopsAt p lim (step slots word free_lock 0 none) mid free_lock) in
+    let P : ℕ → ℕ → Type 0 =
+    λ word slots. Allows (TreeKeeps nodes p lim) slots id mid word (λ k. free_lock) (λ k. StopsAt p lim (step slots word free_lock 0 none) mid free_lock) in
     let allowed : P (lock_place p lim n) (tree_slot_count nodes lim) =
-    stop_at nodes p lim id n mid.0 mid.1 may.1 may.0 (subst (λ (v : TreeView). MayStop v n may.0) (sym view) may.2) (has_content lim me mid n c.args.content may.1 may.3 given) in
+    stop_at nodes p lim id n mid.0 mid.1 may.1 may.0 (subst (λ (v : TreeView). MayStop v n may.0) (sym view) may.2)
+    (has_content lim me mid n c.args.content may.1 may.3 given) in
     let at_word : P c.lock_place-place.result (tree_slot_count nodes lim) = subst (λ (w : ℕ). P w (tree_slot_count nodes lim)) (sym place) allowed in
     (cc (here, same, still), omega (arith, words, place, below), subst (P c.lock_place-place.result) (sym c.self.invariant.4) at_word)
 
@@ -48,4 +50,5 @@ returns-clause-gave g c next others may hand =
     let given = c.give_content.ensures.given others hand.slot in
     let view = same_view lim me mid n c.args.content others given in
     gave_from me mid c.store.new.seat.me n next others view
-    (c.store.ensures.2 n next others c.lock_place-place.ensures (subst (λ (v : TreeView). MayStop v n next) (sym view) may) (has_content lim me mid n c.args.content others hand given))
+    (c.store.ensures.2 n next others c.lock_place-place.ensures (subst (λ (v : TreeView). MayStop v n next) (sym view) may)
+    (has_content lim me mid n c.args.content others hand given))

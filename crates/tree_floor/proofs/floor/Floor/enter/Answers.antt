@@ -27,12 +27,16 @@ compare_exchange_with-found-requires g c =
     let may = c.requires.may in
     let said = some (kinds.Errand c.args.errand) in
     let named : taken_lock me.0.floor.worker ≡ c.args.worker + 1 = omega (arith, worker) in
-    let P : ℕ → ℕ → ℕ → Type 0 = λ word slots x. Allows (TreeKeeps nodes p lim) slots id me word (λ n. either (n == free_lock) x n) (TriesNode nodes p lim (step slots word free_lock x said) me) in
+    let P : ℕ → ℕ → ℕ → Type 0 =
+    λ word slots x. Allows (TreeKeeps nodes p lim) slots id me word (λ n. either (n == free_lock) x n)
+    (TriesNode nodes p lim (step slots word free_lock x said) me) in
     let allowed : P (lock_place p lim 0) (tree_slot_count nodes lim) (taken_lock me.0.floor.worker) = try_lock nodes p lim id 0 me.0 me.1 said may.0 may.1 in
     let at_word : P c.lock_place-place.result (tree_slot_count nodes lim) (taken_lock me.0.floor.worker) =
     subst (λ (w : ℕ). P w (tree_slot_count nodes lim) (taken_lock me.0.floor.worker)) (sym place) allowed in
-    let with_worker : P c.lock_place-place.result (tree_slot_count nodes lim) (c.args.worker + 1) = subst (P c.lock_place-place.result (tree_slot_count nodes lim)) named at_word in
-    (cc (here, same), omega (arith, words, place, root), subst (λ (n : ℕ). P c.lock_place-place.result n (c.args.worker + 1)) (sym c.self.invariant.4) with_worker)
+    let with_worker : P c.lock_place-place.result (tree_slot_count nodes lim) (c.args.worker + 1) =
+    subst (P c.lock_place-place.result (tree_slot_count nodes lim)) named at_word in
+    let with_slots = subst (λ (n : ℕ). P c.lock_place-place.result n (c.args.worker + 1)) (sym c.self.invariant.4) with_worker in
+    (cc (here, same), omega (arith, words, place, root), with_slots)
 
 pub returns-clause-locked : goal.returns-clause-locked
 returns-clause-locked g c locked next may =

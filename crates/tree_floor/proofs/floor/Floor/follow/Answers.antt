@@ -30,4 +30,5 @@ phase_of-requires g c = (c.load-word.ensures.2 c.args.task c.phase_place-place.e
 
 pub returns-clause-found : goal.returns-clause-found
 returns-clause-found g c =
-    subst (λ (n : ℕ). FollowedPhase g.N.Named.lim c.args.stand.now.me c.args.task n c.load-word.new.seat.me) c.phase_of.ensures (c.load-word.ensures.2 c.args.task c.phase_place-place.ensures)
+    subst (λ (n : ℕ). FollowedPhase g.N.Named.lim c.args.stand.now.me c.args.task n c.load-word.new.seat.me) c.phase_of.ensures
+    (c.load-word.ensures.2 c.args.task c.phase_place-place.ensures)

@@ -8,19 +8,23 @@ exchange-requires g c =
     let may = c.requires.may in
     let here = c.requires.here in
     let same = c.self.view_is in
-    (cc (here, same), (kinds.Node may.1.content, out_is g.N.Named.lim c.args.stand.now.me c.args.node c.content_slot-slot.result (kinds.Node may.1.content) may.0 c.content_slot-slot.ensures may.1.slot))
+    let me = c.args.stand.now.me in
+    let slot = kinds.Node may.1.content in
+    (cc (here, same), (slot, out_is g.N.Named.lim me c.args.node c.content_slot-slot.result slot may.0 c.content_slot-slot.ensures may.1.slot))
 
 pub unreachable-requires : goal.unreachable-requires
 unreachable-requires g c =
     let may = c.requires.may in
-    no_task may.1.content _ (sym (content_is g.N.Named.lim c.args.stand.now.me c.args.node c.content_slot-slot.result c.exchange.result may.0 may.1 c.exchange.ensures.2) ∙ c.in-Task.is)
+    let is = content_is g.N.Named.lim c.args.stand.now.me c.args.node c.content_slot-slot.result c.exchange.result may.0 may.1 c.exchange.ensures.2 in
+    no_task may.1.content _ (sym is ∙ c.in-Task.is)
 
 pub unreachable-requires-in-Errand : goal.unreachable-requires-in-Errand
 unreachable-requires-in-Errand g c =
     let may = c.requires.may in
-    no_errand may.1.content _ (sym (content_is g.N.Named.lim c.args.stand.now.me c.args.node c.content_slot-slot.result c.exchange.result may.0 may.1 c.exchange.ensures.2) ∙ c.in-Errand.is)
+    let is = content_is g.N.Named.lim c.args.stand.now.me c.args.node c.content_slot-slot.result c.exchange.result may.0 may.1 c.exchange.ensures.2 in
+    no_errand may.1.content _ (sym is ∙ c.in-Errand.is)
 
 pub returns-clause-taken : goal.returns-clause-taken
 returns-clause-taken g c others has =
-    has_taken g.N.Named.lim c.args.stand.now.me c.exchange.new.seat.me c.args.node c.content_slot-slot.result c.exchange.result c.in-Node.content others c.content_slot-slot.ensures has
-    c.exchange.ensures.2 c.in-Node.is c.exchange.ensures.3
+    has_taken g.N.Named.lim c.args.stand.now.me c.exchange.new.seat.me c.args.node c.content_slot-slot.result c.exchange.result c.in-Node.content others
+    c.content_slot-slot.ensures has c.exchange.ensures.2 c.in-Node.is c.exchange.ensures.3
