@@ -1,11 +1,9 @@
 -- The first turn of a task that an entry made, beside the nodes.
-use Rattle.std.proofs.Common.{◌≡◌, ◌≢◌, ◌<◌, ℕ, List, ◌∷◌, Option, None, Some, true, false, map, refl, sym, ap, subst, ◌∙◌}
+use Rattle.std.proofs.Common.{◌≡◌, ◌<◌, ℕ, List, Option, None, Some, true, false, refl, sym, ap, subst, ◌∙◌}
 use Rattle.std.specs.Prelude.{is_some}
-use Rattle.std.specs.Option.{ForSome}
 use Rattle.region_paths.specs.declared.elements.Elem.{Elem}
 use Rattle.twe_limits.specs.Limits.{Bounds}
 use Rattle.twe_machine.specs.declared.state.TaskRow.{TaskRow}
-use Rattle.twe_machine.specs.declared.state.TaskStatus.{TaskStatus}
 use Rattle.twe_machine.specs.declared.state.TaskStatus.TheVariants as status
 use Rattle.twe_machine.specs.Moves.{status_at_start}
 use Rattle.floor_rule.specs.declared.view.TaskSlot.{TaskSlot}
@@ -13,16 +11,13 @@ use Rattle.floor_rule.specs.Rows.{slot_of}
 use Rattle.floor_rule.specs.Steps.{first_turn}
 use Rattle.floor_rule.proofs.Puts.{none_some, put_here, some_one}
 use Rattle.floor_table.specs.FloorOf.{turn_in}
-use Rattle.floor_table.specs.Tells.{Seat}
 use Rattle.task_floor.specs.Leaving.{MayLeave}
 use Rattle.node_rule.specs.TurnSteps.{LeavesNone}
-use Rattle.tree_table.specs.declared.slot.TreeSlot.{TreeSlot}
-use Rattle.tree_table.specs.declared.slot.TreeSlot.TheVariants as kinds
 use Rattle.tree_table.specs.declared.view.TreeView.{TreeView}
 use Rattle.tree_table.specs.FloorSeats.{HasTaskSlots, floor_seat, tasks_out}
 use Rattle.tree_table.specs.Seats.{TreeSeat, tree_seen}
 use Rattle.tree_table.specs.TurnSeats.{MayLeaveTask, given_tree_view, gives_first}
-use Rattle.tree_floor.specs.Committing.{left_to_place, made_by, spawned_slot, with_first, with_first_given, with_made}
+use Rattle.tree_floor.specs.Committing.{left_to_place, made_by, spawned_slot, with_first, with_made}
 use Rattle.tree_floor.specs.Leaving.{HasLeftTask, MayGiveNew, stored_view}
 use Rattle.tree_floor.specs.inner.Bringing.{MayBringBeside}
 

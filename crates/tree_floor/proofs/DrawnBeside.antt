@@ -1,10 +1,9 @@
 -- An entry that was drawn beside the nodes: what the seat knows then, and what it may do with the task that was made.
-use Rattle.std.proofs.Common.{◌≡◌, ◌≢◌, ◌+◌, ◌<◌, ℕ, List, ◌∷◌, Option, None, Some, map, refl, sym, ap, subst, ◌∙◌}
+use Rattle.std.proofs.Common.{◌≡◌, ◌≢◌, ◌+◌, ◌<◌, ℕ, List, Option, None, Some, map, refl, sym, ap, ◌∙◌}
 use Rattle.std.specs.Prelude.{option_map}
 use Rattle.std.specs.Option.{ForSome}
 use Rattle.twe_limits.specs.Limits.{Bounds}
 use Rattle.twe_program.specs.Program.{Program}
-use Rattle.seg_exec.specs.declared.frame.Frame.{Frame}
 use Rattle.seg_exec.specs.declared.stop.Stop.{Stop}
 use Rattle.twe_machine.specs.declared.state.TaskRow.{TaskRow}
 use Rattle.floor_rule.specs.declared.view.HeldTurn.{HeldTurn}
@@ -20,7 +19,7 @@ use Rattle.task_floor.specs.inner.Bringing.{MayBring, seat_with}
 use Rattle.task_floor.proofs.CommittedEntries.{drawn_is, drawn_kind, may_bring}
 use Rattle.tree_table.specs.declared.slot.TreeSlot.{TreeSlot}
 use Rattle.tree_table.specs.declared.view.TreeView.{TreeView}
-use Rattle.tree_table.specs.EntrySeats.{DrewTreeEntry, HasNoneOfNext}
+use Rattle.tree_table.specs.EntrySeats.{DrewTreeEntry}
 use Rattle.tree_table.specs.FloorSeats.{HasTaskSlots, TellsFloor, as_slot, floor_seat, tasks_out}
 use Rattle.tree_table.specs.Seats.{TreeSeat}
 use Rattle.tree_table.proofs.Lifts.{out_again}

@@ -1,5 +1,5 @@
 -- What a seat knows of records, if it has taken the turn of a task and given it again.
-use Rattle.std.proofs.Common.{◌≡◌, ◌≢◌, ◌++◌, ℕ, zero, suc, Bool, true, List, [], ◌∷◌, if◌then◌else◌, refl, sym, ap, subst, ◌∙◌, inl, inr, eq-eqb, ne_eqb, length}
+use Rattle.std.proofs.Common.{◌≡◌, ◌≢◌, ◌++◌, ℕ, zero, suc, Bool, List, [], ◌∷◌, if◌then◌else◌, refl, ap, ◌∙◌, inl, inr, eq-eqb, ne_eqb, length}
 use Rattle.region_paths.specs.declared.elements.Elem.{Elem}
 use Rattle.effect_sets.specs.declared.effects.Effect.{Effect}
 use Rattle.twe_machine.specs.declared.state.TaskStatus.{TaskStatus}
@@ -9,7 +9,7 @@ use Rattle.node_rule.specs.Taking.{at_all_nodes, at_nodes, clear_after_taking}
 use Rattle.node_rule.specs.TurnSteps.{of_others}
 
 -- the records are of task t
-abbrev AreOf : ℕ → List Record → Type 0
+abbrev pub AreOf : ℕ → List Record → Type 0
 AreOf t [] = Unit {0}
 AreOf t (r ∷ records) = (r.task ≡ t) × AreOf t records
 
@@ -17,11 +17,11 @@ at_nodes_are : (t : ℕ) (e : Effect) (n : ℕ) → AreOf t (at_nodes t e n)
 at_nodes_are t e zero = tt
 at_nodes_are t e (suc n) = (refl, at_nodes_are t e n)
 
-both_are : (t : ℕ) (xs ys : List Record) → AreOf t xs → AreOf t ys → AreOf t (xs ++ ys)
+pub both_are : (t : ℕ) (xs ys : List Record) → AreOf t xs → AreOf t ys → AreOf t (xs ++ ys)
 both_are t [] ys none are = are
 both_are t (x ∷ xs) ys some are = (some.0, both_are t xs ys some.1 are)
 
-all_are : (nodes : List (List Elem)) (t : ℕ) (effects : List Effect) → AreOf t (at_all_nodes nodes t effects)
+pub all_are : (nodes : List (List Elem)) (t : ℕ) (effects : List Effect) → AreOf t (at_all_nodes nodes t effects)
 all_are nodes t [] = tt
 all_are nodes t (e ∷ effects) = both_are t (at_nodes t e (length nodes)) (at_all_nodes nodes t effects) (at_nodes_are t e (length nodes)) (all_are nodes t effects)
 

@@ -1,5 +1,5 @@
 -- A task in hand goes on, or does not: what the stand knows of it, beside the nodes.
-use Rattle.std.proofs.Common.{◌≡◌, ◌≢◌, ◌<◌, ◌⊎◌, ℕ, ℤ, List, ◌∷◌, None, Some, refl, sym, ap, subst, ◌∙◌, inl, inr, ⊎_elim, arith}
+use Rattle.std.proofs.Common.{◌≡◌, ◌≢◌, ◌<◌, ◌⊎◌, ℕ, ℤ, List, Some, refl, sym, ap, subst, ◌∙◌, inl, inr, ⊎_elim, arith}
 use Rattle.region_paths.specs.declared.elements.Elem.{Elem}
 use Rattle.effect_sets.specs.declared.effects.Effect.{Effect}
 use Rattle.twe_limits.specs.Limits.{Bounds}
@@ -15,14 +15,14 @@ use Rattle.floor_rule.specs.Rows.{phase_of}
 use Rattle.floor_rule.proofs.Puts.{some_one}
 use Rattle.floor_table.specs.FloorOf.{turn_in}
 use Rattle.floor_table.specs.Layout.{word_of_phase}
-use Rattle.floor_table.specs.Tells.{Seat, StoredPhase, with_turn}
+use Rattle.floor_table.specs.Tells.{StoredPhase, with_turn}
 use Rattle.floor_table.proofs.Steps.{phase_again}
 use Rattle.task_floor.specs.Resuming.{HasInHand, KnowsMore, KnowsValue}
 use Rattle.task_floor.proofs.InHand.{found_more, found_phase, in_hand_more, more_moves, moves_more, status_waits, stored_moves}
-use Rattle.admission_core.specs.States.{IsAmong, Record}
+use Rattle.admission_core.specs.States.{IsAmong}
 use Rattle.node_rule.specs.TurnSteps.{HasPlacedChildren, LeavesNone, of_others}
 use Rattle.tree_table.specs.declared.view.TreeView.{TreeView}
-use Rattle.tree_table.specs.FloorSeats.{HasTaskSlots, floor_seat, tasks_out}
+use Rattle.tree_table.specs.FloorSeats.{HasTaskSlots, floor_seat}
 use Rattle.tree_table.specs.Follows.{FollowedPhase}
 use Rattle.tree_table.specs.Seats.{TreeSeat, tree_seen, turns_seen}
 use Rattle.tree_floor.specs.Resuming.{KnowsEnough, KnowsMoreBeside, MovesOnBeside}
@@ -42,7 +42,7 @@ leaves_same nodes v w t effects status.Faulted fresh clear leaves = λ e n has p
 children_same : (v w : TreeView) (t : ℕ) → ((u : ℕ) → turn_in w.floor.turns u ≡ turn_in v.floor.turns u) → HasPlacedChildren (turns_seen v) 0 t → HasPlacedChildren (turns_seen w) 0 t
 children_same v w t turns placed c child has first = placed c child (sym (turns c) ∙ has) first
 
-enabled_leaves : (nodes : List (List Elem)) (v : TreeView) (t : ℕ) (row : TaskRow) → row.status ≡ status.Enabled → LeavesNone nodes (tree_seen v) 0 t row.effects.effects row.status
+pub enabled_leaves : (nodes : List (List Elem)) (v : TreeView) (t : ℕ) (row : TaskRow) → row.status ≡ status.Enabled → LeavesNone nodes (tree_seen v) 0 t row.effects.effects row.status
 enabled_leaves nodes v t row enabled = subst (LeavesNone nodes (tree_seen v) 0 t row.effects.effects) (sym enabled) tt
 
 -- The phase was loaded.

@@ -1,5 +1,5 @@
 -- A task is left beside the nodes: its phase is stored, and then its turn is given.
-use Rattle.std.proofs.Common.{◌≡◌, ◌≢◌, ℕ, List, ◌∷◌, map, Option, None, Some, sym, ap, subst, ◌∙◌, ⊎_elim}
+use Rattle.std.proofs.Common.{◌≡◌, ◌≢◌, ℕ, List, map, Some, sym, ap, subst, ◌∙◌, ⊎_elim}
 use Rattle.region_paths.specs.declared.elements.Elem.{Elem}
 use Rattle.twe_limits.specs.Limits.{Bounds}
 use Rattle.twe_machine.specs.declared.state.TaskRow.{TaskRow}
@@ -17,7 +17,6 @@ use Rattle.floor_table.specs.Tells.{Seat, StoredPhase, with_turn}
 use Rattle.task_floor.proofs.LeavingTurns.{may_give_back}
 use Rattle.node_rule.specs.TurnSteps.{HasPlacedChildren}
 use Rattle.tree_table.specs.declared.slot.TreeSlot.{TreeSlot}
-use Rattle.tree_table.specs.declared.slot.TreeSlot.TheVariants as kinds
 use Rattle.tree_table.specs.declared.view.TreeView.{TreeView}
 use Rattle.tree_table.specs.FloorSeats.{HasTaskSlots, as_slot, floor_seat, tasks_out}
 use Rattle.tree_table.specs.Seats.{TreeSeat, turns_seen}

@@ -20,3 +20,6 @@ pub mod GoingOn
 -- Entries, and the tasks that they make.
 pub mod Bringing
 pub mod DrawnBeside
+-- A worker that serves a task.
+pub mod ServedBeside
+pub mod CommittedBeside

@@ -1,11 +1,10 @@
 -- A turn that was taken beside the nodes, and one that is given.
-use Rattle.std.proofs.Common.{◌≡◌, ◌≢◌, ◌<◌, ℕ, List, [], ◌∷◌, Option, None, Some, sym, ap, subst, ◌∙◌, ⊎_elim}
+use Rattle.std.proofs.Common.{◌≡◌, ◌≢◌, ℕ, List, [], ◌∷◌, Option, None, Some, sym, ap, subst, ◌∙◌, ⊎_elim}
 use Rattle.atomic_table.specs.Table.{rest}
 use Rattle.region_paths.specs.declared.elements.Elem.{Elem}
 use Rattle.floor_rule.specs.declared.view.HeldTurn.{HeldTurn}
 use Rattle.floor_rule.specs.declared.view.TaskSlot.{TaskSlot}
 use Rattle.floor_rule.specs.Rows.{slot_of}
-use Rattle.floor_rule.proofs.Puts.{some_one}
 use Rattle.floor_table.specs.declared.view.View.{View}
 use Rattle.floor_table.specs.Layout.{free_word}
 use Rattle.task_floor.proofs.Taking.{may_give}

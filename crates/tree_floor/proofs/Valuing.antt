@@ -1,5 +1,5 @@
 -- The turn of a task is taken, its phase loaded, and the turn given again: to read the task's value.
-use Rattle.std.proofs.Common.{◌≡◌, ◌≢◌, ◌<◌, ℕ, List, ◌∷◌, None, Some, true, false, refl, sym, ap, subst, ◌∙◌, inl, inr, ⊎_elim}
+use Rattle.std.proofs.Common.{◌≡◌, ◌≢◌, ◌<◌, ℕ, List, None, Some, true, false, refl, sym, ap, subst, ◌∙◌, inl, inr, ⊎_elim}
 use Rattle.region_paths.specs.declared.elements.Elem.{Elem}
 use Rattle.twe_limits.specs.Limits.{Bounds}
 use Rattle.floor_rule.specs.declared.view.HeldTurn.{HeldTurn}
@@ -14,7 +14,6 @@ use Rattle.task_floor.specs.Resuming.{KnowsMore, KnowsValue}
 use Rattle.task_floor.proofs.InHand.{found_more, gave_more, gave_value, had_turn, may_give_back, more_then}
 use Rattle.admission_core.specs.States.{IsAmong, Record}
 use Rattle.node_rule.specs.Taking.{clear_after_taking}
-use Rattle.node_rule.specs.Trees.{WaitFact}
 use Rattle.node_rule.specs.TurnSteps.{HasPlacedChildren, of_others}
 use Rattle.node_rule.proofs.Takings.{given_as_taken}
 use Rattle.tree_table.specs.declared.view.TreeView.{TreeView}

@@ -1,7 +1,6 @@
 -- How a stand draws an entry beside the nodes: what it needs, and what it leaves.
 use Rattle.std.specs.Prelude.{◌≡◌, ◌≢◌, ◌+◌, ℕ, ◌∷◌, Option, None, Some}
 use Rattle.std.specs.Option.{ForSome}
-use Rattle.region_paths.specs.declared.elements.Elem.{Elem}
 use Rattle.twe_limits.specs.Limits.{Bounds}
 use Rattle.twe_program.specs.Program.{Program}
 use Rattle.seg_journal.specs.declared.journal.End.{End}

@@ -29,7 +29,8 @@ pub record MayParkTask (nodes : List (List Elem)) (me : TreeSeat) (t : ℕ) (slo
   pub enabled : turn.row.status ≡ status.Enabled
 
 -- the seat may leave task t, which has ended; this is the phase of its row
-pub record MayFinishTask (nodes : List (List Elem)) (me : TreeSeat) (t : ℕ) (slot : TaskSlot) (phase : Phase) (turn : HeldTurn) (rest : List (ℕ × TreeSlot)) : Type 0 where
+pub record MayFinishTask (nodes : List (List Elem)) (me : TreeSeat) (t : ℕ) (slot : TaskSlot) (phase : Phase) (turn : HeldTurn)
+    (rest : List (ℕ × TreeSlot)) : Type 0 where
   pub may : MayGoFrom nodes me t slot turn rest
   pub ended : (turn.row.status ≡ status.Done) ⊎ (turn.row.status ≡ status.Faulted)
   pub phase_is : phase ≡ phase_of turn.row

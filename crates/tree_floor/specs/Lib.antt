@@ -6,3 +6,4 @@ pub mod Leaving
 pub mod Resuming
 pub mod Committing
 pub mod inner
+pub mod Holding

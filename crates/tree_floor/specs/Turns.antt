@@ -22,7 +22,10 @@ pub record HasTakenTask (nodes : List (List Elem)) (before after : TreeSeat) (t 
   pub floor : HasTaken (floor_seat before) (floor_seat after) t slot
   pub fresh : (r : Record) → IsAmong r before.0.fresh → r.task ≢ t
   pub children : HasPlacedChildren (turns_seen before.0) 0 t
-  pub view : after.0 ≡ record before.0 { floor = after.0.floor; clear = clear_after_taking nodes t floor.turn.row.status floor.turn.row.effects.effects before.0.clear }
+  pub view : after.0 ≡ record before.0 {
+    floor = after.0.floor;
+    clear = clear_after_taking nodes t floor.turn.row.status floor.turn.row.effects.effects before.0.clear;
+  }
   pub out : after.1 ≡ (t, kinds.Task None) ∷ before.1
 
 -- the turn word was not free, and named this worker, or none; the seat is as it was

@@ -63,7 +63,8 @@ impl<N: Named + Planted> Floor<N> {
         requires may { (turn : HeldTurn) × MayCommitBeside N.prog stand.old.me task slot.old stop turn }
         requires room { 0 < log.old.room }
         ensures committed { (turn : HeldTurn) → MayCommitBeside N.prog stand.old.me task slot.old stop turn
-            → HasCommittedBeside N.lim stand.old.me task turn slot.old.frame stop result.number result.end result.child slot.new stand.new.me log.old log.new }
+            → HasCommittedBeside N.lim stand.old.me task turn slot.old.frame stop result.number result.end result.child slot.new
+            stand.new.me log.old log.new }
         ensures slots { HasTaskSlots N.lim.tasks stand.new.me.1 }
         ensures same { (stand.new.table_id ≡ stand.old.table_id) × (stand.new.id ≡ stand.old.id) }
     {
@@ -88,8 +89,8 @@ impl<N: Named + Planted> Floor<N> {
     }
 
     /// Draws the admission of a task whose slot is the latest that the stand has out, once the stand has placed a record for each
-    /// effect of the task. Returns the number of the entry, which goes into the log. The stand knows then that the task is enabled.
-    /// It takes no memory and never blocks.
+    /// effect of the task. Returns the number of the entry, which goes into the log. The stand knows then that the task is
+    /// enabled. It takes no memory and never blocks.
     pub fn commit_admit(
         &self,
         alloc: Global,
@@ -169,8 +170,10 @@ impl<N: Named + Planted> Floor<N> {
     fn bring_made(&self, stand: &mut Stand, number: u32, slot: TaskSlot) -> Option<TaskSlot>
         requires here { stand.old.table_id ≡ self.now }
         requires live { stand.old.me.0.floor.kind ≢ Spent }
-        requires may { (drawn : TreeSeat) × (row : TaskRow) × MayBringBeside N.lim stand.old.me number (Some slot) drawn (Some row) }
-        ensures brought { (drawn : TreeSeat) (row : TaskRow) → MayBringBeside N.lim stand.old.me number (Some slot) drawn (Some row)
+        requires may { (drawn : TreeSeat) × (row : TaskRow)
+            × MayBringBeside N.lim stand.old.me number (Some slot) drawn (Some row) }
+        ensures brought { (drawn : TreeSeat) (row : TaskRow)
+            → MayBringBeside N.lim stand.old.me number (Some slot) drawn (Some row)
             → (stand.new.me ≡ with_made drawn number (Some row)) × (result ≡ left_to_place (Some row)) }
         ensures same { (stand.new.table_id ≡ stand.old.table_id) × (stand.new.id ≡ stand.old.id) }
     {

@@ -34,8 +34,9 @@ impl<N: Named + Planted> Model for Floor<N> {
 
     ghost view = { λ floor. floor.table.shared.table_id };
 
-    ghost invariant = { λ floor. (floor.cells ≡ cell_count N.prog) × (floor.words ≡ word_count N.prog N.lim) × (floor.tasks ≡ N.lim.tasks)
-        × (floor.table.shared.table_id.words ≡ tree_word_count N.nodes N.prog N.lim) × (floor.table.shared.table_id.slots ≡ tree_slot_count N.nodes N.lim)
+    ghost invariant = { λ floor. (floor.cells ≡ cell_count N.prog) × (floor.words ≡ word_count N.prog N.lim)
+        × (floor.tasks ≡ N.lim.tasks) × (floor.table.shared.table_id.words ≡ tree_word_count N.nodes N.prog N.lim)
+        × (floor.table.shared.table_id.slots ≡ tree_slot_count N.nodes N.lim)
         × (tree_word_count N.nodes N.prog N.lim < 2 ^ 64) × (tree_slot_count N.nodes N.lim < 2 ^ 64) };
 }
 
@@ -51,7 +52,8 @@ impl<N: Named + Planted> Floor<N> {
         tasks: usize,
     ) -> Self
         requires cells { cells ≡ cell_count N.prog }
-        requires words { (words ≡ word_count N.prog N.lim) × (table.shared.table_id.words ≡ tree_word_count N.nodes N.prog N.lim) }
+        requires words { (words ≡ word_count N.prog N.lim)
+            × (table.shared.table_id.words ≡ tree_word_count N.nodes N.prog N.lim) }
         requires slots { (tasks ≡ N.lim.tasks) × (table.shared.table_id.slots ≡ tree_slot_count N.nodes N.lim) }
         requires fits { (tree_word_count N.nodes N.prog N.lim < 2 ^ 64) × (tree_slot_count N.nodes N.lim < 2 ^ 64) }
         ensures { result ≡ table.shared.table_id }

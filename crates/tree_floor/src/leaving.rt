@@ -32,23 +32,26 @@ impl<N: Named + Planted> Floor<N> {
         self.leave_with_phase(stand, task, slot, phase);
     }
 
-    /// Leaves a task that has ended, with a value or with a fault, in the same way. `phase` says how it has ended. The stand knows
-    /// that no record of the task is left at the place of an effect. If the task is done, the stand knows its value from then on.
+    /// Leaves a task that has ended, with a value or with a fault, in the same way. `phase` says how it has ended. The stand
+    /// knows that no record of the task is left at the place of an effect. If the task is done, the stand knows its value from
+    /// then on.
     pub fn finish(&self, stand: &mut Stand, task: u32, slot: TaskSlot, phase: Phase)
         requires here { stand.old.table_id ≡ self.now }
         requires live { stand.old.me.0.floor.kind ≢ Spent }
         requires slots { HasTaskSlots N.lim.tasks stand.old.me.1 }
         requires task { task < N.lim.tasks }
-        requires may { (turn : HeldTurn) × (rest : List (ℕ × TreeSlot)) × MayFinishTask N.nodes stand.old.me task slot phase turn rest }
-        ensures left { (turn : HeldTurn) (rest : List (ℕ × TreeSlot)) → MayFinishTask N.nodes stand.old.me task slot phase turn rest
+        requires may { (turn : HeldTurn) × (rest : List (ℕ × TreeSlot))
+            × MayFinishTask N.nodes stand.old.me task slot phase turn rest }
+        ensures left { (turn : HeldTurn) (rest : List (ℕ × TreeSlot))
+            → MayFinishTask N.nodes stand.old.me task slot phase turn rest
             → HasLeftTask stand.old.me task turn rest stand.new.me }
         ensures same { (stand.new.table_id ≡ stand.old.table_id) × (stand.new.id ≡ stand.old.id) }
     {
         self.leave_with_phase(stand, task, slot, phase);
     }
 
-    /// Gives the first turn of a task that was made, whose slot is the latest that the stand has out: stores its first phase, fills
-    /// its slot, and gives the turn. If the task was spawned, the stand has placed a record for each of its effects.
+    /// Gives the first turn of a task that was made, whose slot is the latest that the stand has out: stores its first phase,
+    /// fills its slot, and gives the turn. If the task was spawned, the stand has placed a record for each of its effects.
     pub fn give_first(&self, stand: &mut Stand, task: u32, slot: TaskSlot)
         requires here { stand.old.table_id ≡ self.now }
         requires live { stand.old.me.0.floor.kind ≢ Spent }

@@ -24,8 +24,8 @@ fn value_in(slot: &TaskSlot) -> i32
 
 impl<N: Named + Planted> Floor<N> {
     /// The value of a task. `None` if its phase word does not say that it is done, or if another worker has its turn just then.
-    /// Otherwise the stand knows the task to be done with this value from then on. The stand holds no node and does nothing in the
-    /// tree.
+    /// Otherwise the stand knows the task to be done with this value from then on. The stand holds no node and does nothing in
+    /// the tree.
     pub fn value_of(&self, stand: &mut Stand, worker: u32, task: u32) -> Option<i32>
         requires here { stand.old.table_id ≡ self.now }
         requires live { stand.old.me.0.floor.kind ≢ Spent }
@@ -120,7 +120,8 @@ impl<N: Named + Planted> Floor<N> {
         requires worker { worker ≡ stand.old.me.0.floor.worker }
         requires in_hand { (turn : HeldTurn) × HasInHand (floor_seat stand.old.me) task turn frame.old
             × KnowsEnough N.nodes stand.old.me.0 task turn.row }
-        requires waits { (turn : HeldTurn) → HasInHand (floor_seat stand.old.me) task turn frame.old → phase_of turn.row ≡ Waits on }
+        requires waits { (turn : HeldTurn) → HasInHand (floor_seat stand.old.me) task turn frame.old
+            → phase_of turn.row ≡ Waits on }
         ensures found { (turn : HeldTurn) → HasInHand (floor_seat stand.old.me) task turn frame.old
             → IsReadiness turn (floor_seat stand.new.me) task frame.new result }
         ensures enough { (turn : HeldTurn) → HasInHand (floor_seat stand.old.me) task turn frame.old

@@ -26,7 +26,8 @@ impl<N: Named + Planted> Floor<N> {
     pub fn join(&self, stand: &mut Stand, other: Stand)
         requires here { (stand.old.table_id ≡ self.now) × (other.table_id ≡ self.now) }
         requires main { stand.old.me.0.floor.kind ≡ Main }
-        requires other { (other.me.0.floor.kind ≡ Other) × (other.me.1 ≡ []) × HasGivenAll other.me.0.floor × HasLeftTree other.me.0 }
+        requires other { (other.me.0.floor.kind ≡ Other) × (other.me.1 ≡ []) × HasGivenAll other.me.0.floor
+            × HasLeftTree other.me.0 }
         ensures both { stand.new.me ≡ (joined_tree_view stand.old.me.0 other.me.0, stand.old.me.1) }
         ensures same { (stand.new.table_id ≡ stand.old.table_id) × (stand.new.id ≡ stand.old.id) }
     {

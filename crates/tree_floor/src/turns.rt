@@ -78,8 +78,10 @@ impl<N: Named + Planted> Floor<N> {
         requires live { stand.old.me.0.floor.kind ≢ Spent }
         requires slots { HasTaskSlots N.lim.tasks stand.old.me.1 }
         requires task { task < N.lim.tasks }
-        requires may { (turn : HeldTurn) × (rest : List (ℕ × slots.TreeSlot)) × MayGiveTask N.nodes stand.old.me task slot turn rest }
-        ensures gave { (turn : HeldTurn) (rest : List (ℕ × slots.TreeSlot)) → MayGiveTask N.nodes stand.old.me task slot turn rest
+        requires may { (turn : HeldTurn) × (rest : List (ℕ × slots.TreeSlot))
+            × MayGiveTask N.nodes stand.old.me task slot turn rest }
+        ensures gave { (turn : HeldTurn) (rest : List (ℕ × slots.TreeSlot))
+            → MayGiveTask N.nodes stand.old.me task slot turn rest
             → GaveTreeTurn stand.old.me task turn rest stand.new.me }
         ensures same { (stand.new.table_id ≡ stand.old.table_id) × (stand.new.id ≡ stand.old.id) }
     {

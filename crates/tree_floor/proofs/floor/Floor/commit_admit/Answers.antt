@@ -3,7 +3,6 @@ use Rattle.seg_journal.specs.declared.journal.End.TheVariants.{Admitted}
 use Rattle.seg_journal.specs.declared.moves.Kind.TheVariants.{Admit}
 use Rattle.journal_merge.specs.declared.numbered.NumberedEntry.{NumberedEntry}
 use Rattle.task_floor.specs.Committing.{with_entry}
-use Rattle.tree_table.specs.EntrySeats.{admission_at}
 use Rattle.tree_floor.proofs.floor.Floor.commit_admit.Goals as goal
 
 pub draw_admission-clock-requires-clause-may : goal.draw_admission-clock-requires-clause-may

@@ -1,7 +1,6 @@
-use Rattle.std.proofs.Common.{◌∙◌, sym}
-use Rattle.task_floor.proofs.InHand.{may_run_on, may_store_running}
+use Rattle.task_floor.proofs.InHand.{may_store_running}
 use Rattle.tree_table.specs.FloorSeats.{floor_seat}
-use Rattle.tree_floor.proofs.GoingOn.{enough_now, enough_still, moves_now, same_enough, still_in_hand, still_moves}
+use Rattle.tree_floor.proofs.GoingOn.{enough_now, moves_now, same_enough, still_in_hand}
 use Rattle.tree_floor.proofs.Valuing.{more_live, more_slots}
 use Rattle.tree_floor.proofs.floor.Floor.resume.Goals as goal
 

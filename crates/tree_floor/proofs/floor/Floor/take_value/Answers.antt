@@ -4,7 +4,7 @@ use Rattle.floor_rule.specs.declared.view.Phase.{Phase}
 use Rattle.floor_table.specs.Layout.{phase_of_word, word_of_phase}
 use Rattle.task_floor.specs.Resuming.{KnowsValue}
 use Rattle.tree_table.specs.FloorSeats.{floor_seat}
-use Rattle.tree_floor.proofs.Valuing.{gave_more_beside, live_looked, live_taken, may_give_looked, more_itself, slots_looked, value_known}
+use Rattle.tree_floor.proofs.Valuing.{gave_more_beside, live_looked, live_taken, may_give_looked, slots_looked, value_known}
 use Rattle.tree_floor.proofs.floor.Floor.take_value.Goals as goal
 
 pub status-phase-requires-clause-live : goal.status-phase-requires-clause-live

@@ -1,7 +1,6 @@
-use Rattle.std.proofs.Common.{◌∙◌}
 use Rattle.floor_table.specs.Layout.{word_of_phase}
 use Rattle.tree_floor.proofs.Looking.{looked_more}
-use Rattle.tree_floor.proofs.Valuing.{look_closed, look_idle, look_live, look_slots, look_worker, looked_then_more}
+use Rattle.tree_floor.proofs.Valuing.{look_closed, look_idle, look_live, look_slots, looked_then_more}
 use Rattle.tree_floor.proofs.floor.Floor.value_of.Goals as goal
 
 pub take_value-requires-clause-live : goal.take_value-requires-clause-live
