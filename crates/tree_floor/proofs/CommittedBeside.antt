@@ -1,5 +1,5 @@
 -- A worker that has drawn the entry of its task's segment, beside the nodes: what it has in hand then.
-use Rattle.std.proofs.Common.{◌≡◌, ◌≢◌, ◌⊎◌, ◌+◌, ◌++◌, ◌<◌, ℕ, Bool, true, false, cond, List, [], ◌∷◌, Option, None, Some, refl, sym, ap, subst, ◌∙◌, inl, inr, ⊎_elim}
+use Rattle.std.proofs.Common.{◌≡◌, ◌≢◌, ◌+◌, ◌++◌, ◌<◌, ℕ, Bool, true, false, cond, List, [], ◌∷◌, Option, None, Some, refl, sym, ap, subst, ◌∙◌, inl, ⊎_elim}
 use Rattle.std.proofs.lemmas.Bool.{cases_eq}
 use Rattle.std.specs.Prelude.{nat_lt}
 use Rattle.std.specs.Option.{ForSome}
@@ -19,17 +19,15 @@ use Rattle.floor_rule.specs.Rows.{phase_of, slot_of}
 use Rattle.floor_rule.specs.Steps.{end_after, first_turn, row_after}
 use Rattle.floor_rule.proofs.Puts.{none_some, put_else, put_here, some_one}
 use Rattle.floor_table.specs.declared.view.TurnChange.{TurnChange}
-use Rattle.floor_table.specs.declared.view.View.{View}
 use Rattle.floor_table.specs.FloorOf.{turn_in}
 use Rattle.floor_table.specs.Layout.{asked_of_clock}
 use Rattle.floor_table.specs.Tells.{drawn_view, entry_at}
 use Rattle.task_floor.specs.Committing.{Log, child_row}
 use Rattle.task_floor.proofs.CommittedEntries.{child_below}
-use Rattle.admission_core.specs.States.{IsAmong, Record}
+use Rattle.admission_core.specs.States.{IsAmong}
 use Rattle.node_rule.proofs.TaskChanges.{among_others}
 use Rattle.tree_table.specs.declared.slot.TreeSlot.{TreeSlot}
 use Rattle.tree_table.specs.declared.slot.TreeSlot.TheVariants as kinds
-use Rattle.tree_table.specs.declared.view.TreeView.{TreeView}
 use Rattle.tree_table.specs.Seats.{TreeSeat}
 use Rattle.tree_table.specs.TreeOf.{content_in}
 use Rattle.tree_floor.specs.Committing.{HasCommittedBeside, left_to_place, made_by, spawned_slot, with_first, with_first_given, with_made}

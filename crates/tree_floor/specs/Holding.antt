@@ -13,13 +13,11 @@ use Rattle.task_floor.specs.Resuming.{HasInHand}
 use Rattle.task_floor.specs.Segments.{MayRun}
 use Rattle.task_floor.specs.Working.{IsIdle}
 use Rattle.admission_core.specs.States.{IsAmong, Record}
-use Rattle.node_rule.specs.TurnSteps.{HasPlacedChildren}
-use Rattle.tree_table.specs.declared.slot.TreeSlot.{TreeSlot}
 use Rattle.tree_table.specs.declared.slot.TreeSlot.TheVariants as kinds
 use Rattle.tree_table.specs.declared.view.TreeView.{TreeView}
 use Rattle.tree_table.specs.FloorSeats.{floor_seat}
 use Rattle.tree_table.specs.Holds.{HasLeftTree}
-use Rattle.tree_table.specs.Seats.{TreeSeat, turns_seen}
+use Rattle.tree_table.specs.Seats.{TreeSeat}
 use Rattle.tree_table.specs.TreeOf.{content_in}
 use Rattle.tree_floor.specs.Resuming.{KnowsEnough}
 
