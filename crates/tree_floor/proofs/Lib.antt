@@ -18,3 +18,11 @@ pub mod Sorted
 pub mod Planted
 -- The end.
 pub mod Emptied
+-- A task in hand, and what is found of it.
+pub mod Forgetting
+pub mod Looking
+pub mod Valuing
+pub mod GoingOn
+-- Entries, and the tasks that they make.
+pub mod Bringing
+pub mod DrawnBeside

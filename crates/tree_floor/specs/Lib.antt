@@ -4,4 +4,6 @@ pub mod Contents
 pub mod Turns
 pub mod Leaving
 pub mod Opening
+pub mod Resuming
+pub mod Committing
 pub mod inner
