@@ -1,5 +1,5 @@
 //! The records of the enabled tasks, with which the nodes of a floor start.
-ghost use Rattle.std.specs.Prelude.{◌≡◌, ◌≤◌, ◌<◌, ◌^◌, ◌++◌, ◌∷◌, [], ℕ, List, length, drop, IfOk, OnOk};
+ghost use Rattle.std.specs.Prelude.{◌≡◌, ◌≤◌, ◌<◌, ◌^◌, ◌++◌, ℕ, List, length, IfOk, OnOk};
 ghost use Rattle.std.specs.List.{list_any};
 ghost use Rattle.admission_core.specs.States.{IsPlaceOf, Record};
 ghost use Rattle.node_rule.specs.Starts.{AreOfEnabled};
@@ -41,7 +41,13 @@ fn add_row(
         × AreRecordsOf shape.now t (live_effects row.now) more) }
 {
     match row.status {
-        TaskStatus::Enabled => add_effects(alloc, records, shape, t, row.effects.effects.as_slice()),
+        TaskStatus::Enabled => add_effects(
+            alloc,
+            records,
+            shape,
+            t,
+            row.effects.effects.as_slice(),
+        ),
         TaskStatus::Made => Ok(()),
         TaskStatus::Done => Ok(()),
         TaskStatus::Faulted => Ok(()),
@@ -88,7 +94,8 @@ fn add_record(
 
 /// Whether the record of this effect of task `t` is among these.
 fn has_record(records: &[NodeRecord], t: u32, effect: &Effect, node: u32) -> bool
-    ensures { result ≡ list_any (λ (r : Record). same_record r (record { task = t; effect = effect.now; node = node })) records.now }
+    ensures { result
+        ≡ list_any (λ (r : Record). same_record r (record { task = t; effect = effect.now; node = node })) records.now }
 {
     records.iter().any(|r| r.is_of(t, effect, node))
 }

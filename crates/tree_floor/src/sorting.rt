@@ -1,5 +1,5 @@
 //! What lies at the nodes of a floor that starts.
-ghost use Rattle.std.specs.Prelude.{◌≡◌, ◌<◌, ℕ, [], length, replicate, IfOk, OnOk};
+ghost use Rattle.std.specs.Prelude.{◌≡◌, ◌<◌, [], length, replicate, IfOk, OnOk};
 ghost use Rattle.admission_core.specs.States.{IsAmong, Record};
 ghost use Rattle.tree_floor.specs.inner.Recording.{HoldRecords, with_added};
 

@@ -8,12 +8,12 @@ ghost use Rattle.node_rule.specs.Starts.{AreOfEnabled};
 ghost use Rattle.tree_table.specs.Holds.{first_tree_view};
 ghost use Rattle.task_floor.specs.Waking.{log_of};
 
-use crate::sorting::contents_of;
 use crate::floor::{Floor, Stand};
 use crate::laying::{slots_of, words_of};
 use crate::numbering::log_of;
 use crate::planting::{add_locks, tree_slots};
 use crate::recording::records_of;
+use crate::sorting::contents_of;
 use effect_tree::Shape;
 use floor_table::Named;
 use journal_merge::Part;
@@ -81,9 +81,18 @@ impl<N: Named + Planted> Floor<N> {
         let slots = tree_slots(alloc, tasks, contents)?;
         let part = log_of(alloc, journal.as_slice(), prints)?;
         let start = TreeStart { part, records };
-        let (floor, stand) =
-            Self::open(alloc, cells.len(), count, words.as_slice(), slots, &start)?;
-        let TreeStart { part, records: _records } = start;
+        let (floor, stand) = Self::open(
+            alloc,
+            cells.len(),
+            count,
+            words.as_slice(),
+            slots,
+            &start,
+        )?;
+        let TreeStart {
+            part,
+            records: _records,
+        } = start;
         Ok((floor, stand, part))
     }
 }
