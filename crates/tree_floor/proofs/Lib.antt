@@ -12,6 +12,12 @@ pub mod Tries
 pub mod Rotations
 -- Contents that are taken out and given back.
 pub mod Givings
+-- The start: the records of enabled tasks, what lies at each node, and the words and slots that show all of it.
+pub mod Gathered
+pub mod Sorted
+pub mod Planted
+-- The end.
+pub mod Emptied
 -- A task in hand, and what is found of it.
 pub mod Forgetting
 pub mod Looking

@@ -3,6 +3,7 @@ pub mod Segments
 pub mod Contents
 pub mod Turns
 pub mod Leaving
+pub mod Opening
 pub mod Resuming
 pub mod Committing
 pub mod inner

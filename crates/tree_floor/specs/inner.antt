@@ -1,1 +1,3 @@
+pub mod Recording
+pub mod Emptying
 pub mod Bringing

@@ -4,23 +4,36 @@
 
 mod cells;
 mod clock;
+mod closing;
 mod contents;
+mod emptying;
 mod entries;
 mod entry_log;
 mod floor;
 mod following;
+mod laying;
 mod leaving;
+mod linking;
 mod locking;
 mod marking;
+mod numbering;
+mod opening;
 mod phases;
+mod planting;
+mod reading;
+mod recording;
+mod resting;
 mod resuming;
 mod row_phase;
 mod segments;
 mod settling;
+mod sorting;
 mod stands;
 mod turning;
 mod turns;
+mod unjoined;
 mod unlocking;
+mod waking;
 mod words;
 
 pub use entries::Committed;

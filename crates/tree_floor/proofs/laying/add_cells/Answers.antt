@@ -1,0 +1,22 @@
+use Rattle.std.proofs.Common.{◌≡◌, ◌++◌, ℤ, pos, List, [], ◌∷◌, take, get_or, sym, ap, subst, ◌∙◌, append_assoc, rules, w32, ℕ}
+use Rattle.std.proofs.lemmas.Int.{to_z-of_z}
+use mir.Val.{SFits}
+use Rattle.floor_table.specs.Layout.{value_of_word}
+use Rattle.task_floor.specs.inner.Laying.{AreWordsOf}
+use Rattle.task_floor.proofs.Laid.{one_word_more}
+use Rattle.task_floor.proofs.Taken.{take_or}
+use Rattle.tree_floor.proofs.laying.add_cells.Goals as goal
+
+pub loop-value-preserved : goal.loop-value-preserved
+loop-value-preserved c =
+    let cells = c.args.cells.now in
+    let i = c.loop-value.value-index in
+    let value : ℤ = get_or cells i (pos 0) in
+    let before = c.loop-value.invariant in
+    let fits : SFits w32 (get_or c.args.cells.now c.loop-value.value-index (pos 0)) = search rules in
+    let means : value_of_word c.word_of_value.result ≡ value = c.word_of_value.ensures.1 ∙ to_z-of_z w32 (get_or c.args.cells.now c.loop-value.value-index (pos 0)) fits in (
+      before.0 ++ c.word_of_value.result ∷ [],
+      subst (λ (l : List ℤ). AreWordsOf l (before.0 ++ c.word_of_value.result ∷ [])) (sym (take_or cells i (pos 0) c.loop-value-test.true))
+          (one_word_more (take i cells) before.0 value c.word_of_value.result before.1 c.word_of_value.ensures.0 means),
+      c.in_ok-push.ensures.ok ∙ (ap (λ (l : List ℕ). l ++ c.word_of_value.result ∷ []) before.2 ∙ append_assoc c.args.words.now before.0 (c.word_of_value.result ∷ [])),
+    )

@@ -1,0 +1,139 @@
+//! The words and the slots of a floor that starts from a state.
+ghost use Rattle.std.specs.Prelude.{◌≡◌, ◌<◌, ◌≤◌, ◌-◌, ◌^◌, ◌++◌, ℕ, List, None, length, map, replicate, drop, IfOk, OnOk};
+ghost use Rattle.floor_rule.specs.Rows.{slot_of};
+ghost use Rattle.task_floor.specs.inner.Laying.{AreWordsOf, gap_words, head_words, held_slot, made_words, unmade_words};
+
+use crate::clock::clock_of;
+use crate::row_phase::phase_of;
+use crate::words::{word_of, word_of_value};
+use floor_rule::TaskSlot;
+use std::alloc::Global;
+use twe_io::{List, Memory};
+use twe_machine::{State, TaskRow};
+
+/// The words that show a state after this many entries, if so many tasks may be made.
+pub(crate) fn words_of(
+    alloc: Global,
+    st: &State,
+    tasks: u32,
+    entries: usize,
+) -> Result<List<u64>, Memory>
+    requires clock { (st.now.asked < 2 ^ 19) × (entries < 2 ^ 45) }
+    requires tasks { length st.now.tasks ≤ tasks }
+    ensures { IfOk result (λ words. (cells : List ℕ) × AreWordsOf st.now.cells cells
+        × (words ≡ head_words st.now.asked entries ++ (cells ++ (gap_words ++ (made_words st.now.tasks ++ unmade_words (tasks - length st.now.tasks)))))) }
+{
+    let mut words = head_words(alloc, st.asked, entries)?;
+    add_cells(&mut words, st.cells.as_slice())?;
+    add_gap(&mut words)?;
+    add_made(&mut words, st.tasks.as_slice())?;
+    add_unmade(&mut words, tasks - st.tasks.len() as u32)?;
+    Ok(words)
+}
+
+/// The clock, and the words up to the first cell.
+fn head_words(alloc: Global, asked: u32, entries: usize) -> Result<List<u64>, Memory>
+    requires { (asked < 2 ^ 19) × (entries < 2 ^ 45) }
+    ensures { IfOk result (λ words. words ≡ head_words asked entries) }
+{
+    List::from_slice(alloc, &[clock_of(asked, entries), 0, 0, 0, 0, 0, 0, 0])
+}
+
+/// Adds the words of cells.
+fn add_cells(words: &mut List<u64>, cells: &[i32]) -> Result<(), Memory>
+    ensures { OnOk result ((more : List ℕ) × AreWordsOf cells.now more × (words.new ≡ words.old ++ more)) }
+{
+    for value in cells {
+        words.push(word_of_value(*value))?;
+    }
+    Ok(())
+}
+
+/// Adds the words between the last cell and the first task.
+fn add_gap(words: &mut List<u64>) -> Result<(), Memory>
+    ensures { OnOk result (words.new ≡ words.old ++ gap_words) }
+{
+    words.push_all(&[0, 0, 0, 0, 0, 0, 0, 0])
+}
+
+/// Adds the words of tasks that were made: their turns are free.
+fn add_made(words: &mut List<u64>, tasks: &[TaskRow]) -> Result<(), Memory>
+    ensures { OnOk result (words.new ≡ words.old ++ made_words tasks.now) }
+{
+    for row in tasks {
+        words.push(0)?;
+        words.push(word_of(phase_of(row)))?;
+    }
+    Ok(())
+}
+
+/// Adds the words of this many tasks that are not made.
+fn add_unmade(words: &mut List<u64>, count: u32) -> Result<(), Memory>
+    ensures { OnOk result (words.new ≡ words.old ++ unmade_words count) }
+{
+    for i in 0..count {
+        words.push(1)?;
+        words.push(0)?;
+    }
+    Ok(())
+}
+
+/// What lies in the slots, if so many tasks may be made.
+pub(crate) fn slots_of(
+    alloc: Global,
+    tasks: List<TaskRow>,
+    count: u32,
+) -> Result<List<Option<TaskSlot>>, Memory>
+    requires { length tasks ≤ count }
+    ensures { IfOk result (λ slots. slots ≡ map held_slot tasks ++ drop (length tasks) (replicate count None)) }
+{
+    let mut slots = empty_slots(alloc, count)?;
+    fill_slots(&mut slots, tasks);
+    Ok(slots)
+}
+
+/// This many empty slots.
+fn empty_slots(alloc: Global, count: u32) -> Result<List<Option<TaskSlot>>, Memory>
+    ensures { IfOk result (λ slots. slots ≡ replicate count None) }
+{
+    let mut slots = List::with_capacity(alloc, count as usize)?;
+    for i in 0..count {
+        slots.push(None)?;
+    }
+    Ok(slots)
+}
+
+/// Puts what the slot of each task holds into its slot. The slots behind them stay.
+fn fill_slots(slots: &mut List<Option<TaskSlot>>, tasks: List<TaskRow>)
+    requires { length tasks ≤ length slots.old }
+    ensures { slots.new ≡ map held_slot tasks ++ drop (length tasks) slots.old }
+{
+    let mut tasks = tasks;
+    while let Some(row) = tasks.pop() {
+        slots.set(tasks.len(), Some(slot_of(row)));
+    }
+}
+
+/// What the slot of a task with this row holds.
+fn slot_of(row: TaskRow) -> TaskSlot
+    ensures { result ≡ slot_of row }
+{
+    let TaskRow {
+        decl,
+        args,
+        effects,
+        frame,
+        parent,
+        joined: _,
+        out: _out,
+        status: _,
+        value: _,
+    } = row;
+    TaskSlot {
+        frame,
+        decl,
+        args,
+        effects,
+        parent,
+    }
+}

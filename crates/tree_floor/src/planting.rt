@@ -1,0 +1,52 @@
+//! The words and the slots of nodes, behind those of a floor that starts.
+ghost use Rattle.std.specs.Prelude.{◌≡◌, ◌++◌, map, replicate, IfOk, OnOk};
+ghost use Rattle.tree_table.specs.declared.slot.TreeSlot.TheVariants as kinds;
+
+use floor_rule::TaskSlot;
+use std::alloc::Global;
+use tree_table::{NodeContent, TreeSlot};
+use twe_io::{List, Memory};
+
+/// Adds the lock words of so many nodes, which nobody has locked.
+pub(crate) fn add_locks(words: &mut List<u64>, nodes: u32) -> Result<(), Memory>
+    ensures { OnOk result (words.new ≡ words.old ++ replicate nodes 0) }
+{
+    for i in 0..nodes {
+        words.push(0)?;
+    }
+    Ok(())
+}
+
+/// The slots of tasks, and behind them those of nodes.
+pub(crate) fn tree_slots(
+    alloc: Global,
+    tasks: List<Option<TaskSlot>>,
+    contents: List<NodeContent>,
+) -> Result<List<TreeSlot>, Memory>
+    ensures { IfOk result (λ slots. slots ≡ map kinds.Task tasks ++ map kinds.Node contents) }
+{
+    let mut slots = List::new(alloc);
+    add_tasks(&mut slots, tasks)?;
+    add_nodes(&mut slots, contents)?;
+    Ok(slots)
+}
+
+/// Adds the slots of tasks.
+fn add_tasks(slots: &mut List<TreeSlot>, tasks: List<Option<TaskSlot>>) -> Result<(), Memory>
+    ensures { OnOk result (slots.new ≡ slots.old ++ map kinds.Task tasks) }
+{
+    for task in tasks.into_vec() {
+        slots.push(TreeSlot::Task(task))?;
+    }
+    Ok(())
+}
+
+/// Adds the slots of nodes.
+fn add_nodes(slots: &mut List<TreeSlot>, contents: List<NodeContent>) -> Result<(), Memory>
+    ensures { OnOk result (slots.new ≡ slots.old ++ map kinds.Node contents) }
+{
+    for content in contents.into_vec() {
+        slots.push(TreeSlot::Node(content))?;
+    }
+    Ok(())
+}

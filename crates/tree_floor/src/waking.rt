@@ -1,0 +1,98 @@
+//! How a floor with nodes goes on from a quiet point.
+ghost use Rattle.std.specs.Prelude.{◌≡◌, List, [], IfOk};
+ghost use Rattle.twe_program.specs.WellFormed.{IsWellFormed};
+ghost use Rattle.soundness_laws.specs.KeepsEffects.{KeepsEffects};
+ghost use Rattle.twe_machine.specs.Runs.{IsRun};
+ghost use Rattle.admission_core.specs.States.{Record};
+ghost use Rattle.node_rule.specs.Starts.{AreOfEnabled};
+ghost use Rattle.tree_table.specs.Holds.{first_tree_view};
+ghost use Rattle.task_floor.specs.Waking.{log_of};
+
+use crate::floor::{Floor, Stand};
+use crate::laying::{slots_of, words_of};
+use crate::numbering::log_of;
+use crate::planting::{add_locks, tree_slots};
+use crate::recording::records_of;
+use crate::sorting::contents_of;
+use effect_tree::Shape;
+use floor_table::Named;
+use journal_merge::Part;
+use seg_journal::{Journal, Limits};
+use std::alloc::Global;
+use task_floor::Rest;
+use tree_table::{Planted, TreeStart};
+use twe_io::Memory;
+use twe_machine::{State, start};
+use twe_program::Prog;
+
+impl<N: Named + Planted> Floor<N> {
+    /// A floor for a run that has not begun, its first stand, and the entries of that stand, which are none. No record stands.
+    /// It takes time linear in the cells, in the nodes and in the tasks that may be made.
+    pub fn new(
+        alloc: Global,
+        p: &Prog,
+        shape: &Shape,
+        lim: Limits,
+    ) -> Result<(Self, Stand, Part), Memory>
+        requires accepted { IsWellFormed N.prog × KeepsEffects N.prog }
+        requires named { (p.now ≡ N.prog) × (shape.now ≡ N.nodes) × (lim ≡ N.lim) }
+        ensures stand { IfOk result (λ floor. (floor.1.table_id ≡ floor.0) × (floor.1.me ≡ (first_tree_view [] [], []))) }
+        ensures part { IfOk result (λ floor. floor.2 ≡ []) }
+    {
+        let state = start(alloc, p, lim)?;
+        let journal = Journal::new(alloc);
+        Self::wake(alloc, shape, lim, Rest { state, journal })
+    }
+
+    /// A floor that goes on from a quiet point, its first stand, and the entries of that stand: those of the journal, with
+    /// all that was printed beside the last of them. The records that stand are those of the enabled tasks: one for each effect,
+    /// at its place. It takes time linear in the cells, in the nodes, in the journal and in the tasks that may be made, and
+    /// copies no frame.
+    pub fn wake(
+        alloc: Global,
+        shape: &Shape,
+        lim: Limits,
+        rest: Rest,
+    ) -> Result<(Self, Stand, Part), Memory>
+        requires accepted { IsWellFormed N.prog × KeepsEffects N.prog }
+        requires named { (shape.now ≡ N.nodes) × (lim ≡ N.lim) }
+        requires run { IsRun N.prog N.lim rest.journal rest.state }
+        ensures here { IfOk result (λ floor. floor.1.table_id ≡ floor.0) }
+        ensures stand { IfOk result (λ floor. (records : List Record) × AreOfEnabled N.nodes rest.state records
+            × (floor.1.me ≡ (first_tree_view floor.2 records, []))) }
+        ensures part { IfOk result (λ floor. floor.2 ≡ log_of rest.journal rest.state.prints) }
+    {
+        let Rest { state, journal } = rest;
+        let count = lim.tasks;
+        let nodes = shape.nodes();
+        let records = records_of(alloc, shape, &state)?;
+        let contents = contents_of(alloc, nodes, records.as_slice())?;
+        let mut words = words_of(alloc, &state, count, journal.len())?;
+        add_locks(&mut words, nodes)?;
+        let State {
+            cells,
+            tasks,
+            links: _links,
+            prints,
+            asked: _,
+            first_fault: _,
+        } = state;
+        let tasks = slots_of(alloc, tasks, count)?;
+        let slots = tree_slots(alloc, tasks, contents)?;
+        let part = log_of(alloc, journal.as_slice(), prints)?;
+        let start = TreeStart { part, records };
+        let (floor, stand) = Self::open(
+            alloc,
+            cells.len(),
+            count,
+            words.as_slice(),
+            slots,
+            &start,
+        )?;
+        let TreeStart {
+            part,
+            records: _records,
+        } = start;
+        Ok((floor, stand, part))
+    }
+}
