@@ -13,6 +13,7 @@ use Rattle.node_rule.specs.Trees.{WaitFact}
 use Rattle.tree_table.specs.declared.view.TreeView.{TreeView}
 use Rattle.tree_table.specs.Follows.{FollowedPhase, Learns, done_view, followed, led_on, waits_view}
 use Rattle.tree_table.specs.Seats.{TreeSeat}
+use Rattle.tree_admit.specs.Bars.{IsLedTo}
 use Rattle.tree_admit.specs.Going.{HasOnlyFollowed, HasOnlyLearned}
 use Rattle.tree_admit.proofs.Learning.{learned_refl, learned_trans}
 
@@ -58,7 +59,7 @@ done_followed before u value = record {
   activity = refl;
   kept = refl;
   slots = refl;
-  learned = record { floor = refl; done = λ fact among. inr among; waits = λ fact among. among; placed = refl; removed = refl; fresh = refl; clear = refl };
+  learned = record { floor = refl; done = λ fact among. inr among; waits = λ fact among. among; placed = refl; removed = refl; fresh = refl; clear = refl; seen = λ change among. among };
 }
 
 waits_followed : (before : TreeSeat) (u t : ℕ) → HasOnlyFollowed before (waits_view before.0 u t, before.1)
@@ -74,6 +75,7 @@ waits_followed before u t = record {
     removed = refl;
     fresh = refl;
     clear = refl;
+    seen = λ change among. among;
   };
 }
 
@@ -91,10 +93,6 @@ follows_only lim before u phase after found = learns_only (phase_of_word (word_o
 -- a task waits for one with a higher number
 pub waits_above : (lim : Bounds) (before : TreeSeat) (u t : ℕ) (after : TreeSeat) → FollowedPhase lim before u (word_of_phase (Waits t)) after → (u < t) × (t < lim.tasks)
 waits_above lim before u t after found = found.2 t (phase_again (Waits t))
-
--- s is u, or is known to wait for it
-abbrev pub IsLedTo : TreeView → ℕ → ℕ → Type 0
-IsLedTo v s u = (s ≡ u) ⊎ IsAmong (record { waiter = s; awaited = u }) v.waits
 
 -- whoever was led to u is led on to the task for which u waits
 pub led_further : (lim : Bounds) (before : TreeSeat) (s u t : ℕ) (after : TreeSeat) → IsLedTo before.0 s u → FollowedPhase lim before u (word_of_phase (Waits t)) after

@@ -7,7 +7,7 @@ use Rattle.tree_table.specs.declared.view.TreeView.{TreeView}
 use Rattle.tree_admit.specs.Going.{HasOnlyLearned}
 
 pub learned_refl : (v : TreeView) → HasOnlyLearned v v
-learned_refl v = record { floor = refl; done = λ fact h. h; waits = λ fact h. h; placed = refl; removed = refl; fresh = refl; clear = refl }
+learned_refl v = record { floor = refl; done = λ fact h. h; waits = λ fact h. h; placed = refl; removed = refl; fresh = refl; clear = refl; seen = λ change h. h }
 
 pub learned_trans : (u v w : TreeView) → HasOnlyLearned u v → HasOnlyLearned v w → HasOnlyLearned u w
 learned_trans u v w h k = record {
@@ -18,4 +18,5 @@ learned_trans u v w h k = record {
   removed = k.removed ∙ h.removed;
   fresh = k.fresh ∙ h.fresh;
   clear = k.clear ∙ h.clear;
+  seen = λ change among. k.seen change (h.seen change among);
 }

@@ -75,6 +75,7 @@ module _ (lim : Bounds) (earlier : TreeView) (rest : List (ℕ × TreeSlot)) (a 
           removed = h.learned.removed;
           fresh = ap (λ (l : List Record). r ∷ l) h.learned.fresh;
           clear = ap (λ (l : List ClearFact). not_clear r.task r.node l) h.learned.clear;
+          seen = λ change among. inr (h.learned.seen change among);
         };
       })
 
@@ -120,6 +121,7 @@ module _ (lim : Bounds) (earlier : TreeView) (rest : List (ℕ × TreeSlot)) (a 
           removed = ap (λ (l : List Record). r ∷ l) h.learned.removed;
           fresh = ap (λ (l : List Record). without r l) h.learned.fresh;
           clear = h.learned.clear;
+          seen = λ change among. inr (h.learned.seen change among);
         };
       })
 
@@ -145,5 +147,6 @@ module _ (lim : Bounds) (earlier : TreeView) (rest : List (ℕ × TreeSlot)) (a 
           removed = h.learned.removed;
           fresh = h.learned.fresh;
           clear = ap (λ (l : List ClearFact). record { task = t; node = n } ∷ l) h.learned.clear;
+          seen = h.learned.seen;
         };
       })

@@ -2,6 +2,10 @@
 //! place of an effect, and comes back. Whoever admits a task looks at each record that it meets on its way.
 #![tactic(auto)]
 
+mod bars;
+mod footing;
 mod laws;
 
+pub use bars::Bar;
+pub use footing::Footing;
 pub use laws::views_only_learn;
