@@ -34,7 +34,7 @@ use Rattle.admission_laws.specs.TasksOf.{status_of}
 use Rattle.node_rule.specs.Fitting.{HasTurn, IsPlaced, KeptFits, KnowledgeFits}
 use Rattle.node_rule.specs.FactSteps.{FindsClear, HasPlacedAll, IsKnownToWait, after_finding_clear, after_following}
 use Rattle.node_rule.specs.Rule.{KeepsBoth, KeepsNodes}
-use Rattle.node_rule.specs.Trees.{ClearFact, Tree, WaitFact}
+use Rattle.node_rule.specs.Trees.{Tree, WaitFact}
 use Rattle.node_rule.proofs.KnownTasks.{row_of, task_of_row, task_of_turn}
 use Rattle.node_rule.proofs.LockEvents.{invariant, links_agree}
 
@@ -47,7 +47,7 @@ module _ (nodes : List (List Elem)) (p : Program) (lim : Bounds) (log : List Num
   keep = both.nodes_keep
 
   -- What is known changes alone.
-  knows : (fresh : ℕ → List Record) (clear : ℕ → List ClearFact) (waits : ℕ → List WaitFact) → KnowledgeFits st f.held core.records fresh clear waits
+  knows : (fresh : ℕ → List Record) (clear : ℕ → List Record) (waits : ℕ → List WaitFact) → KnowledgeFits st f.held core.records fresh clear waits
       → KeepsNodes nodes p lim log f (record tree { fresh = fresh; clear = clear; waits = waits }) core
   knows fresh clear waits fits = record {
     reached = keep.reached;
@@ -82,27 +82,24 @@ module _ (nodes : List (List Elem)) (p : Program) (lim : Bounds) (log : List Num
       let number = (reached_linked p lim st (record { journal = journal_of log; legal = both.floor.legal; same = refl })).number small in
       omega (arith, made, asked, number, same)
 
-  -- A node is found clear.
+  -- A record is not found.
 
-  abbrev IsClear : ℕ → ClearFact → Type 0
-  IsClear j fact = HasTurn f.held j fact.task × ((r : Record) → IsAmong r core.records → r.task ≡ fact.task → r.node ≢ fact.node)
+  abbrev IsClear : ℕ → Record → Type 0
+  IsClear j r = HasTurn f.held j r.task × (¬ IsAmong r core.records)
 
-  pub finding_clear : (i t n : ℕ) → FindsClear f.held tree i t n → KeepsNodes nodes p lim log f (after_finding_clear tree i t n) core
-  finding_clear i t n finds =
-      let fits = subst (KeptFits core.records tree.activities i n) finds.has (keep.contents.out i n) in
-      let new : IsClear i (record { task = t; node = n }) = (
-        finds.turn,
-        λ r stands task node. finds.none r ((fits.1 r).1 (stands, node)) task,
-      ) in
-      knows tree.fresh (put tree.clear i (record { task = t; node = n } ∷ tree.clear i)) tree.waits
+  pub finding_clear : (i : ℕ) (r : Record) → FindsClear f.held tree i r → KeepsNodes nodes p lim log f (after_finding_clear tree i r) core
+  finding_clear i r finds =
+      let fits = subst (KeptFits core.records tree.activities i r.node) finds.has (keep.contents.out i r.node) in
+      let new : IsClear i r = (finds.turn, λ stands. finds.none ((fits.1 r).1 (stands, refl))) in
+      knows tree.fresh (put tree.clear i (r ∷ tree.clear i)) tree.waits
       (record {
         owned = keep.known.owned;
         fresh_stand = keep.known.fresh_stand;
-        clear_are = put_all (λ (j : ℕ) (facts : List ClearFact). (fact : ClearFact) → IsAmong fact facts → IsClear j fact) tree.clear i (record { task = t; node = n } ∷ tree.clear i)
-            (λ fact among.
+        clear_are = put_all (λ (j : ℕ) (records : List Record). (x : Record) → IsAmong x records → IsClear j x) tree.clear i (r ∷ tree.clear i)
+            (λ x among.
             ⊎_elim
-            (λ (is : fact ≡ record { task = t; node = n }). subst (IsClear i) (sym is) new)
-            (λ (rest : IsAmong fact (tree.clear i)). keep.known.clear_are i fact rest)
+            (λ (is : x ≡ r). subst (IsClear i) (sym is) new)
+            (λ (rest : IsAmong x (tree.clear i)). keep.known.clear_are i x rest)
             among)
             (λ j other. keep.known.clear_are j);
         waits_hold = keep.known.waits_hold;

@@ -20,6 +20,7 @@ pub mod Bars
 -- The steps of the floor on turns and seats: the tasks of the core once a turn was set, and these steps as events.
 pub mod TaskChanges
 pub mod TurnEvents
+pub mod Takings
 pub mod SeatSteps
 pub mod LastMade
 pub mod EntryTasks

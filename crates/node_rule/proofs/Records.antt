@@ -8,7 +8,7 @@ use Rattle.floor_rule.proofs.Puts.{put_all, put_here, put_was}
 use Rattle.admission_core.specs.States.{Holds, IsAmong, Record}
 use Rattle.node_rule.specs.Fitting.{Activities, AreRecordsAt, ContentFits, ContentsFit, HasTurn, KeptFits, KnowledgeFits}
 use Rattle.node_rule.specs.RecordSteps.{IsWithout, not_clear}
-use Rattle.node_rule.specs.Trees.{ClearFact, WaitFact, put_kept}
+use Rattle.node_rule.specs.Trees.{WaitFact, put_kept}
 use Rattle.node_rule.proofs.Holding.{kept_all}
 
 -- The records at nodes other than n are as before, and seat i, which holds n, has the new ones.
@@ -79,13 +79,13 @@ else_removed standing left r out x other = (
   λ among. ((out x).0 among).0,
 )
 
--- What is not clear any more.
+-- What is not known any more not to stand.
 
 both_true : (m n k l : ℕ) → m ≡ n → k ≡ l → ((m == n) && (k == l)) ≡ true
 both_true m n k l first second = ap (λ (b : Bool). b && (k == l)) (eq-eqb m n first) ∙ eq-eqb k l second
 
 module _ (t n : ℕ) where
-  still_clear : (b : Bool) (x fact : ClearFact) (facts : List ClearFact) → ((fact.task == t) && (fact.node == n)) ≡ b
+  still_clear : (b : Bool) (x fact : Record) (facts : List Record) → ((fact.task == t) && (fact.node == n)) ≡ b
       → (IsAmong x (not_clear t n facts) → IsAmong x facts × (x.task ≡ t → x.node ≢ n))
       → IsAmong x (if b then not_clear t n facts else fact ∷ not_clear t n facts) → IsAmong x (fact ∷ facts) × (x.task ≡ t → x.node ≢ n)
   still_clear true x fact facts is rest among = let found = rest among in (inr found.0, found.1)
@@ -93,7 +93,7 @@ module _ (t n : ℕ) where
     inl same,
     λ task node.
         let hit : ((fact.task == t) && (fact.node == n)) ≡ true =
-        both_true fact.task t fact.node n (sym (ap (λ (y : ClearFact). y.task) same) ∙ task) (sym (ap (λ (y : ClearFact). y.node) same) ∙ node) in
+        both_true fact.task t fact.node n (sym (ap (λ (y : Record). y.task) same) ∙ task) (sym (ap (λ (y : Record). y.node) same) ∙ node) in
         false_true (sym is ∙ hit),
   )
     where
@@ -101,13 +101,13 @@ module _ (t n : ℕ) where
       false_true h = cc
   still_clear false x fact facts is rest (inr among) = let found = rest among in (inr found.0, found.1)
 
-  pub clear_among : (x : ClearFact) (facts : List ClearFact) → IsAmong x (not_clear t n facts) → IsAmong x facts × (x.task ≡ t → x.node ≢ n)
+  pub clear_among : (x : Record) (facts : List Record) → IsAmong x (not_clear t n facts) → IsAmong x facts × (x.task ≡ t → x.node ≢ n)
   clear_among x [] among = absurd among
   clear_among x (fact ∷ facts) among =
       still_clear ((fact.task == t) && (fact.node == n)) x fact facts refl (clear_among x facts) among
 
 -- What the seats know.
-module _ (st : State) (turns : Turns) (one : OneHolder turns) (standing : List Record) (fresh : ℕ → List Record) (clear : ℕ → List ClearFact) (waits : ℕ → List WaitFact)
+module _ (st : State) (turns : Turns) (one : OneHolder turns) (standing : List Record) (fresh : ℕ → List Record) (clear : ℕ → List Record) (waits : ℕ → List WaitFact)
     (known : KnowledgeFits st turns standing fresh clear waits) (i : ℕ) (r : Record) (turn : HasTurn turns i r.task) where
   fresh_more : (j : ℕ) (x : Record) → IsAmong x (fresh j) → IsAmong x (put fresh i (r ∷ fresh i) j)
   fresh_more j x among =
@@ -145,25 +145,24 @@ module _ (st : State) (turns : Turns) (one : OneHolder turns) (standing : List R
     clear_are = λ j fact among.
         ⊎_elim
         (λ (own : (j ≡ i) × (not_clear r.task r.node (clear i) ≡ put clear i (not_clear r.task r.node (clear i)) j)).
-        let found = clear_among r.task r.node fact (clear i) (subst (λ (xs : List ClearFact). IsAmong fact xs) (sym own.1) among) in
+        let found = clear_among r.task r.node fact (clear i) (subst (λ (xs : List Record). IsAmong fact xs) (sym own.1) among) in
         let old = known.clear_are i fact found.0 in (
           subst (λ (k : ℕ). HasTurn turns k fact.task) (sym own.0) old.0,
-          λ x stands task.
+          λ stands.
               ⊎_elim
-              (λ (is : x ≡ r). λ (node : x.node ≡ fact.node).
-              found.1 (sym task ∙ ap (λ (y : Record). y.task) is) (sym node ∙ ap (λ (y : Record). y.node) is))
-              (λ (rest : IsAmong x standing). old.1 x rest task)
+              (λ (is : fact ≡ r). found.1 (ap (λ (y : Record). y.task) is) (ap (λ (y : Record). y.node) is))
+              (λ (rest : IsAmong fact standing). old.1 rest)
               stands,
         ))
         (λ (other : (j ≢ i) × (clear j ≡ put clear i (not_clear r.task r.node (clear i)) j)).
-        let old = known.clear_are j fact (subst (λ (xs : List ClearFact). IsAmong fact xs) (sym other.1) among) in (
+        let old = known.clear_are j fact (subst (λ (xs : List Record). IsAmong fact xs) (sym other.1) among) in (
           old.0,
-          λ x stands task.
+          λ stands.
               ⊎_elim
-              (λ (is : x ≡ r).
-              let mine : HasTurn turns i fact.task = subst (λ (u : ℕ). HasTurn turns i u) (sym (ap (λ (y : Record). y.task) is) ∙ task) turn in
-              absurd (other.0 (one j i fact.task old.0.0 mine.0 old.0.1 mine.1)))
-              (λ (rest : IsAmong x standing). old.1 x rest task)
+              (λ (is : fact ≡ r).
+              let mine : HasTurn turns i fact.task = subst (λ (u : ℕ). HasTurn turns i u) (sym (ap (λ (y : Record). y.task) is)) turn in
+              other.0 (one j i fact.task old.0.0 mine.0 old.0.1 mine.1))
+              (λ (rest : IsAmong fact standing). old.1 rest)
               stands,
         ))
         (put_was clear i j (not_clear r.task r.node (clear i)) (put clear i (not_clear r.task r.node (clear i)) j) refl);
@@ -182,7 +181,20 @@ module _ (st : State) (turns : Turns) (one : OneHolder turns) (standing : List R
     fresh_less j x apart among =
         put_all (λ (k : ℕ) (xs : List Record). IsAmong x (fresh k) → IsAmong x xs) fresh i less (λ old. (others x).1 (old, apart)) (λ k other old. old) j among
 
-    pub known_removed : KnowledgeFits st turns left (put fresh i less) clear waits
+    -- what a seat knew not to stand does not stand, and neither does the record
+    clear_left : (j : ℕ) (x : Record) → IsAmong x (clear j) → HasTurn turns j x.task × (¬ IsAmong x left)
+    clear_left j x among =
+        let old = known.clear_are j x among in
+        (old.0, λ stands. old.1 ((out x).0 stands).0)
+
+    clear_now : (x : Record) → IsAmong x (r ∷ clear i) → HasTurn turns i x.task × (¬ IsAmong x left)
+    clear_now x among =
+        ⊎_elim
+        (λ (is : x ≡ r). (subst (λ (y : Record). HasTurn turns i y.task) (sym is) turn, λ stands. ((out x).0 stands).1 is))
+        (λ (rest : IsAmong x (clear i)). clear_left i x rest)
+        among
+
+    pub known_removed : KnowledgeFits st turns left (put fresh i less) (put clear i (r ∷ clear i)) waits
     known_removed = record {
       owned = λ x row among there other.
           let was = (out x).0 among in
@@ -199,8 +211,7 @@ module _ (st : State) (turns : Turns) (one : OneHolder turns) (standing : List R
           let old = known.fresh_stand j x was in
           ((out x).1 (old.0, fresh_apart j x other.0 was), old.1))
           (put_was fresh i j less (put fresh i less j) refl);
-      clear_are = λ j fact among.
-          let old = known.clear_are j fact among in
-          (old.0, λ x stands task. old.1 x ((out x).0 stands).0 task);
+      clear_are = put_all (λ (j : ℕ) (records : List Record). (x : Record) → IsAmong x records → HasTurn turns j x.task × (¬ IsAmong x left)) clear i (r ∷ clear i) clear_now
+          (λ j differ. clear_left j);
       waits_hold = known.waits_hold;
     }

@@ -16,8 +16,7 @@ use Rattle.admission_core.specs.Entries.{Becomes}
 use Rattle.admission_core.specs.States.{IsAmong, Record}
 use Rattle.admission_laws.specs.TasksOf.{AreTasksOf}
 use Rattle.node_rule.specs.Fitting.{HasTurn, TasksFit, TurnIs}
-use Rattle.node_rule.specs.TurnSteps.{of_others, on_others}
-use Rattle.node_rule.specs.Trees.{ClearFact}
+use Rattle.node_rule.specs.TurnSteps.{of_others}
 
 -- the tasks, but for task t
 abbrev pub with_task : Tasks → ℕ → Task → Tasks
@@ -103,7 +102,7 @@ given_away turns i t alone j =
     ap (λ (g : ℕ → Option HeldTurn). g t) (turns_elsewhere turns i t None j differ) ∙ none_of (turns j t) (λ other at. differ (alone j other at)))
     (cases_eq j i)
 
--- Records and facts of other tasks.
+-- Records of other tasks.
 
 pub among_others : (t : ℕ) (x : Record) (records : List Record) → IsAmong x (of_others t records) → IsAmong x records × (x.task ≢ t)
 among_others t x [] among = absurd among
@@ -138,19 +137,3 @@ others_among t x (r ∷ records) among other =
     (λ (rest : IsAmong x records). inr (others_among t x records rest other))
     among))
     (cases_eq r.task t)
-
-pub facts_on_others : (t : ℕ) (x : ClearFact) (facts : List ClearFact) → IsAmong x (on_others t facts) → IsAmong x facts × (x.task ≢ t)
-facts_on_others t x [] among = absurd among
-facts_on_others t x (fact ∷ facts) among =
-    ⊎_elim
-    (λ (same : fact.task ≡ t).
-    let rest : IsAmong x (on_others t facts) = subst (λ (b : Bool). IsAmong x (if b then on_others t facts else fact ∷ on_others t facts)) (eq-eqb fact.task t same) among in
-    let found = facts_on_others t x facts rest in
-    (inr found.0, found.1))
-    (λ (other : fact.task ≢ t).
-    let rest : IsAmong x (fact ∷ on_others t facts) = subst (λ (b : Bool). IsAmong x (if b then on_others t facts else fact ∷ on_others t facts)) (ne_eqb fact.task t other) among in
-    ⊎_elim
-    (λ (is : x ≡ fact). (inl is, λ task. other (sym (ap (λ (y : ClearFact). y.task) is) ∙ task)))
-    (λ (more : IsAmong x (on_others t facts)). let found = facts_on_others t x facts more in (inr found.0, found.1))
-    rest)
-    (cases_eq fact.task t)

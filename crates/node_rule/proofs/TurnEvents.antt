@@ -34,15 +34,15 @@ use Rattle.admission_core.specs.Rule.{by_task}
 use Rattle.admission_core.proofs.FamilyLemmas.{one_task}
 use Rattle.node_rule.specs.Fitting.{HasFirst, HasTurn, KnowledgeFits, LocksFit, TasksFit, TurnIs}
 use Rattle.node_rule.specs.Rule.{KeepsBoth, KeepsNodes}
-use Rattle.node_rule.specs.Trees.{ClearFact, Tree, WaitFact}
-use Rattle.node_rule.specs.TurnSteps.{IsClearOf, IsTaskEvent, LeavesNone, MayGiveFirst, MayGiveTaken, after_forgetting, of_others, on_others}
+use Rattle.node_rule.specs.Trees.{Tree, WaitFact}
+use Rattle.node_rule.specs.TurnSteps.{IsClearOf, IsTaskEvent, LeavesNone, MayGiveFirst, MayGiveTaken, after_forgetting, of_others}
 use Rattle.node_rule.proofs.Facts.{stands_placed}
 use Rattle.node_rule.proofs.KnownTasks.{KnownTask, first_turn, taken_turn, task_of_row, task_of_turn}
 use Rattle.node_rule.proofs.LockEvents.{invariant, links_agree}
-use Rattle.node_rule.proofs.TaskChanges.{among_others, becomes, facts_on_others, given_away, has_else, has_more, others_among, tasks_set, turn_else, with_task}
+use Rattle.node_rule.proofs.TaskChanges.{among_others, becomes, given_away, has_else, has_more, others_among, tasks_set, turn_else, with_task}
 
 -- what the seats know stays if each turn stays where it is
-known_more : (st : machine.State) (turns more : Turns) (standing : List Record) (fresh : ℕ → List Record) (clear : ℕ → List ClearFact) (waits : ℕ → List WaitFact)
+known_more : (st : machine.State) (turns more : Turns) (standing : List Record) (fresh : ℕ → List Record) (clear : ℕ → List Record) (waits : ℕ → List WaitFact)
     → ((j u : ℕ) → HasTurn turns j u → HasTurn more j u) → KnowledgeFits st turns standing fresh clear waits → KnowledgeFits st more standing fresh clear waits
 known_more st turns more standing fresh clear waits lift known = record {
   owned = λ r row among there other. let old = known.owned r row among there other in (old.0, lift old.0 r.task old.1, old.2);
@@ -183,7 +183,9 @@ module _ (nodes : List (List Elem)) (p : Program) (lim : Bounds) (log : List Num
         let one : placed.row ≡ row = got_one _ placed.there there in
         let effect : Contains effects r.effect =
         subst (λ (es : List Effect). Contains es r.effect) are (subst (λ (x : TaskRow). Contains x.effects.effects r.effect) one placed.effect) in
-        (keep.known.clear_are i (record { task = t; node = r.node }) (clear r.effect r.node effect placed.place)).1 r among same refl
+        let known : IsAmong r (tree.clear i) =
+        subst (λ (n : ℕ). IsAmong (record { task = n; effect = r.effect; node = r.node }) (tree.clear i)) (sym same) (clear r.effect r.node effect placed.place) in
+        (keep.known.clear_are i r known).1 among
 
     -- the record of the task that stands, if one does, is in the way
     left_by : (r : Record) → IsAmong r core.records → r.task ≡ t → (row : TaskRow) → IsRow st r.task row → (to : TaskStatus) → row.status ≡ to → to ≢ status.Enabled
@@ -220,14 +222,14 @@ module _ (nodes : List (List Elem)) (p : Program) (lim : Bounds) (log : List Num
         (λ r among. among_others t r (tree.fresh i) among)
         (λ j differ r among. (among, λ same. differ (alone j r.task same (keep.known.fresh_stand j r among).1)))
 
-    clear_was : (j : ℕ) (fact : ClearFact) → IsAmong fact (put tree.clear i (on_others t (tree.clear i)) j) → IsAmong fact (tree.clear j) × (fact.task ≢ t)
+    clear_was : (j : ℕ) (r : Record) → IsAmong r (put tree.clear i (of_others t (tree.clear i)) j) → IsAmong r (tree.clear j) × (r.task ≢ t)
     clear_was =
-        put_all (λ (j : ℕ) (xs : List ClearFact). (fact : ClearFact) → IsAmong fact xs → IsAmong fact (tree.clear j) × (fact.task ≢ t)) tree.clear i (on_others t (tree.clear i))
-        (λ fact among. facts_on_others t fact (tree.clear i) among)
-        (λ j differ fact among. (among, λ same. differ (alone j fact.task same (keep.known.clear_are j fact among).0)))
+        put_all (λ (j : ℕ) (xs : List Record). (r : Record) → IsAmong r xs → IsAmong r (tree.clear j) × (r.task ≢ t)) tree.clear i (of_others t (tree.clear i))
+        (λ r among. among_others t r (tree.clear i) among)
+        (λ j differ r among. (among, λ same. differ (alone j r.task same (keep.known.clear_are j r among).0)))
 
     known_given : KnowledgeFits (state_after p lim (journal_of log)) (put_turn f.held i t None) core.records (put tree.fresh i (of_others t (tree.fresh i)))
-        (put tree.clear i (on_others t (tree.clear i))) tree.waits
+        (put tree.clear i (of_others t (tree.clear i))) tree.waits
     known_given = record {
       owned = λ r row among there other.
           let apart = none_left r row among there other in
@@ -263,7 +265,7 @@ module _ (nodes : List (List Elem)) (p : Program) (lim : Bounds) (log : List Num
     )
 
   -- a seat that has the turn of a child knows its parent
-  parent_known : (i c : ℕ) (turn : HeldTurn) → f.held i c ≡ Some turn → (row : TaskRow) → IsRow st c row → (parent : Option ℕ) → row.parent ≡ parent → turn.row.parent ≡ parent
+  pub parent_known : (i c : ℕ) (turn : HeldTurn) → f.held i c ≡ Some turn → (row : TaskRow) → IsRow st c row → (parent : Option ℕ) → row.parent ≡ parent → turn.row.parent ≡ parent
   parent_known i c turn has row there parent is =
       let known = both.floor.fits.rows i c turn has in
       let same : known.row ≡ row = got_one (slice_get st.tasks c) known.there there in

@@ -13,17 +13,17 @@ use Rattle.admission_core.specs.States.{Record, IsAmong, IsPlaceOf}
 use Rattle.node_rule.specs.Fitting.{HasTurn}
 use Rattle.node_rule.specs.Trees.{Tree}
 
--- Nodes without records of a task.
+-- Records that do not stand.
 
--- seat i, which has the turn of task t, has found no record of t in the content of node n
-pub record FindsClear (turns : Turns) (tree : Tree) (i t n : ℕ) : Type 0 where
-  pub turn : HasTurn turns i t
+-- seat i, which has the turn of the record's task, has not found the record in the content of its node
+pub record FindsClear (turns : Turns) (tree : Tree) (i : ℕ) (r : Record) : Type 0 where
+  pub turn : HasTurn turns i r.task
   pub content : List Record
-  pub has : tree.kept i n ≡ Some content
-  pub none : (r : Record) → IsAmong r content → r.task ≢ t
+  pub has : tree.kept i r.node ≡ Some content
+  pub none : ¬ IsAmong r content
 
-abbrev pub after_finding_clear : Tree → ℕ → ℕ → ℕ → Tree
-after_finding_clear tree i t n = record tree { clear = put tree.clear i (record { task = t; node = n } ∷ tree.clear i) }
+abbrev pub after_finding_clear : Tree → ℕ → Record → Tree
+after_finding_clear tree i r = record tree { clear = put tree.clear i (r ∷ tree.clear i) }
 
 -- Waits.
 

@@ -13,7 +13,7 @@ use Rattle.floor_rule.specs.Fitting.{IsUnheld, Turns}
 use Rattle.admission_core.specs.Tasks.{Task, Tasks, Turn, Free, Taken, New, IsTask}
 use Rattle.admission_core.specs.States.{Activity, Holds, IsAmong, IsPlaceOf, Record, held}
 use Rattle.admission_laws.specs.TasksOf.{AreTasksOf}
-use Rattle.node_rule.specs.Trees.{ClearFact, LockWord, Unlocked, Locked, WaitFact}
+use Rattle.node_rule.specs.Trees.{LockWord, Unlocked, Locked, WaitFact}
 
 -- what each seat does in the tree
 abbrev pub Activities : Type 0
@@ -117,13 +117,12 @@ pub record RecordsFit (standing : List Record) (placed removed : ℕ → List Re
 abbrev pub IsOwned : Turns → (ℕ → List Record) → Record → TaskRow → Type 0
 IsOwned turns fresh r row = (i : ℕ) × HasTurn turns i r.task × (row.status ≡ status.Made → IsAmong r (fresh i))
 
-pub record KnowledgeFits (st : State) (turns : Turns) (standing : List Record) (fresh : ℕ → List Record) (clear : ℕ → List ClearFact) (waits : ℕ → List WaitFact) : Type 0 where
+pub record KnowledgeFits (st : State) (turns : Turns) (standing : List Record) (fresh : ℕ → List Record) (clear : ℕ → List Record) (waits : ℕ → List WaitFact) : Type 0 where
   -- a record of a task that is not enabled stands only while a seat has the task's turn
   pub owned : (r : Record) (row : TaskRow) → IsAmong r standing → IsRow st r.task row → row.status ≢ status.Enabled → IsOwned turns fresh r row
   -- what a seat has placed since it got the turn stands, and the seat has the turn
   pub fresh_stand : (i : ℕ) (r : Record) → IsAmong r (fresh i) → IsAmong r standing × HasTurn turns i r.task
-  -- at a node that a seat knows to be clear of a task no record of the task stands, and the seat has the turn
-  pub clear_are : (i : ℕ) (fact : ClearFact) → IsAmong fact (clear i)
-      → HasTurn turns i fact.task × ((r : Record) → IsAmong r standing → r.task ≡ fact.task → r.node ≢ fact.node)
+  -- what a seat knows not to stand does not stand, and the seat has the turn
+  pub clear_are : (i : ℕ) (r : Record) → IsAmong r (clear i) → HasTurn turns i r.task × (¬ IsAmong r standing)
   -- the waits that a seat knows hold in the state
   pub waits_hold : (i : ℕ) (fact : WaitFact) → IsAmong fact (waits i) → WaitsOnUnlessDone st.links fact.waiter fact.awaited

@@ -5,5 +5,6 @@ pub mod LockSteps
 pub mod RecordSteps
 pub mod FactSteps
 pub mod TurnSteps
+pub mod Taking
 pub mod AdmitSteps
 pub mod Starts

@@ -10,7 +10,7 @@ use Rattle.floor_rule.specs.Fitting.{Turns}
 use Rattle.admission_core.specs.States.{Activity, Record, Admit, Child, Remove, Walks, IsAmong}
 use Rattle.admission_core.specs.Events.{AllFinished}
 use Rattle.node_rule.specs.LockSteps.{PassesHere, stopped}
-use Rattle.node_rule.specs.Trees.{ClearFact, Tree, put_kept}
+use Rattle.node_rule.specs.Trees.{Tree, put_kept}
 
 -- the list has the elements of the other but x, and no others
 abbrev pub IsWithout : {X : Type 0} → X → List X → List X → Type 0
@@ -18,10 +18,10 @@ IsWithout {X} x before after = (y : X) → IsAmong y after ↔ (IsAmong y before
 
 -- Placing.
 
--- what a seat knows to be clear, but for node n and task t
-abbrev pub not_clear : ℕ → ℕ → List ClearFact → List ClearFact
+-- the records but those of task t at node n
+abbrev pub not_clear : ℕ → ℕ → List Record → List Record
 not_clear t n [] = []
-not_clear t n (fact ∷ facts) = if (fact.task == t) && (fact.node == n) then not_clear t n facts else fact ∷ not_clear t n facts
+not_clear t n (r ∷ records) = if (r.task == t) && (r.node == n) then not_clear t n records else r ∷ not_clear t n records
 
 -- seat i has placed the record at a node whose other records are these, and only gives back what it holds from now on
 abbrev pub after_placing : Tree → ℕ → Activity → Record → List Record → Tree
@@ -71,6 +71,7 @@ after_removing tree i a r content fresh = record tree {
   kept = put_kept tree.kept i r.node (Some content);
   removed = put tree.removed i (r ∷ tree.removed i);
   fresh = put tree.fresh i fresh;
+  clear = put tree.clear i (r ∷ tree.clear i);
 }
 
 -- Seat i may remove the record of a task whose turn it took and which is not enabled. It is at the effect's place. The content

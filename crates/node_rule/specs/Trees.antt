@@ -9,11 +9,6 @@ pub data LockWord : Type 0 where
   Unlocked : LockWord
   Locked : (worker : ℕ) → LockWord
 
--- a worker knows that no record of this task stands at this node
-pub record ClearFact : Type 0 where
-  pub task : ℕ
-  pub node : ℕ
-
 -- a worker knows that this task waits for that one, directly or through others, unless that one is done
 pub record WaitFact : Type 0 where
   pub waiter : ℕ
@@ -31,8 +26,8 @@ pub record Tree : Type 0 where
   pub placed : ℕ → List Record
   pub removed : ℕ → List Record
   pub fresh : ℕ → List Record
-  -- the nodes that it knows to have no record of a task whose turn it has, and the waits that it knows
-  pub clear : ℕ → List ClearFact
+  -- the records of tasks whose turns it has that it knows not to stand, and the waits that it knows
+  pub clear : ℕ → List Record
   pub waits : ℕ → List WaitFact
 
 -- what the seats have of the nodes that they have locked, but for node n at seat i

@@ -15,7 +15,7 @@ use Rattle.admission_core.specs.Tasks.{Tasks}
 use Rattle.admission_core.specs.States.{State, Record, IsAmong, IsPlaceOf}
 use Rattle.admission_core.specs.Entries.{TaskEvent}
 use Rattle.node_rule.specs.Rule.{KeepsNodes}
-use Rattle.node_rule.specs.Trees.{ClearFact, Tree}
+use Rattle.node_rule.specs.Trees.{Tree}
 
 -- a step of the floor that leaves floor and nodes so is one event of the core on its tasks, and keeps the rule on nodes
 abbrev pub IsTaskEvent : List (List Elem) → Program → Bounds → List NumberedEntry → Floor → Tree → State → Type 0
@@ -29,22 +29,17 @@ abbrev pub of_others : ℕ → List Record → List Record
 of_others t [] = []
 of_others t (r ∷ records) = if r.task == t then of_others t records else r ∷ of_others t records
 
--- the facts on the other tasks
-abbrev pub on_others : ℕ → List ClearFact → List ClearFact
-on_others t [] = []
-on_others t (fact ∷ facts) = if fact.task == t then on_others t facts else fact ∷ on_others t facts
-
 -- seat i knows nothing of records of task t any more
 abbrev pub after_forgetting : Tree → ℕ → ℕ → Tree
 after_forgetting tree i t = record tree {
   fresh = put tree.fresh i (of_others t (tree.fresh i));
-  clear = put tree.clear i (on_others t (tree.clear i));
+  clear = put tree.clear i (of_others t (tree.clear i));
 }
 
--- seat i knows that no record of task t, which has these effects, stands
+-- seat i knows that no record of task t stands, which has these effects
 abbrev pub IsClearOf : List (List Elem) → Tree → ℕ → ℕ → List Effect → Type 0
 IsClearOf nodes tree i t effects =
-    (e : Effect) (n : ℕ) → Contains effects e → IsPlaceOf nodes e n → IsAmong (record { task = t; node = n }) (tree.clear i)
+    (e : Effect) (n : ℕ) → Contains effects e → IsPlaceOf nodes e n → IsAmong (record { task = t; effect = e; node = n }) (tree.clear i)
 
 -- What a seat has to know of the records of a task whose turn it gives. If the task is still to be admitted, it has placed none
 -- that it has not removed. If the task has ended, none stands at the place of an effect.

@@ -39,11 +39,12 @@ pub fn what_is_in_the_way_forbids_the_admission()
         → ¬ MayAdmit (state_after p lim (journal_of log)) t }
 {}
 
-/// A worker that has the turn of a task, and finds no record of it in the content of a node, knows that none stands there.
-pub fn finding_a_node_clear_keeps_the_rule()
+/// A worker that has the turn of a task, and does not find a record of it in the content of the record's node, knows that it does
+/// not stand.
+pub fn not_finding_a_record_keeps_the_rule()
     ensures { (nodes : List (List Elem)) (p : Program) (lim : Bounds) (log : List NumberedEntry) (f : Floor) (tree : Tree)
-        (core : State) (i t n : ℕ) → KeepsBoth nodes p lim log f tree core → FindsClear f.held tree i t n
-        → KeepsNodes nodes p lim log f (after_finding_clear tree i t n) core }
+        (core : State) (i : ℕ) (r : Record) → KeepsBoth nodes p lim log f tree core → FindsClear f.held tree i r
+        → KeepsNodes nodes p lim log f (after_finding_clear tree i r) core }
 {}
 
 /// A worker that knows of a chain of waits, and finds that its last task waits for another, knows that chain too.

@@ -11,10 +11,11 @@ mod floor_laws;
 mod lock_laws;
 mod record_laws;
 mod start_laws;
+mod taking_laws;
 
 pub use fact_laws::{
-    a_placed_task_is_legal_to_admit, finding_a_node_clear_keeps_the_rule,
-    following_a_wait_keeps_the_rule, records_stand_at_their_places,
+    a_placed_task_is_legal_to_admit, following_a_wait_keeps_the_rule,
+    not_finding_a_record_keeps_the_rule, records_stand_at_their_places,
     what_is_in_the_way_forbids_the_admission,
 };
 pub use floor_laws::{
@@ -33,3 +34,4 @@ pub use record_laws::{
 pub use start_laws::{
     nodes_start_by_the_rule, nodes_wake_by_the_rule, quiet_nodes_show_the_enabled_tasks,
 };
+pub use taking_laws::{a_turn_may_be_given_as_it_was_taken, taking_a_turn_tells_of_the_nodes};

@@ -1,5 +1,5 @@
 //! The floor with its nodes, and its stands.
-ghost use Rattle.std.specs.Prelude.{◌≡◌, ◌<◌, length};
+ghost use Rattle.std.specs.Prelude.{◌≡◌, ◌<◌, ◌^◌, length};
 ghost use Rattle.twe_program.specs.Program.{cell_count};
 ghost use Rattle.floor_table.specs.Layout.{cell_place, phase_place, turn_place, word_count};
 ghost use Rattle.tree_table.specs.Layout.{content_place, lock_place, tree_slot_count, tree_word_count};
@@ -24,7 +24,7 @@ pub struct Floor<N: Named + Planted> {
 }
 
 impl<N: Named + Planted> Model for Floor<N> {
-    ghost use Rattle.std.specs.Prelude.{◌≡◌};
+    ghost use Rattle.std.specs.Prelude.{◌≡◌, ◌<◌, ◌^◌};
     ghost use Rattle.atomic_table.specs.Seated.{TableId};
     ghost use Rattle.twe_program.specs.Program.{cell_count};
     ghost use Rattle.floor_table.specs.Layout.{word_count};
@@ -35,7 +35,8 @@ impl<N: Named + Planted> Model for Floor<N> {
     ghost view = { λ floor. floor.table.shared.table_id };
 
     ghost invariant = { λ floor. (floor.cells ≡ cell_count N.prog) × (floor.words ≡ word_count N.prog N.lim) × (floor.tasks ≡ N.lim.tasks)
-        × (floor.table.shared.table_id.words ≡ tree_word_count N.nodes N.prog N.lim) × (floor.table.shared.table_id.slots ≡ tree_slot_count N.nodes N.lim) };
+        × (floor.table.shared.table_id.words ≡ tree_word_count N.nodes N.prog N.lim) × (floor.table.shared.table_id.slots ≡ tree_slot_count N.nodes N.lim)
+        × (tree_word_count N.nodes N.prog N.lim < 2 ^ 64) × (tree_slot_count N.nodes N.lim < 2 ^ 64) };
 }
 
 /// A worker's stand on the floor: what the worker knows, and the slots that it has out.
@@ -52,6 +53,7 @@ impl<N: Named + Planted> Floor<N> {
         requires cells { cells ≡ cell_count N.prog }
         requires words { (words ≡ word_count N.prog N.lim) × (table.shared.table_id.words ≡ tree_word_count N.nodes N.prog N.lim) }
         requires slots { (tasks ≡ N.lim.tasks) × (table.shared.table_id.slots ≡ tree_slot_count N.nodes N.lim) }
+        requires fits { (tree_word_count N.nodes N.prog N.lim < 2 ^ 64) × (tree_slot_count N.nodes N.lim < 2 ^ 64) }
         ensures { result ≡ table.shared.table_id }
     {
         Floor {

@@ -26,7 +26,7 @@ told holds slots id me i f tells other more allowed s kept count at small =
     let result = allowed s kept count at small in
     (result.0, result.1, result.2, result.3, more (slice_index s.words i) _ result.4)
 
-one_rest : (x y : ℕ × TreeSlot) (xs ys : List (ℕ × TreeSlot)) → x ∷ xs ≡ y ∷ ys → xs ≡ ys
+pub one_rest : (x y : ℕ × TreeSlot) (xs ys : List (ℕ × TreeSlot)) → x ∷ xs ≡ y ∷ ys → xs ≡ ys
 one_rest x y xs ys same = ap tail_of same
   where
     tail_of : List (ℕ × TreeSlot) → List (ℕ × TreeSlot)

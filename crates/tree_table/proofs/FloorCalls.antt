@@ -1,5 +1,5 @@
 -- The calls on the floor, on a table with nodes.
-use Rattle.std.proofs.Common.{◌≡◌, ◌≢◌, ◌<◌, ℕ, ℤ, List, Option, refl, sym, ap, subst, arith}
+use Rattle.std.proofs.Common.{◌≡◌, ◌≢◌, ◌<◌, ℕ, ℤ, List, map, Option, refl, sym, ap, subst, arith}
 use Rattle.std.specs.Prelude.{◌^◌, slice_index}
 use mathlib.Core.Option as core
 use lib.ListN.{get_elem?}
@@ -21,20 +21,27 @@ use Rattle.floor_table.proofs.Views.{seats_kept}
 use Rattle.node_rule.proofs.TurnEvents.{floor_same}
 use Rattle.tree_table.specs.declared.slot.TreeSlot.{TreeSlot}
 use Rattle.tree_table.specs.declared.view.TreeView.{TreeView}
-use Rattle.tree_table.specs.FloorSeats.{HasTaskSlots, LoadsTreeCell, StoresTreeCell, TellsFloor, floor_seat, tasks_out}
+use Rattle.tree_table.specs.FloorSeats.{HasTaskSlots, LoadsTreeCell, StoresTreeCell, TellsFloor, as_slot, floor_seat, tasks_out}
 use Rattle.tree_table.specs.Holds.{TreeKeeps}
 use Rattle.tree_table.specs.Layout.{tree_slot_count}
+use Rattle.tree_table.specs.Seats.{TreeSeat}
 use Rattle.tree_table.specs.TreeOf.{TreeTable, floor_shown}
-use Rattle.tree_table.proofs.FloorSteps.{KeepsBeside, at_floor, floor_finds, fs, log, next_step, tree, viewed}
-use Rattle.tree_table.proofs.Lifts.{out_again, out_below}
+use Rattle.tree_table.proofs.FloorSteps.{KeepsBeside, StepsBeside, at_floor, floor_finds, fs, log, next_step, steps_beside, tree, viewed}
+use Rattle.tree_table.proofs.Lifts.{lift, out_again, out_below}
 
 module _ (nodes : List (List Elem)) (p : Program) (lim : Bounds) (id : ℕ) (v : TreeView) (mine : List (ℕ × TreeSlot)) (has : HasTaskSlots lim.tasks mine) where
-  -- a step that the floor allows, if it draws no entry and the nodes keep their rule beside it
-  pub lift_allowed : (slots i : ℕ) (g : ℕ → ℕ) (tells : ℕ → Seat → Type 0) → i < word_count p lim → i ≢ clock_place → Allows (TableKeeps p lim) lim.tasks id (floor_seat (v, mine)) i g tells
-      → ((n : ℕ) (me : Seat) → tells n me → me.0.part ≡ v.floor.part)
-      → ((s : TreeTable) (kept : TreeKeeps nodes p lim s) (at : get_elem? s.views id ≡ core.some v) (me : Seat) → tells (slice_index s.words i) me → KeepsBeside nodes p lim s kept id v at me.0)
-      → Allows (TreeKeeps nodes p lim) slots id (v, mine) i g (TellsFloor tells (v, mine))
-  lift_allowed slots i g tells low no_clock allowed part beside s kept count at small =
+  -- Whatever the table is: if the floor steps so and tells its seat this, then there is a view for the seat with which the nodes keep
+  -- their rule, and of which the other thing can be told.
+  abbrev pub GoesAlong : ℕ → (ℕ → ℕ) → (ℕ → Seat → Type 0) → (ℕ → TreeSeat → Type 0) → Type 0
+  GoesAlong i g tells other =
+      (s : TreeTable) (kept : TreeKeeps nodes p lim s) (at : get_elem? s.views id ≡ core.some v) (me : Seat) (a : Act (Option TaskSlot))
+      → TableKeeps p lim (stepped (fs nodes p lim s kept id v at) i (g (slice_index s.words i)) id (tasks_out mine) me.0 a) → tells (slice_index s.words i) me
+      → (u : TreeView) × (u.floor ≡ me.0) × StepsBeside nodes p lim s kept id v at i (g (slice_index s.words i)) u × other (slice_index s.words i) (u, map as_slot me.1)
+
+  -- a step that the floor allows is allowed here, if the nodes go along
+  pub lift_step : (slots i : ℕ) (g : ℕ → ℕ) (tells : ℕ → Seat → Type 0) (other : ℕ → TreeSeat → Type 0) → i < word_count p lim → Allows (TableKeeps p lim) lim.tasks id (floor_seat (v, mine)) i g tells
+      → GoesAlong i g tells other → Allows (TreeKeeps nodes p lim) slots id (v, mine) i g other
+  lift_step slots i g tells other low allowed along s kept count at small =
       let found = slice_index s.words i in
       let out = tasks_out mine in
       let same = floor_finds nodes p lim s kept id v at i low in
@@ -44,12 +51,29 @@ module _ (nodes : List (List Elem)) (p : Program) (lim : Bounds) (id : ℕ) (v :
       let keep : TableKeeps p lim (stepped (fs nodes p lim s kept id v at) i (g found) id out w a) =
       subst (λ (n : ℕ). TableKeeps p lim (stepped (fs nodes p lim s kept id v at) i (g n) id out w a)) same result.3 in
       let tell : tells found (w, carried_after out a) = subst (λ (n : ℕ). tells n (w, carried_after out a)) same result.4 in
-      let moved = next_step nodes p lim s kept id v at i (g found) low no_clock out (out_below lim.tasks mine has) w a result.2 keep (part found (w, carried_after out a) tell) (beside s kept at (w, carried_after out a) tell) in
+      let next = along s kept at (w, carried_after out a) a keep tell in
+      let u : TreeView = next.0 in
+      let keep_u : TableKeeps p lim (stepped (fs nodes p lim s kept id v at) i (g found) id out u.floor a) =
+      subst (λ (x : View). TableKeeps p lim (stepped (fs nodes p lim s kept id v at) i (g found) id out x a)) (sym next.1) keep in
+      let moved = next_step nodes p lim s kept id v at i (g found) low out (out_below lim.tasks mine has) u a result.2 keep_u next.2 in
       subst
-      (λ (l : List (ℕ × TreeSlot)). (u : TreeView) × (b : Act TreeSlot) × Valid s.homes l b × TreeKeeps nodes p lim (stepped s i (g found) id l u b)
-      × TellsFloor tells (v, mine) found (u, carried_after l b))
+      (λ (l : List (ℕ × TreeSlot)). (x : TreeView) × (b : Act TreeSlot) × Valid s.homes l b × TreeKeeps nodes p lim (stepped s i (g found) id l x b) × other found (x, carried_after l b))
       (sym (out_again lim.tasks mine has))
-      (moved.0, moved.1, moved.2, moved.3, ((w, carried_after out a), tell, moved.4))
+      (u, lift a, moved.0, moved.1, subst (λ (l : List (ℕ × TreeSlot)). other found (u, l)) (sym moved.2) next.3)
+
+  -- a step that draws no entry and changes nothing of nodes
+  pub lift_allowed : (slots i : ℕ) (g : ℕ → ℕ) (tells : ℕ → Seat → Type 0) → i < word_count p lim → i ≢ clock_place → Allows (TableKeeps p lim) lim.tasks id (floor_seat (v, mine)) i g tells
+      → ((n : ℕ) (me : Seat) → tells n me → me.0.part ≡ v.floor.part)
+      → ((s : TreeTable) (kept : TreeKeeps nodes p lim s) (at : get_elem? s.views id ≡ core.some v) (me : Seat) → tells (slice_index s.words i) me → KeepsBeside nodes p lim s kept id v at me.0)
+      → Allows (TreeKeeps nodes p lim) slots id (v, mine) i g (TellsFloor tells (v, mine))
+  lift_allowed slots i g tells low no_clock allowed part beside =
+      lift_step slots i g tells (TellsFloor tells (v, mine)) low allowed
+      (λ s kept at me a keep tell. (
+        record v { floor = me.0 },
+        refl,
+        steps_beside nodes p lim s kept id v at i (g (slice_index s.words i)) me.0 no_clock (part (slice_index s.words i) me tell) (beside s kept at me tell),
+        (me, tell, refl),
+      ))
 
   -- a step after which the seat has the same turns
   pub quiet : (s : TreeTable) (kept : TreeKeeps nodes p lim s) (at : get_elem? s.views id ≡ core.some v) (w : View) → turn_in w.turns ≡ turn_in v.floor.turns → w.worker ≡ v.floor.worker

@@ -27,7 +27,9 @@ pub mod Following
 pub mod Lifts
 pub mod FloorSteps
 pub mod FloorCalls
-pub mod TurnCalls
+pub mod PhaseCalls
+pub mod Takes
+pub mod Gives
 -- Seats.
 pub mod Splits
 pub mod Joins

@@ -1,5 +1,5 @@
 -- The steps on records in the form in which the calls of the table ask for them.
-use Rattle.std.proofs.Common.{◌≡◌, ℕ, List, Some, sym, ap, ◌∙◌, arith}
+use Rattle.std.proofs.Common.{◌≡◌, ℕ, List, Some, sym, ap, ◌∙◌}
 use mathlib.Core.Option as core
 use Rattle.atomic_table.specs.Table.{Allows, step}
 use Rattle.region_paths.specs.declared.elements.Elem.{Elem}
@@ -12,7 +12,7 @@ use Rattle.tree_table.specs.declared.slot.TreeSlot.{TreeSlot}
 use Rattle.tree_table.specs.declared.view.TreeView.{TreeView}
 use Rattle.tree_table.specs.Holds.{TreeKeeps}
 use Rattle.tree_table.specs.Layout.{lock_place, taken_lock, tree_slot_count}
-use Rattle.tree_table.specs.RecordSeats.{MarksClear, MarksPlaced, MarksRemoved, MayMark, MayUnmark, clear_view, marked_view, marks, marks_child, task_of, unmarked_view}
+use Rattle.tree_table.specs.RecordSeats.{MarksClear, MarksPlaced, MarksRemoved, MayMark, MayUnmark, clear_view, marked_view, marks, marks_child, record_about, unmarked_view}
 use Rattle.tree_table.specs.Seats.{TreeSeat, tree_seen, turns_seen}
 use Rattle.tree_table.specs.TreeOf.{content_in}
 use Rattle.tree_table.proofs.Calls.{told}
@@ -53,15 +53,14 @@ mark_removed nodes p lim id v mine a content may =
     (λ found after is b other place may_too. same_mark (unmarked_view v) mine after v a b content other may.may.active may_too.may.active may.may.has may_too.may.has is)
     (unmark_allowed nodes p lim (tree_slot_count nodes lim) id v mine a content may)
 
-pub mark_clear : (nodes : List (List Elem)) (p : Program) (lim : Bounds) (id n : ℕ) (v : TreeView) (mine : List (ℕ × TreeSlot)) (a : Activity) → v.activity ≡ Some a
-    → FindsClear (turns_seen v) (tree_seen v) 0 (task_of a.purpose) n
-    → Allows (TreeKeeps nodes p lim) (tree_slot_count nodes lim) id (v, mine) (lock_place p lim n) (λ x. taken_lock v.floor.worker)
-    (λ x. MarksClear p lim (step (tree_slot_count nodes lim) (lock_place p lim n) (taken_lock v.floor.worker) 0 core.none) (v, mine) (taken_lock v.floor.worker))
-mark_clear nodes p lim id n v mine a active finds =
-    told (TreeKeeps nodes p lim) (tree_slot_count nodes lim) id (v, mine) (lock_place p lim n) (λ x. taken_lock v.floor.worker) (λ x after. after ≡ (clear_view v (task_of a.purpose) n, mine))
-    (λ x. MarksClear p lim (step (tree_slot_count nodes lim) (lock_place p lim n) (taken_lock v.floor.worker) 0 core.none) (v, mine) (taken_lock v.floor.worker))
-    (λ found after is b m place active_too finds_too.
-    let same : n ≡ m = omega (arith, place) in
+pub mark_clear : (nodes : List (List Elem)) (p : Program) (lim : Bounds) (id : ℕ) (v : TreeView) (mine : List (ℕ × TreeSlot)) (a : Activity) → v.activity ≡ Some a
+    → FindsClear (turns_seen v) (tree_seen v) 0 (record_about a)
+    → Allows (TreeKeeps nodes p lim) (tree_slot_count nodes lim) id (v, mine) (lock_place p lim a.place) (λ x. taken_lock v.floor.worker)
+    (λ x. MarksClear p lim (step (tree_slot_count nodes lim) (lock_place p lim a.place) (taken_lock v.floor.worker) 0 core.none) (v, mine) (taken_lock v.floor.worker))
+mark_clear nodes p lim id v mine a active finds =
+    told (TreeKeeps nodes p lim) (tree_slot_count nodes lim) id (v, mine) (lock_place p lim a.place) (λ x. taken_lock v.floor.worker) (λ x after. after ≡ (clear_view v (record_about a), mine))
+    (λ x. MarksClear p lim (step (tree_slot_count nodes lim) (lock_place p lim a.place) (taken_lock v.floor.worker) 0 core.none) (v, mine) (taken_lock v.floor.worker))
+    (λ found after is b place active_too finds_too.
     let one : a ≡ b = some_one (sym active ∙ active_too) in
-    is ∙ (λ k. (clear_view v (task_of (one k).purpose) (same k), mine)))
-    (clear_allowed nodes p lim (tree_slot_count nodes lim) id (task_of a.purpose) n v mine finds)
+    is ∙ ap (λ (x : Activity). (clear_view v (record_about x), mine)) one)
+    (clear_allowed nodes p lim (tree_slot_count nodes lim) id (record_about a) v mine finds)

@@ -1,5 +1,5 @@
 -- A store to the lock word of a node that the seat has locked, which leaves the word as it was: placing a record, removing one, and
--- finding that the node is clear.
+-- not finding one.
 use Rattle.std.proofs.Common.{◌≡◌, ◌≢◌, ◌<◌, ℕ, List, ◌∷◌, length, Option, Some, refl, sym, ap, subst, ◌∙◌, ⊎_elim, length-set, arith}
 use Rattle.std.specs.Prelude.{slice_set}
 use Rattle.std.proofs.lemmas.Bool.{cases_eq}
@@ -185,7 +185,7 @@ module _ (nodes : List (List Elem)) (p : Program) (lim : Bounds) (s : TreeTable)
         (elements_kept placed_at s.views id v w at refl)
         (elements_put removed_at s.views id v w at (r ∷ tree.removed id) (ap (λ (o : core.Option TreeView). r ∷ removed_at o) (sym at)))
         (elements_put fresh_at s.views id v w at (without r v.fresh) refl)
-        (elements_kept clear_at s.views id v w at refl)
+        (elements_put clear_at s.views id v w at (r ∷ tree.clear id) (ap (λ (o : core.Option TreeView). r ∷ clear_at o) (sym at)))
         (elements_kept waits_at s.views id v w at refl)
 
     remove_done : (has : content_in v.kept a.place ≡ Some content) → IsOneEvent nodes p lim log f kept.core (after_removing tree id a r (without r content) (without r v.fresh))
@@ -193,28 +193,28 @@ module _ (nodes : List (List Elem)) (p : Program) (lim : Bounds) (s : TreeTable)
     remove_done has (core_after, event, nodes_keep) =
         keeps_view a.place content has (unmarked_view v a content) refl (after_removing tree id a r (without r content) (without r v.fresh)) core_after (remove_tie has) nodes_keep
 
-  -- Finding that a node is clear.
-  module _ (t n : ℕ) (finds : FindsClear (turns_seen v) (tree_seen v) 0 t n) where
-    clear_tie : tree_of p lim (with_view n finds.content finds.has (clear_view v t n)) ≡ after_finding_clear tree id t n
+  -- Not finding a record.
+  module _ (r : Record) (finds : FindsClear (turns_seen v) (tree_seen v) 0 r) where
+    clear_tie : tree_of p lim (with_view r.node finds.content finds.has (clear_view v r)) ≡ after_finding_clear tree id r
     clear_tie =
-        let w = clear_view v t n in
-        tree_is _ (after_finding_clear tree id t n)
-        (locks_stay n finds.content finds.has w)
+        let w = clear_view v r in
+        tree_is _ (after_finding_clear tree id r)
+        (locks_stay r.node finds.content finds.has w)
         refl
         (elements_kept activity_at s.views id v w at refl)
         (elements_kept kept_at s.views id v w at refl)
         (elements_kept placed_at s.views id v w at refl)
         (elements_kept removed_at s.views id v w at refl)
         (elements_kept fresh_at s.views id v w at refl)
-        (elements_put clear_at s.views id v w at (record { task = t; node = n } ∷ tree.clear id) (ap (λ (o : core.Option TreeView). record { task = t; node = n } ∷ clear_at o) (sym at)))
+        (elements_put clear_at s.views id v w at (r ∷ tree.clear id) (ap (λ (o : core.Option TreeView). r ∷ clear_at o) (sym at)))
         (elements_kept waits_at s.views id v w at refl)
 
-    clear_done : TreeKeeps nodes p lim (with_view n finds.content finds.has (clear_view v t n))
+    clear_done : TreeKeeps nodes p lim (with_view r.node finds.content finds.has (clear_view v r))
     clear_done =
-        let here : FindsClear f.held tree id t n =
-        record { turn = (finds.turn.0, held_id nodes p lim s id v at t ∙ finds.turn.1); content = finds.content; has = kept_node nodes p lim s id v at n ∙ finds.has; none = finds.none } in
-        keeps_view n finds.content finds.has (clear_view v t n) refl (after_finding_clear tree id t n) kept.core clear_tie
-        (finding_clear nodes p lim log f tree kept.core kept.both id t n here)
+        let here : FindsClear f.held tree id r =
+        record { turn = (finds.turn.0, held_id nodes p lim s id v at r.task ∙ finds.turn.1); content = finds.content; has = kept_node nodes p lim s id v at r.node ∙ finds.has; none = finds.none } in
+        keeps_view r.node finds.content finds.has (clear_view v r) refl (after_finding_clear tree id r) kept.core clear_tie
+        (finding_clear nodes p lim log f tree kept.core kept.both id r here)
 
 pub mark_allowed : (nodes : List (List Elem)) (p : Program) (lim : Bounds) (slots id : ℕ) (v : TreeView) (mine : List (ℕ × TreeSlot)) (a : Activity) (content : List Record) → MayMark nodes v a content
     → Allows (TreeKeeps nodes p lim) slots id (v, mine) (lock_place p lim a.place) (λ x. taken_lock v.floor.worker) (λ x after. after ≡ (marked_view v a content, mine))
@@ -236,6 +236,6 @@ unmark_allowed nodes p lim slots id v mine a content may s kept count at small =
   refl,
 )
 
-pub clear_allowed : (nodes : List (List Elem)) (p : Program) (lim : Bounds) (slots id t n : ℕ) (v : TreeView) (mine : List (ℕ × TreeSlot)) → FindsClear (turns_seen v) (tree_seen v) 0 t n
-    → Allows (TreeKeeps nodes p lim) slots id (v, mine) (lock_place p lim n) (λ x. taken_lock v.floor.worker) (λ x after. after ≡ (clear_view v t n, mine))
-clear_allowed nodes p lim slots id t n v mine finds s kept count at small = (clear_view v t n, keeps, tt, clear_done nodes p lim s kept id v at t n finds, refl)
+pub clear_allowed : (nodes : List (List Elem)) (p : Program) (lim : Bounds) (slots id : ℕ) (r : Record) (v : TreeView) (mine : List (ℕ × TreeSlot)) → FindsClear (turns_seen v) (tree_seen v) 0 r
+    → Allows (TreeKeeps nodes p lim) slots id (v, mine) (lock_place p lim r.node) (λ x. taken_lock v.floor.worker) (λ x after. after ≡ (clear_view v r, mine))
+clear_allowed nodes p lim slots id r v mine finds s kept count at small = (clear_view v r, keeps, tt, clear_done nodes p lim s kept id v at r finds, refl)

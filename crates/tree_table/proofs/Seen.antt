@@ -15,7 +15,7 @@ use Rattle.node_rule.specs.LockSteps.{MayEnter, MayGiveParent, MayGoDown, MaySet
 use Rattle.node_rule.specs.Trees.{Tree, WaitFact}
 use Rattle.tree_table.specs.declared.view.TreeView.{TreeView}
 use Rattle.tree_table.specs.Seats.{tree_seen, turns_seen}
-use Rattle.tree_table.specs.TreeOf.{TreeTable, activity_at, content_in, floor_shown, floor_view, fresh_at, kept_at, tree_of, waits_at}
+use Rattle.tree_table.specs.TreeOf.{TreeTable, activity_at, clear_at, content_in, floor_shown, floor_view, fresh_at, kept_at, tree_of, waits_at}
 
 module _ (nodes : List (List Elem)) (p : Program) (lim : Bounds) (s : TreeTable) (id : ℕ) (v : TreeView) (at : get_elem? s.views id ≡ core.some v) where
   abbrev tree : Tree
@@ -47,6 +47,9 @@ module _ (nodes : List (List Elem)) (p : Program) (lim : Bounds) (s : TreeTable)
 
   pub fresh_id : tree.fresh id ≡ v.fresh
   fresh_id = ap fresh_at at
+
+  pub clear_id : tree.clear id ≡ v.clear
+  clear_id = ap clear_at at
 
   set_out : (purpose : Purpose) → MaySetOut (turns_seen v) 0 purpose → MaySetOut f.held id purpose
   set_out (Admit t e) may = record { turn = may.turn; has = held_id t ∙ may.has; taken = may.taken; made = may.made; effect = may.effect }

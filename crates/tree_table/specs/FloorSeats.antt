@@ -5,7 +5,7 @@ use Rattle.atomic_table.specs.Table.{step}
 use Rattle.twe_limits.specs.Limits.{Bounds}
 use Rattle.twe_program.specs.Program.{Program}
 use Rattle.floor_rule.specs.declared.view.TaskSlot.{TaskSlot}
-use Rattle.floor_table.specs.Plays.{FloorStep, LoadsCell, StoresCell, StoresPhase, TriesTurn}
+use Rattle.floor_table.specs.Plays.{FloorStep, LoadsCell, StoresCell, StoresPhase}
 use Rattle.floor_table.specs.Tells.{Seat}
 use Rattle.tree_table.specs.declared.slot.TreeSlot.{TreeSlot}
 use Rattle.tree_table.specs.declared.slot.TreeSlot.TheVariants as kinds
@@ -50,6 +50,3 @@ StoresTreeCell lim s before = TellsFloor (StoresCell (floor_step lim s) (floor_s
 
 abbrev pub StoresTreePhase : Program → Bounds → TreeStep → TreeSeat → ℕ → TreeSeat → Type 0
 StoresTreePhase p lim s before = TellsFloor (StoresPhase p (floor_step lim s) (floor_seat before)) before
-
-abbrev pub TriesTreeTurn : Program → Bounds → TreeStep → TreeSeat → ℕ → TreeSeat → Type 0
-TriesTreeTurn p lim s before = TellsFloor (TriesTurn p (floor_step lim s) (floor_seat before)) before

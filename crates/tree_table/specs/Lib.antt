@@ -7,4 +7,5 @@ pub mod Without
 pub mod RecordSeats
 pub mod Follows
 pub mod FloorSeats
+pub mod TurnSeats
 pub mod inner

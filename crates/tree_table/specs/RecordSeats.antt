@@ -61,6 +61,7 @@ unmarked_view v a content = record v {
   kept = record { node = a.place; content = Some (without (record_about a) content) } ∷ v.kept;
   removed = record_about a ∷ v.removed;
   fresh = without (record_about a) v.fresh;
+  clear = record_about a ∷ v.clear;
 }
 
 abbrev pub MarksRemoved : Program → Bounds → TreeStep → TreeSeat → ℕ → TreeSeat → Type 0
@@ -68,13 +69,13 @@ MarksRemoved p lim s before found after =
     (a : Activity) (content : List Record) → s.word ≡ lock_place p lim a.place → MayUnmark before.0 a content
     → after ≡ (unmarked_view before.0 a content, before.1)
 
--- Finding that a node is clear.
+-- Not finding a record.
 
-abbrev pub clear_view : TreeView → ℕ → ℕ → TreeView
-clear_view v t n = record v { clear = record { task = t; node = n } ∷ v.clear }
+abbrev pub clear_view : TreeView → Record → TreeView
+clear_view v r = record v { clear = r ∷ v.clear }
 
--- a seat that holds node n and finds no record of the task that it went for there knows that
+-- a seat that has locked its place and does not find the record there that it went for knows that it does not stand
 abbrev pub MarksClear : Program → Bounds → TreeStep → TreeSeat → ℕ → TreeSeat → Type 0
 MarksClear p lim s before found after =
-    (a : Activity) (n : ℕ) → s.word ≡ lock_place p lim n → before.0.activity ≡ Some a
-    → FindsClear (turns_seen before.0) (tree_seen before.0) 0 (task_of a.purpose) n → after ≡ (clear_view before.0 (task_of a.purpose) n, before.1)
+    (a : Activity) → s.word ≡ lock_place p lim a.place → before.0.activity ≡ Some a
+    → FindsClear (turns_seen before.0) (tree_seen before.0) 0 (record_about a) → after ≡ (clear_view before.0 (record_about a), before.1)

@@ -11,7 +11,7 @@ use Rattle.floor_table.specs.declared.view.View.{View}
 use Rattle.floor_table.specs.FloorOf.{Table, floor_of}
 use Rattle.floor_table.specs.Layout.{word_count}
 use Rattle.admission_core.specs.States.{Activity, Record}
-use Rattle.node_rule.specs.Trees.{ClearFact, Tree, WaitFact}
+use Rattle.node_rule.specs.Trees.{Tree, WaitFact}
 use Rattle.tree_table.specs.declared.slot.TreeSlot.{TreeSlot}
 use Rattle.tree_table.specs.declared.slot.TreeSlot.TheVariants as kinds
 use Rattle.tree_table.specs.declared.view.ContentChange.{ContentChange}
@@ -78,7 +78,7 @@ abbrev pub fresh_at : core.Option TreeView → List Record
 fresh_at core.none = []
 fresh_at (core.some v) = v.fresh
 
-abbrev pub clear_at : core.Option TreeView → List ClearFact
+abbrev pub clear_at : core.Option TreeView → List Record
 clear_at core.none = []
 clear_at (core.some v) = v.clear
 

@@ -1,6 +1,5 @@
 //! Steps of the floor on a table with nodes, for a seat that holds no node. What the step tells the floor's seat, it tells this one.
-ghost use Rattle.std.specs.Prelude.{◌≡◌, ◌≢◌, ◌<◌, ◌^◌, ◌==◌, ℕ, ℤ, List};
-ghost use prog.Atomic.{either};
+ghost use Rattle.std.specs.Prelude.{◌≡◌, ◌≢◌, ◌<◌, ◌^◌, ℕ, ℤ, List};
 ghost use Rattle.atomic_table.specs.Table.{Allows, step};
 ghost use mathlib.Core.Option.{none};
 ghost use Rattle.region_paths.specs.declared.elements.Elem.{Elem};
@@ -10,11 +9,11 @@ ghost use Rattle.seg_exec.specs.Access.{Reads, Writes};
 ghost use Rattle.floor_rule.specs.declared.view.HeldTurn.{HeldTurn};
 ghost use Rattle.floor_rule.specs.declared.view.Phase.{Phase};
 ghost use Rattle.floor_table.specs.declared.view.SeatKind.TheVariants.{Spent};
-ghost use Rattle.floor_table.specs.Layout.{cell_place, free_word, phase_place, taken_word, turn_place, value_of_word, word_of_phase};
+ghost use Rattle.floor_table.specs.Layout.{cell_place, phase_place, value_of_word, word_of_phase};
 ghost use Rattle.floor_table.specs.Tells.{IsLatest, MayStore, MayTouchCell};
 ghost use Rattle.tree_table.specs.declared.slot.TreeSlot.{TreeSlot};
 ghost use Rattle.tree_table.specs.declared.view.TreeView.{TreeView};
-ghost use Rattle.tree_table.specs.FloorSeats.{HasTaskSlots, LoadsTreeCell, StoresTreeCell, StoresTreePhase, TriesTreeTurn, floor_seat};
+ghost use Rattle.tree_table.specs.FloorSeats.{HasTaskSlots, LoadsTreeCell, StoresTreeCell, StoresTreePhase, floor_seat};
 ghost use Rattle.tree_table.specs.Holds.{TreeKeeps};
 ghost use Rattle.tree_table.specs.Layout.{tree_slot_count};
 
@@ -44,13 +43,4 @@ pub fn a_phase_may_be_stored_beside_nodes()
         → Allows (TreeKeeps nodes p lim) (tree_slot_count nodes lim) id (v, mine) (phase_place p t) (λ n. word_of_phase phase)
         (λ n. StoresTreePhase p lim (step (tree_slot_count nodes lim) (phase_place p t) (word_of_phase phase) 0 none) (v, mine)
         (word_of_phase phase)) }
-{}
-
-/// A seat may try to take a turn. It asks nothing of nodes.
-pub fn a_turn_may_be_tried_beside_nodes()
-    ensures { (nodes : List (List Elem)) (p : Program) (lim : Bounds) (id : ℕ) (v : TreeView) (mine : List (ℕ × TreeSlot))
-        → HasTaskSlots lim.tasks mine → (t : ℕ) → v.floor.kind ≢ Spent → t < lim.tasks
-        → Allows (TreeKeeps nodes p lim) (tree_slot_count nodes lim) id (v, mine) (turn_place p t)
-        (λ n. either (n == free_word) (taken_word v.floor.worker) n)
-        (TriesTreeTurn p lim (step (tree_slot_count nodes lim) (turn_place p t) free_word (taken_word v.floor.worker) none) (v, mine)) }
 {}

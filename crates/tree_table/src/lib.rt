@@ -13,26 +13,31 @@ mod rule;
 mod seat_laws;
 mod slot;
 mod start_laws;
+mod turn_laws;
 mod view;
 
 pub use activity::NodeActivity;
 pub use floor_laws::{
     a_cell_may_be_loaded_beside_nodes, a_cell_may_be_stored_beside_nodes,
-    a_phase_may_be_stored_beside_nodes, a_turn_may_be_tried_beside_nodes,
+    a_phase_may_be_stored_beside_nodes,
 };
 pub use follow_laws::a_wait_may_be_followed;
 pub use lock_laws::{a_lock_may_be_tried, a_node_may_be_left, a_seat_may_stop};
-pub use record::{KnownClear, KnownWait, NodeRecord};
+pub use record::{KnownWait, NodeRecord};
 pub use record_laws::{
     a_node_may_be_marked_clear, a_record_may_be_marked_placed, a_record_may_be_marked_removed,
     the_others_are_left,
 };
 pub use rule::{
-    BothTreeSeats, FollowWait, GoOn, LoadTreeCell, MarkClear, MarkPlaced, MarkRemoved,
-    NextTreeSeat, Planted, StopAt, StoreTreeCell, StoreTreePhase, TreeLaw, TreeStart, TryNode,
-    TryTreeTurn,
+    BothTreeSeats, FollowWait, GiveTreeTurn, GoOn, LoadTreeCell, MarkClear, MarkPlaced,
+    MarkRemoved, NextTreeSeat, Planted, StopAt, StoreTreeCell, StoreTreePhase, TreeLaw, TreeStart,
+    TryNode, TryTreeTurn,
 };
 pub use seat_laws::{a_tree_seat_may_be_split, tree_seats_may_be_joined};
 pub use slot::{Errand, ErrandKind, TreeSlot};
 pub use start_laws::a_tree_table_may_be_opened;
+pub use turn_laws::{
+    a_taken_turn_may_be_given_again, a_turn_may_be_given_beside_nodes,
+    a_turn_may_be_tried_beside_nodes,
+};
 pub use view::{ContentChange, TreeView};

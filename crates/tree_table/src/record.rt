@@ -20,21 +20,6 @@ impl Model for NodeRecord {
     ghost view = { λ r. record { task = r.task; effect = r.effect; node = r.node } };
 }
 
-/// A worker knows that no record of this task stands at this node.
-#[derive(Debug, Drop)]
-pub struct KnownClear {
-    task: u32,
-    node: u32,
-}
-
-impl Model for KnownClear {
-    ghost use Rattle.node_rule.specs.Trees.{ClearFact};
-
-    ghost Value = { ClearFact };
-
-    ghost view = { λ fact. record { task = fact.task; node = fact.node } };
-}
-
 /// A worker knows that this task waits for that one, directly or through others, unless that one is done.
 #[derive(Debug, Drop)]
 pub struct KnownWait {

@@ -12,7 +12,7 @@ ghost use Rattle.tree_table.specs.declared.slot.TreeSlot.{TreeSlot};
 ghost use Rattle.tree_table.specs.declared.view.TreeView.{TreeView};
 ghost use Rattle.tree_table.specs.Holds.{TreeKeeps};
 ghost use Rattle.tree_table.specs.Layout.{lock_place, taken_lock, tree_slot_count};
-ghost use Rattle.tree_table.specs.RecordSeats.{MarksClear, MarksPlaced, MarksRemoved, MayMark, MayUnmark, task_of};
+ghost use Rattle.tree_table.specs.RecordSeats.{MarksClear, MarksPlaced, MarksRemoved, MayMark, MayUnmark, record_about};
 ghost use Rattle.tree_table.specs.Seats.{tree_seen, turns_seen};
 ghost use Rattle.tree_table.specs.Without.{without};
 
@@ -26,7 +26,7 @@ pub fn a_record_may_be_marked_placed()
         (v, mine) (taken_lock v.floor.worker)) }
 {}
 
-/// A seat at its place may mark the record that it went for as removed.
+/// A seat at its place may mark the record that it went for as removed. It knows from then on that the record does not stand.
 pub fn a_record_may_be_marked_removed()
     ensures { (nodes : List (List Elem)) (p : Program) (lim : Bounds) (id : ℕ) (v : TreeView) (mine : List (ℕ × TreeSlot))
         (a : Activity) (content : List Record) → MayUnmark v a content
@@ -36,14 +36,14 @@ pub fn a_record_may_be_marked_removed()
         (v, mine) (taken_lock v.floor.worker)) }
 {}
 
-/// A seat that holds a node and finds no record there of the task that it went for may keep that in mind.
+/// A seat that has locked its place and does not find the record there that it went for may keep in mind that it does not stand.
 pub fn a_node_may_be_marked_clear()
-    ensures { (nodes : List (List Elem)) (p : Program) (lim : Bounds) (id n : ℕ) (v : TreeView) (mine : List (ℕ × TreeSlot))
-        (a : Activity) → v.activity ≡ Some a → FindsClear (turns_seen v) (tree_seen v) 0 (task_of a.purpose) n
-        → Allows (TreeKeeps nodes p lim) (tree_slot_count nodes lim) id (v, mine) (lock_place p lim n)
+    ensures { (nodes : List (List Elem)) (p : Program) (lim : Bounds) (id : ℕ) (v : TreeView) (mine : List (ℕ × TreeSlot))
+        (a : Activity) → v.activity ≡ Some a → FindsClear (turns_seen v) (tree_seen v) 0 (record_about a)
+        → Allows (TreeKeeps nodes p lim) (tree_slot_count nodes lim) id (v, mine) (lock_place p lim a.place)
         (λ x. taken_lock v.floor.worker)
-        (λ x. MarksClear p lim (step (tree_slot_count nodes lim) (lock_place p lim n) (taken_lock v.floor.worker) 0 none) (v, mine)
-        (taken_lock v.floor.worker)) }
+        (λ x. MarksClear p lim (step (tree_slot_count nodes lim) (lock_place p lim a.place) (taken_lock v.floor.worker) 0 none)
+        (v, mine) (taken_lock v.floor.worker)) }
 {}
 
 /// What `without` leaves of a list are the other records.

@@ -1,9 +1,10 @@
 //! The rule of the floor with nodes, as a rule of its table.
-ghost use Rattle.tree_table.specs.FloorSeats.{LoadsTreeCell, StoresTreeCell, StoresTreePhase, TriesTreeTurn};
+ghost use Rattle.tree_table.specs.FloorSeats.{LoadsTreeCell, StoresTreeCell, StoresTreePhase};
 ghost use Rattle.tree_table.specs.Follows.{Follows};
 ghost use Rattle.tree_table.specs.Holds.{TreeKeeps, first_tree_view, joined_tree_view, left_tree_view, right_tree_view, spent_tree_view};
 ghost use Rattle.tree_table.specs.Plays.{GoesOn, StopsAt, TriesNode};
 ghost use Rattle.tree_table.specs.RecordSeats.{MarksClear, MarksPlaced, MarksRemoved};
+ghost use Rattle.tree_table.specs.TurnSeats.{GivesTreeTurn, TriesTreeTurn};
 
 use crate::record::NodeRecord;
 use crate::slot::TreeSlot;
@@ -106,7 +107,7 @@ impl<N: Named + Planted> Play<TreeSlot, TreeView> for MarkRemoved<N> {
     ghost then = { MarksRemoved N.prog N.lim };
 }
 
-/// A node is marked as clear of a task.
+/// A node is marked as clear of a record.
 pub struct MarkClear<N: Named + Planted> {
     of: PhantomData<N>,
 }
@@ -152,10 +153,19 @@ impl<N: Named> Play<TreeSlot, TreeView> for StoreTreePhase<N> {
 }
 
 /// A try to take a turn.
-pub struct TryTreeTurn<N: Named> {
+pub struct TryTreeTurn<N: Named + Planted> {
     of: PhantomData<N>,
 }
 
-impl<N: Named> Play<TreeSlot, TreeView> for TryTreeTurn<N> {
-    ghost then = { TriesTreeTurn N.prog N.lim };
+impl<N: Named + Planted> Play<TreeSlot, TreeView> for TryTreeTurn<N> {
+    ghost then = { TriesTreeTurn N.nodes N.prog };
+}
+
+/// A turn is given.
+pub struct GiveTreeTurn<N: Named + Planted> {
+    of: PhantomData<N>,
+}
+
+impl<N: Named + Planted> Play<TreeSlot, TreeView> for GiveTreeTurn<N> {
+    ghost then = { GivesTreeTurn N.nodes N.prog };
 }

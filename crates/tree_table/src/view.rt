@@ -1,7 +1,7 @@
 //! What a worker knows of the floor and of the nodes. Views exist in proofs alone.
 
 use crate::activity::NodeActivity;
-use crate::record::{KnownClear, KnownWait, NodeRecord};
+use crate::record::{KnownWait, NodeRecord};
 use floor_table::View;
 use twe_io::List;
 
@@ -29,8 +29,8 @@ pub struct TreeView {
     pub removed: List<NodeRecord>,
     /// The records that it has placed since it got their task's turn, and has not removed.
     pub fresh: List<NodeRecord>,
-    /// The nodes that it knows to have no record of a task whose turn it has.
-    pub clear: List<KnownClear>,
+    /// The records of tasks whose turns it has that it knows not to stand.
+    pub clear: List<NodeRecord>,
     /// The waits that it knows.
     pub waits: List<KnownWait>,
 }

@@ -1,4 +1,4 @@
-use Rattle.tree_table.proofs.TurnCalls.{store_phase}
+use Rattle.tree_table.proofs.PhaseCalls.{store_phase}
 use Rattle.tree_table.proofs.floor_laws.a_phase_may_be_stored_beside_nodes.Goals as goal
 
 pub returns : goal.returns

@@ -1,0 +1,31 @@
+-- Segments over the floor with nodes. A stand carries out the segment of the task whose slot is the latest that it has out.
+use Rattle.std.specs.Prelude.{◌≡◌, ℕ, ℤ, Option}
+use Rattle.twe_limits.specs.Limits.{Bounds}
+use Rattle.twe_program.specs.Program.{Program}
+use Rattle.seg_exec.specs.Access.{Access, Reads, Writes, Prints}
+use Rattle.floor_rule.specs.declared.view.Touch.{Touch}
+use Rattle.floor_rule.specs.declared.view.Touch.TheVariants.{Read, Write}
+use Rattle.task_floor.specs.Segments as floor
+use Rattle.tree_floor.specs.Stands.{StaysInTree, TreeStand, floor_stand}
+
+-- What a stand states as an implementation of cells: what its floor's seat does.
+
+abbrev pub stand_knows : TreeStand → ℕ → Option ℤ
+stand_knows stand = floor.stand_knows (floor_stand stand)
+
+abbrev pub MayReadCell : Program → TreeStand → ℕ → Type 0
+MayReadCell p stand = floor.MayReadCell p (floor_stand stand)
+
+abbrev pub MayWriteCell : Program → TreeStand → ℕ → Type 0
+MayWriteCell p stand = floor.MayWriteCell p (floor_stand stand)
+
+-- the open segment has one touch more; nothing else changes
+pub record HasTouched (lim : Bounds) (old new : TreeStand) (touch : Touch) : Type 0 where
+  pub floor : floor.HasTouched (floor_stand old) (floor_stand new) touch
+  pub stays : StaysInTree lim old.me new.me
+
+-- each access is a touch
+abbrev pub StandFollows : Bounds → TreeStand → Access → TreeStand → Type 0
+StandFollows lim old (Reads cell value) new = HasTouched lim old new (Read cell value)
+StandFollows lim old (Writes cell value) new = HasTouched lim old new (Write cell value)
+StandFollows lim old (Prints value) new = new ≡ old

@@ -1,0 +1,51 @@
+//! What the words of the floor mean.
+ghost use Rattle.std.specs.Prelude.{◌≡◌, ◌<◌, ◌^◌};
+ghost use Rattle.floor_table.specs.Layout.{value_of_word, word_of_phase};
+
+use floor_rule::Phase;
+
+/// The phase that a word stands for.
+pub(crate) fn phase_of(word: u64) -> Phase
+    requires { word < 2 ^ 32 }
+    ensures { word ≡ word_of_phase result }
+{
+    match word {
+        0 => Phase::Absent,
+        1 => Phase::Made,
+        2 => Phase::Running,
+        3 => Phase::Done,
+        4 => Phase::Faulted,
+        waits => Phase::Waits {
+            on: (waits - 5) as u32,
+        },
+    }
+}
+
+/// The word that stands for a phase.
+pub(crate) fn word_of(phase: Phase) -> u64
+    ensures { result ≡ word_of_phase phase }
+{
+    match phase {
+        Phase::Absent => 0,
+        Phase::Made => 1,
+        Phase::Running => 2,
+        Phase::Done => 3,
+        Phase::Faulted => 4,
+        Phase::Waits { on } => on as u64 + 5,
+    }
+}
+
+/// The value of a cell that has this word.
+pub(crate) fn value_of(word: u64) -> i32
+    requires { word < 2 ^ 32 }
+    ensures { result ≡ value_of_word word }
+{
+    (word as i64 - 2_147_483_648) as i32
+}
+
+/// The word of a cell that has this value.
+pub(crate) fn word_of_value(value: i32) -> u64
+    ensures { (result < 2 ^ 32) × (value_of_word result ≡ value) }
+{
+    (value as i64 + 2_147_483_648) as u64
+}
