@@ -4,6 +4,7 @@ pub mod Holds
 pub mod Seats
 pub mod Plays
 pub mod Without
+pub mod Meeting
 pub mod RecordSeats
 pub mod Follows
 pub mod FloorSeats

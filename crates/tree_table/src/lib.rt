@@ -4,12 +4,15 @@
 #![tactic(auto)]
 
 mod activity;
+mod content;
+mod content_laws;
 mod floor_laws;
 mod follow_laws;
 mod lock_laws;
 mod record;
 mod record_laws;
 mod rule;
+mod same_effect;
 mod seat_laws;
 mod slot;
 mod start_laws;
@@ -17,6 +20,8 @@ mod turn_laws;
 mod view;
 
 pub use activity::NodeActivity;
+pub use content::NodeContent;
+pub use content_laws::{what_is_found_is_there, what_is_not_met_passes};
 pub use floor_laws::{
     a_cell_may_be_loaded_beside_nodes, a_cell_may_be_stored_beside_nodes,
     a_phase_may_be_stored_beside_nodes,

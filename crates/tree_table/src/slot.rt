@@ -1,8 +1,7 @@
 //! What lies in a slot of the table.
 
-use crate::record::NodeRecord;
+use crate::content::NodeContent;
 use floor_rule::TaskSlot;
-use twe_io::List;
 
 /// What a worker goes down the tree for.
 #[derive(Clone, Copy, Debug, PartialEq, Eq)]
@@ -34,7 +33,7 @@ pub enum TreeSlot {
     /// In the slot of a task: what lies in it on a table of the floor.
     Task(Option<TaskSlot>),
     /// In the slot of a node: the records that stand at the node.
-    Node(List<NodeRecord>),
+    Node(NodeContent),
     /// In no slot: what a worker announces.
     Errand(Errand),
 }
