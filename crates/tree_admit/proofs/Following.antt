@@ -1,20 +1,18 @@
 -- What a seat knows once it has followed a wait.
-use Rattle.std.proofs.Common.{◌≡◌, ◌≢◌, ◌⊎◌, ◌<◌, ℕ, ℤ, Bool, true, false, List, [], ◌∷◌, Some, if◌then◌else◌, refl, sym, ap, subst, ◌∙◌, inl, inr, ⊎_elim}
+use Rattle.std.proofs.Common.{◌≡◌, ◌⊎◌, ◌<◌, ℕ, ℤ, Bool, true, false, List, [], ◌∷◌, if◌then◌else◌, refl, sym, ap, subst, ◌∙◌, inl, inr, ⊎_elim}
 use Rattle.std.specs.Prelude.{◌==◌}
 use Rattle.std.proofs.lemmas.Bool.Decides.{Decides-eqb, not_from_Decides}
 use Rattle.twe_limits.specs.Limits.{Bounds}
-use Rattle.floor_rule.specs.declared.view.DoneFact.{DoneFact}
 use Rattle.floor_rule.specs.declared.view.Phase.{Phase}
 use Rattle.floor_rule.specs.declared.view.Phase.TheVariants.{Absent, Made, Running, Waits, Done, Faulted}
 use Rattle.floor_table.specs.Layout.{phase_of_word, word_of_phase}
 use Rattle.floor_table.proofs.Steps.{phase_again}
 use Rattle.admission_core.specs.States.{IsAmong}
 use Rattle.node_rule.specs.Trees.{WaitFact}
-use Rattle.tree_table.specs.declared.view.TreeView.{TreeView}
-use Rattle.tree_table.specs.Follows.{FollowedPhase, Learns, done_view, followed, led_on, waits_view}
+use Rattle.tree_table.specs.Follows.{FollowedPhase, Learns, done_view, led_on, waits_view}
 use Rattle.tree_table.specs.Seats.{TreeSeat}
 use Rattle.tree_admit.specs.Bars.{IsLedTo}
-use Rattle.tree_admit.specs.Going.{HasOnlyFollowed, HasOnlyLearned}
+use Rattle.tree_admit.specs.Going.{HasOnlyFollowed}
 use Rattle.tree_admit.proofs.Learning.{learned_refl, learned_trans}
 
 -- whoever followed nothing has followed only

@@ -1,8 +1,6 @@
 -- A view that learns goes on to know what it knew.
-use Rattle.std.proofs.Common.{◌≡◌, ℕ, ℤ, List, [], ◌∷◌, refl, sym, ap, subst, ◌∙◌, inl, inr}
-use Rattle.admission_core.specs.States.{IsAmong}
+use Rattle.std.proofs.Common.{refl, ap, ◌∙◌}
 use Rattle.floor_table.specs.declared.view.View.{View}
-use Rattle.floor_rule.specs.declared.view.DoneFact.{DoneFact}
 use Rattle.tree_table.specs.declared.view.TreeView.{TreeView}
 use Rattle.tree_admit.specs.Going.{HasOnlyLearned}
 

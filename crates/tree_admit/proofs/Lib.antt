@@ -6,3 +6,4 @@ pub mod Steps
 pub mod Marks
 pub mod Entering
 pub mod Following
+pub mod Walks

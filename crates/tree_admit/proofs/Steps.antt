@@ -1,5 +1,5 @@
 -- What a seat has after each step on its way.
-use Rattle.std.proofs.Common.{◌≡◌, ◌≢◌, ◌⊎◌, ℕ, List, [], ◌∷◌, Option, Some, None, refl, sym, ap, subst, ◌∙◌, inl, inr, ⊎_elim}
+use Rattle.std.proofs.Common.{◌≡◌, ◌≢◌, ℕ, List, ◌∷◌, Option, Some, None, refl, sym, ap, subst, ◌∙◌, inr, ⊎_elim}
 use Rattle.std.proofs.lemmas.Bool.{cases_eq}
 use mathlib.Core.Option as core
 use Rattle.region_paths.specs.declared.elements.Elem.{Elem}
@@ -7,9 +7,9 @@ use Rattle.effect_sets.specs.declared.effects.Effect.{Effect}
 use Rattle.effect_tree.specs.Place.{IsSolid}
 use Rattle.prefix_tree.specs.Nodes.{IsParent}
 use Rattle.twe_limits.specs.Limits.{Bounds}
-use Rattle.admission_core.specs.States.{Activity, Admit, Descends, IsAbove, IsAmong, Leaves, Record, Stage, Steps, Walks, held}
+use Rattle.admission_core.specs.States.{Activity, Admit, Descends, IsAbove, IsAmong, Record, Stage, Steps, Walks, held}
 use Rattle.admission_core.specs.Events.{AllFinished, HasCome}
-use Rattle.node_rule.specs.LockSteps.{MayGiveParent, MayGoDown, MayWalkDown, MayWalkUp, SeesPass, stopped}
+use Rattle.node_rule.specs.LockSteps.{SeesPass}
 use Rattle.tree_table.specs.declared.slot.TreeSlot.{TreeSlot}
 use Rattle.tree_table.specs.declared.slot.TreeSlot.TheVariants as kinds
 use Rattle.tree_table.specs.declared.view.TreeView.{TreeView}

@@ -1,6 +1,6 @@
 -- What a stand has and knows while it goes down the tree. Each definition speaks of the stand's seat: its view, and the slots that
 -- it has out, the latest first.
-use Rattle.std.specs.Prelude.{◌≡◌, ◌≢◌, ℕ, List, [], ◌∷◌, Option, Some, None}
+use Rattle.std.specs.Prelude.{◌≡◌, ◌≢◌, ℕ, List, ◌∷◌, Option, Some, None}
 use Rattle.twe_limits.specs.Limits.{Bounds}
 use Rattle.floor_rule.specs.declared.view.DoneFact.{DoneFact}
 use Rattle.admission_core.specs.States.{Activity, IsAmong, Record}
