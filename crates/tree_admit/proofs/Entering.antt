@@ -66,7 +66,7 @@ errand_known nodes v w errand e learned knows = record {
   may = knows.may;
 }
 
-effect_is : (kind : ErrandKind) (t : ℕ) (e : Effect) → effect_of (purpose_for kind t e) ≡ e
+pub effect_is : (kind : ErrandKind) (t : ℕ) (e : Effect) → effect_of (purpose_for kind t e) ≡ e
 effect_is Admission t e = refl
 effect_is Placing t e = refl
 effect_is Removal t e = refl

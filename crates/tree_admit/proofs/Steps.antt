@@ -25,7 +25,7 @@ use Rattle.tree_admit.proofs.Learning.{learned_refl, learned_trans}
 locked_learned : (v u : TreeView) (n : ℕ) (content : List Record) (next : Activity) → HasOnlyLearned v u → HasOnlyLearned v (locked_view u n content next)
 locked_learned v u n content next h = record { floor = h.floor; done = h.done; waits = h.waits; placed = h.placed; removed = h.removed; fresh = h.fresh; clear = h.clear; seen = λ change among. inr (h.seen change among) }
 
-unlocked_learned : (v u : TreeView) (n : ℕ) (next : Option Activity) → HasOnlyLearned v u → HasOnlyLearned v (unlocked_view u n next)
+pub unlocked_learned : (v u : TreeView) (n : ℕ) (next : Option Activity) → HasOnlyLearned v u → HasOnlyLearned v (unlocked_view u n next)
 unlocked_learned v u n next h = record { floor = h.floor; done = h.done; waits = h.waits; placed = h.placed; removed = h.removed; fresh = h.fresh; clear = h.clear; seen = λ change among. inr (h.seen change among) }
 
 -- who has locked a first node, or one more, has it

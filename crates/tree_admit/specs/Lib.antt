@@ -1,3 +1,4 @@
 pub mod Going
 pub mod Errands
 pub mod Bars
+pub mod Descents

@@ -10,3 +10,14 @@ pub struct Bar {
     /// The task at which the waits from there ended.
     pub end: u32,
 }
+
+/// How a try to place a record ended.
+#[derive(Clone, Copy, Debug, PartialEq, Eq)]
+pub enum Attempt {
+    /// The record was placed.
+    Placed,
+    /// The record stood already.
+    Stood,
+    /// A record was in the way.
+    Barred(Bar),
+}

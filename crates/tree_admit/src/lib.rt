@@ -3,9 +3,15 @@
 #![tactic(auto)]
 
 mod bars;
+mod chains;
+mod descents;
+mod errands;
 mod footing;
 mod laws;
+mod locking;
+mod testing;
 
-pub use bars::Bar;
+pub use bars::{Attempt, Bar};
+pub use errands::take_out_one;
 pub use footing::Footing;
 pub use laws::views_only_learn;

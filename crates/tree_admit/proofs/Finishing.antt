@@ -11,22 +11,13 @@ use Rattle.admission_core.specs.States.{IsAbove, IsAmong, IsOver}
 use Rattle.admission_core.specs.Events.{AllFinished}
 use Rattle.admission_core.proofs.TreeLemmas.{above_refl, over_above, parent_over}
 use Rattle.tree_ways.proofs.WayLemmas.{siblings}
+use Rattle.tree_admit.specs.Descents.{HasFinishedBelow, NoneBelow}
 
 -- the first k children are finished, the nodes that were finished are so still, and each other one lies at or below one of the first k children
 pub record HasWalked (nodes : List (List Elem)) (children : List ℕ) (k : ℕ) (before after : List ℕ) : Type 0 where
   pub each : (j : ℕ) → j < k → IsAmong (get_or children j 0) after
   pub kept : (m : ℕ) → IsAmong m before → IsAmong m after
   pub below : (m : ℕ) → IsAmong m after → IsAmong m before ⊎ ((j : ℕ) × (j < k) × IsAbove nodes (get_or children j 0) m)
-
--- no node below this one is finished
-abbrev pub NoneBelow : List (List Elem) → ℕ → List ℕ → Type 0
-NoneBelow nodes n done = (m : ℕ) → IsOver nodes n m → ¬ IsAmong m done
-
--- what was finished is so still, and all else that is lies below the node
-pub record HasFinishedBelow (nodes : List (List Elem)) (n : ℕ) (before after : List ℕ) : Type 0 where
-  pub all : AllFinished nodes n after
-  pub kept : (m : ℕ) → IsAmong m before → IsAmong m after
-  pub below : (m : ℕ) → IsAmong m after → IsAmong m before ⊎ IsOver nodes n m
 
 module _ (nodes : List (List Elem)) (tree : IsTreeOfPaths nodes) (n : ℕ) (children : List ℕ) (each : (m : ℕ) → (Contains children m → IsParent nodes n m) × (IsParent nodes n m → Contains children m))
     (rising : IsStrictlyIncreasing children) (before : List ℕ) (none : NoneBelow nodes n before) where
