@@ -1,5 +1,5 @@
 -- How a worker sets out.
-use Rattle.std.proofs.Common.{◌≡◌, ◌≢◌, ◌⊎◌, ℕ, Bool, true, false, List, [], ◌∷◌, Option, Some, None, if◌then◌else◌, refl, sym, ap, subst, ◌∙◌, inl, inr, ⊎_elim}
+use Rattle.std.proofs.Common.{◌≡◌, ◌≢◌, ℕ, Bool, true, false, List, [], ◌∷◌, Option, Some, if◌then◌else◌, refl, sym, ap, subst, ◌∙◌, inl, inr, ⊎_elim}
 use Rattle.std.specs.Prelude.{◌==◌, Contains, slice_get}
 use Rattle.std.proofs.lemmas.Bool.{cases_eq}
 use Rattle.std.proofs.lemmas.Bool.Decides.{Decides-eqb}
@@ -11,16 +11,15 @@ use Rattle.effect_sets.specs.declared.effects.Effect.{Effect}
 use Rattle.prefix_tree.specs.Nodes.{IsParent, IsTreeOfPaths}
 use Rattle.floor_rule.specs.declared.view.HeldTurn.{HeldTurn}
 use Rattle.floor_table.specs.FloorOf.{turn_in}
-use Rattle.admission_core.specs.States.{Activity, Descends, IsAbove, IsPlaceOf, Stage, Walks, effect_of}
+use Rattle.admission_core.specs.States.{Descends, IsAbove, IsPlaceOf, Stage, Walks, effect_of}
 use Rattle.admission_core.specs.Events.{HasCome}
-use Rattle.node_rule.specs.LockSteps.{MayEnter, MaySetOut}
+use Rattle.node_rule.specs.LockSteps.{MaySetOut}
 use Rattle.tree_table.specs.declared.slot.Errand.{Errand}
 use Rattle.tree_table.specs.declared.slot.ErrandKind.{ErrandKind}
 use Rattle.tree_table.specs.declared.slot.ErrandKind.TheVariants.{Admission, Placing, Removal}
-use Rattle.tree_table.specs.declared.slot.TreeSlot.{TreeSlot}
 use Rattle.tree_table.specs.declared.slot.TreeSlot.TheVariants as kinds
 use Rattle.tree_table.specs.declared.view.TreeView.{TreeView}
-use Rattle.tree_table.specs.Seats.{MayLock, activity_for, effect_known, enters, errand_of, purpose_for, tree_seen, turns_seen}
+use Rattle.tree_table.specs.Seats.{MayLock, activity_for, effect_known, enters, errand_of, purpose_for, turns_seen}
 use Rattle.tree_ways.specs.Ways.{LeadsTo}
 use Rattle.tree_ways.proofs.WayLemmas.{next_above, not_yet}
 use Rattle.tree_admit.specs.Going.{HasOnlyLearned, IsOutside}
@@ -67,7 +66,7 @@ errand_known nodes v w errand e learned knows = record {
   may = knows.may;
 }
 
-effect_is : (kind : ErrandKind) (t : ℕ) (e : Effect) → effect_of (purpose_for kind t e) ≡ e
+pub effect_is : (kind : ErrandKind) (t : ℕ) (e : Effect) → effect_of (purpose_for kind t e) ≡ e
 effect_is Admission t e = refl
 effect_is Placing t e = refl
 effect_is Removal t e = refl

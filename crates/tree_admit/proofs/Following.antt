@@ -1,19 +1,18 @@
 -- What a seat knows once it has followed a wait.
-use Rattle.std.proofs.Common.{◌≡◌, ◌≢◌, ◌⊎◌, ◌<◌, ℕ, ℤ, Bool, true, false, List, [], ◌∷◌, Some, if◌then◌else◌, refl, sym, ap, subst, ◌∙◌, inl, inr, ⊎_elim}
+use Rattle.std.proofs.Common.{◌≡◌, ◌⊎◌, ◌<◌, ℕ, ℤ, Bool, true, false, List, [], ◌∷◌, if◌then◌else◌, refl, sym, ap, subst, ◌∙◌, inl, inr, ⊎_elim}
 use Rattle.std.specs.Prelude.{◌==◌}
 use Rattle.std.proofs.lemmas.Bool.Decides.{Decides-eqb, not_from_Decides}
 use Rattle.twe_limits.specs.Limits.{Bounds}
-use Rattle.floor_rule.specs.declared.view.DoneFact.{DoneFact}
 use Rattle.floor_rule.specs.declared.view.Phase.{Phase}
 use Rattle.floor_rule.specs.declared.view.Phase.TheVariants.{Absent, Made, Running, Waits, Done, Faulted}
 use Rattle.floor_table.specs.Layout.{phase_of_word, word_of_phase}
 use Rattle.floor_table.proofs.Steps.{phase_again}
 use Rattle.admission_core.specs.States.{IsAmong}
 use Rattle.node_rule.specs.Trees.{WaitFact}
-use Rattle.tree_table.specs.declared.view.TreeView.{TreeView}
-use Rattle.tree_table.specs.Follows.{FollowedPhase, Learns, done_view, followed, led_on, waits_view}
+use Rattle.tree_table.specs.Follows.{FollowedPhase, Learns, done_view, led_on, waits_view}
 use Rattle.tree_table.specs.Seats.{TreeSeat}
-use Rattle.tree_admit.specs.Going.{HasOnlyFollowed, HasOnlyLearned}
+use Rattle.tree_admit.specs.Bars.{IsLedTo}
+use Rattle.tree_admit.specs.Going.{HasOnlyFollowed}
 use Rattle.tree_admit.proofs.Learning.{learned_refl, learned_trans}
 
 -- whoever followed nothing has followed only
@@ -58,7 +57,7 @@ done_followed before u value = record {
   activity = refl;
   kept = refl;
   slots = refl;
-  learned = record { floor = refl; done = λ fact among. inr among; waits = λ fact among. among; placed = refl; removed = refl; fresh = refl; clear = refl };
+  learned = record { floor = refl; done = λ fact among. inr among; waits = λ fact among. among; placed = refl; removed = refl; fresh = refl; clear = refl; seen = λ change among. among };
 }
 
 waits_followed : (before : TreeSeat) (u t : ℕ) → HasOnlyFollowed before (waits_view before.0 u t, before.1)
@@ -74,6 +73,7 @@ waits_followed before u t = record {
     removed = refl;
     fresh = refl;
     clear = refl;
+    seen = λ change among. among;
   };
 }
 
@@ -91,10 +91,6 @@ follows_only lim before u phase after found = learns_only (phase_of_word (word_o
 -- a task waits for one with a higher number
 pub waits_above : (lim : Bounds) (before : TreeSeat) (u t : ℕ) (after : TreeSeat) → FollowedPhase lim before u (word_of_phase (Waits t)) after → (u < t) × (t < lim.tasks)
 waits_above lim before u t after found = found.2 t (phase_again (Waits t))
-
--- s is u, or is known to wait for it
-abbrev pub IsLedTo : TreeView → ℕ → ℕ → Type 0
-IsLedTo v s u = (s ≡ u) ⊎ IsAmong (record { waiter = s; awaited = u }) v.waits
 
 -- whoever was led to u is led on to the task for which u waits
 pub led_further : (lim : Bounds) (before : TreeSeat) (s u t : ℕ) (after : TreeSeat) → IsLedTo before.0 s u → FollowedPhase lim before u (word_of_phase (Waits t)) after

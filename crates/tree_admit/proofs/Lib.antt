@@ -6,3 +6,10 @@ pub mod Steps
 pub mod Marks
 pub mod Entering
 pub mod Following
+pub mod Finishing
+pub mod Taking
+pub mod Fronts
+pub mod Stepping
+pub mod Descending
+pub mod Putting
+pub mod Wandering

@@ -1,5 +1,5 @@
 -- What a seat has once it has marked a record as placed or removed, or a node as clear.
-use Rattle.std.proofs.Common.{◌≡◌, ◌≢◌, ◌⊎◌, ℕ, true, false, List, [], ◌∷◌, Option, Some, None, refl, sym, ap, subst, ◌∙◌, inl, inr}
+use Rattle.std.proofs.Common.{◌≡◌, ◌≢◌, ◌⊎◌, ℕ, true, false, List, [], ◌∷◌, Some, refl, sym, ap, subst, ◌∙◌, inr}
 use Rattle.std.specs.Prelude.{Contains, is_some}
 use Rattle.region_paths.specs.declared.elements.Elem.{Elem}
 use Rattle.effect_sets.specs.declared.effects.Effect.{Effect}
@@ -12,15 +12,12 @@ use Rattle.floor_table.specs.declared.view.View.{View}
 use Rattle.admission_core.specs.States.{Activity, Admit, Child, IsAmong, Record, Remove, Walks}
 use Rattle.admission_core.specs.Events.{AllFinished}
 use Rattle.node_rule.specs.FactSteps.{FindsClear}
-use Rattle.node_rule.specs.Fitting.{HasTurn}
 use Rattle.node_rule.specs.LockSteps.{stopped}
 use Rattle.node_rule.specs.RecordSteps.{IsWithout, not_clear, record_here}
-use Rattle.node_rule.specs.Trees.{ClearFact}
 use Rattle.tree_table.specs.declared.slot.TreeSlot.{TreeSlot}
 use Rattle.tree_table.specs.declared.view.TreeView.{TreeView}
 use Rattle.tree_table.specs.RecordSeats.{MayMark, MayUnmark, clear_view, marked_view, marks, marks_child, record_about, task_of, unmarked_view}
 use Rattle.tree_table.specs.Seats.{TreeSeat, tree_seen, turns_seen}
-use Rattle.tree_table.specs.TreeOf.{content_in}
 use Rattle.tree_table.specs.Without.{without}
 use Rattle.tree_table.proofs.Withouts.{without_is}
 use Rattle.tree_admit.specs.Going.{HasNode, HasOnlyLearned}
@@ -74,7 +71,8 @@ module _ (lim : Bounds) (earlier : TreeView) (rest : List (ℕ × TreeSlot)) (a 
           placed = ap (λ (l : List Record). r ∷ l) h.learned.placed;
           removed = h.learned.removed;
           fresh = ap (λ (l : List Record). r ∷ l) h.learned.fresh;
-          clear = ap (λ (l : List ClearFact). not_clear r.task r.node l) h.learned.clear;
+          clear = ap (λ (l : List Record). not_clear r.task r.node l) h.learned.clear;
+          seen = λ change among. inr (h.learned.seen change among);
         };
       })
 
@@ -119,19 +117,21 @@ module _ (lim : Bounds) (earlier : TreeView) (rest : List (ℕ × TreeSlot)) (a 
           placed = h.learned.placed;
           removed = ap (λ (l : List Record). r ∷ l) h.learned.removed;
           fresh = ap (λ (l : List Record). without r l) h.learned.fresh;
-          clear = h.learned.clear;
+          clear = ap (λ (l : List Record). r ∷ l) h.learned.clear;
+          seen = λ change among. inr (h.learned.seen change among);
         };
       })
 
--- Finding clear.
-module _ (lim : Bounds) (earlier : TreeView) (rest : List (ℕ × TreeSlot)) (a : Activity) (n : ℕ) (content : List Record) (me : TreeSeat) (h : HasNode lim earlier rest a n content me) where
-  pub may_clear : (t : ℕ) (turn : HeldTurn) → turn_in earlier.floor.turns t ≡ Some turn → ((r : Record) → IsAmong r content → r.task ≢ t)
-      → FindsClear (turns_seen me.0) (tree_seen me.0) 0 t n
-  may_clear t turn has none = record { turn = (turn, turn_known earlier me.0 t turn h.learned has); content = content; has = h.known; none = none }
+-- Not finding the record.
+module _ (lim : Bounds) (earlier : TreeView) (rest : List (ℕ × TreeSlot)) (a : Activity) (content : List Record) (me : TreeSeat)
+    (h : HasNode lim earlier rest a a.place content me) where
+  pub may_clear : (turn : HeldTurn) → turn_in earlier.floor.turns (task_of a.purpose) ≡ Some turn → ¬ IsAmong (record_about a) content
+      → FindsClear (turns_seen me.0) (tree_seen me.0) 0 (record_about a)
+  may_clear turn has none = record { turn = (turn, turn_known earlier me.0 (task_of a.purpose) turn h.learned has); content = content; has = h.known; none = none }
 
-  pub clear_has : (t : ℕ) (after : TreeSeat) → after ≡ (clear_view me.0 t n, me.1) → HasNode lim (with_clear t n earlier) rest a n content after
-  clear_has t after is =
-      subst (HasNode lim (with_clear t n earlier) rest a n content) (sym is)
+  pub clear_has : (after : TreeSeat) → after ≡ (clear_view me.0 (record_about a), me.1) → HasNode lim (with_clear (record_about a) earlier) rest a a.place content after
+  clear_has after is =
+      subst (HasNode lim (with_clear (record_about a) earlier) rest a a.place content) (sym is)
       (record {
         active = h.active;
         known = h.known;
@@ -144,6 +144,7 @@ module _ (lim : Bounds) (earlier : TreeView) (rest : List (ℕ × TreeSlot)) (a 
           placed = h.learned.placed;
           removed = h.learned.removed;
           fresh = h.learned.fresh;
-          clear = ap (λ (l : List ClearFact). record { task = t; node = n } ∷ l) h.learned.clear;
+          clear = ap (λ (l : List Record). record_about a ∷ l) h.learned.clear;
+          seen = h.learned.seen;
         };
       })

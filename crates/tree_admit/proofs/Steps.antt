@@ -1,5 +1,5 @@
 -- What a seat has after each step on its way.
-use Rattle.std.proofs.Common.{◌≡◌, ◌≢◌, ◌⊎◌, ℕ, List, [], ◌∷◌, Option, Some, None, refl, sym, ap, subst, ◌∙◌, inl, inr, ⊎_elim}
+use Rattle.std.proofs.Common.{◌≡◌, ◌≢◌, ℕ, List, ◌∷◌, Option, Some, None, refl, sym, ap, subst, ◌∙◌, inr, ⊎_elim}
 use Rattle.std.proofs.lemmas.Bool.{cases_eq}
 use mathlib.Core.Option as core
 use Rattle.region_paths.specs.declared.elements.Elem.{Elem}
@@ -7,9 +7,9 @@ use Rattle.effect_sets.specs.declared.effects.Effect.{Effect}
 use Rattle.effect_tree.specs.Place.{IsSolid}
 use Rattle.prefix_tree.specs.Nodes.{IsParent}
 use Rattle.twe_limits.specs.Limits.{Bounds}
-use Rattle.admission_core.specs.States.{Activity, Admit, Descends, IsAbove, IsAmong, Leaves, Record, Stage, Steps, Walks, held}
+use Rattle.admission_core.specs.States.{Activity, Admit, Descends, IsAbove, IsAmong, Record, Stage, Steps, Walks, held}
 use Rattle.admission_core.specs.Events.{AllFinished, HasCome}
-use Rattle.node_rule.specs.LockSteps.{MayGiveParent, MayGoDown, MayWalkDown, MayWalkUp, SeesPass, stopped}
+use Rattle.node_rule.specs.LockSteps.{SeesPass}
 use Rattle.tree_table.specs.declared.slot.TreeSlot.{TreeSlot}
 use Rattle.tree_table.specs.declared.slot.TreeSlot.TheVariants as kinds
 use Rattle.tree_table.specs.declared.view.TreeView.{TreeView}
@@ -23,10 +23,10 @@ use Rattle.tree_admit.proofs.Learning.{learned_refl, learned_trans}
 
 -- locking and unlocking teach nothing
 locked_learned : (v u : TreeView) (n : ℕ) (content : List Record) (next : Activity) → HasOnlyLearned v u → HasOnlyLearned v (locked_view u n content next)
-locked_learned v u n content next h = record { floor = h.floor; done = h.done; waits = h.waits; placed = h.placed; removed = h.removed; fresh = h.fresh; clear = h.clear }
+locked_learned v u n content next h = record { floor = h.floor; done = h.done; waits = h.waits; placed = h.placed; removed = h.removed; fresh = h.fresh; clear = h.clear; seen = λ change among. inr (h.seen change among) }
 
-unlocked_learned : (v u : TreeView) (n : ℕ) (next : Option Activity) → HasOnlyLearned v u → HasOnlyLearned v (unlocked_view u n next)
-unlocked_learned v u n next h = record { floor = h.floor; done = h.done; waits = h.waits; placed = h.placed; removed = h.removed; fresh = h.fresh; clear = h.clear }
+pub unlocked_learned : (v u : TreeView) (n : ℕ) (next : Option Activity) → HasOnlyLearned v u → HasOnlyLearned v (unlocked_view u n next)
+unlocked_learned v u n next h = record { floor = h.floor; done = h.done; waits = h.waits; placed = h.placed; removed = h.removed; fresh = h.fresh; clear = h.clear; seen = λ change among. inr (h.seen change among) }
 
 -- who has locked a first node, or one more, has it
 pub locked_has : (lim : Bounds) (before : TreeSeat) (n : ℕ) (next : Activity) (content : List Record) (after : TreeSeat) → HasLocked lim before n next content after

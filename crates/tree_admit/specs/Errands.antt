@@ -1,11 +1,11 @@
 -- What a worker goes down the tree for, and what it has to know.
-use Rattle.std.specs.Prelude.{◌≡◌, ◌==◌, ◌≢◌, ◌<◌, ℕ, false, List, [], ◌∷◌, Some, if◌then◌else◌, slice_get}
+use Rattle.std.specs.Prelude.{◌≡◌, ◌==◌, ℕ, false, List, [], ◌∷◌, Some, if◌then◌else◌, slice_get}
 use Rattle.region_paths.specs.declared.elements.Elem.{Elem}
 use Rattle.effect_sets.specs.declared.effects.Effect.{Effect}
 use Rattle.twe_machine.specs.declared.state.TaskStatus.TheVariants as status
 use Rattle.floor_rule.specs.declared.view.HeldTurn.{HeldTurn}
 use Rattle.floor_table.specs.FloorOf.{turn_in}
-use Rattle.admission_core.specs.States.{Activity, Admit, Descends, IsAmong, IsPlaceOf, Purpose, Record, Stage, Walks}
+use Rattle.admission_core.specs.States.{Activity, Descends, IsAmong, IsPlaceOf, Purpose, Record, Stage, Walks}
 use Rattle.node_rule.specs.LockSteps.{PassesHere}
 use Rattle.node_rule.specs.RecordSteps.{not_clear}
 use Rattle.node_rule.specs.Trees.{WaitFact}
@@ -46,13 +46,13 @@ AllPass waits purpose content = (r : Record) → IsAmong r content → PassesHer
 abbrev pub record_of : Errand → Effect → Record
 record_of errand e = record { task = errand.task; effect = e; node = errand.place }
 
--- What a view knows once a record was placed, or removed, and that a node is clear of a task.
+-- What a view knows once a record was placed, or removed, or not found where it would stand.
 
 abbrev pub with_placed : Record → TreeView → TreeView
 with_placed r v = record v { placed = r ∷ v.placed; fresh = r ∷ v.fresh; clear = not_clear r.task r.node v.clear }
 
 abbrev pub with_removed : Record → TreeView → TreeView
-with_removed r v = record v { removed = r ∷ v.removed; fresh = without r v.fresh }
+with_removed r v = record v { removed = r ∷ v.removed; fresh = without r v.fresh; clear = r ∷ v.clear }
 
-abbrev pub with_clear : ℕ → ℕ → TreeView → TreeView
-with_clear t n v = record v { clear = record { task = t; node = n } ∷ v.clear }
+abbrev pub with_clear : Record → TreeView → TreeView
+with_clear r v = record v { clear = r ∷ v.clear }

@@ -1,12 +1,13 @@
 -- What a stand has and knows while it goes down the tree. Each definition speaks of the stand's seat: its view, and the slots that
 -- it has out, the latest first.
-use Rattle.std.specs.Prelude.{◌≡◌, ◌≢◌, ℕ, List, [], ◌∷◌, Option, Some, None}
+use Rattle.std.specs.Prelude.{◌≡◌, ◌≢◌, ℕ, List, ◌∷◌, Option, Some, None}
 use Rattle.twe_limits.specs.Limits.{Bounds}
 use Rattle.floor_rule.specs.declared.view.DoneFact.{DoneFact}
 use Rattle.admission_core.specs.States.{Activity, IsAmong, Record}
 use Rattle.node_rule.specs.Trees.{WaitFact}
 use Rattle.tree_table.specs.declared.slot.TreeSlot.{TreeSlot}
 use Rattle.tree_table.specs.declared.slot.TreeSlot.TheVariants as kinds
+use Rattle.tree_table.specs.declared.view.ContentChange.{ContentChange}
 use Rattle.tree_table.specs.declared.view.TreeView.{TreeView}
 use Rattle.tree_table.specs.Layout.{content_place}
 use Rattle.tree_table.specs.Seats.{TreeSeat, locked_view}
@@ -26,6 +27,8 @@ pub record HasOnlyLearned (v w : TreeView) : Type 0 where
   pub removed : w.removed ≡ v.removed
   pub fresh : w.fresh ≡ v.fresh
   pub clear : w.clear ≡ v.clear
+  -- it knows which contents it had
+  pub seen : (change : ContentChange) → IsAmong change v.kept → IsAmong change w.kept
 
 -- the seat followed waits, and did nothing else
 pub record HasOnlyFollowed (before after : TreeSeat) : Type 0 where

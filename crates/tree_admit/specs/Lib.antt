@@ -1,2 +1,4 @@
 pub mod Going
 pub mod Errands
+pub mod Bars
+pub mod Descents

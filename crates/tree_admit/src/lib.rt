@@ -2,6 +2,16 @@
 //! place of an effect, and comes back. Whoever admits a task looks at each record that it meets on its way.
 #![tactic(auto)]
 
+mod bars;
+mod chains;
+mod descents;
+mod errands;
+mod footing;
 mod laws;
+mod locking;
+mod testing;
 
+pub use bars::{Attempt, Bar};
+pub use errands::take_out_one;
+pub use footing::Footing;
 pub use laws::views_only_learn;

@@ -1,10 +1,10 @@
 -- How ways lead down, and why two nodes right below one do not lie above the same node.
-use Rattle.std.proofs.Common.{◌≡◌, ◌≢◌, ℕ, zero, suc, ◌+◌, ◌<◌, ◌≤◌, List, [], ◌∷◌, ◌++◌, length, length-append, sym, ap, subst, ◌∙◌, arith}
+use Rattle.std.proofs.Common.{◌≡◌, ◌≢◌, ℕ, zero, suc, ◌+◌, ◌<◌, ◌≤◌, List, [], ◌∷◌, ◌++◌, length, length-append, sym, ap, subst, ◌∙◌, ⊎_elim, arith}
 use Rattle.region_paths.specs.declared.elements.Elem.{Elem}
 use Rattle.prefix_tree.specs.Prefix.{IsPrefix}
 use Rattle.prefix_tree.specs.Nodes.{path_of, IsParent, IsTreeOfPaths}
-use Rattle.admission_core.specs.States.{IsAbove}
-use Rattle.admission_core.proofs.TreeLemmas.{above_refl, above_trans, parent_above, parent_over, over_above}
+use Rattle.admission_core.specs.States.{IsAbove, IsOver}
+use Rattle.admission_core.proofs.TreeLemmas.{above_refl, above_trans, over_above, over_parent, parent_above, parent_over, root_lowest}
 use Rattle.tree_ways.specs.Ways.{LeadsTo, longest, room_below}
 
 module _ (nodes : List (List Elem)) (tree : IsTreeOfPaths nodes) where
@@ -21,6 +21,19 @@ module _ (nodes : List (List Elem)) (tree : IsTreeOfPaths nodes) where
   not_yet n c end way h same =
       let over = over_above nodes tree n c end (parent_over nodes tree n c h.0) (next_above n c end way h) in
       over.other same
+
+  -- from a node that lies strictly below another, the parent is that one or lies strictly below it
+  pub still_over : (n m c : ℕ) → IsParent nodes m c → IsOver nodes n c → n ≢ m → IsOver nodes n m
+  still_over n m c parent over other = ⊎_elim (λ same. absurd (other same)) (λ more. more) (over_parent nodes tree n m c parent over)
+
+  pub up_above : (m c end : ℕ) → IsParent nodes m c → IsAbove nodes c end → IsAbove nodes m end
+  up_above m c end parent above = above_trans nodes tree m c end (parent_above nodes tree m c parent) above
+
+  pub not_over_root : (n : ℕ) → ¬ IsOver nodes n 0
+  not_over_root n over = over.other (root_lowest nodes tree n over.above)
+
+  pub over_end : (n end : ℕ) → IsOver nodes n end → IsAbove nodes end end
+  over_end n end over = above_refl nodes tree end over.above.lower
 
   -- two prefixes of one path that end in one element more than a third are one
   same_next : (a path : List Elem) (e f : Elem) → IsPrefix (a ++ e ∷ []) path → IsPrefix (a ++ f ∷ []) path → e ≡ f

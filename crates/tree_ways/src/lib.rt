@@ -9,5 +9,5 @@ mod wild;
 pub use laws::{
     room_below_shrinks, siblings_lie_apart, the_test_of_effects_is_safe, ways_lead_down,
 };
-pub use way::way_below_root;
+pub use way::{next_toward, way_below_root};
 pub use wild::is_solid;

@@ -1,0 +1,27 @@
+-- Who has locked a node and taken its content out of its slot has it in hand.
+use Rattle.std.proofs.Common.{◌≡◌, ℕ, List, [], ◌∷◌, Option, Some, None, refl, sym, ap, subst, ◌∙◌}
+use Rattle.twe_limits.specs.Limits.{Bounds}
+use Rattle.floor_rule.proofs.Puts.{some_one}
+use Rattle.admission_core.specs.States.{Activity, Record}
+use Rattle.tree_table.specs.declared.slot.TreeSlot.{TreeSlot}
+use Rattle.tree_table.specs.declared.slot.TreeSlot.TheVariants as kinds
+use Rattle.tree_table.specs.Layout.{content_place}
+use Rattle.tree_table.specs.Seats.{HasContent, TookNode, TreeSeat, locked_view}
+use Rattle.tree_table.specs.TreeOf.{content_in}
+use Rattle.tree_floor.specs.Contents.{HasTakenContent}
+use Rattle.tree_admit.specs.Going.{HasLocked}
+use Rattle.tree_admit.proofs.Contents.{content_here}
+
+module _ (lim : Bounds) (before : TreeSeat) (n : ℕ) (next : Activity) (mid : TreeSeat) (took : TookNode lim before n next mid) where
+  pub took_known : content_in mid.0.kept n ≡ Some took.records
+  took_known = subst (λ (me : TreeSeat). content_in me.0.kept n ≡ Some took.records) (sym took.seat) (content_here n (Some took.records) before.0.kept)
+
+  pub took_content : HasContent lim mid n before.1
+  took_content = record { content = took.records; has = took_known; slot = ap (λ (me : TreeSeat). me.1) took.seat }
+
+  pub took_locked : (content : List Record) (after : TreeSeat) → HasTakenContent lim mid n content before.1 after → HasLocked lim before n next content after
+  took_locked content after taken =
+      let same : took.records ≡ content = some_one (sym took_known ∙ taken.known) in
+      taken.seat
+      ∙ (ap (λ (me : TreeSeat). (me.0, (content_place lim n, kinds.Task None) ∷ before.1)) took.seat
+      ∙ ap (λ (records : List Record). (locked_view before.0 n records next, (content_place lim n, kinds.Task None) ∷ before.1)) same)

@@ -1,0 +1,17 @@
+-- The stand has only followed waits, and they led from the first task to the one that was reached.
+use Rattle.std.proofs.Common.{◌≡◌, ◌≢◌, ◌-◌}
+use Rattle.floor_table.specs.declared.view.SeatKind.TheVariants.{Spent}
+use Rattle.tree_admit.specs.Bars.{IsLedTo}
+use Rattle.tree_admit.specs.Going.{HasOnlyFollowed}
+use Rattle.tree_admit.proofs.chains.follow_to.Given as goal
+
+abbrev pub invariant-loop-at : goal.invariant-loop-at
+invariant-loop-at g l = record {
+  led : IsLedTo l.stand.me.0 l.from l.at;
+  only : HasOnlyFollowed l.fn.stand.me l.stand.me;
+  here : l.stand.table_id ≡ l.fn.stand.table_id;
+  id : l.stand.id ≡ l.fn.stand.id;
+}
+
+abbrev pub decreases-loop-at : goal.decreases-loop-at
+decreases-loop-at g l = l.tasks - l.at

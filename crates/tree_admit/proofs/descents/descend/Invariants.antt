@@ -1,0 +1,18 @@
+-- The stand holds one node above the place, alone.
+use Rattle.std.proofs.Common.{◌≡◌}
+use Rattle.admission_core.specs.States.{IsAbove}
+use Rattle.tree_ways.specs.Ways.{room_below}
+use Rattle.tree_admit.specs.Errands.{errand_at}
+use Rattle.tree_admit.specs.Going.{HasNode}
+use Rattle.tree_admit.proofs.descents.descend.Given as goal
+
+abbrev pub invariant-loop-node : goal.invariant-loop-node
+invariant-loop-node g l = record {
+  above : IsAbove g.N.Planted.nodes l.node l.errand.place;
+  has : HasNode g.N.Named.lim l.fn.stand.me.0 l.fn.stand.me.1 (errand_at l.errand l.effect l.node) l.node l.content l.stand.me;
+  here : l.stand.table_id ≡ l.fn.stand.table_id;
+  id : l.stand.id ≡ l.fn.stand.id;
+}
+
+abbrev pub decreases-loop-node : goal.decreases-loop-node
+decreases-loop-node g l = room_below g.N.Planted.nodes l.node

@@ -1,0 +1,63 @@
+//! Locking a node, however often one has to try. Who has a lock in the tree waits for none above it, so nobody waits for long.
+ghost use Rattle.std.specs.Prelude.{◌≡◌, ◌<◌, length};
+ghost use mathlib.Core.Option.{none, some};
+ghost use Rattle.admission_core.specs.States.{Activity};
+ghost use Rattle.tree_table.specs.declared.slot.TreeSlot.TheVariants as kinds;
+ghost use Rattle.tree_table.specs.Seats.{MayLock};
+ghost use Rattle.tree_admit.specs.Going.{HasLocked};
+
+use floor_table::Named;
+use std::sync::Wait;
+use std::thread;
+use tree_floor::{Floor, Stand};
+use tree_table::{Errand, NodeContent, Planted};
+
+/// Locks the root for an errand, and returns its content.
+pub(crate) fn lock_root<N: Named + Planted, R: Wait>(
+    rt: &R,
+    floor: &Floor<N>,
+    stand: &mut Stand,
+    worker: u32,
+    errand: Errand,
+) -> NodeContent
+    requires here { stand.old.table_id ≡ floor.now }
+    requires root { 0 < length N.nodes }
+    requires worker { worker ≡ stand.old.me.0.floor.worker }
+    requires may { (next : Activity) × MayLock N.nodes stand.old.me.0 (some (kinds.Errand errand)) 0 next }
+    ensures locked { (next : Activity) → MayLock N.nodes stand.old.me.0 (some (kinds.Errand errand)) 0 next
+        → HasLocked N.lim stand.old.me 0 next result stand.new.me }
+    ensures same { (stand.new.table_id ≡ stand.old.table_id) × (stand.new.id ≡ stand.old.id) }
+{
+    for _ in rt.forever() {
+        if floor.enter(stand, worker, errand) {
+            return floor.take_content(stand, 0);
+        }
+        thread::yield_now();
+    }
+    unreachable!()
+}
+
+/// Locks a node whose parent the stand holds, and returns its content.
+pub(crate) fn lock_child<N: Named + Planted, R: Wait>(
+    rt: &R,
+    floor: &Floor<N>,
+    stand: &mut Stand,
+    worker: u32,
+    node: u32,
+) -> NodeContent
+    requires here { stand.old.table_id ≡ floor.now }
+    requires node { node < length N.nodes }
+    requires worker { worker ≡ stand.old.me.0.floor.worker }
+    requires may { (next : Activity) × MayLock N.nodes stand.old.me.0 none node next }
+    ensures locked { (next : Activity) → MayLock N.nodes stand.old.me.0 none node next
+        → HasLocked N.lim stand.old.me node next result stand.new.me }
+    ensures same { (stand.new.table_id ≡ stand.old.table_id) × (stand.new.id ≡ stand.old.id) }
+{
+    for _ in rt.forever() {
+        if floor.go_down(stand, worker, node) {
+            return floor.take_content(stand, node);
+        }
+        thread::yield_now();
+    }
+    unreachable!()
+}
