@@ -36,7 +36,6 @@ ends_stand n m elems tail c = nat_le (n + m) (length c) && (each_stands elems (t
 
 ends_in : (n m : ℕ) (elems tail : List Elem) (c : ConcretePath) → ends_stand n m elems tail c ≡ true
     → ends_stand n m (map (elem_under zeros) elems) (map (elem_under zeros) tail) c ≡ true
-ends_in : (n m : ℕ) (elems tail : List Elem) (c : ConcretePath) → ends_stand n m elems tail c ≡ true → ends_stand n m (map (elem_under zeros) elems) (map (elem_under zeros) tail) c ≡ true
 ends_in n m elems tail c h =
     let parts = and_parts _ _ h in
     let ends = and_parts _ _ parts.1 in
@@ -44,7 +43,6 @@ ends_in n m elems tail c h =
 
 both_in : (elems tail : List Elem) (c : ConcretePath) → both_ends_stand elems tail c ≡ true
     → both_ends_stand (map (elem_under zeros) elems) (map (elem_under zeros) tail) c ≡ true
-both_in : (elems tail : List Elem) (c : ConcretePath) → both_ends_stand elems tail c ≡ true → both_ends_stand (map (elem_under zeros) elems) (map (elem_under zeros) tail) c ≡ true
 both_in elems tail c h =
     let front = map (elem_under zeros) elems in
     let back = map (elem_under zeros) tail in
@@ -54,8 +52,6 @@ both_in elems tail c h =
 
 set_in : (elems : List Elem) (star : Bool) (tail : List Elem) (c : ConcretePath) → InSet (written elems star tail) c
     → InSet (under zeros (written elems star tail)) c
-    (subst (λ (m : ℕ). ends_stand (length elems) m front back c ≡ true) (sym (length-map tail (elem_under zeros))) (ends_in (length elems) (length tail) elems tail c h))
-set_in : (elems : List Elem) (star : Bool) (tail : List Elem) (c : ConcretePath) → InSet (written elems star tail) c → InSet (under zeros (written elems star tail)) c
 set_in elems true tail c h = both_in elems tail c h
 set_in elems false tail c h = each_in elems c h
 

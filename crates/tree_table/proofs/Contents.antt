@@ -7,8 +7,6 @@ use Rattle.std.proofs.lemmas.Grind.{reverse_onto}
 use Rattle.std.proofs.lemmas.List.{drop_all, get_or-reverse, length-drop, length-reverse, reverse-append, take-append-drop}
 use Rattle.std.proofs.lemmas.Option.{slice_get-get_or, slice_get_past}
 use Rattle.std.proofs.Math.Seq.{drop-append_seam}
-use Rattle.std.specs.Prelude.{◌+◌, ◌≤◌, ◌==◌, ◌||◌, nat_lt}
-use Rattle.std.proofs.lemmas.Bool.{false≢true, ltb-false}
 use Rattle.effect_sets.specs.declared.effects.Effect.{Effect}
 use Rattle.effect_sets.specs.Interference.{statically_interferes}
 use Rattle.floor_rule.proofs.Puts.{none_some, some_one}
@@ -50,8 +48,6 @@ without_reversed r (x ∷ xs) =
   where
     by : (b : Bool) → reverse (without r xs) ≡ without r (reverse xs)
         → reverse (if b then without r xs else x ∷ without r xs) ≡ without r (reverse xs) ++ (if b then [] else x ∷ [])
-    let parts : without r (reverse (x ∷ xs)) ≡ without r (reverse xs) ++ without r (x ∷ []) = ap (without r) (reverse_onto xs x []) ∙ without_append r (reverse xs) (x ∷ []) in
-    by : (b : Bool) → reverse (without r xs) ≡ without r (reverse xs) → reverse (if b then without r xs else x ∷ without r xs) ≡ without r (reverse xs) ++ (if b then [] else x ∷ [])
     by true others = others ∙ sym (append-nil (without r (reverse xs)))
     by false others = reverse_onto (without r xs) x [] ∙ ap (λ (l : List Record). l ++ x ∷ []) others
 
@@ -72,7 +68,6 @@ found_among r (x ∷ xs) = (by (same_record x r) refl (found_among r xs).0, back
   where
     by : (b : Bool) → same_record x r ≡ b → (list_any (λ y. same_record y r) xs ≡ true → IsAmong r xs)
         → (b || list_any (λ y. same_record y r) xs) ≡ true → IsAmong r (x ∷ xs)
-    by : (b : Bool) → same_record x r ≡ b → (list_any (λ y. same_record y r) xs ≡ true → IsAmong r xs) → (b || list_any (λ y. same_record y r) xs) ≡ true → IsAmong r (x ∷ xs)
     by true is others found = inl (sym ((record_decided x r).0 is))
     by false is others found = inr (others found)
 
@@ -173,6 +168,3 @@ module _ {X : Type 0} where
 
   pub past_the_end : (l : List X) (at : ℕ) → length l ≤ at → None ≡ slice_get (reverse l) at
   past_the_end l at past = sym (slice_get_past (reverse l) at (omega (arith, past, length-reverse l)))
-pub all_pass : (waits : List WaitFact) (t : ℕ) (e : Effect) (l : List Record) → position (meets t e) l ≡ None → (r : Record) → IsAmong r l → IsKnownToPass waits t e r
-    (passed_by (meets t e) l (length l) (no_position (meets t e) l none) r (subst (λ (xs : List Record). IsAmong r xs) (sym (take_all (length l) l (omega arith))) among))
-pub first_pass : (waits : List WaitFact) (t : ℕ) (e : Effect) (l : List Record) (k : ℕ) → position (meets t e) l ≡ Some k → (r : Record) → IsAmong r (take k l) → IsKnownToPass waits t e r

@@ -78,14 +78,6 @@ fn record_from_start(records: &[NodeRecord], at: usize) -> Option<&NodeRecord>
     ensures { option_copied result ≡ slice_get records.now at }
 {
     records.get(at)
-/// How many records come before the first that the task meets with this effect, from the last on but for `from` of them.
-fn first_met(records: &[NodeRecord], from: usize, task: u32, effect: &Effect) -> Option<usize>
-    ensures { result ≡ position (meets task effect.now) (drop from (reverse records.now)) }
-    records
-        .iter()
-        .rev()
-        .skip(from)
-        .position(|r| meets(r, task, effect))
 }
 
 /// The record at this index, counted from the last one.
@@ -97,7 +89,6 @@ fn record_at(records: &[NodeRecord], at: usize) -> Option<&NodeRecord>
     } else {
         None
     }
-    records.iter().rev().nth(at)
 }
 
 impl NodeContent {
@@ -163,7 +154,6 @@ impl NodeContent {
     {
         let left = all_but(self.records.as_slice(), from);
         let after = count_after_met(left, task, effect)?;
-        let after = first_met(self.records.as_slice(), from, task, effect)?;
         Some(from + after)
     }
 
