@@ -16,8 +16,7 @@ pub mod Locks
 pub mod Unlocks
 -- Whether two records are the same; records without one.
 pub mod Withouts
--- Effects that are apart; what lies in the slot of a node.
-pub mod Apart
+-- What lies in the slot of a node.
 pub mod Contents
 -- Placing, removing, and finding that a node is clear.
 pub mod Marks

@@ -4,7 +4,6 @@ pub mod Holds
 pub mod Seats
 pub mod Plays
 pub mod Without
-pub mod Meeting
 pub mod RecordSeats
 pub mod Effects
 pub mod Follows

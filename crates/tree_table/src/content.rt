@@ -1,23 +1,19 @@
-//! What lies in the slot of a node: the records that stand there, and notes of who was held up there.
-ghost use Rattle.std.specs.Prelude.{◌≡◌, ◌==◌, ◌+◌, [], ◌∷◌, OnOk, OnErr, drop, length, option_copied, option_map, reverse, slice_get};
-ghost use Rattle.std.specs.List.{list_any, position};
-ghost use Rattle.tree_table.specs.Meeting.{meets};
+//! What lies in the slot of a node: the records that stand there.
+ghost use Rattle.std.specs.Prelude.{◌≡◌, [], ◌∷◌, OnOk, OnErr, length, option_copied, reverse, slice_get};
+ghost use Rattle.std.specs.List.{list_any};
 ghost use Rattle.tree_table.specs.Without.{same_record, without};
 
 use crate::record::NodeRecord;
-use effect_sets::{Effect, interferes};
+use effect_sets::Effect;
 use std::alloc::Global;
 use std::marker::Model;
 use twe_io::Memory;
 
-/// The records that stand at a node, the latest first, and the numbers of tasks that were held up there. Contracts see the
-/// records alone.
+/// The records that stand at a node, the latest first.
 #[derive(Debug, Drop)]
 pub struct NodeContent {
     // The latest is the last.
     records: Vec<NodeRecord>,
-    // Tasks that are to be looked at again once a record goes.
-    notes: Vec<u32>,
 }
 
 impl Model for NodeContent {
@@ -44,35 +40,6 @@ fn has_record(records: &[NodeRecord], task: u32, effect: &Effect, node: u32) -> 
     records.iter().rev().any(|r| r.is_of(task, effect, node))
 }
 
-/// Whether a record of this task is there. The last is looked at first.
-fn has_record_of(records: &[NodeRecord], task: u32) -> bool
-    ensures { result ≡ list_any (λ r. r.task == task) (reverse records.now) }
-{
-    records.iter().rev().any(|r| r.task() == task)
-}
-
-/// Whether a record is of another task than this one and interferes with this effect.
-fn meets(r: &NodeRecord, task: u32, effect: &Effect) -> bool
-    ensures { result ≡ meets task effect.now r.now }
-{
-    r.task() != task && interferes(r.effect(), effect)
-}
-
-/// The records but for the last `count` of them; none if there are no more.
-fn all_but(records: &[NodeRecord], count: usize) -> &[NodeRecord]
-    ensures { reverse result.now ≡ drop count (reverse records.now) }
-{
-    let left = records.len().saturating_sub(count);
-    &records[..left]
-}
-
-/// How many records come after the last that the task meets with this effect.
-fn count_after_met(records: &[NodeRecord], task: u32, effect: &Effect) -> Option<usize>
-    ensures { result ≡ position (meets task effect.now) (reverse records.now) }
-{
-    records.iter().rev().position(|r| meets(r, task, effect))
-}
-
 /// The record at this index.
 fn record_from_start(records: &[NodeRecord], at: usize) -> Option<&NodeRecord>
     ensures { option_copied result ≡ slice_get records.now at }
@@ -92,13 +59,12 @@ fn record_at(records: &[NodeRecord], at: usize) -> Option<&NodeRecord>
 }
 
 impl NodeContent {
-    /// No records, and no notes. It takes no memory.
+    /// No records. It takes no memory.
     pub fn new(alloc: Global) -> Self
         ensures { result ≡ [] }
     {
         NodeContent {
             records: Vec::new(alloc),
-            notes: Vec::new(alloc),
         }
     }
 
@@ -138,37 +104,5 @@ impl NodeContent {
         ensures { result ≡ list_any (λ r. same_record r (record { task = task; effect = effect.now; node = node })) self.now }
     {
         has_record(self.records.as_slice(), task, effect, node)
-    }
-
-    /// Whether a record of this task is there.
-    pub fn has_of(&self, task: u32) -> bool
-        ensures { result ≡ list_any (λ r. r.task == task) self.now }
-    {
-        has_record_of(self.records.as_slice(), task)
-    }
-
-    /// The index of the first record, from index `from` on, that is of another task than this one and interferes with this
-    /// effect; `None` if there is none.
-    pub fn next_met(&self, from: usize, task: u32, effect: &Effect) -> Option<usize>
-        ensures { result ≡ option_map (λ k. from + k) (position (meets task effect.now) (drop from self.now)) }
-    {
-        let left = all_but(self.records.as_slice(), from);
-        let after = count_after_met(left, task, effect)?;
-        Some(from + after)
-    }
-
-    /// Notes a task, which is to be looked at again once a record goes. The records stay, also if memory runs out.
-    pub fn note(&mut self, task: u32) -> Result<(), Memory>
-        ensures { self.new ≡ self.old }
-    {
-        self.notes.push(task)?;
-        Ok(())
-    }
-
-    /// Takes the last task that is noted. The records stay. It takes no memory.
-    pub fn take_note(&mut self) -> Option<u32>
-        ensures { self.new ≡ self.old }
-    {
-        self.notes.pop()
     }
 }

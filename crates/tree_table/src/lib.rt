@@ -30,7 +30,7 @@ pub use chain_laws::{
     waits_are_followed_one_after_the_other, what_passed_still_passes,
 };
 pub use content::NodeContent;
-pub use content_laws::{what_is_found_is_there, what_is_not_met_passes};
+pub use content_laws::what_is_found_is_there;
 pub use effect_laws::{
     a_record_stays, a_task_has_left_none_if_no_effect_has, a_task_is_placed_if_each_effect_is,
     the_effects_of_a_task_are_placed_one_by_one, the_records_of_other_tasks_stay,
