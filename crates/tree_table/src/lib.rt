@@ -4,6 +4,7 @@
 #![tactic(auto)]
 
 mod activity;
+mod brand;
 mod chain_laws;
 mod content;
 mod content_laws;
