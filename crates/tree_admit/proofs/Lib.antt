@@ -13,3 +13,4 @@ pub mod Stepping
 pub mod Descending
 pub mod Putting
 pub mod Wandering
+pub mod Looking

@@ -1,9 +1,8 @@
 -- Who has locked a node and taken its content out of its slot has it in hand.
-use Rattle.std.proofs.Common.{◌≡◌, ℕ, List, [], ◌∷◌, Option, Some, None, refl, sym, ap, subst, ◌∙◌}
+use Rattle.std.proofs.Common.{◌≡◌, ℕ, List, ◌∷◌, Some, None, sym, ap, subst, ◌∙◌}
 use Rattle.twe_limits.specs.Limits.{Bounds}
 use Rattle.floor_rule.proofs.Puts.{some_one}
 use Rattle.admission_core.specs.States.{Activity, Record}
-use Rattle.tree_table.specs.declared.slot.TreeSlot.{TreeSlot}
 use Rattle.tree_table.specs.declared.slot.TreeSlot.TheVariants as kinds
 use Rattle.tree_table.specs.Layout.{content_place}
 use Rattle.tree_table.specs.Seats.{HasContent, TookNode, TreeSeat, locked_view}

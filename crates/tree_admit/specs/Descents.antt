@@ -1,5 +1,5 @@
 -- What a stand has to have for each part of its way, and what it has then.
-use Rattle.std.specs.Prelude.{◌≡◌, ◌≢◌, ◌⊎◌, ℕ, Bool, true, false, List, [], ◌∷◌, None, Some, is_some}
+use Rattle.std.specs.Prelude.{◌≡◌, ◌≢◌, ◌⊎◌, ℕ, Bool, true, false, List, [], ◌∷◌, None, is_some}
 use Rattle.region_paths.specs.declared.elements.Elem.{Elem}
 use Rattle.effect_sets.specs.declared.effects.Effect.{Effect}
 use Rattle.effect_tree.specs.Place.{IsSolid}
@@ -19,8 +19,8 @@ use Rattle.tree_table.specs.TreeOf.{content_in}
 use Rattle.tree_admit.specs.declared.bars.Attempt.{Attempt}
 use Rattle.tree_admit.specs.declared.bars.Attempt.TheVariants.{Placed, Stood, Barred}
 use Rattle.tree_admit.specs.Bars.{WasBarred}
-use Rattle.tree_admit.specs.Going.{HasLeft, HasNode}
-use Rattle.tree_admit.specs.Errands.{AllPass, KnowsErrand, record_of, with_clear, with_placed, with_removed}
+use Rattle.tree_admit.specs.Going.{HasLeft, HasNode, IsOutside}
+use Rattle.tree_admit.specs.Errands.{AllPass, KnowsErrand, errand_at, record_of, with_clear, with_placed, with_removed}
 
 -- The seat holds node n alone on its way, each record there passes, and c is the next node on the way. The earlier view had no
 -- content of node n.
@@ -95,3 +95,10 @@ HasTried earlier rest errand e (Barred bar) me = HasLeft earlier rest None me ×
 abbrev pub HasTakenOut : TreeView → List (ℕ × TreeSlot) → Errand → Effect → Bool → TreeSeat → Type 0
 HasTakenOut earlier rest errand e true me = HasLeft (with_removed (record_of errand e) earlier) rest None me
 HasTakenOut earlier rest errand e false me = HasLeft (with_clear (record_of errand e) earlier) rest None me
+
+-- The seat has come to its place, and does nothing else in the tree. It knows its errand.
+pub record MayLookAround (nodes : List (List Elem)) (lim : Bounds) (earlier : TreeView) (rest : List (ℕ × TreeSlot)) (errand : Errand) (e : Effect) (content : List Record) (me : TreeSeat) : Type 0 where
+  pub has : HasNode lim earlier rest (errand_at errand e errand.place) errand.place content me
+  pub knows : KnowsErrand nodes earlier errand e
+  pub child : IsOfChild errand.kind knows.turn
+  pub outside : IsOutside earlier

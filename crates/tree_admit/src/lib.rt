@@ -10,8 +10,9 @@ mod footing;
 mod laws;
 mod locking;
 mod testing;
+mod walks;
 
 pub use bars::{Attempt, Bar};
-pub use errands::take_out_one;
+pub use errands::{place_one, take_out_one};
 pub use footing::Footing;
 pub use laws::views_only_learn;

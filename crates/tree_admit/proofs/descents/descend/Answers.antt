@@ -1,5 +1,5 @@
 -- The worker tests the node, and locks the next one on its way or comes back.
-use Rattle.std.proofs.Common.{◌≡◌, ℕ, List, None, refl, sym, subst, ◌∙◌}
+use Rattle.std.proofs.Common.{List, None, subst, ◌∙◌}
 use Rattle.region_paths.specs.declared.elements.Elem.{Elem}
 use Rattle.prefix_tree.specs.Nodes.{IsParent, IsTreeOfPaths}
 use Rattle.admission_core.specs.States.{IsAbove}

@@ -1,5 +1,5 @@
 -- The record is put in front of the content, and then marked.
-use Rattle.std.proofs.Common.{◌≡◌, List, [], ◌∷◌, None, refl, sym, ap, subst, ◌∙◌}
+use Rattle.std.proofs.Common.{◌≡◌, List, ◌∷◌, None, refl, sym, ap, subst, ◌∙◌}
 use Rattle.admission_core.specs.States.{Record}
 use Rattle.node_rule.specs.LockSteps.{stopped}
 use Rattle.tree_admit.specs.Errands.{record_of, with_placed}

@@ -1,6 +1,6 @@
 -- Nobody is in the way of who takes a record out.
 use Rattle.std.proofs.Common.{[]}
-use Rattle.tree_admit.proofs.Putting.{arrived, not_for_both}
+use Rattle.tree_admit.proofs.Putting.{arrived}
 use Rattle.tree_admit.proofs.errands.take_out_one.Goals as goal
 
 pub take_out-requires-clause-may : goal.take_out-requires-clause-may

@@ -1,5 +1,5 @@
 -- The content is that of the node that was locked.
-use Rattle.std.proofs.Common.{ℕ, List, subst}
+use Rattle.std.proofs.Common.{subst}
 use mathlib.Core.Option.{none}
 use Rattle.admission_core.specs.States.{Activity}
 use Rattle.tree_table.specs.Seats.{MayLock, TookNode, TreeSeat}
