@@ -1,5 +1,5 @@
 -- What a worker may do at its place once it has looked around.
-use Rattle.std.proofs.Common.{◌≡◌, ◌⊎◌, ℕ, List, [], ◌∷◌, None, refl, sym, ◌∙◌, inl, inr}
+use Rattle.std.proofs.Common.{◌≡◌, ◌⊎◌, ℕ, List, [], ◌∷◌, None, refl, sym, subst, ◌∙◌, inl, inr}
 use Rattle.std.specs.Prelude.{IfErr, IfOk, Result, Ok, Err}
 use Rattle.region_paths.specs.declared.elements.Elem.{Elem}
 use Rattle.effect_sets.specs.declared.effects.Effect.{Effect}
@@ -13,7 +13,7 @@ use Rattle.tree_table.specs.declared.slot.ErrandKind.{ErrandKind}
 use Rattle.tree_table.specs.declared.slot.ErrandKind.TheVariants.{Admission, Placing, Removal}
 use Rattle.tree_table.specs.declared.slot.TreeSlot.{TreeSlot}
 use Rattle.tree_table.specs.declared.view.TreeView.{TreeView}
-use Rattle.tree_table.specs.Seats.{TreeSeat, purpose_for}
+use Rattle.tree_table.specs.Seats.{HasOwn, TreeSeat, purpose_for}
 use Rattle.tree_admit.specs.Going.{HasLeft, HasNode, HasOnlyFollowed, IsOutside}
 use Rattle.tree_admit.specs.Errands.{AllPass}
 use Rattle.tree_admit.specs.Descents.{HasWalkedBelow, IsOfChild, MayLookAround, MayPut, MayPutFor, MayWalkBelow, walking}
@@ -31,6 +31,10 @@ put_for nodes v t e turn place done content Removal child pass below = absurd ch
 pub on_ok : {A E : Type 0} (P Q : A → Type 0) (r : Result A E) → ((x : A) → P x → Q x) → IfOk r P → IfOk r Q
 on_ok P Q (Ok x) f h = f x h
 on_ok P Q (Err x) f h = h
+
+pub on_both : {A E : Type 0} (P Q S : A → Type 0) (r : Result A E) → ((x : A) → P x → Q x → S x) → IfOk r P → IfOk r Q → IfOk r S
+on_both P Q S (Ok x) f h k = f x h k
+on_both P Q S (Err x) f h k = h
 
 pub on_err : {A E : Type 0} (P Q : E → Type 0) (r : Result A E) → ((x : E) → P x → Q x) → IfErr r P → IfErr r Q
 on_err P Q (Ok x) f h = h
@@ -53,15 +57,16 @@ module _ (nodes : List (List Elem)) (lim : Bounds) (earlier : TreeView) (rest : 
     none = may.outside.none errand.place;
   }
 
-  pub walked_ready : (then : List Record) (final : TreeSeat) → HasWalkedBelow nodes lim earlier rest errand e errand.place [] [] then final
+  pub walked_ready : (then : List Record) (final : TreeSeat) → HasWalkedBelow nodes lim earlier rest errand e errand.place [] [] then final → then ≡ content
       → (done : List ℕ) × MayPut nodes lim earlier rest errand e done then final
-  walked_ready then final walk = (
+  walked_ready then final walk same = (
     walk.after,
     record {
       has = walk.has;
       knows = may.knows;
       may = put_for nodes final.0 errand.task e may.knows.turn errand.place walk.after then errand.kind may.child walk.pass (λ is. inr walk.finished.all);
       none = may.outside.none errand.place;
+      own = subst (λ (l : List Record). HasOwn earlier errand.place l) (sym same) may.own;
     },
   )
 
@@ -74,5 +79,6 @@ module _ (nodes : List (List Elem)) (lim : Bounds) (earlier : TreeView) (rest : 
       knows = may.knows;
       may = put_for nodes final.0 errand.task e may.knows.turn errand.place [] content errand.kind may.child pass (λ is. inl (solid is));
       none = may.outside.none errand.place;
+      own = may.own;
     },
   )

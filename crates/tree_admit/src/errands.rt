@@ -5,6 +5,7 @@ ghost use Rattle.floor_table.specs.declared.view.SeatKind.TheVariants.{Spent};
 ghost use Rattle.tree_table.specs.declared.slot.ErrandKind.TheVariants.{Admission, Removal};
 ghost use Rattle.tree_table.specs.declared.slot.TreeSlot as slots;
 ghost use Rattle.tree_table.specs.declared.view.TreeView.{TreeView};
+ghost use Rattle.tree_table.specs.Seats.{HasOwn};
 ghost use Rattle.tree_table.specs.TreeOf.{content_in};
 ghost use Rattle.tree_admit.specs.Bars.{WasBarred};
 ghost use Rattle.tree_admit.specs.Descents.{HasTakenOut, HasTried, IsOfChild, MayLookAround, MayPut, MayTakeOutOf, walking};
@@ -68,8 +69,8 @@ pub(crate) fn put<N: Named + Planted>(
     }
 }
 
-/// Takes the record of an errand out at its place, whose content this is, and comes back. Returns whether the record was there. In
-/// both cases the stand knows that it does not stand.
+/// Takes the record of an errand out at its place, whose content this is, and comes back. Returns whether the record was there.
+/// In both cases the stand knows that it does not stand.
 pub(crate) fn take_out<N: Named + Planted>(
     floor: &Floor<N>,
     stand: &mut Stand,
@@ -85,11 +86,12 @@ pub(crate) fn take_out<N: Named + Planted>(
     requires may { (earlier : TreeView) × (rest : List (ℕ × slots.TreeSlot)) × (done : List ℕ)
         × (knows : KnowsErrand N.nodes earlier errand effect.now) × MayTakeOutOf knows.turn
         × HasNode N.lim earlier rest (walking errand effect.now (errand.place ∷ []) done) errand.place content stand.old.me
-        × (content_in earlier.kept errand.place ≡ None) }
+        × (content_in earlier.kept errand.place ≡ None) × HasOwn earlier errand.place content }
     ensures taken { (earlier : TreeView) (rest : List (ℕ × slots.TreeSlot)) (done : List ℕ)
         → (knows : KnowsErrand N.nodes earlier errand effect.now) → MayTakeOutOf knows.turn
         → HasNode N.lim earlier rest (walking errand effect.now (errand.place ∷ []) done) errand.place content stand.old.me
-        → content_in earlier.kept errand.place ≡ None → HasTakenOut earlier rest errand effect.now result stand.new.me }
+        → content_in earlier.kept errand.place ≡ None → HasOwn earlier errand.place content
+        → HasTakenOut earlier rest errand effect.now result stand.new.me }
     ensures same { (stand.new.table_id ≡ stand.old.table_id) × (stand.new.id ≡ stand.old.id) }
 {
     if content.has(errand.task, effect, errand.place) {
@@ -104,8 +106,8 @@ pub(crate) fn take_out<N: Named + Planted>(
     }
 }
 
-/// Takes the record of an effect of a task out of the tree: goes down to its place, takes it out and comes back. Returns whether the
-/// record was there. In both cases the stand knows that it does not stand. It takes no memory.
+/// Takes the record of an effect of a task out of the tree: goes down to its place, takes it out and comes back. Returns whether
+/// the record was there. In both cases the stand knows that it does not stand. It takes no memory.
 pub fn take_out_one<N: Named + Planted, R: Wait>(
     rt: &R,
     floor: &Floor<N>,
@@ -146,8 +148,8 @@ fn goes_below(errand: Errand, effect: &Effect) -> bool
     }
 }
 
-/// Looks at what stands at the place of an errand, whose content this is, and below it if that matters. Returns the content of the
-/// place, at which the stand may place the record then. If a record is a bar, it comes back.
+/// Looks at what stands at the place of an errand, whose content this is, and below it if that matters. Returns the content of
+/// the place, at which the stand may place the record then. If a record is a bar, it comes back.
 fn look_around<N: Named + Planted, R: Wait>(
     rt: &R,
     floor: &Floor<N>,
@@ -164,11 +166,16 @@ fn look_around<N: Named + Planted, R: Wait>(
     requires worker { footing.worker ≡ stand.old.me.0.floor.worker }
     requires tasks { footing.tasks ≡ N.lim.tasks }
     requires node { errand.place < length N.nodes }
-    requires may { (earlier : TreeView) × (rest : List (ℕ × slots.TreeSlot)) × MayLookAround N.nodes N.lim earlier rest errand effect.now content stand.old.me }
-    ensures ready { (earlier : TreeView) (rest : List (ℕ × slots.TreeSlot)) → MayLookAround N.nodes N.lim earlier rest errand effect.now content stand.old.me
-        → IfOk result (λ content. (done : List ℕ) × MayPut N.nodes N.lim earlier rest errand effect.now done content stand.new.me) }
-    ensures barred { (earlier : TreeView) (rest : List (ℕ × slots.TreeSlot)) → MayLookAround N.nodes N.lim earlier rest errand effect.now content stand.old.me
-        → IfErr result (λ bar. HasLeft earlier rest None stand.new.me × (errand.kind ≡ Admission) × WasBarred stand.new.me.0 errand.task effect.now bar) }
+    requires may { (earlier : TreeView) × (rest : List (ℕ × slots.TreeSlot))
+        × MayLookAround N.nodes N.lim earlier rest errand effect.now content stand.old.me }
+    ensures ready { (earlier : TreeView) (rest : List (ℕ × slots.TreeSlot))
+        → MayLookAround N.nodes N.lim earlier rest errand effect.now content stand.old.me
+        → IfOk result (λ content. (done : List ℕ)
+        × MayPut N.nodes N.lim earlier rest errand effect.now done content stand.new.me) }
+    ensures barred { (earlier : TreeView) (rest : List (ℕ × slots.TreeSlot))
+        → MayLookAround N.nodes N.lim earlier rest errand effect.now content stand.old.me
+        → IfErr result (λ bar. HasLeft earlier rest None stand.new.me × (errand.kind ≡ Admission)
+        × WasBarred stand.new.me.0 errand.task effect.now bar) }
     ensures same { (stand.new.table_id ≡ stand.old.table_id) × (stand.new.id ≡ stand.old.id) }
 {
     if goes_below(errand, effect) {
@@ -201,8 +208,8 @@ fn look_around<N: Named + Planted, R: Wait>(
     }
 }
 
-/// Places the record of an effect of a task in the tree: goes down to its place, places it and comes back. The record is made before
-/// the first lock is taken. Whoever admits a task comes back without placing it if another task's record is in the way.
+/// Places the record of an effect of a task in the tree: goes down to its place, places it and comes back. The record is made
+/// before the first lock is taken. Whoever admits a task comes back without placing it if another task's record is in the way.
 pub fn place_one<N: Named + Planted, R: Wait>(
     rt: &R,
     alloc: Global,

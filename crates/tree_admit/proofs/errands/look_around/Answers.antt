@@ -1,7 +1,7 @@
 -- The worker walks below the place, or looks at the place alone.
 use Rattle.std.proofs.Common.{[], ◌∷◌, None}
 use Rattle.tree_admit.specs.Descents.{walking}
-use Rattle.tree_admit.proofs.Looking.{around_walks, arrived_has, looked_ready, on_err, on_ok, walked_ready}
+use Rattle.tree_admit.proofs.Looking.{around_walks, arrived_has, looked_ready, on_both, on_err, walked_ready}
 use Rattle.tree_admit.proofs.Putting.{place_stops}
 use Rattle.tree_admit.proofs.Stepping.{barred_after, in_hand}
 use Rattle.tree_admit.proofs.Steps.{followed_has, gave_left}
@@ -54,8 +54,8 @@ returns-then-goes_below-clause-ready g c = λ earlier rest may.
     let e = c.args.effect.now in
     let content = c.args.content in
     let me = c.args.stand.now.me in
-    on_ok _ _ c.walk_below.result (λ then walk. walked_ready nodes lim earlier rest errand e content me may then c.walk_below.new.stand.me walk)
-    (c.walk_below.ensures.walked earlier rest [] [] (around_walks nodes lim earlier rest errand e content me may))
+    on_both _ _ _ c.walk_below.result (λ then walk same. walked_ready nodes lim earlier rest errand e content me may then c.walk_below.new.stand.me walk same)
+    (c.walk_below.ensures.walked earlier rest [] [] (around_walks nodes lim earlier rest errand e content me may)) c.walk_below.ensures.unchanged
 
 pub returns-then-goes_below-clause-barred : goal.returns-then-goes_below-clause-barred
 returns-then-goes_below-clause-barred g c = λ earlier rest may.
