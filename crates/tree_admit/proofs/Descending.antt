@@ -1,5 +1,5 @@
 -- What a worker may do that holds a node on its way, above the place.
-use Rattle.std.proofs.Common.{◌≡◌, ◌≢◌, ℕ, List, [], ◌∷◌, Option, Some, None, refl, sym, ap, subst, ◌∙◌}
+use Rattle.std.proofs.Common.{◌≢◌, ℕ, List, [], None, ap}
 use Rattle.region_paths.specs.declared.elements.Elem.{Elem}
 use Rattle.effect_sets.specs.declared.effects.Effect.{Effect}
 use Rattle.prefix_tree.specs.Nodes.{IsParent, IsTreeOfPaths}
@@ -7,9 +7,7 @@ use Rattle.twe_limits.specs.Limits.{Bounds}
 use Rattle.admission_core.specs.States.{Activity, IsAbove, Record, held}
 use Rattle.admission_core.proofs.TreeLemmas.{parent_other}
 use Rattle.tree_table.specs.declared.slot.Errand.{Errand}
-use Rattle.tree_table.specs.declared.slot.TreeSlot.{TreeSlot}
-use Rattle.tree_table.specs.declared.view.TreeView.{TreeView}
-use Rattle.tree_table.specs.Seats.{GaveNode, MayStop, TreeSeat, left_to_give, purpose_for}
+use Rattle.tree_table.specs.Seats.{GaveNode, MayStop, TreeSeat, purpose_for}
 use Rattle.tree_admit.specs.Going.{HasLeft, HasNode, IsOutside}
 use Rattle.tree_admit.specs.Errands.{AllPass, errand_at}
 use Rattle.tree_admit.specs.Descents.{MayStepDown}

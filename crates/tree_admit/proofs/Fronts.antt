@@ -1,5 +1,5 @@
 -- Records at the front of a content.
-use Rattle.std.proofs.Common.{◌≡◌, ◌⊎◌, ℕ, zero, suc, ◌+◌, ◌<◌, ◌≤◌, List, [], ◌∷◌, length, take, Option, Some, None, refl, sym, ap, subst, ◌∙◌, inl, inr, ⊎_elim, arith, take_all}
+use Rattle.std.proofs.Common.{◌≡◌, ◌⊎◌, ℕ, zero, suc, ◌+◌, ◌≤◌, List, [], ◌∷◌, length, take, Some, sym, ap, subst, inl, inr, ⊎_elim, arith, take_all}
 use Rattle.std.specs.Prelude.{slice_get}
 use Rattle.admission_core.specs.States.{IsAmong, Record}
 

@@ -1,8 +1,8 @@
 -- A view that learns goes on to know what it knew.
-use Rattle.std.proofs.Common.{◌≡◌, ◌≢◌, ◌⊎◌, ℕ, List, [], ◌∷◌, Some, refl, sym, ap, subst, ◌∙◌, inl, inr, ⊎_elim}
+use Rattle.std.proofs.Common.{◌≡◌, ◌≢◌, ℕ, Some, refl, sym, ap, subst, ◌∙◌, inl, inr, ⊎_elim}
 use Rattle.floor_table.specs.declared.view.View.{View}
 use Rattle.tree_table.specs.declared.view.TreeView.{TreeView}
-use Rattle.admission_core.specs.States.{IsAmong, Record}
+use Rattle.admission_core.specs.States.{Record}
 use Rattle.floor_table.specs.declared.view.SeatKind.{SeatKind}
 use Rattle.floor_table.specs.declared.view.SeatKind.TheVariants.{Spent}
 use Rattle.effect_sets.specs.declared.effects.Effect.{Effect}

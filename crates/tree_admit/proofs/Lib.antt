@@ -12,4 +12,8 @@ pub mod Fronts
 pub mod Stepping
 pub mod Descending
 pub mod Putting
+pub mod Owning
 pub mod Wandering
+pub mod Looking
+-- All effects of a task.
+pub mod Attempts

@@ -1,11 +1,10 @@
 -- What a worker may do at its place, and what it has then.
-use Rattle.std.proofs.Common.{◌≡◌, ◌≢◌, ℕ, Bool, true, false, List, [], ◌∷◌, Option, Some, None, refl, sym, ap, subst, ◌∙◌}
+use Rattle.std.proofs.Common.{◌≡◌, ℕ, Bool, true, false, List, [], ◌∷◌, Some, None, refl, sym, ap, subst, ◌∙◌}
 use Rattle.std.specs.List.{list_any}
 use Rattle.region_paths.specs.declared.elements.Elem.{Elem}
 use Rattle.effect_sets.specs.declared.effects.Effect.{Effect}
 use Rattle.twe_limits.specs.Limits.{Bounds}
-use Rattle.twe_machine.specs.declared.state.TaskStatus.TheVariants as status
-use Rattle.admission_core.specs.States.{Activity, IsAmong, Purpose, Record, Stage, effect_of}
+use Rattle.admission_core.specs.States.{Activity, IsAmong, Purpose, Record, Stage}
 use Rattle.node_rule.specs.FactSteps.{FindsClear}
 use Rattle.node_rule.specs.LockSteps.{stopped}
 use Rattle.tree_table.specs.declared.slot.Errand.{Errand}
@@ -14,16 +13,15 @@ use Rattle.tree_table.specs.declared.slot.ErrandKind.TheVariants.{Admission, Pla
 use Rattle.tree_table.specs.declared.slot.TreeSlot.{TreeSlot}
 use Rattle.tree_table.specs.declared.view.TreeView.{TreeView}
 use Rattle.tree_table.specs.RecordSeats.{MayMark, MayUnmark, clear_view, marked_view, record_about, task_of, unmarked_view}
-use Rattle.tree_table.specs.Seats.{GaveNode, MayStop, TreeSeat, left_to_give, purpose_for, tree_seen, turns_seen}
-use Rattle.tree_table.specs.TreeOf.{content_in}
+use Rattle.tree_table.specs.Seats.{MayStop, TreeSeat, purpose_for, tree_seen, turns_seen}
 use Rattle.tree_table.specs.Without.{same_record, without}
 use Rattle.tree_table.proofs.Contents.{found_among}
-use Rattle.tree_admit.specs.Going.{HasLeft, HasNode}
+use Rattle.tree_admit.specs.Going.{HasNode}
 use Rattle.tree_admit.specs.Errands.{AllPass, KnowsErrand, errand_at, record_of, with_clear, with_placed, with_removed}
-use Rattle.tree_admit.specs.Descents.{MayPut, MayPutFor, MayTakeOutOf, walking}
+use Rattle.tree_admit.specs.Descents.{MayPutFor, MayTakeOutOf, walking}
 use Rattle.tree_admit.proofs.Entering.{come_there, effect_is, has_effect}
 use Rattle.tree_admit.proofs.Marks.{clear_has, may_clear, may_place, may_place_child, may_remove, placed_has, removed_has}
-use Rattle.tree_admit.proofs.Steps.{gave_left, may_stop}
+use Rattle.tree_admit.proofs.Steps.{may_stop}
 
 task_is : (kind : ErrandKind) (t : ℕ) (e : Effect) → task_of (purpose_for kind t e) ≡ t
 task_is Admission t e = refl

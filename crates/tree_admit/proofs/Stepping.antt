@@ -1,26 +1,25 @@
 -- One step down, from a node to its child.
-use Rattle.std.proofs.Common.{◌≡◌, ℕ, List, [], ◌∷◌, Option, Some, None, refl, sym, ap, subst, ◌∙◌, inr, inl}
+use Rattle.std.proofs.Common.{◌≡◌, ℕ, List, ◌∷◌, Option, Some, None, refl, sym, subst, inr}
 use mathlib.Core.Option as core
 use Rattle.region_paths.specs.declared.elements.Elem.{Elem}
 use Rattle.effect_sets.specs.declared.effects.Effect.{Effect}
 use Rattle.twe_limits.specs.Limits.{Bounds}
-use Rattle.admission_core.specs.States.{Activity, IsAmong, Record, Steps, held}
+use Rattle.admission_core.specs.States.{Activity, IsAmong, Record, Steps}
 use Rattle.tree_table.specs.declared.slot.TreeSlot.{TreeSlot}
 use Rattle.tree_table.specs.declared.slot.TreeSlot.TheVariants as kinds
 use Rattle.tree_table.specs.declared.view.TreeView.{TreeView}
 use Rattle.tree_table.specs.Layout.{content_place}
-use Rattle.tree_table.specs.Seats.{GaveNode, MayGoOn, MayLock, MayStop, TreeSeat, left_to_give, unlocked_view}
-use Rattle.tree_table.specs.TreeOf.{content_in}
+use Rattle.tree_table.specs.Seats.{GaveNode, MayGoOn, MayLock, TreeSeat, unlocked_view}
 use Rattle.tree_floor.specs.Contents.{HasBehind, HasInHand}
 use Rattle.tree_admit.specs.declared.bars.Bar.{Bar}
 use Rattle.tree_admit.specs.Bars.{IsBarIn, WasBarred}
-use Rattle.tree_admit.specs.Going.{HasLeft, HasLocked, HasNode, HasOnlyLearned}
+use Rattle.tree_admit.specs.Going.{HasLocked, HasNode, HasOnlyLearned}
 use Rattle.tree_admit.specs.Errands.{come_to}
 use Rattle.tree_admit.specs.Descents.{MayStepDown}
 use Rattle.tree_admit.proofs.Contents.{content_among}
 use Rattle.tree_admit.proofs.Entering.{has_come}
-use Rattle.tree_admit.proofs.Learning.{bar_kept, learned_refl}
-use Rattle.tree_admit.proofs.Steps.{child_alone, gave_left, may_go_down, may_leave_parent, may_stop, parent_known, parent_slots}
+use Rattle.tree_admit.proofs.Learning.{bar_kept}
+use Rattle.tree_admit.proofs.Steps.{child_alone, may_go_down, may_leave_parent, parent_known, parent_slots}
 
 module _ (nodes : List (List Elem)) (lim : Bounds) (earlier : TreeView) (rest : List (ℕ × TreeSlot)) (a : Activity) (n : ℕ) (content : List Record) (c : ℕ) (me : TreeSeat)
     (step : MayStepDown nodes lim earlier rest a n content c me) where

@@ -1,12 +1,11 @@
 -- Who has locked a node and taken its content out of its slot has it in hand.
-use Rattle.std.proofs.Common.{◌≡◌, ℕ, List, [], ◌∷◌, Option, Some, None, refl, sym, ap, subst, ◌∙◌}
+use Rattle.std.proofs.Common.{◌≡◌, ℕ, List, ◌∷◌, Some, None, sym, ap, subst, ◌∙◌}
 use Rattle.twe_limits.specs.Limits.{Bounds}
 use Rattle.floor_rule.proofs.Puts.{some_one}
 use Rattle.admission_core.specs.States.{Activity, Record}
-use Rattle.tree_table.specs.declared.slot.TreeSlot.{TreeSlot}
 use Rattle.tree_table.specs.declared.slot.TreeSlot.TheVariants as kinds
 use Rattle.tree_table.specs.Layout.{content_place}
-use Rattle.tree_table.specs.Seats.{HasContent, TookNode, TreeSeat, locked_view}
+use Rattle.tree_table.specs.Seats.{HasContent, HasOwn, TookNode, TreeSeat, locked_view}
 use Rattle.tree_table.specs.TreeOf.{content_in}
 use Rattle.tree_floor.specs.Contents.{HasTakenContent}
 use Rattle.tree_admit.specs.Going.{HasLocked}
@@ -25,3 +24,7 @@ module _ (lim : Bounds) (before : TreeSeat) (n : ℕ) (next : Activity) (mid : T
       taken.seat
       ∙ (ap (λ (me : TreeSeat). (me.0, (content_place lim n, kinds.Task None) ∷ before.1)) took.seat
       ∙ ap (λ (records : List Record). (locked_view before.0 n records next, (content_place lim n, kinds.Task None) ∷ before.1)) same)
+
+  -- what the seat has placed at the node is there
+  pub took_own : (content : List Record) (after : TreeSeat) → HasTakenContent lim mid n content before.1 after → HasOwn before.0 n content
+  took_own content after taken = subst (λ (l : List Record). HasOwn before.0 n l) (some_one (sym took_known ∙ taken.known)) took.own

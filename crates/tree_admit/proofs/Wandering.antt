@@ -1,5 +1,5 @@
 -- A worker that walks below a node: what it has before each child, and what it may do.
-use Rattle.std.proofs.Common.{◌≡◌, ◌≢◌, ◌<◌, ◌+◌, ℕ, List, [], ◌∷◌, length, get_or, Option, Some, None, refl, sym, ap, subst, ◌∙◌, inl, inr, ⊎_elim, arith}
+use Rattle.std.proofs.Common.{◌≡◌, ◌≢◌, ◌<◌, ◌+◌, ℕ, List, [], ◌∷◌, length, get_or, Some, None, refl, sym, ap, subst, ◌∙◌, ⊎_elim}
 use Rattle.std.specs.Prelude.{Contains}
 use Rattle.std.specs.List.Sorted.{IsStrictlyIncreasing}
 use Rattle.std.proofs.lemmas.Bool.{cases_eq}
@@ -9,21 +9,20 @@ use Rattle.effect_sets.specs.declared.effects.Effect.{Effect}
 use Rattle.effect_tree.specs.Place.{IsSolid}
 use Rattle.prefix_tree.specs.Nodes.{IsParent, IsTreeOfPaths}
 use Rattle.twe_limits.specs.Limits.{Bounds}
-use Rattle.admission_core.specs.States.{Activity, Admit, Child, Remove, IsAbove, IsAmong, IsOver, Leaves, Purpose, Record, Walks}
+use Rattle.admission_core.specs.States.{Activity, Admit, Child, Remove, IsOver, Leaves, Purpose, Record}
 use Rattle.admission_core.proofs.TreeLemmas.{over_above, parent_other, parent_over}
-use Rattle.node_rule.specs.LockSteps.{PassesHere}
 use Rattle.tree_table.specs.declared.slot.Errand.{Errand}
 use Rattle.tree_table.specs.declared.slot.ErrandKind.{ErrandKind}
-use Rattle.tree_table.specs.declared.slot.ErrandKind.TheVariants.{Admission, Placing, Removal}
+use Rattle.tree_table.specs.declared.slot.ErrandKind.TheVariants.{Admission}
 use Rattle.tree_table.specs.declared.slot.TreeSlot.{TreeSlot}
 use Rattle.tree_table.specs.declared.view.TreeView.{TreeView}
 use Rattle.tree_table.specs.Seats.{GaveNode, MayGoOn, MayLock, MayStop, TreeSeat, left_to_give, purpose_for, unlocked_view}
 use Rattle.tree_table.specs.TreeOf.{content_in}
 use Rattle.tree_admit.specs.Going.{HasLeft, HasLocked, HasNode, HasOnlyFollowed, HasOnlyLearned}
 use Rattle.tree_admit.specs.Errands.{AllPass}
-use Rattle.tree_admit.specs.Descents.{HasFinishedBelow, HasWalkedBelow, MayWalkBelow, NoneBelow, walking}
+use Rattle.tree_admit.specs.Descents.{HasWalkedBelow, MayWalkBelow, walking}
 use Rattle.tree_admit.proofs.Contents.{content_else, content_here}
-use Rattle.tree_admit.proofs.Learning.{learned_trans, pass_kept}
+use Rattle.tree_admit.proofs.Learning.{pass_kept}
 use Rattle.tree_admit.proofs.Steps.{followed_has, gave_left, left_has, locked_has, may_stop, may_walk_down, may_walk_up, unlocked_learned, walked_has}
 use Rattle.tree_admit.proofs.Finishing.{HasWalked, all_walked, child_at, next_is_unfinished, none_below_next, nothing_walked, walked_more}
 

@@ -1,5 +1,5 @@
 -- What a stand has to have for each part of its way, and what it has then.
-use Rattle.std.specs.Prelude.{◌≡◌, ◌≢◌, ◌⊎◌, ℕ, Bool, true, false, List, [], ◌∷◌, None, Some, is_some}
+use Rattle.std.specs.Prelude.{◌≡◌, ◌≢◌, ◌⊎◌, ℕ, Bool, true, false, List, [], ◌∷◌, None, is_some}
 use Rattle.region_paths.specs.declared.elements.Elem.{Elem}
 use Rattle.effect_sets.specs.declared.effects.Effect.{Effect}
 use Rattle.effect_tree.specs.Place.{IsSolid}
@@ -14,13 +14,13 @@ use Rattle.tree_table.specs.declared.slot.ErrandKind.{ErrandKind}
 use Rattle.tree_table.specs.declared.slot.ErrandKind.TheVariants.{Admission, Placing, Removal}
 use Rattle.tree_table.specs.declared.slot.TreeSlot.{TreeSlot}
 use Rattle.tree_table.specs.declared.view.TreeView.{TreeView}
-use Rattle.tree_table.specs.Seats.{TreeSeat, purpose_for}
+use Rattle.tree_table.specs.Seats.{HasOwn, TreeSeat, purpose_for}
 use Rattle.tree_table.specs.TreeOf.{content_in}
 use Rattle.tree_admit.specs.declared.bars.Attempt.{Attempt}
 use Rattle.tree_admit.specs.declared.bars.Attempt.TheVariants.{Placed, Stood, Barred}
 use Rattle.tree_admit.specs.Bars.{WasBarred}
-use Rattle.tree_admit.specs.Going.{HasLeft, HasNode}
-use Rattle.tree_admit.specs.Errands.{AllPass, KnowsErrand, record_of, with_clear, with_placed, with_removed}
+use Rattle.tree_admit.specs.Going.{HasLeft, HasNode, IsOutside}
+use Rattle.tree_admit.specs.Errands.{AllPass, KnowsErrand, errand_at, record_of, with_clear, with_placed, with_removed}
 
 -- The seat holds node n alone on its way, each record there passes, and c is the next node on the way. The earlier view had no
 -- content of node n.
@@ -74,6 +74,7 @@ pub record MayPut (nodes : List (List Elem)) (lim : Bounds) (earlier : TreeView)
   pub knows : KnowsErrand nodes earlier errand e
   pub may : MayPutFor nodes errand.kind me.0 errand.task e knows.turn errand.place done content
   pub none : content_in earlier.kept errand.place ≡ None
+  pub own : HasOwn earlier errand.place content
 
 -- the turn of the errand's task is first, and the task was spawned, if the errand is to place a child's record
 abbrev pub IsOfChild : ErrandKind → HeldTurn → Type 0
@@ -85,13 +86,22 @@ IsOfChild Removal turn = ⊥
 abbrev pub MayTakeOutOf : HeldTurn → Type 0
 MayTakeOutOf turn = (turn.first ≡ false) × (turn.row.status ≢ status.Enabled)
 
--- how a try to place the record of an errand ended
+-- how a try to place the record of an errand ended: a record that stood already had been placed by the seat before
 abbrev pub HasTried : TreeView → List (ℕ × TreeSlot) → Errand → Effect → Attempt → TreeSeat → Type 0
 HasTried earlier rest errand e Placed me = HasLeft (with_placed (record_of errand e) earlier) rest None me
-HasTried earlier rest errand e Stood me = HasLeft earlier rest None me
+HasTried earlier rest errand e Stood me = HasLeft earlier rest None me × IsAmong (record_of errand e) earlier.fresh
 HasTried earlier rest errand e (Barred bar) me = HasLeft earlier rest None me × (errand.kind ≡ Admission) × WasBarred me.0 errand.task e bar
 
--- how taking out the record of an errand ended: whether it was there
+-- how taking out the record of an errand ended: whether it was there; if it was not, the seat had not placed it
 abbrev pub HasTakenOut : TreeView → List (ℕ × TreeSlot) → Errand → Effect → Bool → TreeSeat → Type 0
 HasTakenOut earlier rest errand e true me = HasLeft (with_removed (record_of errand e) earlier) rest None me
-HasTakenOut earlier rest errand e false me = HasLeft (with_clear (record_of errand e) earlier) rest None me
+HasTakenOut earlier rest errand e false me =
+    HasLeft (with_clear (record_of errand e) earlier) rest None me × (¬ IsAmong (record_of errand e) earlier.fresh)
+
+-- The seat has come to its place, and does nothing else in the tree. It knows its errand.
+pub record MayLookAround (nodes : List (List Elem)) (lim : Bounds) (earlier : TreeView) (rest : List (ℕ × TreeSlot)) (errand : Errand) (e : Effect) (content : List Record) (me : TreeSeat) : Type 0 where
+  pub has : HasNode lim earlier rest (errand_at errand e errand.place) errand.place content me
+  pub knows : KnowsErrand nodes earlier errand e
+  pub child : IsOfChild errand.kind knows.turn
+  pub outside : IsOutside earlier
+  pub own : HasOwn earlier errand.place content

@@ -2,3 +2,5 @@ pub mod Going
 pub mod Errands
 pub mod Bars
 pub mod Descents
+pub mod Outcomes
+pub mod Attempts

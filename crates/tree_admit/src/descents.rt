@@ -5,6 +5,7 @@ ghost use Rattle.admission_core.specs.States.{Activity};
 ghost use Rattle.tree_table.specs.declared.slot.ErrandKind.TheVariants.{Admission};
 ghost use Rattle.tree_table.specs.declared.slot.TreeSlot as slots;
 ghost use Rattle.tree_table.specs.declared.view.TreeView.{TreeView};
+ghost use Rattle.tree_table.specs.Seats.{HasOwn};
 ghost use Rattle.tree_admit.specs.Bars.{WasBarred};
 ghost use Rattle.tree_admit.specs.Descents.{MayStepDown};
 ghost use Rattle.tree_admit.specs.Errands.{KnowsErrand, come_to, errand_at};
@@ -22,8 +23,8 @@ use tree_floor::{Floor, Stand};
 use tree_table::{Errand, NodeContent, Planted};
 use tree_ways::next_toward;
 
-/// Goes from a node, whose content is this, to a child on the way to its place: locks the child and then leaves the node. Returns the
-/// content of the child.
+/// Goes from a node, whose content is this, to a child on the way to its place: locks the child and then leaves the node. Returns
+/// the content of the child.
 pub(crate) fn step_down<N: Named + Planted, R: Wait>(
     rt: &R,
     floor: &Floor<N>,
@@ -41,6 +42,7 @@ pub(crate) fn step_down<N: Named + Planted, R: Wait>(
     ensures came { (earlier : TreeView) (rest : List (ℕ × slots.TreeSlot)) (a : Activity) → footing.slots ≡ length rest
         → MayStepDown N.nodes N.lim earlier rest a node content child stand.old.me
         → HasNode N.lim earlier rest (record a { stage = come_to a.place child }) child result stand.new.me }
+    ensures own { HasOwn stand.old.me.0 child result }
     ensures same { (stand.new.table_id ≡ stand.old.table_id) × (stand.new.id ≡ stand.old.id) }
 {
     let below = lock_child(rt, floor, stand, footing.worker, child);
@@ -69,6 +71,7 @@ pub(crate) fn descend<N: Named + Planted, R: Wait>(
     requires knows { KnowsErrand N.nodes stand.old.me.0 errand effect.now }
     ensures there { IfOk result (λ content. HasNode N.lim stand.old.me.0 stand.old.me.1 (errand_at errand effect.now errand.place)
         errand.place content stand.new.me) }
+    ensures own { IfOk result (λ content. HasOwn stand.old.me.0 errand.place content) }
     ensures barred { IfErr result (λ bar. HasLeft stand.old.me.0 stand.old.me.1 None stand.new.me × (errand.kind ≡ Admission)
         × WasBarred stand.new.me.0 errand.task effect.now bar) }
     ensures same { (stand.new.table_id ≡ stand.old.table_id) × (stand.new.id ≡ stand.old.id) }

@@ -1,23 +1,30 @@
 //! What a worker does at the place of an effect, and whole errands: down to the place and back.
-ghost use Rattle.std.specs.Prelude.{◌≡◌, ◌≢◌, ◌<◌, ℕ, List, [], ◌∷◌, IfErr, IfOk, None, length};
+ghost use Rattle.std.specs.Prelude.{◌≡◌, ◌≢◌, ◌<◌, ℕ, List, [], ◌∷◌, IfErr, IfOk, IsFalse, IsTrue, None, length};
+ghost use Rattle.effect_tree.specs.Place.{IsSolid};
 ghost use Rattle.floor_table.specs.declared.view.SeatKind.TheVariants.{Spent};
-ghost use Rattle.tree_table.specs.declared.slot.ErrandKind.TheVariants.{Removal};
+ghost use Rattle.tree_table.specs.declared.slot.ErrandKind.TheVariants.{Admission, Removal};
 ghost use Rattle.tree_table.specs.declared.slot.TreeSlot as slots;
 ghost use Rattle.tree_table.specs.declared.view.TreeView.{TreeView};
+ghost use Rattle.tree_table.specs.Seats.{HasOwn};
 ghost use Rattle.tree_table.specs.TreeOf.{content_in};
-ghost use Rattle.tree_admit.specs.Descents.{HasTakenOut, HasTried, MayPut, MayTakeOutOf, walking};
+ghost use Rattle.tree_admit.specs.Bars.{WasBarred};
+ghost use Rattle.tree_admit.specs.Descents.{HasTakenOut, HasTried, IsOfChild, MayLookAround, MayPut, MayTakeOutOf, walking};
 ghost use Rattle.tree_admit.specs.Errands.{KnowsErrand, record_of};
 ghost use Rattle.tree_admit.specs.Going.{HasLeft, HasNode, IsOutside};
 
-use crate::bars::Attempt;
+use crate::bars::{Attempt, Bar};
 use crate::descents::descend;
 use crate::footing::Footing;
+use crate::testing::look_at;
+use crate::walks::walk_below;
 use effect_sets::Effect;
 use effect_tree::Shape;
 use floor_table::Named;
+use std::alloc::Global;
 use std::sync::Wait;
 use tree_floor::{Floor, Stand};
-use tree_table::{Errand, NodeContent, NodeRecord, Planted};
+use tree_table::{Errand, ErrandKind, NodeContent, NodeRecord, Planted};
+use tree_ways::is_solid;
 use twe_io::Memory;
 
 /// Places the record of an errand at its place, whose content this is, and comes back. If the record stands there already, or if
@@ -62,8 +69,8 @@ pub(crate) fn put<N: Named + Planted>(
     }
 }
 
-/// Takes the record of an errand out at its place, whose content this is, and comes back. Returns whether the record was there. In
-/// both cases the stand knows that it does not stand.
+/// Takes the record of an errand out at its place, whose content this is, and comes back. Returns whether the record was there.
+/// In both cases the stand knows that it does not stand.
 pub(crate) fn take_out<N: Named + Planted>(
     floor: &Floor<N>,
     stand: &mut Stand,
@@ -79,11 +86,12 @@ pub(crate) fn take_out<N: Named + Planted>(
     requires may { (earlier : TreeView) × (rest : List (ℕ × slots.TreeSlot)) × (done : List ℕ)
         × (knows : KnowsErrand N.nodes earlier errand effect.now) × MayTakeOutOf knows.turn
         × HasNode N.lim earlier rest (walking errand effect.now (errand.place ∷ []) done) errand.place content stand.old.me
-        × (content_in earlier.kept errand.place ≡ None) }
+        × (content_in earlier.kept errand.place ≡ None) × HasOwn earlier errand.place content }
     ensures taken { (earlier : TreeView) (rest : List (ℕ × slots.TreeSlot)) (done : List ℕ)
         → (knows : KnowsErrand N.nodes earlier errand effect.now) → MayTakeOutOf knows.turn
         → HasNode N.lim earlier rest (walking errand effect.now (errand.place ∷ []) done) errand.place content stand.old.me
-        → content_in earlier.kept errand.place ≡ None → HasTakenOut earlier rest errand effect.now result stand.new.me }
+        → content_in earlier.kept errand.place ≡ None → HasOwn earlier errand.place content
+        → HasTakenOut earlier rest errand effect.now result stand.new.me }
     ensures same { (stand.new.table_id ≡ stand.old.table_id) × (stand.new.id ≡ stand.old.id) }
 {
     if content.has(errand.task, effect, errand.place) {
@@ -98,8 +106,8 @@ pub(crate) fn take_out<N: Named + Planted>(
     }
 }
 
-/// Takes the record of an effect of a task out of the tree: goes down to its place, takes it out and comes back. Returns whether the
-/// record was there. In both cases the stand knows that it does not stand. It takes no memory.
+/// Takes the record of an effect of a task out of the tree: goes down to its place, takes it out and comes back. Returns whether
+/// the record was there. In both cases the stand knows that it does not stand. It takes no memory.
 pub fn take_out_one<N: Named + Planted, R: Wait>(
     rt: &R,
     floor: &Floor<N>,
@@ -124,5 +132,114 @@ pub fn take_out_one<N: Named + Planted, R: Wait>(
     match descend(rt, floor, shape, stand, footing, errand, effect) {
         Ok(content) => take_out(floor, stand, footing.worker, errand, effect, content),
         Err(_) => unreachable!(),
+    }
+}
+
+/// Whether an errand for this effect has to look at what stands below the place: it is for an admission, and the effect has a
+/// wildcard.
+fn goes_below(errand: Errand, effect: &Effect) -> bool
+    ensures walks { IsTrue result → (errand.kind ≡ Admission) × (¬ IsSolid effect.now.path) }
+    ensures stays { IsFalse result → errand.kind ≡ Admission → IsSolid effect.now.path }
+{
+    match errand.kind {
+        ErrandKind::Admission => !is_solid(&effect.path),
+        ErrandKind::Placing => false,
+        ErrandKind::Removal => false,
+    }
+}
+
+/// Looks at what stands at the place of an errand, whose content this is, and below it if that matters. Returns the content of
+/// the place, at which the stand may place the record then. If a record is a bar, it comes back.
+fn look_around<N: Named + Planted, R: Wait>(
+    rt: &R,
+    floor: &Floor<N>,
+    shape: &Shape,
+    stand: &mut Stand,
+    footing: Footing,
+    errand: Errand,
+    effect: &Effect,
+    content: NodeContent,
+) -> Result<NodeContent, Bar>
+    requires here { stand.old.table_id ≡ floor.now }
+    requires live { stand.old.me.0.floor.kind ≢ Spent }
+    requires shape { shape.now ≡ N.nodes }
+    requires worker { footing.worker ≡ stand.old.me.0.floor.worker }
+    requires tasks { footing.tasks ≡ N.lim.tasks }
+    requires node { errand.place < length N.nodes }
+    requires may { (earlier : TreeView) × (rest : List (ℕ × slots.TreeSlot))
+        × MayLookAround N.nodes N.lim earlier rest errand effect.now content stand.old.me }
+    ensures ready { (earlier : TreeView) (rest : List (ℕ × slots.TreeSlot))
+        → MayLookAround N.nodes N.lim earlier rest errand effect.now content stand.old.me
+        → IfOk result (λ content. (done : List ℕ)
+        × MayPut N.nodes N.lim earlier rest errand effect.now done content stand.new.me) }
+    ensures barred { (earlier : TreeView) (rest : List (ℕ × slots.TreeSlot))
+        → MayLookAround N.nodes N.lim earlier rest errand effect.now content stand.old.me
+        → IfErr result (λ bar. HasLeft earlier rest None stand.new.me × (errand.kind ≡ Admission)
+        × WasBarred stand.new.me.0 errand.task effect.now bar) }
+    ensures same { (stand.new.table_id ≡ stand.old.table_id) × (stand.new.id ≡ stand.old.id) }
+{
+    if goes_below(errand, effect) {
+        return walk_below(
+            rt,
+            floor,
+            shape,
+            stand,
+            footing,
+            errand,
+            effect,
+            errand.place,
+            content,
+        );
+    }
+    match look_at(
+        floor,
+        stand,
+        footing.tasks,
+        errand,
+        effect,
+        errand.place,
+        &content,
+    ) {
+        Ok(()) => Ok(content),
+        Err(bar) => {
+            floor.back_out(stand, errand.place, content);
+            Err(bar)
+        }
+    }
+}
+
+/// Places the record of an effect of a task in the tree: goes down to its place, places it and comes back. The record is made
+/// before the first lock is taken. Whoever admits a task comes back without placing it if another task's record is in the way.
+pub fn place_one<N: Named + Planted, R: Wait>(
+    rt: &R,
+    alloc: Global,
+    floor: &Floor<N>,
+    shape: &Shape,
+    stand: &mut Stand,
+    footing: Footing,
+    errand: Errand,
+    effect: &Effect,
+) -> Result<Attempt, Memory>
+    requires here { stand.old.table_id ≡ floor.now }
+    requires live { stand.old.me.0.floor.kind ≢ Spent }
+    requires shape { shape.now ≡ N.nodes }
+    requires worker { footing.worker ≡ stand.old.me.0.floor.worker }
+    requires tasks { footing.tasks ≡ N.lim.tasks }
+    requires slots { footing.slots ≡ length stand.old.me.1 }
+    requires outside { IsOutside stand.old.me.0 }
+    requires knows { (knows : KnowsErrand N.nodes stand.old.me.0 errand effect.now) × IsOfChild errand.kind knows.turn }
+    ensures tried { IfOk result (λ attempt. HasTried stand.old.me.0 stand.old.me.1 errand effect.now attempt stand.new.me) }
+    ensures failed { IfErr result (λ _. HasLeft stand.old.me.0 stand.old.me.1 None stand.new.me) }
+    ensures same { (stand.new.table_id ≡ stand.old.table_id) × (stand.new.id ≡ stand.old.id) }
+{
+    let copied = effect.copy(alloc)?;
+    let mine = NodeRecord::new(errand.task, copied, errand.place);
+    let content = match descend(rt, floor, shape, stand, footing, errand, effect) {
+        Ok(content) => content,
+        Err(bar) => return Ok(Attempt::Barred(bar)),
+    };
+    match look_around(rt, floor, shape, stand, footing, errand, effect, content) {
+        Ok(content) => put(floor, stand, footing.worker, errand, effect, content, mine),
+        Err(bar) => Ok(Attempt::Barred(bar)),
     }
 }

@@ -2,6 +2,7 @@
 //! place of an effect, and comes back. Whoever admits a task looks at each record that it meets on its way.
 #![tactic(auto)]
 
+mod admitting;
 mod bars;
 mod chains;
 mod descents;
@@ -9,9 +10,15 @@ mod errands;
 mod footing;
 mod laws;
 mod locking;
+mod placing;
+mod releasing;
 mod testing;
+mod walks;
 
+pub use admitting::{Admittance, try_admit};
 pub use bars::{Attempt, Bar};
-pub use errands::take_out_one;
+pub use errands::{place_one, take_out_one};
 pub use footing::Footing;
 pub use laws::views_only_learn;
+pub use placing::place_spawned;
+pub use releasing::release;

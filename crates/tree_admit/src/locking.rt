@@ -3,7 +3,7 @@ ghost use Rattle.std.specs.Prelude.{◌≡◌, ◌<◌, length};
 ghost use mathlib.Core.Option.{none, some};
 ghost use Rattle.admission_core.specs.States.{Activity};
 ghost use Rattle.tree_table.specs.declared.slot.TreeSlot.TheVariants as kinds;
-ghost use Rattle.tree_table.specs.Seats.{MayLock};
+ghost use Rattle.tree_table.specs.Seats.{HasOwn, MayLock};
 ghost use Rattle.tree_admit.specs.Going.{HasLocked};
 
 use floor_table::Named;
@@ -26,6 +26,7 @@ pub(crate) fn lock_root<N: Named + Planted, R: Wait>(
     requires may { (next : Activity) × MayLock N.nodes stand.old.me.0 (some (kinds.Errand errand)) 0 next }
     ensures locked { (next : Activity) → MayLock N.nodes stand.old.me.0 (some (kinds.Errand errand)) 0 next
         → HasLocked N.lim stand.old.me 0 next result stand.new.me }
+    ensures own { HasOwn stand.old.me.0 0 result }
     ensures same { (stand.new.table_id ≡ stand.old.table_id) × (stand.new.id ≡ stand.old.id) }
 {
     for _ in rt.forever() {
@@ -51,6 +52,7 @@ pub(crate) fn lock_child<N: Named + Planted, R: Wait>(
     requires may { (next : Activity) × MayLock N.nodes stand.old.me.0 none node next }
     ensures locked { (next : Activity) → MayLock N.nodes stand.old.me.0 none node next
         → HasLocked N.lim stand.old.me node next result stand.new.me }
+    ensures own { HasOwn stand.old.me.0 node result }
     ensures same { (stand.new.table_id ≡ stand.old.table_id) × (stand.new.id ≡ stand.old.id) }
 {
     for _ in rt.forever() {

@@ -1,5 +1,5 @@
 -- Each step of the chain goes to a task with a higher number, for which the first one is known to wait from then on.
-use Rattle.std.proofs.Common.{◌≡◌, ℕ, refl, sym, ap, subst, ◌∙◌, inl, inr, arith}
+use Rattle.std.proofs.Common.{ℕ, refl, subst, ◌∙◌, inl, inr, arith}
 use Rattle.admission_core.specs.States.{IsAmong}
 use Rattle.tree_admit.proofs.Following.{followed_refl, followed_trans, follows_only, led_further, waits_above}
 use Rattle.tree_admit.proofs.Learning.{led_kept, live_kept}

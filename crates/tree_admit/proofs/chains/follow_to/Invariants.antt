@@ -1,6 +1,5 @@
 -- The stand has only followed waits, and they led from the first task to the one that was reached.
-use Rattle.std.proofs.Common.{◌≡◌, ◌≢◌, ◌-◌}
-use Rattle.floor_table.specs.declared.view.SeatKind.TheVariants.{Spent}
+use Rattle.std.proofs.Common.{◌≡◌, ◌-◌}
 use Rattle.tree_admit.specs.Bars.{IsLedTo}
 use Rattle.tree_admit.specs.Going.{HasOnlyFollowed}
 use Rattle.tree_admit.proofs.chains.follow_to.Given as goal

@@ -1,5 +1,5 @@
 -- The worker tests the node, and locks the next one on its way or comes back.
-use Rattle.std.proofs.Common.{◌≡◌, ℕ, List, None, refl, sym, subst, ◌∙◌}
+use Rattle.std.proofs.Common.{List, None, subst, ◌∙◌}
 use Rattle.region_paths.specs.declared.elements.Elem.{Elem}
 use Rattle.prefix_tree.specs.Nodes.{IsParent, IsTreeOfPaths}
 use Rattle.admission_core.specs.States.{IsAbove}
@@ -8,6 +8,7 @@ use Rattle.tree_ways.proofs.WayLemmas.{room_shrinks}
 use Rattle.tree_admit.specs.Errands.{errand_at}
 use Rattle.tree_admit.proofs.Descending.{descent_goes, descent_left, descent_stops}
 use Rattle.tree_admit.proofs.Entering.{may_enter}
+use Rattle.tree_admit.proofs.Owning.{own_before}
 use Rattle.tree_admit.proofs.Steps.{followed_has, locked_has}
 use Rattle.tree_admit.proofs.Stepping.{barred_after, in_hand}
 use Rattle.tree_admit.proofs.descents.descend.Goals as goal
@@ -28,6 +29,7 @@ loop-node-init g c =
       above = root_above nodes tree c.args.errand.place c.requires.knows.place.there;
       has = locked_has g.N.Named.lim start 0 (errand_at c.args.errand e 0) c.lock_root-content.result after
           (c.lock_root-content.ensures.locked (errand_at c.args.errand e 0) (may_enter nodes start.0 c.args.errand e c.requires.knows c.requires.outside));
+      own = c.lock_root-content.ensures.own;
       here = c.lock_root-content.ensures.same.0;
       id = c.lock_root-content.ensures.same.1;
     }
@@ -100,6 +102,7 @@ loop-node-preserved g c =
       above = above;
       has = c.step_down-content.ensures.came start.0 start.1 (errand_at c.args.errand e n) c.requires.slots
           (descent_goes lim start c.requires.outside c.args.errand e n content me has c.loop-node-test.true nodes tree child parent above c.in-Ok.ensures.passes);
+      own = own_before start.0 me.0 child c.step_down-content.result has.learned c.step_down-content.ensures.own;
       here = c.step_down-content.ensures.same.0 ∙ (c.look_at.ensures.same.0 ∙ c.loop-node.invariant.here);
       id = c.step_down-content.ensures.same.1 ∙ (c.look_at.ensures.same.1 ∙ c.loop-node.invariant.id);
     }

@@ -1,5 +1,5 @@
 -- The child is locked before the node is left.
-use Rattle.std.proofs.Common.{◌≡◌, None}
+use Rattle.std.proofs.Common.{None}
 use Rattle.tree_table.specs.declared.slot.TreeSlot.TheVariants as kinds
 use Rattle.tree_table.specs.Layout.{content_place}
 use Rattle.tree_admit.proofs.Stepping.{first, next, step_behind, step_came, step_leaves, step_may}

@@ -1,10 +1,11 @@
 -- The record is put in front of the content, and then marked.
-use Rattle.std.proofs.Common.{◌≡◌, List, [], ◌∷◌, None, refl, sym, ap, subst, ◌∙◌}
+use Rattle.std.proofs.Common.{◌≡◌, List, ◌∷◌, None, refl, sym, ap, subst, ◌∙◌}
 use Rattle.admission_core.specs.States.{Record}
 use Rattle.node_rule.specs.LockSteps.{stopped}
 use Rattle.tree_admit.specs.Errands.{record_of, with_placed}
 use Rattle.tree_admit.specs.Going.{HasNode}
-use Rattle.tree_admit.proofs.Putting.{at_place, marked_has, may_mark, place_stops, stopped_stops, was_missed}
+use Rattle.tree_admit.proofs.Putting.{at_place, marked_has, may_mark, place_stops, stopped_stops, was_found, was_missed}
+use Rattle.tree_admit.proofs.Owning.{stood_fresh}
 use Rattle.tree_admit.proofs.Stepping.{in_hand}
 use Rattle.tree_admit.proofs.Steps.{gave_left}
 use Rattle.tree_admit.proofs.errands.put.Goals as goal
@@ -17,8 +18,11 @@ returns-then-has-clause-tried g c = λ earlier rest done may.
     let a = at_place errand e done in
     let content = c.args.content in
     let me = c.args.stand.now.me in
-    gave_left lim earlier rest a errand.place content me may.has None c.back_out.new.stand.me may.none
-    (c.back_out.ensures.gave None rest (place_stops errand e done lim earlier rest content me may.has) (in_hand lim earlier rest a errand.place content me may.has))
+    let found = was_found (record_of errand e) content c.has.result c.has.ensures c.if-has.true in (
+      gave_left lim earlier rest a errand.place content me may.has None c.back_out.new.stand.me may.none
+          (c.back_out.ensures.gave None rest (place_stops errand e done lim earlier rest content me may.has) (in_hand lim earlier rest a errand.place content me may.has)),
+      stood_fresh g.N.Planted.nodes lim earlier rest errand e done content me may found,
+    )
 
 pub mark_placed-requires-clause-may : goal.mark_placed-requires-clause-may
 mark_placed-requires-clause-may g c =

@@ -1,8 +1,7 @@
 -- The record is taken out of the content, and then marked; or it is marked as not there.
-use Rattle.std.proofs.Common.{◌≡◌, List, [], ◌∷◌, None, refl, sym, ap, subst, ◌∙◌}
+use Rattle.std.proofs.Common.{List, None, refl, sym, subst}
 use Rattle.admission_core.specs.States.{Record}
 use Rattle.node_rule.specs.LockSteps.{stopped}
-use Rattle.tree_table.specs.Without.{without}
 use Rattle.tree_admit.specs.Errands.{record_of, with_clear, with_removed}
 use Rattle.tree_admit.specs.Going.{HasNode}
 use Rattle.tree_admit.proofs.Putting.{at_place, found_clear, may_find_clear, may_unmark, place_stops, stopped_stops, unmarked_has, was_found, was_missed}
@@ -12,7 +11,7 @@ use Rattle.tree_admit.proofs.errands.take_out.Goals as goal
 
 pub mark_removed-requires-clause-may : goal.mark_removed-requires-clause-may
 mark_removed-requires-clause-may g c =
-    let (earlier, rest, done, knows, may, has, none) = c.requires.may in
+    let (earlier, rest, done, knows, may, has, none, own) = c.requires.may in
     let errand = c.args.errand in
     let e = c.args.effect.now in
     let there = was_found (record_of errand e) c.args.content c.has.result c.has.ensures c.if-has.true in
@@ -20,7 +19,7 @@ mark_removed-requires-clause-may g c =
 
 pub back_out-requires-clause-may : goal.back_out-requires-clause-may
 back_out-requires-clause-may g c =
-    let (earlier, rest, done, knows, may, has, none) = c.requires.may in
+    let (earlier, rest, done, knows, may, has, none, own) = c.requires.may in
     let lim = g.N.Named.lim in
     let errand = c.args.errand in
     let e = c.args.effect.now in
@@ -36,7 +35,7 @@ back_out-requires-clause-may g c =
     (None, rest, stopped_stops errand e done lim (with_removed r earlier) rest c.remove.new.self after has_now, in_hand lim (with_removed r earlier) rest (stopped a) errand.place c.remove.new.self after has_now)
 
 pub returns-then-has-clause-taken : goal.returns-then-has-clause-taken
-returns-then-has-clause-taken g c = λ earlier rest done knows may has none.
+returns-then-has-clause-taken g c = λ earlier rest done knows may has none own.
     let lim = g.N.Named.lim in
     let errand = c.args.errand in
     let e = c.args.effect.now in
@@ -55,7 +54,7 @@ returns-then-has-clause-taken g c = λ earlier rest done knows may has none.
 
 pub mark_clear-requires-clause-may : goal.mark_clear-requires-clause-may
 mark_clear-requires-clause-may g c =
-    let (earlier, rest, done, knows, may, has, none) = c.requires.may in
+    let (earlier, rest, done, knows, may, has, none, own) = c.requires.may in
     let errand = c.args.errand in
     let e = c.args.effect.now in
     let missing = was_missed (record_of errand e) c.args.content c.has.result c.has.ensures c.if-has.false in
@@ -63,7 +62,7 @@ mark_clear-requires-clause-may g c =
 
 pub back_out-requires-else-has-clause-may : goal.back_out-requires-else-has-clause-may
 back_out-requires-else-has-clause-may g c =
-    let (earlier, rest, done, knows, may, has, none) = c.requires.may in
+    let (earlier, rest, done, knows, may, has, none, own) = c.requires.may in
     let lim = g.N.Named.lim in
     let errand = c.args.errand in
     let e = c.args.effect.now in
@@ -78,7 +77,7 @@ back_out-requires-else-has-clause-may g c =
     (None, rest, place_stops errand e done lim (with_clear r earlier) rest content after has_now, in_hand lim (with_clear r earlier) rest a errand.place content after has_now)
 
 pub returns-else-has-clause-taken : goal.returns-else-has-clause-taken
-returns-else-has-clause-taken g c = λ earlier rest done knows may has none.
+returns-else-has-clause-taken g c = λ earlier rest done knows may has none own.
     let lim = g.N.Named.lim in
     let errand = c.args.errand in
     let e = c.args.effect.now in
@@ -89,7 +88,9 @@ returns-else-has-clause-taken g c = λ earlier rest done knows may has none.
     let after = c.mark_clear.new.stand.me in
     let missing = was_missed r content c.has.result c.has.ensures c.if-has.false in
     let has_now = found_clear errand e done lim earlier rest content me has after
-    (c.mark_clear.ensures.marked a refl has.active (may_find_clear errand e done lim earlier rest content me has g.N.Planted.nodes knows missing)) in
-    gave_left lim (with_clear r earlier) rest a errand.place content after has_now None c.back_out-else-has.new.stand.me none
-    (c.back_out-else-has.ensures.gave None rest (place_stops errand e done lim (with_clear r earlier) rest content after has_now)
-    (in_hand lim (with_clear r earlier) rest a errand.place content after has_now))
+    (c.mark_clear.ensures.marked a refl has.active (may_find_clear errand e done lim earlier rest content me has g.N.Planted.nodes knows missing)) in (
+      gave_left lim (with_clear r earlier) rest a errand.place content after has_now None c.back_out-else-has.new.stand.me none
+          (c.back_out-else-has.ensures.gave None rest (place_stops errand e done lim (with_clear r earlier) rest content after has_now)
+          (in_hand lim (with_clear r earlier) rest a errand.place content after has_now)),
+      λ fresh. missing (own.there r fresh refl),
+    )

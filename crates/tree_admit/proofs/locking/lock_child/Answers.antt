@@ -1,9 +1,9 @@
 -- The content is that of the node that was locked.
-use Rattle.std.proofs.Common.{ℕ, List, subst}
+use Rattle.std.proofs.Common.{subst}
 use mathlib.Core.Option.{none}
 use Rattle.admission_core.specs.States.{Activity}
 use Rattle.tree_table.specs.Seats.{MayLock, TookNode, TreeSeat}
-use Rattle.tree_admit.proofs.Taking.{took_content, took_locked}
+use Rattle.tree_admit.proofs.Taking.{took_content, took_locked, took_own}
 use Rattle.tree_admit.proofs.locking.lock_child.Goals as goal
 
 pub take_content-requires-clause-may : goal.take_content-requires-clause-may
@@ -26,3 +26,15 @@ returns-then-go_down-clause-locked g c = λ next may.
     (c.go_down.ensures.locked c.if-go_down.true) in
     took_locked lim start n next mid (took next may) c.take_content.result c.take_content.new.stand.me
     (c.take_content.ensures.taken start.1 (took_content lim start n next mid (took next may)))
+
+pub returns-then-go_down-clause-own : goal.returns-then-go_down-clause-own
+returns-then-go_down-clause-own g c =
+    let start = c.args.stand.now.me in
+    let n = c.args.node in
+    let lim = g.N.Named.lim in
+    let mid = c.go_down.new.stand.me in
+    let next = c.requires.may.0 in
+    let took =
+    subst (λ (me : TreeSeat). (next : Activity) → MayLock g.N.Planted.nodes me.0 none n next → TookNode lim me n next mid) c.loop.invariant.me
+    (c.go_down.ensures.locked c.if-go_down.true) next c.requires.may.1 in
+    took_own lim start n next mid took c.take_content.result c.take_content.new.stand.me (c.take_content.ensures.taken start.1 (took_content lim start n next mid took))

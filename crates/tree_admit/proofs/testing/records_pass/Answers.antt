@@ -1,5 +1,5 @@
 -- A record that passes goes on to pass while the stand learns of waits.
-use Rattle.std.proofs.Common.{◌≡◌, Some, sym, subst, ◌∙◌, ⊎_elim}
+use Rattle.std.proofs.Common.{◌≡◌, sym, subst, ◌∙◌, ⊎_elim}
 use Rattle.floor_rule.proofs.Puts.{some_one}
 use Rattle.admission_core.specs.States.{Record}
 use Rattle.node_rule.specs.LockSteps.{IsKnownToPass}

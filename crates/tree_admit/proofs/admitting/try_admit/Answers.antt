@@ -1,0 +1,43 @@
+-- What was placed before the obstacle was taken out again.
+use Rattle.std.proofs.Common.{◌≡◌, subst, ap, sym}
+use Rattle.tree_table.specs.declared.slot.ErrandKind.TheVariants.{Admission}
+use Rattle.tree_admit.specs.declared.bars.Bar.{Bar}
+use Rattle.tree_admit.specs.declared.placing.Obstacle.{Obstacle}
+use Rattle.tree_admit.specs.Attempts.{HasPlacedNone, IsObstacle, WasBarredFor}
+use Rattle.tree_admit.proofs.Attempts.{backed_out, barred_still, held_by, keeps_trans, placed_all}
+use Rattle.tree_admit.proofs.admitting.try_admit.Goals as goal
+
+pub returns-in-Ok-clause-admitted : goal.returns-in-Ok-clause-admitted
+returns-in-Ok-clause-admitted g c = λ same. placed_all g.N.Planted.nodes c.args.task c.args.effects.now c.args.stand.now.me c.place_all.new.stand.me c.requires.may c.in-Ok.ensures.all
+
+pub returns-in-InTheWay-clause-held : goal.returns-in-InTheWay-clause-held
+returns-in-InTheWay-clause-held g c =
+    let nodes = g.N.Planted.nodes in
+    let t = c.args.task in
+    let effects = c.args.effects.now in
+    let before = c.args.stand.now.me in
+    let middle = c.place_all.new.stand.me in
+    let after = c.take_out_first.new.stand.me in
+    let stopped = c.in-Err.ensures.stopped in
+    let out = c.take_out_first.ensures.out in
+    let met = subst (λ (o : Obstacle). IsObstacle Admission middle.0 t effects o) c.in-InTheWay.is stopped.by in
+    λ bar same. (
+      backed_out nodes t effects c.in-Err.stopped.placed before middle after c.requires.may.none stopped.placed out,
+      subst (λ (b : Bar). WasBarredFor after.0 t effects b) (held_by c.in-InTheWay.bar bar same)
+          (barred_still nodes t effects middle after c.in-InTheWay.bar out.keeps met.1),
+    )
+
+pub returns-in-InTheWay-clause-keeps : goal.returns-in-InTheWay-clause-keeps
+returns-in-InTheWay-clause-keeps g c =
+    keeps_trans c.args.task c.args.stand.now.me c.place_all.new.stand.me c.take_out_first.new.stand.me
+    c.in-Err.ensures.stopped.placed.keeps c.take_out_first.ensures.out.keeps
+
+pub returns-in-NoMemory-clause-memory : goal.returns-in-NoMemory-clause-memory
+returns-in-NoMemory-clause-memory g c =
+    backed_out g.N.Planted.nodes c.args.task c.args.effects.now c.in-Err.stopped.placed c.args.stand.now.me c.place_all.new.stand.me c.take_out_first.new.stand.me
+    c.requires.may.none c.in-Err.ensures.stopped.placed c.take_out_first.ensures.out
+
+pub returns-in-NoMemory-clause-keeps : goal.returns-in-NoMemory-clause-keeps
+returns-in-NoMemory-clause-keeps g c =
+    keeps_trans c.args.task c.args.stand.now.me c.place_all.new.stand.me c.take_out_first.new.stand.me
+    c.in-Err.ensures.stopped.placed.keeps c.take_out_first.ensures.out.keeps

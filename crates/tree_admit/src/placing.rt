@@ -1,0 +1,157 @@
+//! Placing the records of all effects of a task, one after the other.
+ghost use Rattle.std.specs.Prelude.{◌≡◌, ◌<◌, ◌^◌, IfErr, OnOk, length};
+ghost use Rattle.prefix_tree.specs.Nodes.{IsTreeOfPaths};
+ghost use Rattle.tree_admit.specs.Attempts.{
+  HasMet,
+  HasPlacedEach,
+  HasPlacedFirst,
+  HasStopped,
+  KeepsAllElse,
+  MayPlaceAll,
+  MayPlaceSpawned,
+  Stands,
+};
+ghost use Rattle.tree_admit.specs.Outcomes.{StandsOn};
+
+use crate::bars::{Attempt, Bar};
+use crate::errands::place_one;
+use crate::footing::Footing;
+use effect_sets::Effect;
+use effect_tree::Shape;
+use floor_table::Named;
+use std::alloc::Global;
+use std::sync::Wait;
+use tree_floor::{Floor, Stand};
+use tree_table::{Errand, ErrandKind, Planted};
+use twe_io::Memory;
+
+/// Why a worker stopped placing records.
+#[derive(Debug, Drop)]
+pub(crate) enum Obstacle {
+    /// A record was in the way.
+    InTheWay(Bar),
+    /// Memory ran out.
+    NoMemory(Memory),
+}
+
+/// How far a worker came that stopped placing records.
+#[derive(Debug, Drop)]
+pub(crate) struct Stopped {
+    /// How many of the effects have a record, the first ones.
+    pub placed: u32,
+    /// Why it stopped.
+    pub by: Obstacle,
+}
+
+/// Places the record of one effect of a task, whose effects are these.
+fn place_effect<R: Wait, N: Named + Planted>(
+    rt: &R,
+    alloc: Global,
+    floor: &Floor<N>,
+    shape: &Shape,
+    stand: &mut Stand,
+    footing: Footing,
+    kind: ErrandKind,
+    task: u32,
+    effects: &[Effect],
+    number: u32,
+) -> Result<(), Obstacle>
+    requires here { stand.old.table_id ≡ floor.now }
+    requires shape { shape.now ≡ N.nodes }
+    requires ready { StandsOn N.lim footing stand.old.me }
+    requires number { number < length effects.now }
+    requires may { MayPlaceAll stand.old.me.0 kind task effects.now }
+    ensures stands { OnOk result (Stands N.nodes task effects.now number stand.old.me stand.new.me) }
+    ensures met { IfErr result (λ by. HasMet kind task effects.now by stand.old.me stand.new.me) }
+    ensures same { (stand.new.table_id ≡ stand.old.table_id) × (stand.new.id ≡ stand.old.id) }
+{
+    let effect = &effects[number as usize];
+    let errand = Errand {
+        kind,
+        task,
+        effect: number,
+        place: shape.place(&effect.path),
+    };
+    match place_one(rt, alloc, floor, shape, stand, footing, errand, effect) {
+        Ok(attempt) => match attempt {
+            Attempt::Placed => Ok(()),
+            Attempt::Stood => Ok(()),
+            Attempt::Barred(bar) => Err(Obstacle::InTheWay(bar)),
+        },
+        Err(memory) => Err(Obstacle::NoMemory(memory)),
+    }
+}
+
+/// Places the records of all effects of a task in order, up to an obstacle.
+pub(crate) fn place_all<R: Wait, N: Named + Planted>(
+    rt: &R,
+    alloc: Global,
+    floor: &Floor<N>,
+    shape: &Shape,
+    stand: &mut Stand,
+    footing: Footing,
+    kind: ErrandKind,
+    task: u32,
+    effects: &[Effect],
+) -> Result<(), Stopped>
+    requires here { stand.old.table_id ≡ floor.now }
+    requires shape { shape.now ≡ N.nodes }
+    requires tree { IsTreeOfPaths N.nodes }
+    requires ready { StandsOn N.lim footing stand.old.me }
+    requires few { length effects.now < 2 ^ 32 }
+    requires may { MayPlaceAll stand.old.me.0 kind task effects.now }
+    ensures all { OnOk result (HasPlacedFirst N.nodes task effects.now (length effects.now) stand.old.me stand.new.me) }
+    ensures stopped { IfErr result (λ stopped. HasStopped N.nodes kind task effects.now stopped stand.old.me stand.new.me) }
+    ensures same { (stand.new.table_id ≡ stand.old.table_id) × (stand.new.id ≡ stand.old.id) }
+{
+    for number in 0..effects.len() as u32 {
+        match place_effect(
+            rt, alloc, floor, shape, stand, footing, kind, task, effects, number,
+        ) {
+            Ok(()) => {}
+            Err(by) => return Err(Stopped { placed: number, by }),
+        }
+    }
+    Ok(())
+}
+
+/// Places a record for each effect of a spawned child whose first turn the stand has. These are the child's effects. Nothing is
+/// in the way of a child. After `Memory` some of the records may stand.
+pub fn place_spawned<R: Wait, N: Named + Planted>(
+    rt: &R,
+    alloc: Global,
+    floor: &Floor<N>,
+    shape: &Shape,
+    stand: &mut Stand,
+    footing: Footing,
+    child: u32,
+    effects: &[Effect],
+) -> Result<(), Memory>
+    requires here { stand.old.table_id ≡ floor.now }
+    requires shape { shape.now ≡ N.nodes }
+    requires ready { StandsOn N.lim footing stand.old.me }
+    requires few { length effects.now < 2 ^ 32 }
+    requires may { MayPlaceSpawned stand.old.me.0 child effects.now }
+    ensures placed { OnOk result (HasPlacedEach N.nodes stand.new.me.0 child effects.now) }
+    ensures keeps { KeepsAllElse child stand.old.me stand.new.me }
+    ensures same { (stand.new.table_id ≡ stand.old.table_id) × (stand.new.id ≡ stand.old.id) }
+{
+    let _count = shape.nodes();
+    match place_all(
+        rt,
+        alloc,
+        floor,
+        shape,
+        stand,
+        footing,
+        ErrandKind::Placing,
+        child,
+        effects,
+    ) {
+        Ok(()) => Ok(()),
+        Err(stopped) => match stopped.by {
+            Obstacle::InTheWay(_) => unreachable!(),
+            Obstacle::NoMemory(memory) => Err(memory),
+        },
+    }
+}
