@@ -14,7 +14,7 @@ use twe_io::Memory;
 const MOST_MISSES: u32 = 8;
 
 /// How many tasks are found that may run before a round begins. The others wait for the next one.
-const MOST_RUNNING: usize = 1024;
+const MOST_RUNNING: usize = 64;
 
 /// Which tasks are to be looked at, and which were found to wait, to be held back, or to be able to run.
 #[derive(Drop)]
