@@ -169,6 +169,7 @@ fn look_around<N: Named + Planted, R: Wait>(
         → IfOk result (λ content. (done : List ℕ) × MayPut N.nodes N.lim earlier rest errand effect.now done content stand.new.me) }
     ensures barred { (earlier : TreeView) (rest : List (ℕ × slots.TreeSlot)) → MayLookAround N.nodes N.lim earlier rest errand effect.now content stand.old.me
         → IfErr result (λ bar. HasLeft earlier rest None stand.new.me × (errand.kind ≡ Admission) × WasBarred stand.new.me.0 errand.task effect.now bar) }
+    ensures content { IfOk result (λ after. after ≡ content) }
     ensures same { (stand.new.table_id ≡ stand.old.table_id) × (stand.new.id ≡ stand.old.id) }
 {
     if goes_below(errand, effect) {
