@@ -10,8 +10,8 @@ use floor_table::Named;
 use tree_floor::{Floor, Stand};
 use tree_table::Planted;
 
-/// Follows the waits from a task. `Ok` if they lead to the task `to`: the stand knows that from then on. Otherwise the task at which
-/// they ended.
+/// Follows the waits from a task. `Ok` if they lead to the task `to`: the stand knows that from then on. Otherwise the task at
+/// which they ended.
 pub(crate) fn follow_to<N: Named + Planted>(
     floor: &Floor<N>,
     stand: &mut Stand,

@@ -22,8 +22,8 @@ use tree_floor::{Floor, Stand};
 use tree_table::{Errand, NodeContent, Planted};
 use tree_ways::next_toward;
 
-/// Goes from a node, whose content is this, to a child on the way to its place: locks the child and then leaves the node. Returns the
-/// content of the child.
+/// Goes from a node, whose content is this, to a child on the way to its place: locks the child and then leaves the node.
+/// Returns the content of the child.
 pub(crate) fn step_down<N: Named + Planted, R: Wait>(
     rt: &R,
     floor: &Floor<N>,

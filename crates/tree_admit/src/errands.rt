@@ -68,8 +68,8 @@ pub(crate) fn put<N: Named + Planted>(
     }
 }
 
-/// Takes the record of an errand out at its place, whose content this is, and comes back. Returns whether the record was there. In
-/// both cases the stand knows that it does not stand.
+/// Takes the record of an errand out at its place, whose content this is, and comes back. Returns whether the record was there.
+/// In both cases the stand knows that it does not stand.
 pub(crate) fn take_out<N: Named + Planted>(
     floor: &Floor<N>,
     stand: &mut Stand,
@@ -104,8 +104,8 @@ pub(crate) fn take_out<N: Named + Planted>(
     }
 }
 
-/// Takes the record of an effect of a task out of the tree: goes down to its place, takes it out and comes back. Returns whether the
-/// record was there. In both cases the stand knows that it does not stand. It takes no memory.
+/// Takes the record of an effect of a task out of the tree: goes down to its place, takes it out and comes back. Returns
+/// whether the record was there. In both cases the stand knows that it does not stand. It takes no memory.
 pub fn take_out_one<N: Named + Planted, R: Wait>(
     rt: &R,
     floor: &Floor<N>,
@@ -146,8 +146,8 @@ fn goes_below(errand: Errand, effect: &Effect) -> bool
     }
 }
 
-/// Looks at what stands at the place of an errand, whose content this is, and below it if that matters. Returns the content of the
-/// place, at which the stand may place the record then. If a record is a bar, it comes back.
+/// Looks at what stands at the place of an errand, whose content this is, and below it if that matters. Returns the content of
+/// the place, at which the stand may place the record then. If a record is a bar, it comes back.
 fn look_around<N: Named + Planted, R: Wait>(
     rt: &R,
     floor: &Floor<N>,
@@ -164,11 +164,16 @@ fn look_around<N: Named + Planted, R: Wait>(
     requires worker { footing.worker ≡ stand.old.me.0.floor.worker }
     requires tasks { footing.tasks ≡ N.lim.tasks }
     requires node { errand.place < length N.nodes }
-    requires may { (earlier : TreeView) × (rest : List (ℕ × slots.TreeSlot)) × MayLookAround N.nodes N.lim earlier rest errand effect.now content stand.old.me }
-    ensures ready { (earlier : TreeView) (rest : List (ℕ × slots.TreeSlot)) → MayLookAround N.nodes N.lim earlier rest errand effect.now content stand.old.me
-        → IfOk result (λ content. (done : List ℕ) × MayPut N.nodes N.lim earlier rest errand effect.now done content stand.new.me) }
-    ensures barred { (earlier : TreeView) (rest : List (ℕ × slots.TreeSlot)) → MayLookAround N.nodes N.lim earlier rest errand effect.now content stand.old.me
-        → IfErr result (λ bar. HasLeft earlier rest None stand.new.me × (errand.kind ≡ Admission) × WasBarred stand.new.me.0 errand.task effect.now bar) }
+    requires may { (earlier : TreeView) × (rest : List (ℕ × slots.TreeSlot))
+        × MayLookAround N.nodes N.lim earlier rest errand effect.now content stand.old.me }
+    ensures ready { (earlier : TreeView) (rest : List (ℕ × slots.TreeSlot))
+        → MayLookAround N.nodes N.lim earlier rest errand effect.now content stand.old.me
+        → IfOk result (λ content. (done : List ℕ)
+        × MayPut N.nodes N.lim earlier rest errand effect.now done content stand.new.me) }
+    ensures barred { (earlier : TreeView) (rest : List (ℕ × slots.TreeSlot))
+        → MayLookAround N.nodes N.lim earlier rest errand effect.now content stand.old.me
+        → IfErr result (λ bar. HasLeft earlier rest None stand.new.me × (errand.kind ≡ Admission)
+        × WasBarred stand.new.me.0 errand.task effect.now bar) }
     ensures content { IfOk result (λ after. after ≡ content) }
     ensures same { (stand.new.table_id ≡ stand.old.table_id) × (stand.new.id ≡ stand.old.id) }
 {
@@ -202,8 +207,8 @@ fn look_around<N: Named + Planted, R: Wait>(
     }
 }
 
-/// Places the record of an effect of a task in the tree: goes down to its place, places it and comes back. The record is made before
-/// the first lock is taken. Whoever admits a task comes back without placing it if another task's record is in the way.
+/// Places the record of an effect of a task in the tree: goes down to its place, places it and comes back. The record is made
+/// before the first lock is taken. Whoever admits a task comes back without placing it if another task's record is in the way.
 pub fn place_one<N: Named + Planted, R: Wait>(
     rt: &R,
     alloc: Global,

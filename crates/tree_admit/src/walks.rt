@@ -1,5 +1,5 @@
-//! Walking through all nodes below a place. Whoever admits a task with a wildcard in an effect looks at the records there too, since
-//! the effect may meet what stands below its place.
+//! Walking through all nodes below a place. Whoever admits a task with a wildcard in an effect looks at the records there too,
+//! since the effect may meet what stands below its place.
 ghost use Rattle.std.specs.Prelude.{◌≡◌, ◌≢◌, ◌<◌, ℕ, List, IfErr, IfOk, ◌∷◌, length};
 ghost use Rattle.effect_tree.specs.Place.{IsSolid};
 ghost use Rattle.floor_table.specs.declared.view.SeatKind.TheVariants.{Spent};
@@ -22,8 +22,9 @@ use std::sync::Wait;
 use tree_floor::{Floor, Stand};
 use tree_table::{Errand, NodeContent, Planted};
 
-/// Looks at the records at a node, whose content this is, and walks through all nodes below it: it locks each child, walks below it
-/// and leaves it. Returns the content of the node, which the stand holds still. If a record is a bar, it gives the node back.
+/// Looks at the records at a node, whose content this is, and walks through all nodes below it: it locks each child, walks
+/// below it and leaves it. Returns the content of the node, which the stand holds still. If a record is a bar, it gives the
+/// node back.
 pub(crate) fn walk_below<N: Named + Planted, R: Wait>(
     rt: &R,
     floor: &Floor<N>,
@@ -50,7 +51,8 @@ pub(crate) fn walk_below<N: Named + Planted, R: Wait>(
         → IfOk result (λ after. HasWalkedBelow N.nodes N.lim earlier rest errand effect.now node stack done after stand.new.me) }
     ensures barred { (earlier : TreeView) (rest : List (ℕ × slots.TreeSlot)) (stack done : List ℕ)
         → MayWalkBelow N.nodes N.lim earlier rest errand effect.now node stack done content stand.old.me
-        → IfErr result (λ bar. HasLeft earlier rest (left_to_give (walking errand effect.now (node ∷ stack) done) stack) stand.new.me
+        → IfErr result (λ bar. HasLeft earlier rest (left_to_give (walking errand effect.now (node ∷ stack) done) stack)
+        stand.new.me
         × WasBarred stand.new.me.0 errand.task effect.now bar) }
     ensures content { IfOk result (λ after. after ≡ content) }
     ensures same { (stand.new.table_id ≡ stand.old.table_id) × (stand.new.id ≡ stand.old.id) }
