@@ -1,8 +1,8 @@
 -- What a seat knows of the records of a task after one errand more for one of its effects.
-use Rattle.std.proofs.Common.{◌≡◌, ◌≢◌, ◌⊎◌, ◌<◌, ◌≤◌, ◌+◌, ℕ, Bool, true, false, List, [], ◌∷◌, Some, None, Result, Ok, if◌then◌else◌, length, get_or, refl, sym, ap, subst, ◌∙◌, inl, inr, ⊎_elim, arith}
-use Rattle.std.specs.Prelude.{◌==◌, ◌&&◌, ◌↔◌, Contains, IsFalse, IsTrue, slice_get}
+use Rattle.std.proofs.Common.{◌≡◌, ◌≢◌, ◌⊎◌, ◌<◌, ◌+◌, ℕ, Bool, true, false, List, [], ◌∷◌, Some, None, Result, Ok, if◌then◌else◌, length, get_or, refl, sym, ap, subst, ◌∙◌, inl, inr, ⊎_elim, arith}
+use Rattle.std.specs.Prelude.{◌==◌, ◌&&◌, ◌↔◌, Contains, slice_get}
 use Rattle.std.proofs.lemmas.Bool.{cases_eq}
-use Rattle.std.proofs.lemmas.Bool.Decides.{Decides-and, Decides-eqb, not_from_Decides}
+use Rattle.std.proofs.lemmas.Bool.Decides.{Decides-and, Decides-eqb}
 use Rattle.std.proofs.lemmas.List.Elements.{Contains-get_or}
 use Rattle.std.proofs.lemmas.Option.{get_or_from_slice_get, slice_get-get_or, slice_get_read, slice_get_within}
 use Rattle.region_paths.specs.declared.elements.Elem.{Elem}

@@ -1,9 +1,9 @@
 -- What was placed before the obstacle was taken out again.
-use Rattle.std.proofs.Common.{◌≡◌, subst, ap, sym}
+use Rattle.std.proofs.Common.{subst}
 use Rattle.tree_table.specs.declared.slot.ErrandKind.TheVariants.{Admission}
 use Rattle.tree_admit.specs.declared.bars.Bar.{Bar}
 use Rattle.tree_admit.specs.declared.placing.Obstacle.{Obstacle}
-use Rattle.tree_admit.specs.Attempts.{HasPlacedNone, IsObstacle, WasBarredFor}
+use Rattle.tree_admit.specs.Attempts.{IsObstacle, WasBarredFor}
 use Rattle.tree_admit.proofs.Attempts.{backed_out, barred_still, held_by, keeps_trans, placed_all}
 use Rattle.tree_admit.proofs.admitting.try_admit.Goals as goal
 
