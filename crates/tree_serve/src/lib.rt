@@ -1,0 +1,14 @@
+//! Workers of a floor with nodes, who serve one task after another: a worker admits a task, or it runs the next segment of a
+//! task, draws its entry and leaves it. Which task it serves next is left to the crates above.
+#![tactic(auto)]
+
+mod admission;
+mod admitting;
+mod worker;
+mod working;
+mod workshop;
+
+pub use admission::Admission;
+pub use task_floor::Served;
+pub use worker::TreeWorker;
+pub use workshop::Workshop;

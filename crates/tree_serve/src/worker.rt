@@ -1,0 +1,67 @@
+//! A worker of a floor with nodes.
+ghost use Rattle.std.specs.Prelude.{◌≡◌, ◌<◌, ◌^◌, ℕ, IsTrue, length};
+ghost use Rattle.tree_floor.specs.Holding.{IsIdleBeside};
+
+use effect_sets::Effect;
+use floor_rule::TaskSlot;
+use std::marker::Model;
+use tree_floor::{EntryLog, Stand};
+
+/// A worker with nothing in hand: it has no turn, no node and no open segment. Clauses see its stand.
+#[derive(Drop)]
+pub struct TreeWorker {
+    pub(crate) number: u32,
+    pub(crate) stand: Stand,
+    pub(crate) log: EntryLog,
+}
+
+impl Model for TreeWorker {
+    ghost use Rattle.tree_floor.specs.Holding.{IsIdleBeside};
+    ghost use Rattle.tree_floor.specs.Stands.{TreeStand};
+
+    ghost Value = { TreeStand };
+
+    ghost view = { λ worker. worker.stand };
+
+    ghost invariant = { λ worker. IsIdleBeside worker.number worker.stand.me worker.log };
+}
+
+impl TreeWorker {
+    /// The worker with this number, this stand and this log.
+    pub fn new(number: u32, stand: Stand, log: EntryLog) -> Self
+        requires { IsIdleBeside number stand.me log }
+        ensures { result ≡ stand }
+    {
+        TreeWorker { number, stand, log }
+    }
+
+    /// The worker's stand and its log.
+    pub fn into_stand(self) -> (Stand, EntryLog)
+        ensures stand { result.0 ≡ self }
+        ensures idle { (number : ℕ) × IsIdleBeside number result.0.me result.1 }
+    {
+        let TreeWorker {
+            number: _,
+            stand,
+            log,
+        } = self;
+        (stand, log)
+    }
+}
+
+/// A worker with a task in hand, and what lies in that task's slot.
+#[derive(Drop)]
+pub(crate) struct Holding {
+    pub number: u32,
+    pub stand: Stand,
+    pub log: EntryLog,
+    pub task: u32,
+    pub slot: TaskSlot,
+}
+
+/// Whether 32 bits number these effects. The tree numbers the effects of a task so.
+pub(crate) fn are_few(effects: &[Effect]) -> bool
+    ensures { IsTrue result → length effects.now < 2 ^ 32 }
+{
+    effects.len() <= u32::MAX as usize
+}
