@@ -79,7 +79,8 @@ impl Book {
     }
 
     /// Notes an entry. Its task is to be looked at again, and so is one that it has made. If its task has ended, so is the one
-    /// that waited for it, and so are those that it held.
+    /// that waited for it, and so are those that it held. A task that was admitted is looked at before all others, so that no more
+    /// tasks are admitted than are found to run.
     fn note(&mut self, entry: Entry) -> Result<(), Memory> {
         match entry.end {
             End::Done { .. } => self.end(entry.mv.task),
@@ -87,6 +88,10 @@ impl Book {
             End::Made { child } => {
                 self.ready.push_back(child)?;
                 self.ready.push_back(entry.mv.task)?;
+                Ok(())
+            }
+            End::Admitted => {
+                self.ready.push_front(entry.mv.task)?;
                 Ok(())
             }
             _ => {
