@@ -1,4 +1,4 @@
--- The ground of a round may be shared by threads: its floor, its program and its mark of a fault are.
+-- The ground of a round may be shared by threads: its floor, its program, its shape and its mark of a fault are.
 use denote.Param.Send.{IsSync, recorded_sync, shr_sync, struct_sync, view_sync}
 use denote.Ref.{NamedLft}
 use denote.RattleType.{RattleType}
@@ -7,23 +7,30 @@ use Rattle.std.proofs.alloc.Global.TheSendSync as global
 use Rattle.std.proofs.marker.PhantomData.TheSendSync as phantom
 use Rattle.std.proofs.sync.atomic.AtomicBool.TheSendSync as flag
 use Rattle.twe_limits.proofs.limits.Limits.TheSendSync as limits
-use Rattle.task_floor.proofs.floor.Floor.TheSendSync as floor
-use Rattle.task_floor.specs.contracts.floor.Floor as Floor
+use Rattle.effect_tree.proofs.shape.Shape.TheSendSync as tree
+use Rattle.effect_tree.specs.contracts.shape.Shape as Shape
+use Rattle.tree_floor.proofs.floor.Floor.TheSendSync as floor
+use Rattle.tree_floor.specs.contracts.floor.Floor as Floor
 use Rattle.twe_program.specs.contracts.program.Prog as Prog
 use Rattle.twe_rounds.proofs.Crossing.{prog_sync}
 use Rattle.floor_table.specs.declared.rule.Named as Named
+use Rattle.tree_table.specs.declared.rule.Planted as Planted
 use Rattle.floor_crew.specs.declared.located.Located as Located
 use Rattle.floor_crew.specs.contracts.ground.Ground as Ground
 use Rattle.floor_crew.specs.contracts.ground.Ground.TheInside as inside
 
-pub ground_sync : (ℓ : NamedLft) (N F : RattleType) (n : Named.Ghosts N.Denot) (f : Located.Ghosts F.Denot) → IsSync (Ground.the_row ℓ N F n f)
-ground_sync ℓ N F n f =
-    view_sync (inside.the_row ℓ N F n f) _ _ _ _
-    (recorded_sync (inside.the_field ℓ N F n f).row _ _ (inside.the_type ℓ N F n f).to_one
-    (struct_sync (shape (inside.the_type ℓ N F n f)) (
+pub ground_sync : (ℓ : NamedLft) (N F : RattleType) (n : Named.Ghosts N.Denot) (t : Planted.Ghosts N.Denot) (f : Located.Ghosts F.Denot)
+    → IsSync (Ground.the_row ℓ N F n t f)
+ground_sync ℓ N F n t f =
+    view_sync (inside.the_row ℓ N F n t f) _ _ _ _
+    (recorded_sync (inside.the_field ℓ N F n t f).row _ _ (inside.the_type ℓ N F n t f).to_one
+    (struct_sync (shape (inside.the_type ℓ N F n t f)) (
       global.the_field_sync,
       (
-        shr_sync _ _ (Floor.the_row N n) (floor.the_sync N n),
-        (shr_sync _ _ Prog.the_row prog_sync, (limits.the_sync, (flag.the_field_sync, (phantom.the_field_sync F, tt)))),
+        shr_sync _ _ (Floor.the_row N n t) (floor.the_sync N n t),
+        (
+          shr_sync _ _ Prog.the_row prog_sync,
+          (shr_sync _ _ Shape.the_row tree.the_sync, (limits.the_sync, (flag.the_field_sync, (phantom.the_field_sync F, tt)))),
+        ),
       ),
     )))

@@ -1,8 +1,8 @@
 //! Whether a floor is worth what it costs.
 //!
-//! To lay out a floor and to take the run back costs a pass over all tasks that may be made and over all entries. A run whose
-//! segments are short would spend its time on floors. So its work pays for them: after a floor, another one is laid out only once
-//! as much work was done as it costs. All that is counted here is an estimate, on which no clause rests.
+//! To lay out a floor and to take the run back costs a pass over all tasks that may be made, over all nodes and over all entries.
+//! A run whose segments are short would spend its time on floors. So its work pays for them: after a floor, another one is laid
+//! out only once as much work was done as it costs. All that is counted here is an estimate, on which no clause rests.
 
 use task_floor::Rest;
 use twe_limits::Limits;
@@ -36,12 +36,13 @@ impl Account {
         self.work = self.work.saturating_add(PER_MOVE).saturating_add(fuel);
     }
 
-    /// A floor is laid out for a run.
-    pub(crate) fn lay_out(&mut self, lim: Limits, rest: &Rest) {
+    /// A floor with so many nodes is laid out for a run.
+    pub(crate) fn lay_out(&mut self, lim: Limits, nodes: u32, rest: &Rest) {
         let entries = rest.journal.len() as u64;
         self.due = self
             .work
             .saturating_add(lim.tasks as u64)
+            .saturating_add(nodes as u64)
             .saturating_add(entries);
     }
 

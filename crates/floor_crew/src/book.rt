@@ -13,8 +13,8 @@ use twe_io::Memory;
 /// How many tasks that one bar held are found held again before the others of them wait for the next bar unseen.
 const MOST_MISSES: u32 = 8;
 
-/// How many tasks are found that may run before a round begins. The others wait for the next one.
-const MOST_RUNNING: usize = 64;
+/// How many tasks are found that may run before a round begins. The others are looked at in it.
+const MOST_RUNNING: usize = 2;
 
 /// Which tasks are to be looked at, and which were found to wait, to be held back, or to be able to run.
 #[derive(Drop)]

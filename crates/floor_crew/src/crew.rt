@@ -1,4 +1,5 @@
-//! A crew whose rounds run on a floor: a run whose moves are taken one by one between the rounds, and by workers in them.
+//! A crew whose rounds run on a floor with the nodes of the program's tree: a run whose moves are taken one by one between the
+//! rounds, and by workers in them.
 ghost use Rattle.std.specs.Prelude.{◌≡◌, ◌≤◌, [], Some, None, IfOk, IfErr, OnOk, OnErr};
 ghost use Rattle.soundness_laws.specs.KeepsEffects.{KeepsEffects};
 ghost use Rattle.twe_machine.specs.Runs.{Legal};
@@ -11,6 +12,7 @@ use crate::alone::take;
 use crate::at_rest::RunAtRest;
 use crate::book::Book;
 use crate::going_on::go_on;
+use effect_tree::Shape;
 use flat_sched::stuck_cycle;
 use seg_journal::Journal;
 use std::alloc::Global;
@@ -29,6 +31,8 @@ use twe_rounds::{Gate, Quietly, lost};
 pub struct FloorCrew {
     alloc: Global,
     prog: Snapshot<Prog>,
+    // The shape of the program's tree.
+    shape: Shape,
     lim: Limits,
     workers: u32,
     run: Option<RunAtRest>,
@@ -39,7 +43,7 @@ impl Model for FloorCrew {
     ghost use Rattle.std.specs.Prelude.{◌≤◌};
     ghost use Rattle.soundness_laws.specs.KeepsEffects.{KeepsEffects};
     ghost use Rattle.twe_rounds.specs.Crews.{CrewRun};
-    ghost use Rattle.floor_crew.specs.inner.Keeping.{IsKept, journal_of};
+    ghost use Rattle.floor_crew.specs.inner.Keeping.{IsKept, IsShapeOf, journal_of};
 
     ghost Value = { CrewRun };
 
@@ -51,7 +55,8 @@ impl Model for FloorCrew {
 
     ghost view = { λ crew. record { prog = crew.prog.value; lim = crew.lim; workers = crew.workers; journal = journal_of crew.run } };
 
-    ghost invariant = { λ crew. (1 ≤ crew.workers) × (crew.workers ≤ 64) × KeepsEffects crew.prog.value × IsKept crew.prog.value crew.lim crew.run };
+    ghost invariant = { λ crew. (1 ≤ crew.workers) × (crew.workers ≤ 64) × KeepsEffects crew.prog.value × IsKept crew.prog.value crew.lim crew.run
+        × IsShapeOf crew.prog.value crew.shape };
 }
 
 impl FloorCrew {
@@ -66,6 +71,7 @@ impl FloorCrew {
         Ok(FloorCrew {
             alloc,
             prog: Snapshot::of(p),
+            shape: Shape::build(alloc, p)?,
             lim,
             workers,
             run: Some(run),
@@ -87,8 +93,8 @@ impl FloorCrew {
     }
 
     /// Takes the lowest legal move, if the run can go on, and then goes on until no task may. As long as no two tasks may run
-    /// beside each other, moves are taken at rest. If two may, the workers run segments on a floor until they find no more that
-    /// may run.
+    /// beside each other, moves are taken at rest. If two may, the workers admit tasks and run segments on a floor until they
+    /// find no task that may go on.
     pub fn round<R: Threads + Wait + Sync, G: Gate + Sync>(
         &mut self,
         rt: &R,
@@ -105,6 +111,7 @@ impl FloorCrew {
             rt,
             self.alloc,
             p,
+            &self.shape,
             self.lim,
             self.workers,
             run,

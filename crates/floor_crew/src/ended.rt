@@ -1,17 +1,20 @@
-//! What a worker knows of tasks that have ended, for the tasks of its list that wait for them.
+//! What a worker knows of tasks that have ended, for the tasks of its list that wait for them or are held back by them.
 
 use seg_journal::{End, Entry, Journal, Kind, Move};
 use std::alloc::Global;
+use std::collections::BTreeMap;
 use twe_io::Memory;
 use twe_rounds::Waiting;
 
-/// Tasks that were found done, and those for which others wait.
+/// Tasks that were found done, and those that are awaited: others wait for them, or are held back by them.
 #[derive(Drop)]
 pub(crate) struct Ended {
     // The ends of the tasks that were found done, as entries of a journal, which a list of waiting tasks reads.
     ends: Journal,
-    // The awaited tasks that were not found done yet.
+    // The awaited tasks that were not found done yet, each once.
     awaited: Vec<u32>,
+    // The same tasks.
+    listed: BTreeMap<u32, ()>,
     // Which of them is looked at next.
     at: usize,
 }
@@ -22,6 +25,7 @@ impl Ended {
         Ended {
             ends: Journal::new(alloc),
             awaited: Vec::new(alloc),
+            listed: BTreeMap::new(alloc),
             at: 0,
         }
     }
@@ -38,9 +42,11 @@ impl Ended {
         })
     }
 
-    /// Some task waits for this one.
+    /// Some task waits for this one, or is held back by it.
     pub(crate) fn await_end(&mut self, task: u32) -> Result<(), Memory> {
-        self.awaited.push(task)?;
+        if self.listed.insert(task, ())?.is_none() {
+            self.awaited.push(task)?;
+        }
         Ok(())
     }
 
@@ -64,6 +70,7 @@ impl Ended {
         if self.at < self.awaited.len() {
             self.awaited.swap_remove(self.at);
         }
+        self.listed.remove(&task);
         self.end(task)
     }
 

@@ -11,6 +11,7 @@ use crate::at_rest::RunAtRest;
 use crate::book::Book;
 use crate::quiet::next_move;
 use crate::round::round;
+use effect_tree::Shape;
 use std::alloc::Global;
 use std::marker::Brand;
 use std::sync::Wait;
@@ -27,6 +28,7 @@ pub(crate) fn go_on<R: Threads + Wait + Sync, G: Gate + Sync>(
     rt: &R,
     alloc: Global,
     p: &Prog,
+    shape: &Shape,
     lim: Limits,
     workers: u32,
     run: RunAtRest,
@@ -45,7 +47,7 @@ pub(crate) fn go_on<R: Threads + Wait + Sync, G: Gate + Sync>(
         return Ok(run);
     };
     take(alloc, p, lim, &mut run, book, mv)?;
-    go_on_from(rt, alloc, p, lim, workers, run, book, gate)
+    go_on_from(rt, alloc, p, shape, lim, workers, run, book, gate)
 }
 
 /// Takes moves at rest, and a round whenever two tasks may run beside each other, until no task may go on.
@@ -54,6 +56,7 @@ fn go_on_from<R: Threads + Wait + Sync, G: Gate + Sync>(
     rt: &R,
     alloc: Global,
     p: &Prog,
+    shape: &Shape,
     lim: Limits,
     workers: u32,
     run: RunAtRest,
@@ -70,9 +73,9 @@ fn go_on_from<R: Threads + Wait + Sync, G: Gate + Sync>(
         if !go_on_alone(alloc, p, lim, &mut run, book)? {
             return Ok(run);
         }
-        book.account.lay_out(lim, &run.rest);
+        book.account.lay_out(lim, shape.nodes(), &run.rest);
         book.begin_round()?;
-        run = side_by_side(rt, alloc, p, lim, workers, run, gate)?;
+        run = side_by_side(rt, alloc, p, shape, lim, workers, run, gate)?;
         book.account.recount(lim, &run.rest);
         book.read(run.rest.journal.as_slice())?;
     }
@@ -84,6 +87,7 @@ fn side_by_side<R: Threads + Wait + Sync, G: Gate + Sync>(
     rt: &R,
     alloc: Global,
     p: &Prog,
+    shape: &Shape,
     lim: Limits,
     workers: u32,
     run: RunAtRest,
@@ -95,6 +99,6 @@ fn side_by_side<R: Threads + Wait + Sync, G: Gate + Sync>(
     ensures { IfOk result (HasGoneOn p.now lim run.rest.journal) }
 {
     let RunAtRest { rest, .. } = run;
-    let rest = round::<Brand, R, G>(rt, alloc, p, lim, workers, rest, gate)?;
+    let rest = round::<Brand, R, G>(rt, alloc, p, shape, lim, workers, rest, gate)?;
     RunAtRest::of(alloc, p, lim, rest)
 }

@@ -1,32 +1,45 @@
-//! The floor of a round, with what every worker knows: the program that is run, and its limits.
+//! The floor of a round, with what every worker knows: the program that is run, its limits and the shape of its tree.
 ghost use Rattle.std.specs.Prelude.{◌≡◌, ◌<◌, IfOk};
 ghost use Rattle.floor_crew.specs.inner.Lent.{IsOtherOn};
 
 use crate::located::Located;
+use effect_tree::Shape;
 use floor_rule::Phase;
 use floor_table::Named;
 use std::alloc::Global;
 use std::marker::{Model, PhantomData};
+use std::sync::Wait;
 use std::sync::atomic::{AtomicBool, Ordering};
-use task_floor::{Floor, FloorWorker, Served};
+use std::thread;
+use task_floor::Served;
+use tree_floor::Floor;
+use tree_serve::{Admission, TreeWorker, Workshop};
+use tree_table::Planted;
 use twe_io::Memory;
 use twe_limits::Limits;
 use twe_program::Prog;
 use twe_rounds::{Gate, Look};
 
+/// How often an admission is tried again at once.
+const MOST_TRIES: u32 = 16;
+
+/// How many waits are followed from one task.
+const MOST_WAITS: u32 = u32::MAX;
+
 /// The floor of a round.
 #[derive(Drop)]
-pub(crate) struct Ground<'a, N: Named, F: Located> {
+pub(crate) struct Ground<'a, N: Named + Planted, F: Located> {
     alloc: Global,
     floor: &'a Floor<N>,
     p: &'a Prog,
+    shape: &'a Shape,
     lim: Limits,
     // Whether some task has met a fault. Then no worker begins another segment.
     faulted: AtomicBool,
     of: PhantomData<F>,
 }
 
-impl<'a, N: Named, F: Located> Model for Ground<'a, N, F> {
+impl<'a, N: Named + Planted, F: Located> Model for Ground<'a, N, F> {
     ghost use Rattle.std.specs.Prelude.{◌≡◌};
     ghost use Rattle.twe_limits.specs.Limits.{Bounds};
 
@@ -34,79 +47,180 @@ impl<'a, N: Named, F: Located> Model for Ground<'a, N, F> {
 
     ghost view = { λ ground. ground.lim };
 
-    ghost invariant = { λ ground. (ground.floor.now ≡ F.table) × (ground.p.now ≡ N.prog) × (ground.lim ≡ N.lim) };
+    ghost invariant = { λ ground. (ground.floor.now ≡ F.table) × (ground.p.now ≡ N.prog) × (ground.lim ≡ N.lim)
+        × (ground.shape.now ≡ N.nodes) };
 }
 
-impl<'a, N: Named, F: Located> Ground<'a, N, F> {
+impl<'a, N: Named + Planted, F: Located> Ground<'a, N, F> {
     /// The ground of a round on this floor.
-    pub(crate) fn new(alloc: Global, floor: &'a Floor<N>, p: &'a Prog, lim: Limits) -> Self
+    pub(crate) fn new(
+        alloc: Global,
+        floor: &'a Floor<N>,
+        p: &'a Prog,
+        shape: &'a Shape,
+        lim: Limits,
+    ) -> Self
         requires located { floor.now ≡ F.table }
-        requires named { (p.now ≡ N.prog) × (lim ≡ N.lim) }
+        requires named { (p.now ≡ N.prog) × (lim ≡ N.lim) × (shape.now ≡ N.nodes) }
     {
         Ground {
             alloc,
             floor,
             p,
+            shape,
             lim,
             faulted: AtomicBool::new(false),
             of: PhantomData,
         }
     }
 
-    /// What may be done next for a task.
-    pub(crate) fn look(&self, worker: &mut FloorWorker, task: u32) -> Look
-        requires { IsOtherOn F.table worker.old }
-        ensures { IsOtherOn F.table worker.new }
+    /// Where workers serve on this ground.
+    fn shop(&self) -> Workshop<'a, N>
+        ensures { result ≡ F.table }
     {
+        Workshop::new(self.alloc, self.p, self.lim, self.shape, self.floor)
+    }
+
+    /// What may be done next for a task. A task that was made is admitted if it may be. After `Memory` the worker is gone.
+    pub(crate) fn look<R: Wait>(
+        &self,
+        rt: &R,
+        worker: TreeWorker,
+        task: u32,
+    ) -> Result<(TreeWorker, Look), Memory>
+        requires { IsOtherOn F.table worker }
+        ensures { IfOk result (λ looked. IsOtherOn F.table looked.0) }
+    {
+        let mut worker = worker;
         if self.faulted.load(Ordering::SeqCst) {
-            return Look::Over;
+            return Ok((worker, Look::Over));
         }
-        match self.phase(worker, task) {
-            Phase::Running => Look::Runs,
-            Phase::Waits { on } => self.look_at_wait(worker, on),
-            _ => Look::Over,
+        match self.phase(&mut worker, task) {
+            Phase::Running => Ok((worker, Look::Runs)),
+            Phase::Made => self.admit(rt, worker, task),
+            Phase::Waits { on } => {
+                let look = self.look_at_wait(&mut worker, on);
+                Ok((worker, look))
+            }
+            _ => Ok((worker, Look::Over)),
         }
     }
 
-    /// What may be done next for a task that waits for `on`.
-    fn look_at_wait(&self, worker: &mut FloorWorker, on: u32) -> Look
+    /// Admits a task if it may be admitted. One that was held back is tried again if what held it is about to go.
+    fn admit<R: Wait>(
+        &self,
+        rt: &R,
+        worker: TreeWorker,
+        task: u32,
+    ) -> Result<(TreeWorker, Look), Memory>
+        requires { IsOtherOn F.table worker }
+        ensures { IfOk result (λ looked. IsOtherOn F.table looked.0) }
+    {
+        let mut worker = worker;
+        'tries: for _ in 0..MOST_TRIES {
+            let (other, look) = self.try_once(rt, worker, task)?;
+            worker = other;
+            let Look::Held { by } = look else {
+                return Ok((worker, look));
+            };
+            if !self.may_go_soon(&mut worker, by, task) {
+                return Ok((worker, look));
+            }
+            thread::yield_now();
+        }
+        self.try_once(rt, worker, task)
+    }
+
+    /// Tries once to admit a task. If another worker has its turn, that one goes on with it.
+    fn try_once<R: Wait>(
+        &self,
+        rt: &R,
+        worker: TreeWorker,
+        task: u32,
+    ) -> Result<(TreeWorker, Look), Memory>
+        requires { IsOtherOn F.table worker }
+        ensures { IfOk result (λ looked. IsOtherOn F.table looked.0) }
+    {
+        if task >= self.lim.tasks {
+            return Ok((worker, Look::Over));
+        }
+        let (worker, admission) = self.shop().admit(rt, worker, task)?;
+        match admission {
+            Admission::Admitted => Ok((worker, Look::Runs)),
+            Admission::Held { by } => Ok((worker, Look::Held { by })),
+            Admission::Over => Ok((worker, Look::Over)),
+            Admission::Busy { .. } => Ok((worker, Look::Over)),
+        }
+    }
+
+    /// Whether what held a task back is no bar any more, or will not be one for long: it is done, it is still to be admitted
+    /// itself, or the chain of its waits leads to the task.
+    fn may_go_soon(&self, worker: &mut TreeWorker, by: u32, task: u32) -> bool
         requires { IsOtherOn F.table worker.old }
         ensures { IsOtherOn F.table worker.new }
     {
-        match self.phase(worker, on) {
-            Phase::Done => Look::Runs,
-            _ => Look::Waits { on, next: None },
+        let mut at = by;
+        'waits: for _ in 0..MOST_WAITS {
+            match self.phase(worker, at) {
+                Phase::Waits { on } => {
+                    if on == task {
+                        return true;
+                    }
+                    at = on;
+                }
+                Phase::Made => return at == by,
+                Phase::Done => return true,
+                _ => return false,
+            }
         }
+        false
+    }
+
+    /// What may be done next for a task that waits for `on`. If the chain of waits from there ends at a task that is still to be
+    /// admitted, that one is to be looked at next.
+    fn look_at_wait(&self, worker: &mut TreeWorker, on: u32) -> Look
+        requires { IsOtherOn F.table worker.old }
+        ensures { IsOtherOn F.table worker.new }
+    {
+        let mut at = on;
+        'waits: for _ in 0..MOST_WAITS {
+            match self.phase(worker, at) {
+                Phase::Done => return done_or_waits(on, at),
+                Phase::Waits { on: next } => at = next,
+                Phase::Made => return Look::Waits { on, next: Some(at) },
+                _ => return Look::Waits { on, next: None },
+            }
+        }
+        Look::Waits { on, next: None }
     }
 
     /// What the phase word of a task says; `Absent` if no task of this number may be made.
-    pub(crate) fn phase(&self, worker: &mut FloorWorker, task: u32) -> Phase
+    pub(crate) fn phase(&self, worker: &mut TreeWorker, task: u32) -> Phase
         requires { IsOtherOn F.table worker.old }
         ensures { IsOtherOn F.table worker.new }
     {
         if task < self.lim.tasks {
-            self.floor.glance(worker, task)
+            self.shop().glance(worker, task)
         } else {
             Phase::Absent
         }
     }
 
     /// Lets a worker run the next segment of a task. `None` if no task of this number may be made.
-    pub(crate) fn serve<G: Gate>(
+    pub(crate) fn serve<R: Wait, G: Gate>(
         &self,
-        worker: FloorWorker,
+        rt: &R,
+        worker: TreeWorker,
         task: u32,
         gate: &G,
-    ) -> Result<(FloorWorker, Option<Served>), Memory>
+    ) -> Result<(TreeWorker, Option<Served>), Memory>
         requires { IsOtherOn F.table worker }
         ensures { IfOk result (λ served. IsOtherOn F.table served.0) }
     {
         if task >= self.lim.tasks {
             return Ok((worker, None));
         }
-        let (worker, served) = self
-            .floor
-            .serve(self.alloc, self.p, self.lim, worker, task, gate)?;
+        let (worker, served) = self.shop().serve(rt, worker, task, gate)?;
         Ok((worker, Some(served)))
     }
 
@@ -118,5 +232,14 @@ impl<'a, N: Named, F: Located> Ground<'a, N, F> {
     /// Where memory comes from.
     pub(crate) fn alloc(&self) -> Global {
         self.alloc
+    }
+}
+
+/// What may be done next for a task that waits for `on`, if the task `at`, to which the chain of waits leads, is done.
+fn done_or_waits(on: u32, at: u32) -> Look {
+    if at == on {
+        Look::Runs
+    } else {
+        Look::Waits { on, next: None }
     }
 }

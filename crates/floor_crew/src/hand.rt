@@ -8,23 +8,24 @@ use crate::on_floor::OnFloor;
 use floor_table::Named;
 use std::marker::{Model, PhantomData};
 use std::sync::Wait;
-use task_floor::FloorWorker;
+use tree_serve::TreeWorker;
+use tree_table::Planted;
 use twe_rounds::{Gate, Site, Worker};
 
 /// A worker of a round with its deck, and with its stand on the floor, unless it found no memory.
 #[derive(Drop)]
 pub(crate) struct Hand<F: Located> {
     player: Worker,
-    worker: Option<FloorWorker>,
+    worker: Option<TreeWorker>,
     of: PhantomData<F>,
 }
 
 impl<F: Located> Model for Hand<F> {
     ghost use Rattle.std.specs.Prelude.{Option, IfSome};
-    ghost use Rattle.task_floor.specs.Segments.{StandValue};
+    ghost use Rattle.tree_floor.specs.Stands.{TreeStand};
     ghost use Rattle.floor_crew.specs.inner.Lent.{IsOtherOn};
 
-    ghost Value = { Option StandValue };
+    ghost Value = { Option TreeStand };
 
     ghost view = { λ hand. hand.worker };
 
@@ -33,7 +34,7 @@ impl<F: Located> Model for Hand<F> {
 
 impl<F: Located> Hand<F> {
     /// A worker with this deck and this stand.
-    pub(crate) fn new(player: Worker, worker: FloorWorker) -> Self
+    pub(crate) fn new(player: Worker, worker: TreeWorker) -> Self
         requires { IsOtherOn F.table worker }
     {
         Hand {
@@ -44,7 +45,7 @@ impl<F: Located> Hand<F> {
     }
 
     /// The stand, unless the worker found no memory.
-    pub(crate) fn into_worker(self) -> Option<FloorWorker>
+    pub(crate) fn into_worker(self) -> Option<TreeWorker>
         ensures { IfSome result (IsOtherOn F.table) }
     {
         let Hand { worker, .. } = self;
@@ -52,14 +53,14 @@ impl<F: Located> Hand<F> {
     }
 
     /// Works on the floor until no number is left to be dealt with.
-    pub(crate) fn work<N: Named, R: Wait, G: Gate>(
+    pub(crate) fn work<N: Named + Planted, R: Wait, G: Gate>(
         &mut self,
         rt: &R,
         ground: &Ground<'_, N, F>,
         site: &Site<'_, G>,
     ) {
         let worker = self.worker.take();
-        let mut access = OnFloor::new(ground, site.gate, worker);
+        let mut access = OnFloor::new(rt, ground, site.gate, worker);
         self.player.work(rt, &mut access, site);
         self.worker = access.into_worker();
     }

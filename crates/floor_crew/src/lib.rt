@@ -1,6 +1,6 @@
 //! Runs by workers on the floor. Between rounds a run lies still: moves are taken one by one, and tasks that may be admitted are
-//! admitted, as long as no two tasks may run beside each other. A round puts the run on a floor, on which workers run segments at
-//! the same time, and takes it back.
+//! admitted, as long as no two tasks may run beside each other. A round puts the run on a floor with the nodes of the program's
+//! tree, on which workers admit tasks and run segments at the same time, and takes it back.
 #![tactic(auto)]
 
 mod account;

@@ -9,7 +9,10 @@ use floor_rule::Phase;
 use floor_table::Named;
 use seg_journal::End;
 use std::marker::Model;
-use task_floor::{FloorWorker, Served};
+use std::sync::Wait;
+use task_floor::Served;
+use tree_serve::TreeWorker;
+use tree_table::Planted;
 use twe_io::Memory;
 use twe_rounds::{Access, Gate, Look, Waiting, lost};
 
@@ -18,39 +21,42 @@ const GLANCES: usize = 64;
 
 /// A worker's way to the floor.
 #[derive(Drop)]
-pub(crate) struct OnFloor<'a, N: Named, F: Located, G> {
+pub(crate) struct OnFloor<'a, R: Wait, N: Named + Planted, F: Located, G> {
+    rt: &'a R,
     ground: &'a Ground<'a, N, F>,
     // What is told of each access to a cell.
     gate: &'a G,
     // `None` once the worker found no memory.
-    worker: Option<FloorWorker>,
+    worker: Option<TreeWorker>,
     // A task whose turn another worker had. That one goes on with it.
     busy: Option<u32>,
     ended: Ended,
 }
 
-impl<'a, N: Named, F: Located, G> Model for OnFloor<'a, N, F, G> {
+impl<'a, R: Wait, N: Named + Planted, F: Located, G> Model for OnFloor<'a, R, N, F, G> {
     ghost use Rattle.std.specs.Prelude.{Option, IfSome};
-    ghost use Rattle.task_floor.specs.Segments.{StandValue};
+    ghost use Rattle.tree_floor.specs.Stands.{TreeStand};
     ghost use Rattle.floor_crew.specs.inner.Lent.{IsOtherOn};
 
-    ghost Value = { Option StandValue };
+    ghost Value = { Option TreeStand };
 
     ghost view = { λ access. access.worker };
 
     ghost invariant = { λ access. IfSome access.worker (IsOtherOn F.table) };
 }
 
-impl<'a, N: Named, F: Located, G: Gate> OnFloor<'a, N, F, G> {
+impl<'a, R: Wait, N: Named + Planted, F: Located, G: Gate> OnFloor<'a, R, N, F, G> {
     /// The way of this worker.
     pub(crate) fn new(
+        rt: &'a R,
         ground: &'a Ground<'a, N, F>,
         gate: &'a G,
-        worker: Option<FloorWorker>,
+        worker: Option<TreeWorker>,
     ) -> Self
         requires { IfSome worker (IsOtherOn F.table) }
     {
         OnFloor {
+            rt,
             ground,
             gate,
             worker,
@@ -60,14 +66,15 @@ impl<'a, N: Named, F: Located, G: Gate> OnFloor<'a, N, F, G> {
     }
 
     /// The worker, unless it found no memory.
-    pub(crate) fn into_worker(self) -> Option<FloorWorker>
+    pub(crate) fn into_worker(self) -> Option<TreeWorker>
         ensures { IfSome result (IsOtherOn F.table) }
     {
         let OnFloor { worker, .. } = self;
         worker
     }
 
-    /// Looks at a few of the tasks that others of this worker's list wait for, and notes which of them have ended.
+    /// Looks at a few of the tasks for which others of this worker's list wait or by which they are held back, and notes which of
+    /// them have ended.
     fn glance(&mut self) -> Result<(), Memory> {
         for _ in 0..GLANCES {
             let Some(task) = self.ended.next_awaited() else {
@@ -83,6 +90,15 @@ impl<'a, N: Named, F: Located, G: Gate> OnFloor<'a, N, F, G> {
         Ok(())
     }
 
+    /// Notes for which task one waits, or which task holds it back.
+    fn await_end(&mut self, look: Look) -> Result<(), Memory> {
+        match look {
+            Look::Waits { on, .. } => self.ended.await_end(on),
+            Look::Held { by } => self.ended.await_end(by),
+            _ => Ok(()),
+        }
+    }
+
     /// Notes how a segment of a task has ended.
     fn note(&mut self, task: u32, end: End) -> Result<(), Memory> {
         match end {
@@ -96,19 +112,17 @@ impl<'a, N: Named, F: Located, G: Gate> OnFloor<'a, N, F, G> {
     }
 }
 
-impl<'a, N: Named, F: Located, G: Gate> Access for OnFloor<'a, N, F, G> {
+impl<'a, R: Wait, N: Named + Planted, F: Located, G: Gate> Access for OnFloor<'a, R, N, F, G> {
     fn look(&mut self, task: u32) -> Result<Look, Memory> {
         if self.busy.take() == Some(task) {
             return Ok(Look::Over);
         }
-        let Some(mut worker) = self.worker.take() else {
+        let Some(worker) = self.worker.take() else {
             return Err(lost());
         };
-        let look = self.ground.look(&mut worker, task);
+        let (worker, look) = self.ground.look(self.rt, worker, task)?;
         self.worker = Some(worker);
-        if let Look::Waits { on, .. } = look {
-            self.ended.await_end(on)?;
-        }
+        self.await_end(look)?;
         Ok(look)
     }
 
@@ -116,7 +130,7 @@ impl<'a, N: Named, F: Located, G: Gate> Access for OnFloor<'a, N, F, G> {
         let Some(worker) = self.worker.take() else {
             return Err(lost());
         };
-        let (worker, served) = self.ground.serve(worker, task, self.gate)?;
+        let (worker, served) = self.ground.serve(self.rt, worker, task, self.gate)?;
         self.worker = Some(worker);
         match served {
             Some(Served::Ran { end }) => {

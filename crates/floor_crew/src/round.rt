@@ -1,4 +1,4 @@
-//! A round on the floor.
+//! A round on the floor, in which workers admit tasks and run segments.
 ghost use Rattle.std.specs.Prelude.{◌≡◌, ◌≤◌, length, IfOk};
 ghost use mathlib.Core.List.{IsPrefix};
 ghost use Rattle.twe_program.specs.WellFormed.{IsWellFormed};
@@ -10,6 +10,7 @@ use crate::ground::Ground;
 use crate::hand::Hand;
 use crate::located::Located;
 use crate::stands::{join_all, split_all};
+use effect_tree::Shape;
 use floor_table::Named;
 use journal_merge::Part;
 use std::alloc::Global;
@@ -18,18 +19,21 @@ use std::sync::Wait;
 use std::sync::atomic::AtomicU64;
 use std::thread;
 use std::thread::Threads;
-use task_floor::{Floor, Rest, Stand};
+use task_floor::Rest;
+use tree_floor::{Floor, Stand};
+use tree_table::Planted;
 use twe_io::{List, Memory};
 use twe_limits::Limits;
 use twe_program::Prog;
 use twe_rounds::{Gate, Site, Team, deal};
 
-/// A round of so many workers: the run goes on a floor, on which they run segments at the same time, until they find no more that
-/// may run. Returns the run after that, whose journal begins with the one from before.
-pub(crate) fn round<'a, N: Named + Send + Sync, R: Threads + Wait + Sync, G: Gate + Sync>(
+/// A round of so many workers: the run goes on a floor, on which they admit tasks and run segments at the same time, until they
+/// find no task that may go on. Returns the run after that, whose journal begins with the one from before.
+pub(crate) fn round<'a, N: Named + Planted + Send + Sync, R: Threads + Wait + Sync, G: Gate + Sync>(
     rt: &'a R,
     alloc: Global,
     p: &'a Prog,
+    shape: &'a Shape,
     lim: Limits,
     workers: u32,
     rest: Rest,
@@ -37,18 +41,18 @@ pub(crate) fn round<'a, N: Named + Send + Sync, R: Threads + Wait + Sync, G: Gat
 ) -> Result<Rest, Memory>
     requires some { 1 ≤ workers }
     requires accepted { KeepsEffects N.prog }
-    requires named { (p.now ≡ N.prog) × (lim ≡ N.lim) }
+    requires named { (p.now ≡ N.prog) × (lim ≡ N.lim) × (shape.now ≡ N.nodes) }
     requires run { IsRun N.prog N.lim rest.journal rest.state }
     ensures run { IfOk result (λ after. IsRun N.prog N.lim after.journal after.state) }
     ensures begins { IfOk result (λ after. IsPrefix rest.journal after.journal) }
 {
     let _main = p.main;
     let team = deal(alloc, &rest.state, 0, lim.tasks, workers, None)?;
-    let (floor, stand, part) = Floor::<N>::wake(alloc, lim, rest)?;
+    let (floor, stand, part) = Floor::<N>::wake(alloc, shape, lim, rest)?;
     let mut parts = List::new(alloc);
     parts.push(part)?;
     let stand = lend::<N, Brand, R, G>(
-        rt, alloc, p, lim, workers, &floor, stand, team, gate, &mut parts,
+        rt, alloc, p, shape, lim, workers, &floor, stand, team, gate, &mut parts,
     )?;
     floor.rest(alloc, stand, parts.as_slice())
 }
@@ -56,7 +60,7 @@ pub(crate) fn round<'a, N: Named + Send + Sync, R: Threads + Wait + Sync, G: Gat
 /// Lends the floor to the workers. The main stand is joined with theirs, and the entries of each are kept beside its own.
 fn lend<
     'a,
-    N: Named + Send + Sync,
+    N: Named + Planted + Send + Sync,
     F: Located + Send + Sync,
     R: Threads + Wait + Sync,
     G: Gate + Sync,
@@ -64,6 +68,7 @@ fn lend<
     rt: &'a R,
     alloc: Global,
     p: &'a Prog,
+    shape: &'a Shape,
     lim: Limits,
     workers: u32,
     floor: &'a Floor<N>,
@@ -73,7 +78,7 @@ fn lend<
     parts: &mut List<Part>,
 ) -> Result<Stand, Memory>
     requires some { 1 ≤ workers }
-    requires named { (p.now ≡ N.prog) × (lim ≡ N.lim) }
+    requires named { (p.now ≡ N.prog) × (lim ≡ N.lim) × (shape.now ≡ N.nodes) }
     requires located { floor.now ≡ F.table }
     requires new { IsNewOn F.table stand 0 }
     requires parts { HasParts stand parts.old }
@@ -84,7 +89,7 @@ fn lend<
     let mut stand = stand;
     let pending = AtomicU64::new(team.pending);
     let mut hands = split_all::<N, F>(alloc, floor, &mut stand, team.workers)?;
-    let ground: Ground<'_, N, F> = Ground::new(alloc, floor, p, lim);
+    let ground: Ground<'_, N, F> = Ground::new(alloc, floor, p, shape, lim);
     let shared = Shared {
         rt,
         gate,
@@ -99,14 +104,14 @@ fn lend<
 
 /// What the workers of a round share.
 #[derive(Drop)]
-struct Shared<'a, R: Wait, G, N: Named, F: Located> {
+struct Shared<'a, R: Wait, G, N: Named + Planted, F: Located> {
     rt: &'a R,
     gate: &'a G,
     pending: &'a AtomicU64,
     ground: &'a Ground<'a, N, F>,
 }
 
-impl<'a, R: Wait, G: Gate, N: Named, F: Located> Shared<'a, R, G, N, F> {
+impl<'a, R: Wait, G: Gate, N: Named + Planted, F: Located> Shared<'a, R, G, N, F> {
     /// Sends a worker to work.
     fn send(&self, hand: &mut Hand<F>) {
         let site = Site {

@@ -8,12 +8,14 @@ use crate::located::Located;
 use floor_table::Named;
 use journal_merge::Part;
 use std::alloc::Global;
-use task_floor::{EntryLog, Floor, FloorWorker, Stand};
+use tree_floor::{EntryLog, Floor, Stand};
+use tree_serve::TreeWorker;
+use tree_table::Planted;
 use twe_io::{List, Memory};
 use twe_rounds::{Worker, lost};
 
 /// A stand for each worker, split off from the main one.
-pub(crate) fn split_all<N: Named, F: Located>(
+pub(crate) fn split_all<N: Named + Planted, F: Located>(
     alloc: Global,
     floor: &Floor<N>,
     stand: &mut Stand,
@@ -22,7 +24,7 @@ pub(crate) fn split_all<N: Named, F: Located>(
     requires located { floor.now ≡ F.table }
     requires new { IsNewOn F.table stand.old 0 }
     ensures split { IfOk result (λ hands. IsNewOn F.table stand.new (length hands.items)) }
-    ensures part { IfOk result (λ hands. stand.new.me.0.part ≡ stand.old.me.0.part) }
+    ensures part { IfOk result (λ hands. stand.new.me.0.floor.part ≡ stand.old.me.0.floor.part) }
 {
     let mut players = players;
     let mut hands = Vec::new(alloc);
@@ -31,14 +33,14 @@ pub(crate) fn split_all<N: Named, F: Located>(
             return Err(lost());
         };
         let other = floor.split(stand);
-        let worker = FloorWorker::new(number, other, EntryLog::new(alloc));
+        let worker = TreeWorker::new(number, other, EntryLog::new(alloc));
         hands.push(Hand::new(player, worker))?;
     }
     Ok(hands)
 }
 
 /// Joins the stands of all workers to the main one, and keeps the entries of each.
-pub(crate) fn join_all<N: Named, F: Located>(
+pub(crate) fn join_all<N: Named + Planted, F: Located>(
     floor: &Floor<N>,
     stand: &mut Stand,
     hands: Vec<Hand<F>>,

@@ -1,10 +1,13 @@
 -- The run of a crew, and what a quiet step does to it.
-use Rattle.std.specs.Prelude.{◌≡◌, ℕ, List, [], ◌∷◌, ◌++◌, Option, None, Some}
+use Rattle.std.specs.Prelude.{◌≡◌, ◌↔◌, ℕ, List, [], ◌∷◌, ◌++◌, Option, None, Some}
+use Rattle.region_paths.specs.declared.elements.Elem.{Elem}
+use Rattle.prefix_tree.specs.Nodes.{IsNode, IsTreeOfPaths}
 use Rattle.seg_journal.specs.declared.journal.Entry.{Entry}
 use Rattle.seg_journal.specs.declared.moves.Move.{Move}
 use Rattle.twe_limits.specs.Limits.{Bounds}
 use Rattle.twe_limits.specs.declared.fault.FaultKind.{FaultKind}
 use Rattle.twe_io.specs.declared.place.Place.{Place}
+use Rattle.twe_program.specs.Nodes.{IsNodePath}
 use Rattle.twe_program.specs.Program.{Program}
 use Rattle.twe_machine.specs.declared.ending.Outcome.TheVariants as outcomes
 use Rattle.twe_machine.specs.LowestFirst.{IsLowest}
@@ -24,6 +27,11 @@ journal_of (Some run) = Some run.rest.journal
 abbrev pub IsKept : Program → Bounds → Option RunAtRest → Type 0
 IsKept p lim None = Unit {0}
 IsKept p lim (Some run) = IsSound p lim run
+
+-- the nodes are those of the program's tree
+pub record IsShapeOf (p : Program) (nodes : List (List Elem)) : Type 0 where
+  pub tree : IsTreeOfPaths nodes
+  pub exact : (path : List Elem) → (IsNode nodes path ↔ IsNodePath p path)
 
 -- by the outcome of the run so far: the step takes the lowest legal move, if the run can go on, and else changes nothing
 abbrev pub Steps : Program → Bounds → RunAtRest → RunAtRest → Quietly → Type 0

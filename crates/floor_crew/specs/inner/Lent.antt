@@ -5,26 +5,26 @@ use Rattle.journal_merge.specs.declared.numbered.NumberedEntry.{NumberedEntry}
 use Rattle.journal_merge.specs.Merging.{all_of}
 use Rattle.floor_table.specs.declared.view.SeatKind.TheVariants.{Main, Other}
 use Rattle.floor_table.specs.Holds.{HasGivenAll}
-use Rattle.task_floor.specs.Segments.{StandValue}
+use Rattle.tree_floor.specs.Stands.{TreeStand}
 
 -- a stand of a worker on this table
-pub record IsOtherOn (table : TableId) (stand : StandValue) : Type 0 where
+pub record IsOtherOn (table : TableId) (stand : TreeStand) : Type 0 where
   pub here : stand.table_id ≡ table
-  pub kind : stand.me.0.kind ≡ Other
+  pub kind : stand.me.0.floor.kind ≡ Other
 
 -- The main stand on this table, which has nothing in hand. So many others are out.
-pub record IsMainOn (table : TableId) (stand : StandValue) (out : ℕ) : Type 0 where
+pub record IsMainOn (table : TableId) (stand : TreeStand) (out : ℕ) : Type 0 where
   pub here : stand.table_id ≡ table
-  pub kind : stand.me.0.kind ≡ Main
-  pub given : HasGivenAll stand.me.0
+  pub kind : stand.me.0.floor.kind ≡ Main
+  pub given : HasGivenAll stand.me.0.floor
   pub empty : stand.me.1 ≡ []
-  pub count : stand.me.0.out ≡ out
+  pub count : stand.me.0.floor.out ≡ out
 
 -- before others join it, and while the parts of those that have joined are kept beside its own
-abbrev pub HasParts : StandValue → List (List NumberedEntry) → Type 0
-HasParts stand parts = all_of parts ≡ stand.me.0.part
+abbrev pub HasParts : TreeStand → List (List NumberedEntry) → Type 0
+HasParts stand parts = all_of parts ≡ stand.me.0.floor.part
 
 -- the main stand on this table, from which so many others were split off, and which was joined to none of them
-pub record IsNewOn (table : TableId) (stand : StandValue) (split : ℕ) : Type 0 where
+pub record IsNewOn (table : TableId) (stand : TreeStand) (split : ℕ) : Type 0 where
   pub main : IsMainOn table stand split
-  pub number : stand.me.0.split ≡ split
+  pub number : stand.me.0.floor.split ≡ split

@@ -1,5 +1,8 @@
 use Rattle.floor_crew.proofs.going_on.side_by_side.Given as goal
 
--- the round is about the program and the limits
-abbrev pub ghosts-round : goal.ghosts-round
-ghosts-round g a = record { prog = a.p.now; lim = a.lim }
+-- the round is about the program, the limits and the nodes
+abbrev pub ghosts-round-N-Named : goal.ghosts-round-N-Named
+ghosts-round-N-Named g a = record { prog = a.p.now; lim = a.lim }
+
+abbrev pub ghosts-round-N-Planted : goal.ghosts-round-N-Planted
+ghosts-round-N-Planted g a = record { nodes = a.shape.now }

@@ -12,13 +12,13 @@ use Rattle.floor_crew.proofs.round.lend.Goals as goal
 -- the workers share the program, the gate, a word and the ground
 pub for_each_mut-requires-sync-F : goal.for_each_mut-requires-sync-F
 for_each_mut-requires-sync-F g c κs within =
-    param_sync 2 _ (arg_sync _ no _ (tuple_sync _ _ (shr_sync _ _ (Shared.the_row (record { mir = named 7; lft = κs.1.1.1.1.1.1.1.0 }) (param 2 g.row.R) (param 3 g.row.G) (param 0 g.row.N) (param 1 g.row.F) g.N.Named g.F.Located)
-    (recorded_sync (Shared.the_field (record { mir = named 7; lft = κs.1.1.1.1.1.1.1.0 }) (param 2 g.row.R) (param 3 g.row.G) (param 0 g.row.N) (param 1 g.row.F) g.N.Named g.F.Located).row _ _
-    (Shared.the_type (record { mir = named 7; lft = κs.1.1.1.1.1.1.1.0 }) (param 2 g.row.R) (param 3 g.row.G) (param 0 g.row.N) (param 1 g.row.F) g.N.Named g.F.Located).to_one
-    (struct_sync (shape (Shared.the_type (record { mir = named 7; lft = κs.1.1.1.1.1.1.1.0 }) (param 2 g.row.R) (param 3 g.row.G) (param 0 g.row.N) (param 1 g.row.F) g.N.Named g.F.Located)) (
+    param_sync 2 _ (arg_sync _ no _ (tuple_sync _ _ (shr_sync _ _ (Shared.the_row (record { mir = named 7; lft = κs.1.1.1.1.1.1.1.0 }) (param 2 g.row.R) (param 3 g.row.G) (param 0 g.row.N) (param 1 g.row.F) g.N.Named g.N.Planted g.F.Located)
+    (recorded_sync (Shared.the_field (record { mir = named 7; lft = κs.1.1.1.1.1.1.1.0 }) (param 2 g.row.R) (param 3 g.row.G) (param 0 g.row.N) (param 1 g.row.F) g.N.Named g.N.Planted g.F.Located).row _ _
+    (Shared.the_type (record { mir = named 7; lft = κs.1.1.1.1.1.1.1.0 }) (param 2 g.row.R) (param 3 g.row.G) (param 0 g.row.N) (param 1 g.row.F) g.N.Named g.N.Planted g.F.Located).to_one
+    (struct_sync (shape (Shared.the_type (record { mir = named 7; lft = κs.1.1.1.1.1.1.1.0 }) (param 2 g.row.R) (param 3 g.row.G) (param 0 g.row.N) (param 1 g.row.F) g.N.Named g.N.Planted g.F.Located)) (
       shr_sync _ _ _ (param_sync 2 _ c.type_bounds.sync-R),
       (
         shr_sync _ _ _ (param_sync 3 _ c.type_bounds.sync-G),
-        (shr_sync _ _ _ word.the_sync, (shr_sync _ _ _ (ground_sync _ (param 0 g.row.N) (param 1 g.row.F) g.N.Named g.F.Located), tt)),
+        (shr_sync _ _ _ word.the_sync, (shr_sync _ _ _ (ground_sync _ (param 0 g.row.N) (param 1 g.row.F) g.N.Named g.N.Planted g.F.Located), tt)),
       ),
     ))))))
