@@ -9,8 +9,8 @@ use Rattle.std.proofs.sync.atomic.AtomicBool.TheSendSync as flag
 use Rattle.twe_limits.proofs.limits.Limits.TheSendSync as limits
 use Rattle.effect_tree.proofs.shape.Shape.TheSendSync as tree
 use Rattle.effect_tree.specs.contracts.shape.Shape as Shape
-use Rattle.tree_floor.proofs.floor.Floor.TheSendSync as floor
-use Rattle.tree_floor.specs.contracts.floor.Floor as Floor
+use Rattle.task_floor.proofs.floor.Floor.TheSendSync as floor
+use Rattle.task_floor.specs.contracts.floor.Floor as Floor
 use Rattle.twe_program.specs.contracts.program.Prog as Prog
 use Rattle.twe_rounds.proofs.Crossing.{prog_sync}
 use Rattle.floor_table.specs.declared.rule.Named as Named

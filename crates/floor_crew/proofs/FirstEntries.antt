@@ -11,10 +11,10 @@ use Rattle.journal_merge.specs.declared.numbered.NumberedEntry.{NumberedEntry}
 use Rattle.journal_merge.specs.Merging.{IsMergeOf, journal_of}
 use Rattle.journal_merge.proofs.Slots.{of_all}
 use Rattle.floor_rule.proofs.Puts.{none_some, some_one}
-use Rattle.task_floor.specs.declared.rest.Rest.{Rest}
-use Rattle.task_floor.specs.Resting.{IsRestOf}
-use Rattle.task_floor.specs.Waking.{log_of}
-use Rattle.task_floor.proofs.Logs.{log_journal, log_order}
+use Rattle.floor_steps.specs.declared.rest.Rest.{Rest}
+use Rattle.floor_steps.specs.Resting.{IsRestOf}
+use Rattle.floor_steps.specs.Waking.{log_of}
+use Rattle.floor_steps.proofs.Logs.{log_journal, log_order}
 
 -- a list begins with one that has the same items at its places
 prefix_by_places : {A : Type 0} (xs ys : List A) → ((n : ℕ) (x : A) → slice_get xs n ≡ Some x → slice_get ys n ≡ Some x) → IsPrefix xs ys

@@ -6,14 +6,14 @@ use Rattle.journal_merge.specs.declared.numbered.NumberedEntry.{NumberedEntry}
 use Rattle.journal_merge.specs.Merging.{all_of}
 use Rattle.floor_table.specs.declared.view.SeatKind.TheVariants.{Other, Spent}
 use Rattle.floor_table.specs.FloorOf.{turn_in}
-use Rattle.task_floor.specs.Committing.{Log, empty_log}
+use Rattle.floor_steps.specs.Committing.{Log, empty_log}
 use Rattle.admission_core.specs.States.{Record}
 use Rattle.tree_table.specs.FloorSeats.{tasks_out}
 use Rattle.tree_table.specs.Holds.{first_tree_view, joined_tree_view, left_tree_view, right_tree_view}
 use Rattle.tree_table.specs.Seats.{TreeSeat}
 use Rattle.tree_table.specs.TreeOf.{content_in}
-use Rattle.tree_floor.specs.Holding.{IsIdleBeside}
-use Rattle.tree_floor.specs.Stands.{TreeStand}
+use Rattle.task_floor.specs.Holding.{IsIdleBeside}
+use Rattle.task_floor.specs.Stands.{TreeStand}
 use Rattle.floor_crew.specs.inner.Lent.{HasParts, IsMainOn, IsNewOn, IsOtherOn}
 
 -- the stand of a floor that was woken

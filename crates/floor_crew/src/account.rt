@@ -4,7 +4,7 @@
 //! A run whose segments are short would spend its time on floors. So its work pays for them: after a floor, another one is laid
 //! out only once as much work was done as it costs. All that is counted here is an estimate, on which no clause rests.
 
-use task_floor::Rest;
+use floor_steps::Rest;
 use twe_limits::Limits;
 use twe_machine::State;
 

@@ -7,7 +7,7 @@ ghost use Rattle.floor_crew.specs.inner.GoingOn.{IsSound};
 use crate::enabled::enabled_in;
 use seg_journal::{Entry, Journal, Move};
 use std::alloc::Global;
-use task_floor::Rest;
+use floor_steps::Rest;
 use twe_io::Memory;
 use twe_limits::Limits;
 use twe_machine::{EnabledTasks, links_agree, start, step};

@@ -22,7 +22,7 @@ pub(crate) struct Hand<F: Located> {
 
 impl<F: Located> Model for Hand<F> {
     ghost use Rattle.std.specs.Prelude.{Option, IfSome};
-    ghost use Rattle.tree_floor.specs.Stands.{TreeStand};
+    ghost use Rattle.task_floor.specs.Stands.{TreeStand};
     ghost use Rattle.floor_crew.specs.inner.Lent.{IsOtherOn};
 
     ghost Value = { Option TreeStand };

@@ -10,7 +10,7 @@ use floor_table::Named;
 use seg_journal::End;
 use std::marker::Model;
 use std::sync::Wait;
-use task_floor::Served;
+use floor_steps::Served;
 use tree_serve::TreeWorker;
 use tree_table::Planted;
 use twe_io::Memory;
@@ -35,7 +35,7 @@ pub(crate) struct OnFloor<'a, R: Wait, N: Named + Planted, F: Located, G> {
 
 impl<'a, R: Wait, N: Named + Planted, F: Located, G> Model for OnFloor<'a, R, N, F, G> {
     ghost use Rattle.std.specs.Prelude.{Option, IfSome};
-    ghost use Rattle.tree_floor.specs.Stands.{TreeStand};
+    ghost use Rattle.task_floor.specs.Stands.{TreeStand};
     ghost use Rattle.floor_crew.specs.inner.Lent.{IsOtherOn};
 
     ghost Value = { Option TreeStand };

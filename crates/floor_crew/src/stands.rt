@@ -8,7 +8,7 @@ use crate::located::Located;
 use floor_table::Named;
 use journal_merge::Part;
 use std::alloc::Global;
-use tree_floor::{EntryLog, Floor, Stand};
+use task_floor::{EntryLog, Floor, Stand};
 use tree_serve::TreeWorker;
 use tree_table::Planted;
 use twe_io::{List, Memory};

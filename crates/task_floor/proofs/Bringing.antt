@@ -1,67 +1,114 @@
--- The first turn of a task that an entry made.
-use Rattle.std.proofs.Common.{◌≡◌, ◌<◌, ℕ, List, Option, None, Some, refl, sym, ap, subst, ◌∙◌}
+-- The first turn of a task that an entry made, beside the nodes.
+use Rattle.std.proofs.Common.{◌≡◌, ◌<◌, ℕ, List, Option, None, Some, true, false, refl, sym, ap, subst, ◌∙◌}
+use Rattle.std.specs.Prelude.{is_some}
+use Rattle.region_paths.specs.declared.elements.Elem.{Elem}
 use Rattle.twe_limits.specs.Limits.{Bounds}
 use Rattle.twe_machine.specs.declared.state.TaskRow.{TaskRow}
-use Rattle.twe_machine.specs.declared.state.TaskStatus.{TaskStatus}
+use Rattle.twe_machine.specs.declared.state.TaskStatus.TheVariants as status
 use Rattle.twe_machine.specs.Moves.{status_at_start}
-use Rattle.twe_machine.specs.Rows.{awaited}
-use Rattle.floor_rule.specs.declared.view.DoneFact.{DoneFact}
 use Rattle.floor_rule.specs.declared.view.TaskSlot.{TaskSlot}
-use Rattle.floor_rule.specs.Rows.{phase_at, phase_of, slot_of}
-use Rattle.floor_rule.specs.Steps.{first_turn, with_row}
+use Rattle.floor_rule.specs.Rows.{slot_of}
+use Rattle.floor_rule.specs.Steps.{first_turn}
 use Rattle.floor_rule.proofs.Puts.{none_some, put_here, some_one}
 use Rattle.floor_table.specs.FloorOf.{turn_in}
-use Rattle.floor_table.specs.Tells.{Seat, drawn_with, with_turn}
-use Rattle.task_floor.specs.Committing.{with_brought}
-use Rattle.task_floor.specs.Leaving.{HasLeft, MayLeave}
-use Rattle.task_floor.specs.inner.Bringing.{MayBring}
+use Rattle.floor_steps.specs.Leaving.{MayLeave}
+use Rattle.node_rule.specs.TurnSteps.{LeavesNone}
+use Rattle.tree_table.specs.declared.view.TreeView.{TreeView}
+use Rattle.tree_table.specs.FloorSeats.{HasTaskSlots, floor_seat, tasks_out}
+use Rattle.tree_table.specs.Seats.{TreeSeat, tree_seen}
+use Rattle.tree_table.specs.TurnSeats.{MayLeaveTask, given_tree_view, gives_first}
+use Rattle.task_floor.specs.Committing.{left_to_place, made_by, spawned_slot, with_first, with_made}
+use Rattle.task_floor.specs.Leaving.{HasLeftTask, MayGiveNew, stored_view}
+use Rattle.task_floor.specs.inner.Bringing.{MayBringBeside}
 
--- there is a row, and its turn may be left with this slot and this phase
-pub record Brings (lim : Bounds) (me : Seat) (child : ℕ) (slot : TaskSlot) (drawn : Seat) (row : Option TaskRow) : Type 0 where
-  pub now : TaskRow
-  pub is : row ≡ Some now
-  pub seat : me ≡ drawn_with drawn child now
-  pub status : now.status ≡ status_at_start now.parent
-  pub below : child < lim.tasks
-  pub may : MayLeave me child slot (first_turn now) drawn.1
-  pub phase : phase_at (status_at_start slot.parent) (awaited slot.frame.next) ≡ phase_of now
+true_false : false ≡ true → ⊥
+true_false is = cc (is)
 
-pub brings : (lim : Bounds) (me : Seat) (child : ℕ) (held : Option TaskSlot) (slot : TaskSlot) (drawn : Seat) (row : Option TaskRow) → held ≡ Some slot → MayBring lim me child held drawn row → Brings lim me child slot drawn row
-brings lim me child held slot drawn None there may = absurd (none_some (sym may.slot_is ∙ there))
-brings lim me child held slot drawn (Some now) there may =
-    let same : slot ≡ slot_of now = some_one (sym there ∙ may.slot_is) in
-    let status = may.new now refl in
-    let out : MayLeave (drawn_with drawn child now) child slot (first_turn now) drawn.1 = record {
-      has = put_here (turn_in drawn.0.turns) child (Some (first_turn now));
-      closed = λ s is. absurd (none_some (sym may.closed ∙ is));
-      is = same;
-      out = refl;
-    } in
-    record {
-      now = now;
-      is = refl;
-      seat = may.is;
-      status = status;
-      below = may.below now refl;
-      may = subst (λ (m : Seat). MayLeave m child slot (first_turn now) drawn.1) (sym may.is) out;
-      phase = ap (λ (s : TaskSlot). phase_at (status_at_start s.parent) (awaited s.frame.next)) same ∙ ap (λ (s : TaskStatus). phase_at s (awaited now.frame.next)) (sym status);
+module _ (nodes : List (List Elem)) (lim : Bounds) (me : TreeSeat) (child : ℕ) (slot : TaskSlot) (drawn : TreeSeat) (row : TaskRow) (may : MayBringBeside lim me child (Some slot) drawn (Some row)) where
+  slot_same : slot ≡ slot_of row
+  slot_same = some_one may.slot_is
+
+  parent_same : slot.parent ≡ row.parent
+  parent_same = ap (λ (s : TaskSlot). s.parent) slot_same
+
+  pub below_made : child < lim.tasks
+  below_made = may.below row refl
+
+  pub slots_made : HasTaskSlots lim.tasks me.1
+  slots_made = subst (λ (m : TreeSeat). HasTaskSlots lim.tasks m.1) (sym may.is) (below_made, may.slots)
+
+  floor_leaves : MayLeave (floor_seat me) child slot (first_turn row) (tasks_out drawn.1)
+  floor_leaves =
+      subst (λ (m : TreeSeat). MayLeave (floor_seat m) child slot (first_turn row) (tasks_out drawn.1)) (sym may.is)
+      (record {
+        has = put_here (turn_in drawn.0.floor.turns) child (Some (first_turn row));
+        closed = λ s is. absurd (none_some (sym may.closed ∙ is));
+        is = slot_same;
+        out = refl;
+      })
+
+  -- The task was not spawned.
+  module _ (none : slot.parent ≡ None) where
+    no_parent : row.parent ≡ None
+    no_parent = sym parent_same ∙ none
+
+    made : row.status ≡ status.Made
+    made = may.new row refl ∙ ap status_at_start no_parent
+
+    abbrev v : TreeView
+    v = (with_first drawn child row).0
+
+    node_leaves : MayLeaveTask nodes v child (first_turn row)
+    node_leaves =
+        gives_first (record {
+          has = put_here (turn_in drawn.0.floor.turns) child (Some (first_turn row));
+          first = refl;
+          placed = λ spawned. absurd (true_false (sym (ap is_some no_parent) ∙ spawned));
+          leaves = subst (LeavesNone nodes (tree_seen v) 0 child row.effects.effects) (sym made) (may.unplaced row refl);
+        })
+
+    pub may_give_new : MayGiveNew nodes me child slot (first_turn row) drawn.1
+    may_give_new = record {
+      may = record {
+        floor = floor_leaves;
+        out = ap (λ (m : TreeSeat). m.1) may.is;
+        leaves = subst (λ (m : TreeSeat). MayLeaveTask nodes m.0 child (first_turn row)) (sym may.is) node_leaves;
+      };
+      new = may.new row refl;
     }
 
--- a new task is not done
-new_not_done : (parent : Option ℕ) (t : ℕ) (row : TaskRow) (facts : List DoneFact) → with_row (status_at_start parent) t row facts ≡ facts
-new_not_done None t row facts = refl
-new_not_done (Some p) t row facts = refl
+    pub given_made : (after : TreeSeat) → HasLeftTask me child (first_turn row) drawn.1 after → after ≡ with_made drawn child (Some row)
+    given_made after left =
+        left
+        ∙ (ap (λ (m : TreeSeat). (given_tree_view (stored_view m.0 child (first_turn row)) child (first_turn row), drawn.1)) may.is
+        ∙ ap (λ (o : Option ℕ). made_by o drawn child row) (sym no_parent))
 
-pub brought : (lim : Bounds) (me after : Seat) (child : ℕ) (slot : TaskSlot) (drawn : Seat) (row : Option TaskRow) (b : Brings lim me child slot drawn row) → HasLeft me child (first_turn b.now) drawn.1 after
-    → after ≡ (with_brought drawn.0 child row, drawn.1)
-brought lim me after child slot drawn row b left =
-    let now = b.now in
-    let given : List DoneFact → Seat → Seat = λ facts m.
-    (record (with_turn (with_turn m.0 child (Some (record (first_turn now) { phase = phase_of now }))) child None) { done = facts }, drawn.1) in
-    let facts : (m : Seat) → with_row now.status child now m.0.done ≡ m.0.done = λ m. ap (λ (s : TaskStatus). with_row s child now m.0.done) b.status ∙ new_not_done now.parent child now m.0.done in
-    left ∙ ap (λ (l : List DoneFact). given l me) (facts me) ∙ ap (λ (m : Seat). given m.0.done m) b.seat ∙ ap (λ (r : Option TaskRow). (with_brought drawn.0 child r, drawn.1)) (sym b.is)
+    pub none_to_place : None ≡ left_to_place (Some row)
+    none_to_place = ap (λ (o : Option ℕ). spawned_slot o row) (sym no_parent)
 
--- no task was made
-pub brings_none : (lim : Bounds) (me : Seat) (child : ℕ) (held : Option TaskSlot) (drawn : Seat) (row : Option TaskRow) → held ≡ None → MayBring lim me child held drawn row → me ≡ (with_brought drawn.0 child row, drawn.1)
-brings_none lim me child held drawn None there may = may.is
+  -- It was spawned.
+  module _ (parent : ℕ) (some : slot.parent ≡ Some parent) where
+    the_parent : row.parent ≡ Some parent
+    the_parent = sym parent_same ∙ some
+
+    pub kept_made : me ≡ with_made drawn child (Some row)
+    kept_made = may.is ∙ ap (λ (o : Option ℕ). made_by o drawn child row) (sym the_parent)
+
+    pub some_to_place : Some slot ≡ left_to_place (Some row)
+    some_to_place = ap Some slot_same ∙ ap (λ (o : Option ℕ). spawned_slot o row) (sym the_parent)
+
+-- No task was made, or one was.
+pub brings_none : (lim : Bounds) (me : TreeSeat) (child : ℕ) (held : Option TaskSlot) (drawn : TreeSeat) (row : Option TaskRow) → held ≡ None → MayBringBeside lim me child held drawn row
+    → (me ≡ with_made drawn child row) × (None ≡ left_to_place row)
+brings_none lim me child held drawn None there may = (may.is, refl)
 brings_none lim me child held drawn (Some now) there may = absurd (none_some (sym there ∙ may.slot_is))
+
+pub record BringsOne (lim : Bounds) (me : TreeSeat) (child : ℕ) (slot : TaskSlot) (drawn : TreeSeat) (row : Option TaskRow) : Type 0 where
+  pub now : TaskRow
+  pub is : row ≡ Some now
+  pub may : MayBringBeside lim me child (Some slot) drawn (Some now)
+
+pub brings_one : (lim : Bounds) (me : TreeSeat) (child : ℕ) (held : Option TaskSlot) (slot : TaskSlot) (drawn : TreeSeat) (row : Option TaskRow) → held ≡ Some slot → MayBringBeside lim me child held drawn row
+    → BringsOne lim me child slot drawn row
+brings_one lim me child held slot drawn None there may = absurd (none_some (sym may.slot_is ∙ there))
+brings_one lim me child held slot drawn (Some now) there may = record { now = now; is = refl; may = subst (λ (h : Option TaskSlot). MayBringBeside lim me child h drawn (Some now)) there may }

@@ -1,20 +1,31 @@
--- What a call on the floor knows of the seat after its atomic steps.
-pub mod Taking
+-- What a step of the floor tells a stand that has nodes beside it.
+pub mod Told
 -- Segments over a stand.
 pub mod Touching
 pub mod Carrying
+-- Turns that were taken, that are given, and tasks that are left.
+pub mod Taking
+pub mod LeavingTasks
+-- Trying to lock a node.
+pub mod Tries
+-- The order of slots.
+pub mod Rotations
+-- Contents that are taken out and given back.
+pub mod Givings
+-- The start: the records of enabled tasks, what lies at each node, and the words and slots that show all of it.
+pub mod Gathered
+pub mod Sorted
+pub mod Planted
+-- The end.
+pub mod Emptied
 -- A task in hand, and what is found of it.
-pub mod InHand
-pub mod LeavingTurns
+pub mod Forgetting
+pub mod Looking
+pub mod Valuing
+pub mod GoingOn
+-- Entries, and the tasks that they make.
 pub mod Bringing
-pub mod CommittedEntries
+pub mod DrawnBeside
 -- A worker that serves a task.
-pub mod ServedTasks
--- The start from a state: its entries, and the words and slots that show it.
-pub mod Logs
-pub mod Laid
-pub mod Woken
--- The end: what was read from the words and slots, and the journal.
-pub mod Taken
-pub mod Readings
-pub mod Rested
+pub mod ServedBeside
+pub mod CommittedBeside

@@ -1,50 +1,90 @@
--- A turn that was taken, and one that is given.
+-- A turn that was taken beside the nodes, and one that is given.
 use Rattle.std.proofs.Common.{◌≡◌, ◌≢◌, ℕ, List, [], ◌∷◌, Option, None, Some, sym, ap, subst, ◌∙◌, ⊎_elim}
 use Rattle.atomic_table.specs.Table.{rest}
+use Rattle.region_paths.specs.declared.elements.Elem.{Elem}
 use Rattle.floor_rule.specs.declared.view.HeldTurn.{HeldTurn}
 use Rattle.floor_rule.specs.declared.view.TaskSlot.{TaskSlot}
 use Rattle.floor_rule.specs.Rows.{slot_of}
-use Rattle.floor_rule.proofs.Puts.{some_one}
+use Rattle.floor_table.specs.declared.view.View.{View}
 use Rattle.floor_table.specs.Layout.{free_word}
-use Rattle.floor_table.specs.Tells.{MayGiveTurn, Seat, TookTurn, TriedTurn}
-use Rattle.task_floor.specs.Stands.{HasTaken, MayGiveBack}
+use Rattle.floor_steps.proofs.LeavingTurns.{may_give}
+use Rattle.node_rule.specs.Taking.{clear_after_taking}
+use Rattle.tree_table.specs.declared.slot.TreeSlot.{TreeSlot}
+use Rattle.tree_table.specs.declared.slot.TreeSlot.TheVariants as kinds
+use Rattle.tree_table.specs.declared.view.TreeView.{TreeView}
+use Rattle.tree_table.specs.FloorSeats.{HasTaskSlots, floor_seat, tasks_out}
+use Rattle.tree_table.specs.Seats.{TreeSeat}
+use Rattle.tree_table.specs.TurnSeats.{MayGiveTreeTurn, MayLeaveTask, TookTreeTurn, TriedTreeTurn}
+use Rattle.task_floor.specs.Turns.{HasTakenTask, MayGiveTask}
 
-pub took_of : (me after : Seat) (t found : ℕ) → found ≡ free_word → TriedTurn me t found after → TookTurn me after t
-took_of me after t found free tried = ⊎_elim (λ (took : (found ≡ free_word) × TookTurn me after t). took.1) (λ (missed : (found ≢ free_word) × (after ≡ me)). absurd (missed.0 free)) tried
+pub took_of : (nodes : List (List Elem)) (me after : TreeSeat) (t found : ℕ) → found ≡ free_word → TriedTreeTurn nodes me t found after → TookTreeTurn nodes me t after
+took_of nodes me after t found free tried =
+    ⊎_elim (λ (took : (found ≡ free_word) × TookTreeTurn nodes me t after). took.1) (λ (missed : (found ≢ free_word) × (after ≡ me)). absurd (missed.0 free)) tried
 
-abbrev slot_first : List (ℕ × Option TaskSlot) → Option TaskSlot
-slot_first [] = None
+abbrev slot_first : List (ℕ × TreeSlot) → TreeSlot
+slot_first [] = kinds.Task None
 slot_first (z ∷ zs) = z.1
 
+abbrev held_in : TreeSlot → Option TaskSlot
+held_in (kinds.Task held) = held
+held_in (kinds.Node records) = None
+held_in (kinds.Errand errand) = None
+
 -- the slot that comes with the turn
-pub out_first : (me after : Seat) (t : ℕ) (took : TookTurn me after t) → after.1 ≡ (t, Some (slot_of took.turn.row)) ∷ rest after.1
-out_first me after t took =
-    let out = ap (λ (m : Seat). m.1) took.seat in
-    out ∙ ap (λ (l : List (ℕ × Option TaskSlot)). (t, Some (slot_of took.turn.row)) ∷ l) (sym (ap (λ (m : Seat). rest m.1) took.seat))
+pub out_first : (nodes : List (List Elem)) (me after : TreeSeat) (t : ℕ) (took : TookTreeTurn nodes me t after) → after.1 ≡ (t, kinds.Task (Some (slot_of took.turn.row))) ∷ rest after.1
+out_first nodes me after t took =
+    let out = ap (λ (m : TreeSeat). m.1) took.seat in
+    out ∙ ap (λ (l : List (ℕ × TreeSlot)). (t, kinds.Task (Some (slot_of took.turn.row))) ∷ l) (sym (ap (λ (m : TreeSeat). rest m.1) took.seat))
 
-pub slot_is : (me after : Seat) (t : ℕ) (x : Option TaskSlot) (took : TookTurn me after t) → after.1 ≡ (t, x) ∷ rest after.1 → x ≡ Some (slot_of took.turn.row)
-slot_is me after t x took is = ap slot_first (sym is ∙ ap (λ (m : Seat). m.1) took.seat)
+pub home_is : (nodes : List (List Elem)) (me after : TreeSeat) (t : ℕ) (x : TreeSlot) (took : TookTreeTurn nodes me t after) → after.1 ≡ (t, x) ∷ rest after.1 → x ≡ kinds.Task (Some (slot_of took.turn.row))
+home_is nodes me after t x took is = ap slot_first (sym is ∙ ap (λ (m : TreeSeat). m.1) took.seat)
 
-pub has_taken : (me mid after : Seat) (t : ℕ) (x : Option TaskSlot) (slot : TaskSlot) (took : TookTurn me mid t) → mid.1 ≡ (t, x) ∷ rest mid.1 → x ≡ Some slot
-    → after ≡ (mid.0, (t, None) ∷ rest mid.1) → HasTaken me after t slot
-has_taken me mid after t x slot took first is seat = record {
-  had_none = took.had_none;
-  turn = took.turn;
-  taken = took.taken;
-  phase = took.phase;
-  value = took.value;
-  is = some_one (sym is ∙ slot_is me mid t x took first);
-  seat = seat ∙ ap (λ (m : Seat). (m.0, (t, None) ∷ rest m.1)) took.seat;
-}
+-- what lay in it
+pub held_is : (nodes : List (List Elem)) (me after : TreeSeat) (t : ℕ) (x : TreeSlot) (held : Option TaskSlot) (took : TookTreeTurn nodes me t after) → after.1 ≡ (t, x) ∷ rest after.1 → x ≡ kinds.Task held
+    → held ≡ Some (slot_of took.turn.row)
+held_is nodes me after t x held took is task = ap held_in (sym task ∙ home_is nodes me after t x took is)
 
--- the turn may be given once the slot is full
-pub may_give : (me mid : Seat) (t : ℕ) (slot : TaskSlot) (turn : HeldTurn) (others : List (ℕ × Option TaskSlot)) → MayGiveBack me t slot turn others → mid ≡ (me.0, (t, Some slot) ∷ rest me.1)
-    → MayGiveTurn mid t turn others
-may_give me mid t slot turn others may is =
-    let rests = ap rest may.out in
-    subst (λ (m : Seat). MayGiveTurn m t turn others) (sym is) (record {
-      has = may.has;
-      phase = may.phase;
-      closed = may.closed;
-      slot = λ k. (t, Some (may.is k)) ∷ rests k;
-    })
+pub has_taken_task : (nodes : List (List Elem)) (me mid after : TreeSeat) (t : ℕ) (slot : TaskSlot) (took : TookTreeTurn nodes me t mid) → slot ≡ slot_of took.turn.row
+    → after ≡ (mid.0, (t, kinds.Task None) ∷ rest mid.1) → HasTakenTask nodes me after t slot
+has_taken_task nodes me mid after t slot took is seat =
+    let whole = seat ∙ ap (λ (m : TreeSeat). (m.0, (t, kinds.Task None) ∷ rest m.1)) took.seat in
+    record {
+      floor = record {
+        had_none = took.had_none;
+        turn = took.turn;
+        taken = took.taken;
+        phase = took.phase;
+        value = took.value;
+        is = is;
+        seat = ap floor_seat whole;
+      };
+      fresh = took.fresh;
+      children = took.children;
+      view = ap (λ (m : TreeSeat). m.0) whole
+          ∙ ap (λ (w : View). record me.0 { floor = w; clear = clear_after_taking nodes t took.turn.row.status took.turn.row.effects.effects me.0.clear }) (sym (ap (λ (m : TreeSeat). m.0.floor) whole));
+      out = ap (λ (m : TreeSeat). m.1) whole;
+    }
+
+-- Giving: the slot is full, and the rest is as it was.
+module _ (nodes : List (List Elem)) (me mid : TreeSeat) (t : ℕ) (slot : TaskSlot) (turn : HeldTurn) (others : List (ℕ × TreeSlot)) (may : MayGiveTask nodes me t slot turn others)
+    (is : mid ≡ (me.0, (t, kinds.Task (Some slot)) ∷ rest me.1)) where
+  rests : rest me.1 ≡ others
+  rests = ap rest may.out
+
+  full : mid ≡ (me.0, (t, kinds.Task (Some slot)) ∷ others)
+  full = is ∙ ap (λ (l : List (ℕ × TreeSlot)). (me.0, (t, kinds.Task (Some slot)) ∷ l)) rests
+
+  floor_full : floor_seat mid ≡ ((floor_seat me).0, (t, Some slot) ∷ rest (floor_seat me).1)
+  floor_full = ap floor_seat full ∙ ap (λ (l : List (ℕ × Option TaskSlot)). ((floor_seat me).0, (t, Some slot) ∷ rest l)) (sym (ap tasks_out may.out))
+
+  pub may_give_tree : MayGiveTreeTurn nodes mid t turn others
+  may_give_tree = record {
+    floor = may_give (floor_seat me) (floor_seat mid) t slot turn (tasks_out others) may.floor floor_full;
+    slot = ap (λ (m : TreeSeat). m.1) full ∙ ap (λ (s : TaskSlot). (t, kinds.Task (Some s)) ∷ others) may.floor.is;
+    leaves = subst (λ (v : TreeView). MayLeaveTask nodes v t turn) (sym (ap (λ (m : TreeSeat). m.0) full)) may.leaves;
+  }
+
+  pub has_full : (n : ℕ) → HasTaskSlots n me.1 → HasTaskSlots n mid.1
+  has_full n has =
+      let was : HasTaskSlots n ((t, kinds.Task None) ∷ others) = subst (HasTaskSlots n) may.out has in
+      subst (λ (m : TreeSeat). HasTaskSlots n m.1) (sym full) was

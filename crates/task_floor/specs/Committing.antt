@@ -1,82 +1,87 @@
--- How a stand draws an entry: what it needs, and what it leaves.
-use Rattle.std.specs.Prelude.{◌≡◌, ◌+◌, ◌-◌, ◌++◌, ℕ, List, [], ◌∷◌, Option, None, Some, if◌then◌else◌, nat_lt}
+-- How a stand draws an entry beside the nodes: what it needs, and what it leaves.
+use Rattle.std.specs.Prelude.{◌≡◌, ◌≢◌, ◌+◌, ℕ, ◌∷◌, Option, None, Some}
 use Rattle.std.specs.Option.{ForSome}
 use Rattle.twe_limits.specs.Limits.{Bounds}
 use Rattle.twe_program.specs.Program.{Program}
 use Rattle.seg_journal.specs.declared.journal.End.{End}
-use Rattle.seg_journal.specs.declared.journal.End.TheVariants as ends
 use Rattle.seg_exec.specs.declared.frame.Frame.{Frame}
 use Rattle.seg_exec.specs.declared.stop.Stop.{Stop}
-use Rattle.seg_exec.specs.declared.stop.Stop.TheVariants as stops
-use Rattle.seg_exec.specs.Segment.{HasRoomToSpawn}
 use Rattle.twe_machine.specs.declared.state.TaskRow.{TaskRow}
-use Rattle.twe_machine.specs.declared.state.TaskStatus.{TaskStatus}
-use Rattle.twe_machine.specs.declared.state.TaskStatus.TheVariants as status
-use Rattle.twe_machine.specs.Moves.{new_row, parent_of}
-use Rattle.journal_merge.specs.declared.numbered.NumberedEntry.{NumberedEntry}
 use Rattle.floor_rule.specs.declared.view.HeldTurn.{HeldTurn}
 use Rattle.floor_rule.specs.declared.view.TaskSlot.{TaskSlot}
-use Rattle.floor_rule.specs.Rows.{phase_of, slot_of}
+use Rattle.floor_rule.specs.Rows.{slot_of}
 use Rattle.floor_rule.specs.Steps.{end_after, first_turn, row_after}
-use Rattle.floor_table.specs.declared.view.View.{View}
 use Rattle.floor_table.specs.FloorOf.{turn_in}
 use Rattle.floor_table.specs.Layout.{asked_of_clock, entries_of_clock}
-use Rattle.floor_table.specs.Tells.{IsLatest, MayDraw, Seat, drawn_view, entry_at, with_turn}
+use Rattle.floor_table.specs.Tells.{drawn_view, entry_at, with_turn}
+use Rattle.floor_steps.specs.Committing.{Log, MayCommitEntry, child_row, with_entry}
+use Rattle.admission_core.specs.States.{IsAmong, Record}
+use Rattle.node_rule.specs.TurnSteps.{HasPlacedChildren}
+use Rattle.tree_table.specs.declared.slot.TreeSlot.TheVariants as kinds
+use Rattle.tree_table.specs.EntrySeats.{admission_at, admitted_view}
+use Rattle.tree_table.specs.FloorSeats.{floor_seat}
+use Rattle.tree_table.specs.Seats.{TreeSeat, turns_seen}
+use Rattle.tree_table.specs.TurnSeats.{given_tree_view}
+use Rattle.task_floor.specs.Leaving.{stored_view}
 
--- the entries that a worker has drawn, and how many more can be added without taking memory
-pub record Log : Type 0 where
-  pub entries : List NumberedEntry
-  pub room : ℕ
+-- Entries of segments.
 
--- no entry, and no room for one
-abbrev pub empty_log : Log
-empty_log = record { entries = []; room = 0 }
+-- The seat may draw the entry of task t as a seat of the floor may, and has no first turn of a child of the task.
+pub record MayCommitBeside (p : Program) (me : TreeSeat) (t : ℕ) (slot : TaskSlot) (stop : Stop) (turn : HeldTurn) : Type 0 where
+  pub floor : MayCommitEntry p (floor_seat me) t slot stop turn
+  pub placed : HasPlacedChildren (turns_seen me.0) 0 t
 
--- one more entry, in the room that was reserved for it
-abbrev pub with_entry : NumberedEntry → Log → Log
-with_entry e log = record { entries = log.entries ++ e ∷ []; room = log.room - 1 }
+-- the seat has the first turn of a task that was made, and the task's slot, which is empty
+abbrev pub with_first : TreeSeat → ℕ → TaskRow → TreeSeat
+with_first me child row =
+    (record me.0 { floor = with_turn me.0.floor child (Some (first_turn row)) }, (child, kinds.Task None) ∷ me.1)
 
--- The seat may draw the entry of task t, whose slot is the latest that it has out. The segment of the task has left the frame
--- of this slot and has stopped in this way. The rest of the slot is as the last entry left it.
-pub record MayCommitEntry (p : Program) (me : Seat) (t : ℕ) (slot : TaskSlot) (stop : Stop) (turn : HeldTurn) : Type 0 where
-  pub latest : IsLatest me t
-  pub may : MayDraw p me t turn slot.frame stop
-  pub rest : slot ≡ record (slot_of turn.row) { frame = slot.frame }
-  pub room : HasRoomToSpawn stop slot.frame
+-- the seat has had the first turn: it has stored the task's phase and given the turn
+abbrev pub with_first_given : TreeSeat → ℕ → TaskRow → TreeSeat
+with_first_given me child row = (given_tree_view (stored_view (with_first me child row).0 child (first_turn row)) child (first_turn row), me.1)
 
--- the row of the task that an entry of t with this stop makes, if it makes one
-abbrev pub child_row : Bounds → ℕ → ℕ → Stop → Option TaskRow
-child_row lim asked t (stops.Make child args effects spawned future place) =
-    if nat_lt (asked + 1) lim.tasks then Some (new_row lim (asked + 1) (parent_of t spawned) child args effects) else None
-child_row lim asked t (stops.Waits on) = None
-child_row lim asked t (stops.Joins on) = None
-child_row lim asked t (stops.Done value) = None
-child_row lim asked t (stops.Fault kind place) = None
+-- a spawned task is left with the seat, since its records are still to be placed; any other one is given at once
+abbrev pub made_by : Option ℕ → TreeSeat → ℕ → TaskRow → TreeSeat
+made_by None me child row = with_first_given me child row
+made_by (Some parent) me child row = with_first me child row
 
--- the seat has had the first turn of a task that was made: it has stored its phase, which is that of its row, and given the turn
-abbrev pub with_brought : View → ℕ → Option TaskRow → View
-with_brought v child None = v
-with_brought v child (Some row) =
-    with_turn (with_turn (with_turn v child (Some (first_turn row))) child (Some (record (first_turn row) { phase = phase_of row }))) child None
+abbrev pub with_made : TreeSeat → ℕ → Option TaskRow → TreeSeat
+with_made me child None = me
+with_made me child (Some row) = made_by row.parent me child row
+
+-- what the slot of a spawned task will hold
+abbrev pub spawned_slot : Option ℕ → TaskRow → Option TaskSlot
+spawned_slot None row = None
+spawned_slot (Some parent) row = Some (slot_of row)
+
+-- the same of a task that an entry made, if it made one
+abbrev pub left_to_place : Option TaskRow → Option TaskSlot
+left_to_place None = None
+left_to_place (Some row) = spawned_slot row.parent row
 
 -- The entry of task t was drawn when the clock said this. It has the clock's number and ends as the machine's move does; the
--- log and what the seat knows have it. The slot is that of the task's new row. The segment is not open any more. A task that
--- was made has its frame in its slot and the phase of its row, and its turn is free; the seat had no turn of it before. The
--- slots that the seat has out are as before.
-pub record HasCommitted (lim : Bounds) (before : Seat) (t : ℕ) (turn : HeldTurn) (frame : Frame) (stop : Stop) (number : ℕ) (end : End) (slot : TaskSlot) (after : Seat) (old_log new_log : Log) : Type 0 where
+-- log and what the seat knows have it. The slot is that of the task's new row. The segment is not open any more. The seat had no
+-- turn of a task that was made, and no record of it among those that it has placed. If that task was spawned, the seat has its
+-- first turn, and what its slot will hold was handed out.
+pub record HasCommittedBeside (lim : Bounds) (before : TreeSeat) (t : ℕ) (turn : HeldTurn) (frame : Frame) (stop : Stop) (number : ℕ) (end : End)
+    (child : Option TaskSlot) (slot : TaskSlot) (after : TreeSeat) (old_log new_log : Log) : Type 0 where
   pub clock : ℕ
   pub number_is : number ≡ entries_of_clock clock
   pub end_is : end ≡ end_after lim (asked_of_clock clock) stop
   pub slot_is : slot ≡ slot_of (row_after lim (asked_of_clock clock) turn.row frame stop)
-  pub fresh : ForSome (child_row lim (asked_of_clock clock) t stop) (λ _. turn_in before.0.turns (asked_of_clock clock + 1) ≡ None)
-  pub seat : after ≡ (with_brought (drawn_view lim clock before.0 t turn frame stop) (asked_of_clock clock + 1) (child_row lim (asked_of_clock clock) t stop), before.1)
+  pub had_none : ForSome (child_row lim (asked_of_clock clock) t stop) (λ _. turn_in before.0.floor.turns (asked_of_clock clock + 1) ≡ None)
+  pub unplaced : ForSome (child_row lim (asked_of_clock clock) t stop) (λ _. (r : Record) → IsAmong r before.0.fresh → r.task ≢ asked_of_clock clock + 1)
+  pub child_is : child ≡ left_to_place (child_row lim (asked_of_clock clock) t stop)
+  pub seat : after ≡ with_made (record before.0 { floor = drawn_view lim clock before.0.floor t turn frame stop }, before.1)
+      (asked_of_clock clock + 1) (child_row lim (asked_of_clock clock) t stop)
   pub log : new_log ≡ with_entry (entry_at lim clock t frame stop) old_log
 
--- the status of a task after an entry with this end
-abbrev pub status_after : End → TaskStatus
-status_after ends.Admitted = status.Enabled
-status_after (ends.Made child) = status.Enabled
-status_after (ends.Waits on) = status.Enabled
-status_after (ends.Joins on) = status.Enabled
-status_after (ends.Done value) = status.Done
-status_after (ends.Fault kind place) = status.Faulted
+-- Entries of admissions.
+
+-- The admission of task t was drawn when the clock said this. The log and what the seat knows have it, and the seat knows that the
+-- task is enabled.
+pub record HasAdmitted (before : TreeSeat) (t : ℕ) (turn : HeldTurn) (number : ℕ) (after : TreeSeat) (old_log new_log : Log) : Type 0 where
+  pub clock : ℕ
+  pub number_is : number ≡ entries_of_clock clock
+  pub seat : after ≡ (admitted_view clock before.0 t turn, before.1)
+  pub log : new_log ≡ with_entry (admission_at clock t) old_log

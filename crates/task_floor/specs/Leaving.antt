@@ -1,37 +1,50 @@
 -- How a stand leaves a task: it stores the task's phase and gives its turn.
-use Rattle.std.specs.Prelude.{◌≡◌, ◌≢◌, ◌⊎◌, ℕ, List, ◌∷◌, Option, None, Some}
+use Rattle.std.specs.Prelude.{◌≡◌, ◌⊎◌, ℕ, List, ◌∷◌, None, Some}
+use Rattle.region_paths.specs.declared.elements.Elem.{Elem}
 use Rattle.twe_machine.specs.declared.state.TaskStatus.TheVariants as status
+use Rattle.twe_machine.specs.Moves.{status_at_start}
 use Rattle.floor_rule.specs.declared.view.HeldTurn.{HeldTurn}
-use Rattle.floor_rule.specs.declared.view.OpenSegment.{OpenSegment}
 use Rattle.floor_rule.specs.declared.view.Phase.{Phase}
 use Rattle.floor_rule.specs.declared.view.TaskSlot.{TaskSlot}
-use Rattle.floor_rule.specs.Rows.{phase_of, slot_of}
-use Rattle.floor_rule.specs.Steps.{with_row}
-use Rattle.floor_table.specs.FloorOf.{turn_in}
-use Rattle.floor_table.specs.Tells.{Seat, with_turn}
+use Rattle.floor_rule.specs.Rows.{phase_of}
+use Rattle.floor_table.specs.Tells.{with_turn}
+use Rattle.floor_steps.specs.Leaving.{MayLeave}
+use Rattle.tree_table.specs.declared.slot.TreeSlot.{TreeSlot}
+use Rattle.tree_table.specs.declared.slot.TreeSlot.TheVariants as kinds
+use Rattle.tree_table.specs.declared.view.TreeView.{TreeView}
+use Rattle.tree_table.specs.FloorSeats.{floor_seat, tasks_out}
+use Rattle.tree_table.specs.Seats.{TreeSeat}
+use Rattle.tree_table.specs.TurnSeats.{MayLeaveTask, given_tree_view}
 
--- The seat may leave task t with this in its slot, which is empty and the latest that the seat has out: what the last entry
--- left. No segment of the task is open. What the phase word says does not count.
-pub record MayLeave (me : Seat) (t : ℕ) (slot : TaskSlot) (turn : HeldTurn) (rest : List (ℕ × Option TaskSlot)) : Type 0 where
-  pub has : turn_in me.0.turns t ≡ Some turn
-  pub closed : (s : OpenSegment) → me.0.segment ≡ Some s → s.task ≢ t
-  pub is : slot ≡ slot_of turn.row
-  pub out : me.1 ≡ (t, None) ∷ rest
+-- The seat may leave task t with this in its slot, as a seat of the floor may. The slot is empty and the latest that the seat has
+-- out. Of the nodes the seat knows enough to give the turn.
+pub record MayGoFrom (nodes : List (List Elem)) (me : TreeSeat) (t : ℕ) (slot : TaskSlot) (turn : HeldTurn) (rest : List (ℕ × TreeSlot)) : Type 0 where
+  pub floor : MayLeave (floor_seat me) t slot turn (tasks_out rest)
+  pub out : me.1 ≡ (t, kinds.Task None) ∷ rest
+  pub leaves : MayLeaveTask nodes me.0 t turn
 
 -- the seat may leave task t, which is enabled
-pub record MayPark (me : Seat) (t : ℕ) (slot : TaskSlot) (turn : HeldTurn) (rest : List (ℕ × Option TaskSlot)) : Type 0 where
-  pub may : MayLeave me t slot turn rest
+pub record MayParkTask (nodes : List (List Elem)) (me : TreeSeat) (t : ℕ) (slot : TaskSlot) (turn : HeldTurn) (rest : List (ℕ × TreeSlot)) : Type 0 where
+  pub may : MayGoFrom nodes me t slot turn rest
   pub enabled : turn.row.status ≡ status.Enabled
 
 -- the seat may leave task t, which has ended; this is the phase of its row
-pub record MayFinish (me : Seat) (t : ℕ) (slot : TaskSlot) (phase : Phase) (turn : HeldTurn) (rest : List (ℕ × Option TaskSlot)) : Type 0 where
-  pub may : MayLeave me t slot turn rest
+pub record MayFinishTask (nodes : List (List Elem)) (me : TreeSeat) (t : ℕ) (slot : TaskSlot) (phase : Phase) (turn : HeldTurn)
+    (rest : List (ℕ × TreeSlot)) : Type 0 where
+  pub may : MayGoFrom nodes me t slot turn rest
   pub ended : (turn.row.status ≡ status.Done) ⊎ (turn.row.status ≡ status.Faulted)
   pub phase_is : phase ≡ phase_of turn.row
 
--- The seat has left task t: it has stored the phase of the task's row, and given the turn. Its other turns, its entries and
--- its segment are as before. If the task is done, the seat knows its value from then on.
-abbrev pub HasLeft : Seat → ℕ → HeldTurn → List (ℕ × Option TaskSlot) → Seat → Type 0
-HasLeft before t turn rest after =
-    let stored = with_turn before.0 t (Some (record turn { phase = phase_of turn.row })) in
-    after ≡ (record (with_turn stored t None) { done = with_row turn.row.status t turn.row before.0.done }, rest)
+-- the seat may leave task t, which was made and is as it was then
+pub record MayGiveNew (nodes : List (List Elem)) (me : TreeSeat) (t : ℕ) (slot : TaskSlot) (turn : HeldTurn) (rest : List (ℕ × TreeSlot)) : Type 0 where
+  pub may : MayGoFrom nodes me t slot turn rest
+  pub new : turn.row.status ≡ status_at_start turn.row.parent
+
+-- the view of a seat that has stored the phase of the row of task t
+abbrev pub stored_view : TreeView → ℕ → HeldTurn → TreeView
+stored_view v t turn = record v { floor = with_turn v.floor t (Some (record turn { phase = phase_of turn.row })) }
+
+-- The seat has left task t: it has stored the phase of the task's row, and given the turn. Of records of the task it knows nothing
+-- any more. Its other turns, its entries and its segment are as before. If the task is done, the seat knows its value from then on.
+abbrev pub HasLeftTask : TreeSeat → ℕ → HeldTurn → List (ℕ × TreeSlot) → TreeSeat → Type 0
+HasLeftTask before t turn rest after = after ≡ (given_tree_view (stored_view before.0 t turn) t turn, rest)

@@ -1,10 +1,10 @@
 pub mod Stands
-pub mod Opening
-pub mod Waking
-pub mod Resting
 pub mod Segments
-pub mod Resuming
+pub mod Contents
+pub mod Turns
 pub mod Leaving
+pub mod Opening
+pub mod Resuming
 pub mod Committing
-pub mod Working
 pub mod inner
+pub mod Holding

@@ -1,18 +1,23 @@
--- How a floor starts.
-use Rattle.std.specs.Prelude.{◌≡◌, ℕ, List, Option}
+-- How a floor with nodes starts.
+use Rattle.std.specs.Prelude.{◌≡◌, ℕ, List}
+use Rattle.region_paths.specs.declared.elements.Elem.{Elem}
 use Rattle.twe_limits.specs.Limits.{Bounds}
 use Rattle.twe_program.specs.Program.{Program}
 use Rattle.twe_machine.specs.declared.state.State.{State}
 use Rattle.twe_machine.specs.Runs.{IsRun}
 use Rattle.journal_merge.specs.declared.numbered.NumberedEntry.{NumberedEntry}
 use Rattle.journal_merge.specs.Merging.{journal_of, prints_of}
-use Rattle.floor_rule.specs.declared.view.TaskSlot.{TaskSlot}
 use Rattle.floor_rule.specs.Rule.{AreInOrder}
-use Rattle.floor_table.specs.Holds.{IsLaidOut}
+use Rattle.admission_core.specs.States.{Record}
+use Rattle.node_rule.specs.Starts.{AreOfEnabled}
+use Rattle.tree_table.specs.declared.slot.TreeSlot.{TreeSlot}
+use Rattle.tree_table.specs.Holds.{IsTreeLaidOut}
 
--- the words and slots show the state of a run, whose entries are those of the log
-pub record ShowsRun (p : Program) (lim : Bounds) (log : List NumberedEntry) (st : State) (words : List ℕ) (slots : List (Option TaskSlot)) : Type 0 where
+-- the words and slots show the state of a run, whose entries are those of the log, and the records, which are those of its enabled
+-- tasks
+pub record ShowsTreeRun (nodes : List (List Elem)) (p : Program) (lim : Bounds) (log : List NumberedEntry) (st : State) (records : List Record) (words : List ℕ) (slots : List TreeSlot) : Type 0 where
   pub run : IsRun p lim (journal_of log) st
   pub order : AreInOrder log
   pub prints : st.prints ≡ prints_of log
-  pub laid : IsLaidOut p lim log st words slots
+  pub enabled : AreOfEnabled nodes st records
+  pub laid : IsTreeLaidOut nodes p lim log st records words slots

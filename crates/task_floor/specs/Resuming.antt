@@ -1,47 +1,36 @@
--- How a task that a stand has in hand goes on.
-use Rattle.std.specs.Prelude.{◌≡◌, ◌≢◌, ◌⊎◌, ℕ, ℤ, false, None, Some}
-use Rattle.seg_exec.specs.declared.frame.Frame.{Frame}
-use Rattle.floor_rule.specs.declared.view.DoneFact.{DoneFact}
-use Rattle.floor_rule.specs.declared.view.HeldTurn.{HeldTurn}
-use Rattle.floor_rule.specs.declared.view.Phase.TheVariants as phases
-use Rattle.floor_rule.specs.Rows.{phase_of}
-use Rattle.floor_rule.specs.Touches.{IsAmong}
-use Rattle.floor_table.specs.FloorOf.{turn_in}
-use Rattle.floor_table.specs.Tells.{IsLatest, Seat}
-use Rattle.task_floor.specs.declared.resuming.Readiness.{Readiness}
-use Rattle.task_floor.specs.declared.resuming.Readiness.TheVariants.{Runs, Waits, Made, Ended}
-use Rattle.task_floor.specs.Segments.{MayRun}
+-- How a task that a stand has in hand goes on, beside the nodes.
+use Rattle.std.specs.Prelude.{◌≡◌, ◌≢◌, ◌⊎◌, ℕ, List, None}
+use Rattle.region_paths.specs.declared.elements.Elem.{Elem}
+use Rattle.twe_machine.specs.declared.state.TaskRow.{TaskRow}
+use Rattle.floor_steps.specs.Resuming.{KnowsMore, MovesOn}
+use Rattle.admission_core.specs.States.{IsAmong}
+use Rattle.node_rule.specs.Trees.{WaitFact}
+use Rattle.node_rule.specs.TurnSteps.{HasPlacedChildren, LeavesNone, of_others}
+use Rattle.tree_table.specs.declared.view.TreeView.{TreeView}
+use Rattle.tree_table.specs.FloorSeats.{floor_seat}
+use Rattle.tree_table.specs.Seats.{TreeSeat, tree_seen, turns_seen}
 
--- The seat has task t in hand, between two entries, with this frame. It took the turn of t, whose slot is the latest that it has
--- out. The phase word and the frame are those of the task's row. No segment is open.
-pub record HasInHand (me : Seat) (t : ℕ) (turn : HeldTurn) (frame : Frame) : Type 0 where
-  pub has : turn_in me.0.turns t ≡ Some turn
-  pub taken : turn.first ≡ false
-  pub phase : turn.phase ≡ phase_of turn.row
-  pub frame_is : frame ≡ turn.row.frame
-  pub latest : IsLatest me t
-  pub closed : me.0.segment ≡ None
+-- A seat with this view, which took the turn of task t, knows enough of the nodes to give it while the task has this row: it does
+-- nothing in the tree, has placed all children of the task, and leaves no record that has to be removed.
+pub record KnowsEnough (nodes : List (List Elem)) (v : TreeView) (t : ℕ) (row : TaskRow) : Type 0 where
+  pub idle : v.activity ≡ None
+  pub children : HasPlacedChildren (turns_seen v) 0 t
+  pub leaves : LeavesNone nodes (tree_seen v) 0 t row.effects.effects row.status
 
--- The seat may know more tasks to be done, and may have another turn of task t. All else is as before.
-pub record MovesOn (before after : Seat) (t : ℕ) : Type 0 where
-  pub others : (u : ℕ) → u ≢ t → turn_in after.0.turns u ≡ turn_in before.0.turns u
-  pub done : (fact : DoneFact) → IsAmong fact before.0.done → IsAmong fact after.0.done
-  pub rest : after ≡ (record before.0 { turns = after.0.turns; done = after.0.done }, before.1)
+-- The seat may know more tasks to be done and more waits. It may have forgotten which records of task t do not
+-- stand. All else is as before.
+pub record KnowsMoreBeside (before after : TreeSeat) (t : ℕ) : Type 0 where
+  pub floor : KnowsMore (floor_seat before) (floor_seat after)
+  pub waits : (fact : WaitFact) → IsAmong fact before.0.waits → IsAmong fact after.0.waits
+  pub clear : (after.0.clear ≡ before.0.clear) ⊎ (after.0.clear ≡ of_others t before.0.clear)
+  pub view : after.0 ≡ record before.0 { floor = after.0.floor; waits = after.0.waits; clear = after.0.clear }
+  pub out : after.1 ≡ before.1
 
--- The seat may know more tasks to be done. All else is as before.
-pub record KnowsMore (before after : Seat) : Type 0 where
-  pub turns : (t : ℕ) → turn_in after.0.turns t ≡ turn_in before.0.turns t
-  pub done : (fact : DoneFact) → IsAmong fact before.0.done → IsAmong fact after.0.done
-  pub rest : after ≡ (record before.0 { turns = after.0.turns; done = after.0.done }, before.1)
-
--- the seat knows that task t is done with this value
-abbrev pub KnowsValue : Seat → ℕ → ℤ → Type 0
-KnowsValue me t value = IsAmong (record { task = t; value = value }) me.0.done
-
--- What was found of task t, which was in hand with this turn. If its segment may run, the phase word says `Running`, and a frame
--- that waited has taken the awaited value. Otherwise it is in hand as before, and the row says why it can't go on.
-abbrev pub IsReadiness : HeldTurn → Seat → ℕ → Frame → Readiness → Type 0
-IsReadiness turn after t frame Runs = MayRun after t (record turn { phase = phases.Running }) frame
-IsReadiness turn after t frame (Waits on) = (phase_of turn.row ≡ phases.Waits on) × HasInHand after t turn frame
-IsReadiness turn after t frame Made = (phase_of turn.row ≡ phases.Made) × HasInHand after t turn frame
-IsReadiness turn after t frame Ended = ((phase_of turn.row ≡ phases.Done) ⊎ (phase_of turn.row ≡ phases.Faulted)) × HasInHand after t turn frame
+-- The seat may know more tasks to be done and more waits, and may have another turn of task t. It may have forgotten which
+-- records of one other task do not stand. All else is as before.
+pub record MovesOnBeside (before after : TreeSeat) (t : ℕ) : Type 0 where
+  pub floor : MovesOn (floor_seat before) (floor_seat after) t
+  pub waits : (fact : WaitFact) → IsAmong fact before.0.waits → IsAmong fact after.0.waits
+  pub clear : (after.0.clear ≡ before.0.clear) ⊎ ((u : ℕ) × (u ≢ t) × (after.0.clear ≡ of_others u before.0.clear))
+  pub view : after.0 ≡ record before.0 { floor = after.0.floor; waits = after.0.waits; clear = after.0.clear }
+  pub out : after.1 ≡ before.1

@@ -1,4 +1,3 @@
-pub mod Laying
-pub mod Reading
+pub mod Recording
+pub mod Emptying
 pub mod Bringing
-pub mod Holding

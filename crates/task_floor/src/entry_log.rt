@@ -1,6 +1,6 @@
 //! The entries that a worker has drawn.
 ghost use Rattle.std.specs.Prelude.{◌≡◌, ◌<◌, OnOk, OnErr};
-ghost use Rattle.task_floor.specs.Committing.{empty_log, with_entry};
+ghost use Rattle.floor_steps.specs.Committing.{empty_log, with_entry};
 
 use journal_merge::{NumberedEntry, Part};
 use std::alloc::Global;
@@ -18,7 +18,7 @@ pub struct EntryLog {
 
 impl Model for EntryLog {
     ghost use Rattle.std.specs.Prelude.{◌+◌, ◌≤◌, vec_len, vec_capacity};
-    ghost use Rattle.task_floor.specs.Committing.{Log};
+    ghost use Rattle.floor_steps.specs.Committing.{Log};
 
     ghost Value = { Log };
 

@@ -1,56 +1,68 @@
-//! The floor and its stands.
-ghost use Rattle.std.specs.Prelude.{◌≡◌, ◌<◌};
+//! The floor with its nodes, and its stands.
+ghost use Rattle.std.specs.Prelude.{◌≡◌, ◌<◌, ◌^◌, length};
 ghost use Rattle.twe_program.specs.Program.{cell_count};
 ghost use Rattle.floor_table.specs.Layout.{cell_place, phase_place, turn_place, word_count};
+ghost use Rattle.tree_table.specs.Layout.{content_place, lock_place, tree_slot_count, tree_word_count};
 
 use atomic_table::{Seat, Table};
-use floor_rule::TaskSlot;
-use floor_table::{FloorLaw, Named, View};
-use journal_merge::Part;
+use floor_table::Named;
 use std::alloc::Global;
 use std::marker::Model;
+use tree_table::{Planted, TreeLaw, TreeSlot, TreeStart, TreeView};
 
-/// The floor of a run, which all workers share. `N` names the program and the limits. Clauses see the name of its table.
+/// The floor of a run with the nodes of its tree, which all workers share. `N` names the program, the limits and the nodes.
+/// Clauses see the name of its table.
 #[derive(Drop)]
-pub struct Floor<N: Named> {
-    pub(crate) table: Table<Option<TaskSlot>, View, Part, FloorLaw<N>, Global>,
+pub struct Floor<N: Named + Planted> {
+    pub(crate) table: Table<TreeSlot, TreeView, TreeStart, TreeLaw<N>, Global>,
+    // How many cells there are.
     pub(crate) cells: usize,
+    // How many words there are before the first lock word.
     pub(crate) words: usize,
+    // How many tasks may be made.
+    pub(crate) tasks: usize,
 }
 
-impl<N: Named> Model for Floor<N> {
-    ghost use Rattle.std.specs.Prelude.{◌≡◌};
+impl<N: Named + Planted> Model for Floor<N> {
+    ghost use Rattle.std.specs.Prelude.{◌≡◌, ◌<◌, ◌^◌};
     ghost use Rattle.atomic_table.specs.Seated.{TableId};
     ghost use Rattle.twe_program.specs.Program.{cell_count};
     ghost use Rattle.floor_table.specs.Layout.{word_count};
+    ghost use Rattle.tree_table.specs.Layout.{tree_slot_count, tree_word_count};
 
     ghost Value = { TableId };
 
     ghost view = { λ floor. floor.table.shared.table_id };
 
     ghost invariant = { λ floor. (floor.cells ≡ cell_count N.prog) × (floor.words ≡ word_count N.prog N.lim)
-        × (floor.table.shared.table_id.words ≡ word_count N.prog N.lim) × (floor.table.shared.table_id.slots ≡ N.lim.tasks) };
+        × (floor.tasks ≡ N.lim.tasks) × (floor.table.shared.table_id.words ≡ tree_word_count N.nodes N.prog N.lim)
+        × (floor.table.shared.table_id.slots ≡ tree_slot_count N.nodes N.lim)
+        × (tree_word_count N.nodes N.prog N.lim < 2 ^ 64) × (tree_slot_count N.nodes N.lim < 2 ^ 64) };
 }
 
 /// A worker's stand on the floor: what the worker knows, and the slots that it has out.
-pub type Stand = Seat<Option<TaskSlot>, View>;
+pub type Stand = Seat<TreeSlot, TreeView>;
 
-impl<N: Named> Floor<N> {
+impl<N: Named + Planted> Floor<N> {
     /// The floor that lies on this table.
     pub(crate) fn of_table(
-        table: Table<Option<TaskSlot>, View, Part, FloorLaw<N>, Global>,
+        table: Table<TreeSlot, TreeView, TreeStart, TreeLaw<N>, Global>,
         cells: usize,
         words: usize,
+        tasks: usize,
     ) -> Self
         requires cells { cells ≡ cell_count N.prog }
-        requires words { (words ≡ word_count N.prog N.lim) × (table.shared.table_id.words ≡ words) }
-        requires slots { table.shared.table_id.slots ≡ N.lim.tasks }
+        requires words { (words ≡ word_count N.prog N.lim)
+            × (table.shared.table_id.words ≡ tree_word_count N.nodes N.prog N.lim) }
+        requires slots { (tasks ≡ N.lim.tasks) × (table.shared.table_id.slots ≡ tree_slot_count N.nodes N.lim) }
+        requires fits { (tree_word_count N.nodes N.prog N.lim < 2 ^ 64) × (tree_slot_count N.nodes N.lim < 2 ^ 64) }
         ensures { result ≡ table.shared.table_id }
     {
         Floor {
             table,
             cells,
             words,
+            tasks,
         }
     }
 
@@ -79,5 +91,23 @@ impl<N: Named> Floor<N> {
     {
         let _words = self.words;
         16 + self.cells + 2 * task as usize + 1
+    }
+
+    /// Where the lock word of a node lies.
+    pub(crate) fn lock_place(&self, node: u32) -> usize
+        requires { node < length N.nodes }
+        ensures { result ≡ lock_place N.prog N.lim node }
+    {
+        let _cells = self.cells;
+        self.words + node as usize
+    }
+
+    /// Which slot holds the content of a node.
+    pub(crate) fn content_slot(&self, node: u32) -> usize
+        requires { node < length N.nodes }
+        ensures { result ≡ content_place N.lim node }
+    {
+        let _cells = self.cells;
+        self.tasks + node as usize
     }
 }

@@ -1,7 +1,7 @@
 //! The words and the slots of a floor that starts from a state.
 ghost use Rattle.std.specs.Prelude.{◌≡◌, ◌<◌, ◌≤◌, ◌-◌, ◌^◌, ◌++◌, ℕ, List, None, length, map, replicate, drop, IfOk, OnOk};
 ghost use Rattle.floor_rule.specs.Rows.{slot_of};
-ghost use Rattle.task_floor.specs.inner.Laying.{AreWordsOf, gap_words, head_words, held_slot, made_words, unmade_words};
+ghost use Rattle.floor_steps.specs.inner.Laying.{AreWordsOf, gap_words, head_words, held_slot, made_words, unmade_words};
 
 use crate::clock::clock_of;
 use crate::row_phase::phase_of;

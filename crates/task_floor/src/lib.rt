@@ -1,44 +1,42 @@
-//! The floor on which workers run segments at the same time: calls on one table of atomic words and slots, each with one
-//! atomic step or a few. No call blocks. Only starting and resting a floor, making room in a log and carrying out a segment take
-//! memory.
+//! The floor with the nodes of the tree, on which workers run segments and admit tasks at the same time: calls on one table of
+//! atomic words and slots, each with one atomic step or a few. No call blocks.
 #![tactic(auto)]
 
 mod cells;
 mod clock;
 mod closing;
+mod contents;
 mod emptying;
 mod entries;
 mod entry_log;
 mod floor;
-mod laws;
+mod following;
 mod laying;
 mod leaving;
 mod linking;
+mod locking;
+mod marking;
 mod numbering;
 mod opening;
 mod phases;
+mod planting;
 mod reading;
-mod rest;
+mod recording;
 mod resting;
 mod resuming;
 mod row_phase;
 mod segments;
-mod served;
 mod settling;
+mod sorting;
 mod stands;
+mod turning;
 mod turns;
 mod unjoined;
+mod unlocking;
 mod waking;
 mod words;
-mod working;
 
 pub use entries::Committed;
 pub use entry_log::EntryLog;
 pub use floor::{Floor, Stand};
-pub use laws::an_end_says_the_status;
-pub use rest::Rest;
-pub use resuming::Readiness;
 pub use segments::Seg;
-pub use served::Served;
-pub use turns::Busy;
-pub use working::FloorWorker;

@@ -3,7 +3,7 @@ ghost use Rattle.std.specs.Prelude.{◌≡◌, ◌<◌, length, map, slice_set, 
 ghost use Rattle.std.specs.Option.{ForSome};
 ghost use Rattle.wait_graph.specs.Link.{IsOrdered, link_of, new_link, with_done, with_joined};
 ghost use Rattle.twe_machine.specs.Rows.{awaited, is_done_status, link_of_row};
-ghost use Rattle.task_floor.specs.inner.Reading.{links_to};
+ghost use Rattle.floor_steps.specs.inner.Reading.{links_to};
 
 use std::alloc::Global;
 use twe_io::Memory;

@@ -1,6 +1,6 @@
 //! The entries of a journal with their numbers.
 ghost use Rattle.std.specs.Prelude.{◌≡◌, IfOk};
-ghost use Rattle.task_floor.specs.Waking.{log_of, numbered_from};
+ghost use Rattle.floor_steps.specs.Waking.{log_of, numbered_from};
 
 use journal_merge::{NumberedEntry, Part};
 use seg_journal::Entry;

@@ -1,38 +1,44 @@
-//! How a floor is opened.
+//! How a floor with nodes is opened.
 ghost use Rattle.std.specs.Prelude.{◌≡◌, [], IfOk};
+ghost use Rattle.prefix_tree.specs.Nodes.{IsTreeOfPaths};
 ghost use Rattle.twe_limits.specs.Limits.{IsWithin};
 ghost use Rattle.twe_program.specs.Program.{cell_count};
 ghost use Rattle.twe_program.specs.WellFormed.{IsWellFormed};
 ghost use Rattle.soundness_laws.specs.KeepsEffects.{KeepsEffects};
 ghost use Rattle.twe_machine.specs.declared.state.State.{State};
-ghost use Rattle.floor_table.specs.Holds.{first_view};
-ghost use Rattle.task_floor.specs.Opening.{ShowsRun};
+ghost use Rattle.tree_table.specs.Holds.{first_tree_view};
+ghost use Rattle.task_floor.specs.Opening.{ShowsTreeRun};
 
 use crate::floor::{Floor, Stand};
 use atomic_table::Table;
-use floor_rule::TaskSlot;
 use floor_table::Named;
-use journal_merge::Part;
 use std::alloc::{AllocError, Global};
+use tree_table::{Planted, TreeSlot, TreeStart};
 use twe_io::{List, Memory};
 
-impl<N: Named> Floor<N> {
-    /// A floor with these words and slots, which show the state of a run, and its first stand, which has the entries of that
-    /// run. `cells` is the number of the program's cells.
+impl<N: Named + Planted> Floor<N> {
+    /// A floor with these words and slots, which show the state of a run and the records of its enabled tasks, and its first
+    /// stand, which has the entries of that run and has placed these records. `cells` is the number of the program's cells, and
+    /// `tasks` how many tasks may be made.
     pub fn open(
         alloc: Global,
         cells: usize,
+        tasks: u32,
         words: &[u64],
-        slots: List<Option<TaskSlot>>,
-        log: &Part,
+        slots: List<TreeSlot>,
+        start: &TreeStart,
     ) -> Result<(Self, Stand), Memory>
         requires accepted { IsWellFormed N.prog × KeepsEffects N.prog × IsWithin N.lim.fuel N.lim.tasks }
-        requires cells { cells ≡ cell_count N.prog }
-        requires shows { (st : State) × ShowsRun N.prog N.lim log.now st words.now slots }
-        ensures { IfOk result (λ opened. (opened.1.table_id ≡ opened.0) × (opened.1.me ≡ (first_view log.now, []))) }
+        requires nodes { IsTreeOfPaths N.nodes }
+        requires counts { (cells ≡ cell_count N.prog) × (tasks ≡ N.lim.tasks) }
+        requires shows { (st : State) × ShowsTreeRun N.nodes N.prog N.lim start.now.part st start.now.records words.now slots }
+        ensures { IfOk result (λ opened. (opened.1.table_id ≡ opened.0)
+            × (opened.1.me ≡ (first_tree_view start.now.part start.now.records, []))) }
     {
-        match Table::new(alloc, words, slots.into_vec(), log) {
-            Ok((table, stand)) => Ok((Floor::of_table(table, cells, words.len()), stand)),
+        let count = 16 + cells + 2 * tasks as usize;
+        let _all = slots.len();
+        match Table::new(alloc, words, slots.into_vec(), start) {
+            Ok((table, stand)) => Ok((Floor::of_table(table, cells, count, tasks as usize), stand)),
             Err(_refused) => Err(Memory::from(AllocError)),
         }
     }

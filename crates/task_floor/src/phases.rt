@@ -3,42 +3,49 @@ ghost use Rattle.std.specs.Prelude.{◌≡◌, ◌≢◌, ◌<◌};
 ghost use Rattle.floor_rule.specs.declared.view.HeldTurn.{HeldTurn};
 ghost use Rattle.floor_table.specs.declared.view.SeatKind.TheVariants.{Spent};
 ghost use Rattle.floor_table.specs.Layout.{word_of_phase};
-ghost use Rattle.floor_table.specs.Tells.{FoundPhase, MayStore, StoredPhase};
+ghost use Rattle.floor_table.specs.Tells.{MayStore, StoredPhase};
+ghost use Rattle.tree_table.specs.FloorSeats.{HasTaskSlots, floor_seat};
+ghost use Rattle.tree_table.specs.Follows.{FollowedPhase};
+ghost use Rattle.task_floor.specs.Stands.{StaysInTree};
 
 use crate::floor::{Floor, Stand};
 use crate::words::{phase_of, word_of};
 use floor_rule::Phase;
-use floor_table::{LoadPhase, Named, StorePhase};
+use floor_table::Named;
+use tree_table::{FollowWait, Planted, StoreTreePhase};
 
-impl<N: Named> Floor<N> {
-    /// What the phase word of a task says. A stand that finds `Done` knows the task's value from then on. One that has the
-    /// task's turn finds the phase that it knows. A task waits for one with a higher number.
+impl<N: Named + Planted> Floor<N> {
+    /// What the phase word of a task says. A stand that finds `Done` knows the task's value from then on. One that finds that the
+    /// task waits knows for whom, also of each task that it knew to wait for this one. A stand that has the task's turn finds the
+    /// phase that it knows. A task waits for one with a higher number.
     pub fn status(&self, stand: &mut Stand, task: u32) -> Phase
         requires here { stand.old.table_id ≡ self.now }
-        requires live { stand.old.me.0.kind ≢ Spent }
+        requires live { stand.old.me.0.floor.kind ≢ Spent }
         requires task { task < N.lim.tasks }
-        ensures found { FoundPhase N.lim stand.old.me task (word_of_phase result) stand.new.me }
+        ensures found { FollowedPhase N.lim stand.old.me task (word_of_phase result) stand.new.me }
         ensures same { (stand.new.table_id ≡ stand.old.table_id) × (stand.new.id ≡ stand.old.id) }
     {
         let place = self.phase_place(task);
-        let word = self.table.shared.load::<LoadPhase<N>>(stand, place);
+        let word = self.table.shared.load::<FollowWait<N>>(stand, place);
         phase_of(word)
     }
 
     /// Stores the phase of a task whose turn the stand has: the one of the task's row, or `Running` once the awaited task is
-    /// known to be done.
+    /// known to be done. The stand holds no node.
     pub fn set_phase(&self, stand: &mut Stand, task: u32, phase: Phase)
         requires here { stand.old.table_id ≡ self.now }
-        requires live { stand.old.me.0.kind ≢ Spent }
+        requires live { stand.old.me.0.floor.kind ≢ Spent }
+        requires slots { HasTaskSlots N.lim.tasks stand.old.me.1 }
         requires task { task < N.lim.tasks }
-        requires may { (turn : HeldTurn) × MayStore stand.old.me task turn phase }
-        ensures stored { (turn : HeldTurn) → MayStore stand.old.me task turn phase
-            → StoredPhase stand.old.me task turn phase stand.new.me }
+        requires may { (turn : HeldTurn) × MayStore (floor_seat stand.old.me) task turn phase }
+        ensures stored { (turn : HeldTurn) → MayStore (floor_seat stand.old.me) task turn phase
+            → StoredPhase (floor_seat stand.old.me) task turn phase (floor_seat stand.new.me) }
+        ensures stays { StaysInTree N.lim stand.old.me stand.new.me }
         ensures same { (stand.new.table_id ≡ stand.old.table_id) × (stand.new.id ≡ stand.old.id) }
     {
         let place = self.phase_place(task);
         self.table
             .shared
-            .store::<StorePhase<N>>(stand, place, word_of(phase));
+            .store::<StoreTreePhase<N>>(stand, place, word_of(phase));
     }
 }

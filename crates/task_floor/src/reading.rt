@@ -5,7 +5,7 @@ ghost use Rattle.twe_machine.specs.declared.state.TaskRow.{TaskRow};
 ghost use Rattle.seg_journal.specs.declared.journal.Entry.{Entry};
 ghost use Rattle.floor_rule.specs.Shown.{first_fault_in, row_by, status_by, value_by};
 ghost use Rattle.floor_table.specs.Layout.{cells_from, number_at, phase_of_word};
-ghost use Rattle.task_floor.specs.inner.Reading.{held_in, joined_unless, row_in, rows_from};
+ghost use Rattle.floor_steps.specs.inner.Reading.{held_in, joined_unless, row_in, rows_from};
 
 use crate::unjoined::unjoined;
 use crate::words::value_of;

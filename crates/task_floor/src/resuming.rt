@@ -4,28 +4,16 @@ ghost use Rattle.floor_rule.specs.declared.view.HeldTurn.{HeldTurn};
 ghost use Rattle.floor_rule.specs.declared.view.Phase.TheVariants.{Waits};
 ghost use Rattle.floor_rule.specs.Rows.{phase_of};
 ghost use Rattle.floor_table.specs.declared.view.SeatKind.TheVariants.{Spent};
-ghost use Rattle.task_floor.specs.Resuming.{HasInHand, IsReadiness, KnowsMore, KnowsValue, MovesOn};
+ghost use Rattle.floor_steps.specs.Resuming.{HasInHand, IsReadiness, KnowsValue};
+ghost use Rattle.tree_table.specs.FloorSeats.{HasTaskSlots, floor_seat};
+ghost use Rattle.task_floor.specs.Resuming.{KnowsEnough, KnowsMoreBeside, MovesOnBeside};
 
 use crate::floor::{Floor, Stand};
 use floor_rule::{Phase, TaskSlot};
 use floor_table::Named;
 use seg_exec::Frame;
-
-/// Whether the next segment of a task may run.
-#[derive(Clone, Copy, Debug, PartialEq, Eq)]
-pub enum Readiness {
-    /// It may run.
-    Runs,
-    /// The task waits for another, which was not found done.
-    Waits {
-        /// That task.
-        on: u32,
-    },
-    /// The task waits for its admission.
-    Made,
-    /// The task has ended.
-    Ended,
-}
+use floor_steps::Readiness;
+use tree_table::Planted;
 
 /// The value that lies in the slot of a done task.
 fn value_in(slot: &TaskSlot) -> i32
@@ -34,17 +22,20 @@ fn value_in(slot: &TaskSlot) -> i32
     slot.frame.value
 }
 
-impl<N: Named> Floor<N> {
+impl<N: Named + Planted> Floor<N> {
     /// The value of a task. `None` if its phase word does not say that it is done, or if another worker has its turn just then.
-    /// Otherwise the stand knows the task to be done with this value from then on.
+    /// Otherwise the stand knows the task to be done with this value from then on. The stand holds no node and does nothing in
+    /// the tree.
     pub fn value_of(&self, stand: &mut Stand, worker: u32, task: u32) -> Option<i32>
         requires here { stand.old.table_id ≡ self.now }
-        requires live { stand.old.me.0.kind ≢ Spent }
+        requires live { stand.old.me.0.floor.kind ≢ Spent }
+        requires slots { HasTaskSlots N.lim.tasks stand.old.me.1 }
         requires task { task < N.lim.tasks }
-        requires worker { worker ≡ stand.old.me.0.worker }
-        requires closed { stand.old.me.0.segment ≡ None }
-        ensures value { IfSome result (λ value. KnowsValue stand.new.me task value) }
-        ensures more { KnowsMore stand.old.me stand.new.me }
+        requires worker { worker ≡ stand.old.me.0.floor.worker }
+        requires closed { stand.old.me.0.floor.segment ≡ None }
+        requires idle { stand.old.me.0.activity ≡ None }
+        ensures value { IfSome result (λ value. KnowsValue (floor_seat stand.new.me) task value) }
+        ensures more { KnowsMoreBeside stand.old.me stand.new.me task }
         ensures same { (stand.new.table_id ≡ stand.old.table_id) × (stand.new.id ≡ stand.old.id) }
     {
         match self.status(stand, task) {
@@ -56,12 +47,14 @@ impl<N: Named> Floor<N> {
     /// The same of a task that was found done: its value lies in its slot.
     fn take_value(&self, stand: &mut Stand, worker: u32, task: u32) -> Option<i32>
         requires here { stand.old.table_id ≡ self.now }
-        requires live { stand.old.me.0.kind ≢ Spent }
+        requires live { stand.old.me.0.floor.kind ≢ Spent }
+        requires slots { HasTaskSlots N.lim.tasks stand.old.me.1 }
         requires task { task < N.lim.tasks }
-        requires worker { worker ≡ stand.old.me.0.worker }
-        requires closed { stand.old.me.0.segment ≡ None }
-        ensures value { IfSome result (λ value. KnowsValue stand.new.me task value) }
-        ensures more { KnowsMore stand.old.me stand.new.me }
+        requires worker { worker ≡ stand.old.me.0.floor.worker }
+        requires closed { stand.old.me.0.floor.segment ≡ None }
+        requires idle { stand.old.me.0.activity ≡ None }
+        ensures value { IfSome result (λ value. KnowsValue (floor_seat stand.new.me) task value) }
+        ensures more { KnowsMoreBeside stand.old.me stand.new.me task }
         ensures same { (stand.new.table_id ≡ stand.old.table_id) × (stand.new.id ≡ stand.old.id) }
     {
         let Ok(slot) = self.take_turn(stand, worker, task) else {
@@ -77,7 +70,8 @@ impl<N: Named> Floor<N> {
     }
 
     /// Looks whether the next segment of a task in hand may run, and makes it ready. If the task waits for one that is done, its
-    /// frame takes the awaited value, and its phase word says `Running` from then on.
+    /// frame takes the awaited value, and its phase word says `Running` from then on. The stand holds no node and does nothing in
+    /// the tree. What it knows of the nodes is enough to give the turn, as before.
     pub fn make_ready(
         &self,
         stand: &mut Stand,
@@ -86,12 +80,17 @@ impl<N: Named> Floor<N> {
         frame: &mut Frame,
     ) -> Readiness
         requires here { stand.old.table_id ≡ self.now }
-        requires live { stand.old.me.0.kind ≢ Spent }
+        requires live { stand.old.me.0.floor.kind ≢ Spent }
+        requires slots { HasTaskSlots N.lim.tasks stand.old.me.1 }
         requires task { task < N.lim.tasks }
-        requires worker { worker ≡ stand.old.me.0.worker }
-        requires in_hand { (turn : HeldTurn) × HasInHand stand.old.me task turn frame.old }
-        ensures found { (turn : HeldTurn) → HasInHand stand.old.me task turn frame.old → IsReadiness turn stand.new.me task frame.new result }
-        ensures moves { MovesOn stand.old.me stand.new.me task }
+        requires worker { worker ≡ stand.old.me.0.floor.worker }
+        requires in_hand { (turn : HeldTurn) × HasInHand (floor_seat stand.old.me) task turn frame.old
+            × KnowsEnough N.nodes stand.old.me.0 task turn.row }
+        ensures found { (turn : HeldTurn) → HasInHand (floor_seat stand.old.me) task turn frame.old
+            → IsReadiness turn (floor_seat stand.new.me) task frame.new result }
+        ensures enough { (turn : HeldTurn) → HasInHand (floor_seat stand.old.me) task turn frame.old
+            → KnowsEnough N.nodes stand.new.me.0 task turn.row }
+        ensures moves { MovesOnBeside stand.old.me stand.new.me task }
         ensures same { (stand.new.table_id ≡ stand.old.table_id) × (stand.new.id ≡ stand.old.id) }
     {
         match self.status(stand, task) {
@@ -114,14 +113,20 @@ impl<N: Named> Floor<N> {
         frame: &mut Frame,
     ) -> Readiness
         requires here { stand.old.table_id ≡ self.now }
-        requires live { stand.old.me.0.kind ≢ Spent }
+        requires live { stand.old.me.0.floor.kind ≢ Spent }
+        requires slots { HasTaskSlots N.lim.tasks stand.old.me.1 }
         requires task { task < N.lim.tasks }
-        requires on { on < N.lim.tasks }
-        requires worker { worker ≡ stand.old.me.0.worker }
-        requires in_hand { (turn : HeldTurn) × HasInHand stand.old.me task turn frame.old }
-        requires waits { (turn : HeldTurn) → HasInHand stand.old.me task turn frame.old → phase_of turn.row ≡ Waits on }
-        ensures found { (turn : HeldTurn) → HasInHand stand.old.me task turn frame.old → IsReadiness turn stand.new.me task frame.new result }
-        ensures moves { MovesOn stand.old.me stand.new.me task }
+        requires on { (on < N.lim.tasks) × (task < on) }
+        requires worker { worker ≡ stand.old.me.0.floor.worker }
+        requires in_hand { (turn : HeldTurn) × HasInHand (floor_seat stand.old.me) task turn frame.old
+            × KnowsEnough N.nodes stand.old.me.0 task turn.row }
+        requires waits { (turn : HeldTurn) → HasInHand (floor_seat stand.old.me) task turn frame.old
+            → phase_of turn.row ≡ Waits on }
+        ensures found { (turn : HeldTurn) → HasInHand (floor_seat stand.old.me) task turn frame.old
+            → IsReadiness turn (floor_seat stand.new.me) task frame.new result }
+        ensures enough { (turn : HeldTurn) → HasInHand (floor_seat stand.old.me) task turn frame.old
+            → KnowsEnough N.nodes stand.new.me.0 task turn.row }
+        ensures moves { MovesOnBeside stand.old.me stand.new.me task }
         ensures same { (stand.new.table_id ≡ stand.old.table_id) × (stand.new.id ≡ stand.old.id) }
     {
         let Some(value) = self.value_of(stand, worker, on) else {

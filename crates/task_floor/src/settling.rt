@@ -5,8 +5,8 @@ ghost use Rattle.twe_machine.specs.Moves.{children_with, frame_without_prints, m
 ghost use Rattle.twe_machine.specs.Rows.{awaited};
 ghost use Rattle.floor_rule.specs.Rows.{phase_at, slot_of};
 ghost use Rattle.floor_rule.specs.Steps.{end_after};
-ghost use Rattle.task_floor.specs.Committing.{child_row};
-ghost use Rattle.task_floor.specs.inner.Bringing.{frame_after};
+ghost use Rattle.floor_steps.specs.Committing.{child_row};
+ghost use Rattle.floor_steps.specs.inner.Bringing.{frame_after};
 
 use crate::row_phase::enabled_phase;
 use effect_sets::Summary;

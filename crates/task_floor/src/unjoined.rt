@@ -2,7 +2,7 @@
 ghost use Rattle.std.specs.Prelude.{◌≡◌, ◌<◌, ◌||◌, ◌==◌, ℕ, [], ◌∷◌, false, length, slice_index_or, IfOk};
 ghost use Rattle.std.specs.List.{list_any};
 ghost use Rattle.floor_rule.specs.Shown.{is_unjoined};
-ghost use Rattle.task_floor.specs.inner.Reading.{held_in};
+ghost use Rattle.floor_steps.specs.inner.Reading.{held_in};
 
 use floor_rule::TaskSlot;
 use std::alloc::Global;

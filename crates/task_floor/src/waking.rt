@@ -1,50 +1,74 @@
-//! How a floor goes on from a quiet point.
-ghost use Rattle.std.specs.Prelude.{◌≡◌, [], IfOk};
-ghost use Rattle.twe_limits.specs.Limits.{IsWithin};
+//! How a floor with nodes goes on from a quiet point.
+ghost use Rattle.std.specs.Prelude.{◌≡◌, List, [], IfOk};
 ghost use Rattle.twe_program.specs.WellFormed.{IsWellFormed};
 ghost use Rattle.soundness_laws.specs.KeepsEffects.{KeepsEffects};
 ghost use Rattle.twe_machine.specs.Runs.{IsRun};
-ghost use Rattle.floor_table.specs.Holds.{first_view};
-ghost use Rattle.task_floor.specs.Waking.{log_of};
+ghost use Rattle.admission_core.specs.States.{Record};
+ghost use Rattle.node_rule.specs.Starts.{AreOfEnabled};
+ghost use Rattle.tree_table.specs.Holds.{first_tree_view};
+ghost use Rattle.floor_steps.specs.Waking.{log_of};
 
 use crate::floor::{Floor, Stand};
 use crate::laying::{slots_of, words_of};
 use crate::numbering::log_of;
-use crate::rest::Rest;
+use crate::planting::{add_locks, tree_slots};
+use crate::recording::records_of;
+use crate::sorting::contents_of;
+use effect_tree::Shape;
 use floor_table::Named;
 use journal_merge::Part;
 use seg_journal::{Journal, Limits};
 use std::alloc::Global;
+use floor_steps::Rest;
+use tree_table::{Planted, TreeStart};
 use twe_io::Memory;
 use twe_machine::{State, start};
 use twe_program::Prog;
 
-impl<N: Named> Floor<N> {
-    /// A floor for a run that has not begun, its first stand, and the entries of that stand, which are none. It takes time
-    /// linear in the cells and in the tasks that may be made.
-    pub fn new(alloc: Global, p: &Prog, lim: Limits) -> Result<(Self, Stand, Part), Memory>
+impl<N: Named + Planted> Floor<N> {
+    /// A floor for a run that has not begun, its first stand, and the entries of that stand, which are none. No record stands.
+    /// It takes time linear in the cells, in the nodes and in the tasks that may be made.
+    pub fn new(
+        alloc: Global,
+        p: &Prog,
+        shape: &Shape,
+        lim: Limits,
+    ) -> Result<(Self, Stand, Part), Memory>
         requires accepted { IsWellFormed N.prog × KeepsEffects N.prog }
-        requires named { (p.now ≡ N.prog) × (lim ≡ N.lim) }
-        ensures stand { IfOk result (λ floor. (floor.1.table_id ≡ floor.0) × (floor.1.me ≡ (first_view [], []))) }
+        requires named { (p.now ≡ N.prog) × (shape.now ≡ N.nodes) × (lim ≡ N.lim) }
+        ensures stand { IfOk result (λ floor. (floor.1.table_id ≡ floor.0) × (floor.1.me ≡ (first_tree_view [] [], []))) }
         ensures part { IfOk result (λ floor. floor.2 ≡ []) }
     {
         let state = start(alloc, p, lim)?;
         let journal = Journal::new(alloc);
-        Self::wake(alloc, lim, Rest { state, journal })
+        Self::wake(alloc, shape, lim, Rest { state, journal })
     }
 
     /// A floor that goes on from a quiet point, its first stand, and the entries of that stand: those of the journal, with
-    /// all that was printed beside the last of them. It takes time linear in the cells, in the journal and in the tasks that
-    /// may be made, and copies no frame.
-    pub fn wake(alloc: Global, lim: Limits, rest: Rest) -> Result<(Self, Stand, Part), Memory>
+    /// all that was printed beside the last of them. The records that stand are those of the enabled tasks: one for each effect,
+    /// at its place. It takes time linear in the cells, in the nodes, in the journal and in the tasks that may be made, and
+    /// copies no frame.
+    pub fn wake(
+        alloc: Global,
+        shape: &Shape,
+        lim: Limits,
+        rest: Rest,
+    ) -> Result<(Self, Stand, Part), Memory>
         requires accepted { IsWellFormed N.prog × KeepsEffects N.prog }
-        requires named { lim ≡ N.lim }
+        requires named { (shape.now ≡ N.nodes) × (lim ≡ N.lim) }
         requires run { IsRun N.prog N.lim rest.journal rest.state }
-        ensures stand { IfOk result (λ floor. (floor.1.table_id ≡ floor.0) × (floor.1.me ≡ (first_view floor.2, []))) }
+        ensures here { IfOk result (λ floor. floor.1.table_id ≡ floor.0) }
+        ensures stand { IfOk result (λ floor. (records : List Record) × AreOfEnabled N.nodes rest.state records
+            × (floor.1.me ≡ (first_tree_view floor.2 records, []))) }
         ensures part { IfOk result (λ floor. floor.2 ≡ log_of rest.journal rest.state.prints) }
     {
         let Rest { state, journal } = rest;
-        let words = words_of(alloc, &state, lim.tasks, journal.len())?;
+        let count = lim.tasks;
+        let nodes = shape.nodes();
+        let records = records_of(alloc, shape, &state)?;
+        let contents = contents_of(alloc, nodes, records.as_slice())?;
+        let mut words = words_of(alloc, &state, count, journal.len())?;
+        add_locks(&mut words, nodes)?;
         let State {
             cells,
             tasks,
@@ -53,9 +77,22 @@ impl<N: Named> Floor<N> {
             asked: _,
             first_fault: _,
         } = state;
-        let slots = slots_of(alloc, tasks, lim.tasks)?;
+        let tasks = slots_of(alloc, tasks, count)?;
+        let slots = tree_slots(alloc, tasks, contents)?;
         let part = log_of(alloc, journal.as_slice(), prints)?;
-        let (floor, stand) = Self::open(alloc, cells.len(), words.as_slice(), slots, &part)?;
+        let start = TreeStart { part, records };
+        let (floor, stand) = Self::open(
+            alloc,
+            cells.len(),
+            count,
+            words.as_slice(),
+            slots,
+            &start,
+        )?;
+        let TreeStart {
+            part,
+            records: _records,
+        } = start;
         Ok((floor, stand, part))
     }
 }

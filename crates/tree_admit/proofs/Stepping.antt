@@ -10,7 +10,7 @@ use Rattle.tree_table.specs.declared.slot.TreeSlot.TheVariants as kinds
 use Rattle.tree_table.specs.declared.view.TreeView.{TreeView}
 use Rattle.tree_table.specs.Layout.{content_place}
 use Rattle.tree_table.specs.Seats.{GaveNode, MayGoOn, MayLock, TreeSeat, unlocked_view}
-use Rattle.tree_floor.specs.Contents.{HasBehind, HasInHand}
+use Rattle.task_floor.specs.Contents.{HasBehind, HasInHand}
 use Rattle.tree_admit.specs.declared.bars.Bar.{Bar}
 use Rattle.tree_admit.specs.Bars.{IsBarIn, WasBarred}
 use Rattle.tree_admit.specs.Going.{HasLocked, HasNode, HasOnlyLearned}

@@ -7,7 +7,7 @@ use Rattle.tree_table.specs.declared.slot.TreeSlot.TheVariants as kinds
 use Rattle.tree_table.specs.Layout.{content_place}
 use Rattle.tree_table.specs.Seats.{HasContent, HasOwn, TookNode, TreeSeat, locked_view}
 use Rattle.tree_table.specs.TreeOf.{content_in}
-use Rattle.tree_floor.specs.Contents.{HasTakenContent}
+use Rattle.task_floor.specs.Contents.{HasTakenContent}
 use Rattle.tree_admit.specs.Going.{HasLocked}
 use Rattle.tree_admit.proofs.Contents.{content_here}
 

@@ -7,7 +7,7 @@ ghost use Rattle.tree_admit.specs.Going.{HasOnlyFollowed};
 
 use floor_rule::Phase;
 use floor_table::Named;
-use tree_floor::{Floor, Stand};
+use task_floor::{Floor, Stand};
 use tree_table::Planted;
 
 /// Follows the waits from a task. `Ok` if they lead to the task `to`: the stand knows that from then on. Otherwise the task at

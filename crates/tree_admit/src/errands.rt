@@ -22,7 +22,7 @@ use effect_tree::Shape;
 use floor_table::Named;
 use std::alloc::Global;
 use std::sync::Wait;
-use tree_floor::{Floor, Stand};
+use task_floor::{Floor, Stand};
 use tree_table::{Errand, ErrandKind, NodeContent, NodeRecord, Planted};
 use tree_ways::is_solid;
 use twe_io::Memory;

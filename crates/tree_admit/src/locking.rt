@@ -9,7 +9,7 @@ ghost use Rattle.tree_admit.specs.Going.{HasLocked};
 use floor_table::Named;
 use std::sync::Wait;
 use std::thread;
-use tree_floor::{Floor, Stand};
+use task_floor::{Floor, Stand};
 use tree_table::{Errand, NodeContent, Planted};
 
 /// Locks the root for an errand, and returns its content.

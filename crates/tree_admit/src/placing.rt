@@ -21,7 +21,7 @@ use effect_tree::Shape;
 use floor_table::Named;
 use std::alloc::Global;
 use std::sync::Wait;
-use tree_floor::{Floor, Stand};
+use task_floor::{Floor, Stand};
 use tree_table::{Errand, ErrandKind, Planted};
 use twe_io::Memory;
 

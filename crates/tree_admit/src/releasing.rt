@@ -13,7 +13,7 @@ use effect_sets::Effect;
 use effect_tree::Shape;
 use floor_table::Named;
 use std::sync::Wait;
-use tree_floor::{Floor, Stand};
+use task_floor::{Floor, Stand};
 use tree_table::{Errand, ErrandKind, Planted};
 
 /// Takes the record of one effect of a task out, whose effects are these.

@@ -12,7 +12,7 @@ use crate::bars::Bar;
 use crate::chains::follow_to;
 use effect_sets::{Effect, interferes};
 use floor_table::Named;
-use tree_floor::{Floor, Stand};
+use task_floor::{Floor, Stand};
 use tree_table::{Errand, ErrandKind, NodeContent, NodeRecord, Planted};
 
 /// Whether a record, which stands at this node, passes for an effect of a task. Otherwise it is a bar.

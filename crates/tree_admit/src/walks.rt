@@ -19,7 +19,7 @@ use effect_sets::Effect;
 use effect_tree::Shape;
 use floor_table::Named;
 use std::sync::Wait;
-use tree_floor::{Floor, Stand};
+use task_floor::{Floor, Stand};
 use tree_table::{Errand, NodeContent, Planted};
 
 /// Looks at the records at a node, whose content this is, and walks through all nodes below it: it locks each child, walks below

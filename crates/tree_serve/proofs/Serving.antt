@@ -30,10 +30,10 @@ use Rattle.floor_table.specs.declared.view.View.{View}
 use Rattle.floor_table.specs.Layout.{asked_of_clock, word_of_phase}
 use Rattle.floor_table.specs.Tells.{Seat, drawn_view, entry_at}
 use Rattle.floor_table.specs.FloorOf.{turn_in}
-use Rattle.task_floor.specs.Committing.{Log, child_row, status_after}
-use Rattle.task_floor.specs.Resuming.{HasInHand}
-use Rattle.task_floor.specs.Segments.{HasRun}
-use Rattle.task_floor.specs.Working.{HasFound, HasRunOne, SameSeat}
+use Rattle.floor_steps.specs.Committing.{Log, child_row, status_after}
+use Rattle.floor_steps.specs.Resuming.{HasInHand}
+use Rattle.floor_steps.specs.Segments.{HasRun}
+use Rattle.floor_steps.specs.Working.{HasFound, HasRunOne, SameSeat}
 use Rattle.admission_core.specs.States.{IsAmong}
 use Rattle.node_rule.specs.FactSteps.{HasPlacedAll}
 use Rattle.node_rule.specs.Trees.{WaitFact}
@@ -47,14 +47,14 @@ use Rattle.tree_table.specs.TurnSeats.{GaveTreeTurn}
 use Rattle.tree_table.specs.EntrySeats.{MayAdmitLatest, admission_at}
 use Rattle.tree_table.specs.FloorSeats.{floor_seat, tasks_out}
 use Rattle.tree_table.specs.Follows.{FollowedPhase}
-use Rattle.tree_floor.specs.Committing.{HasAdmitted, HasCommittedBeside, made_by, with_made}
-use Rattle.tree_floor.specs.Holding.{HoldsChildBeside, HoldsDrawnBeside, HoldsOneBeside, HoldsReadyBeside, HoldsTaskBeside}
-use Rattle.tree_floor.specs.Leaving.{HasLeftTask, MayFinishTask, MayGiveNew}
-use Rattle.tree_floor.specs.Resuming.{KnowsEnough, MovesOnBeside}
-use Rattle.tree_floor.specs.Stands.{StaysInTree, TreeStand}
-use Rattle.tree_floor.proofs.CommittedBeside.{c, holds_child_beside, holds_drawn_beside, now}
-use Rattle.tree_floor.proofs.GoingOn.{looked_enough, looked_in_hand, looked_moves}
-use Rattle.tree_floor.proofs.ServedBeside.{CameBack, child_back, drawn_back, holds_admitted, holds_after_child, holds_still, may_commit_beside, may_finish_drawn, may_give_child, one_back, one_ran_beside, task_back}
+use Rattle.task_floor.specs.Committing.{HasAdmitted, HasCommittedBeside, made_by, with_made}
+use Rattle.task_floor.specs.Holding.{HoldsChildBeside, HoldsDrawnBeside, HoldsOneBeside, HoldsReadyBeside, HoldsTaskBeside}
+use Rattle.task_floor.specs.Leaving.{HasLeftTask, MayFinishTask, MayGiveNew}
+use Rattle.task_floor.specs.Resuming.{KnowsEnough, MovesOnBeside}
+use Rattle.task_floor.specs.Stands.{StaysInTree, TreeStand}
+use Rattle.task_floor.proofs.CommittedBeside.{c, holds_child_beside, holds_drawn_beside, now}
+use Rattle.task_floor.proofs.GoingOn.{looked_enough, looked_in_hand, looked_moves}
+use Rattle.task_floor.proofs.ServedBeside.{CameBack, child_back, drawn_back, holds_admitted, holds_after_child, holds_still, may_commit_beside, may_finish_drawn, may_give_child, one_back, one_ran_beside, task_back}
 use Rattle.tree_admit.specs.declared.bars.Bar.{Bar}
 use Rattle.tree_admit.specs.Attempts.{HasPlacedEach, HasPlacedNone, KeepsAllElse, WasBarredFor}
 use Rattle.tree_serve.specs.Working.{HasAdmittedOne, SameTreeStand}

@@ -8,12 +8,12 @@ use Rattle.floor_rule.specs.declared.view.Phase.{Phase}
 use Rattle.floor_rule.specs.declared.view.Phase.TheVariants as phases
 use Rattle.floor_rule.specs.Rows.{phase_of}
 use Rattle.floor_rule.specs.Touches.{IsAmong}
-use Rattle.task_floor.specs.Stands.{WasBusy}
-use Rattle.task_floor.specs.Working.{HasFound, HasServed, SameStand}
-use Rattle.task_floor.specs.declared.served.Served.{Served}
+use Rattle.floor_steps.specs.Stands.{WasBusy}
+use Rattle.floor_steps.specs.Working.{HasFound, HasServed, SameStand}
+use Rattle.floor_steps.specs.declared.served.Served.{Served}
 use Rattle.tree_table.specs.FloorSeats.{floor_seat}
 use Rattle.tree_table.specs.Seats.{TreeSeat}
-use Rattle.tree_floor.specs.Stands.{TreeStand, floor_stand}
+use Rattle.task_floor.specs.Stands.{TreeStand, floor_stand}
 use Rattle.tree_admit.specs.declared.bars.Bar.{Bar}
 use Rattle.tree_admit.specs.Attempts.{WasBarredFor}
 use Rattle.tree_serve.specs.declared.admission.Admission.{Admission}

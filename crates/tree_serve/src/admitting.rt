@@ -5,7 +5,7 @@ ghost use Rattle.floor_rule.specs.declared.view.HeldTurn.{HeldTurn};
 ghost use Rattle.floor_rule.specs.declared.view.Phase.TheVariants.{Made};
 ghost use Rattle.floor_rule.specs.Rows.{phase_of};
 ghost use Rattle.floor_rule.specs.Touches.{IsAmong};
-ghost use Rattle.tree_floor.specs.Holding.{HoldsDrawnBeside, HoldsTaskBeside};
+ghost use Rattle.task_floor.specs.Holding.{HoldsDrawnBeside, HoldsTaskBeside};
 ghost use Rattle.tree_serve.specs.Working.{HasTriedToAdmit, SameTreeStand};
 
 use crate::admission::Admission;

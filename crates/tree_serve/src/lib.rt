@@ -9,6 +9,6 @@ mod working;
 mod workshop;
 
 pub use admission::Admission;
-pub use task_floor::Served;
+pub use floor_steps::Served;
 pub use worker::TreeWorker;
 pub use workshop::Workshop;

@@ -1,11 +1,11 @@
 //! A worker of a floor with nodes.
 ghost use Rattle.std.specs.Prelude.{◌≡◌, ◌<◌, ◌^◌, ℕ, IsTrue, length};
-ghost use Rattle.tree_floor.specs.Holding.{IsIdleBeside};
+ghost use Rattle.task_floor.specs.Holding.{IsIdleBeside};
 
 use effect_sets::Effect;
 use floor_rule::TaskSlot;
 use std::marker::Model;
-use tree_floor::{EntryLog, Stand};
+use task_floor::{EntryLog, Stand};
 
 /// A worker with nothing in hand: it has no turn, no node and no open segment. Clauses see its stand.
 #[derive(Drop)]
@@ -16,8 +16,8 @@ pub struct TreeWorker {
 }
 
 impl Model for TreeWorker {
-    ghost use Rattle.tree_floor.specs.Holding.{IsIdleBeside};
-    ghost use Rattle.tree_floor.specs.Stands.{TreeStand};
+    ghost use Rattle.task_floor.specs.Holding.{IsIdleBeside};
+    ghost use Rattle.task_floor.specs.Stands.{TreeStand};
 
     ghost Value = { TreeStand };
 

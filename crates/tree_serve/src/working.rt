@@ -1,10 +1,10 @@
 //! How a worker runs the next segment of a task.
 ghost use Rattle.std.specs.Prelude.{◌≡◌, ◌<◌, ℕ, IfOk};
 ghost use Rattle.floor_rule.specs.declared.view.HeldTurn.{HeldTurn};
-ghost use Rattle.task_floor.specs.Committing.{status_after};
-ghost use Rattle.task_floor.specs.Working.{HasRunOne};
+ghost use Rattle.floor_steps.specs.Committing.{status_after};
+ghost use Rattle.floor_steps.specs.Working.{HasRunOne};
 ghost use Rattle.tree_table.specs.FloorSeats.{floor_seat};
-ghost use Rattle.tree_floor.specs.Holding.{HoldsDrawnBeside, HoldsReadyBeside, HoldsTaskBeside};
+ghost use Rattle.task_floor.specs.Holding.{HoldsDrawnBeside, HoldsReadyBeside, HoldsTaskBeside};
 ghost use Rattle.tree_serve.specs.Working.{HasServedBeside, SameTreeStand};
 ghost use Rattle.tree_serve.specs.inner.InHand.{HasEndedIn, HoldsMadeBeside, HoldsRanBeside};
 
@@ -17,9 +17,9 @@ use seg_exec::Stop;
 use seg_journal::End;
 use std::alloc::AllocError;
 use std::sync::Wait;
-use task_floor::{Readiness, Served, an_end_says_the_status};
+use floor_steps::{Readiness, Served, an_end_says_the_status};
 use tree_admit::{place_spawned, release};
-use tree_floor::Committed;
+use task_floor::Committed;
 use tree_table::Planted;
 use twe_io::Memory;
 

@@ -6,7 +6,7 @@ use floor_table::Named;
 use std::alloc::Global;
 use std::marker::Model;
 use tree_admit::Footing;
-use tree_floor::Floor;
+use task_floor::Floor;
 use tree_table::Planted;
 use twe_limits::Limits;
 use twe_program::Prog;

@@ -5,7 +5,7 @@ use Rattle.journal_merge.specs.declared.numbered.NumberedEntry.{NumberedEntry}
 use Rattle.journal_merge.specs.Merging.{all_of}
 use Rattle.floor_table.specs.declared.view.SeatKind.TheVariants.{Main, Other}
 use Rattle.floor_table.specs.Holds.{HasGivenAll}
-use Rattle.tree_floor.specs.Stands.{TreeStand}
+use Rattle.task_floor.specs.Stands.{TreeStand}
 
 -- a stand of a worker on this table
 pub record IsOtherOn (table : TableId) (stand : TreeStand) : Type 0 where

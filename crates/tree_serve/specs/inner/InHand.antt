@@ -12,10 +12,10 @@ use Rattle.floor_rule.specs.declared.view.Phase.{Phase}
 use Rattle.floor_rule.specs.declared.view.Phase.TheVariants as phases
 use Rattle.floor_rule.specs.declared.view.TaskSlot.{TaskSlot}
 use Rattle.floor_table.specs.FloorOf.{turn_in}
-use Rattle.task_floor.specs.Committing.{Log}
+use Rattle.floor_steps.specs.Committing.{Log}
 use Rattle.tree_table.specs.Seats.{TreeSeat}
-use Rattle.tree_floor.specs.Committing.{MayCommitBeside}
-use Rattle.tree_floor.specs.Holding.{HoldsChildBeside, HoldsDrawnBeside, HoldsOneBeside}
+use Rattle.task_floor.specs.Committing.{MayCommitBeside}
+use Rattle.task_floor.specs.Holding.{HoldsChildBeside, HoldsDrawnBeside, HoldsOneBeside}
 
 -- the worker has run the next segment of task t, which has left the frame of this slot and has stopped so
 pub record HoldsRanBeside (p : Program) (number : ℕ) (me : TreeSeat) (log : Log) (t : ℕ) (slot : TaskSlot) (turn : HeldTurn) (stop : Stop) : Type 0 where

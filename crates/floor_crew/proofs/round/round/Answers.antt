@@ -2,9 +2,9 @@ use Rattle.std.proofs.Common.{◌≡◌, ◌++◌, ◌∷◌, [], List, sym, ap,
 use Rattle.std.proofs.lemmas.Result.{IfOk-weaker}
 use mathlib.Core.List.{IsPrefix}
 use Rattle.journal_merge.specs.declared.numbered.NumberedEntry.{NumberedEntry}
-use Rattle.task_floor.specs.declared.rest.Rest.{Rest}
-use Rattle.task_floor.specs.Resting.{IsRestOf}
-use Rattle.task_floor.specs.Waking.{log_of}
+use Rattle.floor_steps.specs.declared.rest.Rest.{Rest}
+use Rattle.floor_steps.specs.Resting.{IsRestOf}
+use Rattle.floor_steps.specs.Waking.{log_of}
 use Rattle.floor_crew.proofs.FirstEntries.{rest_begins}
 use Rattle.floor_crew.proofs.round.round.Goals as goal
 

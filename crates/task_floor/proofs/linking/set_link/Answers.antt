@@ -2,7 +2,7 @@ use Rattle.std.proofs.Common.{◌≡◌, List, Bool, if◌then◌else◌, subst}
 use Rattle.wait_graph.specs.declared.tasks.Link.{Link}
 use Rattle.wait_graph.specs.Link.{with_done, with_joined, with_wait}
 use Rattle.twe_machine.specs.Rows.{awaited, is_done_row}
-use Rattle.task_floor.proofs.Readings.{all_set}
+use Rattle.floor_steps.proofs.Readings.{all_set}
 use Rattle.task_floor.proofs.linking.set_link.Goals as goal
 
 pub returns : goal.returns

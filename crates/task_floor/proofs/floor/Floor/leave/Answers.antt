@@ -1,35 +1,55 @@
-use Rattle.std.proofs.Common.{sym, ap, ◌∙◌}
-use Rattle.floor_rule.specs.declared.view.HeldTurn.{HeldTurn}
-use Rattle.floor_table.specs.Tells.{Seat}
-use Rattle.task_floor.proofs.LeavingTurns.{has_left, may_give_back, may_store}
+use Rattle.std.proofs.Common.{ℕ, arith, sym, subst, Some}
+use mathlib.Core.Option.{none}
+use Rattle.atomic_table.specs.Table.{Allows, step}
+use Rattle.tree_table.specs.Holds.{TreeKeeps}
+use Rattle.tree_table.specs.Layout.{free_lock, lock_place, tree_slot_count}
+use Rattle.tree_table.specs.Plays.{GoesOn}
+use Rattle.tree_table.specs.Seats.{MayGoOn}
+use Rattle.tree_table.specs.declared.view.TreeView.{TreeView}
+use Rattle.tree_table.proofs.Calls.{go_on}
+use Rattle.task_floor.proofs.Givings.{gave_from, has_content, same_view}
 use Rattle.task_floor.proofs.floor.Floor.leave.Goals as goal
 
-pub set_phase-requires-clause-may : goal.set_phase-requires-clause-may
-set_phase-requires-clause-may g c =
+pub give_content-requires-clause-may : goal.give_content-requires-clause-may
+give_content-requires-clause-may g c =
     let may = c.requires.may in
-    (may.0, may_store c.args.stand.now.me c.args.task c.args.slot c.args.phase may.0 may.1 may.2 may.3)
+    (may.1, may.3.slot)
 
-pub give_turn-requires-clause-live : goal.give_turn-requires-clause-live
-give_turn-requires-clause-live g c =
-    let may = c.requires.may in
-    let stored = c.set_phase.ensures.stored may.0 (may_store c.args.stand.now.me c.args.task c.args.slot c.args.phase may.0 may.1 may.2 may.3) in
-    λ spent. c.requires.live (sym (ap (λ (m : Seat). m.0.kind) stored) ∙ spent)
-
-pub give_turn-requires-clause-may : goal.give_turn-requires-clause-may
-give_turn-requires-clause-may g c =
-    let may = c.requires.may in
+pub store-requires : goal.store-requires
+store-requires g c =
+    let nodes = g.N.Planted.nodes in
+    let p = g.N.Named.prog in
+    let lim = g.N.Named.lim in
     let me = c.args.stand.now.me in
-    let mid = c.set_phase.new.stand.me in
-    let now : HeldTurn = record may.0 { phase = c.args.phase } in
-    let stored = c.set_phase.ensures.stored may.0 (may_store me c.args.task c.args.slot c.args.phase may.0 may.1 may.2 may.3) in
-    (now, may.1, may_give_back me mid c.args.task c.args.slot c.args.phase may.0 may.1 may.2 may.3 stored)
+    let mid = c.give_content.new.stand.me in
+    let id = c.give_content.new.stand.id in
+    let n = c.args.node in
+    let place = c.lock_place-place.ensures in
+    let words = c.self.invariant.3 in
+    let below = c.requires.node in
+    let here = c.requires.here in
+    let same = c.self.view_is in
+    let still = c.give_content.ensures.same.0 in
+    let may = c.requires.may in
+    let given = c.give_content.ensures.given may.1 may.3.slot in
+    let view = same_view lim me mid n c.args.content may.1 given in
+    let P : ℕ → ℕ → Type 0 =
+    λ word slots. Allows (TreeKeeps nodes p lim) slots id mid word (λ k. free_lock)
+    (λ k. GoesOn nodes p lim (step slots word free_lock 0 none) mid free_lock) in
+    let allowed : P (lock_place p lim n) (tree_slot_count nodes lim) =
+    go_on nodes p lim id n mid.0 mid.1 may.1 may.0 (subst (λ (v : TreeView). MayGoOn nodes v n may.0) (sym view) may.2)
+    (has_content lim me mid n c.args.content may.1 may.3 given) in
+    let at_word : P c.lock_place-place.result (tree_slot_count nodes lim) = subst (λ (w : ℕ). P w (tree_slot_count nodes lim)) (sym place) allowed in
+    (cc (here, same, still), omega (arith, words, place, below), subst (P c.lock_place-place.result) (sym c.self.invariant.4) at_word)
 
-pub returns-clause-left : goal.returns-clause-left
-returns-clause-left g c turn others may is =
+pub returns-clause-gave : goal.returns-clause-gave
+returns-clause-gave g c next others may hand =
+    let lim = g.N.Named.lim in
     let me = c.args.stand.now.me in
-    let mid = c.set_phase.new.stand.me in
-    let after = c.give_turn.new.stand.me in
-    let now : HeldTurn = record turn { phase = c.args.phase } in
-    let stored = c.set_phase.ensures.stored turn (may_store me c.args.task c.args.slot c.args.phase turn others may is) in
-    has_left me mid after c.args.task c.args.phase turn others is stored
-    (c.give_turn.ensures.gave now others (may_give_back me mid c.args.task c.args.slot c.args.phase turn others may is stored))
+    let mid = c.give_content.new.stand.me in
+    let n = c.args.node in
+    let given = c.give_content.ensures.given others hand.slot in
+    let view = same_view lim me mid n c.args.content others given in
+    gave_from me mid c.store.new.seat.me n (Some next) others view
+    (c.store.ensures.2 n next others c.lock_place-place.ensures (subst (λ (v : TreeView). MayGoOn g.N.Planted.nodes v n next) (sym view) may)
+    (has_content lim me mid n c.args.content others hand given))

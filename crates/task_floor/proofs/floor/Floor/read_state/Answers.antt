@@ -8,7 +8,7 @@ use Rattle.twe_machine.specs.Runs.{IsReached, state_after}
 use Rattle.floor_rule.proofs.FirstFaults.{first_fault_is}
 use Rattle.floor_table.specs.Layout.{asked_of_clock, cells_from, number_at}
 use Rattle.floor_table.proofs.Elements.{word_at}
-use Rattle.task_floor.proofs.Readings.{rows_ordered, state_is, tasks_are}
+use Rattle.floor_steps.proofs.Readings.{rows_ordered, state_is, tasks_are}
 use Rattle.task_floor.proofs.floor.Floor.read_state.Goals as goal
 
 pub cells_of-requires-clause-small : goal.cells_of-requires-clause-small

@@ -1,17 +1,53 @@
-use Rattle.task_floor.proofs.InHand.{in_hand_more, may_store_running, more_moves, stored_moves}
+use Rattle.floor_steps.proofs.InHand.{may_store_running}
+use Rattle.tree_table.specs.FloorSeats.{floor_seat}
+use Rattle.task_floor.proofs.GoingOn.{enough_now, moves_now, same_enough, still_in_hand}
+use Rattle.task_floor.proofs.Valuing.{more_live, more_slots}
 use Rattle.task_floor.proofs.floor.Floor.resume.Goals as goal
+
+pub set_phase-requires-clause-live : goal.set_phase-requires-clause-live
+set_phase-requires-clause-live g c = more_live g.N.Named.lim c.args.stand.now.me c.value_of.new.stand.me c.args.on c.in-Some.ensures.more c.requires.live
+
+pub set_phase-requires-clause-slots : goal.set_phase-requires-clause-slots
+set_phase-requires-clause-slots g c = more_slots g.N.Named.lim c.args.stand.now.me c.value_of.new.stand.me c.args.on c.in-Some.ensures.more c.requires.slots
+
+pub set_phase-requires-clause-may : goal.set_phase-requires-clause-may
+set_phase-requires-clause-may g c =
+    let hand = c.requires.in_hand in
+    let a = c.args.stand.now.me in
+    let b = c.value_of.new.stand.me in
+    let waits = c.requires.waits hand.0 hand.1 in
+    let still = still_in_hand g.N.Planted.nodes a b c.args.task c.args.on hand.0 c.args.frame.now c.requires.on.1 hand.1 waits c.in-Some.ensures.more in
+    (hand.0, may_store_running (floor_seat b) (floor_seat b) c.args.task c.args.on _ hand.0 c.args.frame.now still waits c.in-Some.ensures.value)
 
 pub returns-clause-moves : goal.returns-clause-moves
 returns-clause-moves g c =
+    let nodes = g.N.Planted.nodes in
+    let lim = g.N.Named.lim in
+    let hand = c.requires.in_hand in
     let a = c.args.stand.now.me in
-    let mid = c.value_of.new.stand.me in
+    let b = c.value_of.new.stand.me in
     let after = c.set_phase.new.stand.me in
     let t = c.args.task in
-    let turn = c.requires.in_hand.0 in
-    let frame = c.args.frame.now in
     let more = c.in-Some.ensures.more in
     let known = c.in-Some.ensures.value in
-    let waits = c.requires.waits turn c.requires.in_hand.1 in
-    let hand = in_hand_more a mid t turn frame more c.requires.in_hand.1 in
-    let may = may_store_running mid after t c.args.on _ turn frame hand waits known in
-    more_moves a mid after t more (stored_moves mid after t c.args.on _ turn frame hand waits known (c.set_phase.ensures.stored turn may))
+    let waits = c.requires.waits hand.0 hand.1 in
+    let still = still_in_hand nodes a b t c.args.on hand.0 c.args.frame.now c.requires.on.1 hand.1 waits more in
+    let may = may_store_running (floor_seat b) (floor_seat b) t c.args.on _ hand.0 c.args.frame.now still waits known in
+    moves_now nodes a b t c.args.on hand.0 c.args.frame.now c.requires.on.1 hand.1 waits more lim after _ known (more_slots lim a b c.args.on more c.requires.slots) c.set_phase.ensures.stays (c.set_phase.ensures.stored hand.0 may)
+
+pub returns-clause-enough : goal.returns-clause-enough
+returns-clause-enough g c turn hand =
+    let nodes = g.N.Planted.nodes in
+    let lim = g.N.Named.lim in
+    let first = c.requires.in_hand in
+    let a = c.args.stand.now.me in
+    let b = c.value_of.new.stand.me in
+    let after = c.set_phase.new.stand.me in
+    let t = c.args.task in
+    let more = c.in-Some.ensures.more in
+    let known = c.in-Some.ensures.value in
+    let waits = c.requires.waits turn hand in
+    let still = still_in_hand nodes a b t c.args.on turn c.args.frame.now c.requires.on.1 hand waits more in
+    let may = may_store_running (floor_seat b) (floor_seat b) t c.args.on _ turn c.args.frame.now still waits known in
+    enough_now nodes a b t c.args.on turn c.args.frame.now c.requires.on.1 hand waits more lim after _ known (more_slots lim a b c.args.on more c.requires.slots) c.set_phase.ensures.stays (c.set_phase.ensures.stored turn may)
+    (same_enough nodes a t first.0 turn c.args.frame.now first.1 hand first.2)

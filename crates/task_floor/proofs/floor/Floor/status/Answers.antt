@@ -1,32 +1,34 @@
 use Rattle.std.proofs.Common.{ℕ, arith, sym, subst}
 use mathlib.Core.Option.{none}
 use Rattle.atomic_table.specs.Table.{Allows, step}
-use Rattle.floor_table.specs.Holds.{TableKeeps}
 use Rattle.floor_table.specs.Layout.{phase_place}
-use Rattle.floor_table.specs.Plays.{LoadsPhase}
-use Rattle.floor_table.specs.Tells.{FoundPhase}
-use Rattle.floor_table.proofs.Calls.{get_phase}
+use Rattle.tree_table.specs.Follows.{FollowedPhase, Follows}
+use Rattle.tree_table.specs.Holds.{TreeKeeps}
+use Rattle.tree_table.specs.Layout.{tree_slot_count}
+use Rattle.tree_table.proofs.Following.{follow}
 use Rattle.task_floor.proofs.floor.Floor.status.Goals as goal
 
 pub load-word-requires : goal.load-word-requires
 load-word-requires g c =
+    let nodes = g.N.Planted.nodes in
     let p = g.N.Named.prog in
     let lim = g.N.Named.lim in
     let me = c.args.stand.now.me in
     let id = c.args.stand.now.id in
     let place = c.phase_place-place.ensures in
-    let words = c.self.invariant.2 in
+    let words = c.self.invariant.3 in
     let below = c.requires.task in
     let here = c.requires.here in
     let same = c.self.view_is in
-    let P : ℕ → ℕ → Type 0 = λ word slots. Allows (TableKeeps p lim) slots id me word (λ n. n) (LoadsPhase p lim (step slots word 0 0 none) me) in
-    let allowed : P (phase_place p c.args.task) lim.tasks = get_phase p lim id c.args.task me.0 me.1 c.requires.live below in
-    let at_word : P c.phase_place-place.result lim.tasks = subst (λ (w : ℕ). P w lim.tasks) (sym place) allowed in
-    (cc (here, same), omega (arith, words, place, below), subst (P c.phase_place-place.result) (sym c.self.invariant.3) at_word)
+    let count = tree_slot_count nodes lim in
+    let P : ℕ → ℕ → Type 0 = λ word slots. Allows (TreeKeeps nodes p lim) slots id me word (λ n. n) (Follows p lim (step slots word 0 0 none) me) in
+    let allowed : P (phase_place p c.args.task) count = follow nodes p lim id c.args.task me.0 me.1 c.requires.live below in
+    let at_word : P c.phase_place-place.result count = subst (λ (w : ℕ). P w count) (sym place) allowed in
+    (cc (here, same), omega (arith, words, place, below), subst (P c.phase_place-place.result) (sym c.self.invariant.4) at_word)
 
 pub phase_of-requires : goal.phase_of-requires
 phase_of-requires g c = (c.load-word.ensures.2 c.args.task c.phase_place-place.ensures).1
 
 pub returns-clause-found : goal.returns-clause-found
 returns-clause-found g c =
-    subst (λ (n : ℕ). FoundPhase g.N.Named.lim c.args.stand.now.me c.args.task n c.load-word.new.seat.me) c.phase_of.ensures (c.load-word.ensures.2 c.args.task c.phase_place-place.ensures)
+    subst (λ (n : ℕ). FollowedPhase g.N.Named.lim c.args.stand.now.me c.args.task n c.load-word.new.seat.me) c.phase_of.ensures (c.load-word.ensures.2 c.args.task c.phase_place-place.ensures)

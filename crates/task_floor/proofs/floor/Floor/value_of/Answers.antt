@@ -1,9 +1,23 @@
 use Rattle.floor_table.specs.Layout.{word_of_phase}
-use Rattle.task_floor.proofs.InHand.{found_more, more_then}
+use Rattle.task_floor.proofs.Looking.{looked_more}
+use Rattle.task_floor.proofs.Valuing.{look_closed, look_idle, look_live, look_slots, looked_then_more}
 use Rattle.task_floor.proofs.floor.Floor.value_of.Goals as goal
+
+pub take_value-requires-clause-live : goal.take_value-requires-clause-live
+take_value-requires-clause-live g c = look_live g.N.Named.lim c.args.stand.now.me c.status.new.stand.me c.args.task (word_of_phase c.status.result) c.status.ensures.found c.requires.live
+
+pub take_value-requires-clause-slots : goal.take_value-requires-clause-slots
+take_value-requires-clause-slots g c = look_slots g.N.Named.lim c.args.stand.now.me c.status.new.stand.me c.args.task (word_of_phase c.status.result) c.status.ensures.found c.requires.slots
+
+pub take_value-requires-clause-closed : goal.take_value-requires-clause-closed
+take_value-requires-clause-closed g c = look_closed g.N.Named.lim c.args.stand.now.me c.status.new.stand.me c.args.task (word_of_phase c.status.result) c.status.ensures.found c.requires.closed
+
+pub take_value-requires-clause-idle : goal.take_value-requires-clause-idle
+take_value-requires-clause-idle g c = look_idle g.N.Named.lim c.args.stand.now.me c.status.new.stand.me c.args.task (word_of_phase c.status.result) c.status.ensures.found c.requires.idle
 
 pub returns-in-Done-clause-more : goal.returns-in-Done-clause-more
 returns-in-Done-clause-more g c =
-    let a = c.args.stand.now.me in
-    let mid = c.status.new.stand.me in
-    more_then a mid c.take_value.new.stand.me (found_more g.N.Named.lim a mid c.args.task (word_of_phase c.status.result) c.status.ensures.found) c.take_value.ensures.more
+    looked_then_more g.N.Named.lim c.args.stand.now.me c.status.new.stand.me c.take_value.new.stand.me c.args.task (word_of_phase c.status.result) c.status.ensures.found c.take_value.ensures.more
+
+pub returns-in_default-clause-more : goal.returns-in_default-clause-more
+returns-in_default-clause-more g c = looked_more g.N.Named.lim c.args.stand.now.me c.status.new.stand.me c.args.task c.args.task (word_of_phase c.status.result) c.status.ensures.found

@@ -1,4 +1,4 @@
-use Rattle.tree_floor.proofs.ServedBeside.{holds_taken}
+use Rattle.task_floor.proofs.ServedBeside.{holds_taken}
 use Rattle.tree_serve.proofs.workshop.Workshop.admit.Goals as goal
 
 pub admit_taken-requires-clause-holds : goal.admit_taken-requires-clause-holds

@@ -2,7 +2,7 @@ use Rattle.std.proofs.Common.{List, Ok, ap, refl, subst, ◌∙◌}
 use Rattle.effect_sets.specs.declared.effects.Effect.{Effect}
 use Rattle.twe_machine.specs.Moves.{admitted_row}
 use Rattle.floor_rule.specs.declared.view.TaskSlot.{TaskSlot}
-use Rattle.task_floor.specs.Committing.{Log}
+use Rattle.floor_steps.specs.Committing.{Log}
 use Rattle.tree_admit.specs.Attempts.{WasBarredFor}
 use Rattle.tree_admit.specs.declared.admitting.Admittance.{Admittance}
 use Rattle.tree_serve.proofs.Serving.{admitted_one, admitted_same, barred_still, drawn_admitted, held_tried, is_made, kept_part, kept_same, may_admit_tried, same_stands, same_trees_twice, same_twice}

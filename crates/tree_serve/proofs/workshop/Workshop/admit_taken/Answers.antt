@@ -1,5 +1,5 @@
 use Rattle.std.proofs.Common.{◌∙◌}
-use Rattle.tree_floor.proofs.GoingOn.{looked_moves, looked_phase}
+use Rattle.task_floor.proofs.GoingOn.{looked_moves, looked_phase}
 use Rattle.tree_serve.proofs.Serving.{looked_held, moved_part, moved_same, same_stands, same_trees_twice, was_found}
 use Rattle.tree_serve.proofs.workshop.Workshop.admit_taken.Goals as goal
 

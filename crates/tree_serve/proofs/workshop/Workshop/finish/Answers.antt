@@ -1,5 +1,5 @@
 use Rattle.std.proofs.Common.{[], ◌∙◌}
-use Rattle.tree_floor.proofs.ServedBeside.{idle_left_beside}
+use Rattle.task_floor.proofs.ServedBeside.{idle_left_beside}
 use Rattle.tree_serve.proofs.Serving.{drawn_still, kept_part, kept_same, left_part, left_same, may_finish, same_stands, same_twice}
 use Rattle.tree_serve.proofs.workshop.Workshop.finish.Goals as goal
 

@@ -1,6 +1,6 @@
 use Rattle.std.proofs.Common.{[], ap}
 use Rattle.tree_table.specs.Seats.{TreeSeat}
-use Rattle.tree_floor.proofs.ServedBeside.{idle_given_beside, may_give_held_beside}
+use Rattle.task_floor.proofs.ServedBeside.{idle_given_beside, may_give_held_beside}
 use Rattle.tree_serve.proofs.Serving.{gave_had, gave_part, gave_same, same_stands}
 use Rattle.tree_serve.proofs.workshop.Workshop.give_back.Goals as goal
 

@@ -1,5 +1,5 @@
 use Rattle.std.proofs.Common.{[]}
-use Rattle.tree_floor.proofs.ServedBeside.{idle_left_beside, may_park_drawn}
+use Rattle.task_floor.proofs.ServedBeside.{idle_left_beside, may_park_drawn}
 use Rattle.tree_serve.proofs.Serving.{left_part, left_same, same_stands}
 use Rattle.tree_serve.proofs.workshop.Workshop.park.Goals as goal
 

@@ -1,6 +1,6 @@
 use Rattle.std.proofs.Common.{ap}
 use Rattle.floor_table.specs.Tells.{Seat}
-use Rattle.task_floor.specs.Committing.{Log}
+use Rattle.floor_steps.specs.Committing.{Log}
 use Rattle.tree_serve.proofs.Serving.{holds_ran, ran_same, run_since, same_stands, same_trees_twice}
 use Rattle.tree_serve.proofs.workshop.Workshop.run_taken.Goals as goal
 

@@ -1,4 +1,4 @@
-use Rattle.tree_floor.proofs.ServedBeside.{holds_taken}
+use Rattle.task_floor.proofs.ServedBeside.{holds_taken}
 use Rattle.tree_serve.proofs.workshop.Workshop.serve.Goals as goal
 
 pub serve_taken-requires-clause-holds : goal.serve_taken-requires-clause-holds

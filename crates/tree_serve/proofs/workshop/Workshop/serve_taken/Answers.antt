@@ -1,9 +1,9 @@
 use Rattle.std.proofs.Common.{◌≡◌, subst, inl, inr, ⊎_elim}
 use Rattle.floor_rule.specs.declared.view.Phase.TheVariants as phases
 use Rattle.floor_rule.specs.Rows.{phase_of}
-use Rattle.task_floor.specs.Resuming.{IsReadiness}
+use Rattle.floor_steps.specs.Resuming.{IsReadiness}
 use Rattle.tree_table.specs.FloorSeats.{floor_seat}
-use Rattle.tree_floor.proofs.ServedBeside.{holds_ready}
+use Rattle.task_floor.proofs.ServedBeside.{holds_ready}
 use Rattle.tree_serve.proofs.Serving.{moved_part, still_held, was_found}
 use Rattle.tree_serve.proofs.workshop.Workshop.serve_taken.Goals as goal
 

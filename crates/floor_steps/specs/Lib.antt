@@ -1,0 +1,10 @@
+pub mod Stands
+pub mod Opening
+pub mod Waking
+pub mod Resting
+pub mod Segments
+pub mod Resuming
+pub mod Leaving
+pub mod Committing
+pub mod Working
+pub mod inner

@@ -1,0 +1,187 @@
+-- The turn of a task is taken, its phase loaded, and the turn given again: to read the task's value.
+use Rattle.std.proofs.Common.{◌≡◌, ◌≢◌, ◌<◌, ℕ, List, None, Some, true, false, refl, sym, ap, subst, ◌∙◌, inl, inr, ⊎_elim}
+use Rattle.region_paths.specs.declared.elements.Elem.{Elem}
+use Rattle.twe_limits.specs.Limits.{Bounds}
+use Rattle.floor_rule.specs.declared.view.HeldTurn.{HeldTurn}
+use Rattle.floor_rule.specs.declared.view.Phase.TheVariants as phases
+use Rattle.floor_rule.specs.declared.view.TaskSlot.{TaskSlot}
+use Rattle.floor_rule.proofs.Puts.{put_here, put_was, some_one}
+use Rattle.floor_table.specs.declared.view.SeatKind.TheVariants.{Spent}
+use Rattle.floor_table.specs.FloorOf.{turn_in}
+use Rattle.floor_table.specs.Layout.{phase_of_word}
+use Rattle.floor_table.specs.Tells.{FoundPhase, GaveTurn, Seat}
+use Rattle.floor_steps.specs.Resuming.{KnowsMore, KnowsValue}
+use Rattle.floor_steps.proofs.InHand.{found_more, gave_more, gave_value, had_turn, may_give_back, more_then}
+use Rattle.admission_core.specs.States.{IsAmong, Record}
+use Rattle.node_rule.specs.Taking.{clear_after_taking}
+use Rattle.node_rule.specs.TurnSteps.{HasPlacedChildren, of_others}
+use Rattle.node_rule.proofs.Takings.{given_as_taken}
+use Rattle.tree_table.specs.declared.view.TreeView.{TreeView}
+use Rattle.tree_table.specs.FloorSeats.{HasTaskSlots, floor_seat, tasks_out}
+use Rattle.tree_table.specs.Follows.{FollowedPhase}
+use Rattle.tree_table.specs.Seats.{TreeSeat, tree_seen, turns_seen}
+use Rattle.tree_table.specs.TurnSeats.{GaveTreeTurn, MayLeaveTask, given_tree_view, gives_taken}
+use Rattle.task_floor.specs.Resuming.{KnowsEnough, KnowsMoreBeside}
+use Rattle.task_floor.specs.Turns.{HasTakenTask, MayGiveTask}
+use Rattle.task_floor.proofs.Forgetting.{none_forgotten, taken_forgotten}
+use Rattle.task_floor.proofs.Looking.{HasLooked, clear_same, found_floor, has_looked}
+
+false_true : false ≡ true → ⊥
+false_true is = cc (is)
+
+-- A turn that was taken.
+module _ (nodes : List (List Elem)) (a b : TreeSeat) (t : ℕ) (slot : TaskSlot) (took : HasTakenTask nodes a b t slot) where
+  abbrev pub turn : HeldTurn
+  turn = took.floor.turn
+
+  -- the seat has no first turn of a child of the task
+  pub children_taken : HasPlacedChildren (turns_seen b.0) 0 t
+  children_taken c child has first =
+      ⊎_elim
+      (λ (here : (c ≡ t) × (Some turn ≡ Some child)). absurd (false_true (sym took.floor.taken ∙ (ap (λ (h : HeldTurn). h.first) (some_one here.1) ∙ first))))
+      (λ (else : (c ≢ t) × (turn_in a.0.floor.turns c ≡ Some child)). took.children c child else.1 first)
+      (put_was (turn_in a.0.floor.turns) t c (Some turn) (Some child) (sym (ap (λ (m : Seat). turn_in m.0.turns c) took.floor.seat) ∙ has))
+
+  pub fresh_taken : (r : Record) → IsAmong r b.0.fresh → r.task ≢ t
+  fresh_taken r among = took.fresh r (subst (λ (v : TreeView). IsAmong r v.fresh) took.view among)
+
+  pub clear_taken : b.0.clear ≡ clear_after_taking nodes t turn.row.status turn.row.effects.effects a.0.clear
+  clear_taken = ap (λ (v : TreeView). v.clear) took.view
+
+  pub idle_taken : a.0.activity ≡ None → b.0.activity ≡ None
+  idle_taken idle = ap (λ (v : TreeView). v.activity) took.view ∙ idle
+
+  -- a phase was loaded since
+  module _ (lim : Bounds) (c : TreeSeat) (found : ℕ) (looks : FollowedPhase lim b t found c) where
+    looked : HasLooked b c
+    looked = has_looked lim b c t found looks
+
+    pub looked_floor : FoundPhase lim (floor_seat b) t found (floor_seat c)
+    looked_floor = found_floor lim b c t found looks
+
+    children_looked : HasPlacedChildren (turns_seen c.0) 0 t
+    children_looked u child has first = children_taken u child (sym ((found_more lim (floor_seat b) (floor_seat c) t found looked_floor).turns u) ∙ has) first
+
+    leaves_looked : a.0.activity ≡ None → MayLeaveTask nodes c.0 t turn
+    leaves_looked idle =
+        gives_taken
+        (given_as_taken nodes (turns_seen c.0) (tree_seen c.0) 0 t turn a.0.clear (had_turn lim (floor_seat a) (floor_seat b) (floor_seat c) (floor_seat c) t found slot took.floor looked_floor) took.floor.taken
+        (ap (λ (v : TreeView). v.activity) looked.view ∙ idle_taken idle) children_looked (λ r among. fresh_taken r (subst (λ (v : TreeView). IsAmong r v.fresh) looked.view among))
+        (clear_same b c looked ∙ clear_taken))
+
+    pub may_give_looked : a.0.floor.segment ≡ None → a.0.activity ≡ None → MayGiveTask nodes c t slot turn a.1
+    may_give_looked closed idle = record {
+      floor = may_give_back lim (floor_seat a) (floor_seat b) (floor_seat c) (floor_seat c) t found slot took.floor looked_floor closed;
+      out = looked.out ∙ took.out;
+      leaves = leaves_looked idle;
+    }
+
+    -- and the turn was given
+    module _ (d : TreeSeat) (gave : GaveTreeTurn c t turn a.1 d) where
+      gave_floor : GaveTurn (floor_seat c) t turn (tasks_out a.1) (floor_seat d)
+      gave_floor = ap floor_seat gave
+
+      abbrev gave_view : d.0 ≡ given_tree_view c.0 t turn
+      gave_view = ap (λ (m : TreeSeat). m.0) gave
+
+      forgotten : d.0.clear ≡ of_others t a.0.clear
+      forgotten = ap (λ (v : TreeView). v.clear) gave_view ∙ (ap (of_others t) (clear_same b c looked ∙ clear_taken) ∙ taken_forgotten nodes t turn.row.status turn.row.effects.effects a.0.clear)
+
+      fresh_now : c.0.fresh ≡ a.0.fresh
+      fresh_now = ap (λ (v : TreeView). v.fresh) looked.view ∙ ap (λ (v : TreeView). v.fresh) took.view
+
+      fresh_again : d.0.fresh ≡ a.0.fresh
+      fresh_again = ap (λ (v : TreeView). v.fresh) gave_view ∙ (ap (of_others t) fresh_now ∙ none_forgotten t a.0.fresh took.fresh)
+
+      view_again : d.0 ≡ record a.0 { floor = d.0.floor; waits = d.0.waits; clear = d.0.clear }
+      view_again =
+          let activity = ap (λ (v : TreeView). v.activity) gave_view ∙ (ap (λ (v : TreeView). v.activity) looked.view ∙ ap (λ (v : TreeView). v.activity) took.view) in
+          let kept = ap (λ (v : TreeView). v.kept) gave_view ∙ (ap (λ (v : TreeView). v.kept) looked.view ∙ ap (λ (v : TreeView). v.kept) took.view) in
+          let placed = ap (λ (v : TreeView). v.placed) gave_view ∙ (ap (λ (v : TreeView). v.placed) looked.view ∙ ap (λ (v : TreeView). v.placed) took.view) in
+          let removed = ap (λ (v : TreeView). v.removed) gave_view ∙ (ap (λ (v : TreeView). v.removed) looked.view ∙ ap (λ (v : TreeView). v.removed) took.view) in
+          λ k. record d.0 { activity = activity k; kept = kept k; placed = placed k; removed = removed k; fresh = fresh_again k }
+
+      pub gave_more_beside : KnowsMoreBeside a d t
+      gave_more_beside = record {
+        floor = gave_more lim (floor_seat a) (floor_seat b) (floor_seat c) (floor_seat d) t found slot took.floor looked_floor gave_floor;
+        waits = λ fact among.
+            subst (λ (v : TreeView). IsAmong fact v.waits) (sym gave_view) (looked.waits fact (subst (λ (v : TreeView). IsAmong fact v.waits) (sym took.view) among));
+        clear = inr forgotten;
+        view = view_again;
+        out = ap (λ (m : TreeSeat). m.1) gave;
+      }
+
+      pub value_known : phase_of_word found ≡ phases.Done → KnowsValue (floor_seat d) t slot.frame.value
+      value_known done = gave_value lim (floor_seat a) (floor_seat b) (floor_seat c) (floor_seat d) t found slot took.floor looked_floor gave_floor done
+
+-- nothing was found
+pub more_itself : (a b : TreeSeat) (t : ℕ) → b ≡ a → KnowsMoreBeside a b t
+more_itself a b t same =
+    subst (λ (m : TreeSeat). KnowsMoreBeside a m t) (sym same)
+    (record { floor = record { turns = λ u. refl; done = λ fact among. among; rest = refl }; waits = λ fact among. among; clear = inl refl; view = refl; out = refl })
+
+-- a phase was loaded before
+pub looked_then_more : (lim : Bounds) (a b c : TreeSeat) (t found : ℕ) → FollowedPhase lim a t found b → KnowsMoreBeside b c t → KnowsMoreBeside a c t
+looked_then_more lim a b c t found looks more =
+    let seen = has_looked lim a b t found looks in
+    let same = clear_same a b seen in
+    record {
+      floor = more_then (floor_seat a) (floor_seat b) (floor_seat c) (found_more lim (floor_seat a) (floor_seat b) t found (found_floor lim a b t found looks)) more.floor;
+      waits = λ fact among. more.waits fact (seen.waits fact among);
+      clear = ⊎_elim (λ (kept : c.0.clear ≡ b.0.clear). inl (kept ∙ same)) (λ (forgot : c.0.clear ≡ of_others t b.0.clear). inr (forgot ∙ ap (of_others t) same)) more.clear;
+      view = more.view ∙ ap (λ (v : TreeView). record v { floor = c.0.floor; waits = c.0.waits; clear = c.0.clear }) seen.view;
+      out = more.out ∙ seen.out;
+    }
+
+-- a stand that did nothing in the tree knows enough of the nodes to give the turn that it took
+pub knows_enough : (nodes : List (List Elem)) (a b : TreeSeat) (t : ℕ) (slot : TaskSlot) → (took : HasTakenTask nodes a b t slot) → a.0.activity ≡ None → KnowsEnough nodes b.0 t took.floor.turn.row
+knows_enough nodes a b t slot took idle =
+    let turn : HeldTurn = took.floor.turn in
+    let has : turn_in b.0.floor.turns t ≡ Some turn = ap (λ (m : Seat). turn_in m.0.turns t) took.floor.seat ∙ put_here (turn_in a.0.floor.turns) t (Some turn) in
+    let may = given_as_taken nodes (turns_seen b.0) (tree_seen b.0) 0 t turn a.0.clear has took.floor.taken (idle_taken nodes a b t slot took idle) (children_taken nodes a b t slot took)
+    (fresh_taken nodes a b t slot took) (clear_taken nodes a b t slot took) in
+    record { idle = may.idle; children = may.children; leaves = may.leaves }
+
+-- What the next calls need of the stand.
+module _ (nodes : List (List Elem)) (a b : TreeSeat) (t : ℕ) (slot : TaskSlot) (took : HasTakenTask nodes a b t slot) where
+  kind_taken : b.0.floor.kind ≡ a.0.floor.kind
+  kind_taken = ap (λ (m : Seat). m.0.kind) took.floor.seat
+
+  pub live_taken : a.0.floor.kind ≢ Spent → b.0.floor.kind ≢ Spent
+  live_taken live spent = live (sym kind_taken ∙ spent)
+
+  pub live_looked : (lim : Bounds) (c : TreeSeat) (found : ℕ) → FollowedPhase lim b t found c → a.0.floor.kind ≢ Spent → c.0.floor.kind ≢ Spent
+  live_looked lim c found looks live spent =
+      let more = found_more lim (floor_seat b) (floor_seat c) t found (found_floor lim b c t found looks) in
+      live_taken live (sym (ap (λ (m : Seat). m.0.kind) more.rest) ∙ spent)
+
+  pub slots_looked : (lim : Bounds) (c : TreeSeat) (found : ℕ) → FollowedPhase lim b t found c → t < lim.tasks → HasTaskSlots lim.tasks a.1 → HasTaskSlots lim.tasks c.1
+  slots_looked lim c found looks below has = subst (HasTaskSlots lim.tasks) (sym ((has_looked lim b c t found looks).out ∙ took.out)) (below, has)
+
+-- the same after a look alone
+module _ (lim : Bounds) (a b : TreeSeat) (t found : ℕ) (looks : FollowedPhase lim a t found b) where
+  looked_rest : KnowsMore (floor_seat a) (floor_seat b)
+  looked_rest = found_more lim (floor_seat a) (floor_seat b) t found (found_floor lim a b t found looks)
+
+  pub look_live : a.0.floor.kind ≢ Spent → b.0.floor.kind ≢ Spent
+  look_live live spent = live (sym (ap (λ (m : Seat). m.0.kind) looked_rest.rest) ∙ spent)
+
+  pub look_worker : b.0.floor.worker ≡ a.0.floor.worker
+  look_worker = ap (λ (m : Seat). m.0.worker) looked_rest.rest
+
+  pub look_closed : a.0.floor.segment ≡ None → b.0.floor.segment ≡ None
+  look_closed closed = ap (λ (m : Seat). m.0.segment) looked_rest.rest ∙ closed
+
+  pub look_slots : HasTaskSlots lim.tasks a.1 → HasTaskSlots lim.tasks b.1
+  look_slots has = subst (HasTaskSlots lim.tasks) (sym (has_looked lim a b t found looks).out) has
+
+  pub look_idle : a.0.activity ≡ None → b.0.activity ≡ None
+  look_idle idle = ap (λ (v : TreeView). v.activity) (has_looked lim a b t found looks).view ∙ idle
+
+-- and once more is known
+module _ (lim : Bounds) (a b : TreeSeat) (t : ℕ) (more : KnowsMoreBeside a b t) where
+  pub more_live : a.0.floor.kind ≢ Spent → b.0.floor.kind ≢ Spent
+  more_live live spent = live (sym (ap (λ (m : Seat). m.0.kind) more.floor.rest) ∙ spent)
+
+  pub more_slots : HasTaskSlots lim.tasks a.1 → HasTaskSlots lim.tasks b.1
+  more_slots has = subst (HasTaskSlots lim.tasks) (sym more.out) has

@@ -1,0 +1,49 @@
+//! What lies at the nodes of a floor that starts.
+ghost use Rattle.std.specs.Prelude.{◌≡◌, ◌<◌, [], length, replicate, IfOk, OnOk};
+ghost use Rattle.admission_core.specs.States.{IsAmong, Record};
+ghost use Rattle.task_floor.specs.inner.Recording.{HoldRecords, with_added};
+
+use std::alloc::Global;
+use tree_table::{NodeContent, NodeRecord};
+use twe_io::{List, Memory};
+
+/// For each of so many nodes the records that stand there.
+pub(crate) fn contents_of(
+    alloc: Global,
+    nodes: u32,
+    records: &[NodeRecord],
+) -> Result<List<NodeContent>, Memory>
+    requires { (r : Record) → IsAmong r records.now → r.node < nodes }
+    ensures { IfOk result (HoldRecords nodes records.now) }
+{
+    let mut contents = empty_contents(alloc, nodes)?;
+    for standing in records {
+        add_copy(alloc, &mut contents, standing)?;
+    }
+    Ok(contents)
+}
+
+/// So many contents without records.
+fn empty_contents(alloc: Global, nodes: u32) -> Result<List<NodeContent>, Memory>
+    ensures { IfOk result (λ contents. contents ≡ replicate nodes []) }
+{
+    let mut contents = List::with_capacity(alloc, nodes as usize)?;
+    for i in 0..nodes {
+        contents.push(NodeContent::new(alloc))?;
+    }
+    Ok(contents)
+}
+
+/// Adds a copy of a record to what lies at its node.
+fn add_copy(
+    alloc: Global,
+    contents: &mut List<NodeContent>,
+    standing: &NodeRecord,
+) -> Result<(), Memory>
+    requires { standing.now.node < length contents.old }
+    ensures { OnOk result (contents.new ≡ with_added standing.now contents.old) }
+{
+    let effect = standing.effect().copy(alloc)?;
+    let copy = NodeRecord::new(standing.task(), effect, standing.node());
+    contents.item_mut(standing.node() as usize).add(copy)
+}

@@ -1,6 +1,0 @@
-use Rattle.std.proofs.Common.{◌≡◌, ◌++◌, ℕ, List, take}
-use Rattle.task_floor.specs.inner.Laying.{AreWordsOf}
-use Rattle.tree_floor.proofs.laying.add_cells.Given as goal
-
-abbrev pub invariant-loop-value : goal.invariant-loop-value
-invariant-loop-value l = (more : List ℕ) × AreWordsOf (take l.value-index l.cells) more × (l.words ≡ l.initial.words ++ more)

@@ -1,8 +1,0 @@
-use Rattle.std.proofs.Common.{◌≡◌, ◌++◌, List, take}
-use Rattle.admission_core.specs.States.{Record}
-use Rattle.tree_floor.specs.inner.Recording.{AreRecordsOf}
-use Rattle.tree_floor.proofs.recording.add_effects.Given as goal
-
--- behind the records that were there are those of the first effects
-abbrev pub invariant-loop-effect : goal.invariant-loop-effect
-invariant-loop-effect l = (more : List Record) × (l.records ≡ l.initial.records ++ more) × AreRecordsOf l.shape l.t (take l.effect-index l.effects) more
