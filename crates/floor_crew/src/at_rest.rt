@@ -5,9 +5,9 @@ ghost use Rattle.twe_machine.specs.Runs.{IsRun, entry_of};
 ghost use Rattle.floor_crew.specs.inner.GoingOn.{IsSound};
 
 use crate::enabled::enabled_in;
+use floor_steps::Rest;
 use seg_journal::{Entry, Journal, Move};
 use std::alloc::Global;
-use floor_steps::Rest;
 use twe_io::Memory;
 use twe_limits::Limits;
 use twe_machine::{EnabledTasks, links_agree, start, step};

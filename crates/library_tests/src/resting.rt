@@ -5,12 +5,12 @@ ghost use Rattle.twe_program.specs.WellFormed.{IsWellFormed};
 ghost use Rattle.soundness_laws.specs.KeepsEffects.{KeepsEffects};
 ghost use Rattle.twe_machine.specs.Runs.{IsRun};
 
+use floor_steps::Rest;
 use floor_table::Named;
 use seg_journal::{Kind, Move};
 use std::alloc::Global;
 use std::marker::Brand;
 use std::test::Fail;
-use floor_steps::Rest;
 use task_floor::Floor;
 use twe_frontend::read_program;
 use twe_io::Memory;

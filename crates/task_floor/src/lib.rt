@@ -10,7 +10,6 @@ mod emptying;
 mod entries;
 mod entry_log;
 mod floor;
-mod following;
 mod laying;
 mod leaving;
 mod linking;

@@ -10,9 +10,9 @@ ghost use Rattle.task_floor.specs.Resuming.{KnowsEnough, KnowsMoreBeside, MovesO
 
 use crate::floor::{Floor, Stand};
 use floor_rule::{Phase, TaskSlot};
+use floor_steps::Readiness;
 use floor_table::Named;
 use seg_exec::Frame;
-use floor_steps::Readiness;
 use tree_table::Planted;
 
 /// The value that lies in the slot of a done task.

@@ -12,8 +12,8 @@ ghost use Rattle.task_floor.specs.Turns.{FoundBusy, HasTakenTask, MayGiveTask};
 
 use crate::floor::{Floor, Stand};
 use floor_rule::TaskSlot;
-use floor_table::Named;
 use floor_steps::Busy;
+use floor_table::Named;
 use tree_table::{GiveTreeTurn, Planted, TreeSlot, TryTreeTurn};
 
 /// Whom a turn word names that is not free.

@@ -8,10 +8,9 @@ use Rattle.std.proofs.lemmas.Option.{get_or_from_slice_get, slice_get_within}
 use mathlib.Core.Option as core
 use Rattle.region_paths.specs.declared.elements.Elem.{Elem}
 use Rattle.effect_sets.specs.declared.effects.Effect.{Effect}
-use Rattle.prefix_tree.specs.Nodes.{IsParent, IsTreeOfPaths}
 use Rattle.floor_rule.specs.declared.view.HeldTurn.{HeldTurn}
 use Rattle.floor_table.specs.FloorOf.{turn_in}
-use Rattle.admission_core.specs.States.{Descends, IsAbove, IsPlaceOf, Stage, Walks, effect_of}
+use Rattle.admission_core.specs.States.{Descends, IsPlaceOf, Stage, Walks, effect_of}
 use Rattle.admission_core.specs.Events.{HasCome}
 use Rattle.node_rule.specs.LockSteps.{MaySetOut}
 use Rattle.tree_table.specs.declared.slot.Errand.{Errand}
@@ -20,8 +19,6 @@ use Rattle.tree_table.specs.declared.slot.ErrandKind.TheVariants.{Admission, Pla
 use Rattle.tree_table.specs.declared.slot.TreeSlot.TheVariants as kinds
 use Rattle.tree_table.specs.declared.view.TreeView.{TreeView}
 use Rattle.tree_table.specs.Seats.{MayLock, activity_for, effect_known, enters, errand_of, purpose_for, turns_seen}
-use Rattle.tree_ways.specs.Ways.{LeadsTo}
-use Rattle.tree_ways.proofs.WayLemmas.{next_above, not_yet}
 use Rattle.tree_admit.specs.Going.{HasOnlyLearned, IsOutside}
 use Rattle.tree_admit.specs.Errands.{KnowsErrand, MaySetOutFor, come_to, errand_at}
 use Rattle.tree_admit.proofs.Marks.{turn_known}
@@ -44,12 +41,6 @@ come_above place n other = choose_false (place == n) (Walks (n ∷ []) []) (Desc
 
 pub has_come : (place n : ℕ) → HasCome place n (come_to place n)
 has_come place n = ⊎_elim (λ (at : n ≡ place). inr (at, come_there place n at)) (λ (above : n ≢ place). inl (above, come_above place n above)) (cases_eq n place)
-
--- who has not come to its place yet goes on
-pub goes_on : (nodes : List (List Elem)) → IsTreeOfPaths nodes → (place n c : ℕ) (way : List ℕ) → LeadsTo nodes n (c ∷ way) place
-    → (come_to place n ≡ Descends n) × IsParent nodes n c × IsAbove nodes c place × LeadsTo nodes c way place
-goes_on nodes tree place n c way leads =
-    (come_above place n (not_yet nodes tree n c place way leads), leads.0, next_above nodes tree n c place way leads, leads.1)
 
 -- Errands.
 

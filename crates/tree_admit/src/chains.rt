@@ -29,7 +29,7 @@ pub(crate) fn follow_to<N: Named + Planted>(
 {
     let mut at = from;
     while at < tasks {
-        let Phase::Waits { on } = floor.follow(stand, at) else {
+        let Phase::Waits { on } = floor.status(stand, at) else {
             return Err(at);
         };
         if on == to {

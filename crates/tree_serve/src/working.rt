@@ -11,15 +11,15 @@ ghost use Rattle.tree_serve.specs.inner.InHand.{HasEndedIn, HoldsMadeBeside, Hol
 use crate::worker::{Holding, TreeWorker, are_few};
 use crate::workshop::Workshop;
 use floor_rule::{Phase, TaskSlot};
+use floor_steps::{Readiness, Served, an_end_says_the_status};
 use floor_table::Named;
 use run_gates::Gate;
 use seg_exec::Stop;
 use seg_journal::End;
 use std::alloc::AllocError;
 use std::sync::Wait;
-use floor_steps::{Readiness, Served, an_end_says_the_status};
-use tree_admit::{place_spawned, release};
 use task_floor::Committed;
+use tree_admit::{place_spawned, release};
 use tree_table::Planted;
 use twe_io::Memory;
 

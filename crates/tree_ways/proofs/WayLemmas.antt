@@ -1,27 +1,13 @@
--- How ways lead down, and why two nodes right below one do not lie above the same node.
+-- What lies above what, and why two nodes right below one do not lie above the same node.
 use Rattle.std.proofs.Common.{◌≡◌, ◌≢◌, ℕ, zero, suc, ◌+◌, ◌<◌, ◌≤◌, List, [], ◌∷◌, ◌++◌, length, length-append, sym, ap, subst, ◌∙◌, ⊎_elim, arith}
 use Rattle.region_paths.specs.declared.elements.Elem.{Elem}
 use Rattle.prefix_tree.specs.Prefix.{IsPrefix}
 use Rattle.prefix_tree.specs.Nodes.{path_of, IsParent, IsTreeOfPaths}
 use Rattle.admission_core.specs.States.{IsAbove, IsOver}
-use Rattle.admission_core.proofs.TreeLemmas.{above_refl, above_trans, over_above, over_parent, parent_above, parent_over, root_lowest}
-use Rattle.tree_ways.specs.Ways.{LeadsTo, longest, room_below}
+use Rattle.admission_core.proofs.TreeLemmas.{above_refl, above_trans, over_parent, parent_above, root_lowest}
+use Rattle.tree_ways.specs.Ways.{longest, room_below}
 
 module _ (nodes : List (List Elem)) (tree : IsTreeOfPaths nodes) where
-  -- a node lies above the end of each way that leads on from it
-  pub lead_above : (n end : ℕ) (way : List ℕ) → IsAbove nodes n n → LeadsTo nodes n way end → IsAbove nodes n end
-  lead_above n end [] here h = subst (λ (m : ℕ). IsAbove nodes n m) h here
-  lead_above n end (c ∷ way) here h =
-      above_trans nodes tree n c end (parent_above nodes tree n c h.0) (lead_above c end way (above_refl nodes tree c h.0.1) h.1)
-
-  pub next_above : (n c end : ℕ) (way : List ℕ) → LeadsTo nodes n (c ∷ way) end → IsAbove nodes c end
-  next_above n c end way h = lead_above c end way (above_refl nodes tree c h.0.1) h.1
-
-  pub not_yet : (n c end : ℕ) (way : List ℕ) → LeadsTo nodes n (c ∷ way) end → n ≢ end
-  not_yet n c end way h same =
-      let over = over_above nodes tree n c end (parent_over nodes tree n c h.0) (next_above n c end way h) in
-      over.other same
-
   -- from a node that lies strictly below another, the parent is that one or lies strictly below it
   pub still_over : (n m c : ℕ) → IsParent nodes m c → IsOver nodes n c → n ≢ m → IsOver nodes n m
   still_over n m c parent over other = ⊎_elim (λ same. absurd (other same)) (λ more. more) (over_parent nodes tree n m c parent over)

@@ -1,19 +1,11 @@
-//! Laws on ways, where the nodes are those of a tree of paths, and on what is met there.
-ghost use Rattle.std.specs.Prelude.{◌≡◌, ◌≢◌, ◌<◌, ℕ, false, List, ◌∷◌};
+//! Laws on what lies below a node, where the nodes are those of a tree of paths, and on what is met there.
+ghost use Rattle.std.specs.Prelude.{◌≡◌, ◌<◌, ℕ, false, List};
 ghost use Rattle.region_paths.specs.declared.elements.Elem.{Elem};
 ghost use Rattle.prefix_tree.specs.Nodes.{IsParent, IsTreeOfPaths};
 ghost use Rattle.effect_sets.specs.declared.effects.Effect.{Effect};
 ghost use Rattle.effect_sets.specs.Interference.{Interferes, statically_interferes};
 ghost use Rattle.admission_core.specs.States.{IsAbove};
-ghost use Rattle.tree_ways.specs.Ways.{LeadsTo, room_below};
-
-/// Where a way leads on from a node, the node lies above the end and is another, and so does the next one or it is the end.
-pub fn ways_lead_down()
-    ensures other { (nodes : List (List Elem)) → IsTreeOfPaths nodes → (n c end : ℕ) (way : List ℕ)
-        → LeadsTo nodes n (c ∷ way) end → n ≢ end }
-    ensures above { (nodes : List (List Elem)) → IsTreeOfPaths nodes → (n c end : ℕ) (way : List ℕ)
-        → LeadsTo nodes n (c ∷ way) end → IsAbove nodes c end }
-{}
+ghost use Rattle.tree_ways.specs.Ways.{room_below};
 
 /// Two nodes right below one node that lie above one and the same node are one.
 pub fn siblings_lie_apart()
