@@ -5,6 +5,7 @@ ghost use Rattle.twe_program.specs.WellFormed.{IsWellFormed};
 ghost use Rattle.soundness_laws.specs.KeepsEffects.{KeepsEffects};
 ghost use Rattle.twe_machine.specs.Runs.{IsRun};
 
+use effect_tree::Shape;
 use floor_steps::Rest;
 use floor_table::Named;
 use seg_journal::{Kind, Move};
@@ -12,6 +13,7 @@ use std::alloc::Global;
 use std::marker::Brand;
 use std::test::Fail;
 use task_floor::Floor;
+use tree_table::Planted;
 use twe_frontend::read_program;
 use twe_io::Memory;
 use twe_limits::Limits;
@@ -31,22 +33,33 @@ print(a);\n\
 }\n";
 
 /// What a new floor rests with.
-fn rest_of_new<N: Named>(alloc: Global, p: &Prog, lim: Limits) -> Result<Rest, Memory>
+fn rest_of_new<N: Named + Planted>(
+    alloc: Global,
+    p: &Prog,
+    shape: &Shape,
+    lim: Limits,
+) -> Result<Rest, Memory>
     requires accepted { IsWellFormed N.prog × KeepsEffects N.prog }
-    requires named { (p.now ≡ N.prog) × (lim ≡ N.lim) }
+    requires named { (p.now ≡ N.prog) × (shape.now ≡ N.nodes) × (lim ≡ N.lim) }
 {
-    let (floor, stand, part) = Floor::<N>::new(alloc, p, lim)?;
+    let (floor, stand, part) = Floor::<N>::new(alloc, p, shape, lim)?;
     floor.rest(alloc, stand, &[part])
 }
 
 /// What a floor for this program rests with that woke so.
-fn rest_again<N: Named>(alloc: Global, p: &Prog, lim: Limits, rest: Rest) -> Result<Rest, Memory>
+fn rest_again<N: Named + Planted>(
+    alloc: Global,
+    p: &Prog,
+    shape: &Shape,
+    lim: Limits,
+    rest: Rest,
+) -> Result<Rest, Memory>
     requires accepted { IsWellFormed N.prog × KeepsEffects N.prog }
-    requires named { (p.now ≡ N.prog) × (lim ≡ N.lim) }
+    requires named { (p.now ≡ N.prog) × (shape.now ≡ N.nodes) × (lim ≡ N.lim) }
     requires run { IsRun N.prog N.lim rest.journal rest.state }
 {
     let _main = p.main;
-    let (floor, stand, part) = Floor::<N>::wake(alloc, lim, rest)?;
+    let (floor, stand, part) = Floor::<N>::wake(alloc, shape, lim, rest)?;
     floor.rest(alloc, stand, &[part])
 }
 
@@ -54,7 +67,8 @@ fn rest_again<N: Named>(alloc: Global, p: &Prog, lim: Limits, rest: Rest) -> Res
 fn rest_at_start(alloc: Global, lim: Limits) -> Result<Rest, Fail> {
     let p = read_program(alloc, FAMILY)?;
     let _main = p.main;
-    Ok(rest_of_new::<Brand>(alloc, &p, lim)?)
+    let shape = Shape::build(alloc, &p)?;
+    Ok(rest_of_new::<Brand>(alloc, &p, &shape, lim)?)
 }
 
 /// What a floor for the family rests with that woke after these moves.
@@ -63,7 +77,8 @@ fn rest_after(alloc: Global, lim: Limits, moves: &[Move]) -> Result<Rest, Fail> 
     let _main = p.main;
     let (journal, state) = replay_journal(alloc, &p, lim, moves)?;
     let rest = Rest { state, journal };
-    Ok(rest_again::<Brand>(alloc, &p, lim, rest)?)
+    let shape = Shape::build(alloc, &p)?;
+    Ok(rest_again::<Brand>(alloc, &p, &shape, lim, rest)?)
 }
 
 /// A segment of this task.

@@ -14,7 +14,7 @@ use Rattle.tree_table.specs.FloorSeats.{floor_seat}
 use Rattle.tree_table.specs.Seats.{TreeSeat}
 use Rattle.task_floor.specs.Resuming.{KnowsMoreBeside}
 
--- For the floor's seat it is what loading a phase is on a floor without nodes.
+-- For the floor's seat it is what loading a phase is on a table without nodes.
 
 learns_floor : (phase : Phase) (a b : TreeSeat) (t : ℕ) → Learns phase a t b
     → ((phase ≡ phases.Done) × FoundDone (floor_seat a) (floor_seat b) t) ⊎ ((phase ≢ phases.Done) × (floor_seat b ≡ floor_seat a))

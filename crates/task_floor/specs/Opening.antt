@@ -1,4 +1,4 @@
--- How a floor with nodes starts.
+-- How a floor starts with the nodes of the tree.
 use Rattle.std.specs.Prelude.{◌≡◌, ℕ, List}
 use Rattle.region_paths.specs.declared.elements.Elem.{Elem}
 use Rattle.twe_limits.specs.Limits.{Bounds}

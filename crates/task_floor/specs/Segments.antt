@@ -1,4 +1,4 @@
--- Segments over the floor with nodes. A stand carries out the segment of the task whose slot is the latest that it has out.
+-- Segments over the floor. A stand carries out the segment of the task whose slot is the latest that it has out.
 use Rattle.std.specs.Prelude.{◌≡◌, ℕ, ℤ, Option}
 use Rattle.twe_limits.specs.Limits.{Bounds}
 use Rattle.twe_program.specs.Program.{Program}

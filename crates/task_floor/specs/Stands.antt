@@ -1,4 +1,4 @@
--- What a call of the floor says of a stand that holds no node. Its floor's seat is what the calls of a floor without nodes speak of.
+-- What a call of the floor says of a stand that holds no node. Its floor's seat knows all but the nodes, and has the slots of tasks.
 use Rattle.std.specs.Prelude.{◌≡◌}
 use Rattle.atomic_table.specs.declared.shared.Seat.{Seat as TableSeat}
 use Rattle.twe_limits.specs.Limits.{Bounds}
@@ -12,7 +12,7 @@ use Rattle.tree_table.specs.Seats.{TreeSeat}
 abbrev pub TreeStand : Type 0
 TreeStand = TableSeat TreeSlot TreeView
 
--- the same as a stand of a floor without nodes
+-- the same without what it knows of nodes
 abbrev pub floor_stand : TreeStand → StandValue
 floor_stand stand = record { marker = record {}; table_id = stand.table_id; id = stand.id; me = floor_seat stand.me }
 

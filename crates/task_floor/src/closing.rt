@@ -1,4 +1,4 @@
-//! How a floor with nodes is closed.
+//! How a floor is closed.
 ghost use Rattle.std.specs.Prelude.{◌≡◌};
 ghost use Rattle.core.specs.Mem.Slots.{IsFull, slots_items};
 ghost use Rattle.floor_table.specs.declared.view.SeatKind.TheVariants.{Main};

@@ -1,4 +1,4 @@
-//! The words and slots of a floor with nodes that is closed.
+//! The words and slots of a floor that is closed.
 ghost use Rattle.std.specs.Prelude.{◌≡◌, ◌<◌, ◌≤◌, ◌+◌, ◌++◌, ℕ, false, map, take, vec_len, vec_capacity, slice_index_or, IfOk};
 ghost use Rattle.core.specs.Mem.Slots.{IsFull, slots_filled, slots_items, slots_len};
 ghost use Rattle.core.specs.Mem.Slots.Ownership.{Filled};

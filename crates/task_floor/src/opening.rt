@@ -1,4 +1,4 @@
-//! How a floor with nodes is opened.
+//! How a floor is opened.
 ghost use Rattle.std.specs.Prelude.{◌≡◌, [], IfOk};
 ghost use Rattle.prefix_tree.specs.Nodes.{IsTreeOfPaths};
 ghost use Rattle.twe_limits.specs.Limits.{IsWithin};

@@ -1,4 +1,4 @@
-//! What is left of a floor with nodes at a quiet point.
+//! What is left of a floor at a quiet point.
 ghost use Rattle.std.specs.Prelude.{◌≡◌, ◌∷◌, [], length, IfOk};
 ghost use Rattle.twe_limits.specs.Limits.{IsWithin};
 ghost use Rattle.twe_program.specs.Program.{cell_count};

@@ -1,4 +1,4 @@
-//! How a floor with nodes goes on from a quiet point.
+//! How a floor goes on from a quiet point.
 ghost use Rattle.std.specs.Prelude.{◌≡◌, List, [], IfOk};
 ghost use Rattle.twe_program.specs.WellFormed.{IsWellFormed};
 ghost use Rattle.soundness_laws.specs.KeepsEffects.{KeepsEffects};

@@ -1,4 +1,4 @@
--- What a worker of a floor with nodes does with a task.
+-- What a worker of a floor does with a task.
 use Rattle.std.specs.Prelude.{◌≡◌, ◌≢◌, ◌++◌, ℕ, [], ◌∷◌, Some}
 use Rattle.seg_journal.specs.declared.journal.End.TheVariants as ends
 use Rattle.seg_journal.specs.declared.moves.Kind.TheVariants.{Admit}
@@ -23,7 +23,7 @@ use Rattle.tree_serve.specs.declared.admission.Admission.TheVariants.{Admitted, 
 abbrev pub SameTreeStand : TreeStand → TreeStand → Type 0
 SameTreeStand before after = SameStand (floor_stand before) (floor_stand after)
 
--- what the worker has done with task t: as on a floor without nodes
+-- what the worker has done with task t, by its seat of the floor
 abbrev pub HasServedBeside : TreeSeat → TreeSeat → ℕ → Served → Type 0
 HasServedBeside before after t served = HasServed (floor_seat before) (floor_seat after) t served
 

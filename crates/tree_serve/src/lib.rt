@@ -1,4 +1,4 @@
-//! Workers of a floor with nodes, who serve one task after another: a worker admits a task, or it runs the next segment of a
+//! Workers of a floor, who serve one task after another: a worker admits a task, or it runs the next segment of a
 //! task, draws its entry and leaves it. Which task it serves next is left to the crates above.
 #![tactic(auto)]
 

@@ -1,4 +1,4 @@
-//! A worker of a floor with nodes.
+//! A worker of a floor.
 ghost use Rattle.std.specs.Prelude.{◌≡◌, ◌<◌, ◌^◌, ℕ, IsTrue, length};
 ghost use Rattle.task_floor.specs.Holding.{IsIdleBeside};
 
