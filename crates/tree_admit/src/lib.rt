@@ -10,6 +10,7 @@ mod errands;
 mod footing;
 mod laws;
 mod locking;
+mod passing;
 mod placing;
 mod releasing;
 mod testing;
