@@ -38,13 +38,14 @@ task void a() writes X { future f = b.executeLater(); f.getValue(); }\n\
 task void c() writes X { x = x + 1; }\n\
 task void main() pure { future f = a.executeLater(); future g = c.executeLater(); }\n";
 
-/// The same, but `a` and the second `b` have so much to do that the run goes on a floor before `a` has ended.
-const HELD_LONG: &[u8] = b"region X;\n\
+/// The same, but `a` and the first `b` have much to do, so that the run goes on a floor before `a` has ended, and the `b` that `a`
+/// makes and waits for is held back by the first one.
+const HELD_LONG: &[u8] = b"region X, Y;\n\
 int x in X;\n\
-task void b() pure { int i = 0; while (i < 1000) { i = i + 1; } }\n\
+int y in Y;\n\
+task void b() writes Y { while (y < 1000) { y = y + 1; } y = 0; }\n\
 task void a() writes X {\n\
-int i = 0;\n\
-while (i < 1000) { i = i + 1; }\n\
+while (x < 1000) { x = x + 1; }\n\
 future f = b.executeLater();\n\
 f.getValue();\n\
 }\n\
