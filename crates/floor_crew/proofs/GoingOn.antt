@@ -1,5 +1,5 @@
 -- A run at rest goes on from what it was.
-use Rattle.std.proofs.Common.{◌≡◌, ◌∷◌, ◌++◌, [], List, sym}
+use Rattle.std.proofs.Common.{List}
 use Rattle.seg_journal.specs.declared.journal.Entry.{Entry}
 use Rattle.twe_limits.specs.Limits.{Bounds}
 use Rattle.twe_program.specs.Program.{Program}
@@ -16,7 +16,3 @@ module _ (p : Program) (lim : Bounds) where
   pub gone_on : (earlier : List Entry) (mid new : RunAtRest) → HasGoneOn p lim earlier mid → HasGoneOn p lim mid.rest.journal new → HasGoneOn p lim earlier new
   gone_on earlier mid new first second =
       record { sound = second.sound; begins = prefix_trans earlier mid.rest.journal new.rest.journal first.begins second.begins }
-
-  -- an entry more goes on
-  pub moved_on : (old new : RunAtRest) (entry : Entry) → IsSound p lim new → new.rest.journal ≡ old.rest.journal ++ entry ∷ [] → HasGoneOn p lim old.rest.journal new
-  moved_on old new entry sound more = record { sound = sound; begins = (entry ∷ [], sym more) }

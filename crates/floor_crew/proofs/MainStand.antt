@@ -1,81 +1,16 @@
--- The main stand of a round: stands are split off from it, and joined to it again.
+-- The main stand of a round: the others are joined to it again.
 use Rattle.std.proofs.Common.{◌≡◌, ◌+◌, ◌-◌, ◌++◌, ℕ, List, [], ◌∷◌, sym, ap, ◌∙◌, append_assoc, arith}
 use Rattle.std.proofs.lemmas.List.{append-nil}
 use Rattle.atomic_table.specs.Seated.{TableId}
 use Rattle.journal_merge.specs.declared.numbered.NumberedEntry.{NumberedEntry}
 use Rattle.journal_merge.specs.Merging.{all_of}
-use Rattle.floor_table.specs.declared.view.SeatKind.TheVariants.{Other, Spent}
 use Rattle.floor_table.specs.FloorOf.{turn_in}
-use Rattle.floor_steps.specs.Committing.{Log, empty_log}
-use Rattle.admission_core.specs.States.{Record}
-use Rattle.tree_table.specs.FloorSeats.{tasks_out}
-use Rattle.tree_table.specs.Holds.{first_tree_view, joined_tree_view, left_tree_view, right_tree_view}
+use Rattle.floor_steps.specs.Committing.{Log}
+use Rattle.tree_table.specs.Holds.{joined_tree_view}
 use Rattle.tree_table.specs.Seats.{TreeSeat}
-use Rattle.tree_table.specs.TreeOf.{content_in}
 use Rattle.task_floor.specs.Holding.{IsIdleBeside}
 use Rattle.task_floor.specs.Stands.{TreeStand}
-use Rattle.floor_crew.specs.inner.Lent.{HasParts, IsMainOn, IsNewOn, IsOtherOn}
-
--- the stand of a floor that was woken
-pub new_main : (table : TableId) (stand : TreeStand) (log : List NumberedEntry) (records : List Record) → stand.table_id ≡ table
-    → stand.me ≡ (first_tree_view log records, []) → IsNewOn table stand 0
-new_main table stand log records here is = record {
-  main = record {
-    here = here;
-    kind = ap (λ (m : TreeSeat). m.0.floor.kind) is;
-    given = record { turns = λ t. ap (λ (m : TreeSeat). turn_in m.0.floor.turns t) is; segment = ap (λ (m : TreeSeat). m.0.floor.segment) is };
-    empty = ap (λ (m : TreeSeat). m.1) is;
-    count = ap (λ (m : TreeSeat). m.0.floor.out) is;
-  };
-  number = ap (λ (m : TreeSeat). m.0.floor.split) is;
-}
-
-pub first_parts : (stand : TreeStand) (log : List NumberedEntry) (records : List Record)
-    → stand.me ≡ (first_tree_view log records, []) → HasParts stand (log ∷ [])
-first_parts stand log records is = append-nil log ∙ sym (ap (λ (m : TreeSeat). m.0.floor.part) is)
-
--- one stand more was split off
-pub split_more : (table : TableId) (before after : TreeStand) (n : ℕ) → IsNewOn table before n → after.me ≡ (left_tree_view before.me.0, before.me.1)
-    → after.table_id ≡ before.table_id → IsNewOn table after (n + 1)
-split_more table before after n new is same = record {
-  main = record {
-    here = same ∙ new.main.here;
-    kind = ap (λ (m : TreeSeat). m.0.floor.kind) is ∙ new.main.kind;
-    given = record {
-      turns = λ t. ap (λ (m : TreeSeat). turn_in m.0.floor.turns t) is ∙ new.main.given.turns t;
-      segment = ap (λ (m : TreeSeat). m.0.floor.segment) is ∙ new.main.given.segment;
-    };
-    empty = ap (λ (m : TreeSeat). m.1) is ∙ new.main.empty;
-    count = ap (λ (m : TreeSeat). m.0.floor.out) is ∙ ap (λ (k : ℕ). k + 1) new.main.count;
-  };
-  number = ap (λ (m : TreeSeat). m.0.floor.split) is ∙ ap (λ (k : ℕ). k + 1) new.number;
-}
-
--- it has nothing in hand
-pub split_idle : (table : TableId) (before other : TreeStand) (n number : ℕ) → IsNewOn table before n → other.me ≡ (right_tree_view before.me.0, []) → number ≡ n + 1
-    → IsIdleBeside number other.me empty_log
-split_idle table before other n number new is counted = record {
-  floor = record {
-    live = λ spent. other_spent (sym (ap (λ (m : TreeSeat). m.0.floor.kind) is) ∙ spent);
-    number_is = counted ∙ (ap (λ (k : ℕ). k + 1) (sym new.number) ∙ sym (ap (λ (m : TreeSeat). m.0.floor.worker) is));
-    given = record { turns = λ t. ap (λ (m : TreeSeat). turn_in m.0.floor.turns t) is; segment = ap (λ (m : TreeSeat). m.0.floor.segment) is };
-    out = ap (λ (m : TreeSeat). tasks_out m.1) is;
-    entries = sym (ap (λ (m : TreeSeat). m.0.floor.part) is);
-  };
-  out = ap (λ (m : TreeSeat). m.1) is;
-  left = record {
-    activity = ap (λ (m : TreeSeat). m.0.activity) is;
-    kept = λ n. ap (λ (m : TreeSeat). content_in m.0.kept n) is;
-    fresh = ap (λ (m : TreeSeat). m.0.fresh) is;
-    clear = ap (λ (m : TreeSeat). m.0.clear) is;
-  };
-}
-  where
-    other_spent : Other ≡ Spent → ⊥
-    other_spent h = cc
-
-pub split_on : (table : TableId) (before other : TreeStand) → before.table_id ≡ table → other.me ≡ (right_tree_view before.me.0, []) → other.table_id ≡ before.table_id → IsOtherOn table other
-split_on table before other here is same = record { here = same ∙ here; kind = ap (λ (m : TreeSeat). m.0.floor.kind) is }
+use Rattle.floor_crew.specs.inner.Lent.{HasParts, IsMainOn}
 
 -- a stand was joined
 pub joined_main : (table : TableId) (before after other : TreeStand) (n m : ℕ) → IsMainOn table before n → n ≡ m + 1 → after.me ≡ (joined_tree_view before.me.0 other.me.0, before.me.1)

@@ -90,9 +90,6 @@ with_new_behind old r more =
         append_three (x ∷ a) c = ap (λ (l : List Record). x ∷ l) (append_three a c)
 
 module _ (nodes : List (List Elem)) (t : ℕ) where
-  pub no_effect_yet : AreRecordsOf nodes t [] []
-  no_effect_yet = record { once = tt; only = λ r among. absurd among; all = λ e has. let below = has.1 in absurd (omega (arith, below)) }
-
   module _ (effects : List Effect) (e : Effect) (n : ℕ) (place : IsPlaceOf nodes e n) (more : List Record) (are : AreRecordsOf nodes t effects more) where
     abbrev new : Record
     new = record { task = t; effect = e; node = n }

@@ -1,5 +1,5 @@
 -- A task in hand goes on, or does not: what the stand knows of it, beside the nodes.
-use Rattle.std.proofs.Common.{◌≡◌, ◌≢◌, ◌<◌, ◌⊎◌, ℕ, ℤ, List, Some, refl, sym, ap, subst, ◌∙◌, inl, inr, ⊎_elim, arith}
+use Rattle.std.proofs.Common.{◌≡◌, ◌≢◌, ◌<◌, ◌⊎◌, ℕ, ℤ, List, Some, sym, ap, subst, ◌∙◌, inl, inr, ⊎_elim, arith}
 use Rattle.region_paths.specs.declared.elements.Elem.{Elem}
 use Rattle.effect_sets.specs.declared.effects.Effect.{Effect}
 use Rattle.twe_limits.specs.Limits.{Bounds}
@@ -126,15 +126,6 @@ module _ (nodes : List (List Elem)) (a b : TreeSeat) (t on : ℕ) (turn : HeldTu
   clear_kept : (c : TreeSeat) → c.0.clear ≡ b.0.clear → (c.0.clear ≡ a.0.clear) ⊎ ((u : ℕ) × (u ≢ t) × (c.0.clear ≡ of_others u a.0.clear))
   clear_kept c same =
       ⊎_elim (λ (kept : b.0.clear ≡ a.0.clear). inl (same ∙ kept)) (λ (forgot : b.0.clear ≡ of_others on a.0.clear). inr (on, awaits_other, same ∙ forgot)) more.clear
-
-  pub still_moves : MovesOnBeside a b t
-  still_moves = record {
-    floor = moves_more (floor_seat a) (floor_seat b) t more.floor;
-    waits = more.waits;
-    clear = clear_kept b refl;
-    view = more.view;
-    out = more.out;
-  }
 
   -- it was found, and the phase word says that the task runs
   module _ (lim : Bounds) (c : TreeSeat) (value : ℤ) (known : KnowsValue (floor_seat b) on value) (has : HasTaskSlots lim.tasks b.1) (stays : StaysInTree lim b c)

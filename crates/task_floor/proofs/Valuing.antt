@@ -1,5 +1,5 @@
 -- The turn of a task is taken, its phase loaded, and the turn given again: to read the task's value.
-use Rattle.std.proofs.Common.{◌≡◌, ◌≢◌, ◌<◌, ℕ, List, None, Some, true, false, refl, sym, ap, subst, ◌∙◌, inl, inr, ⊎_elim}
+use Rattle.std.proofs.Common.{◌≡◌, ◌≢◌, ◌<◌, ℕ, List, None, Some, true, false, sym, ap, subst, ◌∙◌, inl, inr, ⊎_elim}
 use Rattle.region_paths.specs.declared.elements.Elem.{Elem}
 use Rattle.twe_limits.specs.Limits.{Bounds}
 use Rattle.floor_rule.specs.declared.view.HeldTurn.{HeldTurn}
@@ -113,12 +113,6 @@ module _ (nodes : List (List Elem)) (a b : TreeSeat) (t : ℕ) (slot : TaskSlot)
 
       pub value_known : phase_of_word found ≡ phases.Done → KnowsValue (floor_seat d) t slot.frame.value
       value_known done = gave_value lim (floor_seat a) (floor_seat b) (floor_seat c) (floor_seat d) t found slot took.floor looked_floor gave_floor done
-
--- nothing was found
-pub more_itself : (a b : TreeSeat) (t : ℕ) → b ≡ a → KnowsMoreBeside a b t
-more_itself a b t same =
-    subst (λ (m : TreeSeat). KnowsMoreBeside a m t) (sym same)
-    (record { floor = record { turns = λ u. refl; done = λ fact among. among; rest = refl }; waits = λ fact among. among; clear = inl refl; view = refl; out = refl })
 
 -- a phase was loaded before
 pub looked_then_more : (lim : Bounds) (a b c : TreeSeat) (t found : ℕ) → FollowedPhase lim a t found b → KnowsMoreBeside b c t → KnowsMoreBeside a c t

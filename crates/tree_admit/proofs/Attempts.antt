@@ -8,7 +8,6 @@ use Rattle.std.proofs.lemmas.Option.{get_or_from_slice_get, slice_get-get_or, sl
 use Rattle.region_paths.specs.declared.elements.Elem.{Elem}
 use Rattle.effect_sets.specs.declared.effects.Effect.{Effect}
 use Rattle.prefix_tree.specs.Nodes.{IsTreeOfPaths}
-use Rattle.twe_limits.specs.Limits.{Bounds}
 use Rattle.floor_rule.specs.declared.view.HeldTurn.{HeldTurn}
 use Rattle.floor_table.specs.declared.view.View.{View}
 use Rattle.floor_table.specs.FloorOf.{turn_in}
@@ -30,13 +29,12 @@ use Rattle.tree_admit.specs.declared.admitting.Admittance.TheVariants.{Held}
 use Rattle.tree_admit.specs.declared.bars.Bar.{Bar}
 use Rattle.tree_admit.specs.declared.bars.Attempt.{Attempt}
 use Rattle.tree_admit.specs.declared.bars.Attempt.TheVariants.{Barred, Placed, Stood}
-use Rattle.tree_admit.specs.declared.footing.Footing.{Footing}
 use Rattle.tree_admit.specs.declared.placing.Obstacle.TheVariants.{InTheWay}
 use Rattle.tree_admit.specs.Attempts.{HasMet, HasPlacedEach, HasPlacedFirst, HasPlacedNone, HasTakenOutFirst, HasTurnWith, IsOneOfFirst, IsRecordOf, KeepsAllElse, MayTryToAdmit, Stands, WasBarredFor}
 use Rattle.tree_admit.specs.Descents.{HasTakenOut, HasTried}
 use Rattle.tree_admit.specs.Errands.{KnowsErrand, MaySetOutFor, record_of, with_clear, with_placed, with_removed}
 use Rattle.tree_admit.specs.Going.{HasLeft, IsOutside}
-use Rattle.tree_admit.specs.Outcomes.{HasPlaced, IsTakenOut, StandsOn, missing, placed, removed, stood}
+use Rattle.tree_admit.specs.Outcomes.{HasPlaced, IsTakenOut, missing, placed, removed, stood}
 
 -- Lists of records.
 
@@ -170,18 +168,6 @@ taken_clear before after r (missing none h) =
 
 -- What keeps all else.
 
-pub keeps_refl : (t : ℕ) (me : TreeSeat) → IsOutside me.0 → KeepsAllElse t me me
-keeps_refl t me outside = record {
-  outside = outside;
-  slots = refl;
-  floor = refl;
-  done = λ fact among. among;
-  waits = λ fact among. among;
-  seen = λ change among. among;
-  fresh = λ x other. (λ among. among, λ among. among);
-  clear = λ x other. (λ among. among, λ among. among);
-}
-
 pub keeps_trans : (t : ℕ) (a b c : TreeSeat) → KeepsAllElse t a b → KeepsAllElse t b c → KeepsAllElse t a c
 keeps_trans t a b c h k = record {
   outside = k.outside;
@@ -192,15 +178,6 @@ keeps_trans t a b c h k = record {
   seen = λ change among. k.seen change (h.seen change among);
   fresh = λ x other. (λ among. (h.fresh x other).0 ((k.fresh x other).0 among), λ among. (k.fresh x other).1 ((h.fresh x other).1 among));
   clear = λ x other. (λ among. (h.clear x other).0 ((k.clear x other).0 among), λ among. (k.clear x other).1 ((h.clear x other).1 among));
-}
-
-pub stands_still : (lim : Bounds) (footing : Footing) (t : ℕ) (before after : TreeSeat) → StandsOn lim footing before → KeepsAllElse t before after → StandsOn lim footing after
-stands_still lim footing t before after h k = record {
-  live = λ spent. h.live (sym (ap (λ (f : View). f.kind) k.floor) ∙ spent);
-  worker = h.worker ∙ sym (ap (λ (f : View). f.worker) k.floor);
-  tasks = h.tasks;
-  slots = h.slots ∙ ap length (sym k.slots);
-  outside = k.outside;
 }
 
 pub turn_still : (t u : ℕ) (effects : List Effect) (turn : HeldTurn) (before after : TreeSeat) → HasTurnWith before.0 u effects turn → KeepsAllElse t before after
@@ -217,9 +194,6 @@ some_one : (e f : Effect) → Some e ≡ Some f → e ≡ f
 some_one e f same = cc
 
 module _ (nodes : List (List Elem)) (t : ℕ) (effects : List Effect) where
-  none_first : (r : Record) → ¬ IsOneOfFirst nodes t effects 0 r
-  none_first r h = let less = h.1 in omega (arith, less)
-
   -- one of the first effects is the last of them, or is one of those before it
   last_or_before : (k : ℕ) (x : Record) → IsOneOfFirst nodes t effects (k + 1) x → IsRecordOf nodes t effects k x ⊎ IsOneOfFirst nodes t effects k x
   last_or_before k x (j, less, is) =
@@ -284,14 +258,6 @@ module _ (nodes : List (List Elem)) (t : ℕ) (effects : List Effect) where
             ⊎_elim (λ (old : IsAmong x before.0.fresh). inl old) (λ (one : IsOneOfFirst nodes t effects k x). inr (one_more k x one)) (h.only x was))
             ((there.1 x).0 among);
       }
-
-  pub nothing_placed : (me : TreeSeat) → IsOutside me.0 → HasPlacedFirst nodes t effects 0 me me
-  nothing_placed me outside =
-      record { keeps = keeps_refl t me outside; each = λ j e less at. absurd (omega (arith, less)); only = λ r h. inl h }
-
-  pub nothing_taken : (me : TreeSeat) → IsOutside me.0 → HasTakenOutFirst nodes t effects 0 me me
-  nothing_taken me outside =
-      record { keeps = keeps_refl t me outside; each = λ r h. absurd (none_first r h); gone = λ r h. absurd (none_first r h); only = λ r h. h }
 
   -- whoever met an obstacle has placed what it had placed
   pub placed_still : (k : ℕ) (before middle after : TreeSeat) → HasPlacedFirst nodes t effects k before middle → HasLeft middle.0 middle.1 None after

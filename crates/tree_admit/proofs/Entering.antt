@@ -19,9 +19,8 @@ use Rattle.tree_table.specs.declared.slot.ErrandKind.TheVariants.{Admission, Pla
 use Rattle.tree_table.specs.declared.slot.TreeSlot.TheVariants as kinds
 use Rattle.tree_table.specs.declared.view.TreeView.{TreeView}
 use Rattle.tree_table.specs.Seats.{MayLock, activity_for, effect_known, enters, errand_of, purpose_for, turns_seen}
-use Rattle.tree_admit.specs.Going.{HasOnlyLearned, IsOutside}
+use Rattle.tree_admit.specs.Going.{IsOutside}
 use Rattle.tree_admit.specs.Errands.{KnowsErrand, MaySetOutFor, come_to, errand_at}
-use Rattle.tree_admit.proofs.Marks.{turn_known}
 
 -- Coming to a node.
 
@@ -46,16 +45,6 @@ has_come place n = ⊎_elim (λ (at : n ≡ place). inr (at, come_there place n 
 
 pub has_effect : (effects : List Effect) (k : ℕ) (e : Effect) → slice_get effects k ≡ Some e → Contains effects e
 has_effect effects k e is = subst (Contains effects) (get_or_from_slice_get effects k e e is) (Contains-get_or effects k e (slice_get_within effects k e is))
-
--- what is known of an errand stays known
-pub errand_known : (nodes : List (List Elem)) (v w : TreeView) (errand : Errand) (e : Effect) → HasOnlyLearned v w → KnowsErrand nodes v errand e → KnowsErrand nodes w errand e
-errand_known nodes v w errand e learned knows = record {
-  turn = knows.turn;
-  has = turn_known v w errand.task knows.turn learned knows.has;
-  effect = knows.effect;
-  place = knows.place;
-  may = knows.may;
-}
 
 pub effect_is : (kind : ErrandKind) (t : ℕ) (e : Effect) → effect_of (purpose_for kind t e) ≡ e
 effect_is Admission t e = refl

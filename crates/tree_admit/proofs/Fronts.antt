@@ -1,5 +1,5 @@
 -- Records at the front of a content.
-use Rattle.std.proofs.Common.{◌≡◌, ◌⊎◌, ℕ, zero, suc, ◌+◌, ◌≤◌, List, [], ◌∷◌, length, take, Some, sym, ap, subst, inl, inr, ⊎_elim, arith, take_all}
+use Rattle.std.proofs.Common.{◌≡◌, ◌⊎◌, ℕ, zero, suc, ◌+◌, List, [], ◌∷◌, take, Some, sym, ap, subst, inl, inr, ⊎_elim, arith}
 use Rattle.std.specs.Prelude.{slice_get}
 use Rattle.admission_core.specs.States.{IsAmong, Record}
 
@@ -15,12 +15,6 @@ pub among_more : (r : Record) (l : List Record) (k : ℕ) → IsAmong r (take (k
 among_more r l k among =
     let same : k + 1 ≡ suc k = omega arith in
     among_one_more r l k (subst (λ (i : ℕ). IsAmong r (take i l)) same among)
-
-pub among_none : (r : Record) (l : List Record) → ¬ IsAmong r (take 0 l)
-among_none r l among = absurd among
-
-pub among_whole : (r : Record) (l : List Record) (k : ℕ) → length l ≤ k → IsAmong r l → IsAmong r (take k l)
-among_whole r l k all among = subst (IsAmong r) (sym (take_all k l all)) among
 
 pub at_is_among : (l : List Record) (k : ℕ) (r : Record) → slice_get l k ≡ Some r → IsAmong r l
 at_is_among [] k r is = absurd (let no = is in cc)

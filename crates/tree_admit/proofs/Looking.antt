@@ -1,5 +1,5 @@
 -- What a worker may do at its place once it has looked around.
-use Rattle.std.proofs.Common.{◌≡◌, ◌⊎◌, ℕ, List, [], ◌∷◌, None, refl, sym, subst, ◌∙◌, inl, inr}
+use Rattle.std.proofs.Common.{◌≡◌, ◌⊎◌, ℕ, List, [], ◌∷◌, refl, sym, subst, ◌∙◌, inl, inr}
 use Rattle.std.specs.Prelude.{IfErr, IfOk, Result, Ok, Err}
 use Rattle.region_paths.specs.declared.elements.Elem.{Elem}
 use Rattle.effect_sets.specs.declared.effects.Effect.{Effect}
@@ -14,10 +14,9 @@ use Rattle.tree_table.specs.declared.slot.ErrandKind.TheVariants.{Admission, Pla
 use Rattle.tree_table.specs.declared.slot.TreeSlot.{TreeSlot}
 use Rattle.tree_table.specs.declared.view.TreeView.{TreeView}
 use Rattle.tree_table.specs.Seats.{HasOwn, TreeSeat, purpose_for}
-use Rattle.tree_admit.specs.Going.{HasLeft, HasNode, HasOnlyFollowed, IsOutside}
+use Rattle.tree_admit.specs.Going.{HasNode, HasOnlyFollowed}
 use Rattle.tree_admit.specs.Errands.{AllPass}
 use Rattle.tree_admit.specs.Descents.{HasWalkedBelow, IsOfChild, MayLookAround, MayPut, MayPutFor, MayWalkBelow, walking}
-use Rattle.tree_admit.proofs.Learning.{learned_refl}
 use Rattle.tree_admit.proofs.Putting.{arrived}
 use Rattle.tree_admit.proofs.Steps.{followed_has}
 
@@ -27,11 +26,6 @@ put_for nodes v t e turn place done content Admission child pass below = (pass, 
 put_for nodes v t e turn place done content Placing child pass below = child
 put_for nodes v t e turn place done content Removal child pass below = absurd child
 
--- what holds of a value that was returned
-pub on_ok : {A E : Type 0} (P Q : A → Type 0) (r : Result A E) → ((x : A) → P x → Q x) → IfOk r P → IfOk r Q
-on_ok P Q (Ok x) f h = f x h
-on_ok P Q (Err x) f h = h
-
 pub on_both : {A E : Type 0} (P Q S : A → Type 0) (r : Result A E) → ((x : A) → P x → Q x → S x) → IfOk r P → IfOk r Q → IfOk r S
 on_both P Q S (Ok x) f h k = f x h k
 on_both P Q S (Err x) f h k = h
@@ -39,10 +33,6 @@ on_both P Q S (Err x) f h k = h
 pub on_err : {A E : Type 0} (P Q : E → Type 0) (r : Result A E) → ((x : E) → P x → Q x) → IfErr r P → IfErr r Q
 on_err P Q (Ok x) f h = h
 on_err P Q (Err x) f h = f x h
-
--- who has done nothing is where it was
-pub still_left : (me : TreeSeat) → IsOutside me.0 → HasLeft me.0 me.1 None me
-still_left me outside = record { left = outside.idle; kept = λ m. refl; slots = refl; learned = learned_refl me.0 }
 
 module _ (nodes : List (List Elem)) (lim : Bounds) (earlier : TreeView) (rest : List (ℕ × TreeSlot)) (errand : Errand) (e : Effect) (content : List Record) (me : TreeSeat)
     (may : MayLookAround nodes lim earlier rest errand e content me) where

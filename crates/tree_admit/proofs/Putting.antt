@@ -106,6 +106,3 @@ was_found r content found is true_is = (found_among r content).0 (sym is ∙ tru
 
 pub was_missed : (r : Record) (content : List Record) (found : Bool) → found ≡ list_any (λ x. same_record x r) content → found ≡ false → ¬ IsAmong r content
 was_missed r content found is false_is among = let true_is : found ≡ true = is ∙ (found_among r content).1 among in absurd (cc)
-
-pub not_for_both : (kind : ErrandKind) → kind ≡ Admission → kind ≡ Removal → ⊥
-not_for_both kind first second = absurd (cc)
