@@ -1,12 +1,11 @@
 -- What a seat knows once it has followed a wait.
-use Rattle.std.proofs.Common.{◌≡◌, ◌⊎◌, ◌<◌, ℕ, ℤ, Bool, true, false, List, [], ◌∷◌, if◌then◌else◌, refl, sym, ap, subst, ◌∙◌, inl, inr, ⊎_elim}
+use Rattle.std.proofs.Common.{◌≡◌, ◌⊎◌, ℕ, ℤ, Bool, true, false, List, [], ◌∷◌, if◌then◌else◌, refl, sym, ap, subst, ◌∙◌, inl, inr, ⊎_elim}
 use Rattle.std.specs.Prelude.{◌==◌}
 use Rattle.std.proofs.lemmas.Bool.Decides.{Decides-eqb, not_from_Decides}
 use Rattle.twe_limits.specs.Limits.{Bounds}
 use Rattle.floor_rule.specs.declared.view.Phase.{Phase}
 use Rattle.floor_rule.specs.declared.view.Phase.TheVariants.{Absent, Made, Running, Waits, Done, Faulted}
 use Rattle.floor_table.specs.Layout.{phase_of_word, word_of_phase}
-use Rattle.floor_table.proofs.Steps.{phase_again}
 use Rattle.admission_core.specs.States.{IsAmong}
 use Rattle.node_rule.specs.Trees.{WaitFact}
 use Rattle.tree_table.specs.Follows.{FollowedPhase, Learns, done_view, led_on, waits_view}
@@ -87,10 +86,6 @@ learns_only Faulted before u after is = followed_same before after is
 
 pub follows_only : (lim : Bounds) (before : TreeSeat) (u : ℕ) (phase : Phase) (after : TreeSeat) → FollowedPhase lim before u (word_of_phase phase) after → HasOnlyFollowed before after
 follows_only lim before u phase after found = learns_only (phase_of_word (word_of_phase phase)) before u after found.3
-
--- a task waits for one with a higher number
-pub waits_above : (lim : Bounds) (before : TreeSeat) (u t : ℕ) (after : TreeSeat) → FollowedPhase lim before u (word_of_phase (Waits t)) after → (u < t) × (t < lim.tasks)
-waits_above lim before u t after found = found.2 t (phase_again (Waits t))
 
 -- whoever was led to u is led on to the task for which u waits
 pub led_further : (lim : Bounds) (before : TreeSeat) (s u t : ℕ) (after : TreeSeat) → IsLedTo before.0 s u → FollowedPhase lim before u (word_of_phase (Waits t)) after

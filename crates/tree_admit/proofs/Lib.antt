@@ -6,9 +6,11 @@ pub mod Steps
 pub mod Marks
 pub mod Entering
 pub mod Following
+-- Records that are passed over.
+pub mod Between
+pub mod PassedOver
 pub mod Finishing
 pub mod Taking
-pub mod Fronts
 pub mod Stepping
 pub mod Descending
 pub mod Putting

@@ -1,39 +1,53 @@
-//! Following the waits from a task.
-ghost use Rattle.std.specs.Prelude.{◌≡◌, ◌≢◌, IfErr, OnOk};
+//! Following the waits from a task, past the records of other tasks on the way.
+ghost use Rattle.std.specs.Prelude.{◌≡◌, ◌≢◌, ◌≤◌, IfErr, IfOk, OnOk};
 ghost use Rattle.floor_table.specs.declared.view.SeatKind.TheVariants.{Spent};
 ghost use Rattle.admission_core.specs.States.{IsAmong};
+ghost use Rattle.node_rule.specs.LockSteps.{IsKnownToPass};
 ghost use Rattle.tree_admit.specs.Bars.{IsLedTo};
 ghost use Rattle.tree_admit.specs.Going.{HasOnlyFollowed};
+ghost use Rattle.tree_admit.specs.Passing.{EachBetween};
 
+use crate::passing::pass_over;
+use effect_sets::Effect;
 use floor_rule::Phase;
 use floor_table::Named;
 use task_floor::{Floor, Stand};
-use tree_table::Planted;
+use tree_table::{NodeContent, Planted};
 
 /// Follows the waits from a task. `Ok` if they lead to the task `to`: the stand knows that from then on. Otherwise the task at
 /// which they ended.
-pub(crate) fn follow_to<N: Named + Planted>(
+///
+/// If they lead there, so do those from each task on the way. So of the first records of a content, `left` of them, the last ones
+/// are passed over meanwhile, as far as they stand in the order of the waits. `Ok` says how many are left.
+pub(crate) fn follow_past<N: Named + Planted>(
     floor: &Floor<N>,
     stand: &mut Stand,
     tasks: u32,
     from: u32,
     to: u32,
-) -> Result<(), u32>
+    effect: &Effect,
+    content: &NodeContent,
+    left: usize,
+) -> Result<usize, u32>
     requires here { stand.old.table_id ≡ floor.now }
     requires live { stand.old.me.0.floor.kind ≢ Spent }
     requires tasks { tasks ≡ N.lim.tasks }
     ensures known { OnOk result (IsAmong (record { waiter = from; awaited = to }) stand.new.me.0.waits) }
+    ensures passed { IfOk result (λ rest. (rest ≤ left)
+        × EachBetween (IsKnownToPass stand.new.me.0.waits to effect.now) content.now rest left) }
     ensures end { IfErr result (λ end. IsLedTo stand.new.me.0 from end) }
     ensures only { HasOnlyFollowed stand.old.me stand.new.me }
     ensures same { (stand.new.table_id ≡ stand.old.table_id) × (stand.new.id ≡ stand.old.id) }
 {
     let mut at = from;
+    let mut rest = left;
     while at < tasks {
+        rest = pass_over(to, effect, content, rest, at);
         let Phase::Waits { on } = floor.status(stand, at) else {
             return Err(at);
         };
         if on == to {
-            return Ok(());
+            return Ok(rest);
         }
         at = on;
     }

@@ -9,6 +9,7 @@ mod descents;
 mod errands;
 mod footing;
 mod locking;
+mod passing;
 mod placing;
 mod releasing;
 mod testing;

@@ -1,5 +1,5 @@
 //! Looking at the records that a worker meets on its way to an admission.
-ghost use Rattle.std.specs.Prelude.{◌≡◌, ◌≢◌, IfErr, OnOk};
+ghost use Rattle.std.specs.Prelude.{◌≡◌, ◌≢◌, ◌≤◌, IfErr, IfOk, OnOk};
 ghost use Rattle.floor_table.specs.declared.view.SeatKind.TheVariants.{Spent};
 ghost use Rattle.admission_core.specs.States.{Admit};
 ghost use Rattle.node_rule.specs.LockSteps.{IsKnownToPass};
@@ -7,15 +7,18 @@ ghost use Rattle.tree_table.specs.Seats.{purpose_for};
 ghost use Rattle.tree_admit.specs.Bars.{IsBarIn, IsBarOf};
 ghost use Rattle.tree_admit.specs.Errands.{AllPass};
 ghost use Rattle.tree_admit.specs.Going.{HasOnlyFollowed};
+ghost use Rattle.tree_admit.specs.Passing.{EachBetween};
 
 use crate::bars::Bar;
-use crate::chains::follow_to;
-use effect_sets::{Effect, interferes};
+use crate::chains::follow_past;
+use crate::passing::passes_at_once;
+use effect_sets::Effect;
 use floor_table::Named;
 use task_floor::{Floor, Stand};
 use tree_table::{Errand, ErrandKind, NodeContent, NodeRecord, Planted};
 
-/// Whether a record, which stands at this node, passes for an effect of a task. Otherwise it is a bar.
+/// Whether the record at index `at` of a content, which is that of this node, passes for an effect of a task. Otherwise it is a bar.
+/// If it passes, so do those before it that were passed over on the way, and it returns how many are left.
 fn record_passes<N: Named + Planted>(
     floor: &Floor<N>,
     stand: &mut Stand,
@@ -23,27 +26,33 @@ fn record_passes<N: Named + Planted>(
     task: u32,
     effect: &Effect,
     node: u32,
+    content: &NodeContent,
+    at: usize,
     r: &NodeRecord,
-) -> Result<(), Bar>
+) -> Result<usize, Bar>
     requires here { stand.old.table_id ≡ floor.now }
     requires live { stand.old.me.0.floor.kind ≢ Spent }
     requires tasks { tasks ≡ N.lim.tasks }
     ensures passes { OnOk result (IsKnownToPass stand.new.me.0.waits task effect.now r.now) }
+    ensures others { IfOk result (λ left. (left ≤ at)
+        × EachBetween (IsKnownToPass stand.new.me.0.waits task effect.now) content.now left at) }
     ensures barred { IfErr result (λ bar. (bar.node ≡ node) × IsBarOf stand.new.me.0 task effect.now r.now bar) }
     ensures only { HasOnlyFollowed stand.old.me stand.new.me }
     ensures same { (stand.new.table_id ≡ stand.old.table_id) × (stand.new.id ≡ stand.old.id) }
 {
-    let by = r.task();
-    if by == task || !interferes(r.effect(), effect) {
-        return Ok(());
+    if passes_at_once(task, effect, r) {
+        return Ok(at);
     }
-    match follow_to(floor, stand, tasks, by, task) {
-        Ok(()) => Ok(()),
+    let by = r.task();
+    match follow_past(floor, stand, tasks, by, task, effect, content, at) {
+        Ok(left) => Ok(left),
         Err(end) => Err(Bar { node, by, end }),
     }
 }
 
-/// Whether all records of a content, which is that of this node, pass for an effect of a task. Otherwise one of them is a bar.
+/// Whether all records of a content, which is that of this node, pass for an effect of a task. Otherwise one of them is a bar. The
+/// earliest is looked at first: the waits from its task lead past the tasks that were admitted after it, so a chain of tasks that
+/// wait for one another is followed once, however many of their records stand here.
 fn records_pass<N: Named + Planted>(
     floor: &Floor<N>,
     stand: &mut Stand,
@@ -61,12 +70,14 @@ fn records_pass<N: Named + Planted>(
     ensures only { HasOnlyFollowed stand.old.me stand.new.me }
     ensures same { (stand.new.table_id ≡ stand.old.table_id) × (stand.new.id ≡ stand.old.id) }
 {
-    for at in 0..content.len() {
-        let Some(r) = content.get(at) else {
+    let mut left = content.len();
+    while left > 0 {
+        left -= 1;
+        let Some(r) = content.get(left) else {
             continue;
         };
-        match record_passes(floor, stand, tasks, task, effect, node, r) {
-            Ok(()) => {}
+        match record_passes(floor, stand, tasks, task, effect, node, content, left, r) {
+            Ok(rest) => left = rest,
             Err(bar) => return Err(bar),
         }
     }

@@ -20,9 +20,9 @@ use tree_table::Planted;
 use twe_io::Memory;
 
 impl<'a, N: Named + Planted> Workshop<'a, N> {
+    // It waits only for locks of nodes, and whoever has such a lock waits for none above it. No clause says so.
     /// Lets a worker admit a task, if the task's turn is free, the task waits for its admission, and no record that the worker
-    /// meets in the tree is in the way of it. It waits only for locks of nodes, and whoever has such a lock waits for none above
-    /// it. Afterwards the worker has nothing in hand again. After `Memory` the worker is gone, and it has no lock.
+    /// meets in the tree is in the way of it. Afterwards the worker has nothing in hand again. After `Memory` the worker is gone.
     pub fn admit<R: Wait>(
         &self,
         rt: &R,

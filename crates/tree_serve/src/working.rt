@@ -34,11 +34,12 @@ impl<'a, N: Named + Planted> Workshop<'a, N> {
         self.floor.status(&mut worker.stand, task)
     }
 
+    // The gate is told of each access to a cell before it is made. Apart from that it waits only for locks of nodes. No clause says
+    // so.
     /// Lets a worker run the next segment of a task and draw its entry, if the task's turn is free and the task may run. If
     /// the task waits for one that is done, it takes that one's value first. If the segment makes a spawned child, the child's
     /// records are placed. If the task has ended, its records are taken out. The segments of other tasks go on meanwhile.
-    /// Afterwards the worker has nothing in hand again. The gate is told of each access to a cell before it is made. Apart from
-    /// that it waits only for locks of nodes. After `Memory` the worker is gone, and it has no lock.
+    /// Afterwards the worker has nothing in hand again. After `Memory` the worker is gone.
     pub fn serve<R: Wait, G: Gate>(
         &self,
         rt: &R,

@@ -1,36 +1,44 @@
--- A record that passes goes on to pass while the stand learns of waits.
-use Rattle.std.proofs.Common.{◌≡◌, sym, subst, ◌∙◌, ⊎_elim}
-use Rattle.floor_rule.proofs.Puts.{some_one}
+-- Records that pass go on to pass while the stand learns of waits.
+use Rattle.std.proofs.Common.{◌-◌, length, sym, ◌∙◌, arith}
 use Rattle.admission_core.specs.States.{Record}
 use Rattle.node_rule.specs.LockSteps.{IsKnownToPass}
+use Rattle.tree_admit.proofs.Between.{at_is_among, both_between, each_among, one_before, this_record}
 use Rattle.tree_admit.proofs.Following.{followed_trans}
-use Rattle.tree_admit.proofs.Fronts.{among_more, at_is_among}
-use Rattle.tree_admit.proofs.Learning.{pass_kept}
+use Rattle.tree_admit.proofs.PassedOver.{all_pass_kept}
 use Rattle.tree_admit.proofs.testing.records_pass.Goals as goal
 
 pub returns-in-Err-clause-barred : goal.returns-in-Err-clause-barred
 returns-in-Err-clause-barred g c =
     let r = c.in-Some.r.now in
-    (c.in-Err.ensures.barred.0, (r, at_is_among c.args.content.now c.loop-at.at r (sym c.in-Some.ensures), c.in-Err.ensures.barred.1))
+    (c.in-Err.ensures.barred.0, (r, at_is_among c.args.content.now (c.loop-left.left - 1) r (sym c.in-Some.ensures), c.in-Err.ensures.barred.1))
 
 pub returns-in-Err-clause-only : goal.returns-in-Err-clause-only
-returns-in-Err-clause-only g c = followed_trans c.args.stand.now.me c.loop-at.stand.me c.record_passes.new.stand.me c.loop-at.invariant.only c.record_passes.ensures.only
+returns-in-Err-clause-only g c =
+    followed_trans c.args.stand.now.me c.loop-left.stand.me c.record_passes.new.stand.me c.loop-left.invariant.only
+    c.record_passes.ensures.only
 
-pub loop-at-preserved : goal.loop-at-preserved
-loop-at-preserved g c =
+pub loop-left-preserved : goal.loop-left-preserved
+loop-left-preserved g c =
     let t = c.args.task in
     let e = c.args.effect.now in
-    let old = c.loop-at.stand.me in
+    let content = c.args.content.now in
+    let all = length content in
+    let k = c.loop-left.left - 1 in
+    let old = c.loop-left.stand.me in
     let new = c.record_passes.new.stand.me in
+    let only = c.record_passes.ensures.only in
+    let pass = λ (x : Record). IsKnownToPass new.0.waits t e x in
+    let this = this_record pass content k c.in-Some.r.now c.in-Some.ensures c.in-Ok.ensures.passes in
+    let kept = all_pass_kept old.0 new.0 t e content c.loop-left.left all only.learned c.loop-left.invariant.passes in
+    let here = one_before pass content k c.loop-left.left all (omega arith) this kept in
     record {
-      passes = λ r among.
-          ⊎_elim
-          (λ front. pass_kept old.0 new.0 t e r c.record_passes.ensures.only.learned (c.loop-at.invariant.passes r front))
-          (λ at.
-          let same : c.in-Some.r.now ≡ r = some_one (c.in-Some.ensures ∙ at) in
-          subst (λ (x : Record). IsKnownToPass new.0.waits t e x) same c.in-Ok.ensures.passes)
-          (among_more r c.args.content.now c.loop-at.at among);
-      only = followed_trans c.args.stand.now.me old new c.loop-at.invariant.only c.record_passes.ensures.only;
-      here = c.record_passes.ensures.same.0 ∙ c.loop-at.invariant.here;
-      id = c.record_passes.ensures.same.1 ∙ c.loop-at.invariant.id;
+      passes = both_between pass content c.in-Ok.rest k all c.in-Ok.ensures.others.1 here;
+      only = followed_trans c.args.stand.now.me old new c.loop-left.invariant.only only;
+      here = c.record_passes.ensures.same.0 ∙ c.loop-left.invariant.here;
+      id = c.record_passes.ensures.same.1 ∙ c.loop-left.invariant.id;
     }
+
+pub returns-clause-passes : goal.returns-clause-passes
+returns-clause-passes g c =
+    let pass = λ (x : Record). IsKnownToPass c.loop-left.stand.me.0.waits c.args.task c.args.effect.now x in
+    each_among pass c.args.content.now c.loop-left.left c.loop-left-test.false c.loop-left.invariant.passes

@@ -1,0 +1,69 @@
+-- Records that a walk along the waits passed over: their tasks lead to the task that it came to, or they pass whatever is known.
+use Rattle.std.proofs.Common.{◌≡◌, ◌⊎◌, ℕ, true, not, List, IsTrue, subst, inl, inr, ⊎_elim}
+use Rattle.std.specs.Prelude.{◌==◌}
+use Rattle.std.proofs.lemmas.Bool.{eqb-true, not-true, or_cases}
+use Rattle.effect_sets.specs.declared.effects.Effect.{Effect}
+use Rattle.effect_sets.specs.Interference.{statically_interferes}
+use Rattle.twe_limits.specs.Limits.{Bounds}
+use Rattle.floor_rule.specs.declared.view.Phase.TheVariants.{Waits}
+use Rattle.floor_table.specs.Layout.{word_of_phase}
+use Rattle.admission_core.specs.States.{Record}
+use Rattle.node_rule.specs.LockSteps.{IsKnownToPass, apart, own, waiting}
+use Rattle.node_rule.specs.Trees.{WaitFact}
+use Rattle.tree_table.specs.declared.view.TreeView.{TreeView}
+use Rattle.tree_table.specs.Follows.{FollowedPhase}
+use Rattle.tree_table.specs.Seats.{TreeSeat}
+use Rattle.tree_ways.proofs.ApartLemmas.{apart_effects}
+use Rattle.tree_admit.specs.Bars.{IsLedTo}
+use Rattle.tree_admit.specs.Going.{HasOnlyLearned}
+use Rattle.tree_admit.specs.Passing.{EachBetween, is_at_ease, is_passed_over}
+use Rattle.tree_admit.proofs.Between.{both_between}
+use Rattle.tree_admit.proofs.Following.{follows_only, led_further}
+use Rattle.tree_admit.proofs.Learning.{pass_kept}
+
+pub ease_passes : (waits : List WaitFact) (t : ℕ) (e : Effect) (r : Record) → is_at_ease t e r ≡ true → IsKnownToPass waits t e r
+ease_passes waits t e r is =
+    ⊎_elim
+    (λ same. own (eqb-true r.task t same))
+    (λ away. apart (apart_effects r.effect e (not-true (statically_interferes r.effect e) away)))
+    (or_cases (r.task == t) (not (statically_interferes r.effect e)) is)
+
+pub all_pass_kept : (v w : TreeView) (t : ℕ) (e : Effect) (content : List Record) (k n : ℕ) → HasOnlyLearned v w
+    → EachBetween (IsKnownToPass v.waits t e) content k n → EachBetween (IsKnownToPass w.waits t e) content k n
+all_pass_kept v w t e content k n h pass = λ j r from before at. pass_kept v w t e r h (pass j r from before at)
+
+-- The record passes for effect e of task t, or its task leads to task u.
+abbrev pub PassesOrLeads : TreeView → ℕ → Effect → ℕ → Record → Type 0
+PassesOrLeads v t e u r = IsKnownToPass v.waits t e r ⊎ IsLedTo v r.task u
+
+over_leads : (v : TreeView) (t : ℕ) (e : Effect) (u : ℕ) (r : Record) → is_passed_over t e u r ≡ true → PassesOrLeads v t e u r
+over_leads v t e u r is =
+    ⊎_elim
+    (λ same. inr (inl (eqb-true r.task u same)))
+    (λ ease. inl (ease_passes v.waits t e r ease)) (or_cases (r.task == u) (is_at_ease t e r) is)
+
+leads_on : (lim : Bounds) (before : TreeSeat) (u w : ℕ) (after : TreeSeat) (t : ℕ) (e : Effect) (r : Record)
+    → FollowedPhase lim before u (word_of_phase (Waits w)) after → PassesOrLeads before.0 t e u r → PassesOrLeads after.0 t e w r
+leads_on lim before u w after t e r found passed =
+    ⊎_elim
+    (λ (pass : IsKnownToPass before.0.waits t e r).
+    let only = follows_only lim before u (Waits w) after found in
+    inl (pass_kept before.0 after.0 t e r only.learned pass))
+    (λ (led : IsLedTo before.0 r.task u). inr (inr (led_further lim before r.task u w after led found))) passed
+
+-- One step of the walk, from task u to task w: more records are passed over, and all tasks that led to u lead on to w.
+pub walked_on : (lim : Bounds) (before : TreeSeat) (u w : ℕ) (after : TreeSeat) (t : ℕ) (e : Effect) (content : List Record) (k m n : ℕ)
+    → FollowedPhase lim before u (word_of_phase (Waits w)) after → EachBetween (λ r. IsTrue (is_passed_over t e u r)) content k m
+    → EachBetween (PassesOrLeads before.0 t e u) content m n → EachBetween (PassesOrLeads after.0 t e w) content k n
+walked_on lim before u w after t e content k m n found over passed = λ j r from before_n at.
+    let led : EachBetween (PassesOrLeads before.0 t e u) content k m = λ i s above below here. over_leads before.0 t e u s (over i s above below here) in
+    leads_on lim before u w after t e r found (both_between (PassesOrLeads before.0 t e u) content k m n led passed j r from before_n at)
+
+arrived_passes : (v : TreeView) (t : ℕ) (e : Effect) (r : Record) → PassesOrLeads v t e t r → IsKnownToPass v.waits t e r
+arrived_passes v t e r passed = ⊎_elim (λ pass. pass) (λ led. ⊎_elim (λ same. own same) (λ known. waiting known) led) passed
+
+-- all pass once the walk has come to t
+pub arrived_pass : (v : TreeView) (t : ℕ) (e : Effect) (u : ℕ) (content : List Record) (k n : ℕ) → u ≡ t
+    → EachBetween (PassesOrLeads v t e u) content k n → EachBetween (IsKnownToPass v.waits t e) content k n
+arrived_pass v t e u content k n is passed = λ j r from before at.
+    arrived_passes v t e r (subst (λ (w : ℕ). PassesOrLeads v t e w r) is (passed j r from before at))

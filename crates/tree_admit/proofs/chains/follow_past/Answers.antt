@@ -1,0 +1,61 @@
+-- Each step of the chain goes to a task with a higher number, to which the first one and those that were passed over are led.
+use Rattle.std.proofs.Common.{◌≤◌, ℕ, subst, ◌∙◌, inr, arith}
+use Rattle.admission_core.specs.States.{IsAmong}
+use Rattle.tree_admit.proofs.Following.{followed_trans, follows_only, led_further}
+use Rattle.tree_admit.proofs.Learning.{led_kept}
+use Rattle.tree_admit.proofs.PassedOver.{arrived_pass, walked_on}
+use Rattle.tree_admit.proofs.chains.follow_past.Goals as goal
+
+pub returns-in_default-clause-end : goal.returns-in_default-clause-end
+returns-in_default-clause-end g c =
+    let only = follows_only g.N.Named.lim c.loop-at.stand.me c.loop-at.at c.status.result c.status.new.stand.me c.status.ensures.found in
+    led_kept c.loop-at.stand.me.0 c.status.new.stand.me.0 c.args.from c.loop-at.at only.learned c.loop-at.invariant.led
+
+pub returns-in_default-clause-only : goal.returns-in_default-clause-only
+returns-in_default-clause-only g c =
+    followed_trans c.args.stand.now.me c.loop-at.stand.me c.status.new.stand.me c.loop-at.invariant.only
+    (follows_only g.N.Named.lim c.loop-at.stand.me c.loop-at.at c.status.result c.status.new.stand.me c.status.ensures.found)
+
+pub returns-then-on-to-clause-known : goal.returns-then-on-to-clause-known
+returns-then-on-to-clause-known g c =
+    let before = c.loop-at.stand.me in
+    let after = c.status.new.stand.me in
+    subst (λ (t : ℕ). IsAmong (record { waiter = c.args.from; awaited = t }) after.0.waits) c.if-on-to.true
+    (led_further g.N.Named.lim before c.args.from c.loop-at.at c.in-Waits.on after c.loop-at.invariant.led c.in-Waits.ensures.found)
+
+pub returns-then-on-to-clause-passed : goal.returns-then-on-to-clause-passed
+returns-then-on-to-clause-passed g c =
+    let to = c.args.to in
+    let e = c.args.effect.now in
+    let content = c.args.content.now in
+    let on = c.in-Waits.on in
+    let after = c.status.new.stand.me in
+    let rest = c.pass_over-rest.result in
+    let left = c.args.left in
+    let fewer : rest ≤ left = omega (arith, c.pass_over-rest.ensures.fewer, c.loop-at.invariant.fewer) in
+    let passed = walked_on g.N.Named.lim c.loop-at.stand.me c.loop-at.at on after to e content rest c.loop-at.rest left
+    c.in-Waits.ensures.found c.pass_over-rest.ensures.passed c.loop-at.invariant.passed in
+    (fewer, arrived_pass after.0 to e on content rest left c.if-on-to.true passed)
+
+pub returns-then-on-to-clause-only : goal.returns-then-on-to-clause-only
+returns-then-on-to-clause-only g c =
+    followed_trans c.args.stand.now.me c.loop-at.stand.me c.status.new.stand.me c.loop-at.invariant.only
+    (follows_only g.N.Named.lim c.loop-at.stand.me c.loop-at.at c.status.result c.status.new.stand.me c.status.ensures.found)
+
+pub loop-at-preserved : goal.loop-at-preserved
+loop-at-preserved g c =
+    let lim = g.N.Named.lim in
+    let before = c.loop-at.stand.me in
+    let at = c.loop-at.at in
+    let on = c.in-Waits.on in
+    let after = c.status.new.stand.me in
+    record {
+      led = inr (led_further lim before c.args.from at on after c.loop-at.invariant.led c.in-Waits.ensures.found);
+      fewer = omega (arith, c.pass_over-rest.ensures.fewer, c.loop-at.invariant.fewer);
+      passed = walked_on lim before at on after c.args.to c.args.effect.now c.args.content.now c.pass_over-rest.result c.loop-at.rest c.args.left
+          c.in-Waits.ensures.found c.pass_over-rest.ensures.passed c.loop-at.invariant.passed;
+      only = followed_trans c.args.stand.now.me before after c.loop-at.invariant.only
+          (follows_only lim before at c.status.result after c.status.ensures.found);
+      here = c.status.ensures.same.0 ∙ c.loop-at.invariant.here;
+      id = c.status.ensures.same.1 ∙ c.loop-at.invariant.id;
+    }

@@ -1,0 +1,21 @@
+-- The stand has only followed waits, and they led from the first task to the one that was reached. The records that were passed
+-- over pass, or their tasks lead to that one too.
+use Rattle.std.proofs.Common.{◌≡◌, ◌≤◌, ◌-◌}
+use Rattle.tree_admit.specs.Bars.{IsLedTo}
+use Rattle.tree_admit.specs.Going.{HasOnlyFollowed}
+use Rattle.tree_admit.specs.Passing.{EachBetween}
+use Rattle.tree_admit.proofs.PassedOver.{PassesOrLeads}
+use Rattle.tree_admit.proofs.chains.follow_past.Given as goal
+
+abbrev pub invariant-loop-at : goal.invariant-loop-at
+invariant-loop-at g l = record {
+  led : IsLedTo l.stand.me.0 l.from l.at;
+  fewer : l.rest ≤ l.left;
+  passed : EachBetween (PassesOrLeads l.stand.me.0 l.to l.effect l.at) l.content l.rest l.left;
+  only : HasOnlyFollowed l.fn.stand.me l.stand.me;
+  here : l.stand.table_id ≡ l.fn.stand.table_id;
+  id : l.stand.id ≡ l.fn.stand.id;
+}
+
+abbrev pub decreases-loop-at : goal.decreases-loop-at
+decreases-loop-at g l = l.tasks - l.at
