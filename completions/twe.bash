@@ -1,5 +1,5 @@
-# Completion of the words of `twe` for bash. Source this file, or copy it to
-# /usr/share/bash-completion/completions/twe.
+# Completion of the words of `twe` and its companions for bash. Source this file, or let bin/install put it where bash looks for it, by the
+# name of each program.
 
 _twe() {
   local current=${COMP_WORDS[COMP_CWORD]} before=${COMP_WORDS[COMP_CWORD - 1]}
@@ -27,4 +27,20 @@ _twe() {
   done
 }
 
+_twe_batch() {
+  local word
+  COMPREPLY=()
+  ((COMP_CWORD == 1)) || return
+  for word in check run; do
+    [[ $word != "${COMP_WORDS[1]}"* ]] || COMPREPLY+=("$word")
+  done
+}
+
+# A number, or no words at all.
+_twe_other() {
+  COMPREPLY=()
+}
+
 complete -F _twe twe
+complete -F _twe_batch twe_batch
+complete -F _twe_other twe_infer twe_opt twe_profile

@@ -1,4 +1,5 @@
-# Completion of the words of `twe` for fish. Copy this file to ~/.config/fish/completions/.
+# Completion of the words of `twe` and its companions for fish. Copy this file to ~/.config/fish/completions/, or let bin/install put it
+# where fish looks for it, by the name of each program.
 
 complete -c twe -f
 complete -c twe -n __fish_use_subcommand -a check -d 'accept a text, or report its one refusal'
@@ -10,3 +11,10 @@ complete -c twe -n '__fish_seen_subcommand_from run load; and not __fish_contain
 complete -c twe -n '__fish_seen_subcommand_from run replay; and not __fish_contains_opt fuel' -l fuel -x -d 'how much fuel each task has, 0 to 100000000'
 complete -c twe -n '__fish_seen_subcommand_from run replay; and not __fish_contains_opt tasks' -l tasks -x -d 'how many tasks may be made, 1 to 100000'
 complete -c twe -n '__fish_seen_subcommand_from run; and not __fish_contains_opt journal' -l journal -d 'write the journal too'
+
+complete -c twe_batch -f
+complete -c twe_batch -n __fish_use_subcommand -a check -d 'check each program of a batch'
+complete -c twe_batch -n __fish_use_subcommand -a run -d 'check and run each program of a batch'
+complete -c twe_infer -f
+complete -c twe_opt -f
+complete -c twe_profile -f
