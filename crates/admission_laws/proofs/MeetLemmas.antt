@@ -8,10 +8,10 @@ use Rattle.effect_sets.specs.Filled.{all_filled}
 use Rattle.effect_sets.specs.Covers.{effect_covers}
 use Rattle.effect_sets.specs.Interference.{SomeInterfere}
 use Rattle.seg_journal.specs.declared.journal.Entry.{Entry}
-use Rattle.twe_limits.specs.Limits.{Bounds}
+use Rattle.twe_base.specs.Limits.{Bounds}
 use Rattle.twe_program.specs.Program.{Program}
 use Rattle.twe_program.specs.WellFormed.{IsWellFormed}
-use Rattle.soundness_laws.specs.KeepsEffects.{KeepsEffects}
+use Rattle.isolation_laws.specs.soundness.KeepsEffects.{KeepsEffects}
 use Rattle.wait_graph.specs.declared.tasks.Link.{Link}
 use Rattle.wait_graph.specs.Link.{link_of}
 use Rattle.wait_graph.specs.Waiting.{SpawnedBy, WaitsFor, WaitsForNobody, YieldsTo}
@@ -22,15 +22,15 @@ use Rattle.twe_machine.specs.declared.state.TaskStatus.TheVariants as machine
 use Rattle.twe_machine.specs.Rows.{IsRow}
 use Rattle.twe_machine.specs.Rows as rows
 use Rattle.twe_machine.specs.Runs.{IsReached, Legal, state_after}
-use Rattle.twe_machine.proofs.Filled.{reached_filled}
+use Rattle.twe_machine.proofs.tasks.Filled.{reached_filled}
 use Rattle.isolation_laws.specs.Admission.{EffectInside}
 use Rattle.isolation_laws.proofs.journals.Journals.{reached_kept, children_apart}
 use Rattle.isolation_laws.proofs.admission.Inside.{children_inside}
 use Rattle.isolation_laws.proofs.admission.LastMakers.{last_makers_free}
 use Rattle.isolation_laws.proofs.admission.Statuses.{reached_made, reached_parents, reached_waiters}
-use Rattle.admission_core.specs.Tasks.{Status, Task, Tasks, IsTask, HasStatus, Interfere}
-use Rattle.admission_core.specs.Tasks as core
-use Rattle.admission_core.specs.Conditions.{MeetsConditions}
+use Rattle.admission_laws.specs.admission_core.Tasks.{Status, Task, Tasks, IsTask, TaskHasStatus, TasksInterfere}
+use Rattle.admission_laws.specs.admission_core.Tasks as core
+use Rattle.admission_laws.specs.admission_core.Conditions.{MeetsConditions}
 use Rattle.admission_laws.specs.TasksOf.{status_of, AreTasksOf}
 
 writes_if : (e d : Bool) → (e ≡ true → d ≡ true) → (not e || d) ≡ true
@@ -63,17 +63,17 @@ module _ (p : Program) (wf : IsWellFormed p) (keeps : KeepsEffects p) (lim : Bou
   reached : IsReached p lim (state_after p lim journal)
   reached = record { journal = journal; legal = legal; same = refl }
 
-  enabled_row : (t : ℕ) → HasStatus ts t core.Enabled → rows.HasStatus st t machine.Enabled
+  enabled_row : (t : ℕ) → TaskHasStatus ts t core.Enabled → rows.HasStatus st t machine.Enabled
   enabled_row t h = let row = of.row t h.0 h.1 in (row.0, row.1, enabled_back row.0.status (sym row.3 ∙ h.2))
 
   -- a status of a row is that of its task
-  has_status : (t : ℕ) (status : TaskStatus) → rows.HasStatus st t status → HasStatus ts t (status_of status)
+  has_status : (t : ℕ) (status : TaskStatus) → rows.HasStatus st t status → TaskHasStatus ts t (status_of status)
   has_status t status h =
       let task = of.task t h.0 h.1 in
       let row = of.row t task.0 task.1 in
       (task.0, task.1, row.3 ∙ ap (λ (x : TaskRow). status_of x.status) (one_row st t row.0 h.0 row.1 h.1) ∙ ap status_of h.2)
 
-  interfere_rows : (s t : ℕ) (i : Interfere ts s t) → (a : TaskRow) × (b : TaskRow) × IsRow st s a × IsRow st t b × SomeInterfere a.effects.effects b.effects.effects
+  interfere_rows : (s t : ℕ) (i : TasksInterfere ts s t) → (a : TaskRow) × (b : TaskRow) × IsRow st s a × IsRow st t b × SomeInterfere a.effects.effects b.effects.effects
   interfere_rows s t i =
       let a = of.row s i.0 i.2 in
       let b = of.row t i.1 i.3 in

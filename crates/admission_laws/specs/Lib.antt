@@ -1,1 +1,2 @@
 pub mod TasksOf
+pub mod admission_core

@@ -7,9 +7,10 @@ use Rattle.twe_machine.specs.declared.state.TaskStatus.{TaskStatus}
 use Rattle.twe_machine.specs.declared.state.TaskStatus.TheVariants as machine
 use Rattle.twe_machine.specs.Rows.{IsRow}
 use Rattle.isolation_laws.specs.Admission.{made_last}
-use Rattle.admission_core.specs.Tasks.{Status, Task, Tasks, IsTask}
-use Rattle.admission_core.specs.Tasks as core
+use Rattle.admission_laws.specs.admission_core.Tasks.{Status, Task, Tasks, IsTask}
+use Rattle.admission_laws.specs.admission_core.Tasks as core
 
+-- the core's status of a task with this status in the machine; they have the same four cases
 abbrev pub status_of : TaskStatus → Status
 status_of machine.Made = core.Made
 status_of machine.Enabled = core.Enabled
@@ -21,5 +22,6 @@ status_of machine.Faulted = core.Faulted
 pub record AreTasksOf (journal : List Entry) (st : State) (tasks : Tasks) : Type 0 where
   pub links : tasks.links ≡ st.links
   pub row : (t : ℕ) (task : Task) → IsTask tasks t task
-      → (row : TaskRow) × IsRow st t row × (task.effects ≡ row.effects.effects) × (task.status ≡ status_of row.status) × (task.made ≡ made_last t journal)
+      → (row : TaskRow) × IsRow st t row × (task.effects ≡ row.effects.effects) × (task.status ≡ status_of row.status)
+      × (task.made ≡ made_last t journal)
   pub task : (t : ℕ) (row : TaskRow) → IsRow st t row → (task : Task) × IsTask tasks t task

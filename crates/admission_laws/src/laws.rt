@@ -1,13 +1,13 @@
 //! The law that connects the states of runs to the core of admission.
 ghost use Rattle.std.specs.Prelude.{List};
 ghost use Rattle.seg_journal.specs.declared.journal.Entry.{Entry};
-ghost use Rattle.twe_limits.specs.Limits.{Bounds};
+ghost use Rattle.twe_base.specs.Limits.{Bounds};
 ghost use Rattle.twe_program.specs.Program.{Program};
 ghost use Rattle.twe_program.specs.WellFormed.{IsWellFormed};
-ghost use Rattle.soundness_laws.specs.KeepsEffects.{KeepsEffects};
+ghost use Rattle.isolation_laws.specs.soundness.KeepsEffects.{KeepsEffects};
 ghost use Rattle.twe_machine.specs.Runs.{Legal, state_after};
-ghost use Rattle.admission_core.specs.Tasks.{Tasks};
-ghost use Rattle.admission_core.specs.Conditions.{MeetsConditions};
+ghost use Rattle.admission_laws.specs.admission_core.Tasks.{Tasks};
+ghost use Rattle.admission_laws.specs.admission_core.Conditions.{MeetsConditions};
 ghost use Rattle.admission_laws.specs.TasksOf.{AreTasksOf};
 
 /// After each legal journal of an accepted program, its tasks meet the conditions that the core of admission asks for,

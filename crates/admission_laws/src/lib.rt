@@ -2,6 +2,7 @@
 //! conditions that the core of admission asks for.
 #![tactic(auto)]
 
+pub mod admission_core;
 mod laws;
 
 pub use laws::runs_meet_the_conditions;

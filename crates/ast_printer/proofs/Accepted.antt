@@ -4,13 +4,13 @@ use Rattle.std.specs.Prelude.{if◌then◌else◌, fold}
 use Rattle.std.specs.List.{list_all, AllByRecursion}
 use Rattle.std.proofs.lemmas.Bool.{false≢true, false_from_ne_true, cond-true, cond-false}
 use Rattle.std.proofs.lemmas.List.{append_assoc, append-nil, length-append, take_at}
-use Rattle.twe_io.specs.declared.place.Place.{Place}
+use Rattle.twe_base.specs.declared.place.Place.{Place}
 use Rattle.twe_ast.specs.declared.item.Ast.{Ast}
 use Rattle.twe_lexer.specs.declared.fixed.Fixed.{Fixed}
 use Rattle.twe_lexer.specs.declared.token.Token.{Token}
 use Rattle.twe_lexer.specs.declared.token.TokenKind.{TokenKind}
 use Rattle.twe_lexer.specs.declared.token.TokenKind.TheVariants as kinds
-use Rattle.twe_lexer.specs.Kinds.{number_of, kind_of, kind_unless}
+use Rattle.twe_lexer.specs.Kinds.{number_of_kind, kind_of, kind_unless}
 use Rattle.twe_lexer.specs.Lexeme.{is_allowed, is_word, is_number, IsLexeme, IsFirstLexeme, IsUnclosedComment}
 use Rattle.twe_lexer.specs.Places.{is_gap, place_after}
 use Rattle.twe_lexer.specs.Spelling.{spelled}
@@ -19,7 +19,7 @@ use Rattle.twe_parser.specs.declared.fail.SRule.{SRule}
 use Rattle.twe_parser.specs.declared.fail.SRule.TheVariants.{S4, S5}
 use Rattle.twe_parser.specs.declared.limits.Sofar.{Sofar}
 use Rattle.twe_parser.specs.Fails.{Fails, byte, stray, unfinished, too_large, too_deep, unclosed}
-use Rattle.twe_parser.specs.Limits.{at_start, sofar_after, sofar_of, is_too_large, is_too_deep}
+use Rattle.twe_parser.specs.Limits.{limits_at_start, sofar_after, sofar_of, is_too_large, is_too_deep}
 use Rattle.twe_parser.specs.Writes.{Writes}
 use Rattle.twe_parser.specs.inner.Reading.{concat}
 use Rattle.twe_parser.proofs.Cuts.{no_lexeme, cut_append, compare_cuts, tokens_from_append, all_at}
@@ -44,10 +44,10 @@ sound_unless bytes None name number is word = by_name name word
 sound_kind : (bytes : List ℕ) → Sound (kind_of bytes)
 sound_kind bytes = by_number (is_number bytes) refl
   where
-    by_number : (number : Bool) → is_number bytes ≡ number → Sound (if is_number bytes then kinds.Literal (min (number_of bytes) 2147483649) else kind_unless (spelled bytes) bytes)
-    by_number true is = subst Sound (sym (cond-true (is_number bytes) (kinds.Literal (min (number_of bytes) 2147483649)) (kind_unless (spelled bytes) bytes) is)) tt
+    by_number : (number : Bool) → is_number bytes ≡ number → Sound (if is_number bytes then kinds.Literal (min (number_of_kind bytes) 2147483649) else kind_unless (spelled bytes) bytes)
+    by_number true is = subst Sound (sym (cond-true (is_number bytes) (kinds.Literal (min (number_of_kind bytes) 2147483649)) (kind_unless (spelled bytes) bytes) is)) tt
     by_number false is =
-        subst Sound (sym (cond-false (is_number bytes) (kinds.Literal (min (number_of bytes) 2147483649)) (kind_unless (spelled bytes) bytes) is)) (sound_unless bytes (spelled bytes) (is_word bytes) is refl refl)
+        subst Sound (sym (cond-false (is_number bytes) (kinds.Literal (min (number_of_kind bytes) 2147483649)) (kind_unless (spelled bytes) bytes) is)) (sound_unless bytes (spelled bytes) (is_word bytes) is refl refl)
 
 fold_append : (one other : List Token) (sofar : Sofar) → fold (λ s (t : Token). sofar_after s t.kind) sofar (one ++ other) ≡ fold (λ s (t : Token). sofar_after s t.kind) (fold (λ s (t : Token). sofar_after s t.kind) sofar one) other
 fold_append [] other sofar = refl
@@ -100,7 +100,7 @@ module _ (text : List ℕ) (accepted : Accepted text) (front : List (List ℕ)) 
       (ap kinds_in (sym (cond-false (is_gap first) (tokens_from (concat front ++ first) others) (here ∷ tokens_from (concat front ++ first) others) gap))) (
         token_passes front_is,
         moved (sofar_of (tokens_from [] (front ++ first ∷ []))) (sofar_after (sofar_of (tokens_from [] front)) (kind_of first)) (kinds_in (tokens_from (concat (front ++ first ∷ [])) others)) (kinds_in (tokens_from (concat front ++ first) others))
-            (ap sofar_of front_is ∙ fold_append (tokens_from [] front) (here ∷ []) at_start) (ap (λ at. kinds_in (tokens_from at others)) bytes) more,
+            (ap sofar_of front_is ∙ fold_append (tokens_from [] front) (here ∷ []) limits_at_start) (ap (λ at. kinds_in (tokens_from at others)) bytes) more,
       )
 
 -- the tokens of an accepted text from some lexeme on
@@ -110,8 +110,8 @@ passes_from text accepted front (first ∷ others) middle cut_front (later, foun
     by_gap text accepted front first others middle later cut_front found (is_gap first) refl
     (passes_from text accepted (front ++ first ∷ []) others later (cut_append front (first ∷ []) text middle later cut_front (later, found, refl)) cut)
 
-pub tokens_pass : (text : List ℕ) (tokens : List Token) → Accepted text → BeginsWith text tokens [] → AllPass at_start (kinds_in tokens)
-tokens_pass text tokens accepted begins = subst (λ (all : List Token). AllPass at_start (kinds_in all)) (sym begins.same) (passes_from text accepted [] begins.lexemes text refl begins.cut)
+pub tokens_pass : (text : List ℕ) (tokens : List Token) → Accepted text → BeginsWith text tokens [] → AllPass limits_at_start (kinds_in tokens)
+tokens_pass text tokens accepted begins = subst (λ (all : List Token). AllPass limits_at_start (kinds_in all)) (sym begins.same) (passes_from text accepted [] begins.lexemes text refl begins.cut)
 
 -- a token among those that keep the limits
 passes_at : (before : List Token) (token : Token) (others : List Token) (sofar : Sofar) → AllPass sofar (kinds_in (before ++ token ∷ others)) → Passes (fold (λ s (t : Token). sofar_after s t.kind) sofar before) token.kind
@@ -139,12 +139,12 @@ goes_on text rest before all front whole =
       whole.same ∙ ap (tokens_from []) found.1 ∙ tokens_from_append [] front.lexemes found.0 ∙ ap (λ tokens. tokens ++ tokens_from (concat front.lexemes) found.0) (sym front.same),
     )
 
-module _ (text : List ℕ) (tree : Ast) (tokens : List Token) (whole : BeginsWith text tokens []) (writes : Writes tree tokens) (pass : AllPass at_start (kinds_in tokens))
+module _ (text : List ℕ) (tree : Ast) (tokens : List Token) (whole : BeginsWith text tokens []) (writes : Writes tree tokens) (pass : AllPass limits_at_start (kinds_in tokens))
     (allowed : list_all is_allowed text ≡ true) (closed : AllByRecursion (λ lexeme. ¬ IsUnclosedComment lexeme) whole.lexemes) where
   limits : (before : List Token) (token : Token) (rest : List ℕ) → BeginsWith text (before ++ token ∷ []) rest → Passes (sofar_of before) token.kind
   limits before token rest begins =
       let found = goes_on text rest (before ++ token ∷ []) tokens begins whole in
-      passes_at before token found.0 at_start (subst (λ (all : List Token). AllPass at_start (kinds_in all)) (found.1 ∙ append_assoc before (token ∷ []) found.0) pass)
+      passes_at before token found.0 limits_at_start (subst (λ (all : List Token). AllPass limits_at_start (kinds_in all)) (found.1 ∙ append_assoc before (token ∷ []) found.0) pass)
 
   no_comment : (rest : List ℕ) (front more : List (List ℕ)) → whole.lexemes ≡ front ++ more → AreFirstLexemes more rest [] → ¬ IsUnclosedComment rest
   no_comment rest front [] is cut comment = let start = comment.1 in let none : rest ≡ [] = cut in cc

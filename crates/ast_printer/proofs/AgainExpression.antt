@@ -2,7 +2,7 @@
 use Rattle.std.proofs.Common.{◌≡◌, ℕ, ◌+◌, ◌≤◌, Bool, true, false, List, [], ◌∷◌, ◌++◌, nat_le, refl, sym, ap, subst, append_assoc, append-nil, arith}
 use Rattle.std.specs.Prelude.{if◌then◌else◌, ℤ, pos, negsuc}
 use Rattle.std.proofs.lemmas.Bool.{false≢true, ltb-false, leb-true, lt-ltb, ne_eqb}
-use Rattle.twe_io.specs.declared.place.Place.{Place}
+use Rattle.twe_base.specs.declared.place.Place.{Place}
 use Rattle.twe_ast.specs.declared.expr.BinOp.{BinOp}
 use Rattle.twe_ast.specs.Expression.{Expression, expression, Shape, Literal, Negative, Binary, Arguments}
 use Rattle.twe_lexer.specs.declared.fixed.Fixed.TheVariants as fixed
@@ -11,7 +11,7 @@ use Rattle.twe_lexer.specs.declared.token.TokenKind.{TokenKind}
 use Rattle.twe_lexer.specs.declared.token.TokenKind.TheVariants as kinds
 use Rattle.twe_ast.specs.Precedence.{level_of}
 use Rattle.twe_parser.specs.OperatorTokens.{operator}
-use Rattle.twe_parser.specs.Values.{value_of}
+use Rattle.twe_parser.specs.Values.{literal_value_of}
 use Rattle.twe_parser.specs.Written.{word, number}
 use Rattle.twe_parser.specs.WritesExpression.{is_smallest, WritesExpression, written, WritesShape, binary, negative, smallest, negation, literal, yes, no, variable, call, array, grid, parentheses, WritesArguments, no_arguments, arguments, MoreArguments, no_more_arguments, more_arguments}
 use Rattle.twe_parser.proofs.FirstTokens.{shape_begins}
@@ -62,7 +62,7 @@ small_start (parentheses (written inside)) more = small_start inside more
 literal_again : (level value : ℕ) (test : Bool) → nat_le value 2147483647 ≡ test → (s : List Place) (more : List TokenKind)
     → WritesShape level (Literal (if test then pos value else negsuc 2147483647)) (tokens_at s (literal_tokens (if test then pos value else negsuc 2147483647) ++ more)) (tokens_at (after (literal_tokens (if test then pos value else negsuc 2147483647)) s) more)
 literal_again level value true is s more =
-    let the_value : value_of value ≡ pos value = ap (λ b. if b then pos value else negsuc 2147483647) is in
+    let the_value : literal_value_of value ≡ pos value = ap (λ b. if b then pos value else negsuc 2147483647) is in
     subst (λ (v : ℤ). WritesShape level (Literal v) (number value (here s) ∷ tokens_at (next s) more) (tokens_at (next s) more)) the_value literal
 literal_again level value false is s more = smallest
 

@@ -1,7 +1,7 @@
 -- The words of declarations are tokens that write them again.
 use Rattle.std.proofs.Common.{◌≡◌, ℕ, suc, zero, Bool, true, false, List, [], ◌∷◌, ◌++◌, Option, Some, nat_le, refl, sym, ap, subst, append_assoc, arith}
 use Rattle.std.specs.Prelude.{if◌then◌else◌, ℤ, pos, negsuc, unsigned_abs}
-use Rattle.twe_io.specs.declared.place.Place.{Place}
+use Rattle.twe_base.specs.declared.place.Place.{Place}
 use Rattle.twe_ast.specs.declared.item.Clause.{Clause}
 use Rattle.twe_ast.specs.declared.item.Decl.{Decl}
 use Rattle.twe_ast.specs.declared.item.Initial.{Initial}
@@ -16,7 +16,7 @@ use Rattle.twe_lexer.specs.declared.fixed.Fixed.TheVariants as fixed
 use Rattle.twe_lexer.specs.declared.token.Token.{Token}
 use Rattle.twe_lexer.specs.declared.token.TokenKind.{TokenKind}
 use Rattle.twe_lexer.specs.declared.token.TokenKind.TheVariants as kinds
-use Rattle.twe_parser.specs.Values.{value_of, negative_of}
+use Rattle.twe_parser.specs.Values.{literal_value_of, negative_of}
 use Rattle.twe_parser.specs.Written.{word, named, number}
 use Rattle.twe_parser.specs.WritesPath.{WritesCellElem, cell_name, cell_index, MoreCellElems, no_more_cell_elems, more_cell_elems, WritesCellPath, cell_root, cell_region, WritesElem, name, index, parameter, any_index, star, MoreElems, no_more_elems, more_elems, WritesPath, root, region}
 use Rattle.twe_parser.specs.Writes.{MoreNames, no_more_names, more_names, WritesInitial, not_written, initial, negative_initial, MoreParams, no_more_params, more_params, WritesParams, no_params, params, MorePaths, no_more_paths, more_paths, WritesClause, clause, MoreClauses, no_more_clauses, more_clauses, WritesEffects, pure, clauses, WritesDecl, decl, WritesItem, regions, cell, array, grid, method, task, deterministic_task, WritesItems, no_more_items, more_items}
@@ -110,7 +110,7 @@ names_again no_more_names s more = no_more_names
 names_again (more_names {first = f} others) s more = more_names {first = placed_name f (next s)} (names_again others (second s) more)
 
 -- a value that is read again
-value_again : (value : ℕ) (test : Bool) → nat_le value 2147483647 ≡ test → value_of (unsigned_abs (if test then pos value else negsuc 2147483647)) ≡ (if test then pos value else negsuc 2147483647)
+value_again : (value : ℕ) (test : Bool) → nat_le value 2147483647 ≡ test → literal_value_of (unsigned_abs (if test then pos value else negsuc 2147483647)) ≡ (if test then pos value else negsuc 2147483647)
 value_again value true is = ap (λ b. if b then pos value else negsuc 2147483647) is
 value_again value false is = refl
 
@@ -122,7 +122,7 @@ initial_again : {start : Option Initial} {tokens rest : List Token} → WritesIn
     → WritesInitial start (tokens_at s (initial_tokens start ++ more)) (tokens_at (after (initial_tokens start) s) more)
 initial_again not_written s more = not_written
 initial_again (initial {value = v}) s more =
-    subst (λ (n : ℤ). WritesInitial (Some (record { minus = false; value = n })) (word fixed.Assign (here s) ∷ number (unsigned_abs (value_of v)) (here (next s)) ∷ tokens_at (second s) more) (tokens_at (second s) more))
+    subst (λ (n : ℤ). WritesInitial (Some (record { minus = false; value = n })) (word fixed.Assign (here s) ∷ number (unsigned_abs (literal_value_of v)) (here (next s)) ∷ tokens_at (second s) more) (tokens_at (second s) more))
     (value_again v (nat_le v 2147483647) refl) initial
 initial_again (negative_initial {value = v}) s more =
     subst (λ (n : ℤ). WritesInitial (Some (record { minus = true; value = n }))

@@ -1,6 +1,6 @@
 -- The words of statements are tokens that write them again.
 use Rattle.std.proofs.Common.{Bool, true, false, List, ◌∷◌, ◌++◌, append_assoc}
-use Rattle.twe_io.specs.declared.place.Place.{Place}
+use Rattle.twe_base.specs.declared.place.Place.{Place}
 use Rattle.twe_ast.specs.declared.stmt.WaitCall.{WaitCall}
 use Rattle.twe_ast.specs.Statement.{Statement, Statements, Arms}
 use Rattle.twe_lexer.specs.declared.fixed.Fixed.TheVariants as fixed

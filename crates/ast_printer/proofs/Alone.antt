@@ -10,7 +10,7 @@ use Rattle.twe_lexer.specs.declared.fixed.Fixed.{Fixed}
 use Rattle.twe_lexer.specs.declared.fixed.Fixed.TheVariants as fixed
 use Rattle.twe_lexer.specs.declared.token.TokenKind.{TokenKind}
 use Rattle.twe_lexer.specs.declared.token.TokenKind.TheVariants as kinds
-use Rattle.twe_lexer.specs.Kinds.{number_of, kind_unless, kind_of}
+use Rattle.twe_lexer.specs.Kinds.{number_of_kind, kind_unless, kind_of}
 use Rattle.twe_lexer.specs.Lexeme.{is_blank, is_allowed, is_letter, is_word_byte, is_word, is_number, is_long_symbol, IsFirstLexeme, IsUnclosedComment}
 use Rattle.twe_lexer.specs.Places.{is_gap}
 use Rattle.twe_lexer.specs.Spelling.{spelling, spelled}
@@ -188,7 +188,7 @@ not_stray false bytes text same = cc
 
 name_alone : (text : List ℕ) → kind_of text ≡ kinds.Name text → ReadAlone (kinds.Name text)
 name_alone text sound =
-    let unless : kind_unless (spelled text) text ≡ kinds.Name text = no_literal (is_number text) (min (number_of text) 2147483649) (kind_unless (spelled text) text) text sound in
+    let unless : kind_unless (spelled text) text ≡ kinds.Name text = no_literal (is_number text) (min (number_of_kind text) 2147483649) (kind_unless (spelled text) text) text sound in
     let is : is_word text ≡ true = not_stray (is_word text) text text (not_fixed (spelled text) text text unless) in
     record { stands = λ rest. word_stands text 32 rest is refl; again = sound; allowed = word_allowed text is }
 
@@ -210,7 +210,7 @@ digit_is n small = and_from _ _ (le-leb 48 (48 + n) (omega arith)) (le-leb (48 +
 
 record IsDecimal (n : ℕ) (bytes : List ℕ) : Type 0 where
   number : is_number bytes ≡ true
-  value : number_of bytes ≡ n
+  value : number_of_kind bytes ≡ n
 
 one_digit : (n : ℕ) → n < 10 → IsDecimal n ((48 + n) ∷ [])
 one_digit n small = record { number = and_from (is_ascii_digit (48 + n)) true (digit_is n small) refl; value = omega arith }
@@ -218,8 +218,8 @@ one_digit n small = record { number = and_from (is_ascii_digit (48 + n)) true (d
 more_digits : (n : ℕ) (digits : List ℕ) → 10 ≤ n → IsDecimal (n / 10) digits → IsDecimal n (digits ++ (48 + n % 10) ∷ [])
 more_digits n digits large front =
     let small : n % 10 < 10 = omega arith in
-    let split : number_of (digits ++ (48 + n % 10) ∷ []) ≡ number_of digits * 10 + ((48 + n % 10) - 48) = fold_append digits ((48 + n % 10) ∷ []) 0 in
-    let front_is : number_of digits ≡ n / 10 = front.value in
+    let split : number_of_kind (digits ++ (48 + n % 10) ∷ []) ≡ number_of_kind digits * 10 + ((48 + n % 10) - 48) = fold_append digits ((48 + n % 10) ∷ []) 0 in
+    let front_is : number_of_kind digits ≡ n / 10 = front.value in
     record { number = number_snoc digits (48 + n % 10) front.number (digit_is (n % 10) small); value = split ∙ ap (λ v. v * 10 + ((48 + n % 10) - 48)) front_is ∙ omega arith }
 
 decimal_is : (n : ℕ) → n < 2 ^ 64 → IsDecimal n (decimal n)

@@ -2,7 +2,7 @@
 use Rattle.std.proofs.Common.{◌≡◌, ℕ, ◌≤◌, suc, zero, min, ◌&&◌, not, ◌==◌, nat_lt, nat_le, Bool, true, false, List, [], ◌∷◌, ◌++◌, Option, refl, sym, ap, ◌∙◌, subst, append_assoc, arith}
 use Rattle.std.specs.Prelude.{if◌then◌else◌, pos, negsuc, unsigned_abs}
 use Rattle.std.proofs.lemmas.Bool.{false≢true, ltb-false, le-leb, eqb-true}
-use Rattle.twe_io.specs.declared.place.Place.{Place}
+use Rattle.twe_base.specs.declared.place.Place.{Place}
 use Rattle.twe_ast.specs.declared.item.Clause.{Clause}
 use Rattle.twe_ast.specs.declared.item.Decl.{Decl}
 use Rattle.twe_ast.specs.declared.item.Initial.{Initial}
@@ -20,7 +20,7 @@ use Rattle.twe_lexer.specs.declared.token.TokenKind.{TokenKind}
 use Rattle.twe_lexer.specs.declared.token.TokenKind.TheVariants as kinds
 use Rattle.twe_parser.specs.declared.limits.Sofar.{Sofar}
 use Rattle.twe_parser.specs.Limits.{is_too_large}
-use Rattle.twe_parser.specs.Values.{value_of, negative_of}
+use Rattle.twe_parser.specs.Values.{literal_value_of, negative_of}
 use Rattle.twe_parser.specs.Written.{word, number}
 use Rattle.twe_parser.specs.WritesPath.{WritesCellElem, cell_name, cell_index, MoreCellElems, no_more_cell_elems, more_cell_elems, WritesCellPath, cell_root, cell_region, WritesElem, name, index, parameter, any_index, star, MoreElems, no_more_elems, more_elems, WritesPath, root, region}
 use Rattle.twe_parser.specs.Writes.{MoreNames, no_more_names, more_names, WritesInitial, not_written, initial, negative_initial, MoreParams, no_more_params, more_params, WritesParams, no_params, params, MorePaths, no_more_paths, more_paths, clause_word, WritesClause, clause, MoreClauses, no_more_clauses, more_clauses, WritesEffects, pure, clauses, return_word, WritesDecl, decl, WritesItem, regions, cell, array, grid, method, task, deterministic_task, WritesItems, no_more_items, more_items}
@@ -98,7 +98,7 @@ same_number {o = o} {p = p} {minus = minus} {value = value} {place = place} {res
       ((step {minus = minus} {token = number value place} follows).pass text print beside passes);
 }
 
-small_value : (value : ℕ) (text : Sofar) → text.unary_minus ≡ false → is_too_large text (kinds.Literal value) ≡ false → unsigned_abs (value_of value) ≡ value
+small_value : (value : ℕ) (text : Sofar) → text.unary_minus ≡ false → is_too_large text (kinds.Literal value) ≡ false → unsigned_abs (literal_value_of value) ≡ value
 small_value value text minus small =
     let low : nat_le value 2147483647 ≡ true = le-leb value 2147483647 (ltb-false 2147483647 value (no_minus (nat_lt 2147483647 value) (value == 2147483648) text.unary_minus minus small)) in
     ap (λ b. unsigned_abs (if b then pos value else negsuc 2147483647)) low
@@ -122,7 +122,7 @@ small_negative (suc n) text minus small =
 
 initial_passes : {start : Option Initial} {tokens rest : List Token} → WritesInitial start tokens rest → {o p : ℕ} → (more : List TokenKind) → FromAny o p rest more → FromAny o p tokens (initial_tokens start ++ more)
 initial_passes not_written more follows ended minus = follows ended minus
-initial_passes (initial {value = v}) more follows ended minus = step (same_number (unsigned_abs (value_of v)) (λ text none small. small_value v text none small) (follows true false))
+initial_passes (initial {value = v}) more follows ended minus = step (same_number (unsigned_abs (literal_value_of v)) (λ text none small. small_value v text none small) (follows true false))
 initial_passes (negative_initial {value = v}) more follows ended minus = step (step (same_number (unsigned_abs (negative_of v)) (λ text some small. small_negative v text some small) (follows true false)))
 
 more_params_pass : {names : List Name} {tokens rest : List Token} → MoreParams names tokens rest → {o p : ℕ} → (more : List TokenKind) → FromAny o p rest more → FromAny o p tokens (params_tokens true names ++ more)

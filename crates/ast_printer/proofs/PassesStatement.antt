@@ -5,7 +5,7 @@ use Rattle.twe_ast.specs.declared.stmt.LocalType.{LocalType}
 use Rattle.twe_ast.specs.declared.stmt.WaitCall.{WaitCall}
 use Rattle.twe_ast.specs.Expression.{Expression}
 use Rattle.twe_ast.specs.Statement.{Statement, Statements, Arms}
-use Rattle.twe_io.specs.declared.place.Place.{Place}
+use Rattle.twe_base.specs.declared.place.Place.{Place}
 use Rattle.twe_lexer.specs.declared.fixed.Fixed.TheVariants as fixed
 use Rattle.twe_lexer.specs.declared.token.Token.{Token}
 use Rattle.twe_lexer.specs.declared.token.TokenKind.{TokenKind}

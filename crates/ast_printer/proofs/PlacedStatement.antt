@@ -1,6 +1,6 @@
 -- Statements with the places of the tokens that they are printed as.
 use Rattle.std.proofs.Common.{◌≡◌, Bool, true, false, List, refl, ap, Option, None, Some}
-use Rattle.twe_io.specs.declared.place.Place.{Place}
+use Rattle.twe_base.specs.declared.place.Place.{Place}
 use Rattle.twe_ast.specs.declared.stmt.WaitCall.{WaitCall}
 use Rattle.twe_ast.specs.Expression.{Expression}
 use Rattle.twe_ast.specs.Statement.{Statement, Block, Let, Set, SetArray, SetGrid, If, While, Return, Print, Call, Make, Wait, LetWait, Statements, end_of_block, statement, Arms, arm, otherwise, no_else}

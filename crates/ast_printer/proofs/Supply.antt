@@ -1,6 +1,6 @@
 -- Words with places that are given one after the other.
 use Rattle.std.proofs.Common.{◌≡◌, List, [], ◌∷◌, ◌++◌, refl, ap}
-use Rattle.twe_io.specs.declared.place.Place.{Place}
+use Rattle.twe_base.specs.declared.place.Place.{Place}
 use Rattle.twe_ast.specs.declared.name.Name.{Name}
 use Rattle.twe_lexer.specs.declared.token.Token.{Token}
 use Rattle.twe_lexer.specs.declared.token.TokenKind.{TokenKind}

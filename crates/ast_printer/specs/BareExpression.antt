@@ -1,14 +1,17 @@
 -- Expressions without their places.
-use Rattle.twe_io.specs.declared.place.Place.{Place}
+use Rattle.twe_base.specs.declared.place.Place.{Place}
 use Rattle.twe_ast.specs.declared.name.Name.{Name}
 use Rattle.twe_ast.specs.Expression.{Expression, expression, Shape, Literal, Truth, Variable, ArrayElement, GridElement, CallValue, Negative, Negation, Binary, Arguments, no_more, argument}
 
+-- the place that stands for every place in a tree without places
 abbrev pub nowhere : Place
 nowhere = record { line = 0; col = 0 }
 
+-- a name without its place
 abbrev pub bare_name : Name → Name
 bare_name name = record { text = name.text; place = nowhere }
 
+-- an expression, its shape and arguments, with `nowhere` for each place in them
 abbrev mutual
   pub bare_expression : Expression → Expression
   bare_expression (expression place shape) = expression nowhere (bare_shape shape)

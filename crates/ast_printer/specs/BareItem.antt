@@ -15,6 +15,7 @@ use Rattle.twe_ast.specs.declared.path.PathElemKind.TheVariants as elem_kinds
 use Rattle.ast_printer.specs.BareExpression.{nowhere, bare_name}
 use Rattle.ast_printer.specs.BareStatement.{bare_block}
 
+-- what an element of the path of an effect is, without the place of a parameter
 abbrev pub bare_elem_kind : PathElemKind → PathElemKind
 bare_elem_kind (elem_kinds.Name text) = elem_kinds.Name text
 bare_elem_kind (elem_kinds.Index index) = elem_kinds.Index index
@@ -22,24 +23,31 @@ bare_elem_kind (elem_kinds.Variable name) = elem_kinds.Variable (bare_name name)
 bare_elem_kind elem_kinds.AnyIndex = elem_kinds.AnyIndex
 bare_elem_kind elem_kinds.Star = elem_kinds.Star
 
+-- an element of the path of an effect without its places
 abbrev pub bare_elem : PathElem → PathElem
 bare_elem elem = record { kind = bare_elem_kind elem.kind; place = nowhere }
 
+-- the path of an effect without its places
 abbrev pub bare_path : Path → Path
 bare_path path = record { elems = map bare_elem path.elems; place = nowhere }
 
+-- an element of the path of a cell without its place
 abbrev pub bare_cell_elem : CellElem → CellElem
 bare_cell_elem elem = record { kind = elem.kind; place = nowhere }
 
+-- the path of a cell without its places
 abbrev pub bare_cell_path : CellPath → CellPath
 bare_cell_path path = record { elems = map bare_cell_elem path.elems; place = nowhere }
 
+-- a declaration of cells without its places
 abbrev pub bare_cell : CellDecl → CellDecl
 bare_cell cell = record { name = bare_name cell.name; shape = cell.shape; path = bare_cell_path cell.path }
 
+-- a clause of effects without its places
 abbrev pub bare_clause : Clause → Clause
 bare_clause clause = record { write = clause.write; paths = map bare_path clause.paths }
 
+-- a method or a task without its places
 abbrev pub bare_decl : Decl → Decl
 bare_decl decl = record {
   returns = decl.returns;
@@ -49,6 +57,7 @@ bare_decl decl = record {
   body = bare_block decl.body;
 }
 
+-- a declaration of a program without its places
 abbrev pub bare_item : Item → Item
 bare_item (items.Regions names) = items.Regions (map bare_name names)
 bare_item (items.Cell cell) = items.Cell (bare_cell cell)

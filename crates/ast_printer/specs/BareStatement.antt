@@ -5,20 +5,24 @@ use Rattle.twe_ast.specs.Expression.{Expression}
 use Rattle.twe_ast.specs.Statement.{Statement, Block, Let, Set, SetArray, SetGrid, If, While, Return, Print, Call, Make, Wait, LetWait, Statements, end_of_block, statement, Arms, arm, otherwise, no_else}
 use Rattle.ast_printer.specs.BareExpression.{nowhere, bare_name, bare_expression, bare_arguments}
 
+-- the value of a `return`, if it has one, without its places
 abbrev pub bare_value : Option Expression → Option Expression
 bare_value None = None
 bare_value (Some value) = Some (bare_expression value)
 
+-- a wait without the place of its future
 abbrev pub bare_wait : WaitCall → WaitCall
 bare_wait wait = record { future = bare_name wait.future; join = wait.join }
 
+-- a statement, a block and the arms of an `if`, with `nowhere` for each place in them
 abbrev mutual
   pub bare_statement : Statement → Statement
   bare_statement (Block body) = Block (bare_block body)
   bare_statement (Let is_final local_type name value) = Let is_final local_type (bare_name name) (bare_expression value)
   bare_statement (Set name value) = Set (bare_name name) (bare_expression value)
   bare_statement (SetArray array index value) = SetArray (bare_name array) (bare_expression index) (bare_expression value)
-  bare_statement (SetGrid array row column value) = SetGrid (bare_name array) (bare_expression row) (bare_expression column) (bare_expression value)
+  bare_statement (SetGrid array row column value) =
+      SetGrid (bare_name array) (bare_expression row) (bare_expression column) (bare_expression value)
   bare_statement (If arms) = If (bare_arms arms)
   bare_statement (While place condition body) = While nowhere (bare_expression condition) (bare_block body)
   bare_statement (Return place value) = Return nowhere (bare_value value)

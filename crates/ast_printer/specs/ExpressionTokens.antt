@@ -17,6 +17,7 @@ abbrev pub literal_tokens : ℤ → List TokenKind
 literal_tokens (pos n) = kinds.Literal n ∷ []
 literal_tokens (negsuc n) = kinds.Fixed fixed.Minus ∷ kinds.Literal (suc n) ∷ []
 
+-- the word of a truth value
 abbrev pub truth_token : Bool → Fixed
 truth_token true = fixed.True
 truth_token false = fixed.False
@@ -26,6 +27,7 @@ truth_token false = fixed.False
 abbrev pub needs_parentheses : ℕ → BinOp → Bool
 needs_parentheses level op = nat_lt (level_of op) level
 
+-- the printed tokens of an expression at a level, and those of its shape
 abbrev mutual
   pub expression_tokens : ℕ → Expression → List TokenKind
   expression_tokens level (expression place shape) = shape_tokens level shape
@@ -40,7 +42,8 @@ abbrev mutual
       kinds.Name array.text ∷ kinds.Fixed fixed.OpenBracket ∷ (expression_tokens 0 index ++ kinds.Fixed fixed.CloseBracket ∷ [])
   shape_tokens level (GridElement array row column) =
       kinds.Name array.text ∷ kinds.Fixed fixed.OpenBracket ∷ (expression_tokens 0 row
-      ++ kinds.Fixed fixed.CloseBracket ∷ kinds.Fixed fixed.OpenBracket ∷ (expression_tokens 0 column ++ kinds.Fixed fixed.CloseBracket ∷ []))
+      ++ kinds.Fixed fixed.CloseBracket ∷ kinds.Fixed fixed.OpenBracket ∷ (expression_tokens 0 column
+      ++ kinds.Fixed fixed.CloseBracket ∷ []))
   shape_tokens level (CallValue method args) = kinds.Name method.text ∷ kinds.Fixed fixed.OpenParen ∷ arguments_tokens false args
   shape_tokens level (Negative operand) = kinds.Fixed fixed.Minus ∷ expression_tokens 6 operand
   shape_tokens level (Negation operand) = kinds.Fixed fixed.Not ∷ expression_tokens 6 operand
@@ -53,4 +56,5 @@ abbrev mutual
   -- arguments and the `)` after them; `later` is whether others come before them
   pub arguments_tokens : Bool → Arguments → List TokenKind
   arguments_tokens later no_more = kinds.Fixed fixed.CloseParen ∷ []
-  arguments_tokens later (argument first others) = when later fixed.Comma ++ (expression_tokens 0 first ++ arguments_tokens true others)
+  arguments_tokens later (argument first others) =
+      when later fixed.Comma ++ (expression_tokens 0 first ++ arguments_tokens true others)

@@ -33,13 +33,16 @@ size_tokens (shapes.Grid rows columns) = bracketed (kinds.Literal rows) ++ brack
 -- a written initial value, with its sign
 abbrev pub initial_tokens : Option Initial → List TokenKind
 initial_tokens None = []
-initial_tokens (Some start) = kinds.Fixed fixed.Assign ∷ (when start.minus fixed.Minus ++ kinds.Literal (unsigned_abs start.value) ∷ [])
+initial_tokens (Some start) =
+    kinds.Fixed fixed.Assign ∷ (when start.minus fixed.Minus ++ kinds.Literal (unsigned_abs start.value) ∷ [])
 
+-- the initial value of cells, which only a single cell can have
 abbrev pub start_tokens : CellShape → List TokenKind
 start_tokens (shapes.Scalar start) = initial_tokens start
 start_tokens (shapes.Array length) = []
 start_tokens (shapes.Grid rows columns) = []
 
+-- a declaration of cells: its type, its name and sizes, its path, and its initial value
 abbrev pub cell_tokens : CellDecl → List TokenKind
 cell_tokens cell =
     kinds.Fixed fixed.Int ∷ kinds.Name cell.name.text ∷ (size_tokens cell.shape
@@ -49,16 +52,19 @@ cell_tokens cell =
 -- parameters; `later` is whether others come before them
 abbrev pub params_tokens : Bool → List Name → List TokenKind
 params_tokens later [] = []
-params_tokens later (first ∷ others) = when later fixed.Comma ++ kinds.Fixed fixed.Int ∷ kinds.Name first.text ∷ params_tokens true others
+params_tokens later (first ∷ others) =
+    when later fixed.Comma ++ kinds.Fixed fixed.Int ∷ kinds.Name first.text ∷ params_tokens true others
 
 -- paths; `later` is whether others come before them
 abbrev pub paths_tokens : Bool → List Path → List TokenKind
 paths_tokens later [] = []
 paths_tokens later (first ∷ others) = when later fixed.Comma ++ (path_tokens first ++ paths_tokens true others)
 
+-- one clause of effects: its word, and its paths
 abbrev pub clause_tokens : Clause → List TokenKind
 clause_tokens clause = kinds.Fixed (clause_word clause.write) ∷ paths_tokens false clause.paths
 
+-- clauses of effects, one after another
 abbrev pub clauses_tokens : List Clause → List TokenKind
 clauses_tokens [] = []
 clauses_tokens (first ∷ others) = clause_tokens first ++ clauses_tokens others
@@ -68,22 +74,26 @@ abbrev pub effects_tokens : List Clause → List TokenKind
 effects_tokens [] = kinds.Fixed fixed.Pure ∷ []
 effects_tokens (first ∷ others) = clauses_tokens (first ∷ others)
 
+-- a method, or a task after the word `task`: what it returns, its name, parameters and effects, and its body
 abbrev pub decl_tokens : Decl → List TokenKind
 decl_tokens decl =
-    kinds.Fixed (return_word decl.returns) ∷ kinds.Name decl.name.text ∷ kinds.Fixed fixed.OpenParen ∷ (params_tokens false decl.params
+    kinds.Fixed (return_word decl.returns) ∷ kinds.Name decl.name.text ∷ kinds.Fixed fixed.OpenParen
+    ∷ (params_tokens false decl.params
     ++ kinds.Fixed fixed.CloseParen ∷ (effects_tokens decl.effects
     ++ kinds.Fixed fixed.OpenBrace ∷ block_tokens decl.body))
 
+-- a declaration of a program
 abbrev pub item_tokens : Item → List TokenKind
 item_tokens (items.Regions names) = kinds.Fixed fixed.Region ∷ (names_tokens false names ++ kinds.Fixed fixed.Semicolon ∷ [])
 item_tokens (items.Cell cell) = cell_tokens cell
 item_tokens (items.Method decl) = decl_tokens decl
 item_tokens (items.Task deterministic decl) = when deterministic fixed.Deterministic ++ kinds.Fixed fixed.Task ∷ decl_tokens decl
 
+-- declarations of a program, one after another
 abbrev pub items_tokens : List Item → List TokenKind
 items_tokens [] = []
 items_tokens (first ∷ others) = item_tokens first ++ items_tokens others
 
 -- the printed text of a tree
-abbrev pub printed : Ast → List ℕ
-printed tree = text_of (items_tokens tree.items)
+abbrev pub printed_tokens : Ast → List ℕ
+printed_tokens tree = text_of (items_tokens tree.items)

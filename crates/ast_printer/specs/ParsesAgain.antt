@@ -1,6 +1,6 @@
 -- The property of a printed text: it is a program again, with the same tree.
 use Rattle.std.specs.Prelude.{◌≡◌, ℕ, List, []}
-use Rattle.twe_io.specs.declared.place.Place.{Place}
+use Rattle.twe_base.specs.declared.place.Place.{Place}
 use Rattle.twe_ast.specs.declared.item.Ast.{Ast}
 use Rattle.twe_lexer.specs.declared.token.Token.{Token}
 use Rattle.twe_lexer.specs.Places.{place_after}

@@ -14,20 +14,24 @@ use Rattle.ast_printer.specs.ExpressionTokens.{expression_tokens, arguments_toke
 abbrev pub value_tokens : Expression → List TokenKind
 value_tokens value = expression_tokens 0 value ++ kinds.Fixed fixed.Semicolon ∷ []
 
+-- the value of a `return`, if it has one, and the `;` after it
 abbrev pub returned_tokens : Option Expression → List TokenKind
 returned_tokens None = kinds.Fixed fixed.Semicolon ∷ []
 returned_tokens (Some value) = value_tokens value
 
+-- a wait and the `;` after it
 abbrev pub wait_tokens : WaitCall → List TokenKind
 wait_tokens wait =
-    kinds.Name wait.future.text ∷ kinds.Fixed fixed.Dot ∷ kinds.Fixed (wait_word wait.join) ∷ kinds.Fixed fixed.OpenParen ∷ kinds.Fixed fixed.CloseParen
-    ∷ kinds.Fixed fixed.Semicolon ∷ []
+    kinds.Name wait.future.text ∷ kinds.Fixed fixed.Dot ∷ kinds.Fixed (wait_word wait.join)
+    ∷ kinds.Fixed fixed.OpenParen ∷ kinds.Fixed fixed.CloseParen ∷ kinds.Fixed fixed.Semicolon ∷ []
 
+-- the printed tokens of a statement, of a block after its `{`, and of the arms of an `if`
 abbrev mutual
   pub statement_tokens : Statement → List TokenKind
   statement_tokens (Block body) = kinds.Fixed fixed.OpenBrace ∷ block_tokens body
   statement_tokens (Let is_final local_type name value) =
-      when is_final fixed.Final ++ kinds.Fixed (type_word local_type) ∷ kinds.Name name.text ∷ kinds.Fixed fixed.Assign ∷ value_tokens value
+      when is_final fixed.Final
+      ++ kinds.Fixed (type_word local_type) ∷ kinds.Name name.text ∷ kinds.Fixed fixed.Assign ∷ value_tokens value
   statement_tokens (Set name value) = kinds.Name name.text ∷ kinds.Fixed fixed.Assign ∷ value_tokens value
   statement_tokens (SetArray array index value) =
       kinds.Name array.text ∷ kinds.Fixed fixed.OpenBracket ∷ (expression_tokens 0 index
@@ -42,12 +46,14 @@ abbrev mutual
       ++ kinds.Fixed fixed.CloseParen ∷ kinds.Fixed fixed.OpenBrace ∷ block_tokens body)
   statement_tokens (Return place value) = kinds.Fixed fixed.Return ∷ returned_tokens value
   statement_tokens (Print place value) =
-      kinds.Fixed fixed.Print ∷ kinds.Fixed fixed.OpenParen ∷ (expression_tokens 0 value ++ kinds.Fixed fixed.CloseParen ∷ kinds.Fixed fixed.Semicolon ∷ [])
+      kinds.Fixed fixed.Print ∷ kinds.Fixed fixed.OpenParen ∷ (expression_tokens 0 value
+      ++ kinds.Fixed fixed.CloseParen ∷ kinds.Fixed fixed.Semicolon ∷ [])
   statement_tokens (Call method args) =
       kinds.Name method.text ∷ kinds.Fixed fixed.OpenParen ∷ (arguments_tokens false args ++ kinds.Fixed fixed.Semicolon ∷ [])
   statement_tokens (Make future task spawned args) =
-      kinds.Fixed fixed.Future ∷ kinds.Name future.text ∷ kinds.Fixed fixed.Assign ∷ kinds.Name task.text ∷ kinds.Fixed fixed.Dot ∷ kinds.Fixed (make_word spawned)
-      ∷ kinds.Fixed fixed.OpenParen ∷ (arguments_tokens false args ++ kinds.Fixed fixed.Semicolon ∷ [])
+      kinds.Fixed fixed.Future ∷ kinds.Name future.text ∷ kinds.Fixed fixed.Assign ∷ kinds.Name task.text
+      ∷ kinds.Fixed fixed.Dot ∷ kinds.Fixed (make_word spawned) ∷ kinds.Fixed fixed.OpenParen
+      ∷ (arguments_tokens false args ++ kinds.Fixed fixed.Semicolon ∷ [])
   statement_tokens (Wait wait) = wait_tokens wait
   statement_tokens (LetWait is_final name wait) =
       when is_final fixed.Final ++ kinds.Fixed fixed.Int ∷ kinds.Name name.text ∷ kinds.Fixed fixed.Assign ∷ wait_tokens wait

@@ -5,12 +5,12 @@ ghost use Rattle.std.specs.Prelude.{◌≡◌, ◌++◌, false, OnOk};
 ghost use Rattle.ast_printer.specs.Text.{text_of};
 ghost use Rattle.ast_printer.specs.ExpressionTokens.{arguments_tokens, expression_tokens, shape_tokens, truth_token};
 ghost use Rattle.twe_ast.specs.Expression.{ArrayElement, Binary, GridElement};
-ghost use Rattle.twe_io.specs.declared.place.Place.{Place};
+ghost use Rattle.twe_base.specs.declared.place.Place.{Place};
 
 use crate::operator::operator_token;
 use crate::token::{push_fixed, push_literal, push_name, push_two, push_when};
 use twe_ast::{Args, BinOp, Expr, ExprKind, Name};
-use twe_io::{Bytes, Memory};
+use twe_base::{Bytes, Memory};
 use twe_lexer::Fixed;
 
 /// The token `true` or `false`.
@@ -58,7 +58,8 @@ fn push_operands(
     text: &mut Bytes,
     level: u8,
 ) -> Result<(), Memory>
-    ensures { (place : Place) → OnOk result (text.new ≡ text.old ++ text_of (shape_tokens level (Binary op left.now right.now place))) }
+    ensures { (place : Place)
+        → OnOk result (text.new ≡ text.old ++ text_of (shape_tokens level (Binary op left.now right.now place))) }
 {
     let own = op.level();
     push_when(text, own < level, Fixed::OpenParen)?;

@@ -12,7 +12,7 @@ use crate::path::{push_bracketed, push_cell_path, push_path};
 use crate::stmt::push_block;
 use crate::token::{push_fixed, push_name, push_number, push_when};
 use twe_ast::{CellDecl, CellShape, Clause, Decl, Initial, Item, Name, Path, ReturnType};
-use twe_io::{Bytes, Memory};
+use twe_base::{Bytes, Memory};
 use twe_lexer::Fixed;
 
 /// The keyword of a clause.

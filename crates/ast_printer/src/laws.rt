@@ -1,6 +1,6 @@
 //! Laws of the printed tokens.
 ghost use Rattle.std.specs.Prelude.{◌≡◌, ℕ, true, List};
-ghost use Rattle.twe_io.specs.declared.place.Place.{Place};
+ghost use Rattle.twe_base.specs.declared.place.Place.{Place};
 ghost use Rattle.twe_ast.specs.declared.expr.BinOp.{BinOp};
 ghost use Rattle.twe_ast.specs.Expression.{Expression, Binary};
 ghost use Rattle.twe_lexer.specs.declared.token.Token.{Token};

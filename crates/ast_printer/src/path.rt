@@ -8,7 +8,7 @@ ghost use Rattle.ast_printer.specs.PathTokens.{bracketed, cell_elem_tokens, cell
 
 use crate::token::{push_fixed, push_name, push_number, push_text, push_when};
 use twe_ast::{CellElem, CellElemKind, CellPath, Path, PathElem, PathElemKind};
-use twe_io::{Bytes, Memory};
+use twe_base::{Bytes, Memory};
 use twe_lexer::Fixed;
 
 /// Writes a number in brackets.

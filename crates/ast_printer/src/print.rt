@@ -1,12 +1,12 @@
 //! From the tree of a program to a text.
 ghost use Rattle.std.specs.Prelude.{◌≡◌, ℕ, List, IfOk};
-ghost use Rattle.ast_printer.specs.ItemTokens.{printed};
+ghost use Rattle.ast_printer.specs.ItemTokens.{printed_tokens};
 ghost use Rattle.ast_printer.specs.ParsesAgain.{IsTextOf, ParsesAgain};
 
 use crate::item::push_items;
 use std::alloc::Global;
 use twe_ast::Ast;
-use twe_io::{Bytes, Memory};
+use twe_base::{Bytes, Memory};
 
 /// The text of a tree: its tokens in order, each with a space after it, and the end of a line after `{`, `}` and `;`.
 ///
@@ -15,7 +15,7 @@ use twe_io::{Bytes, Memory};
 /// no rule, the printed text fails no rule either, and its tree is the same except for places. It takes time and memory
 /// linear in the length of the printed text.
 pub fn print_ast(alloc: Global, ast: &Ast) -> Result<Bytes, Memory>
-    ensures text { IfOk result (λ text. text ≡ printed ast.now) }
+    ensures text { IfOk result (λ text. text ≡ printed_tokens ast.now) }
     ensures again { IfOk result (λ text. (source : List ℕ) → IsTextOf source ast.now → ParsesAgain text ast.now) }
 {
     let mut text = Bytes::new(alloc);

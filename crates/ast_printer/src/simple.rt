@@ -13,7 +13,7 @@ ghost use Rattle.ast_printer.specs.inner.SimpleTokens.{action_tokens, simple_tok
 use crate::expr::{push_args, push_element, push_expr, push_grid_element};
 use crate::token::{push_fixed, push_name, push_two, push_when};
 use twe_ast::{Args, Expr, LocalType, Name, Stmt, StmtKind, WaitCall};
-use twe_io::{Bytes, Memory};
+use twe_base::{Bytes, Memory};
 use twe_lexer::Fixed;
 
 /// The keyword of a type.
@@ -65,7 +65,8 @@ fn push_returned(value: &Option<Expr>, text: &mut Bytes) -> Result<(), Memory>
 /// Writes the beginning of a task operation, as `f . join (`.
 fn push_operation(text: &mut Bytes, name: &Name, operation: Fixed) -> Result<(), Memory>
     ensures { OnOk result (text.new ≡ text.old
-        ++ text_of (kinds.Name name.now.text ∷ kinds.Fixed fixed.Dot ∷ kinds.Fixed operation ∷ kinds.Fixed fixed.OpenParen ∷ [])) }
+        ++ text_of (kinds.Name name.now.text ∷ kinds.Fixed fixed.Dot ∷ kinds.Fixed operation
+        ∷ kinds.Fixed fixed.OpenParen ∷ [])) }
 {
     push_name(text, name)?;
     push_two(text, Fixed::Dot, operation)?;

@@ -9,7 +9,7 @@ use crate::expr::push_expr;
 use crate::simple::push_simple;
 use crate::token::{push_fixed, push_two, push_when};
 use twe_ast::{Arms, Block, Stmt, StmtKind};
-use twe_io::{Bytes, Memory};
+use twe_base::{Bytes, Memory};
 use twe_lexer::Fixed;
 
 /// Writes a statement.

@@ -6,7 +6,7 @@ ghost use Rattle.ast_printer.specs.ExpressionTokens.{literal_tokens};
 
 use itoa::Buffer;
 use twe_ast::Name;
-use twe_io::{Bytes, Memory};
+use twe_base::{Bytes, Memory};
 use twe_lexer::Fixed;
 
 /// The byte after a keyword or a symbol: the end of a line after `{`, `}` and `;`, else a space.

@@ -5,7 +5,7 @@ use Rattle.clap.specs.Lexer.{long_of}
 use Rattle.clap.specs.Walk.{Held, Row, Rule, Text, Walk, settled, walked}
 use Rattle.clap.specs.Faults.{settle_fault, turn_fault, use_fault, walk_fault}
 use Rattle.command_line.specs.declared.setting.Setting.{Setting}
-use Rattle.command_line.specs.Options.{Item, of, flag, size, Among, spelled, Choice, set, journal, load, AreOptions, no_more, value_beside, value_inside, flagged, sized, max_load}
+use Rattle.command_line.specs.Options.{Item, of, flag, size, Among, option_spelled, Choice, set, journal, load, AreOptions, no_more, value_beside, value_inside, flagged, sized, max_load}
 use Rattle.command_line.specs.inner.Reading.{id, has_end}
 use Rattle.command_line.proofs.Lookups.{rule, rules, is_named, by_long}
 use Rattle.command_line.proofs.Rows.{Use, rows, is_used, passes_both, second_use, new_passes, value_fault, flag_fault}
@@ -75,17 +75,17 @@ module _ (name : Text) (items : List Item) where
         (ap (λ (h : Held). use_fault false (rule item) values h.rows) settles_here ∙ fault (rows base) ∙ new_passes item (rows base) new)) refl
 
     pub name_passes : (setting : Setting) (words : List Text) (last : List Use) → Among (of setting) items → Passes base (wants setting) place words last
-        → Passes uses pending place (spelled setting ∷ words) last
+        → Passes uses pending place (option_spelled setting ∷ words) last
     name_passes setting words last among p =
-        passes_more uses pending place (spelled setting) words base (wants setting) place last (no_end_spelled setting)
-        (long_fault_is (spelled setting) (of setting) None refl among (long_spelled setting) ∙ name_fault name items uses pending place (spelled setting) setting
+        passes_more uses pending place (option_spelled setting) words base (wants setting) place last (no_end_spelled setting)
+        (long_fault_is (option_spelled setting) (of setting) None refl among (long_spelled setting) ∙ name_fault name items uses pending place (option_spelled setting) setting
         ∙ passes_both (settle_fault (rules items) false (held uses pending)) [] settles_well refl)
-        (long_walk_is (spelled setting) (of setting) None refl among (long_spelled setting) ∙ name_walk name items uses pending place (spelled setting) setting base settles_here) p
+        (long_walk_is (option_spelled setting) (of setting) None refl among (long_spelled setting) ∙ name_walk name items uses pending place (option_spelled setting) setting base settles_here) p
 
     pub inside_passes : (setting : Setting) (value : Text) (words : List Text) (last : List Use) → Among (of setting) items → is_used (of setting) base ≡ false
-        → Passes (base ++ (of setting, value) ∷ []) none place words last → Passes uses pending place ((spelled setting ++ (codes "=" ++ value)) ∷ words) last
+        → Passes (base ++ (of setting, value) ∷ []) none place words last → Passes uses pending place ((option_spelled setting ++ (codes "=" ++ value)) ∷ words) last
     inside_passes setting value words last among new p =
-        let word = spelled setting ++ (codes "=" ++ value) in
+        let word = option_spelled setting ++ (codes "=" ++ value) in
         passes_more uses pending place word words (base ++ (of setting, value) ∷ []) none place last (no_end_spelled_with setting value)
         (long_fault_is word (of setting) (Some value) refl among (long_spelled_with setting value) ∙ value_fault_is name items uses pending place word setting value
         ∙ reacts word (of setting) (value ∷ []) (value_fault (of setting) refl value) new)
@@ -158,14 +158,14 @@ module _ (name : Text) (items : List Item) where
       let u : Use = (of setting, value) in
       let new = is_new (of setting) base (times_chosen (of setting) choices) (room (of setting)) in
       let d = done rest base (holds (of setting) value) place (base ++ u ∷ []) (among, refl) (with_one new) (room_after base (of setting) value choices room) (place_after base u place first) in
-      with_use uses pending place (spelled setting ∷ value ∷ words) base u (set setting number) choices d.more (ap (λ (o : Option ℕ). option_map (λ n. set setting n) o) is) d.are
+      with_use uses pending place (option_spelled setting ∷ value ∷ words) base u (set setting number) choices d.more (ap (λ (o : Option ℕ). option_map (λ n. set setting n) o) is) d.are
       (name_passes uses pending place base fits s setting (value ∷ words) ((base ++ u ∷ []) ++ d.more) among
       (value_passes base setting place value words ((base ++ u ∷ []) ++ d.more) among (value_is_plain setting value number is) d.passes))
   done (value_inside {words} {choices} setting value number among is rest) uses pending place base fits s room first =
       let u : Use = (of setting, value) in
       let new = is_new (of setting) base (times_chosen (of setting) choices) (room (of setting)) in
       let d = done rest (base ++ u ∷ []) none place (base ++ u ∷ []) tt as_they_are (room_after base (of setting) value choices room) (place_after base u place first) in
-      with_use uses pending place ((spelled setting ++ (codes "=" ++ value)) ∷ words) base u (set setting number) choices d.more (ap (λ (o : Option ℕ). option_map (λ n. set setting n) o) is) d.are
+      with_use uses pending place ((option_spelled setting ++ (codes "=" ++ value)) ∷ words) base u (set setting number) choices d.more (ap (λ (o : Option ℕ). option_map (λ n. set setting n) o) is) d.are
       (inside_passes uses pending place base fits s setting value words ((base ++ u ∷ []) ++ d.more) among new d.passes)
   done (flagged {words} {choices} among rest) uses pending place base fits s room first =
       let u : Use = (flag, codes "true") in

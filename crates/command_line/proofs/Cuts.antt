@@ -4,7 +4,7 @@ use Rattle.std.specs.Str.{bytes_eq}
 use Rattle.std.proofs.lemmas.Option.{cond_some, same_Some}
 use Rattle.clap.specs.Walk.{Text}
 use Rattle.command_line.specs.declared.setting.Setting.{Setting}
-use Rattle.command_line.specs.Options.{Item, of, flag, size, Among, spelled, Choice, set, journal, load, AreOptions, no_more, value_beside, value_inside, flagged, sized, number_for, size_in}
+use Rattle.command_line.specs.Options.{Item, of, flag, size, Among, option_spelled, Choice, set, journal, load, AreOptions, no_more, value_beside, value_inside, flagged, sized, number_for, size_in}
 use Rattle.command_line.proofs.Rows.{Use}
 use Rattle.command_line.proofs.Turns.{Pending, none, wants, holds, Settles, as_they_are, with_one}
 use Rattle.command_line.proofs.Uses.{Distinct, one_more, chosen, all_chosen, map_some, splits}
@@ -66,12 +66,12 @@ settled_cut as_they_are c = c
 settled_cut (with_one new) c = c
 
 beside_cut : {items : List Item} {base last : List Use} (setting : Setting) (words : List Text) → Among (of setting) items → Cuts items base (wants setting) words last
-    → Cut items (spelled setting ∷ words) base last
+    → Cut items (option_spelled setting ∷ words) base last
 beside_cut {items} {base} {last} setting words among (value, rest, are, c) =
-    subst (λ (ws : List Text). Cut items (spelled setting ∷ ws) base last) (sym are)
-    (grown (of setting, value) (spelled setting ∷ value ∷ rest) among tt (λ choice choices e options.
+    subst (λ (ws : List Text). Cut items (option_spelled setting ∷ ws) base last) (sym are)
+    (grown (of setting, value) (option_spelled setting ∷ value ∷ rest) among tt (λ choice choices e options.
     map_some (λ number. set setting number) (number_for setting value) choice e (λ number is same.
-    subst (λ (k : Choice). AreOptions items (spelled setting ∷ value ∷ rest) (k ∷ choices)) same (value_beside setting value number among is options))) c)
+    subst (λ (k : Choice). AreOptions items (option_spelled setting ∷ value ∷ rest) (k ∷ choices)) same (value_beside setting value number among is options))) c)
 
 read_cuts : {items : List Item} {uses : List Use} {pending : Pending} {words : List Text} {last : List Use} → Reads items uses pending words last → Cuts items uses pending words last
 read_cuts {items} {last = last} (ended s) = settled_cut s (record {
@@ -83,9 +83,9 @@ read_cuts {items} {last = last} (ended s) = settled_cut s (record {
 read_cuts (named {words = words} setting after among s rest) = settled_cut s (beside_cut setting words among (read_cuts rest))
 read_cuts (beside {words = words} setting value rest) = (value, words, refl, read_cuts rest)
 read_cuts {items} (inside {words = words} setting value after among s new rest) =
-    settled_cut s (grown (of setting, value) ((spelled setting ++ (codes "=" ++ value)) ∷ words) among tt (λ choice choices e options.
+    settled_cut s (grown (of setting, value) ((option_spelled setting ++ (codes "=" ++ value)) ∷ words) among tt (λ choice choices e options.
     map_some (λ number. set setting number) (number_for setting value) choice e (λ number is same.
-    subst (λ (k : Choice). AreOptions items ((spelled setting ++ (codes "=" ++ value)) ∷ words) (k ∷ choices)) same (value_inside setting value number among is options))) (read_cuts rest))
+    subst (λ (k : Choice). AreOptions items ((option_spelled setting ++ (codes "=" ++ value)) ∷ words) (k ∷ choices)) same (value_inside setting value number among is options))) (read_cuts rest))
 read_cuts {items} (flagged_so {words = words} after among s new rest) =
     settled_cut s (grown (flag, codes "true") (codes "--journal" ∷ words) among refl (λ choice choices e options.
     subst (λ (k : Choice). AreOptions items (codes "--journal" ∷ words) (k ∷ choices)) (cond_some (bytes_eq (codes "true") (codes "true")) journal choice e).1 (flagged among options)) (read_cuts rest))

@@ -2,8 +2,8 @@
 use Rattle.std.proofs.Common.{◌≡◌, ◌≤◌, ◌||◌, ℕ, List, [], ◌∷◌, Bool, true, false, cond, codes, bytes_eq, fold, Option, None, Some, Result, Ok, Err, option_and_then, unwrap_or, slice_index_or, refl, sym, ap, ap₂, ◌∙◌, subst, arith, length, true≢false}
 use Rattle.std.proofs.lemmas.Option.{none-some, option_and_then_some, same_Some}
 use Rattle.std.proofs.lemmas.Slice.Eq.{bytes_eq-Decides}
-use Rattle.twe_limits.specs.Language.{default_fuel, default_tasks}
-use Rattle.twe_limits.specs.Limits.{Bounds}
+use Rattle.twe_base.specs.Language.{default_fuel, default_tasks}
+use Rattle.twe_base.specs.Limits.{Bounds}
 use Rattle.clap.specs.Walk.{Row, Text, with_default}
 use Rattle.clap.specs.Takes.{is_given}
 use Rattle.clap.specs.Faults.{check_fault}

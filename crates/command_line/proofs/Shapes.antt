@@ -11,9 +11,9 @@ use Rattle.clap.specs.Lexer.{has_byte, long_of, long_of_rest, name_and_value, sh
 use Rattle.clap.specs.Walk.{Text}
 use Rattle.command_line.specs.declared.setting.Setting.{Setting}
 use Rattle.command_line.specs.declared.setting.Setting.TheVariants.{Workers, Fuel, Tasks}
-use Rattle.twe_limits.specs.Language.{max_fuel, max_tasks}
-use Rattle.command_line.specs.Numbers.{is_number, number_of, number_between}
-use Rattle.command_line.specs.Options.{of, spelled, number_for, max_workers}
+use Rattle.twe_base.specs.Language.{max_fuel, max_tasks}
+use Rattle.command_line.specs.Numbers.{is_number_word, number_of_word, number_between}
+use Rattle.command_line.specs.Options.{of, option_spelled, number_for, max_workers}
 use Rattle.command_line.specs.inner.Reading.{id}
 
 -- ---- a list, cut at the first `=`
@@ -95,32 +95,32 @@ is_long word name value e =
     by_rest [] looks = absurd (none-some (name, value) looks)
     by_rest (x ∷ xs) looks = joins (x ∷ xs) name value (same_Some (name_and_value (x ∷ xs)) (name, value) looks)
 
-pub spelled_is : (setting : Setting) → 45 ∷ 45 ∷ id (of setting) ≡ spelled setting
+pub spelled_is : (setting : Setting) → 45 ∷ 45 ∷ id (of setting) ≡ option_spelled setting
 spelled_is Workers = refl
 spelled_is Fuel = refl
 spelled_is Tasks = refl
 
-pub spelled_with : (setting : Setting) (value : Text) → 45 ∷ 45 ∷ (id (of setting) ++ (61 ∷ value)) ≡ spelled setting ++ (codes "=" ++ value)
+pub spelled_with : (setting : Setting) (value : Text) → 45 ∷ 45 ∷ (id (of setting) ++ (61 ∷ value)) ≡ option_spelled setting ++ (codes "=" ++ value)
 spelled_with Workers value = refl
 spelled_with Fuel value = refl
 spelled_with Tasks value = refl
 
-pub long_spelled : (setting : Setting) → long_of (spelled setting) ≡ Some (id (of setting), None)
+pub long_spelled : (setting : Setting) → long_of (option_spelled setting) ≡ Some (id (of setting), None)
 long_spelled Workers = refl
 long_spelled Fuel = refl
 long_spelled Tasks = refl
 
-pub long_spelled_with : (setting : Setting) (value : Text) → long_of (spelled setting ++ (codes "=" ++ value)) ≡ Some (id (of setting), Some value)
+pub long_spelled_with : (setting : Setting) (value : Text) → long_of (option_spelled setting ++ (codes "=" ++ value)) ≡ Some (id (of setting), Some value)
 long_spelled_with Workers value = refl
 long_spelled_with Fuel value = refl
 long_spelled_with Tasks value = refl
 
-pub no_end_spelled : (setting : Setting) → bytes_eq (spelled setting) (codes "--") ≡ false
+pub no_end_spelled : (setting : Setting) → bytes_eq (option_spelled setting) (codes "--") ≡ false
 no_end_spelled Workers = refl
 no_end_spelled Fuel = refl
 no_end_spelled Tasks = refl
 
-pub no_end_spelled_with : (setting : Setting) (value : Text) → bytes_eq (spelled setting ++ (codes "=" ++ value)) (codes "--") ≡ false
+pub no_end_spelled_with : (setting : Setting) (value : Text) → bytes_eq (option_spelled setting ++ (codes "=" ++ value)) (codes "--") ≡ false
 no_end_spelled_with Workers value = refl
 no_end_spelled_with Fuel value = refl
 no_end_spelled_with Tasks value = refl
@@ -147,7 +147,7 @@ both-true : (a b : Bool) → (a && b) ≡ true → (a ≡ true) × (b ≡ true)
 both-true true b e = (refl, e)
 both-true false b e = absurd (true≢false (sym e))
 
-digit_first : (word : Text) → is_number word ≡ true → strip_byte 45 word ≡ None
+digit_first : (word : Text) → is_number_word word ≡ true → strip_byte 45 word ≡ None
 digit_first [] e = refl
 digit_first (x ∷ xs) e =
     let digits = (both-true (nat_le (length (x ∷ xs)) 10) (list_all is_ascii_digit (x ∷ xs)) (both-true (nat_le 1 (length (x ∷ xs))) (nat_le (length (x ∷ xs)) 10 && list_all is_ascii_digit (x ∷ xs)) e).1).1 in
@@ -159,8 +159,8 @@ digit_first (x ∷ xs) e =
 
 pub number_is_plain : (least most : ℕ) (word : Text) (number : ℕ) → number_between least most word ≡ Some number → IsPlain word
 number_is_plain least most word number e =
-    let found = cond_some (is_number word && (nat_le least (number_of word) && nat_le (number_of word) most)) (number_of word) number e in
-    without_hyphen word (digit_first word (both-true (is_number word) (nat_le least (number_of word) && nat_le (number_of word) most) found.0).0)
+    let found = cond_some (is_number_word word && (nat_le least (number_of_word word) && nat_le (number_of_word word) most)) (number_of_word word) number e in
+    without_hyphen word (digit_first word (both-true (is_number_word word) (nat_le least (number_of_word word) && nat_le (number_of_word word) most) found.0).0)
 
 pub value_is_plain : (setting : Setting) (word : Text) (number : ℕ) → number_for setting word ≡ Some number → IsPlain word
 value_is_plain Workers word number e = number_is_plain 0 max_workers word number e

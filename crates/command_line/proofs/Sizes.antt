@@ -3,7 +3,7 @@ use Rattle.std.proofs.Common.{◌≡◌, ◌≤◌, ◌&&◌, ℕ, List, [], ◌
 use Rattle.std.proofs.lemmas.Option.{cond_some}
 use Rattle.clap.proofs.WalkLemmas.{both}
 use Rattle.command_line.specs.declared.command.Command.{Command}
-use Rattle.command_line.specs.Numbers.{is_number, number_between, number_of}
+use Rattle.command_line.specs.Numbers.{is_number_word, number_between, number_of_word}
 use Rattle.command_line.specs.Options.{Item, Choice, AreOptions, no_more, value_beside, value_inside, flagged, sized, sizes, number_or, max_load, max_workers}
 use Rattle.command_line.specs.declared.setting.Setting.TheVariants.{Workers, Fuel, Tasks}
 use Rattle.command_line.specs.Words as words
@@ -12,9 +12,9 @@ use Rattle.command_line.specs.Words.{Means, IsSized}
 -- a number between two others is in their range
 pub in_range : (least most : ℕ) (word : List ℕ) (number : ℕ) → number_between least most word ≡ Some number → (least ≤ number) × (number ≤ most)
 in_range least most word number e =
-    let found = cond_some (is_number word && (nat_le least (number_of word) && nat_le (number_of word) most)) (number_of word) number e in
-    let range = both (nat_le least (number_of word)) (nat_le (number_of word) most) (both (is_number word) (nat_le least (number_of word) && nat_le (number_of word) most) found.0).1 in
-    subst (λ (n : ℕ). (least ≤ n) × (n ≤ most)) found.1 (leb-true least (number_of word) range.0, leb-true (number_of word) most range.1)
+    let found = cond_some (is_number_word word && (nat_le least (number_of_word word) && nat_le (number_of_word word) most)) (number_of_word word) number e in
+    let range = both (nat_le least (number_of_word word)) (nat_le (number_of_word word) most) (both (is_number_word word) (nat_le least (number_of_word word) && nat_le (number_of_word word) most) found.0).1 in
+    subst (λ (n : ℕ). (least ≤ n) × (n ≤ most)) found.1 (leb-true least (number_of_word word) range.0, leb-true (number_of_word word) most range.1)
 
 -- the first of the sizes
 abbrev first_of : ℕ → List ℕ → ℕ

@@ -7,7 +7,7 @@ use Rattle.clap.specs.Kinds.{or_else}
 use Rattle.clap.specs.Faults.{settle_fault, turn_fault, use_fault, walk_fault}
 use Rattle.clap.specs.declared.error.kind.ErrorKind.TheVariants.{TooManyValues, UnknownArgument}
 use Rattle.command_line.specs.declared.setting.Setting.{Setting}
-use Rattle.command_line.specs.Options.{Item, of, flag, size, Among, spelled}
+use Rattle.command_line.specs.Options.{Item, of, flag, size, Among, option_spelled}
 use Rattle.command_line.specs.inner.Reading.{id, has_end}
 use Rattle.command_line.proofs.Lookups.{rule, rules, is_named, long_found}
 use Rattle.command_line.proofs.Rows.{Use, rows, is_used, some_kind, both_empty, new_use, second_use, value_fault, flag_fault}
@@ -18,12 +18,12 @@ use Rattle.command_line.proofs.Shapes.{IsLong, is_long, spelled_is, spelled_with
 pub data Reads (items : List Item) : List Use → Pending → List Text → List Use → Type 0 where
   ended : {uses : List Use} {pending : Pending} {after : List Use} → Settles uses pending after → Reads items uses pending [] after
   named : {uses : List Use} {pending : Pending} {words : List Text} {last : List Use} (setting : Setting) (after : List Use) → Among (of setting) items → Settles uses pending after
-      → Reads items after (wants setting) words last → Reads items uses pending (spelled setting ∷ words) last
+      → Reads items after (wants setting) words last → Reads items uses pending (option_spelled setting ∷ words) last
   beside : {uses : List Use} {words : List Text} {last : List Use} (setting : Setting) (value : Text)
       → Reads items uses (holds (of setting) value) words last → Reads items uses (wants setting) (value ∷ words) last
   inside : {uses : List Use} {pending : Pending} {words : List Text} {last : List Use} (setting : Setting) (value : Text) (after : List Use) → Among (of setting) items
       → Settles uses pending after → is_used (of setting) after ≡ false → Reads items (after ++ (of setting, value) ∷ []) none words last
-      → Reads items uses pending ((spelled setting ++ (codes "=" ++ value)) ∷ words) last
+      → Reads items uses pending ((option_spelled setting ++ (codes "=" ++ value)) ∷ words) last
   flagged_so : {uses : List Use} {pending : Pending} {words : List Text} {last : List Use} (after : List Use) → Among flag items
       → Settles uses pending after → is_used flag after ≡ false → Reads items (after ++ (flag, codes "true") ∷ []) none words last
       → Reads items uses pending (codes "--journal" ∷ words) last
@@ -48,7 +48,7 @@ module _ (name : Text) (items : List Item) where
     reads_as : (spelling : Text) → word ≡ spelling → (words : List Text) (last : List Use) → Reads items uses pending (spelling ∷ words) last → Reads items uses pending (word ∷ words) last
     reads_as spelling is words last reads = subst (λ (w : Text). Reads items uses pending (w ∷ words) last) (sym is) reads
 
-    next_name : (setting : Setting) → Among (of setting) items → word ≡ spelled setting → or_else (settle_fault (rules items) false (held uses pending)) [] ≡ []
+    next_name : (setting : Setting) → Among (of setting) items → word ≡ option_spelled setting → or_else (settle_fault (rules items) false (held uses pending)) [] ≡ []
         → Next uses pending word (long_walk_by name items uses pending place word (Some (rule (of setting))) None)
     next_name setting among is e =
         let s = settling name items uses pending fits (both_empty (settle_fault (rules items) false (held uses pending)) [] e).0 in
@@ -59,7 +59,7 @@ module _ (name : Text) (items : List Item) where
           fits = among;
           is_place = is_place;
           walk_is = name_walk name items uses pending place word setting s.0 (settles_to name items uses pending s.0 fits s.1);
-          reads = λ words last reads. reads_as (spelled setting) is words last (named setting s.0 among s.1 reads);
+          reads = λ words last reads. reads_as (option_spelled setting) is words last (named setting s.0 among s.1 reads);
         }
 
     -- what is asked of a use that comes at once
@@ -71,7 +71,7 @@ module _ (name : Text) (items : List Item) where
         let s = settling name items uses pending fits inner.0 in
         (s.0, s.1, new_use item (rows s.0) (sym (ap (λ (h : Held). use_fault false (rule item) values h.rows) (settles_to name items uses pending s.0 fits s.1) ∙ fault (rows s.0)) ∙ inner.1))
 
-    next_value : (setting : Setting) (value : Text) → Among (of setting) items → word ≡ spelled setting ++ (codes "=" ++ value)
+    next_value : (setting : Setting) (value : Text) → Among (of setting) items → word ≡ option_spelled setting ++ (codes "=" ++ value)
         → react_fault_of name items uses pending place word (of setting) (value ∷ []) ≡ []
         → Next uses pending word (long_walk_by name items uses pending place word (Some (rule (of setting))) (Some value))
     next_value setting value among is e =
@@ -83,7 +83,7 @@ module _ (name : Text) (items : List Item) where
           fits = tt;
           is_place = is_place;
           walk_is = value_walk name items uses pending place word setting value s.0 (settles_to name items uses pending s.0 fits s.1) s.2;
-          reads = λ words last reads. reads_as (spelled setting ++ (codes "=" ++ value)) is words last (inside setting value s.0 among s.1 s.2 reads);
+          reads = λ words last reads. reads_as (option_spelled setting ++ (codes "=" ++ value)) is words last (inside setting value s.0 among s.1 s.2 reads);
         }
 
     next_flag : Among flag items → word ≡ codes "--journal" → react_fault_of name items uses pending place word flag [] ≡ []

@@ -5,13 +5,13 @@ use Rattle.std.specs.Prelude.{◌≡◌, ◌≤◌, ◌+◌, ◌++◌, ℕ, Bool
 use Rattle.command_line.specs.declared.setting.Setting.{Setting}
 use Rattle.command_line.specs.declared.setting.Setting.TheVariants.{Workers, Fuel, Tasks}
 use Rattle.command_line.specs.Numbers.{number_between}
-use Rattle.twe_limits.specs.Language.{max_fuel, max_tasks}
+use Rattle.twe_base.specs.Language.{max_fuel, max_tasks}
 
 -- the spelling of a setting
-abbrev pub spelled : Setting → List ℕ
-spelled Workers = codes "--workers"
-spelled Fuel = codes "--fuel"
-spelled Tasks = codes "--tasks"
+abbrev pub option_spelled : Setting → List ℕ
+option_spelled Workers = codes "--workers"
+option_spelled Fuel = codes "--fuel"
+option_spelled Tasks = codes "--tasks"
 
 -- the largest number of workers
 abbrev pub max_workers : ℕ
@@ -53,16 +53,17 @@ pub data AreOptions (items : List Item) : List (List ℕ) → List Choice → Ty
   no_more : AreOptions items [] []
   value_beside : {words : List (List ℕ)} {choices : List Choice} (setting : Setting) (value : List ℕ) (number : ℕ)
       → Among (of setting) items → number_for setting value ≡ Some number → AreOptions items words choices
-      → AreOptions items (spelled setting ∷ value ∷ words) (set setting number ∷ choices)
+      → AreOptions items (option_spelled setting ∷ value ∷ words) (set setting number ∷ choices)
   value_inside : {words : List (List ℕ)} {choices : List Choice} (setting : Setting) (value : List ℕ) (number : ℕ)
       → Among (of setting) items → number_for setting value ≡ Some number → AreOptions items words choices
-      → AreOptions items ((spelled setting ++ (codes "=" ++ value)) ∷ words) (set setting number ∷ choices)
+      → AreOptions items ((option_spelled setting ++ (codes "=" ++ value)) ∷ words) (set setting number ∷ choices)
   flagged : {words : List (List ℕ)} {choices : List Choice} → Among flag items → AreOptions items words choices
       → AreOptions items (codes "--journal" ∷ words) (journal ∷ choices)
   sized : {words : List (List ℕ)} {choices : List Choice} (value : List ℕ) (number : ℕ)
       → Among size items → size_in value ≡ Some number → AreOptions items words choices
       → AreOptions items (value ∷ words) (load number ∷ choices)
 
+-- whether the two settings are the same
 abbrev pub same_setting : Setting → Setting → Bool
 same_setting Workers Workers = true
 same_setting Fuel Fuel = true
@@ -101,5 +102,6 @@ pub record NoneTwice (choices : List Choice) : Type 0 where
 abbrev pub number_or : ℕ → Setting → List Choice → ℕ
 number_or default setting choices = slice_index_or (numbers_for setting choices) 0 default
 
+-- whether the flag is given
 abbrev pub has_flag : List Choice → Bool
 has_flag choices = nat_lt 0 (flags choices)

@@ -1,8 +1,8 @@
 -- The commands: `check` alone, or `run`, `replay` or `load` and what each of them takes, in any order, nothing twice. `load`
 -- takes its size exactly once. Every other list of words is no command.
 use Rattle.std.specs.Prelude.{◌≡◌, ◌≤◌, ℕ, List, [], ◌∷◌, Option, None, Some, Result, Ok, Err, codes}
-use Rattle.twe_limits.specs.Language.{default_fuel, default_tasks}
-use Rattle.twe_limits.specs.Limits.{Bounds}
+use Rattle.twe_base.specs.Language.{default_fuel, default_tasks}
+use Rattle.twe_base.specs.Limits.{Bounds}
 use Rattle.command_line.specs.declared.command.Command.{Command}
 use Rattle.command_line.specs.declared.command.Command.TheVariants.{Check, Run, Replay, Load}
 use Rattle.command_line.specs.declared.command.WordsFail.{WordsFail}
@@ -10,13 +10,15 @@ use Rattle.command_line.specs.declared.command.WordsFail.TheVariants.{Usage, Out
 use Rattle.command_line.specs.declared.setting.Setting.TheVariants.{Workers, Fuel, Tasks}
 use Rattle.command_line.specs.Options.{Item, of, flag, size, Choice, AreOptions, NoneTwice, sizes, number_or, has_flag, max_load, max_workers}
 
--- what each command takes
+-- what `run` takes
 abbrev pub run_items : List Item
 run_items = of Workers ∷ of Fuel ∷ of Tasks ∷ flag ∷ []
 
+-- what `replay` takes
 abbrev pub replay_items : List Item
 replay_items = of Fuel ∷ of Tasks ∷ []
 
+-- what `load` takes
 abbrev pub load_items : List Item
 load_items = of Workers ∷ size ∷ []
 

@@ -13,7 +13,7 @@ use crate::setting::Setting;
 use clap::error::ErrorKind;
 use clap::{Arg, ArgAction, ArgMatches};
 use std::alloc::{AllocError, Global};
-use twe_io::{Memory, Word};
+use twe_base::{Memory, Word};
 
 /// A command with no arguments and no help.
 pub(crate) fn plain<'a>(alloc: Global, name: &'a str) -> clap::Command<'a>

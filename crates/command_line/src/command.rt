@@ -6,15 +6,14 @@ ghost use Rattle.command_line.specs.Options.{max_workers};
 ghost use Rattle.command_line.specs.Words.{IsReading, workers_of, run_items, replay_items, load_items};
 ghost use Rattle.command_line.specs.inner.Reading.{IsRead, command_of, first_named, has_end, limits_given, parsed, check_from, run_from, replay_from, load_from, size_given};
 ghost use Rattle.command_line.specs.declared.command.WordsFail.TheVariants.{OutOfMemory};
-ghost use Rattle.twe_limits.specs.Limits.{IsWithin};
+ghost use Rattle.twe_base.specs.Limits.{IsWithin};
 
 use crate::arguments;
 use crate::number::number_between;
 use crate::setting::Setting;
 use clap::ArgMatches;
 use std::alloc::Global;
-use twe_io::{Memory, Word};
-use twe_limits::Limits;
+use twe_base::{Limits, Memory, Word};
 
 /// The largest size of a load.
 const MAX_LOAD: u64 = 2_000;

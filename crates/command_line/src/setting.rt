@@ -4,7 +4,7 @@ ghost use Rattle.command_line.specs.Options.{number_for, of};
 ghost use Rattle.command_line.specs.inner.Reading.{id};
 
 use crate::number::number_between;
-use twe_limits::Limits;
+use twe_base::Limits;
 
 /// The largest number of workers.
 const MAX_WORKERS: u64 = 64;

@@ -3,7 +3,7 @@ use Rattle.std.proofs.Common.{◌≡◌, ℕ, zero, suc, [], inl, inr, refl, sym
 use Rattle.twe_program.specs.declared.program.Body.{Body}
 use Rattle.twe_program.specs.Statement.{Statement, Block, If, While, Return, Statements, no_more, statement, Arms, arm, otherwise, no_else}
 use Rattle.twe_program.specs.Expression.{Expression}
-use Rattle.twe_io.specs.declared.place.Place.{Place}
+use Rattle.twe_base.specs.declared.place.Place.{Place}
 use Rattle.cover_flow.specs.ControlPath.{Path, Repeated, Through, ThroughAll, ThroughOne, point_of, IsAt, Comes, ComesAll, ComesOne, end_of, ControlPath}
 use Rattle.cover_flow.specs.Steps.{followed_by, IsBranch, Steps, StepsFar, point_before}
 

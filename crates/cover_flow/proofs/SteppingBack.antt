@@ -1,7 +1,7 @@
 -- Steps make a control path.
 use Rattle.std.proofs.Common.{◌≡◌, ◌⊎◌, ℕ, zero, suc, inl, inr, refl, subst}
 use Rattle.twe_program.specs.Expression.{Expression}
-use Rattle.twe_io.specs.declared.place.Place.{Place}
+use Rattle.twe_base.specs.declared.place.Place.{Place}
 use Rattle.twe_program.specs.Statement.{Statement, Block, If, While, Return, Statements, no_more, statement, Arms, arm, otherwise, no_else}
 use Rattle.cover_flow.specs.ControlPath.{Path, Through, ThroughAll, ThroughOne, point_of, IsAt, Comes, ComesAll, ComesOne}
 use Rattle.cover_flow.specs.Steps.{followed_by, IsBranch, StepsOn, StepsFar, point_before}

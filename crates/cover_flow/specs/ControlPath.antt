@@ -58,7 +58,8 @@ abbrev mutual
   Comes end (Block point body) to path later = IsAt point to path later ⊎ ComesAll end body to path later
   Comes end (If point arms) to path later = IsAt point to path later ⊎ ComesOne end arms to path later
   Comes end (While point condition body place) to path later =
-      (turned : Path) × Through (While point condition body place) path turned × (IsAt point to turned later ⊎ ComesAll end body to turned later)
+      (turned : Path) × Through (While point condition body place) path turned
+      × (IsAt point to turned later ⊎ ComesAll end body to turned later)
   Comes end (Return point value) to path later = IsAt point to path later ⊎ IsAt end to path later
   Comes end s to path later = IsAt (point_of s) to path later
 

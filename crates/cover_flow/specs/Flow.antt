@@ -27,7 +27,8 @@ facts_at points point = unwrap_or (slice_get points.rows point) (record { out = 
 -- the fact of the future at the point, if it is followed
 abbrev pub fact_at : Points → ℕ → ℕ → Fact
 fact_at points point f =
-    if is_among points.first f then fact_of (facts_at points point) (f - points.first) else record { out = false; not_out = false }
+    if is_among points.first f then fact_of (facts_at points point) (f - points.first)
+    else record { out = false; not_out = false }
 
 -- the future is out on some path to the point
 abbrev pub may_at : Points → ℕ → ℕ → Bool

@@ -9,7 +9,7 @@ use crate::mark::{Walk, mark_block, note};
 use crate::transfer::Transfer;
 use crate::turns::pass_block;
 use std::alloc::Global;
-use twe_io::{List, Memory, Stack};
+use twe_base::{List, Memory, Stack};
 use twe_program::Body;
 
 /// For each of 128 futures and each point of a body, whether the future is out on some control path to the point, and

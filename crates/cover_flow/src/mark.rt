@@ -5,7 +5,7 @@ ghost use Rattle.cover_flow.specs.inner.Words.{none_come};
 
 use crate::facts::{Facts, mask};
 use crate::transfer::Transfer;
-use twe_io::Stack;
+use twe_base::Stack;
 use twe_program::{Arms, Block, Stmt, StmtKind};
 
 /// The futures that are followed, and the point to which a return goes.

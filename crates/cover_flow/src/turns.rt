@@ -4,7 +4,7 @@ ghost use Rattle.cover_flow.specs.inner.Transfers.{Turns, nothing_passes, passed
 
 use crate::facts::mask;
 use crate::transfer::Transfer;
-use twe_io::{List, Memory};
+use twe_base::{List, Memory};
 use twe_program::{Arms, Block, Stmt, StmtKind};
 
 /// Adds the turns of the loops within a statement. Returns the transfer that goes through it after the one before.

@@ -2,8 +2,8 @@
 -- and it gets no value. So does each segment of such a task.
 use Rattle.std.proofs.Common.{◌≡◌, ℕ, ℤ, Bool, true, false, IsTrue, List, length, Contains, Option, Some, inl, refl, sym, ap, ◌∙◌, subst}
 use Rattle.std.specs.Prelude.{slice_get}
-use Rattle.twe_io.specs.declared.place.Place.{Place}
-use Rattle.twe_limits.specs.Limits.{Bounds}
+use Rattle.twe_base.specs.declared.place.Place.{Place}
+use Rattle.twe_base.specs.Limits.{Bounds}
 use Rattle.effect_sets.specs.declared.effects.Summary.{Summary}
 use Rattle.twe_program.specs.declared.program.Decl.{Decl}
 use Rattle.twe_program.specs.Expression.{Arguments}
@@ -22,15 +22,15 @@ use Rattle.seg_exec.specs.declared.frame.Next.TheVariants.{Get}
 use Rattle.seg_exec.specs.declared.stop.Stop.TheVariants as ends
 use Rattle.seg_exec.specs.Giving.{given}
 use Rattle.seg_exec.specs.Meaning.{body_of}
-use Rattle.soundness_laws.specs.KeepsEffects.{KeepsEffects}
-use Rattle.soundness_laws.proofs.Sound.{got-in}
-use Rattle.segment_laws.specs.Left.{left_of}
-use Rattle.segment_laws.proofs.Following.{gets_follow, makes_follow}
+use Rattle.isolation_laws.specs.soundness.KeepsEffects.{KeepsEffects}
+use Rattle.isolation_laws.proofs.soundness.Sound.{got-in}
+use Rattle.twe_machine.specs.segment_laws.Left.{left_of}
+use Rattle.twe_machine.proofs.segment_laws.Following.{gets_follow, makes_follow}
 use Rattle.twe_machine.specs.declared.state.State.{State}
 use Rattle.twe_machine.specs.declared.state.TaskRow.{TaskRow}
 use Rattle.twe_machine.specs.Moves.{awaited_value}
-use Rattle.twe_machine.specs.Rows.{IsRow, awaited}
-use Rattle.twe_machine.proofs.Standing.{Stands}
+use Rattle.twe_machine.specs.Rows.{IsRow, row_awaited}
+use Rattle.twe_machine.proofs.standing.Standing.{Stands}
 use Rattle.isolation_laws.proofs.frames.AfterSegment.{after, reached_at}
 use Rattle.isolation_laws.proofs.frames.EndedBody.{some_at_get, some_at_make}
 use Rattle.isolation_laws.proofs.journals.Invariant.{Kept, taker}
@@ -77,7 +77,7 @@ module _ (p : Program) (keeps : KeepsEffects p) (decl : Decl) (there : Contains 
 module _ (p : Program) (keeps : KeepsEffects p) (lim : Bounds) (st : State) (stands : Stands p lim st) (kept : Kept p st)
     (t : ℕ) (row : TaskRow) (is_t : IsRow st t row) (flag : IsDeterministic p row) where
   abbrev value : ℤ
-  value = awaited_value st.tasks (awaited row.frame.next)
+  value = awaited_value st.tasks (row_awaited row.frame.next)
 
   pub found : (decl : Decl) × (slice_get p.tasks row.frame.decl ≡ Some decl)
   found = taker (slice_get p.tasks row.frame.decl) (length row.args) (kept.runs t row is_t).count

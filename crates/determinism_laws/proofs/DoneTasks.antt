@@ -3,15 +3,15 @@ use Rattle.std.proofs.Common.{◌≡◌, ◌≤◌, ◌<◌, ◌+◌, ℕ, List,
 use Rattle.std.specs.Prelude.{slice_get}
 use Rattle.std.proofs.lemmas.Bool.{cases_lt}
 use Rattle.seg_journal.specs.declared.journal.Entry.{Entry}
-use Rattle.twe_limits.specs.Limits.{Bounds}
+use Rattle.twe_base.specs.Limits.{Bounds}
 use Rattle.twe_program.specs.Program.{Program}
 use Rattle.twe_program.specs.WellFormed.{IsWellFormed}
-use Rattle.soundness_laws.specs.KeepsEffects.{KeepsEffects}
+use Rattle.isolation_laws.specs.soundness.KeepsEffects.{KeepsEffects}
 use Rattle.twe_machine.specs.declared.state.TaskRow.{TaskRow}
 use Rattle.twe_machine.specs.declared.state.TaskStatus.TheVariants.{Done}
 use Rattle.twe_machine.specs.Rows.{HasStatus}
 use Rattle.twe_machine.specs.Runs.{Legal}
-use Rattle.twe_machine.proofs.Places.{got_one}
+use Rattle.twe_machine.proofs.lists.Places.{got_one}
 use Rattle.determinism_laws.specs.Execution.{DoneTasksExecuteAlike, IsNextSegment}
 use Rattle.determinism_laws.specs.Ranks.{HasRank, IsBelow}
 use Rattle.determinism_laws.specs.Segments.{state_before}

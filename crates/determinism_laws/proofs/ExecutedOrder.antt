@@ -8,20 +8,20 @@ use Rattle.effect_check.proofs.Members.{IsIn, contains-in, in-cases, in-contains
 use Rattle.seg_journal.specs.declared.journal.End.{End}
 use Rattle.seg_journal.specs.declared.journal.End.TheVariants as entry_ends
 use Rattle.seg_journal.specs.declared.journal.Entry.{Entry}
-use Rattle.twe_limits.specs.Limits.{Bounds}
+use Rattle.twe_base.specs.Limits.{Bounds}
 use Rattle.twe_program.specs.Program.{Program}
 use Rattle.twe_program.specs.WellFormed.{IsWellFormed}
-use Rattle.soundness_laws.specs.KeepsEffects.{KeepsEffects}
+use Rattle.isolation_laws.specs.soundness.KeepsEffects.{KeepsEffects}
 use Rattle.twe_machine.specs.declared.state.TaskRow.{TaskRow}
 use Rattle.twe_machine.specs.declared.state.TaskStatus.TheVariants.{Done, Enabled}
 use Rattle.twe_machine.specs.Changes.{next_segment}
 use Rattle.twe_machine.specs.Rows.{IsRow}
 use Rattle.twe_machine.specs.Runs.{Legal}
-use Rattle.twe_machine.proofs.Places.{got_one}
+use Rattle.twe_machine.proofs.lists.Places.{got_one}
 use Rattle.determinism_laws.specs.Execution.{Execution, ExecutionsAreInRankOrder, IsNextSegment, ends, joins, spawns}
-use Rattle.determinism_laws.specs.Orders.{EachStandsOnce, Precedes, SegmentAccesses}
+use Rattle.determinism_laws.specs.Orders.{EachStandsOnce, PrecedesIn, SegmentAccesses}
 use Rattle.determinism_laws.specs.Ranks.{ComesBefore, HasRank, IsBelow}
-use Rattle.determinism_laws.specs.Segments.{IsSegment, Spawns, is_run, number_of_segment, state_before}
+use Rattle.determinism_laws.specs.Segments.{IsSegmentOf, Spawns, is_run, number_of_segment, state_before}
 use Rattle.determinism_laws.specs.Sequential.{AreSegmentsBelow, IsRankOrder, IsSegmentAt}
 use Rattle.determinism_laws.proofs.JournalPlaces.{done_at, later_at}
 use Rattle.determinism_laws.proofs.ListOrders.{first_in, second_in}
@@ -34,12 +34,12 @@ use Rattle.determinism_laws.proofs.Trees.{one_segment, own_after, runner}
 
 module _ {X : Type 0} where
   -- who never precedes itself stands once
-  once_if_apart : (xs : List X) → ((x : X) → ¬ Precedes xs x x) → EachStandsOnce xs
+  once_if_apart : (xs : List X) → ((x : X) → ¬ PrecedesIn xs x x) → EachStandsOnce xs
   once_if_apart [] apart = tt
   once_if_apart (x ∷ xs) apart = ((λ c. apart x (inl (refl, c))), once_if_apart xs (λ y h. apart y (inr h)))
 
   -- pairs of two lists, one after the other
-  pair_cases : (xs ys : List X) (a b : X) → Precedes (xs ++ ys) a b → Precedes xs a b ⊎ ((IsIn a xs × IsIn b ys) ⊎ Precedes ys a b)
+  pair_cases : (xs ys : List X) (a b : X) → PrecedesIn (xs ++ ys) a b → PrecedesIn xs a b ⊎ ((IsIn a xs × IsIn b ys) ⊎ PrecedesIn ys a b)
   pair_cases [] ys a b h = inr (inr h)
   pair_cases (x ∷ xs) ys a b (inl here) = elim (in-cases b xs ys (contains-in (xs ++ ys) b here.1)) [
     | inl front ↦ inl (inl (here.0, in-contains xs b front))
@@ -72,7 +72,7 @@ module _ (p : Program) (wf : IsWellFormed p) (keeps : KeepsEffects p) (lim : Bou
       (λ n before segment. let after = own_after p wf keeps lim journal legal u place child n spawn segment in omega (arith, before, after)))
 
   -- each segment has a number of at least 1
-  number_positive : (u n : ℕ) → IsSegment journal u n → 0 < number u n
+  number_positive : (u n : ℕ) → IsSegmentOf journal u n → 0 < number u n
   number_positive u n segment =
       let within = slice_get_within journal n segment.entry segment.there in
       let read : get_or journal n segment.entry ≡ segment.entry = get_or_from_slice_get journal n segment.entry segment.entry segment.there in
@@ -90,7 +90,7 @@ module _ (p : Program) (wf : IsWellFormed p) (keeps : KeepsEffects p) (lim : Bou
     above : least ≤ head
     at : IsSegmentAt p lim journal s.key s
 
-  abbrev own_ranked : (u place : ℕ) (s : SegmentAccesses) → IsSegment journal u place → IsSegmentAt p lim journal place s → IsRanked u (number u place) s
+  abbrev own_ranked : (u place : ℕ) (s : SegmentAccesses) → IsSegmentOf journal u place → IsSegmentAt p lim journal place s → IsRanked u (number u place) s
   own_ranked u place s segment at = record {
     head = number u place;
     tail = [];
@@ -148,7 +148,7 @@ module _ (p : Program) (wf : IsWellFormed p) (keeps : KeepsEffects p) (lim : Bou
       let above = rb.above in
       in_order u a b (ra.head ∷ ra.tail) (rb.head ∷ rb.tail) ra.has rb.has (inl (omega (arith, same, above)))
 
-  sorted : (u place : ℕ) (xs : List SegmentAccesses) → Execution p lim journal u place xs → (a b : SegmentAccesses) → Precedes xs a b → InOrder u a b
+  sorted : (u place : ℕ) (xs : List SegmentAccesses) → Execution p lim journal u place xs → (a b : SegmentAccesses) → PrecedesIn xs a b → InOrder u a b
   sorted _ _ _ (ends u place s value segment at end) a b (inl here) = absurd (contains-in [] b here.1)
   sorted _ _ _ (ends u place s value segment at end) a b (inr none_left) = absurd none_left
   sorted _ _ _ (joins u place on next s others segment at end is rest) a b (inl here) =
@@ -191,19 +191,19 @@ module _ (p : Program) (wf : IsWellFormed p) (keeps : KeepsEffects p) (lim : Bou
   -- Nothing is left out.
 
   -- the segment of u to which a rank leads first
-  own_place : (rank : List ℕ) (u i n : ℕ) → Rank u i (n ∷ rank) → (k : ℕ) × IsSegment journal u k × (n ≡ number u k)
+  own_place : (rank : List ℕ) (u i n : ℕ) → Rank u i (n ∷ rank) → (k : ℕ) × IsSegmentOf journal u k × (n ≡ number u k)
   own_place [] u i n has = (i, has.0, has.1)
   own_place (next ∷ others) u i n has = (has.0, has.2.segment, has.3)
 
   -- if the rank begins with the number of this segment, the segment is the one meant, or it spawned a child below which it is
-  made_here : (u place i n m : ℕ) (others : List ℕ) → IsSegment journal u place → n ≡ number u place → Rank u i (n ∷ m ∷ others)
+  made_here : (u place i n m : ℕ) (others : List ℕ) → IsSegmentOf journal u place → n ≡ number u place → Rank u i (n ∷ m ∷ others)
       → (child : ℕ) × Spawns p lim journal u place child × Rank child i (m ∷ others)
   made_here u place i n m others segment same has =
       let at : has.0 ≡ place = one_place journal u has.0 place has.2.segment segment (sym has.3 ∙ same) in
       (has.1, subst (λ (k : ℕ). Spawns p lim journal u k has.1) at has.2, has.4)
 
   -- two ends of one entry
-  one_end : (u place child : ℕ) (segment : IsSegment journal u place) → (spawn : Spawns p lim journal u place child) → segment.entry.end ≡ entry_ends.Made child
+  one_end : (u place child : ℕ) (segment : IsSegmentOf journal u place) → (spawn : Spawns p lim journal u place child) → segment.entry.end ≡ entry_ends.Made child
   one_end u place child segment spawn =
       let same : segment.entry ≡ spawn.segment.entry = got_one (slice_get journal place) segment.there spawn.segment.there in
       ap (λ (e : Entry). e.end) same ∙ spawn.made
@@ -213,7 +213,7 @@ module _ (p : Program) (wf : IsWellFormed p) (keeps : KeepsEffects p) (lim : Bou
   IsAmong xs i = (s : SegmentAccesses) × IsIn s xs × IsSegmentAt p lim journal i s
 
   -- after the last segment of a task it has none
-  nothing_later : (u place k : ℕ) (value : ℤ) (segment : IsSegment journal u place) → segment.entry.end ≡ entry_ends.Done value → IsSegment journal u k → ¬ (place < k)
+  nothing_later : (u place k : ℕ) (value : ℤ) (segment : IsSegmentOf journal u place) → segment.entry.end ≡ entry_ends.Done value → IsSegmentOf journal u k → ¬ (place < k)
   nothing_later u place k value segment end again later =
       let may = runner p wf keeps lim journal legal u place segment in
       let kept = (later_at p wf lim journal legal place (suc place) (omega arith)).kept u may.0.0 may.0.1 in
@@ -226,7 +226,7 @@ module _ (p : Program) (wf : IsWellFormed p) (keeps : KeepsEffects p) (lim : Bou
       cc (both)
 
   -- a higher number is that of a later segment
-  later_place : (u place k : ℕ) → IsSegment journal u place → number u place < number u k → place < k
+  later_place : (u place k : ℕ) → IsSegmentOf journal u place → number u place < number u k → place < k
   later_place u place k segment higher =
       elim (cases_order place k) [
         | inl same ↦ let equal = ap (number u) same in absurd (omega (arith, higher, equal))
@@ -237,7 +237,7 @@ module _ (p : Program) (wf : IsWellFormed p) (keeps : KeepsEffects p) (lim : Bou
       ]
 
   -- the one segment that is meant
-  same_place : (u place i n : ℕ) (xs : List SegmentAccesses) (s : SegmentAccesses) → IsSegment journal u place → IsSegmentAt p lim journal place s → IsIn s xs
+  same_place : (u place i n : ℕ) (xs : List SegmentAccesses) (s : SegmentAccesses) → IsSegmentOf journal u place → IsSegmentAt p lim journal place s → IsIn s xs
       → n ≡ number u place → Rank u i (n ∷ []) → IsAmong xs i
   same_place u place i n xs s segment at here same has =
       let place_is : place ≡ i = one_place journal u place i segment has.0 (sym same ∙ has.1) in

@@ -4,10 +4,10 @@
 use Rattle.std.proofs.Common.{◌≡◌, ◌⊎◌, ◌≤◌, ◌<◌, ◌+◌, ◌++◌, ℕ, zero, suc, ℤ, Bool, true, false, cond, List, [], ◌∷◌, length, Option, None, Some, inl, inr, refl, sym, ap, ◌∙◌, subst, arith, nat_lt}
 use Rattle.std.specs.Prelude.{slice_get}
 use Rattle.std.proofs.lemmas.Option.{slice_get_within}
-use Rattle.twe_io.specs.declared.place.Place.{Place}
+use Rattle.twe_base.specs.declared.place.Place.{Place}
 use Rattle.effect_sets.specs.declared.effects.Summary.{Summary}
-use Rattle.twe_limits.specs.declared.fault.FaultKind.TheVariants.{TaskLimit}
-use Rattle.twe_limits.specs.Limits.{Bounds}
+use Rattle.twe_base.specs.declared.fault.FaultKind.TheVariants.{TaskLimit}
+use Rattle.twe_base.specs.Limits.{Bounds}
 use Rattle.seg_journal.specs.declared.journal.End.{End}
 use Rattle.seg_journal.specs.declared.journal.End.TheVariants as entry_ends
 use Rattle.seg_journal.specs.declared.journal.Entry.{Entry}
@@ -18,9 +18,9 @@ use Rattle.twe_program.specs.WellFormed.{IsWellFormed}
 use Rattle.seg_exec.specs.declared.frame.Frame.{Frame}
 use Rattle.seg_exec.specs.declared.stop.Stop.{Stop}
 use Rattle.seg_exec.specs.declared.stop.Stop.TheVariants as stops
-use Rattle.soundness_laws.specs.KeepsEffects.{KeepsEffects}
-use Rattle.segment_laws.specs.Keeps.{NextAfter}
-use Rattle.segment_laws.proofs.SegmentKept.{segment_keeps}
+use Rattle.isolation_laws.specs.soundness.KeepsEffects.{KeepsEffects}
+use Rattle.twe_machine.specs.segment_laws.Keeps.{NextAfter}
+use Rattle.twe_machine.proofs.segment_laws.SegmentKept.{segment_keeps}
 use Rattle.twe_machine.specs.declared.state.State.{State}
 use Rattle.twe_machine.specs.declared.state.TaskRow.{TaskRow}
 use Rattle.twe_machine.specs.declared.state.TaskStatus.TheVariants.{Done, Enabled, Faulted}
@@ -28,13 +28,13 @@ use Rattle.twe_machine.specs.Changes.{made_by, next_segment}
 use Rattle.twe_machine.specs.Moves.{joined_child, parent_of, ran, ready_frame, result_by_kind, state_after_asking, state_after_fault, state_after_join, state_after_make, status_at_start, stop_result, stopped_frame}
 use Rattle.twe_machine.specs.Rows.{IsRow}
 use Rattle.twe_machine.specs.Runs.{Legal, state_after}
-use Rattle.twe_machine.proofs.DoneFirst.{children_joined}
-use Rattle.twe_machine.proofs.LeftAlone.{moves_leave_alone}
-use Rattle.twe_machine.proofs.Places.{below_there, got_one}
+use Rattle.twe_machine.proofs.tasks.DoneFirst.{children_joined}
+use Rattle.twe_machine.proofs.tasks.LeftAlone.{moves_leave_alone}
+use Rattle.twe_machine.proofs.lists.Places.{below_there, got_one}
 use Rattle.determinism_laws.specs.Deterministic.{IsDeterministic}
 use Rattle.determinism_laws.specs.Execution.{DoneTasksAreExecuted, Execution, IsNextSegment, ends, joins, spawns}
 use Rattle.determinism_laws.specs.Orders.{SegmentAccesses}
-use Rattle.determinism_laws.specs.Segments.{IsSegment, Spawns, state_before}
+use Rattle.determinism_laws.specs.Segments.{IsSegmentOf, Spawns, state_before}
 use Rattle.determinism_laws.specs.Sequential.{IsSegmentAt}
 use Rattle.determinism_laws.proofs.BodyRules.{makes_deterministic, never_gets}
 use Rattle.determinism_laws.proofs.Forks.{children_deterministic, same_flag}
@@ -93,14 +93,14 @@ module _ (p : Program) (wf : IsWellFormed p) (keeps : KeepsEffects p) (lim : Bou
 
   -- a segment of u, with the row before it
   record SegmentStands (u place : ℕ) : Type 0 where
-    segment : IsSegment journal u place
+    segment : IsSegmentOf journal u place
     row : TaskRow
     there : IsRow (st place) u row
     enabled : row.status ≡ Enabled
     flag : IsDeterministic p row
     end : EndOf (left_by p (st place) row).stop segment.entry.end
 
-  stands_there : (u place : ℕ) → IsDue u → IsSegment journal u place → SegmentStands u place
+  stands_there : (u place : ℕ) → IsDue u → IsSegmentOf journal u place → SegmentStands u place
   stands_there u place due segment =
       let may = runner p wf keeps lim journal legal u place segment in
       let taken = taken_at p wf lim journal legal place segment.entry segment.there in
@@ -120,7 +120,7 @@ module _ (p : Program) (wf : IsWellFormed p) (keeps : KeepsEffects p) (lim : Bou
       }
 
   -- the row of u after its segment
-  row_after_segment : (u place : ℕ) → IsSegment journal u place → (row : TaskRow) → IsRow (st place) u row → (new : TaskRow) × IsRow (st (suc place)) u new
+  row_after_segment : (u place : ℕ) → IsSegmentOf journal u place → (row : TaskRow) → IsRow (st place) u row → (new : TaskRow) × IsRow (st (suc place)) u new
   row_after_segment u place segment row there = let kept = (later_at p wf lim journal legal place (suc place) (omega arith)).kept u row there in (kept.now, kept.there)
 
   -- if the segment keeps the status of u, there is a next one
@@ -206,7 +206,7 @@ module _ (p : Program) (wf : IsWellFormed p) (keeps : KeepsEffects p) (lim : Bou
   status_by u place at end is row new there here =
       subst (λ (e : End). StatusAfter row.status e new.status) is (status_after p wf lim journal legal u place at.segment row new there here)
 
-  module _ (u place : ℕ) (due : IsDue u) (at : SegmentStands u place) (rest : (v n : ℕ) → place < n → IsDue v → IsSegment journal v n → Executed v n) where
+  module _ (u place : ℕ) (due : IsDue u) (at : SegmentStands u place) (rest : (v n : ℕ) → place < n → IsDue v → IsSegmentOf journal v n → Executed v n) where
     after_make : (child : ℕ) → at.segment.entry.end ≡ entry_ends.Made child → Executed u place
     after_make child made =
         let room = room_for u place child at made in
@@ -233,7 +233,7 @@ module _ (p : Program) (wf : IsWellFormed p) (keeps : KeepsEffects p) (lim : Bou
     by_stop (stops.Fault kind fault_place) is end =
         absurd (no_fault u place due at (λ row new there here. status_by u place at (entry_ends.Fault kind fault_place) end row new there here))
 
-  executed_from : (fuel u place : ℕ) → length journal ≤ place + fuel → IsDue u → IsSegment journal u place → Executed u place
+  executed_from : (fuel u place : ℕ) → length journal ≤ place + fuel → IsDue u → IsSegmentOf journal u place → Executed u place
   executed_from zero u place le due segment =
       let within = slice_get_within journal place segment.entry segment.there in absurd (omega (arith, le, within))
   executed_from (suc fuel) u place le due segment =

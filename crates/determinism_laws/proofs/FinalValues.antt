@@ -1,7 +1,7 @@
 -- A segment that finishes its task gives it its value, which it keeps.
 use Rattle.std.proofs.Common.{◌≡◌, ℕ, suc, ℤ, List, Option, None, Some, refl, sym, ap, ◌∙◌, subst, arith}
 use Rattle.std.specs.Prelude.{slice_get, slice_set}
-use Rattle.twe_limits.specs.Limits.{Bounds}
+use Rattle.twe_base.specs.Limits.{Bounds}
 use Rattle.seg_journal.specs.declared.journal.Entry.{Entry}
 use Rattle.seg_journal.specs.declared.journal.End.{End}
 use Rattle.seg_journal.specs.declared.moves.Kind.{Kind}
@@ -12,7 +12,7 @@ use Rattle.twe_program.specs.WellFormed.{IsWellFormed}
 use Rattle.seg_exec.specs.declared.frame.Frame.{Frame}
 use Rattle.seg_exec.specs.declared.stop.Stop.{Stop}
 use Rattle.seg_exec.specs.declared.stop.Stop.TheVariants as stops
-use Rattle.soundness_laws.specs.KeepsEffects.{KeepsEffects}
+use Rattle.isolation_laws.specs.soundness.KeepsEffects.{KeepsEffects}
 use Rattle.twe_machine.specs.declared.state.State.{State}
 use Rattle.twe_machine.specs.declared.state.TaskRow.{TaskRow}
 use Rattle.twe_machine.specs.declared.state.TaskStatus.TheVariants.{Done}
@@ -21,11 +21,11 @@ use Rattle.twe_machine.specs.Legal.{MayTake}
 use Rattle.twe_machine.specs.Moves.{done_row, joined_child, ran, result_by_kind, state_after_join, stop_result}
 use Rattle.twe_machine.specs.Rows.{IsRow}
 use Rattle.twe_machine.specs.Runs.{Legal, state_after}
-use Rattle.twe_machine.proofs.Halfway.{halfway}
-use Rattle.twe_machine.proofs.Places.{got_one, set_same}
-use Rattle.twe_machine.proofs.Standing.{Stands}
+use Rattle.twe_machine.proofs.standing.Halfway.{halfway}
+use Rattle.twe_machine.proofs.lists.Places.{got_one, set_same}
+use Rattle.twe_machine.proofs.standing.Standing.{Stands}
 use Rattle.determinism_laws.specs.Frames.{EndsGiveValues, left_at}
-use Rattle.determinism_laws.specs.Segments.{IsSegment, state_before}
+use Rattle.determinism_laws.specs.Segments.{IsSegmentOf, state_before}
 use Rattle.determinism_laws.proofs.JournalPlaces.{later_at, stands_at, taken_at, value_end}
 use Rattle.determinism_laws.proofs.NewTasks.{left_by}
 
@@ -57,7 +57,7 @@ module _ (p : Program) (wf : IsWellFormed p) (lim : Bounds) (journal : List Entr
   abbrev st : ℕ → State
   st n = state_before p lim journal n
 
-  ends_with : (u place : ℕ) (segment : IsSegment journal u place) (row : TaskRow) → IsRow (st place) u row → (value : ℤ) → (left_by p (st place) row).stop ≡ stops.Done value
+  ends_with : (u place : ℕ) (segment : IsSegmentOf journal u place) (row : TaskRow) → IsRow (st place) u row → (value : ℤ) → (left_by p (st place) row).stop ≡ stops.Done value
       → IsDoneWith (state_after p lim journal) u value
   ends_with u place segment row there value stop =
       let taken = taken_at p wf lim journal legal place segment.entry segment.there in

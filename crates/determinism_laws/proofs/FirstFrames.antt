@@ -1,9 +1,9 @@
 -- The first segment of a spawned task starts from the frame that was made for it.
 use Rattle.std.proofs.Common.{◌≡◌, ◌≢◌, ℕ, suc, ℤ, Bool, true, false, List, [], Some, sym, ap, ◌∙◌, subst, arith}
 use Rattle.std.specs.Prelude.{slice_get}
-use Rattle.twe_io.specs.declared.place.Place.{Place}
+use Rattle.twe_base.specs.declared.place.Place.{Place}
 use Rattle.effect_sets.specs.declared.effects.Summary.{Summary}
-use Rattle.twe_limits.specs.Limits.{Bounds}
+use Rattle.twe_base.specs.Limits.{Bounds}
 use Rattle.seg_journal.specs.declared.journal.Entry.{Entry}
 use Rattle.twe_program.specs.Program.{Program}
 use Rattle.twe_program.specs.WellFormed.{IsWellFormed}
@@ -12,16 +12,16 @@ use Rattle.seg_exec.specs.declared.frame.Next.{Next}
 use Rattle.seg_exec.specs.declared.frame.Next.TheVariants.{Go}
 use Rattle.seg_exec.specs.declared.stop.Stop.TheVariants as stops
 use Rattle.seg_exec.specs.Giving.{given, given_by}
-use Rattle.segment_laws.proofs.Following.{makes_follow}
-use Rattle.soundness_laws.specs.KeepsEffects.{KeepsEffects}
+use Rattle.twe_machine.proofs.segment_laws.Following.{makes_follow}
+use Rattle.isolation_laws.specs.soundness.KeepsEffects.{KeepsEffects}
 use Rattle.twe_machine.specs.declared.state.State.{State}
 use Rattle.twe_machine.specs.declared.state.TaskRow.{TaskRow}
 use Rattle.twe_machine.specs.declared.state.TaskStatus.{TaskStatus}
 use Rattle.twe_machine.specs.declared.state.TaskStatus.TheVariants.{Made}
 use Rattle.twe_machine.specs.Moves.{awaited_value, parent_of, ready_frame, status_at_start}
-use Rattle.twe_machine.specs.Rows.{IsRow, awaited}
+use Rattle.twe_machine.specs.Rows.{IsRow, row_awaited}
 use Rattle.twe_machine.specs.Runs.{Legal}
-use Rattle.twe_machine.proofs.Places.{got_one}
+use Rattle.twe_machine.proofs.lists.Places.{got_one}
 use Rattle.determinism_laws.specs.Execution.{IsNextSegment}
 use Rattle.determinism_laws.specs.Frames.{ChildrenBegin, StartsFrom, left_at}
 use Rattle.determinism_laws.specs.Segments.{Spawns, state_before}
@@ -55,12 +55,12 @@ module _ (p : Program) (wf : IsWellFormed p) (keeps : KeepsEffects p) (lim : Bou
       sym makes.stops_at ∙ (ap (λ (r : TaskRow). (left_by p (st place) r).stop) same ∙ stop) in
       let child_is : makes.child ≡ made = cc (stops_same) in
       let frame : found.0.frame ≡ record made { task = child; fuel = lim.fuel } = makes.frame ∙ ap (λ (f : Frame). record f { task = child; fuel = lim.fuel }) child_is in
-      let value = awaited_value (st place).tasks (awaited row.frame.next) in
+      let value = awaited_value (st place).tasks (row_awaited row.frame.next) in
       let comes = makes_follow p (given row.frame value) (st place).cells [] made args effects spawned future fault_place stop in
       let go : found.0.frame.next ≡ Go = ap (λ (f : Frame). f.next) frame ∙ ap (λ (f : Frame). f.next) comes.child_is in
       let stays = rows_stay p wf keeps lim journal legal child (suc place) first found.0 is_first
       (not_made spawn.segment.entry.mv.task u makes.spawned found.0.status (sym makes.parent ∙ found.2) makes.status) found.1 in
-      let taken_value = awaited_value (st first).tasks (awaited found.0.frame.next) in
+      let taken_value = awaited_value (st first).tasks (row_awaited found.0.frame.next) in
       let ready : ready_frame (st first).tasks found.0.frame ≡ found.0.frame = ap (λ (n : Next). given_by n found.0.frame taken_value) go in
       record { segment = is_first.segment; row = found.0; there = stays; frame_is = sym (ready ∙ frame) }
 

@@ -8,7 +8,7 @@ use Rattle.seg_journal.specs.declared.journal.End.{End}
 use Rattle.seg_journal.specs.declared.journal.Entry.{Entry}
 use Rattle.seg_journal.specs.declared.moves.Kind.{Kind}
 use Rattle.seg_journal.specs.declared.moves.Kind.TheVariants.{Admit, Run}
-use Rattle.twe_limits.specs.Limits.{Bounds}
+use Rattle.twe_base.specs.Limits.{Bounds}
 use Rattle.twe_program.specs.Program.{Program}
 use Rattle.twe_program.specs.WellFormed.{IsWellFormed}
 use Rattle.seg_exec.specs.declared.frame.Frame.{Frame}
@@ -18,25 +18,25 @@ use Rattle.seg_exec.specs.declared.stop.Stop.{Stop}
 use Rattle.seg_exec.specs.declared.stop.Stop.TheVariants as ends
 use Rattle.seg_exec.specs.Entry.{effects_at, entry_frame}
 use Rattle.seg_exec.specs.Giving.{given}
-use Rattle.segment_laws.specs.Keeps.{IsClosing, NextAfter}
-use Rattle.segment_laws.proofs.Following.{makes_follow}
-use Rattle.segment_laws.proofs.SegmentKept.{segment_keeps}
-use Rattle.soundness_laws.specs.KeepsEffects.{KeepsEffects}
+use Rattle.twe_machine.specs.segment_laws.Keeps.{IsClosing, NextAfter}
+use Rattle.twe_machine.proofs.segment_laws.Following.{makes_follow}
+use Rattle.twe_machine.proofs.segment_laws.SegmentKept.{segment_keeps}
+use Rattle.isolation_laws.specs.soundness.KeepsEffects.{KeepsEffects}
 use Rattle.wait_graph.specs.declared.tasks.Link.{Link}
 use Rattle.twe_machine.specs.declared.state.State.{State}
 use Rattle.twe_machine.specs.declared.state.TaskRow.{TaskRow}
 use Rattle.seg_journal.specs.declared.moves.Move.{Move}
 use Rattle.twe_machine.specs.Legal.{MayMove, MayTake}
 use Rattle.twe_machine.specs.Moves.{awaited_value, frame_without_prints, making_frame, move_result, new_row, parent_of, ready_frame, result_by_kind, start_of}
-use Rattle.twe_machine.specs.Rows.{IsRow, awaited}
+use Rattle.twe_machine.specs.Rows.{IsRow, row_awaited}
 use Rattle.twe_machine.specs.Runs.{IsReached, LegalFrom, entry_of, replayed}
-use Rattle.twe_machine.proofs.Later.{Later}
-use Rattle.twe_machine.proofs.LaterStates.{taken_later}
-use Rattle.twe_machine.proofs.OtherRows.{row_after}
-use Rattle.twe_machine.proofs.Places.{below_there, got_one}
-use Rattle.twe_machine.proofs.ReachedStands.{linked_of, reached_stands, taken_stands}
-use Rattle.twe_machine.proofs.Replayed.{run_more}
-use Rattle.twe_machine.proofs.Standing.{Stands}
+use Rattle.twe_machine.proofs.standing.Later.{Later}
+use Rattle.twe_machine.proofs.standing.LaterStates.{taken_later}
+use Rattle.twe_machine.proofs.tasks.OtherRows.{row_after}
+use Rattle.twe_machine.proofs.lists.Places.{below_there, got_one}
+use Rattle.twe_machine.proofs.standing.ReachedStands.{linked_of, reached_stands, taken_stands}
+use Rattle.twe_machine.proofs.replays.Replayed.{run_more}
+use Rattle.twe_machine.proofs.standing.Standing.{Stands}
 use Rattle.isolation_laws.proofs.journals.Invariant.{Kept}
 use Rattle.isolation_laws.proofs.journals.Journals.{reached_kept}
 use Rattle.isolation_laws.proofs.rows.LinksOfRows.{link_there}
@@ -119,14 +119,14 @@ module _ (p : Program) (wf : IsWellFormed p) (keeps : KeepsEffects p) (lim : Bou
   known row is flag = (forks.frames t row is flag).out
 
   -- a frame that goes on, waits for nobody, or has ended
-  calm : (frame : Frame) (next : Next) → frame.next ≡ next → awaited next ≡ None → (¬ (frame.body ≡ None) → OutOnPath p frame) → ForkFrame p frame
+  calm : (frame : Frame) (next : Next) → frame.next ≡ next → row_awaited next ≡ None → (¬ (frame.body ≡ None) → OutOnPath p frame) → ForkFrame p frame
   calm frame next is none out = record {
-    no_gets = λ on into get. let some = ap awaited (sym is ∙ get) in cc (some, none);
-    joins = λ on into join. let some = ap awaited (sym is ∙ join) in absurd (cc (some, none));
+    no_gets = λ on into get. let some = ap row_awaited (sym is ∙ get) in cc (some, none);
+    joins = λ on into join. let some = ap row_awaited (sym is ∙ join) in absurd (cc (some, none));
     out = out;
   }
 
-  ended_frame : (frame : Frame) (next : Next) → frame.next ≡ next → awaited next ≡ None → frame.body ≡ None → ForkFrame p frame
+  ended_frame : (frame : Frame) (next : Next) → frame.next ≡ next → row_awaited next ≡ None → frame.body ≡ None → ForkFrame p frame
   ended_frame frame next is none body = calm frame next is none (λ some. absurd (some body))
 
   joining : (row : TaskRow) → (is : IsRow st t row) → (flag : IsDeterministic p row) → (on : ℕ) → ((into : Option ℕ) × ((left row).next ≡ Join on into)) ⊎ IsClosing (left row) on
@@ -180,7 +180,7 @@ module _ (p : Program) (wf : IsWellFormed p) (keeps : KeepsEffects p) (lim : Bou
   new_frame u b past after =
       let made = move_row p lim st stands t kind u past b after in
       let makes = made.makes in
-      let value = awaited_value st.tasks (awaited made.row.frame.next) in
+      let value = awaited_value st.tasks (row_awaited made.row.frame.next) in
       let comes = makes_follow p (given made.row.frame value) st.cells [] makes.child makes.args makes.effects makes.spawned makes.future makes.place makes.stops_at in
       let first = record (entry_frame p comes.task makes.args) { task = u; fuel = lim.fuel } in
       let same : b.frame ≡ first = makes.frame ∙ ap (λ (f : Frame). record f { task = u; fuel = lim.fuel }) comes.child_is in
@@ -250,7 +250,7 @@ module _ (p : Program) (wf : IsWellFormed p) (keeps : KeepsEffects p) (lim : Bou
   children_deterministic st reached = (reached_forks st reached).children
 
   child_awaited : (st : State) → IsReached p lim st → (t on : ℕ) (row : TaskRow) → IsRow st t row → IsDeterministic p row
-      → (next : Next) → row.frame.next ≡ next → awaited next ≡ Some on → (child : TaskRow) × IsRow st on child × (child.parent ≡ Some t)
+      → (next : Next) → row.frame.next ≡ next → row_awaited next ≡ Some on → (child : TaskRow) × IsRow st on child × (child.parent ≡ Some t)
   child_awaited st reached t on row is flag Go e waits = absurd (cc (waits))
   child_awaited st reached t on row is flag (Get other into) e waits = absurd (((reached_forks st reached).frames t row is flag).no_gets other into e)
   child_awaited st reached t on row is flag (Join other into) e waits =
@@ -264,12 +264,12 @@ module _ (p : Program) (wf : IsWellFormed p) (keeps : KeepsEffects p) (lim : Bou
   child_awaited st reached t on row is flag Ended e waits = absurd (cc (waits))
 
   pub awaited_row : (st : State) → IsReached p lim st → (t on : ℕ) (row : TaskRow) → IsRow st t row → IsDeterministic p row
-      → awaited row.frame.next ≡ Some on → (child : TaskRow) × IsRow st on child × (child.parent ≡ Some t)
+      → row_awaited row.frame.next ≡ Some on → (child : TaskRow) × IsRow st on child × (child.parent ≡ Some t)
   awaited_row st reached t on row is flag waits = child_awaited st reached t on row is flag row.frame.next refl waits
 
   -- each child that is waited for is unjoined
   child_listed : (st : State) → IsReached p lim st → (t on : ℕ) (row : TaskRow) → IsRow st t row → IsDeterministic p row
-      → (next : Next) → row.frame.next ≡ next → awaited next ≡ Some on → IsIn on row.frame.out.items
+      → (next : Next) → row.frame.next ≡ next → row_awaited next ≡ Some on → IsIn on row.frame.out.items
   child_listed st reached t on row is flag Go e waits = absurd (cc (waits))
   child_listed st reached t on row is flag (Get other into) e waits = absurd (((reached_forks st reached).frames t row is flag).no_gets other into e)
   child_listed st reached t on row is flag (Join other into) e waits =

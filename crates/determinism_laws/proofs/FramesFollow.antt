@@ -1,10 +1,10 @@
 -- The frame from which a segment starts is the one that the segment of its task before it left.
 use Rattle.std.proofs.Common.{◌≡◌, ◌≢◌, ℕ, suc, ℤ, Bool, List, Some, inl, inr, refl, sym, ap, ◌∙◌, subst, arith}
 use Rattle.std.specs.Prelude.{slice_get}
-use Rattle.twe_io.specs.declared.place.Place.{Place}
+use Rattle.twe_base.specs.declared.place.Place.{Place}
 use Rattle.effect_sets.specs.declared.effects.Summary.{Summary}
-use Rattle.twe_limits.specs.declared.fault.FaultKind.TheVariants.{TaskLimit}
-use Rattle.twe_limits.specs.Limits.{Bounds}
+use Rattle.twe_base.specs.declared.fault.FaultKind.TheVariants.{TaskLimit}
+use Rattle.twe_base.specs.Limits.{Bounds}
 use Rattle.seg_journal.specs.declared.journal.End.{End}
 use Rattle.seg_journal.specs.declared.journal.End.TheVariants as entry_ends
 use Rattle.seg_journal.specs.declared.journal.Entry.{Entry}
@@ -18,9 +18,9 @@ use Rattle.seg_exec.specs.declared.frame.Next.TheVariants.{Go}
 use Rattle.seg_exec.specs.declared.stop.Stop.{Stop}
 use Rattle.seg_exec.specs.declared.stop.Stop.TheVariants as stops
 use Rattle.seg_exec.specs.Giving.{given, given_by}
-use Rattle.soundness_laws.specs.KeepsEffects.{KeepsEffects}
-use Rattle.segment_laws.specs.Keeps.{NextAfter}
-use Rattle.segment_laws.proofs.SegmentKept.{segment_keeps}
+use Rattle.isolation_laws.specs.soundness.KeepsEffects.{KeepsEffects}
+use Rattle.twe_machine.specs.segment_laws.Keeps.{NextAfter}
+use Rattle.twe_machine.proofs.segment_laws.SegmentKept.{segment_keeps}
 use Rattle.wait_graph.specs.declared.tasks.Link.{Link}
 use Rattle.wait_graph.proofs.WaitingLemmas.{WaitsForNobody-waits}
 use Rattle.twe_machine.specs.declared.state.State.{State}
@@ -30,13 +30,13 @@ use Rattle.twe_machine.specs.declared.state.TaskStatus.TheVariants.{Enabled, Mad
 use Rattle.twe_machine.specs.Changes.{IsDoneWith}
 use Rattle.twe_machine.specs.Legal.{MayTake}
 use Rattle.twe_machine.specs.Moves.{awaited_value, frame_without_prints, making_frame, ready_frame, result_by_kind, value_of}
-use Rattle.twe_machine.specs.Rows.{IsRow, awaited}
+use Rattle.twe_machine.specs.Rows.{IsRow, row_awaited}
 use Rattle.twe_machine.specs.Runs.{Legal, state_after}
-use Rattle.twe_machine.proofs.Places.{got_one}
+use Rattle.twe_machine.proofs.lists.Places.{got_one}
 use Rattle.isolation_laws.proofs.rows.LinksOfRows.{done_row, link_there}
 use Rattle.determinism_laws.specs.Execution.{IsNextSegment}
 use Rattle.determinism_laws.specs.Frames.{JoinsTakeValues, MakersGoOn, StartsFrom, left_at}
-use Rattle.determinism_laws.specs.Segments.{IsSegment, state_before}
+use Rattle.determinism_laws.specs.Segments.{IsSegmentOf, state_before}
 use Rattle.determinism_laws.proofs.JournalPlaces.{later_at, stands_at, taken_at, value_end}
 use Rattle.determinism_laws.proofs.NewTasks.{FrameAfter, left_by, move_frame}
 use Rattle.determinism_laws.proofs.RowsBetween.{rows_stay}
@@ -53,7 +53,7 @@ still_admitted (entry_ends.Waits on) status is made = cc (is, made)
 still_admitted (entry_ends.Joins on) status is made = cc (is, made)
 
 module _ (p : Program) (wf : IsWellFormed p) (keeps : KeepsEffects p) (lim : Bounds) (journal : List Entry) (legal : Legal p lim journal)
-    (u place next : ℕ) (segment : IsSegment journal u place) (row : TaskRow) (there : IsRow (state_before p lim journal place) u row) (is_next : IsNextSegment journal u (suc place) next) where
+    (u place next : ℕ) (segment : IsSegmentOf journal u place) (row : TaskRow) (there : IsRow (state_before p lim journal place) u row) (is_next : IsNextSegment journal u (suc place) next) where
   abbrev st : ℕ → State
   st n = state_before p lim journal n
 
@@ -93,14 +93,14 @@ module _ (p : Program) (wf : IsWellFormed p) (keeps : KeepsEffects p) (lim : Bou
   next_is stop is = subst (λ (s : Stop). NextAfter s left) is (segment_keeps p (ready_frame (st place).tasks row.frame) (st place).cells).next
 
   -- after a join
-  awaits : (on : ℕ) → (left_by p (st place) row).stop ≡ stops.Joins on → awaited left.next ≡ Some on
+  awaits : (on : ℕ) → (left_by p (st place) row).stop ≡ stops.Joins on → row_awaited left.next ≡ Some on
   awaits on is = elim (next_is (stops.Joins on) is) [
-    | inl join ↦ ap awaited join.1
-    | inr closing ↦ ap awaited closing.next
+    | inl join ↦ ap row_awaited join.1
+    | inr closing ↦ ap row_awaited closing.next
   ]
 
-  taken_value : (on : ℕ) (value : ℤ) → awaited now.0.frame.next ≡ Some on → IsDoneWith (state_after p lim journal) on value
-      → awaited_value (st next).tasks (awaited now.0.frame.next) ≡ value
+  taken_value : (on : ℕ) (value : ℤ) → row_awaited now.0.frame.next ≡ Some on → IsDoneWith (state_after p lim journal) on value
+      → awaited_value (st next).tasks (row_awaited now.0.frame.next) ≡ value
   taken_value on value waits done =
       let stands = stands_at p wf lim journal legal next in
       let may = runner p wf keeps lim journal legal u next is_next.segment in
@@ -114,7 +114,7 @@ module _ (p : Program) (wf : IsWellFormed p) (keeps : KeepsEffects p) (lim : Bou
       → StartsFrom p lim journal u next (given (frame_without_prints left) value)
   joins_on on value stop done =
       let frame : now.0.frame ≡ frame_without_prints left = subst (λ (s : Stop). FrameAfter s left segment.entry.end now.0) stop own_frame in
-      let waits : awaited now.0.frame.next ≡ Some on = ap (λ (f : Frame). awaited f.next) frame ∙ awaits on stop in
+      let waits : row_awaited now.0.frame.next ≡ Some on = ap (λ (f : Frame). row_awaited f.next) frame ∙ awaits on stop in
       let taken = taken_value on value waits done in
       record { segment = is_next.segment; row = now.0; there = next_row; frame_is = sym (λ i. given (frame i) (taken i)) }
 
@@ -132,7 +132,7 @@ module _ (p : Program) (wf : IsWellFormed p) (keeps : KeepsEffects p) (lim : Bou
       let frame : now.0.frame ≡ making_frame future spawned child (frame_without_prints left) =
       after.1 ∙ ap (λ (n : ℕ). making_frame future spawned n (frame_without_prints left)) number in
       let go : now.0.frame.next ≡ Go = ap (λ (f : Frame). f.next) after.1 ∙ next_is (stops.Make made args effects spawned future fault_place) stop in
-      let value = awaited_value (st next).tasks (awaited now.0.frame.next) in
+      let value = awaited_value (st next).tasks (row_awaited now.0.frame.next) in
       let ready : ready_frame (st next).tasks now.0.frame ≡ now.0.frame = ap (λ (n : Next). given_by n now.0.frame value) go in
       record { segment = is_next.segment; row = now.0; there = next_row; frame_is = sym (ready ∙ frame) }
 

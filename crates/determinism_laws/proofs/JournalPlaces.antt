@@ -2,7 +2,7 @@
 use Rattle.std.proofs.Common.{◌≡◌, ◌≤◌, ℕ, zero, suc, ℤ, List, [], ◌∷◌, take, Some, refl, sym, ap, ◌∙◌, subst, arith}
 use Rattle.std.specs.Prelude.{slice_get}
 use Rattle.seg_journal.specs.declared.journal.Entry.{Entry}
-use Rattle.twe_limits.specs.Limits.{Bounds}
+use Rattle.twe_base.specs.Limits.{Bounds}
 use Rattle.twe_program.specs.Program.{Program}
 use Rattle.twe_program.specs.WellFormed.{IsWellFormed}
 use Rattle.twe_machine.specs.declared.state.State.{State}
@@ -13,12 +13,12 @@ use Rattle.twe_machine.specs.Legal.{MayMove}
 use Rattle.twe_machine.specs.Moves.{move_result, start_of}
 use Rattle.twe_machine.specs.Rows.{HasStatus, IsRow}
 use Rattle.twe_machine.specs.Runs.{IsReached, Legal, LegalFrom, replayed, state_after}
-use Rattle.twe_machine.proofs.DoneStays.{value_stays_on}
-use Rattle.twe_machine.proofs.Later.{Later}
-use Rattle.twe_machine.proofs.LaterStates.{replayed_later}
-use Rattle.twe_machine.proofs.Places.{got_one}
-use Rattle.twe_machine.proofs.ReachedStands.{linked_of, reached_stands}
-use Rattle.twe_machine.proofs.Standing.{Stands}
+use Rattle.twe_machine.proofs.tasks.DoneStays.{value_stays_on}
+use Rattle.twe_machine.proofs.standing.Later.{Later}
+use Rattle.twe_machine.proofs.standing.LaterStates.{replayed_later}
+use Rattle.twe_machine.proofs.lists.Places.{got_one}
+use Rattle.twe_machine.proofs.standing.ReachedStands.{linked_of, reached_stands}
+use Rattle.twe_machine.proofs.standing.Standing.{Stands}
 use Rattle.isolation_laws.proofs.journals.Journals.{beginning_reached}
 use Rattle.determinism_laws.specs.Segments.{state_before}
 

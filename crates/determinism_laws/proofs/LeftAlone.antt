@@ -6,18 +6,18 @@ use Rattle.std.proofs.Common.{◌≡◌, ◌≢◌, ℕ, List, [], ◌∷◌, in
 use Rattle.std.specs.Prelude.{slice_get}
 use Rattle.effect_sets.specs.declared.effects.Effect.{Effect}
 use Rattle.effect_sets.specs.declared.effects.Summary.{Summary}
-use Rattle.effect_sets.specs.Access.{Access as PathAccess, AccessInterferes, AccessInterferesWithSome, CoversAccess, SomeCoversAccess}
+use Rattle.effect_sets.specs.Access.{PathAccess as PathAccess, AccessInterferes, AccessInterferesWithSome, CoversAccess, SomeCoversAccess}
 use Rattle.effect_sets.specs.Covers.{EffectWithin}
 use Rattle.effect_sets.specs.Interference.{SomeInterfere}
 use Rattle.effect_sets.proofs.Accesses.{access-conflicts, effects-conflict, within-covers}
 use Rattle.effect_check.proofs.Members.{in-contains}
 use Rattle.seg_journal.specs.declared.journal.Entry.{Entry}
-use Rattle.twe_limits.specs.Limits.{Bounds}
+use Rattle.twe_base.specs.Limits.{Bounds}
 use Rattle.twe_program.specs.Program.{Program}
 use Rattle.twe_program.specs.WellFormed.{IsWellFormed}
 use Rattle.seg_exec.specs.Access.{Access}
-use Rattle.soundness_laws.specs.DeclaredNow.{access_of}
-use Rattle.soundness_laws.specs.KeepsEffects.{KeepsEffects}
+use Rattle.isolation_laws.specs.soundness.DeclaredNow.{access_of}
+use Rattle.isolation_laws.specs.soundness.KeepsEffects.{KeepsEffects}
 use Rattle.wait_graph.specs.declared.tasks.Link.{Link}
 use Rattle.wait_graph.specs.Chain.{none, more}
 use Rattle.wait_graph.specs.Waiting.{DescendsFrom, IsDone, WaitsOn}
@@ -29,7 +29,7 @@ use Rattle.twe_machine.specs.declared.state.TaskStatus.TheVariants.{Enabled}
 use Rattle.twe_machine.specs.Legal.{MayRun}
 use Rattle.twe_machine.specs.Rows.{HasStatus, IsRow}
 use Rattle.twe_machine.specs.Runs.{Legal, state_after}
-use Rattle.twe_machine.proofs.Places.{got_one}
+use Rattle.twe_machine.proofs.lists.Places.{got_one}
 use Rattle.isolation_laws.proofs.effects.Interference.{AllWithin, any-in, in-any, meet-some}
 use Rattle.isolation_laws.proofs.journals.Invariant.{done_childless}
 use Rattle.isolation_laws.proofs.rows.Descents.{last_step, within_along}

@@ -1,16 +1,16 @@
 -- Lists as orders of their elements: two orders that agree on each pair of some elements have these in one order.
 use Rattle.std.proofs.Common.{◌≡◌, ◌⊎◌, Bool, true, false, cond, List, [], ◌∷◌, ◌++◌, filter, Contains, inl, inr, refl, sym, ap, ◌∙◌, subst}
 use Rattle.effect_check.proofs.Members.{IsIn, contains-in, in-contains, in-left, in-right}
-use Rattle.determinism_laws.specs.Orders.{AgreeOn, EachStandsOnce, Precedes}
+use Rattle.determinism_laws.specs.Orders.{AgreeOn, EachStandsOnce, PrecedesIn}
 
 module _ {X : Type 0} where
   -- who comes first or second in a pair stands in the list
-  pub first_in : (xs : List X) (a b : X) → Precedes xs a b → IsIn a xs
+  pub first_in : (xs : List X) (a b : X) → PrecedesIn xs a b → IsIn a xs
   first_in [] a b h = absurd h
   first_in (x ∷ xs) a b (inl here) = inl (sym here.0)
   first_in (x ∷ xs) a b (inr later) = inr (first_in xs a b later)
 
-  pub second_in : (xs : List X) (a b : X) → Precedes xs a b → IsIn b xs
+  pub second_in : (xs : List X) (a b : X) → PrecedesIn xs a b → IsIn b xs
   second_in [] a b h = absurd h
   second_in (x ∷ xs) a b (inl here) = inr (contains-in xs b here.1)
   second_in (x ∷ xs) a b (inr later) = inr (second_in xs a b later)
@@ -20,7 +20,7 @@ module _ {X : Type 0} where
   not_again x xs a once same h = once.0 (in-contains xs x (subst (λ (y : X). IsIn y xs) (sym same) h))
 
   pub one_order : (xs ys : List X) → EachStandsOnce xs → EachStandsOnce ys → ((x : X) → IsIn x xs → IsIn x ys) → ((x : X) → IsIn x ys → IsIn x xs)
-      → ((a b : X) → Precedes xs a b → Precedes ys a b) → xs ≡ ys
+      → ((a b : X) → PrecedesIn xs a b → PrecedesIn ys a b) → xs ≡ ys
   one_order [] [] once_x once_y forth back keeps = refl
   one_order [] (y ∷ ys) once_x once_y forth back keeps = absurd (back y (inl refl))
   one_order (x ∷ xs) [] once_x once_y forth back keeps = absurd (forth x (inl refl))
@@ -39,7 +39,7 @@ module _ {X : Type 0} where
       λ i. head i ∷ tail i
 
   -- of two elements one comes first, if they differ
-  pub some_order : (xs : List X) (a b : X) → IsIn a xs → IsIn b xs → (a ≡ b) ⊎ (Precedes xs a b ⊎ Precedes xs b a)
+  pub some_order : (xs : List X) (a b : X) → IsIn a xs → IsIn b xs → (a ≡ b) ⊎ (PrecedesIn xs a b ⊎ PrecedesIn xs b a)
   some_order [] a b in_a in_b = absurd in_a
   some_order (x ∷ xs) a b (inl e) (inl k) = inl (e ∙ sym k)
   some_order (x ∷ xs) a b (inl e) (inr h) = inr (inl (inl (sym e, in-contains xs b h)))
@@ -50,7 +50,7 @@ module _ {X : Type 0} where
   ]
 
   -- and not the other
-  pub not_both : (xs : List X) (a b : X) → EachStandsOnce xs → Precedes xs a b → ¬ Precedes xs b a
+  pub not_both : (xs : List X) (a b : X) → EachStandsOnce xs → PrecedesIn xs a b → ¬ PrecedesIn xs b a
   not_both [] a b once ab ba = absurd ab
   not_both (x ∷ xs) a b once (inl here) (inl there) = not_again x xs b once there.0 (contains-in xs b here.1)
   not_both (x ∷ xs) a b once (inl here) (inr ba) = not_again x xs a once here.0 (second_in xs b a ba)
@@ -63,25 +63,25 @@ module _ {X : Type 0} where
   once_front [] ys once = tt
   once_front (x ∷ xs) ys once = (λ c. once.0 (in-contains (xs ++ ys) x (in-left x xs ys (contains-in xs x c))), once_front xs ys once.1)
 
-  pub precedes_front : (xs ys : List X) (a b : X) → Precedes xs a b → Precedes (xs ++ ys) a b
+  pub precedes_front : (xs ys : List X) (a b : X) → PrecedesIn xs a b → PrecedesIn (xs ++ ys) a b
   precedes_front [] ys a b h = absurd h
   precedes_front (x ∷ xs) ys a b (inl here) = inl (here.0, in-contains (xs ++ ys) b (in-left b xs ys (contains-in xs b here.1)))
   precedes_front (x ∷ xs) ys a b (inr later) = inr (precedes_front xs ys a b later)
 
   -- an element of the first part comes before the one that follows this part
-  pub front_precedes : (xs : List X) (s : X) (ys : List X) (a : X) → IsIn a xs → Precedes (xs ++ s ∷ ys) a s
+  pub front_precedes : (xs : List X) (s : X) (ys : List X) (a : X) → IsIn a xs → PrecedesIn (xs ++ s ∷ ys) a s
   front_precedes [] s ys a h = absurd h
   front_precedes (x ∷ xs) s ys a (inl e) = inl (sym e, in-contains (xs ++ s ∷ ys) s (in-right s xs (s ∷ ys) (inl refl)))
   front_precedes (x ∷ xs) s ys a (inr h) = inr (front_precedes xs s ys a h)
 
   -- and what comes before that one is of the first part
-  pub precedes_in_front : (xs : List X) (s : X) (ys : List X) (a : X) → EachStandsOnce (xs ++ s ∷ ys) → Precedes (xs ++ s ∷ ys) a s → IsIn a xs
+  pub precedes_in_front : (xs : List X) (s : X) (ys : List X) (a : X) → EachStandsOnce (xs ++ s ∷ ys) → PrecedesIn (xs ++ s ∷ ys) a s → IsIn a xs
   precedes_in_front [] s ys a once (inl here) = absurd (once.0 here.1)
   precedes_in_front [] s ys a once (inr later) = absurd (not_again s ys s once refl (second_in ys a s later))
   precedes_in_front (x ∷ xs) s ys a once (inl here) = inl (sym here.0)
   precedes_in_front (x ∷ xs) s ys a once (inr later) = inr (precedes_in_front xs s ys a once.1 later)
 
-  pub precedes_of_front : (xs ys : List X) (a b : X) → EachStandsOnce (xs ++ ys) → IsIn b xs → Precedes (xs ++ ys) a b → Precedes xs a b
+  pub precedes_of_front : (xs ys : List X) (a b : X) → EachStandsOnce (xs ++ ys) → IsIn b xs → PrecedesIn (xs ++ ys) a b → PrecedesIn xs a b
   precedes_of_front [] ys a b once in_b h = absurd in_b
   precedes_of_front (x ∷ xs) ys a b once (inl e) (inl here) = absurd (not_again x (xs ++ ys) b once (sym e) (contains-in (xs ++ ys) b here.1))
   precedes_of_front (x ∷ xs) ys a b once (inl e) (inr later) = absurd (not_again x (xs ++ ys) b once (sym e) (second_in (xs ++ ys) a b later))
@@ -121,23 +121,23 @@ module _ {X : Type 0} where
     once_filter (y ∷ ys) once = once_by y ys (q y) once.0 (once_filter ys once.1)
 
     -- pairs of elements that pass, in the list and among those that pass
-    out_by : (y : X) (ys : List X) (a b : X) (t : Bool) → (Precedes (filter q ys) a b → Precedes ys a b) → Precedes (cond t (y ∷ filter q ys) (filter q ys)) a b → Precedes (y ∷ ys) a b
+    out_by : (y : X) (ys : List X) (a b : X) (t : Bool) → (PrecedesIn (filter q ys) a b → PrecedesIn ys a b) → PrecedesIn (cond t (y ∷ filter q ys) (filter q ys)) a b → PrecedesIn (y ∷ ys) a b
     out_by y ys a b true rest (inl here) = inl (here.0, in-contains ys b (in_filter ys b (contains-in (filter q ys) b here.1)).0)
     out_by y ys a b true rest (inr later) = inr (rest later)
     out_by y ys a b false rest h = inr (rest h)
 
-    pub precedes_out : (xs : List X) (a b : X) → Precedes (filter q xs) a b → Precedes xs a b
+    pub precedes_out : (xs : List X) (a b : X) → PrecedesIn (filter q xs) a b → PrecedesIn xs a b
     precedes_out [] a b h = absurd h
     precedes_out (y ∷ ys) a b h = out_by y ys a b (q y) (precedes_out ys a b) h
 
-    into_by : (y : X) (ys : List X) (a b : X) (t : Bool) → q y ≡ t → q a ≡ true → ((y ≡ a) × IsIn b (filter q ys)) ⊎ Precedes (filter q ys) a b
-        → Precedes (cond t (y ∷ filter q ys) (filter q ys)) a b
+    into_by : (y : X) (ys : List X) (a b : X) (t : Bool) → q y ≡ t → q a ≡ true → ((y ≡ a) × IsIn b (filter q ys)) ⊎ PrecedesIn (filter q ys) a b
+        → PrecedesIn (cond t (y ∷ filter q ys) (filter q ys)) a b
     into_by y ys a b true e passes (inl here) = inl (here.0, in-contains (filter q ys) b here.1)
     into_by y ys a b true e passes (inr later) = inr later
     into_by y ys a b false e passes (inl here) = let both : true ≡ false = sym passes ∙ (ap q (sym here.0) ∙ e) in absurd (cc)
     into_by y ys a b false e passes (inr later) = later
 
-    pub precedes_into : (xs : List X) (a b : X) → q a ≡ true → q b ≡ true → Precedes xs a b → Precedes (filter q xs) a b
+    pub precedes_into : (xs : List X) (a b : X) → q a ≡ true → q b ≡ true → PrecedesIn xs a b → PrecedesIn (filter q xs) a b
     precedes_into [] a b pass_a pass_b h = absurd h
     precedes_into (y ∷ ys) a b pass_a pass_b (inl here) = into_by y ys a b (q y) refl pass_a (inl (here.0, filter_in ys b (contains-in ys b here.1) pass_b))
     precedes_into (y ∷ ys) a b pass_a pass_b (inr later) = into_by y ys a b (q y) refl pass_a (inr (precedes_into ys a b pass_a pass_b later))
@@ -145,7 +145,7 @@ module _ {X : Type 0} where
     -- if the two orders agree on the elements that pass, these are in one order
     pub same_filtered : (xs ys : List X) → EachStandsOnce xs → EachStandsOnce ys
         → ((x : X) → IsIn x xs → q x ≡ true → IsIn x ys) → ((x : X) → IsIn x ys → q x ≡ true → IsIn x xs)
-        → ((a b : X) → q a ≡ true → q b ≡ true → Precedes xs a b → Precedes ys a b) → filter q xs ≡ filter q ys
+        → ((a b : X) → q a ≡ true → q b ≡ true → PrecedesIn xs a b → PrecedesIn ys a b) → filter q xs ≡ filter q ys
     same_filtered xs ys once_x once_y forth back keeps =
         one_order (filter q xs) (filter q ys) (once_filter xs once_x) (once_filter ys once_y)
         (λ x h. let k = in_filter xs x h in filter_in ys x (forth x k.0 k.1) k.1)
@@ -158,12 +158,12 @@ module _ {X : Type 0} where
   -- If the relation is mutual, the orders agree both ways.
 
   module _ (Connects : X → X → Type 0) (is_mutual : (a b : X) → Connects a b → Connects b a) where
-    pub agree_back : (xs ys : List X) → AgreeOn Connects xs ys → (a b : X) → Connects a b → Precedes ys a b → Precedes xs a b
+    pub agree_back : (xs ys : List X) → AgreeOn Connects xs ys → (a b : X) → Connects a b → PrecedesIn ys a b → PrecedesIn xs a b
     agree_back xs ys agree a b connects later =
         let in_a = contains-in xs a ((agree.members a).1 (in-contains ys a (first_in ys a b later))) in
         let in_b = contains-in xs b ((agree.members b).1 (in-contains ys b (second_in ys a b later))) in
         elim (some_order xs a b in_a in_b) [
-          | inl same ↦ absurd (not_both ys a b agree.second_once later (subst (λ (x : X). Precedes ys x a) same (subst (λ (x : X). Precedes ys a x) (sym same) later)))
+          | inl same ↦ absurd (not_both ys a b agree.second_once later (subst (λ (x : X). PrecedesIn ys x a) same (subst (λ (x : X). PrecedesIn ys a x) (sym same) later)))
           | inr one ↦ elim one [
             | inl ab ↦ ab
             | inr ba ↦ absurd (not_both ys a b agree.second_once later (agree.agree b a (is_mutual a b connects) ba))

@@ -5,20 +5,20 @@ use Rattle.std.proofs.lemmas.Bool.{cases_eq}
 use Rattle.seg_journal.specs.declared.journal.Entry.{Entry}
 use Rattle.seg_journal.specs.declared.moves.Kind.{Kind}
 use Rattle.seg_journal.specs.declared.moves.Kind.TheVariants.{Admit, Run}
-use Rattle.twe_limits.specs.Limits.{Bounds}
+use Rattle.twe_base.specs.Limits.{Bounds}
 use Rattle.twe_program.specs.Program.{Program}
 use Rattle.twe_program.specs.WellFormed.{IsWellFormed}
-use Rattle.soundness_laws.specs.KeepsEffects.{KeepsEffects}
+use Rattle.isolation_laws.specs.soundness.KeepsEffects.{KeepsEffects}
 use Rattle.wait_graph.specs.Chain.{none, more}
 use Rattle.wait_graph.proofs.ChainLemmas.{Chain-rest, Chain-stays}
 use Rattle.twe_machine.specs.declared.state.State.{State}
 use Rattle.twe_machine.specs.declared.state.TaskRow.{TaskRow}
 use Rattle.twe_machine.specs.Changes.{next_segment}
 use Rattle.twe_machine.specs.Runs.{Legal, state_after}
-use Rattle.twe_machine.proofs.Places.{got_one}
+use Rattle.twe_machine.proofs.lists.Places.{got_one}
 use Rattle.determinism_laws.specs.Orders.{SegmentAccesses}
 use Rattle.determinism_laws.specs.Ranks.{BelowTask, HasParent, IsBelow}
-use Rattle.determinism_laws.specs.Segments.{IsSegment, state_before}
+use Rattle.determinism_laws.specs.Segments.{IsSegmentOf, state_before}
 use Rattle.determinism_laws.specs.Sequential.{IsSegmentAt, SegmentsCanBeListed}
 use Rattle.determinism_laws.proofs.RankLaws.{all_have_ranks, ancestor, one_parent, parent_below, segment_at}
 use Rattle.determinism_laws.proofs.Trees.{runner}
@@ -77,7 +77,7 @@ module _ (p : Program) (wf : IsWellFormed p) (keeps : KeepsEffects p) (lim : Bou
       let both : Admit ≡ Run = sym is ∙ (ap (λ (e : Entry). e.mv.kind) same ∙ runs.1.runs) in
       cc (both))
   at_kind n entry Run there is =
-      let segment : IsSegment journal entry.mv.task n = record { entry = entry; there = there; runs = is; task = refl } in
+      let segment : IsSegmentOf journal entry.mv.task n = record { entry = entry; there = there; runs = is; task = refl } in
       elim (decided entry.mv.task entry.mv.task (omega arith)) [
         | inl below ↦ inl (all_have_ranks p wf keeps lim journal legal t n entry.mv.task segment below)
         | inr outside ↦ inr (λ below. outside (ancestor p wf keeps lim journal legal below.0 t n entry.mv.task below.1 segment))

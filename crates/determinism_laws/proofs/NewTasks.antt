@@ -3,9 +3,9 @@
 use Rattle.std.proofs.Common.{◌≡◌, ◌⊎◌, ◌≤◌, ◌<◌, ◌+◌, ◌++◌, ℕ, ℤ, Bool, true, false, cond, List, [], ◌∷◌, length, Option, None, Some, inl, inr, refl, sym, ap, ◌∙◌, subst, arith, nat_lt, length-set, ltb-true}
 use Rattle.std.specs.Prelude.{slice_get, slice_set}
 use Rattle.std.proofs.lemmas.Option.{slice_get_within}
-use Rattle.twe_io.specs.declared.place.Place.{Place}
-use Rattle.twe_limits.specs.declared.fault.FaultKind.TheVariants.{TaskLimit}
-use Rattle.twe_limits.specs.Limits.{Bounds}
+use Rattle.twe_base.specs.declared.place.Place.{Place}
+use Rattle.twe_base.specs.declared.fault.FaultKind.TheVariants.{TaskLimit}
+use Rattle.twe_base.specs.Limits.{Bounds}
 use Rattle.effect_sets.specs.declared.effects.Summary.{Summary}
 use Rattle.seg_journal.specs.declared.journal.End.{End}
 use Rattle.seg_journal.specs.declared.journal.End.TheVariants as ends
@@ -23,10 +23,10 @@ use Rattle.twe_machine.specs.declared.state.TaskRow.{TaskRow}
 use Rattle.twe_machine.specs.Legal.{MayTake}
 use Rattle.twe_machine.specs.Moves.{admitted, admitted_row, done_row, faulted_row, frame_without_prints, going_row, joined_child, making_frame, new_row, parent_of, ran, ready_frame, result_by_kind, state_after_asking, state_after_fault, state_after_join, state_after_make, status_at_start, stop_result, stopped_frame}
 use Rattle.twe_machine.specs.Rows.{IsRow}
-use Rattle.twe_machine.proofs.Halfway.{halfway}
-use Rattle.twe_machine.proofs.JoinedWeight.{length_joined}
-use Rattle.twe_machine.proofs.Places.{got_one, put_before, put_cases, set_same}
-use Rattle.twe_machine.proofs.Standing.{Stands}
+use Rattle.twe_machine.proofs.standing.Halfway.{halfway}
+use Rattle.twe_machine.proofs.weight.JoinedWeight.{length_joined}
+use Rattle.twe_machine.proofs.lists.Places.{got_one, put_before, put_cases, set_same}
+use Rattle.twe_machine.proofs.standing.Standing.{Stands}
 
 -- A segment of t with this stop made task c, which has this row: the stop is at the make of a frame of the row's
 -- declaration, and t is the row's parent if the make is a spawn. It begins as it was made.

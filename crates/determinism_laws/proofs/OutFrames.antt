@@ -4,8 +4,8 @@ use Rattle.std.proofs.Common.{◌≡◌, ◌≢◌, ◌<◌, ◌==◌, ◌||◌,
 use Rattle.std.specs.Prelude.{slice_get}
 use Rattle.std.proofs.lemmas.Bool.{cases_Bool, false≢true}
 use Rattle.std.proofs.lemmas.Option.{slice_get_within}
-use Rattle.twe_io.specs.declared.place.Place.{Place}
-use Rattle.twe_limits.specs.Limits.{Bounds}
+use Rattle.twe_base.specs.declared.place.Place.{Place}
+use Rattle.twe_base.specs.Limits.{Bounds}
 use Rattle.effect_sets.specs.declared.effects.Summary.{Summary}
 use Rattle.twe_program.specs.declared.program.Body.{Body}
 use Rattle.twe_program.specs.Program.{Program}
@@ -26,21 +26,21 @@ use Rattle.seg_exec.specs.Entry.{entry_frame}
 use Rattle.seg_exec.specs.Giving.{given, without}
 use Rattle.seg_exec.specs.Meaning.{body_of}
 use Rattle.seg_exec.specs.Segment.{task_of}
-use Rattle.soundness_laws.specs.KeepsEffects.{KeepsEffects}
-use Rattle.segment_laws.specs.Keeps.{NextAfter}
-use Rattle.segment_laws.specs.Left.{left_of}
-use Rattle.segment_laws.specs.Operations.{ComesToMake, ComesToWait}
-use Rattle.segment_laws.specs.Passes.{Passes}
-use Rattle.segment_laws.specs.Ready.{futures_at}
-use Rattle.segment_laws.proofs.BeingReady.{ready_declared, ready_given}
-use Rattle.segment_laws.proofs.Following.{given_left, joins_follow, makes_follow}
-use Rattle.segment_laws.proofs.SegmentKept.{segment_keeps}
+use Rattle.isolation_laws.specs.soundness.KeepsEffects.{KeepsEffects}
+use Rattle.twe_machine.specs.segment_laws.Keeps.{NextAfter}
+use Rattle.twe_machine.specs.segment_laws.Left.{left_of}
+use Rattle.twe_machine.specs.segment_laws.Operations.{ComesToMake, ComesToWait}
+use Rattle.twe_machine.specs.segment_laws.Passes.{Passes}
+use Rattle.twe_machine.specs.segment_laws.Ready.{futures_at}
+use Rattle.twe_machine.proofs.segment_laws.BeingReady.{ready_declared, ready_given}
+use Rattle.twe_machine.proofs.segment_laws.Following.{given_left, joins_follow, makes_follow}
+use Rattle.twe_machine.proofs.segment_laws.SegmentKept.{segment_keeps}
 use Rattle.twe_machine.specs.declared.state.State.{State}
 use Rattle.twe_machine.specs.declared.state.TaskRow.{TaskRow}
 use Rattle.twe_machine.specs.Moves.{awaited_value, frame_without_prints, making_frame}
-use Rattle.twe_machine.specs.Rows.{IsRow, awaited}
-use Rattle.twe_machine.proofs.Members.{contains_in, in_contains, in_without}
-use Rattle.twe_machine.proofs.Standing.{Stands}
+use Rattle.twe_machine.specs.Rows.{IsRow, row_awaited}
+use Rattle.twe_machine.proofs.lists.Members.{contains_in, in_contains, in_without}
+use Rattle.twe_machine.proofs.standing.Standing.{Stands}
 use Rattle.isolation_laws.proofs.frames.AfterSegment.{after, after_decl, after_futures, after_out}
 use Rattle.isolation_laws.proofs.frames.EndedBody.{some_at_join, some_at_make}
 use Rattle.isolation_laws.proofs.frames.Frames.{given_futures, still_out}
@@ -86,7 +86,7 @@ others_in u on out differ h =
 module _ (p : Program) (keeps : KeepsEffects p) (lim : Bounds) (st : State) (stands : Stands p lim st) (kept : Kept p st)
     (t : ℕ) (row : TaskRow) (is_t : IsRow st t row) (flag : IsDeterministic p row) (known : ¬ (row.frame.body ≡ None) → OutOnPath p row.frame) where
   abbrev taken : ℤ
-  taken = awaited_value st.tasks (awaited row.frame.next)
+  taken = awaited_value st.tasks (row_awaited row.frame.next)
 
   abbrev ended : Frame
   ended = after p row.frame taken st.cells

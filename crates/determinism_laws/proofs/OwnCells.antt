@@ -3,29 +3,29 @@ use Rattle.std.proofs.Common.{◌≡◌, ◌+◌, ℕ, zero, suc, ℤ, pos, true
 use Rattle.std.specs.Prelude.{slice_get}
 use Rattle.std.specs.List.{list_any}
 use Rattle.std.proofs.lemmas.Bool.{cases_Bool}
-use Rattle.effect_sets.specs.Access.{Access as PathAccess, AccessInterferesWithSome}
+use Rattle.effect_sets.specs.Access.{PathAccess as PathAccess, AccessInterferesWithSome}
 use Rattle.effect_check.proofs.Members.{in-contains, list_any-in}
 use Rattle.seg_journal.specs.declared.journal.Entry.{Entry}
 use Rattle.seg_journal.specs.declared.moves.Kind.{Kind}
 use Rattle.seg_journal.specs.declared.moves.Kind.TheVariants.{Admit, Run}
-use Rattle.twe_limits.specs.Limits.{Bounds}
+use Rattle.twe_base.specs.Limits.{Bounds}
 use Rattle.twe_program.specs.Program.{Program}
 use Rattle.twe_program.specs.WellFormed.{IsWellFormed}
 use Rattle.seg_exec.specs.Access.{Access, Prints, Reads, Writes, after}
 use Rattle.seg_exec.proofs.Determined.{segment_agrees}
-use Rattle.soundness_laws.specs.DeclaredNow.{access_of}
-use Rattle.soundness_laws.specs.KeepsEffects.{KeepsEffects}
+use Rattle.isolation_laws.specs.soundness.DeclaredNow.{access_of}
+use Rattle.isolation_laws.specs.soundness.KeepsEffects.{KeepsEffects}
 use Rattle.twe_machine.specs.declared.state.State.{State}
 use Rattle.twe_machine.specs.declared.state.TaskRow.{TaskRow}
 use Rattle.twe_machine.specs.Changes.{ResultsAfter, next_segment}
 use Rattle.twe_machine.specs.Moves.{move_result, ready_frame}
 use Rattle.twe_machine.specs.Rows.{IsRow}
 use Rattle.twe_machine.specs.Runs.{Legal, state_after}
-use Rattle.twe_machine.proofs.LeftAlone.{moves_leave_alone}
+use Rattle.twe_machine.proofs.tasks.LeftAlone.{moves_leave_alone}
 use Rattle.determinism_laws.specs.Deterministic.{IsDeterministic}
 use Rattle.determinism_laws.specs.Orders.{SegmentAccesses, after_all, is_write_of}
 use Rattle.determinism_laws.specs.Ranks.{IsBelow}
-use Rattle.determinism_laws.specs.Segments.{IsSegment, SegmentMakes, state_before}
+use Rattle.determinism_laws.specs.Segments.{IsSegmentOf, SegmentMakes, state_before}
 use Rattle.determinism_laws.specs.Sequential.{AreSegmentsBelow, IsEnabledThroughout, IsUnder}
 use Rattle.determinism_laws.proofs.JournalPlaces.{reached_at, taken_at}
 use Rattle.determinism_laws.proofs.LeftAlone.{left_alone}
@@ -54,7 +54,7 @@ module _ (p : Program) (wf : IsWellFormed p) (keeps : KeepsEffects p) (lim : Bou
   st n = state_before p lim journal n
 
   -- the cells after a segment
-  segment_cells : (s n : ℕ) (row : TaskRow) → IsSegment journal s n → IsRow (st n) s row → (st (suc n)).cells ≡ after (st n).cells (next_segment p (st n) row).accesses
+  segment_cells : (s n : ℕ) (row : TaskRow) → IsSegmentOf journal s n → IsRow (st n) s row → (st (suc n)).cells ≡ after (st n).cells (next_segment p (st n) row).accesses
   segment_cells s n row segment there =
       let taken = taken_at p wf lim journal legal n segment.entry segment.there in
       let alone = moves_leave_alone p lim (st n) segment.entry.mv wf (reached_at p wf lim journal legal n) taken.may in
@@ -74,7 +74,7 @@ module _ (p : Program) (wf : IsWellFormed p) (keeps : KeepsEffects p) (lim : Bou
 
   module _ (t : ℕ) (row : TaskRow) (final : IsRow (state_after p lim journal) t row) (flag : IsDeterministic p row) (cell : ℕ) (under : IsUnder p row cell) where
     -- a segment that is not below t does not write the cell
-    unwritten_outside : (n s : ℕ) (own : TaskRow) → IsSegment journal s n → IsRow (st n) s own → ¬ IsBelow p lim journal t n → IsEnabledThroughout p lim journal t n 1
+    unwritten_outside : (n s : ℕ) (own : TaskRow) → IsSegmentOf journal s n → IsRow (st n) s own → ¬ IsBelow p lim journal t n → IsEnabledThroughout p lim journal t n 1
         → list_any (is_write_of cell) (next_segment p (st n) own).accesses ≡ false
     unwritten_outside n s own segment there outside enabled =
         elim (cases_Bool (list_any (is_write_of cell) (next_segment p (st n) own).accesses)) [
@@ -90,7 +90,7 @@ module _ (p : Program) (wf : IsWellFormed p) (keeps : KeepsEffects p) (lim : Bou
         → slice_get (st (suc n)).cells cell ≡ slice_get (st n).cells cell
     by_kind n entry Admit there is outside enabled = ap (λ (cells : List ℤ). slice_get cells cell) (quiet_cells n Admit entry there is refl)
     by_kind n entry Run there is outside enabled =
-        let segment : IsSegment journal entry.mv.task n = record { entry = entry; there = there; runs = is; task = refl } in
+        let segment : IsSegmentOf journal entry.mv.task n = record { entry = entry; there = there; runs = is; task = refl } in
         let may = runner p wf keeps lim journal legal entry.mv.task n segment in
         ap (λ (cells : List ℤ). slice_get cells cell) (segment_cells entry.mv.task n may.0.0 segment may.0.1)
         ∙ unwritten (next_segment p (st n) may.0.0).accesses (st n).cells cell (unwritten_outside n entry.mv.task may.0.0 segment may.0.1 outside enabled)

@@ -7,19 +7,19 @@ use Rattle.effect_sets.specs.Access.{AccessInterferes, CoversAccess, SomeCoversA
 use Rattle.region_paths.specs.Concrete.{InSet}
 use Rattle.effect_check.proofs.Members.{IsIn, contains-in, in-cases, in-contains, in-right, list_any-in}
 use Rattle.seg_journal.specs.declared.journal.Entry.{Entry}
-use Rattle.twe_limits.specs.Limits.{Bounds}
+use Rattle.twe_base.specs.Limits.{Bounds}
 use Rattle.twe_program.specs.Program.{Program}
 use Rattle.twe_program.specs.WellFormed.{IsWellFormed}
 use Rattle.seg_exec.specs.Access.{Access, Prints, Reads, Writes}
-use Rattle.soundness_laws.specs.CellPaths.{path_of_cell}
-use Rattle.soundness_laws.specs.DeclaredNow.{access_of}
-use Rattle.soundness_laws.specs.KeepsEffects.{KeepsEffects}
+use Rattle.isolation_laws.specs.soundness.CellPaths.{path_of_cell}
+use Rattle.isolation_laws.specs.soundness.DeclaredNow.{access_of}
+use Rattle.isolation_laws.specs.soundness.KeepsEffects.{KeepsEffects}
 use Rattle.twe_machine.specs.declared.state.TaskRow.{TaskRow}
 use Rattle.twe_machine.specs.Rows.{IsRow}
 use Rattle.twe_machine.specs.Runs.{Legal, state_after}
 use Rattle.isolation_laws.proofs.effects.Interference.{any-in, in-any}
 use Rattle.determinism_laws.specs.Deterministic.{IsDeterministic}
-use Rattle.determinism_laws.specs.Orders.{AgreeOn, EachStandsOnce, Precedes, SegmentAccesses, SegmentsConflict, accesses_cell, after_all, is_access_of}
+use Rattle.determinism_laws.specs.Orders.{AgreeOn, EachStandsOnce, PrecedesIn, SegmentAccesses, SegmentsConflict, accesses_cell, after_all, is_access_of}
 use Rattle.determinism_laws.specs.Ranks.{ComesBefore, IsBelow}
 use Rattle.determinism_laws.specs.Segments.{SegmentMakes, state_before}
 use Rattle.determinism_laws.specs.Sequential.{AreSegmentsBelow, ExecuteAlike, ExecutesInRankOrder, IsEnabledThroughout, IsRankOrder, IsSegmentAt, IsUnder}
@@ -41,7 +41,7 @@ module _ {X : Type 0} where
     push_once ys x once.1 (λ h. apart (inr h)),
   )
 
-  push_pairs : (xs : List X) (x a b : X) → Precedes (xs ++ x ∷ []) a b → Precedes xs a b ⊎ (IsIn a xs × (b ≡ x))
+  push_pairs : (xs : List X) (x a b : X) → PrecedesIn (xs ++ x ∷ []) a b → PrecedesIn xs a b ⊎ (IsIn a xs × (b ≡ x))
   push_pairs [] x a b (inl here) = absurd (contains-in [] b here.1)
   push_pairs [] x a b (inr later) = absurd later
   push_pairs (y ∷ ys) x a b (inl here) = elim (in-cases b ys (x ∷ []) (contains-in (ys ++ x ∷ []) b here.1)) [
@@ -118,11 +118,11 @@ module _ (p : Program) (wf : IsWellFormed p) (keeps : KeepsEffects p) (lim : Bou
       (push_once last.0 last.1 (segments_once from count last.0 last.2)
       (λ here. let known = listed_at from count last.0 last.2 last.1 here in omega (arith, known.most, last.4.key)))
 
-  segments_sorted : (from count : ℕ) (segments : List SegmentAccesses) → Listed from count segments → (a b : SegmentAccesses) → Precedes segments a b → a.key < b.key
-  segments_sorted from zero segments listed a b pair = absurd (subst (λ (xs : List SegmentAccesses). Precedes xs a b) listed pair)
+  segments_sorted : (from count : ℕ) (segments : List SegmentAccesses) → Listed from count segments → (a b : SegmentAccesses) → PrecedesIn segments a b → a.key < b.key
+  segments_sorted from zero segments listed a b pair = absurd (subst (λ (xs : List SegmentAccesses). PrecedesIn xs a b) listed pair)
   segments_sorted from (suc count) segments (inr outside) a b pair = segments_sorted from count segments outside.1 a b pair
   segments_sorted from (suc count) segments (inl last) a b pair =
-      elim (push_pairs last.0 last.1 a b (subst (λ (xs : List SegmentAccesses). Precedes xs a b) last.5 pair)) [
+      elim (push_pairs last.0 last.1 a b (subst (λ (xs : List SegmentAccesses). PrecedesIn xs a b) last.5 pair)) [
         | inl before ↦ segments_sorted from count last.0 last.2 a b before
         | inr pushed ↦
             let known = listed_at from count last.0 last.2 a pushed.0 in
@@ -176,7 +176,7 @@ module _ (p : Program) (wf : IsWellFormed p) (keeps : KeepsEffects p) (lim : Bou
     in_ordered a h = contains-in ordered a ((order.members a).0 (in-contains segments a h))
 
     -- the orders agree on conflicts
-    agree_pair : (a b : SegmentAccesses) → SegmentsConflict p a b → Precedes segments a b → Precedes ordered a b
+    agree_pair : (a b : SegmentAccesses) → SegmentsConflict p a b → PrecedesIn segments a b → PrecedesIn ordered a b
     agree_pair a b conflict pair =
         let known_a = listed_at from count segments listed a (first_in segments a b pair) in
         let known_b = listed_at from count segments listed b (second_in segments a b pair) in

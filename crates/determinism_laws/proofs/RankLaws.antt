@@ -3,20 +3,20 @@ use Rattle.std.proofs.Common.{◌≡◌, ◌⊎◌, ◌≤◌, ◌<◌, ℕ, Lis
 use Rattle.std.specs.Prelude.{slice_get}
 use Rattle.std.proofs.lemmas.Bool.{cases_order}
 use Rattle.seg_journal.specs.declared.journal.Entry.{Entry}
-use Rattle.twe_limits.specs.Limits.{Bounds}
+use Rattle.twe_base.specs.Limits.{Bounds}
 use Rattle.twe_program.specs.Program.{Program}
 use Rattle.twe_program.specs.WellFormed.{IsWellFormed}
-use Rattle.soundness_laws.specs.KeepsEffects.{KeepsEffects}
+use Rattle.isolation_laws.specs.soundness.KeepsEffects.{KeepsEffects}
 use Rattle.wait_graph.specs.Chain.{Chain, none, more}
 use Rattle.wait_graph.proofs.ChainLemmas.{Chain-fork, Chain-push}
 use Rattle.twe_machine.specs.declared.state.State.{State}
 use Rattle.twe_machine.specs.declared.state.TaskRow.{TaskRow}
 use Rattle.twe_machine.specs.Runs.{IsReached, Legal, state_after}
-use Rattle.twe_machine.proofs.Places.{got_one}
-use Rattle.twe_machine.proofs.ReachedStands.{reached_stands}
-use Rattle.twe_machine.proofs.Standing.{Stands}
+use Rattle.twe_machine.proofs.lists.Places.{got_one}
+use Rattle.twe_machine.proofs.standing.ReachedStands.{reached_stands}
+use Rattle.twe_machine.proofs.standing.Standing.{Stands}
 use Rattle.determinism_laws.specs.Ranks.{AllHaveRanks, BelowTask, ComesBefore, HasParent, HasRank, IsBelow, OneRankEach, OneSegmentEach, SegmentsAreInOrder}
-use Rattle.determinism_laws.specs.Segments.{IsSegment, Spawns, number_of_segment}
+use Rattle.determinism_laws.specs.Segments.{IsSegmentOf, Spawns, number_of_segment}
 use Rattle.determinism_laws.proofs.RankOrder.{same_child}
 use Rattle.determinism_laws.proofs.SegmentNumbers.{numbers_grow}
 use Rattle.determinism_laws.proofs.Spawners.{spawner}
@@ -37,7 +37,7 @@ lists_in_order (x ∷ xs) (y ∷ ys) =
     ]
 
 -- two segments of one task have different numbers
-pub one_place : (journal : List Entry) (t i j : ℕ) → IsSegment journal t i → IsSegment journal t j → number_of_segment journal t i ≡ number_of_segment journal t j → i ≡ j
+pub one_place : (journal : List Entry) (t i j : ℕ) → IsSegmentOf journal t i → IsSegmentOf journal t j → number_of_segment journal t i ≡ number_of_segment journal t j → i ≡ j
 one_place journal t i j a b same =
     elim (cases_order i j) [
       | inl e ↦ e
@@ -77,13 +77,13 @@ module _ (p : Program) (wf : IsWellFormed p) (keeps : KeepsEffects p) (lim : Bou
   spawn_parent t n c spawn = (spawn.child, spawn.there, spawn.parent)
 
   -- the task of a segment below c has c as an ancestor
-  pub ancestor : (rank : List ℕ) (c i u : ℕ) → HasRank p lim journal c i rank → IsSegment journal u i → Chain (HasParent final) u c
+  pub ancestor : (rank : List ℕ) (c i u : ℕ) → HasRank p lim journal c i rank → IsSegmentOf journal u i → Chain (HasParent final) u c
   ancestor [] c i u has segment = absurd has
   ancestor (number ∷ []) c i u has segment = subst (λ (x : ℕ). Chain (HasParent final) u x) (one_segment journal u c i segment has.0) none
   ancestor (number ∷ next ∷ others) c i u has segment =
       Chain-push (ancestor (next ∷ others) has.1 i u has.4 segment) (spawn_parent c has.0 has.1 has.2)
 
-  pub segment_at : (rank : List ℕ) (c i : ℕ) → HasRank p lim journal c i rank → (u : ℕ) × IsSegment journal u i
+  pub segment_at : (rank : List ℕ) (c i : ℕ) → HasRank p lim journal c i rank → (u : ℕ) × IsSegmentOf journal u i
   segment_at [] c i has = absurd has
   segment_at (number ∷ []) c i has = (c, has.0)
   segment_at (number ∷ next ∷ others) c i has = segment_at (next ∷ others) has.1 i has.4
@@ -107,7 +107,7 @@ module _ (p : Program) (wf : IsWellFormed p) (keeps : KeepsEffects p) (lim : Bou
       ]
 
   -- a segment of t is not below a child of t
-  not_below_child : (t c i : ℕ) (rank : List ℕ) → HasParent final c t → IsSegment journal t i → ¬ HasRank p lim journal c i rank
+  not_below_child : (t c i : ℕ) (rank : List ℕ) → HasParent final c t → IsSegmentOf journal t i → ¬ HasRank p lim journal c i rank
   not_below_child t c i rank of segment has =
       let below = chain_below (ancestor rank c i t has segment) in
       let above = parent_below c t of in

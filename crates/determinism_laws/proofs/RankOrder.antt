@@ -8,16 +8,16 @@ use Rattle.std.specs.Prelude.{slice_get}
 use Rattle.std.proofs.lemmas.Bool.{cases_Bool, cases_order}
 use Rattle.effect_sets.specs.declared.effects.Effect.{Effect}
 use Rattle.effect_sets.specs.declared.effects.Summary.{Summary}
-use Rattle.effect_sets.specs.Access.{Access as PathAccess, AccessInterferes, AccessInterferesWithSome, Conflict, CoversAccess, SomeCoversAccess}
+use Rattle.effect_sets.specs.Access.{PathAccess as PathAccess, AccessInterferes, AccessInterferesWithSome, Conflict, CoversAccess, SomeCoversAccess}
 use Rattle.effect_sets.proofs.Accesses.{access-conflicts, lists-apart}
 use Rattle.seg_journal.specs.declared.journal.End.TheVariants as ends
 use Rattle.seg_journal.specs.declared.journal.Entry.{Entry}
-use Rattle.twe_limits.specs.Limits.{Bounds}
+use Rattle.twe_base.specs.Limits.{Bounds}
 use Rattle.twe_program.specs.Program.{Program}
 use Rattle.twe_program.specs.WellFormed.{IsWellFormed}
 use Rattle.seg_exec.specs.Access.{Access}
-use Rattle.soundness_laws.specs.DeclaredNow.{access_of}
-use Rattle.soundness_laws.specs.KeepsEffects.{KeepsEffects}
+use Rattle.isolation_laws.specs.soundness.DeclaredNow.{access_of}
+use Rattle.isolation_laws.specs.soundness.KeepsEffects.{KeepsEffects}
 use Rattle.wait_graph.specs.declared.tasks.Link.{Link}
 use Rattle.wait_graph.specs.Waiting.{SpawnedBy}
 use Rattle.twe_machine.specs.declared.state.State.{State}
@@ -25,14 +25,14 @@ use Rattle.twe_machine.specs.declared.state.TaskRow.{TaskRow}
 use Rattle.twe_machine.specs.declared.state.TaskStatus.TheVariants.{Done}
 use Rattle.twe_machine.specs.Rows.{HasStatus, IsRow}
 use Rattle.twe_machine.specs.Runs.{Legal}
-use Rattle.twe_machine.proofs.Places.{got_one}
+use Rattle.twe_machine.proofs.lists.Places.{got_one}
 use Rattle.isolation_laws.proofs.effects.Interference.{any-in, in-any}
 use Rattle.isolation_laws.proofs.journals.Journals.{children_apart}
 use Rattle.isolation_laws.proofs.rows.LinksOfRows.{done_row, link_there}
 use Rattle.isolation_laws.proofs.running.Covered.{spared}
 use Rattle.determinism_laws.specs.ElisionOrder.{ConflictsKeepRanks}
 use Rattle.determinism_laws.specs.Ranks.{ComesBefore, HasRank}
-use Rattle.determinism_laws.specs.Segments.{IsSegment, SegmentMakes, Spawns, number_of_segment, state_before}
+use Rattle.determinism_laws.specs.Segments.{IsSegmentOf, SegmentMakes, Spawns, number_of_segment, state_before}
 use Rattle.determinism_laws.proofs.JournalPlaces.{done_at, later_at, reached_at, stands_at}
 use Rattle.determinism_laws.proofs.SegmentNumbers.{numbers_grow}
 use Rattle.determinism_laws.proofs.Trees.{Holds, holds_at, kept_at, one_segment, runner, spawned_before, spawned_number, spawned_row_at, spawned_there}
@@ -77,7 +77,7 @@ module _ (p : Program) (wf : IsWellFormed p) (keeps : KeepsEffects p) (lim : Bou
       subst (λ (x : Summary). SomeCoversAccess x.effects (access_of p y)) effects (holds.covers s y makes)
 
   -- a segment of t after the spawn of c, and a later one below c
-  parent_spares : (t i spawn c j : ℕ) (rank : List ℕ) → IsSegment journal t i → Spawns p lim journal t spawn c → spawn < i → i < j
+  parent_spares : (t i spawn c j : ℕ) (rank : List ℕ) → IsSegmentOf journal t i → Spawns p lim journal t spawn c → spawn < i → i < j
       → HasRank p lim journal c j rank → (s u : ℕ) (x y : Access) → SegmentMakes p lim journal s i x → SegmentMakes p lim journal u j y
       → ¬ Conflict (access_of p x) (access_of p y)
   parent_spares t i spawn c j rank segment spawns after before has s u x y makes_x makes_y conflict =

@@ -5,10 +5,10 @@ use Rattle.std.specs.Prelude.{slice_get}
 use Rattle.seg_journal.specs.declared.journal.Entry.{Entry}
 use Rattle.seg_journal.specs.declared.moves.Kind.{Kind}
 use Rattle.seg_journal.specs.declared.moves.Kind.TheVariants.{Admit, Run}
-use Rattle.twe_limits.specs.Limits.{Bounds}
+use Rattle.twe_base.specs.Limits.{Bounds}
 use Rattle.twe_program.specs.Program.{Program}
 use Rattle.twe_program.specs.WellFormed.{IsWellFormed}
-use Rattle.soundness_laws.specs.KeepsEffects.{KeepsEffects}
+use Rattle.isolation_laws.specs.soundness.KeepsEffects.{KeepsEffects}
 use Rattle.twe_machine.specs.declared.state.State.{State}
 use Rattle.twe_machine.specs.declared.state.TaskRow.{TaskRow}
 use Rattle.twe_machine.specs.declared.state.TaskStatus.TheVariants.{Done, Enabled, Made}
@@ -16,10 +16,10 @@ use Rattle.twe_machine.specs.Legal.{MayTake}
 use Rattle.twe_machine.specs.Moves.{joined_row}
 use Rattle.twe_machine.specs.Rows.{HasStatus, IsRow}
 use Rattle.twe_machine.specs.Runs.{Legal, state_after}
-use Rattle.twe_machine.proofs.OtherRows.{row_after}
-use Rattle.twe_machine.proofs.Places.{got_one}
+use Rattle.twe_machine.proofs.tasks.OtherRows.{row_after}
+use Rattle.twe_machine.proofs.lists.Places.{got_one}
 use Rattle.determinism_laws.specs.Execution.{IsNextSegment, RowsStayBetweenSegments}
-use Rattle.determinism_laws.specs.Segments.{IsSegment, state_before}
+use Rattle.determinism_laws.specs.Segments.{IsSegmentOf, state_before}
 use Rattle.determinism_laws.proofs.JournalPlaces.{done_at, stands_at, taken_at}
 use Rattle.determinism_laws.proofs.OwnCells.{take_past}
 use Rattle.determinism_laws.proofs.Trees.{runner}
@@ -39,14 +39,14 @@ module _ (p : Program) (wf : IsWellFormed p) (keeps : KeepsEffects p) (lim : Bou
       cc (both)
 
   -- no other entry is one of u
-  not_own : (n : ℕ) (entry : Entry) (kind : Kind) → slice_get journal n ≡ Some entry → ¬ IsSegment journal u n → IsRow (st n) u row
+  not_own : (n : ℕ) (entry : Entry) (kind : Kind) → slice_get journal n ≡ Some entry → ¬ IsSegmentOf journal u n → IsRow (st n) u row
       → entry.mv.kind ≡ kind → MayTake (st n) kind entry.mv.task → u ≢ entry.mv.task
   not_own n entry Run there outside here is may own = outside (record { entry = entry; there = there; runs = is; task = sym own })
   not_own n entry Admit there outside here is may own =
       let same : row ≡ may.0.0 = got_one (slice_get (st n).tasks entry.mv.task) (subst (λ (t : ℕ). IsRow (st n) t row) own here) may.0.1 in
       admitted (ap (λ (r : TaskRow). r.status) same ∙ may.0.2)
 
-  over_entry : (n : ℕ) (found : Option Entry) → slice_get journal n ≡ found → suc n ≤ place → ¬ IsSegment journal u n → IsRow (st n) u row → IsRow (st (suc n)) u row
+  over_entry : (n : ℕ) (found : Option Entry) → slice_get journal n ≡ found → suc n ≤ place → ¬ IsSegmentOf journal u n → IsRow (st n) u row → IsRow (st (suc n)) u row
   over_entry n None gone le outside here = subst (λ (entries : List Entry). IsRow (state_after p lim entries) u row) (sym (take_past journal n gone)) here
   over_entry n (Some entry) there le outside here =
       let taken = taken_at p wf lim journal legal n entry there in

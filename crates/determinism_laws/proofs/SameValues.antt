@@ -8,10 +8,10 @@ use Rattle.effect_sets.specs.Access.{Conflict}
 use Rattle.effect_check.proofs.Members.{IsIn, contains-in, in-contains, in-list_any, list_any-in}
 use Rattle.twe_program.specs.Program.{Program}
 use Rattle.seg_exec.specs.Access.{Access, Prints, Reads, Writes, after}
-use Rattle.soundness_laws.specs.CellPaths.{path_of_cell}
-use Rattle.soundness_laws.specs.DeclaredNow.{access_of}
-use Rattle.twe_machine.proofs.Places.{set_other}
-use Rattle.determinism_laws.specs.Orders.{AgreeOn, EachStandsOnce, FindSameValues, HaveSameWriters, LeaveSameCells, Precedes, PrintAlike, SegmentAccesses, SegmentsConflict, accesses_cell, after_all, is_access_of, is_print, is_write_of, prints, writes}
+use Rattle.isolation_laws.specs.soundness.CellPaths.{path_of_cell}
+use Rattle.isolation_laws.specs.soundness.DeclaredNow.{access_of}
+use Rattle.twe_machine.proofs.lists.Places.{set_other}
+use Rattle.determinism_laws.specs.Orders.{AgreeOn, EachStandsOnce, FindSameValues, HaveSameWriters, LeaveSameCells, PrecedesIn, PrintAlike, SegmentAccesses, SegmentsConflict, accesses_cell, after_all, is_access_of, is_print, is_write_of, prints, writes}
 use Rattle.determinism_laws.proofs.ListOrders.{agreed_back, front_precedes, once_front, precedes_front, precedes_in_front, precedes_of_front, same_filtered, second_in}
 
 -- The values of a cell.
@@ -130,8 +130,8 @@ module _ (p : Program) where
       → xs ≡ before ++ s ∷ later → ys ≡ before_too ++ s ∷ later_too → (cell : ℕ) → accesses_cell cell s ≡ true
       → (a : SegmentAccesses) → IsIn a before → writes cell a ≡ true → IsIn a before_too
   writer_before xs ys agree s before later before_too later_too split split_too cell is_s a in_a is_a =
-      let first : Precedes xs a s = subst (λ (l : List SegmentAccesses). Precedes l a s) (sym split) (front_precedes before s later a in_a) in
-      let second : Precedes (before_too ++ s ∷ later_too) a s = subst (λ (l : List SegmentAccesses). Precedes l a s) split_too
+      let first : PrecedesIn xs a s = subst (λ (l : List SegmentAccesses). PrecedesIn l a s) (sym split) (front_precedes before s later a in_a) in
+      let second : PrecedesIn (before_too ++ s ∷ later_too) a s = subst (λ (l : List SegmentAccesses). PrecedesIn l a s) split_too
       (agree.agree a s (writer_conflict p cell a s is_a is_s) first) in
       precedes_in_front before_too s later_too a (subst EachStandsOnce split_too agree.second_once) second
 
@@ -144,8 +144,8 @@ module _ (p : Program) where
       (writer_before ys xs (agreed_back (SegmentsConflict p) (mutual_conflict p) xs ys agree) s before_too later_too before later split_too split cell is_s)
       (λ a b is_a is_b precedes.
       let in_b = writer_before xs ys agree s before later before_too later_too split split_too cell is_s b (second_in before a b precedes) is_b in
-      let first : Precedes xs a b = subst (λ (l : List SegmentAccesses). Precedes l a b) (sym split) (precedes_front before (s ∷ later) a b precedes) in
-      let second : Precedes (before_too ++ s ∷ later_too) a b = subst (λ (l : List SegmentAccesses). Precedes l a b) split_too
+      let first : PrecedesIn xs a b = subst (λ (l : List SegmentAccesses). PrecedesIn l a b) (sym split) (precedes_front before (s ∷ later) a b precedes) in
+      let second : PrecedesIn (before_too ++ s ∷ later_too) a b = subst (λ (l : List SegmentAccesses). PrecedesIn l a b) split_too
       (agree.agree a b (writer_conflict p cell a b is_a (writer_accesses cell b is_b)) first) in
       precedes_of_front before_too (s ∷ later_too) a b once_y in_b second)
 

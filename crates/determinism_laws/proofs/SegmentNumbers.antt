@@ -6,7 +6,7 @@ use Rattle.std.proofs.lemmas.List.{take-take}
 use Rattle.std.proofs.lemmas.List.Sums.{count_by_more_yes, sum_by-take-le}
 use Rattle.std.proofs.lemmas.Option.{get_or_from_slice_get, slice_get_within}
 use Rattle.seg_journal.specs.declared.journal.Entry.{Entry}
-use Rattle.determinism_laws.specs.Segments.{IsSegment, is_run, number_of_segment}
+use Rattle.determinism_laws.specs.Segments.{IsSegmentOf, is_run, number_of_segment}
 
 module _ {X : Type 0} (q : X → Bool) where
   -- more elements of a longer beginning pass a test, if the last one does
@@ -19,7 +19,7 @@ module _ {X : Type 0} (q : X → Bool) where
       let same : count_by q (take (i + 1) (take j xs)) ≡ count_by q (take (i + 1) xs) = ap (count_by q) (take-take (i + 1) j xs (omega (arith, before))) in
       omega arith
 
-pub numbers_grow : (journal : List Entry) (t i j : ℕ) → i < j → IsSegment journal t j → number_of_segment journal t i < number_of_segment journal t j
+pub numbers_grow : (journal : List Entry) (t i j : ℕ) → i < j → IsSegmentOf journal t j → number_of_segment journal t i < number_of_segment journal t j
 numbers_grow journal t i j before segment =
     count_grows (λ (entry : Entry). is_run entry.mv.kind && (entry.mv.task == t)) journal i j segment.entry before segment.there
     (and_from (is_run segment.entry.mv.kind) (segment.entry.mv.task == t) (ap is_run segment.runs) (eq-eqb segment.entry.mv.task t segment.task))

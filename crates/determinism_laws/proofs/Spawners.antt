@@ -5,7 +5,7 @@ use Rattle.std.proofs.lemmas.Bool.{cases_lt}
 use Rattle.std.proofs.lemmas.Option.{slice_get_within}
 use Rattle.seg_journal.specs.declared.journal.End.TheVariants as ends
 use Rattle.seg_journal.specs.declared.journal.Entry.{Entry}
-use Rattle.twe_limits.specs.Limits.{Bounds}
+use Rattle.twe_base.specs.Limits.{Bounds}
 use Rattle.twe_program.specs.Program.{Program}
 use Rattle.twe_program.specs.WellFormed.{IsWellFormed}
 use Rattle.twe_machine.specs.declared.state.State.{State}
@@ -13,12 +13,12 @@ use Rattle.twe_machine.specs.declared.state.TaskRow.{TaskRow}
 use Rattle.twe_machine.specs.Moves.{move_result, start_of}
 use Rattle.twe_machine.specs.Rows.{IsRow}
 use Rattle.twe_machine.specs.Runs.{Legal, LegalFrom, replayed, state_after}
-use Rattle.twe_machine.proofs.LaterStates.{replayed_later}
-use Rattle.twe_machine.proofs.Places.{below_there, got_one}
-use Rattle.twe_machine.proofs.ReachedStands.{linked_of, start_stands, taken_stands}
-use Rattle.twe_machine.proofs.Standing.{Stands}
+use Rattle.twe_machine.proofs.standing.LaterStates.{replayed_later}
+use Rattle.twe_machine.proofs.lists.Places.{below_there, got_one}
+use Rattle.twe_machine.proofs.standing.ReachedStands.{linked_of, start_stands, taken_stands}
+use Rattle.twe_machine.proofs.standing.Standing.{Stands}
 use Rattle.determinism_laws.specs.Ranks.{IsBelow}
-use Rattle.determinism_laws.specs.Segments.{IsSegment, Spawns, number_of_segment, state_before}
+use Rattle.determinism_laws.specs.Segments.{IsSegmentOf, Spawns, number_of_segment, state_before}
 use Rattle.determinism_laws.proofs.JournalPlaces.{later_end}
 use Rattle.determinism_laws.proofs.NewTasks.{move_row}
 use Rattle.determinism_laws.proofs.Forks.{the_parent}
@@ -26,7 +26,7 @@ use Rattle.determinism_laws.proofs.Forks.{the_parent}
 -- a segment of q, somewhere in the journal, made c
 record IsSpawned (journal : List Entry) (q c : ℕ) : Type 0 where
   place : ℕ
-  segment : IsSegment journal q place
+  segment : IsSegmentOf journal q place
   made : segment.entry.end ≡ ends.Made c
 
 module _ (p : Program) (wf : IsWellFormed p) (lim : Bounds) where

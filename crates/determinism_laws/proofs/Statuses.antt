@@ -5,11 +5,11 @@ use Rattle.std.specs.Prelude.{get_or, slice_get, slice_set}
 use Rattle.std.proofs.lemmas.Bool.{and_from, cases_Bool, cases_eq}
 use Rattle.std.proofs.lemmas.List.Sums.{count_by_more_no, count_by_more_yes}
 use Rattle.std.proofs.lemmas.Option.{get_or_from_slice_get, slice_get_within}
-use Rattle.first_failure.proofs.Members.{both-true}
-use Rattle.twe_io.specs.declared.place.Place.{Place}
+use Rattle.twe_base.proofs.Members.{both-true}
+use Rattle.twe_base.specs.declared.place.Place.{Place}
 use Rattle.effect_sets.specs.declared.effects.Summary.{Summary}
-use Rattle.twe_limits.specs.declared.fault.FaultKind.TheVariants.{TaskLimit}
-use Rattle.twe_limits.specs.Limits.{Bounds}
+use Rattle.twe_base.specs.declared.fault.FaultKind.TheVariants.{TaskLimit}
+use Rattle.twe_base.specs.Limits.{Bounds}
 use Rattle.seg_journal.specs.declared.journal.End.{End}
 use Rattle.seg_journal.specs.declared.journal.End.TheVariants as ends
 use Rattle.seg_journal.specs.declared.journal.Entry.{Entry}
@@ -29,12 +29,12 @@ use Rattle.twe_machine.specs.Legal.{MayTake}
 use Rattle.twe_machine.specs.Moves.{admitted, done_row, faulted_row, going_row, joined_child, making_frame, new_row, parent_of, ran, result_by_kind, state_after_asking, state_after_fault, state_after_join, state_after_make, stop_result, stopped_frame}
 use Rattle.twe_machine.specs.Rows.{HasStatus, IsRow}
 use Rattle.twe_machine.specs.Runs.{Legal, state_after}
-use Rattle.twe_machine.proofs.Halfway.{halfway}
-use Rattle.twe_machine.proofs.OtherRows.{row_after}
-use Rattle.twe_machine.proofs.Places.{got_one, put_before, set_same}
-use Rattle.twe_machine.proofs.Standing.{Stands}
+use Rattle.twe_machine.proofs.standing.Halfway.{halfway}
+use Rattle.twe_machine.proofs.tasks.OtherRows.{row_after}
+use Rattle.twe_machine.proofs.lists.Places.{got_one, put_before, set_same}
+use Rattle.twe_machine.proofs.standing.Standing.{Stands}
 use Rattle.determinism_laws.specs.Execution.{IsNextSegment}
-use Rattle.determinism_laws.specs.Segments.{IsSegment, is_run, number_of_segment, state_before}
+use Rattle.determinism_laws.specs.Segments.{IsSegmentOf, is_run, number_of_segment, state_before}
 use Rattle.determinism_laws.proofs.JournalPlaces.{stands_at, taken_at}
 use Rattle.determinism_laws.proofs.NewTasks.{left_by}
 use Rattle.determinism_laws.proofs.OwnCells.{take_past}
@@ -91,7 +91,7 @@ module _ (p : Program) (wf : IsWellFormed p) (lim : Bounds) (journal : List Entr
   st n = state_before p lim journal n
 
   -- after a segment of u
-  pub status_after : (u n : ℕ) (segment : IsSegment journal u n) (row new : TaskRow) → IsRow (st n) u row → IsRow (st (suc n)) u new
+  pub status_after : (u n : ℕ) (segment : IsSegmentOf journal u n) (row new : TaskRow) → IsRow (st n) u row → IsRow (st (suc n)) u new
       → StatusAfter row.status segment.entry.end new.status
   status_after u n segment row new there here =
       let taken = taken_at p wf lim journal legal n segment.entry segment.there in
@@ -108,7 +108,7 @@ module _ (p : Program) (wf : IsWellFormed p) (lim : Bounds) (journal : List Entr
           (segment_status p lim (st n) (stands_at p wf lim journal legal n) u may row new there row_there)
 
   -- whether an entry is a segment of u
-  by_kind : (u n : ℕ) (entry : Entry) (kind : Kind) → slice_get journal n ≡ Some entry → entry.mv.kind ≡ kind → IsSegment journal u n ⊎ ¬ IsSegment journal u n
+  by_kind : (u n : ℕ) (entry : Entry) (kind : Kind) → slice_get journal n ≡ Some entry → entry.mv.kind ≡ kind → IsSegmentOf journal u n ⊎ ¬ IsSegmentOf journal u n
   by_kind u n entry Admit there is =
       inr (λ segment.
       let same : entry ≡ segment.entry = got_one (slice_get journal n) there segment.there in
@@ -121,15 +121,15 @@ module _ (p : Program) (wf : IsWellFormed p) (lim : Bounds) (journal : List Entr
         differ (ap (λ (e : Entry). e.mv.task) same ∙ segment.task))
   ]
 
-  by_entry : (u n : ℕ) (found : Option Entry) → slice_get journal n ≡ found → IsSegment journal u n ⊎ ¬ IsSegment journal u n
+  by_entry : (u n : ℕ) (found : Option Entry) → slice_get journal n ≡ found → IsSegmentOf journal u n ⊎ ¬ IsSegmentOf journal u n
   by_entry u n None gone = inr (λ segment. let some = segment.there in cc (some, gone))
   by_entry u n (Some entry) there = by_kind u n entry entry.mv.kind there refl
 
-  pub segment_or_not : (u n : ℕ) → IsSegment journal u n ⊎ ¬ IsSegment journal u n
+  pub segment_or_not : (u n : ℕ) → IsSegmentOf journal u n ⊎ ¬ IsSegmentOf journal u n
   segment_or_not u n = by_entry u n (slice_get journal n) refl
 
   -- another entry keeps the status of a task that is admitted
-  other_entry : (u n : ℕ) (entry : Entry) (kind : Kind) → slice_get journal n ≡ Some entry → entry.mv.kind ≡ kind → ¬ IsSegment journal u n → (status : TaskStatus) → status ≢ Made
+  other_entry : (u n : ℕ) (entry : Entry) (kind : Kind) → slice_get journal n ≡ Some entry → entry.mv.kind ≡ kind → ¬ IsSegmentOf journal u n → (status : TaskStatus) → status ≢ Made
       → HasStatus (st n) u status → HasStatus (st (suc n)) u status
   other_entry u n entry kind there is outside status admitted has =
       let taken = taken_at p wf lim journal legal n entry there in
@@ -148,7 +148,7 @@ module _ (p : Program) (wf : IsWellFormed p) (lim : Bounds) (journal : List Entr
           let same : here.0 ≡ may.0.0 = got_one (slice_get (st n).tasks entry.mv.task) here.1 may.0.1 in
           admitted (sym here.2 ∙ (ap (λ (r : TaskRow). r.status) same ∙ may.0.2))
 
-  pub status_kept : (u n : ℕ) (found : Option Entry) → slice_get journal n ≡ found → ¬ IsSegment journal u n → (status : TaskStatus) → status ≢ Made
+  pub status_kept : (u n : ℕ) (found : Option Entry) → slice_get journal n ≡ found → ¬ IsSegmentOf journal u n → (status : TaskStatus) → status ≢ Made
       → HasStatus (st n) u status → HasStatus (st (suc n)) u status
   status_kept u n None gone outside status admitted has =
       subst (λ (entries : List Entry). HasStatus (state_after p lim entries) u status) (sym (take_past journal n gone)) has
@@ -160,7 +160,7 @@ module _ (p : Program) (wf : IsWellFormed p) (lim : Bounds) (journal : List Entr
   Found u from count status = (place : ℕ) × IsNextSegment journal u from place × HasStatus (st place) u status
 
   abbrev NoneThere : ℕ → ℕ → ℕ → TaskStatus → Type 0
-  NoneThere u from count status = ((n : ℕ) → from ≤ n → n < from + count → ¬ IsSegment journal u n) × HasStatus (st (from + count)) u status
+  NoneThere u from count status = ((n : ℕ) → from ≤ n → n < from + count → ¬ IsSegmentOf journal u n) × HasStatus (st (from + count)) u status
 
   search_from : (count u from : ℕ) (status : TaskStatus) → status ≢ Made → HasStatus (st from) u status → Found u from count status ⊎ NoneThere u from count status
   search_from zero u from status admitted has =
@@ -176,7 +176,7 @@ module _ (p : Program) (wf : IsWellFormed p) (lim : Bounds) (journal : List Entr
               let later = status_kept u (from + count) (slice_get journal (from + count)) refl outside status admitted nothing.1 in
               inr (
                 (λ n least most. elim (cases_eq n (from + count)) [
-                  | inl same ↦ λ segment. outside (subst (λ (k : ℕ). IsSegment journal u k) same segment)
+                  | inl same ↦ λ segment. outside (subst (λ (k : ℕ). IsSegmentOf journal u k) same segment)
                   | inr differ ↦ nothing.0 n least (omega (arith, most, differ))
                 ]),
                 subst (λ (n : ℕ). HasStatus (st n) u status) place later,
@@ -206,7 +206,7 @@ module _ (p : Program) (wf : IsWellFormed p) (lim : Bounds) (journal : List Entr
   is_run_is Admit e = absurd (cc (e))
   is_run_is Run e = refl
 
-  not_counted : (u n : ℕ) (found : Option Entry) → slice_get journal n ≡ found → ¬ IsSegment journal u n → count_by (is_own u) (take (n + 1) journal) ≡ count_by (is_own u) (take n journal)
+  not_counted : (u n : ℕ) (found : Option Entry) → slice_get journal n ≡ found → ¬ IsSegmentOf journal u n → count_by (is_own u) (take (n + 1) journal) ≡ count_by (is_own u) (take n journal)
   not_counted u n None gone outside =
       let place : n + 1 ≡ suc n = omega arith in
       ap (λ (k : ℕ). count_by (is_own u) (take k journal)) place ∙ ap (count_by (is_own u)) (take_past journal n gone)
@@ -221,7 +221,7 @@ module _ (p : Program) (wf : IsWellFormed p) (lim : Bounds) (journal : List Entr
       ] in
       count_by_more_no (is_own u) journal n entry within (ap (is_own u) read ∙ no_match)
 
-  none_counted : (count u from : ℕ) → ((n : ℕ) → from ≤ n → n < from + count → ¬ IsSegment journal u n)
+  none_counted : (count u from : ℕ) → ((n : ℕ) → from ≤ n → n < from + count → ¬ IsSegmentOf journal u n)
       → count_by (is_own u) (take (from + count) journal) ≡ count_by (is_own u) (take from journal)
   none_counted zero u from outside = let place : from + 0 ≡ from = omega arith in ap (λ (k : ℕ). count_by (is_own u) (take k journal)) place
   none_counted (suc count) u from outside =
@@ -244,6 +244,6 @@ module _ (p : Program) (wf : IsWellFormed p) (lim : Bounds) (journal : List Entr
       more ∙ ap (λ (k : ℕ). k + 1) before
 
   -- no segment of u stands before this place
-  pub none_before : (u from : ℕ) → ((n : ℕ) → n < from → ¬ IsSegment journal u n) → count_by (is_own u) (take from journal) ≡ 0
+  pub none_before : (u from : ℕ) → ((n : ℕ) → n < from → ¬ IsSegmentOf journal u n) → count_by (is_own u) (take from journal) ≡ 0
   none_before u from outside = let place : from ≡ 0 + from = omega arith in
       ap (λ (k : ℕ). count_by (is_own u) (take k journal)) place ∙ none_counted from u 0 (λ n low high. outside n (omega (arith, high)))

@@ -5,7 +5,7 @@ use Rattle.std.specs.Prelude.{slice_get}
 use Rattle.std.proofs.lemmas.Bool.{cases_lt}
 use Rattle.std.proofs.lemmas.Option.{slice_get_within}
 use Rattle.effect_sets.specs.declared.effects.Effect.{Effect}
-use Rattle.effect_sets.specs.Access.{Access as PathAccess, CoversAccess, SomeCoversAccess}
+use Rattle.effect_sets.specs.Access.{PathAccess as PathAccess, CoversAccess, SomeCoversAccess}
 use Rattle.effect_sets.specs.Covers.{EffectWithin}
 use Rattle.effect_sets.proofs.Accesses.{within-covers}
 use Rattle.effect_check.proofs.Members.{in-contains}
@@ -14,12 +14,12 @@ use Rattle.seg_journal.specs.declared.journal.End.TheVariants as ends
 use Rattle.seg_journal.specs.declared.journal.Entry.{Entry}
 use Rattle.seg_journal.specs.declared.moves.Kind.{Kind}
 use Rattle.seg_journal.specs.declared.moves.Kind.TheVariants.{Run}
-use Rattle.twe_limits.specs.Limits.{Bounds}
+use Rattle.twe_base.specs.Limits.{Bounds}
 use Rattle.twe_program.specs.Program.{Program}
 use Rattle.twe_program.specs.WellFormed.{IsWellFormed}
 use Rattle.seg_exec.specs.Access.{Access}
-use Rattle.soundness_laws.specs.DeclaredNow.{access_of}
-use Rattle.soundness_laws.specs.KeepsEffects.{KeepsEffects}
+use Rattle.isolation_laws.specs.soundness.DeclaredNow.{access_of}
+use Rattle.isolation_laws.specs.soundness.KeepsEffects.{KeepsEffects}
 use Rattle.twe_machine.specs.declared.state.State.{State}
 use Rattle.twe_machine.specs.declared.state.TaskRow.{TaskRow}
 use Rattle.twe_machine.specs.declared.state.TaskStatus.TheVariants.{Done, Enabled}
@@ -28,15 +28,15 @@ use Rattle.twe_machine.specs.Legal.{MayRun, MayTake}
 use Rattle.twe_machine.specs.Moves.{move_result}
 use Rattle.twe_machine.specs.Rows.{IsRow}
 use Rattle.twe_machine.specs.Runs.{Legal}
-use Rattle.twe_machine.proofs.DoneFirst.{children_joined}
-use Rattle.twe_machine.proofs.LeftAlone.{moves_leave_alone}
-use Rattle.twe_machine.proofs.Places.{below_there, got_one}
+use Rattle.twe_machine.proofs.tasks.DoneFirst.{children_joined}
+use Rattle.twe_machine.proofs.tasks.LeftAlone.{moves_leave_alone}
+use Rattle.twe_machine.proofs.lists.Places.{below_there, got_one}
 use Rattle.isolation_laws.proofs.effects.Interference.{AllWithin, any-in, in-any}
 use Rattle.isolation_laws.proofs.journals.Invariant.{Kept}
 use Rattle.isolation_laws.proofs.journals.Journals.{reached_kept}
 use Rattle.isolation_laws.proofs.running.Covered.{declared}
 use Rattle.determinism_laws.specs.Ranks.{HasRank}
-use Rattle.determinism_laws.specs.Segments.{IsSegment, SegmentMakes, Spawns, state_before}
+use Rattle.determinism_laws.specs.Segments.{IsSegmentOf, SegmentMakes, Spawns, state_before}
 use Rattle.determinism_laws.proofs.JournalPlaces.{later_at, parent_at, reached_at, stands_at, taken_at}
 
 -- an access that some effect covers is covered by the effects that contain these
@@ -47,7 +47,7 @@ covers_more es ds access within covered =
     in-any (λ (d : Effect). CoversAccess d access) ds outer.0 outer.1 (within-covers outer.0 inner.0 outer.2 access inner.2)
 
 -- one entry stands at a place
-pub one_segment : (journal : List Entry) (s t n : ℕ) → IsSegment journal s n → IsSegment journal t n → s ≡ t
+pub one_segment : (journal : List Entry) (s t n : ℕ) → IsSegmentOf journal s n → IsSegmentOf journal t n → s ≡ t
 one_segment journal s t n a b =
     let same : a.entry ≡ b.entry = got_one (slice_get journal n) a.there b.there in
     sym a.task ∙ (ap (λ (e : Entry). e.mv.task) same ∙ b.task)
@@ -60,7 +60,7 @@ module _ (p : Program) (wf : IsWellFormed p) (keeps : KeepsEffects p) (lim : Bou
   kept_at n = reached_kept p wf keeps lim (st n) (reached_at p wf lim journal legal n)
 
   -- a task whose segment stands at a place may run before it
-  pub runner : (t n : ℕ) → IsSegment journal t n → MayRun (st n) t
+  pub runner : (t n : ℕ) → IsSegmentOf journal t n → MayRun (st n) t
   runner t n segment =
       let taken = taken_at p wf lim journal legal n segment.entry segment.there in
       subst (MayTake (st n) Run) segment.task (subst (λ (kind : Kind). MayTake (st n) kind segment.entry.mv.task) segment.runs taken.may)
@@ -109,7 +109,7 @@ module _ (p : Program) (wf : IsWellFormed p) (keeps : KeepsEffects p) (lim : Bou
     pub undone : ¬ (row.status ≡ Done)
     pub covers : (s : ℕ) (access : Access) → SegmentMakes p lim journal s n access → SomeCoversAccess row.effects.effects (access_of p access)
 
-  own_holds : (c n : ℕ) → IsSegment journal c n → Holds n c
+  own_holds : (c n : ℕ) → IsSegmentOf journal c n → Holds n c
   own_holds c n segment =
       let may = runner c n segment in
       record {
@@ -140,7 +140,7 @@ module _ (p : Program) (wf : IsWellFormed p) (keeps : KeepsEffects p) (lim : Bou
       }
 
   -- a segment below a spawned task comes after the segment that spawned it
-  pub own_after : (t m c n : ℕ) → Spawns p lim journal t m c → IsSegment journal c n → m < n
+  pub own_after : (t m c n : ℕ) → Spawns p lim journal t m c → IsSegmentOf journal c n → m < n
   own_after t m c n spawn segment =
       elim (cases_lt m n) [
         | inl before ↦ before

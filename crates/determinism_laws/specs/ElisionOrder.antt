@@ -3,10 +3,10 @@
 use Rattle.std.specs.Prelude.{◌<◌, ℕ, List}
 use Rattle.effect_sets.specs.Access.{AccessInterferesWithSome, Conflict, SomeCoversAccess}
 use Rattle.seg_journal.specs.declared.journal.Entry.{Entry}
-use Rattle.twe_limits.specs.Limits.{Bounds}
+use Rattle.twe_base.specs.Limits.{Bounds}
 use Rattle.twe_program.specs.Program.{Program}
 use Rattle.seg_exec.specs.Access.{Access}
-use Rattle.soundness_laws.specs.DeclaredNow.{access_of}
+use Rattle.isolation_laws.specs.soundness.DeclaredNow.{access_of}
 use Rattle.twe_machine.specs.declared.state.TaskRow.{TaskRow}
 use Rattle.twe_machine.specs.declared.state.TaskStatus.TheVariants.{Enabled}
 use Rattle.twe_machine.specs.Rows.{HasStatus}

@@ -6,3 +6,6 @@ pub mod Orders
 pub mod Ranks
 pub mod Segments
 pub mod Sequential
+pub mod numbering
+pub mod theorem
+pub mod results

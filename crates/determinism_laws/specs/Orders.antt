@@ -4,12 +4,12 @@ use Rattle.std.specs.List.{list_any}
 use Rattle.effect_sets.specs.Access.{Conflict}
 use Rattle.twe_program.specs.Program.{Program}
 use Rattle.seg_exec.specs.Access.{Access, Prints, Reads, Writes, after}
-use Rattle.soundness_laws.specs.DeclaredNow.{access_of}
+use Rattle.isolation_laws.specs.soundness.DeclaredNow.{access_of}
 
 -- the first element comes before the second in the list
-abbrev pub Precedes : {X : Type 0} → List X → X → X → Type 0
-Precedes [] a b = ⊥
-Precedes (x ∷ xs) a b = ((x ≡ a) × Contains xs b) ⊎ Precedes xs a b
+abbrev pub PrecedesIn : {X : Type 0} → List X → X → X → Type 0
+PrecedesIn [] a b = ⊥
+PrecedesIn (x ∷ xs) a b = ((x ≡ a) × Contains xs b) ⊎ PrecedesIn xs a b
 
 -- no element stands twice in the list
 abbrev pub EachStandsOnce : {X : Type 0} → List X → Type 0
@@ -22,7 +22,7 @@ pub record AgreeOn {X : Type 0} (Connects : X → X → Type 0) (xs ys : List X)
   pub first_once : EachStandsOnce xs
   pub second_once : EachStandsOnce ys
   pub members : (x : X) → Contains xs x ↔ Contains ys x
-  pub agree : (a b : X) → Connects a b → Precedes xs a b → Precedes ys a b
+  pub agree : (a b : X) → Connects a b → PrecedesIn xs a b → PrecedesIn ys a b
 
 -- A segment with what it accesses, the latest access first. The key tells apart segments that access the same.
 pub record SegmentAccesses : Type 0 where
@@ -34,28 +34,33 @@ abbrev pub SegmentsConflict : Program → SegmentAccesses → SegmentAccesses �
 SegmentsConflict p a b =
     (x : Access) × (y : Access) × Contains a.accesses x × Contains b.accesses y × Conflict (access_of p x) (access_of p y)
 
+-- whether the access is a write of the cell
 abbrev pub is_write_of : ℕ → Access → Bool
 is_write_of cell (Writes other value) = other == cell
 is_write_of cell (Reads other value) = false
 is_write_of cell (Prints value) = false
 
+-- whether the access is a read or a write of the cell
 abbrev pub is_access_of : ℕ → Access → Bool
 is_access_of cell (Writes other value) = other == cell
 is_access_of cell (Reads other value) = other == cell
 is_access_of cell (Prints value) = false
 
+-- whether the access is a print
 abbrev pub is_print : Access → Bool
 is_print (Prints value) = true
 is_print (Reads cell value) = false
 is_print (Writes cell value) = false
 
--- the segment writes the cell; it reads or writes it; it prints
+-- whether the segment writes the cell
 abbrev pub writes : ℕ → SegmentAccesses → Bool
 writes cell s = list_any (is_write_of cell) s.accesses
 
+-- whether the segment reads or writes the cell
 abbrev pub accesses_cell : ℕ → SegmentAccesses → Bool
 accesses_cell cell s = list_any (is_access_of cell) s.accesses
 
+-- whether the segment prints
 abbrev pub prints : SegmentAccesses → Bool
 prints s = list_any is_print s.accesses
 

@@ -3,21 +3,21 @@
 -- segment that spawned it, and before the next segment of its parent.
 use Rattle.std.specs.Prelude.{◌≡◌, ◌≢◌, ◌⊎◌, ◌<◌, ℕ, List, [], ◌∷◌, Some}
 use Rattle.seg_journal.specs.declared.journal.Entry.{Entry}
-use Rattle.twe_limits.specs.Limits.{Bounds}
+use Rattle.twe_base.specs.Limits.{Bounds}
 use Rattle.twe_program.specs.Program.{Program}
 use Rattle.wait_graph.specs.Chain.{Chain}
 use Rattle.twe_machine.specs.declared.state.State.{State}
 use Rattle.twe_machine.specs.declared.state.TaskRow.{TaskRow}
 use Rattle.twe_machine.specs.Rows.{IsRow}
 use Rattle.twe_machine.specs.Runs.{state_after}
-use Rattle.determinism_laws.specs.Segments.{IsSegment, Spawns, number_of_segment}
+use Rattle.determinism_laws.specs.Segments.{IsSegmentOf, Spawns, number_of_segment}
 
 -- The segment at this place has this rank below task t. If t itself runs it, the rank is its number among the segments of
 -- t. If a task below t runs it, the rank begins with the number of the segment of t that spawned a child, and goes on
 -- with the rank that the segment has below this child. So the rank lists the spawns that lead from t to the segment.
 abbrev pub HasRank : Program → Bounds → List Entry → ℕ → ℕ → List ℕ → Type 0
 HasRank p lim journal t place [] = ⊥
-HasRank p lim journal t place (number ∷ []) = IsSegment journal t place × (number ≡ number_of_segment journal t place)
+HasRank p lim journal t place (number ∷ []) = IsSegmentOf journal t place × (number ≡ number_of_segment journal t place)
 HasRank p lim journal t place (number ∷ next ∷ others) =
     (spawn : ℕ) × (child : ℕ) × Spawns p lim journal t spawn child × (number ≡ number_of_segment journal t spawn)
     × HasRank p lim journal child place (next ∷ others)
@@ -61,4 +61,4 @@ BelowTask st t s = Chain (HasParent st) s t
 -- each segment of t and of a task below it has a rank below t
 abbrev pub AllHaveRanks : Program → Bounds → List Entry → ℕ → Type 0
 AllHaveRanks p lim journal t =
-    (i s : ℕ) → IsSegment journal s i → BelowTask (state_after p lim journal) t s → IsBelow p lim journal t i
+    (i s : ℕ) → IsSegmentOf journal s i → BelowTask (state_after p lim journal) t s → IsBelow p lim journal t i

@@ -3,22 +3,22 @@
 use Rattle.std.specs.Prelude.{◌≡◌, ◌≤◌, ◌<◌, ◌+◌, ◌⊎◌, ◌↔◌, ◌++◌, ℕ, zero, suc, pos, IsTrue, List, [], ◌∷◌, Contains, slice_get}
 use Rattle.effect_sets.specs.Access.{AccessInterferesWithSome}
 use Rattle.seg_journal.specs.declared.journal.Entry.{Entry}
-use Rattle.twe_limits.specs.Limits.{Bounds}
+use Rattle.twe_base.specs.Limits.{Bounds}
 use Rattle.twe_program.specs.Program.{Program}
 use Rattle.seg_exec.specs.Access.{Writes}
-use Rattle.soundness_laws.specs.DeclaredNow.{access_of}
+use Rattle.isolation_laws.specs.soundness.DeclaredNow.{access_of}
 use Rattle.twe_machine.specs.declared.state.TaskRow.{TaskRow}
 use Rattle.twe_machine.specs.declared.state.TaskStatus.TheVariants.{Enabled}
 use Rattle.twe_machine.specs.Changes.{next_segment}
 use Rattle.twe_machine.specs.Rows.{HasStatus, IsRow}
-use Rattle.determinism_laws.specs.Orders.{EachStandsOnce, Precedes, PrintAlike, SegmentAccesses, accesses_cell, after_all}
+use Rattle.determinism_laws.specs.Orders.{EachStandsOnce, PrecedesIn, PrintAlike, SegmentAccesses, accesses_cell, after_all}
 use Rattle.determinism_laws.specs.Ranks.{ComesBefore, HasRank, IsBelow}
-use Rattle.determinism_laws.specs.Segments.{IsSegment, state_before}
+use Rattle.determinism_laws.specs.Segments.{IsSegmentOf, state_before}
 
 -- The segment at this place accesses this. Its place is its key.
 pub record IsSegmentAt (p : Program) (lim : Bounds) (journal : List Entry) (place : ℕ) (s : SegmentAccesses) : Type 0 where
   pub task : ℕ
-  pub segment : IsSegment journal task place
+  pub segment : IsSegmentOf journal task place
   pub row : TaskRow
   pub there : IsRow (state_before p lim journal place) task row
   pub key : s.key ≡ place
@@ -43,10 +43,11 @@ abbrev pub IsUnder : Program → TaskRow → ℕ → Type 0
 IsUnder p row cell = AccessInterferesWithSome (access_of p (Writes cell (pos 0))) row.effects.effects
 
 -- The second list has the segments of the first, each once, in the order of their ranks below t.
-pub record IsRankOrder (p : Program) (lim : Bounds) (journal : List Entry) (t : ℕ) (segments ordered : List SegmentAccesses) : Type 0 where
+pub record IsRankOrder (p : Program) (lim : Bounds) (journal : List Entry) (t : ℕ)
+    (segments ordered : List SegmentAccesses) : Type 0 where
   pub once : EachStandsOnce ordered
   pub members : (s : SegmentAccesses) → Contains segments s ↔ Contains ordered s
-  pub sorted : (a b : SegmentAccesses) (first second : List ℕ) → Precedes ordered a b
+  pub sorted : (a b : SegmentAccesses) (first second : List ℕ) → PrecedesIn ordered a b
       → HasRank p lim journal t a.key first → HasRank p lim journal t b.key second → ComesBefore first second
 
 -- What the segments find and leave when they are executed in this order, on the cells before the entry at `from`. Each
@@ -56,9 +57,11 @@ pub record ExecuteAlike (p : Program) (lim : Bounds) (journal : List Entry) (row
     (segments ordered : List SegmentAccesses) : Type 0 where
   pub finds : (s : SegmentAccesses) (before later : List SegmentAccesses) → ordered ≡ before ++ s ∷ later
       → (cell : ℕ) → IsTrue (accesses_cell cell s)
-      → slice_get (after_all (state_before p lim journal from).cells before) cell ≡ slice_get (state_before p lim journal s.key).cells cell
+      → slice_get (after_all (state_before p lim journal from).cells before) cell
+      ≡ slice_get (state_before p lim journal s.key).cells cell
   pub leaves : (cell : ℕ) → IsUnder p row cell
-      → slice_get (after_all (state_before p lim journal from).cells ordered) cell ≡ slice_get (state_before p lim journal (from + count)).cells cell
+      → slice_get (after_all (state_before p lim journal from).cells ordered) cell
+      ≡ slice_get (state_before p lim journal (from + count)).cells cell
   pub prints : PrintAlike segments ordered
 
 -- while t is enabled, the segments below it are executed alike in the order of the ranks

@@ -5,6 +5,9 @@
 #![tactic(auto)]
 
 mod laws;
+pub mod numbering;
+pub mod results;
+pub mod theorem;
 
 pub use laws::{
     conflicts_keep_the_elision_order, deterministic_tasks_execute_in_rank_order,

@@ -4,10 +4,9 @@ ghost use Rattle.opt_engine.specs.Drafts.{IsDraftedOf};
 
 use opt_engine::{Core, Drafted, Verdict, run_draft};
 use std::alloc::Global;
-use twe_io::Memory;
-use twe_limits::Limits;
+use twe_base::{Limits, Memory};
 use twe_program::Prog;
-use twe_rounds::Named;
+use twe_rounds::RoundName;
 
 /// What a core answered to a draft.
 #[derive(Clone, Copy, Debug, PartialEq, Eq)]
@@ -30,7 +29,7 @@ pub(crate) enum Told {
 }
 
 /// A new core. No more is said of it, so that the proofs of its callers stay short.
-pub(crate) fn begin<N: Named>(alloc: Global, p: &Prog, lim: Limits) -> Result<Core<N>, Memory>
+pub(crate) fn begin<N: RoundName>(alloc: Global, p: &Prog, lim: Limits) -> Result<Core<N>, Memory>
     requires named { (p.now ≡ N.prog) × (lim ≡ N.lim) }
     requires first { N.earlier ≡ [] }
 {
@@ -38,7 +37,7 @@ pub(crate) fn begin<N: Named>(alloc: Global, p: &Prog, lim: Limits) -> Result<Co
 }
 
 /// A draft of the next segment of a task, which was run; none if the task is not ready.
-pub(crate) fn run_draft_of<N: Named>(
+pub(crate) fn run_draft_of<N: RoundName>(
     alloc: Global,
     p: &Prog,
     core: &Core<N>,
@@ -54,14 +53,14 @@ pub(crate) fn run_draft_of<N: Named>(
 }
 
 /// Whether there is a draft of the next segment of a task.
-pub(crate) fn has_draft<N: Named>(p: &Prog, core: &Core<N>, task: u32) -> Result<bool, Memory>
+pub(crate) fn has_draft<N: RoundName>(p: &Prog, core: &Core<N>, task: u32) -> Result<bool, Memory>
     requires { p.now ≡ N.prog }
 {
     Ok(core.draft(p, task)?.is_some())
 }
 
 /// What the core answers to a draft, and the draft if it is given back.
-pub(crate) fn hand_in<N: Named>(
+pub(crate) fn hand_in<N: RoundName>(
     p: &Prog,
     core: &mut Core<N>,
     d: Drafted,
@@ -79,7 +78,11 @@ pub(crate) fn hand_in<N: Named>(
 }
 
 /// What the core answers to a draft.
-pub(crate) fn answer_to<N: Named>(p: &Prog, core: &mut Core<N>, d: Drafted) -> Result<Told, Memory>
+pub(crate) fn answer_to<N: RoundName>(
+    p: &Prog,
+    core: &mut Core<N>,
+    d: Drafted,
+) -> Result<Told, Memory>
     requires named { p.now ≡ N.prog }
     requires drafted { IsDraftedOf p.now d }
 {
@@ -88,7 +91,7 @@ pub(crate) fn answer_to<N: Named>(p: &Prog, core: &mut Core<N>, d: Drafted) -> R
 }
 
 /// What the core answers to a draft; none if there is no draft.
-pub(crate) fn answer_if<N: Named>(
+pub(crate) fn answer_if<N: RoundName>(
     p: &Prog,
     core: &mut Core<N>,
     found: Option<Drafted>,
@@ -103,7 +106,7 @@ pub(crate) fn answer_if<N: Named>(
 }
 
 /// What the core answers to a new draft of a task; none if the task is not ready.
-pub(crate) fn run_next<N: Named>(
+pub(crate) fn run_next<N: RoundName>(
     alloc: Global,
     p: &Prog,
     core: &mut Core<N>,

@@ -4,15 +4,14 @@ ghost use Rattle.std.specs.Prelude.{◌≡◌, []};
 ghost use Rattle.opt_engine.specs.Drafts.{IsDraftedOf};
 
 use crate::answers::{Told, answer_if, begin, hand_in, run_draft_of, run_next};
-use opt_engine::{Core, Drafted, Touch};
+use opt_engine::{CellValue, Core, Drafted};
 use std::alloc::Global;
 use std::marker::Brand;
 use std::test::Fail;
+use twe_base::{Limits, Memory};
 use twe_frontend::read_program;
-use twe_io::Memory;
-use twe_limits::Limits;
 use twe_program::Prog;
-use twe_rounds::Named;
+use twe_rounds::RoundName;
 
 /// While `main` holds `inc` back, it makes 40 of the 4 in the cell.
 pub(crate) const HELD: &[u8] = b"region A;\n\
@@ -44,17 +43,17 @@ struct Seen {
 
 /// Whether a draft has read 4 in the only cell and has left 5 there.
 fn adds_one(d: &Drafted) -> bool {
-    d.reads.as_slice() == [Touch { cell: 0, value: 4 }].as_slice()
-        && d.writes.as_slice() == [Touch { cell: 0, value: 5 }].as_slice()
+    d.reads.as_slice() == [CellValue { cell: 0, value: 4 }].as_slice()
+        && d.writes.as_slice() == [CellValue { cell: 0, value: 5 }].as_slice()
 }
 
 /// The value of the only cell.
-fn cell_of<N: Named>(core: &Core<N>) -> Option<i32> {
+fn cell_of<N: RoundName>(core: &Core<N>) -> Option<i32> {
     core.run()?.state.cells.get(0).copied()
 }
 
 /// The answers to a draft before the second segment of `main`, to that segment, and to the draft that was given back.
-fn follow<N: Named>(
+fn follow<N: RoundName>(
     alloc: Global,
     p: &Prog,
     core: &mut Core<N>,
@@ -70,7 +69,7 @@ fn follow<N: Named>(
 }
 
 /// What is seen of this draft of `inc`, while `main` runs its second segment.
-fn watch_draft<N: Named>(
+fn watch_draft<N: RoundName>(
     alloc: Global,
     p: &Prog,
     core: &mut Core<N>,
@@ -95,7 +94,7 @@ fn watch_draft<N: Named>(
 }
 
 /// What is seen of a draft of `inc` that is made once `main` has run its first segment; none if there is no draft.
-fn watch<N: Named>(alloc: Global, p: &Prog, lim: Limits) -> Result<Option<Seen>, Memory>
+fn watch<N: RoundName>(alloc: Global, p: &Prog, lim: Limits) -> Result<Option<Seen>, Memory>
     requires named { (p.now ≡ N.prog) × (lim ≡ N.lim) }
     requires first { N.earlier ≡ [] }
 {

@@ -9,11 +9,10 @@ use opt_engine::{Core, Drafted};
 use std::alloc::Global;
 use std::marker::Brand;
 use std::test::Fail;
+use twe_base::{Limits, Memory};
 use twe_frontend::read_program;
-use twe_io::Memory;
-use twe_limits::Limits;
 use twe_program::Prog;
-use twe_rounds::Named;
+use twe_rounds::RoundName;
 
 /// What was seen of two drafts of the first segment of `main`.
 #[derive(Clone, Copy, Debug, PartialEq, Eq)]
@@ -27,7 +26,7 @@ struct Seen {
 }
 
 /// What is seen if this draft of `main` is handed in after a new one.
-fn watch_late<N: Named>(
+fn watch_late<N: RoundName>(
     alloc: Global,
     p: &Prog,
     core: &mut Core<N>,
@@ -47,7 +46,7 @@ fn watch_late<N: Named>(
 }
 
 /// What is seen of two drafts of a new core.
-fn watch<N: Named>(alloc: Global, p: &Prog, lim: Limits) -> Result<Option<Seen>, Memory>
+fn watch<N: RoundName>(alloc: Global, p: &Prog, lim: Limits) -> Result<Option<Seen>, Memory>
     requires named { (p.now ≡ N.prog) × (lim ≡ N.lim) }
     requires first { N.earlier ≡ [] }
 {

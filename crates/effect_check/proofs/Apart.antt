@@ -15,7 +15,7 @@ use Rattle.effect_sets.specs.Interference.{statically_interferes, one_writes}
 use Rattle.effect_check.specs.declared.futures.Spawn.{Spawn}
 use Rattle.effect_check.specs.declared.marks.Marks.{Marks}
 use Rattle.effect_check.specs.inner.Marks.{all_bits, name_bits, index_bits, marks_of, joined_marks, marks_over, marks_of_all}
-use Rattle.first_failure.proofs.Members.{IsIn}
+use Rattle.twe_base.proofs.Members.{IsIn}
 
 -- the word has the bit
 abbrev pub Has : ℕ → ℕ → Type 0

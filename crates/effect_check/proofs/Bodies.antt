@@ -8,12 +8,12 @@ use Rattle.twe_program.specs.Program.{Program}
 use Rattle.twe_program.specs.WellFormed.{IsWellFormed, DeclFits}
 use Rattle.effect_check.specs.FailsEffect.{EffectFailure}
 use Rattle.effect_check.specs.Acts.{acts_in_all}
-use Rattle.effect_check.specs.FailsEffect.{TaskFails, MethodFails, number_of}
+use Rattle.effect_check.specs.FailsEffect.{TaskFails, MethodFails, effect_rule_number}
 use Rattle.effect_check.specs.inner.Failures.{JudgesTask, JudgesMethod, task_failures, method_failures}
 use Rattle.effect_check.specs.inner.First.{IsFirstOf, OneFails, FailsInTask}
-use Rattle.first_failure.proofs.Members.{IsIn, contains-in, all-in}
+use Rattle.twe_base.proofs.Members.{IsIn, contains-in, all-in}
 use Rattle.effect_check.proofs.Range.{body-in_range}
-use Rattle.first_failure.proofs.Firsts.{first-same, first_from-first}
+use Rattle.twe_base.proofs.Firsts.{first-same, first_from-first}
 use Rattle.effect_check.proofs.Judged.{listed-fails, fails-listed, listed-method_fails, method_fails-listed}
 
 abbrev pub TaskFailure : Program → Decl → EffectFailure → Type 0
@@ -48,8 +48,8 @@ task-more p wf i there task is first later h judges =
     let acts = acts_in_all p task.body.block in
     let P : EffectFailure → Type 0 = OneFails (TaskFailure p) (take i p.tasks) in
     let xs : List EffectFailure = task_failures task judges.groups acts in
-    let all : IsFirstOf (λ f. P f ⊎ IsIn f xs) later = subst (IsFirstOf (λ f. P f ⊎ IsIn f xs)) (sym judges.judged) (first_from-first number_of P first xs h) in
-    first-same number_of (λ f. P f ⊎ IsIn f xs) (OneFails (TaskFailure p) (take (i + 1) p.tasks))
+    let all : IsFirstOf (λ f. P f ⊎ IsIn f xs) later = subst (IsFirstOf (λ f. P f ⊎ IsIn f xs)) (sym judges.judged) (first_from-first effect_rule_number P first xs h) in
+    first-same effect_rule_number (λ f. P f ⊎ IsIn f xs) (OneFails (TaskFailure p) (take (i + 1) p.tasks))
     (λ f q. one-more (TaskFailure p) p.tasks i there task is f (elim q [ inl before ↦ inl before | inr x ↦ inr (listed-fails p task range judges.groups judges.are f x) ]))
     (λ f found. elim (more-one (TaskFailure p) p.tasks i there task is f found) [
       | inl before ↦ inl before
@@ -64,8 +64,8 @@ method-more p i there method is first later h judges =
     let acts = acts_in_all p method.body.block in
     let P : EffectFailure → Type 0 = λ f. FailsInTask p f ⊎ OneFails (MethodFailure p) (take i p.methods) f in
     let xs : List EffectFailure = method_failures method acts in
-    let all : IsFirstOf (λ f. P f ⊎ IsIn f xs) later = subst (IsFirstOf (λ f. P f ⊎ IsIn f xs)) (sym judges) (first_from-first number_of P first xs h) in
-    first-same number_of (λ f. P f ⊎ IsIn f xs) (λ f. FailsInTask p f ⊎ OneFails (MethodFailure p) (take (i + 1) p.methods) f)
+    let all : IsFirstOf (λ f. P f ⊎ IsIn f xs) later = subst (IsFirstOf (λ f. P f ⊎ IsIn f xs)) (sym judges) (first_from-first effect_rule_number P first xs h) in
+    first-same effect_rule_number (λ f. P f ⊎ IsIn f xs) (λ f. FailsInTask p f ⊎ OneFails (MethodFailure p) (take (i + 1) p.methods) f)
     (λ f q. elim q [
       | inl r ↦ elim r [ inl task ↦ inl task | inr before ↦ inr (one-more (MethodFailure p) p.methods i there method is f (inl before)) ]
       | inr x ↦ inr (one-more (MethodFailure p) p.methods i there method is f (inr (listed-method_fails p method f x)))
@@ -83,5 +83,5 @@ method-more p i there method is first later h judges =
 pub tasks-first : (p : Program) (first : Option EffectFailure) → IsFirstOf (FailsInTask p) first
     → IsFirstOf (λ f. FailsInTask p f ⊎ OneFails (MethodFailure p) (take 0 p.methods) f) first
 tasks-first p first h =
-    first-same number_of (FailsInTask p) (λ f. FailsInTask p f ⊎ OneFails (MethodFailure p) (take 0 p.methods) f)
+    first-same effect_rule_number (FailsInTask p) (λ f. FailsInTask p f ⊎ OneFails (MethodFailure p) (take 0 p.methods) f)
     (λ f x. inl x) (λ f q. elim q [ inl x ↦ x | inr none ↦ absurd (first_of_none (MethodFailure p) p.methods f none) ]) first h

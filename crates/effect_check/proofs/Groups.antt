@@ -15,7 +15,7 @@ use Rattle.effect_check.specs.Acts.{acts_in_all}
 use Rattle.effect_check.specs.FailsEffect.{EffectFailure}
 use Rattle.effect_check.specs.inner.Failures.{spawns_among, followed, bars, free, first_from, declared_failures, task_failures, future_failures, AreFollowed, JudgesGroup, JudgesFirst, JudgesTask}
 use Rattle.effect_check.specs.inner.Marks.{marks_of, meet}
-use Rattle.first_failure.proofs.Members.{in-list_all, true-or}
+use Rattle.twe_base.proofs.Members.{in-list_all, true-or}
 use Rattle.effect_check.proofs.Firsts.{first_from-append}
 
 -- before the first group

@@ -2,7 +2,7 @@
 use Rattle.std.proofs.Common.{◌≡◌, ◌⊎◌, ◌<◌, ◌-◌, ℕ, Bool, true, false, not, ◌&&◌, ◌++◌, if◌then◌else◌, IsTrue, List, [], ◌∷◌, inl, inr, refl, sym, ap, ◌∙◌, subst}
 use Rattle.std.proofs.lemmas.Bool.{false≢true}
 use Rattle.std.specs.List.{Contains, list_all, list_any}
-use Rattle.twe_io.specs.declared.place.Place.{Place}
+use Rattle.twe_base.specs.declared.place.Place.{Place}
 use Rattle.effect_sets.specs.declared.effects.Effect.{Effect}
 use Rattle.effect_sets.specs.declared.effects.Summary.{Summary}
 use Rattle.effect_sets.specs.Covers.{covers}
@@ -26,9 +26,9 @@ use Rattle.effect_check.specs.Covered.{Does, CoveredAt}
 use Rattle.effect_check.specs.FailsEffect.{TaskFails, MethodFails}
 use Rattle.effect_check.specs.FailsEffect as rules
 use Rattle.effect_check.specs.inner.Failures.{spawn_of, spawns_among, followed, bars, free, all_free, all_inside, declared_failures_at, declared_failures, future_failures_at, future_failures, task_failures, method_failures_at, method_failures, IsGroupOf, AreGroupsOf, AreFollowed}
-use Rattle.first_failure.specs.First.{failure_if}
-use Rattle.first_failure.proofs.Firsts.{if-in, in-if}
-use Rattle.first_failure.proofs.Members.{IsIn, in-left, in-right, in-cases, contains-in, in-contains, both-true, true-both, list_all-in, in-list_all, list_any-in, in-list_any, all-in}
+use Rattle.twe_base.specs.First.{failure_if}
+use Rattle.twe_base.proofs.Firsts.{if-in, in-if}
+use Rattle.twe_base.proofs.Members.{IsIn, in-left, in-right, in-cases, contains-in, in-contains, both-true, true-both, list_all-in, in-list_all, list_any-in, in-list_any, all-in}
 use Rattle.effect_check.specs.inner.Marks.{marks_of, marks_over, no_marks, meet}
 use Rattle.effect_check.proofs.Range.{IsInRange, AllInRange}
 use Rattle.effect_check.proofs.Regions.{own-meet}

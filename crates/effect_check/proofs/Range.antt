@@ -14,7 +14,7 @@ use Rattle.effect_check.specs.declared.act.Act.{Act}
 use Rattle.effect_check.specs.declared.act.ActKind.{ActKind}
 use Rattle.effect_check.specs.declared.act.ActKind.TheVariants as kinds
 use Rattle.effect_check.specs.Acts.{acts_of, acts_of_all, acts_of_value, acts_in, acts_in_all, acts_in_one}
-use Rattle.first_failure.proofs.Members.{all-append, all-front, all-back}
+use Rattle.twe_base.proofs.Members.{all-append, all-front, all-back}
 
 -- the future is below the number, where it is of one
 abbrev pub FutureBelow : ℕ → ActKind → Type 0

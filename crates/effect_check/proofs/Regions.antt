@@ -12,7 +12,7 @@ use Rattle.effect_check.specs.declared.futures.Futures.{Futures}
 use Rattle.effect_check.specs.declared.marks.Marks.{Marks}
 use Rattle.effect_check.specs.inner.Failures.{bars, free, HasMarks, others_of}
 use Rattle.effect_check.specs.inner.Marks.{marks_of, marks_over, no_marks, meet}
-use Rattle.first_failure.proofs.Members.{IsIn, in-list_all, list_any-in}
+use Rattle.twe_base.proofs.Members.{IsIn, in-list_all, list_any-in}
 use Rattle.effect_check.proofs.Apart.{Within, over-has, all-has, different-names, different-indexes, none-shared}
 
 none_of : (b c : Bool) → not (b && (c && false)) ≡ true

@@ -1,6 +1,6 @@
 -- When an effect is covered at a point of a body.
 use Rattle.std.specs.Prelude.{ℕ, Bool, true, IsTrue, Contains}
-use Rattle.twe_io.specs.declared.place.Place.{Place}
+use Rattle.twe_base.specs.declared.place.Place.{Place}
 use Rattle.effect_sets.specs.declared.effects.Effect.{Effect}
 use Rattle.effect_sets.specs.declared.effects.Summary.{Summary}
 use Rattle.effect_sets.specs.Covers.{covers}

@@ -1,8 +1,8 @@
 -- The rules on effects: when a program fails them, and which failure comes first.
 use Rattle.std.specs.Prelude.{◌⊎◌, ℕ, Bool, true, false, IsTrue, Contains}
-use Rattle.twe_io.specs.declared.place.Place.{Place}
-use Rattle.first_failure.specs.declared.failure.Failure.{Failure}
-use Rattle.first_failure.specs.Order as order
+use Rattle.twe_base.specs.declared.place.Place.{Place}
+use Rattle.twe_base.specs.declared.failure.Failure.{Failure}
+use Rattle.twe_base.specs.Order as order
 use Rattle.effect_sets.specs.declared.effects.Effect.{Effect}
 use Rattle.effect_sets.specs.declared.effects.Summary.{Summary}
 use Rattle.effect_sets.specs.Covers.{covers}
@@ -23,7 +23,9 @@ pub data TaskFails (p : Program) (task : Decl) : ERule → Place → Type 0 wher
       → Does p task point (Touch effect place) → ¬ CoveredAt p task point effect → TaskFails p task E1 place
   -- an effect of a called method is not covered
   called : (point : ℕ) (effects : Summary) (effect : Effect) (place : Place)
-      → Does p task point (Call effects place) → Contains effects.effects effect → ¬ CoveredAt p task point effect → TaskFails p task E2 place
+      → Does p task point (Call effects place) → Contains effects.effects effect
+      → ¬ CoveredAt p task point effect
+      → TaskFails p task E2 place
   -- an effect of a spawned task is not covered just before the spawn
   spawned : (point future : ℕ) (deterministic : Bool) (effects : Summary) (effect : Effect) (future_place place : Place)
       → Does p task point (Make future true deterministic effects future_place place)
@@ -62,25 +64,26 @@ FailsEffect p rule place =
     ((task : Decl) × Contains p.tasks task × TaskFails p task rule place)
     ⊎ ((method : Decl) × Contains p.methods method × MethodFails p method rule place)
 
-abbrev pub number_of : ERule → ℕ
-number_of E1 = 1
-number_of E2 = 2
-number_of E3 = 3
-number_of E4 = 4
-number_of E5 = 5
-number_of E6 = 6
-number_of E7 = 7
-number_of E8 = 8
+-- The number of a rule. Of several rules that fail at one place the one with the lowest number comes first.
+abbrev pub effect_rule_number : ERule → ℕ
+effect_rule_number E1 = 1
+effect_rule_number E2 = 2
+effect_rule_number E3 = 3
+effect_rule_number E4 = 4
+effect_rule_number E5 = 5
+effect_rule_number E6 = 6
+effect_rule_number E7 = 7
+effect_rule_number E8 = 8
 
 -- a rule on effects that fails, and where
 abbrev pub EffectFailure : Type 0
 EffectFailure = Failure ERule
 
 -- the failure that comes before all others
-abbrev pub IsFirstFailure : Program → ERule → Place → Type 0
-IsFirstFailure p rule place = order.IsFirstFailure number_of (FailsEffect p) rule place
+abbrev pub IsFirstEffectFailure : Program → ERule → Place → Type 0
+IsFirstEffectFailure p rule place = order.IsFirstFailure effect_rule_number (FailsEffect p) rule place
 
 -- the cause of an error: the first failure; nothing is said of want of memory
-abbrev pub HasCause : Program → CheckFail → Type 0
-HasCause p (Rule rule place) = IsFirstFailure p rule place
-HasCause p (OutOfMemory memory) = Unit {0}
+abbrev pub CheckHasCause : Program → CheckFail → Type 0
+CheckHasCause p (Rule rule place) = IsFirstEffectFailure p rule place
+CheckHasCause p (OutOfMemory memory) = Unit {0}

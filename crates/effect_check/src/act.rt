@@ -4,7 +4,7 @@ ghost use Rattle.effect_check.specs.Acts.{touch};
 
 use effect_sets::{Effect, Summary};
 use region_paths::Path;
-use twe_io::{List, Memory, Place};
+use twe_base::{List, Memory, Place};
 
 /// Something that a body does at one of its points.
 #[derive(Debug, Drop)]

@@ -1,6 +1,6 @@
 //! Collects what the statements of a body do.
 ghost use Rattle.std.specs.Prelude.{◌≡◌, ◌∷◌, [], ◌++◌, true, IfOk, OnOk};
-ghost use Rattle.effect_check.specs.Standing.{console};
+ghost use Rattle.effect_check.specs.Standing.{console_element};
 ghost use Rattle.effect_check.specs.Acts.{acts_in, acts_in_all, acts_in_one, acts_of_value, make, touch, wait};
 ghost use Rattle.effect_check.specs.inner.Parts.{simple_acts, store_acts};
 
@@ -8,12 +8,12 @@ use crate::act::{Act, ActKind, Acts, add_touch};
 use crate::collect::{add_args, add_call, add_expr, cell_path, deterministic, element, filled};
 use region_paths::{Elem, Elems, Path};
 use std::alloc::Global;
-use twe_io::{Memory, Place};
+use twe_base::{Memory, Place};
 use twe_program::{Args, Arms, Block, Expr, Prog, Stmt, StmtKind};
 
 /// Adds a print, which writes the region `Console`.
 fn add_print(acts: &mut Acts, alloc: Global, point: u32, place: Place) -> Result<(), Memory>
-    ensures { OnOk result (acts.new ≡ acts.old ++ touch point true console place ∷ []) }
+    ensures { OnOk result (acts.new ≡ acts.old ++ touch point true console_element place ∷ []) }
 {
     let elems = Elems::from_slice(alloc, &[Elem::Name(0)])?;
     let path = Path::new(elems, false, Elems::new(alloc));

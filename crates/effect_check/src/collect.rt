@@ -1,19 +1,19 @@
 //! Collects what is done to evaluate an expression.
 ghost use Rattle.std.specs.Prelude.{◌≡◌, ◌∷◌, [], ◌++◌, IfOk, OnOk, slice_get};
-ghost use Rattle.effect_check.specs.Standing.{element_of, elements_from, elements_of, path_at};
+ghost use Rattle.effect_check.specs.Standing.{element_of_index, elements_from, elements_of, path_at};
 ghost use Rattle.effect_check.specs.Acts.{acts_of, acts_of_all, call, filled_summary, is_deterministic, touch};
 
 use crate::act::{Act, ActKind, Acts, add_touch};
 use effect_sets::{Effects, Summary};
 use region_paths::{Elem, Elems, Path};
 use std::alloc::Global;
-use twe_io::{Memory, Place};
+use twe_base::{Memory, Place};
 use twe_program::{Args, Decl, Expr, ExprKind, Prog};
 
 /// An index or an argument as the rules see it: a literal, a parameter and a `final int` local as itself, and everything
 /// else as any index.
 pub fn element(expr: &Expr) -> Elem
-    ensures { result ≡ element_of expr.now }
+    ensures { result ≡ element_of_index expr.now }
 {
     match &expr.kind {
         ExprKind::Lit(value) => Elem::Index(*value),

@@ -7,7 +7,7 @@ use crate::marks::{Marks, marks_of_effects};
 use cover_flow::Points;
 use effect_sets::Summary;
 use std::alloc::Global;
-use twe_io::{List, Memory};
+use twe_base::{List, Memory};
 
 /// A spawn: its future, and the effects of the spawned task.
 #[derive(Debug, Drop)]

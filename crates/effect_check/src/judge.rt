@@ -10,9 +10,8 @@ use crate::marks::marks_of_all;
 use crate::rule::ERule;
 use crate::settled::{report_effect, report_effects};
 use cover_flow::{FUTURES_AT_ONCE, flow};
-use first_failure::{Failure, report_if};
 use std::alloc::Global;
-use twe_io::Memory;
+use twe_base::{Failure, Memory, report_if};
 use twe_program::{Body, Decl, Prog};
 
 /// Reports the failures of a task at one act, apart from those that futures make.

@@ -1,9 +1,8 @@
 //! The rules on effects, and the error of the check.
 
-use first_failure::Rule;
 use std::error::Error;
 use std::fmt;
-use twe_io::{Memory, Place};
+use twe_base::{Memory, Place, Rule};
 
 /// A rule on effects.
 #[derive(Clone, Copy, Debug, PartialEq, Eq)]
@@ -27,7 +26,7 @@ pub enum ERule {
 }
 
 impl Rule for ERule {
-    ghost use Rattle.effect_check.specs.FailsEffect.{number_of as number_in_name};
+    ghost use Rattle.effect_check.specs.FailsEffect.{effect_rule_number as number_in_name};
 
     ghost number_of = { number_in_name };
 

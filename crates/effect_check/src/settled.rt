@@ -1,14 +1,13 @@
 //! Failures that can't become the first one, since another at an earlier place was reported.
 ghost use Rattle.std.specs.Prelude.{◌≡◌, not};
-ghost use Rattle.first_failure.specs.First.{failure_if};
+ghost use Rattle.twe_base.specs.First.{failure_if};
 ghost use Rattle.effect_check.specs.inner.Failures.{HasMarks, all_free, first_from, free, is_settled};
 
 use crate::cover::{are_free, is_free};
 use crate::futures::Futures;
 use crate::rule::ERule;
 use effect_sets::{Effect, Summary};
-use first_failure::{Failure, report_if};
-use twe_io::Place;
+use twe_base::{Failure, Place, report_if};
 
 /// Whether the first failure so far is at an earlier place.
 #[inline(always)]

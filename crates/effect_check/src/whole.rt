@@ -1,15 +1,14 @@
 //! The check of a program.
 ghost use Rattle.std.specs.Prelude.{IfErr, IfOk, OnOk};
-ghost use Rattle.twe_io.specs.declared.place.Place.{Place};
+ghost use Rattle.twe_base.specs.declared.place.Place.{Place};
 ghost use Rattle.effect_check.specs.declared.rule.ERule.{ERule as Named};
-ghost use Rattle.effect_check.specs.FailsEffect.{FailsEffect, HasCause};
+ghost use Rattle.effect_check.specs.FailsEffect.{FailsEffect, CheckHasCause};
 ghost use Rattle.effect_check.specs.inner.First.{IsFirstOf, FailsInTask, FailsInBody};
 
 use crate::judge::{judge_method, judge_task};
 use crate::rule::{CheckFail, ERule};
-use first_failure::Failure;
 use std::alloc::Global;
-use twe_io::Memory;
+use twe_base::{Failure, Memory};
 use twe_program::Prog;
 
 /// The first failure of the tasks.
@@ -38,7 +37,7 @@ fn first_failure(alloc: Global, p: &Prog) -> Result<Option<Failure<ERule>>, Memo
 /// returns the failure that comes first in the text, and at one place the one with the lowest number.
 pub fn check(alloc: Global, p: &Prog) -> Result<(), CheckFail>
     ensures accepted { OnOk result ((rule : Named) (place : Place) → ¬ FailsEffect p.now rule place) }
-    ensures refused { IfErr result (HasCause p.now) }
+    ensures refused { IfErr result (CheckHasCause p.now) }
 {
     match first_failure(alloc, p)? {
         None => Ok(()),

@@ -11,25 +11,25 @@ use Rattle.region_paths.specs.Filled.{fill_elem}
 use Rattle.twe_program.specs.declared.program.CellDecl.{CellDecl}
 use Rattle.twe_program.specs.declared.program.Decl.{Decl}
 use Rattle.twe_program.specs.Program.{Program}
-use Rattle.method_needs.specs.declared.need.Need.{Need}
-use Rattle.method_needs.specs.declared.need.Step.TheVariants.{Touch, Call}
-use Rattle.method_needs.specs.Steps.{steps_in_all}
-use Rattle.method_needs.specs.Needs.{IsNeed, own, called, HasStep, Widens, effect_of, settled, settled_elem, filled_need}
-use Rattle.method_needs.proofs.Within.{settled-keeps, fill-keeps}
-use Rattle.method_needs.proofs.Inside.{covers-map, covers-trans}
-use Rattle.method_needs.proofs.Relation.{arguments-indexes}
+use Rattle.effect_infer.specs.declared.needs.need.Need.{Need}
+use Rattle.effect_infer.specs.declared.needs.need.Step.TheVariants.{Touch, Call}
+use Rattle.effect_infer.specs.needs.Steps.{steps_in_all}
+use Rattle.effect_infer.specs.needs.Needs.{IsNeed, own, called, HasStep, Widens, effect_of, settled, settled_elem, filled_need}
+use Rattle.effect_infer.proofs.needs.Within.{settled-keeps, fill-keeps}
+use Rattle.effect_infer.proofs.needs.Inside.{covers-map, covers-trans}
+use Rattle.effect_infer.proofs.needs.Relation.{arguments-indexes}
 use Rattle.effect_infer.specs.declared.found.Found.{Found}
 use Rattle.effect_infer.specs.declared.found.CallSite.{CallSite}
 use Rattle.effect_infer.specs.Gathered.{in_all, starts_in, calls_in, handed}
 use Rattle.effect_infer.specs.Rows.{row, ListsCalls}
-use Rattle.effect_infer.specs.Covered.{IsCovered, Grows, IsHandedBy, IsReached, start, further, Spreads, HasFoundAll}
+use Rattle.effect_infer.specs.Covered.{IsCovered, SummaryGrows, IsHandedBy, MethodIsReached, start, further, Spreads, HasFoundAll}
 use Rattle.effect_infer.proofs.Growth.{covered-grown}
 use Rattle.effect_infer.proofs.Gathering.{starts-are, start-is, calls-are, call-is}
 
 -- what is reached when so many needs were handed on
 pub record SpreadsTo (methods : ℕ) (calls : List CallSite) (old : List Found) (at : ℕ) (new : List Found) : Type 0 where
   pub longer : (more : List Found) × (new ≡ old ++ more)
-  pub only : (need : Found) → Contains new need → IsReached old calls need
+  pub only : (need : Found) → Contains new need → MethodIsReached old calls need
   pub within : at ≤ length new
   pub closed : (k : ℕ) (need : Found) (call : CallSite) → k < at → slice_get new k ≡ Some need → Contains calls call → call.callee ≡ need.method → call.callee < methods
       → IsCovered new (handed call need.need)
@@ -64,7 +64,7 @@ at-contains xs k x e = (k, slice_get_within xs k x e, get_or_from_slice_get xs k
 -- one need more was handed on
 pub spread-more : (methods : ℕ) (calls : List CallSite) (callers : List (List ℕ)) (old mid new : List Found) (at : ℕ) (found : Found)
     → ListsCalls methods calls callers → SpreadsTo methods calls old at mid → slice_get mid at ≡ Some found
-    → Grows mid new (IsHandedBy calls (row callers found.method) found.method found.need) → SpreadsTo methods calls old (at + 1) new
+    → SummaryGrows mid new (IsHandedBy calls (row callers found.method) found.method found.need) → SpreadsTo methods calls old (at + 1) new
 spread-more methods calls callers old mid new at found lists so_far here grows = record {
   longer = (
     so_far.longer.0 ++ grows.longer.0,
@@ -75,7 +75,7 @@ spread-more methods calls callers old mid new at found lists so_far here grows =
     | inr h ↦
         let call = h.1 in
         let from = so_far.only found (at-contains mid at found here) in
-        subst (IsReached old calls) (sym h.4.1) (further found call from (at-contains calls h.0 call h.3) h.4.0)
+        subst (MethodIsReached old calls) (sym h.4.1) (further found call from (at-contains calls h.0 call h.3) h.4.0)
   ];
   within =
       let below = slice_get_within mid at found here in
@@ -113,9 +113,9 @@ spread-end methods calls old new at enough s = record {
 }
 
 -- the same lists, said otherwise
-pub grows-of : (old first xs ys : List Found) → old ≡ [] → xs ≡ ys → Grows old first (Contains xs) → Grows [] first (Contains ys)
+pub grows-of : (old first xs ys : List Found) → old ≡ [] → xs ≡ ys → SummaryGrows old first (Contains xs) → SummaryGrows [] first (Contains ys)
 grows-of old first xs ys none same g =
-    subst (λ (zs : List Found). Grows [] first (Contains zs)) same (subst (λ (zs : List Found). Grows zs first (Contains xs)) none g)
+    subst (λ (zs : List Found). SummaryGrows [] first (Contains zs)) same (subst (λ (zs : List Found). SummaryGrows zs first (Contains xs)) none g)
 
 pub spreads-of : (m n : ℕ) (xs ys : List CallSite) (old new : List Found) → m ≡ n → xs ≡ ys → Spreads m xs old new → Spreads n ys old new
 spreads-of m n xs ys old new count same s =
@@ -128,7 +128,7 @@ gives-same g cells cells' methods methods' e f =
     ap (λ (cs : List CellDecl). in_all (g cs) 0 methods) e ∙ ap (λ (ds : List Decl). in_all (g cells') 0 ds) f
 
 -- from a program's own needs and calls to all that it needs
-module _ (p : Program) (first all : List Found) (starts : Grows [] first (Contains (in_all (starts_in p.cells) 0 p.methods)))
+module _ (p : Program) (first all : List Found) (starts : SummaryGrows [] first (Contains (in_all (starts_in p.cells) 0 p.methods)))
     (spreads : Spreads (length p.methods) (in_all (calls_in p.cells) 0 p.methods) first all) where
   first-needed : (f : Found) → Contains first f → IsNeed p f.method f.need
   first-needed f there = elim (starts.only f there) [
@@ -138,7 +138,7 @@ module _ (p : Program) (first all : List Found) (starts : Grows [] first (Contai
         subst (IsNeed p f.method) (sym from.3) (own f.method from.0 from.1 from.2)
   ]
 
-  reached-needed : (f : Found) → IsReached first (in_all (calls_in p.cells) 0 p.methods) f → IsNeed p f.method f.need
+  reached-needed : (f : Found) → MethodIsReached first (in_all (calls_in p.cells) 0 p.methods) f → IsNeed p f.method f.need
   reached-needed f (start g there) = first-needed g there
   reached-needed f (further g call before there same) =
       let is = calls-are p call there in

@@ -6,12 +6,12 @@ use Rattle.twe_program.specs.declared.program.CellDecl.{CellDecl}
 use Rattle.twe_program.specs.declared.program.Decl.{Decl}
 use Rattle.twe_program.specs.Program.{Program}
 use Rattle.region_paths.specs.declared.elements.Elem.{Elem}
-use Rattle.method_needs.specs.declared.need.Need.{Need}
-use Rattle.method_needs.specs.declared.need.Step.{Step}
-use Rattle.method_needs.specs.declared.need.Step.TheVariants.{Touch, Call}
-use Rattle.method_needs.specs.Steps.{steps_in_all}
-use Rattle.method_needs.specs.Needs.{HasStep, settled}
-use Rattle.first_failure.proofs.Members.{IsIn, in-left, in-right, in-cases, contains-in, in-contains}
+use Rattle.effect_infer.specs.declared.needs.need.Need.{Need}
+use Rattle.effect_infer.specs.declared.needs.need.Step.{Step}
+use Rattle.effect_infer.specs.declared.needs.need.Step.TheVariants.{Touch, Call}
+use Rattle.effect_infer.specs.needs.Steps.{steps_in_all}
+use Rattle.effect_infer.specs.needs.Needs.{HasStep, settled}
+use Rattle.twe_base.proofs.Members.{IsIn, in-left, in-right, in-cases, contains-in, in-contains}
 use Rattle.effect_infer.specs.declared.found.Found.{Found}
 use Rattle.effect_infer.specs.declared.found.CallSite.{CallSite}
 use Rattle.effect_infer.specs.Gathered.{starts_of, calls_of, in_all, starts_in, calls_in}

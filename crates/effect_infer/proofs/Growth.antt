@@ -5,13 +5,13 @@ use Rattle.std.specs.List.{Contains}
 use Rattle.std.proofs.lemmas.List.{take_more, take_all}
 use Rattle.std.proofs.lemmas.Option.{none-some, same_Some}
 use Rattle.std.proofs.lemmas.List.Elements.{Contains-append_left, Contains-push, Contains-push_cases}
-use Rattle.method_needs.specs.declared.need.Need.{Need}
-use Rattle.method_needs.specs.Needs.{Widens}
-use Rattle.method_needs.proofs.Inside.{covers-refl}
+use Rattle.effect_infer.specs.declared.needs.need.Need.{Need}
+use Rattle.effect_infer.specs.needs.Needs.{Widens}
+use Rattle.effect_infer.proofs.needs.Inside.{covers-refl}
 use Rattle.effect_infer.specs.declared.found.Found.{Found}
 use Rattle.effect_infer.specs.declared.found.CallSite.{CallSite}
 use Rattle.effect_infer.specs.Gathered.{handed}
-use Rattle.effect_infer.specs.Covered.{IsCovered, Grows, IsHanded, IsHandedBy}
+use Rattle.effect_infer.specs.Covered.{IsCovered, SummaryGrows, IsHanded, IsHandedBy}
 
 pub covered-longer : (old more : List Found) (f : Found) → IsCovered old f → IsCovered (old ++ more) f
 covered-longer old more f c = (c.0, Contains-append_left old more c.0 c.1, c.2, c.3)
@@ -23,13 +23,13 @@ pub covered-itself : (all : List Found) (f : Found) → Contains all f → IsCov
 covered-itself all f there = (f, there, refl, covers-refl f.need)
 
 -- nothing is added where all is covered
-pub grows-same : (all : List Found) (P : Found → Type 0) → ((f : Found) → P f → IsCovered all f) → Grows all all P
+pub grows-same : (all : List Found) (P : Found → Type 0) → ((f : Found) → P f → IsCovered all f) → SummaryGrows all all P
 grows-same all P h = record { longer = ([], sym (append-nil all)); only = λ f c. inl c; all = h }
 
-pub grows-none : (all : List Found) (P : Found → Type 0) → ((f : Found) → P f → ⊥) → Grows all all P
+pub grows-none : (all : List Found) (P : Found → Type 0) → ((f : Found) → P f → ⊥) → SummaryGrows all all P
 grows-none all P h = grows-same all P (λ f p. absurd (h f p))
 
-pub grows-push : (all : List Found) (found : Found) → Grows all (all ++ found ∷ []) (λ f. f ≡ found)
+pub grows-push : (all : List Found) (found : Found) → SummaryGrows all (all ++ found ∷ []) (λ f. f ≡ found)
 grows-push all found = record {
   longer = (found ∷ [], refl);
   only = λ f c. elim (Contains-push_cases all found f c) [ inl old ↦ inl old | inr e ↦ inr (sym e) ];
@@ -37,8 +37,8 @@ grows-push all found = record {
 }
 
 -- one growth after another
-pub grows-then : (a b c : List Found) (P Q R : Found → Type 0) → Grows a b P → Grows b c Q
-    → ((f : Found) → R f → P f ⊎ Q f) → ((f : Found) → P f → R f) → ((f : Found) → Q f → R f) → Grows a c R
+pub grows-then : (a b c : List Found) (P Q R : Found → Type 0) → SummaryGrows a b P → SummaryGrows b c Q
+    → ((f : Found) → R f → P f ⊎ Q f) → ((f : Found) → P f → R f) → ((f : Found) → Q f → R f) → SummaryGrows a c R
 grows-then a b c P Q R first second split left right = record {
   longer = (
     first.longer.0 ++ second.longer.0,
@@ -55,7 +55,7 @@ grows-then a b c P Q R first second split left right = record {
 }
 
 -- the same needs, said otherwise
-pub grows-as : (a b : List Found) (P Q : Found → Type 0) → Grows a b P → ((f : Found) → Q f → P f) → ((f : Found) → P f → Q f) → Grows a b Q
+pub grows-as : (a b : List Found) (P Q : Found → Type 0) → SummaryGrows a b P → ((f : Found) → Q f → P f) → ((f : Found) → P f → Q f) → SummaryGrows a b Q
 grows-as a b P Q g to from = record {
   longer = g.longer;
   only = λ f there. elim (g.only f there) [ inl old ↦ inl old | inr p ↦ inr (from f p) ];
@@ -82,7 +82,7 @@ taken-last xs i y below is =
     subst (λ ys. Contains ys y) (sym (take_more xs i y below)) (subst (λ z. Contains (take i xs ++ z ∷ []) y) (sym is) (Contains-push (take i xs) y))
 
 pub starts-more : (a b c starts : List Found) (i : ℕ) (start : Found) → i < length starts → get_or starts i start ≡ start
-    → Grows a b (Contains (take i starts)) → Grows b c (λ f. f ≡ start) → Grows a c (Contains (take (i + 1) starts))
+    → SummaryGrows a b (Contains (take i starts)) → SummaryGrows b c (λ f. f ≡ start) → SummaryGrows a c (Contains (take (i + 1) starts))
 starts-more a b c starts i start below is first second =
     grows-then a b c (Contains (take i starts)) (λ f. f ≡ start) (Contains (take (i + 1) starts)) first second
     (λ f r. elim (taken-cases starts i start f below is r) [ inl before ↦ inl before | inr e ↦ inr (sym e) ])
@@ -98,8 +98,8 @@ module _ (calls : List CallSite) (places : List ℕ) (method : ℕ) (need : Need
     | inr e ↦ inr (h.1, subst (λ at. slice_get calls at ≡ Some h.1) (sym e) h.3, h.4)
   ]
 
-  pub places-more : (a b c : List Found) (call : CallSite) → slice_get calls place ≡ Some call → Grows a b (IsHandedBy calls (take i places) method need)
-      → Grows b c (IsHanded call method need) → Grows a c (IsHandedBy calls (take (i + 1) places) method need)
+  pub places-more : (a b c : List Found) (call : CallSite) → slice_get calls place ≡ Some call → SummaryGrows a b (IsHandedBy calls (take i places) method need)
+      → SummaryGrows b c (IsHanded call method need) → SummaryGrows a c (IsHandedBy calls (take (i + 1) places) method need)
   places-more a b c call at first second =
       grows-then a b c (IsHandedBy calls (take i places) method need) (IsHanded call method need) (IsHandedBy calls (take (i + 1) places) method need) first second
       (λ f r. elim (split-places f r) [
@@ -110,8 +110,8 @@ module _ (calls : List CallSite) (places : List ℕ) (method : ℕ) (need : Need
       (λ f h. (place, call, taken-last places i place below is, at, h))
 
   -- a place where no call stands hands nothing on
-  pub places-skip : (a b : List Found) → slice_get calls place ≡ None → Grows a b (IsHandedBy calls (take i places) method need)
-      → Grows a b (IsHandedBy calls (take (i + 1) places) method need)
+  pub places-skip : (a b : List Found) → slice_get calls place ≡ None → SummaryGrows a b (IsHandedBy calls (take i places) method need)
+      → SummaryGrows a b (IsHandedBy calls (take (i + 1) places) method need)
   places-skip a b at first =
       grows-as a b (IsHandedBy calls (take i places) method need) (IsHandedBy calls (take (i + 1) places) method need) first
       (λ f r. elim (split-places f r) [

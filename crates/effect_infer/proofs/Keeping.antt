@@ -6,13 +6,13 @@ use Rattle.std.proofs.lemmas.Bool.{cases_eq, cases_lt, cases_Bool, false≢true,
 use Rattle.std.proofs.lemmas.List.{length-append, take_all}
 use Rattle.std.proofs.lemmas.List.Elements.{Contains-append_left, Contains-push, Contains-push_cases}
 use Rattle.effect_sets.specs.Covers.{effect_covers}
-use Rattle.method_needs.specs.declared.need.Need.{Need}
-use Rattle.method_needs.specs.Needs.{Widens, effect_of}
-use Rattle.method_needs.proofs.Inside.{covers-refl, covers-trans}
-use Rattle.first_failure.proofs.Members.{IsIn, contains-in, in-contains, list_any-in, in-list_any}
+use Rattle.effect_infer.specs.declared.needs.need.Need.{Need}
+use Rattle.effect_infer.specs.needs.Needs.{Widens, effect_of}
+use Rattle.effect_infer.proofs.needs.Inside.{covers-refl, covers-trans}
+use Rattle.twe_base.proofs.Members.{IsIn, contains-in, in-contains, list_any-in, in-list_any}
 use Rattle.effect_infer.specs.declared.found.Found.{Found}
 use Rattle.effect_infer.specs.Rows.{row, no_rows, with_item}
-use Rattle.effect_infer.specs.Kept.{rank, some_cover, AreDistinct, most_kept, is_wanted, Keeps}
+use Rattle.effect_infer.specs.Kept.{method_rank, some_cover, AreDistinct, most_kept, is_wanted, KeepsNeeds}
 use Rattle.effect_infer.proofs.Ranks.{rank-most}
 use Rattle.effect_infer.proofs.RowItems.{row-none, length-none, length-with, row-here, row-other, stays}
 use Rattle.effect_infer.proofs.Growth.{none-taken, taken-cases}
@@ -62,7 +62,7 @@ unwanted needs need few h = elim (and_cases (nat_lt (length needs) most_kept) (n
 ]
 
 module _ (methods : ℕ) (all : List Found) where
-  pub keeps-start : (IsDone : Found → Type 0) → ((f : Found) → Contains all f → IsDone f → ⊥) → Keeps methods all (no_rows methods) IsDone
+  pub keeps-start : (IsDone : Found → Type 0) → ((f : Found) → Contains all f → IsDone f → ⊥) → KeepsNeeds methods all (no_rows methods) IsDone
   keeps-start IsDone none = record {
     long = length-none Need methods;
     found = λ m need c. absurd (empty m need c);
@@ -75,9 +75,9 @@ module _ (methods : ℕ) (all : List Found) where
     empty m need c = let below = (subst (λ (xs : List Need). Contains xs need) (row-none methods m) c).1 in omega (arith, below)
 
   -- more needs are done with, which are covered already, or have no room
-  pub keeps-as : (table : List (List Need)) (IsDone IsMore : Found → Type 0) → Keeps methods all table IsDone
+  pub keeps-as : (table : List (List Need)) (IsDone IsMore : Found → Type 0) → KeepsNeeds methods all table IsDone
       → ((f : Found) → Contains all f → IsMore f → f.method < methods → IsDone f ⊎ ((length (row table f.method) ≡ most_kept) ⊎ (some_cover (row table f.method) f.need ≡ true)))
-      → Keeps methods all table IsMore
+      → KeepsNeeds methods all table IsMore
   keeps-as table IsDone IsMore k more = record {
     long = k.long;
     found = k.found;
@@ -88,8 +88,8 @@ module _ (methods : ℕ) (all : List Found) where
   }
 
   -- a wanted need is kept, if all of higher rank are done with
-  module _ (table : List (List Need)) (IsDone IsMore : Found → Type 0) (k : Keeps methods all table IsDone) (new : Found) (there : Contains all new) (below : new.method < length table)
-      (wanted : is_wanted (row table new.method) new.need ≡ true) (higher : (f : Found) → rank new.need < rank f.need → IsDone f)
+  module _ (table : List (List Need)) (IsDone IsMore : Found → Type 0) (k : KeepsNeeds methods all table IsDone) (new : Found) (there : Contains all new) (below : new.method < length table)
+      (wanted : is_wanted (row table new.method) new.need ≡ true) (higher : (f : Found) → method_rank new.need < method_rank f.need → IsDone f)
       (more : (f : Found) → Contains all f → IsMore f → IsDone f ⊎ (f ≡ new)) where
     here : row (with_item table new.method new.need) new.method ≡ row table new.method ++ new.need ∷ []
     here = row-here table new.method new.need below
@@ -109,7 +109,7 @@ module _ (methods : ℕ) (all : List Found) where
     new-widest : (other : Found) → Contains all other → other.method ≡ new.method → Widens other.need new.need → other.need ≡ new.need
     new-widest other found is h =
         let most = rank-most other.need new.need h in
-        elim (cases_lt (rank new.need) (rank other.need)) [
+        elim (cases_lt (method_rank new.need) (method_rank other.need)) [
           | inl above ↦
               let long = k.long in
               let within : other.method < methods = omega (arith, is, below, long) in
@@ -163,7 +163,7 @@ module _ (methods : ℕ) (all : List Found) where
         (found-cover (row (with_item table new.method new.need) new.method) new.need new.need
         (subst (λ xs. Contains xs new.need) (sym (row-here table new.method new.need below)) (Contains-push (row table new.method) new.need)) (covers-refl new.need))
 
-    pub keeps-push : Keeps methods all (with_item table new.method new.need) IsMore
+    pub keeps-push : KeepsNeeds methods all (with_item table new.method new.need) IsMore
     keeps-push = record {
       long = length-with table new.method new.need ∙ k.long;
       found = λ m need c. elim (cases m need c) [
@@ -189,12 +189,12 @@ module _ (methods : ℕ) (all : List Found) where
 
   -- the needs of one rank, one after the other
   abbrev pub DoneUpTo : ℕ → ℕ → Found → Type 0
-  DoneUpTo this i f = (this < rank f.need) ⊎ ((rank f.need ≡ this) × Contains (take i all) f)
+  DoneUpTo this i f = (this < method_rank f.need) ⊎ ((method_rank f.need ≡ this) × Contains (take i all) f)
 
-  pub rank-start : (this : ℕ) (table : List (List Need)) → Keeps methods all table (λ f. this < rank f.need) → Keeps methods all table (DoneUpTo this 0)
-  rank-start this table k = keeps-as table (λ f. this < rank f.need) (DoneUpTo this 0) k (λ f there done below. elim done [ inl high ↦ inl high | inr low ↦ absurd (none-taken all f low.1) ])
+  pub rank-start : (this : ℕ) (table : List (List Need)) → KeepsNeeds methods all table (λ f. this < method_rank f.need) → KeepsNeeds methods all table (DoneUpTo this 0)
+  rank-start this table k = keeps-as table (λ f. this < method_rank f.need) (DoneUpTo this 0) k (λ f there done below. elim done [ inl high ↦ inl high | inr low ↦ absurd (none-taken all f low.1) ])
 
-  module _ (this i : ℕ) (table : List (List Need)) (k : Keeps methods all table (DoneUpTo this i)) (f : Found) (below : i < length all) (is : get_or all i f ≡ f) where
+  module _ (this i : ℕ) (table : List (List Need)) (k : KeepsNeeds methods all table (DoneUpTo this i)) (f : Found) (below : i < length all) (is : get_or all i f ≡ f) where
     done-cases : (g : Found) → DoneUpTo this (i + 1) g → DoneUpTo this i g ⊎ (g ≡ f)
     done-cases g done = elim done [
       | inl high ↦ inl (inl high)
@@ -202,29 +202,29 @@ module _ (methods : ℕ) (all : List Found) where
     ]
 
     -- a need of another rank, and one of a method that is not there
-    pub rank-other : ((rank f.need ≡ this) → f.method < methods → ⊥) → Keeps methods all table (DoneUpTo this (i + 1))
+    pub rank-other : ((method_rank f.need ≡ this) → f.method < methods → ⊥) → KeepsNeeds methods all table (DoneUpTo this (i + 1))
     rank-other differ = keeps-as table (DoneUpTo this i) (DoneUpTo this (i + 1)) k (λ g there done within. elim done [
       | inl high ↦ inl (inl high)
       | inr low ↦ elim (taken-cases all i f g below is low.1) [
         | inl before ↦ inl (inr (low.0, before))
-        | inr e ↦ absurd (differ (ap (λ (h : Found). rank h.need) e ∙ low.0) (subst (λ (h : Found). h.method < methods) (sym e) within))
+        | inr e ↦ absurd (differ (ap (λ (h : Found). method_rank h.need) e ∙ low.0) (subst (λ (h : Found). h.method < methods) (sym e) within))
       ]
     ])
 
-    pub rank-unwanted : is_wanted (row table f.method) f.need ≡ false → Keeps methods all table (DoneUpTo this (i + 1))
+    pub rank-unwanted : is_wanted (row table f.method) f.need ≡ false → KeepsNeeds methods all table (DoneUpTo this (i + 1))
     rank-unwanted refused = keeps-as table (DoneUpTo this i) (DoneUpTo this (i + 1)) k (λ g there done within. elim (done-cases g done) [
       | inl before ↦ inl before
       | inr e ↦ inr (subst (λ (h : Found). (length (row table h.method) ≡ most_kept) ⊎ (some_cover (row table h.method) h.need ≡ true)) (sym e)
           (unwanted (row table f.method) f.need (k.few f.method) refused))
     ])
 
-    pub rank-wanted : rank f.need ≡ this → Contains all f → f.method < length table → is_wanted (row table f.method) f.need ≡ true
-        → Keeps methods all (with_item table f.method f.need) (DoneUpTo this (i + 1))
+    pub rank-wanted : method_rank f.need ≡ this → Contains all f → f.method < length table → is_wanted (row table f.method) f.need ≡ true
+        → KeepsNeeds methods all (with_item table f.method f.need) (DoneUpTo this (i + 1))
     rank-wanted same there within wanted =
         keeps-push table (DoneUpTo this i) (DoneUpTo this (i + 1)) k f there within wanted (λ g high. inl (omega (arith, same, high))) (λ g found done. done-cases g done)
 
-  pub rank-end : (this i : ℕ) (table : List (List Need)) → length all ≤ i → Keeps methods all table (DoneUpTo this i) → Keeps methods all table (λ f. this ≤ rank f.need)
-  rank-end this i table enough k = keeps-as table (DoneUpTo this i) (λ f. this ≤ rank f.need) k (λ f there done below. inl (elim (cases_lt this (rank f.need)) [
+  pub rank-end : (this i : ℕ) (table : List (List Need)) → length all ≤ i → KeepsNeeds methods all table (DoneUpTo this i) → KeepsNeeds methods all table (λ f. this ≤ method_rank f.need)
+  rank-end this i table enough k = keeps-as table (DoneUpTo this i) (λ f. this ≤ method_rank f.need) k (λ f there done below. inl (elim (cases_lt this (method_rank f.need)) [
     | inl high ↦ inl high
     | inr low ↦ inr (omega (arith, done, low), subst (λ (xs : List Found). Contains xs f) (sym (take_all i all enough)) there)
   ]))

@@ -6,11 +6,11 @@ use Rattle.region_paths.specs.declared.elements.Elem.{Elem}
 use Rattle.region_paths.specs.declared.elements.Elem.TheVariants.{Name, Index, Var, AnyIndex}
 use Rattle.region_paths.specs.Inside.{within, starts_within, inside}
 use Rattle.effect_sets.specs.Covers.{effect_covers}
-use Rattle.method_needs.specs.declared.need.Need.{Need}
-use Rattle.method_needs.specs.Needs.{Widens, effect_of}
-use Rattle.method_needs.proofs.Within.{is_index, within-cases}
-use Rattle.method_needs.proofs.Inside.{plain, each-from}
-use Rattle.effect_infer.specs.Kept.{is_any, any_indexes, rank}
+use Rattle.effect_infer.specs.declared.needs.need.Need.{Need}
+use Rattle.effect_infer.specs.needs.Needs.{Widens, effect_of}
+use Rattle.effect_infer.proofs.needs.Within.{is_index, within-cases}
+use Rattle.effect_infer.proofs.needs.Inside.{plain, each-from}
+use Rattle.effect_infer.specs.Kept.{is_any, any_indexes, method_rank}
 
 -- the count of one element
 abbrev one : Elem → ℕ
@@ -60,7 +60,7 @@ write-most true false h = absurd (false≢true h)
 write-most false true h = record { below = omega arith; same = λ e. absurd (omega (arith, e)) }
 write-most false false h = record { below = omega arith; same = λ e. refl }
 
-pub rank-most : (wide need : Need) → Widens wide need → AtMost (rank need) (rank wide) (wide ≡ need)
+pub rank-most : (wide need : Need) → Widens wide need → AtMost (method_rank need) (method_rank wide) (wide ≡ need)
 rank-most wide need h =
     let parts = and_parts (inside (plain need.elems) (plain wide.elems)) (not need.write || wide.write) h in
     let each = each-from need.elems wide.elems parts.0 in

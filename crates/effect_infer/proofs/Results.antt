@@ -7,30 +7,30 @@ use Rattle.std.proofs.lemmas.Option.{slice_get_within}
 use Rattle.effect_sets.specs.declared.effects.Effect.{Effect}
 use Rattle.effect_sets.specs.declared.effects.Summary.{Summary}
 use Rattle.effect_sets.specs.Covers.{covers, effect_covers}
-use Rattle.twe_limits.specs.Language.{max_effects}
+use Rattle.twe_base.specs.Language.{max_effects}
 use Rattle.twe_program.specs.Program.{Program}
-use Rattle.method_needs.specs.declared.need.Need.{Need}
-use Rattle.method_needs.specs.Needs.{IsNeed, own, called, IsWidest, Widens, effect_of}
+use Rattle.effect_infer.specs.declared.needs.need.Need.{Need}
+use Rattle.effect_infer.specs.needs.Needs.{IsNeed, own, called, IsWidest, Widens, effect_of}
 use Rattle.twe_program.specs.WellFormed.{IsWellFormed}
-use Rattle.method_needs.specs.Choices.{with_summaries, IsChoice, NoMethodFails, NoRuleFails, HasNeeds, CoversNeeds}
-use Rattle.method_needs.proofs.Inside.{covers-trans}
-use Rattle.method_needs.proofs.Soundness as sound
-use Rattle.method_needs.proofs.Leastness as least
-use Rattle.method_needs.proofs.Staying as staying
-use Rattle.first_failure.proofs.Members.{IsIn, contains-in, in-contains, in-list_any}
+use Rattle.effect_infer.specs.needs.Choices.{with_summaries, IsChoice, NoMethodFails, NoRuleFails, HasNeeds, CoversNeeds}
+use Rattle.effect_infer.proofs.needs.Inside.{covers-trans}
+use Rattle.effect_infer.proofs.needs.Soundness as sound
+use Rattle.effect_infer.proofs.needs.Leastness as least
+use Rattle.effect_infer.proofs.needs.Staying as staying
+use Rattle.twe_base.proofs.Members.{IsIn, contains-in, in-contains, in-list_any}
 use Rattle.effect_infer.specs.declared.found.Found.{Found}
 use Rattle.effect_infer.specs.declared.fail.InferFail.{InferFail}
 use Rattle.effect_infer.specs.declared.fail.InferFail.TheVariants.{TooMany, OutOfMemory}
 use Rattle.effect_infer.specs.Rows.{row}
 use Rattle.effect_infer.specs.Covered.{IsCovered, HasFoundAll}
-use Rattle.effect_infer.specs.Kept.{AreDistinct, some_cover, most_kept, Keeps}
+use Rattle.effect_infer.specs.Kept.{AreDistinct, some_cover, most_kept, KeepsNeeds}
 use Rattle.effect_infer.specs.Table.{AreFew, IsFirstLong, IsWidestTable}
-use Rattle.effect_infer.specs.Inferred.{AreWidest, summary_of, IsLeast, HasTooMany, AreLeast, AreCoveredByAll, HasCause}
+use Rattle.effect_infer.specs.Inferred.{AreWidest, summary_of, IsLeast, HasTooMany, AreLeast, AreCoveredByAll, InferHasCause}
 use Rattle.effect_infer.proofs.Ranks.{widens-same}
 use Rattle.effect_infer.proofs.Keeping.{cover-found, cover-wider}
 
 -- the table of the widest
-module _ (p : Program) (all : List Found) (table : List (List Need)) (found : HasFoundAll p all) (keeps : Keeps (length p.methods) all table (λ f. Unit {0})) where
+module _ (p : Program) (all : List Found) (table : List (List Need)) (found : HasFoundAll p all) (keeps : KeepsNeeds (length p.methods) all table (λ f. Unit {0})) where
   only-widest : (m : ℕ) (need : Need) → Contains (row table m) need → IsWidest p m need
   only-widest m need c = record {
     needed = found.only (record { method = m; need = need }) (keeps.found m need c);
@@ -59,9 +59,9 @@ module _ (p : Program) (all : List Found) (table : List (List Need)) (found : Ha
   widest-table = record { long = keeps.long; only = only-widest; once = keeps.once; covered = all-covered }
 
 -- the same lists, said otherwise
-pub keeps-of : (m n : ℕ) (xs ys : List Found) (table : List (List Need)) (IsDone : Found → Type 0) → m ≡ n → xs ≡ ys → Keeps m xs table IsDone → Keeps n ys table IsDone
+pub keeps-of : (m n : ℕ) (xs ys : List Found) (table : List (List Need)) (IsDone : Found → Type 0) → m ≡ n → xs ≡ ys → KeepsNeeds m xs table IsDone → KeepsNeeds n ys table IsDone
 keeps-of m n xs ys table IsDone count same k =
-    subst (λ i. Keeps i ys table IsDone) count (subst (λ (zs : List Found). Keeps m zs table IsDone) same k)
+    subst (λ i. KeepsNeeds i ys table IsDone) count (subst (λ (zs : List Found). KeepsNeeds m zs table IsDone) same k)
 
 -- an element of a list that is mapped
 mapped-at : (table : List (List Need)) (m : ℕ) (summary : Summary) → slice_get (map summary_of table) m ≡ Some summary → summary ≡ summary_of (row table m)
@@ -92,7 +92,7 @@ module _ (p : Program) (table : List (List Need)) (wide : IsWidestTable p table)
   is-least : (m : ℕ) → length (row table m) ≤ max_effects → IsLeast p m (summary_of (row table m))
   is-least m few = (row table m, are-widest m few, few, refl)
 
-  pub too-many : (fail : InferFail) → IsFirstLong table fail → HasCause p fail
+  pub too-many : (fail : InferFail) → IsFirstLong table fail → InferHasCause p fail
   too-many (TooMany method) h =
       let long = wide.long in
       (omega (arith, long, h.0), (row table method, wide.once method, h.1, wide.only method), λ m below. (summary_of (row table m), is-least m (h.2 m below)))

@@ -1,13 +1,13 @@
 -- The least summaries.
 use Rattle.std.specs.Prelude.{◌≡◌, ◌<◌, ◌≤◌, ◌↔◌, ℕ, List, length, map, Some, slice_get, Contains, IsTrue}
-use Rattle.twe_limits.specs.Language.{max_effects}
+use Rattle.twe_base.specs.Language.{max_effects}
 use Rattle.effect_sets.specs.declared.effects.Effect.{Effect}
 use Rattle.effect_sets.specs.declared.effects.Summary.{Summary}
 use Rattle.effect_sets.specs.Covers.{covers}
 use Rattle.twe_program.specs.Program.{Program}
-use Rattle.method_needs.specs.declared.need.Need.{Need}
-use Rattle.method_needs.specs.Needs.{IsWidest, effect_of}
-use Rattle.method_needs.specs.Choices.{with_summaries, IsChoice, NoMethodFails}
+use Rattle.effect_infer.specs.declared.needs.need.Need.{Need}
+use Rattle.effect_infer.specs.needs.Needs.{IsWidest, effect_of}
+use Rattle.effect_infer.specs.needs.Choices.{with_summaries, IsChoice, NoMethodFails}
 use Rattle.effect_infer.specs.declared.fail.InferFail.{InferFail}
 use Rattle.effect_infer.specs.declared.fail.InferFail.TheVariants.{TooMany, OutOfMemory}
 use Rattle.effect_infer.specs.Kept.{AreDistinct}
@@ -27,20 +27,26 @@ IsLeast p m summary = (needs : List Need) × AreWidest p m needs × (length need
 
 -- the method's least summary would have more than 8 effects
 abbrev pub HasTooMany : Program → ℕ → Type 0
-HasTooMany p m = (needs : List Need) × AreDistinct needs × (max_effects < length needs) × ((need : Need) → Contains needs need → IsWidest p m need)
+HasTooMany p m =
+    (needs : List Need) × AreDistinct needs × (max_effects < length needs)
+    × ((need : Need) → Contains needs need → IsWidest p m need)
 
 -- a least summary for each method
 pub record AreLeast (p : Program) (summaries : List Summary) : Type 0 where
   pub one_each : length summaries ≡ length p.methods
   pub least : (m : ℕ) (summary : Summary) → slice_get summaries m ≡ Some summary → IsLeast p m summary
 
--- with every choice of summaries that the rule on methods accepts, each of these effects is covered by the chosen summary of its method
+-- with every choice of summaries that the rule on methods accepts, each of these effects is covered by the chosen summary
+-- of its method
 abbrev pub AreCoveredByAll : Program → List Summary → Type 0
 AreCoveredByAll p summaries = (chosen : List Summary) → IsChoice p chosen → NoMethodFails (with_summaries chosen p)
-    → (m : ℕ) (choice summary : Summary) (effect : Effect) → slice_get chosen m ≡ Some choice → slice_get summaries m ≡ Some summary
+    → (m : ℕ) (choice summary : Summary) (effect : Effect) → slice_get chosen m ≡ Some choice
+    → slice_get summaries m ≡ Some summary
     → Contains summary.effects effect → IsTrue (covers choice effect)
 
 -- the cause of a failure: the first method whose least summary would have more than 8 effects; nothing is said of want of memory
-abbrev pub HasCause : Program → InferFail → Type 0
-HasCause p (TooMany method) = (method < length p.methods) × HasTooMany p method × ((m : ℕ) → m < method → (summary : Summary) × IsLeast p m summary)
-HasCause p (OutOfMemory memory) = Unit {0}
+abbrev pub InferHasCause : Program → InferFail → Type 0
+InferHasCause p (TooMany method) =
+    (method < length p.methods) × HasTooMany p method
+    × ((m : ℕ) → m < method → (summary : Summary) × IsLeast p m summary)
+InferHasCause p (OutOfMemory memory) = Unit {0}

@@ -4,11 +4,12 @@ use Rattle.std.specs.List.{list_any}
 use Rattle.region_paths.specs.declared.elements.Elem.{Elem}
 use Rattle.region_paths.specs.declared.elements.Elem.TheVariants.{Name, Index, Var, AnyIndex}
 use Rattle.effect_sets.specs.Covers.{effect_covers}
-use Rattle.method_needs.specs.declared.need.Need.{Need}
-use Rattle.method_needs.specs.Needs.{effect_of, Widens}
+use Rattle.effect_infer.specs.declared.needs.need.Need.{Need}
+use Rattle.effect_infer.specs.needs.Needs.{effect_of, Widens}
 use Rattle.effect_infer.specs.declared.found.Found.{Found}
 use Rattle.effect_infer.specs.Rows.{row}
 
+-- the element is any index
 abbrev pub is_any : Elem → Bool
 is_any (Name n) = false
 is_any (Index i) = false
@@ -21,8 +22,8 @@ any_indexes [] = 0
 any_indexes (e ∷ es) = (if is_any e then 1 else 0) + any_indexes es
 
 -- a need that covers another has a higher rank, unless the two are equal
-abbrev pub rank : Need → ℕ
-rank need = any_indexes need.elems + (if need.write then 1 else 0)
+abbrev pub method_rank : Need → ℕ
+method_rank need = any_indexes need.elems + (if need.write then 1 else 0)
 
 -- one of the needs covers it
 abbrev pub some_cover : List Need → Need → Bool
@@ -42,10 +43,12 @@ abbrev pub is_wanted : List Need → Need → Bool
 is_wanted needs need = nat_lt (length needs) most_kept && not (some_cover needs need)
 
 -- of the needs that were found and are done with, the table has the widest of each method, or too many of them
-pub record Keeps (methods : ℕ) (all : List Found) (table : List (List Need)) (IsDone : Found → Type 0) : Type 0 where
+pub record KeepsNeeds (methods : ℕ) (all : List Found) (table : List (List Need)) (IsDone : Found → Type 0) : Type 0 where
   pub long : length table ≡ methods
   pub found : (m : ℕ) (need : Need) → Contains (row table m) need → Contains all (record { method = m; need = need })
-  pub widest : (m : ℕ) (need : Need) (other : Found) → Contains (row table m) need → Contains all other → other.method ≡ m → Widens other.need need → other.need ≡ need
+  pub widest : (m : ℕ) (need : Need) (other : Found) → Contains (row table m) need
+      → Contains all other → other.method ≡ m
+      → Widens other.need need → other.need ≡ need
   pub once : (m : ℕ) → AreDistinct (row table m)
   pub few : (m : ℕ) → length (row table m) ≤ most_kept
   pub all_done : (need : Found) → Contains all need → IsDone need → need.method < methods

@@ -4,3 +4,4 @@ pub mod Rows
 pub mod Kept
 pub mod Table
 pub mod Inferred
+pub mod needs

@@ -17,4 +17,5 @@ with_item lists at item = slice_set lists at (row lists at ++ item ∷ [])
 -- the list of each method has the places of its calls
 pub record ListsCalls (methods : ℕ) (calls : List CallSite) (callers : List (List ℕ)) : Type 0 where
   pub long : length callers ≡ methods
-  pub all : (place : ℕ) (call : CallSite) → slice_get calls place ≡ Some call → call.callee < methods → Contains (row callers call.callee) place
+  pub all : (place : ℕ) (call : CallSite) → slice_get calls place ≡ Some call → call.callee < methods
+      → Contains (row callers call.callee) place

@@ -1,9 +1,9 @@
 -- For each method its widest needs, or too many of them.
 use Rattle.std.specs.Prelude.{◌≡◌, ◌<◌, ◌≤◌, ℕ, List, length, Contains, IsTrue}
-use Rattle.twe_limits.specs.Language.{max_effects}
+use Rattle.twe_base.specs.Language.{max_effects}
 use Rattle.twe_program.specs.Program.{Program}
-use Rattle.method_needs.specs.declared.need.Need.{Need}
-use Rattle.method_needs.specs.Needs.{IsNeed, IsWidest}
+use Rattle.effect_infer.specs.declared.needs.need.Need.{Need}
+use Rattle.effect_infer.specs.needs.Needs.{IsNeed, IsWidest}
 use Rattle.effect_infer.specs.declared.fail.InferFail.{InferFail}
 use Rattle.effect_infer.specs.declared.fail.InferFail.TheVariants.{TooMany, OutOfMemory}
 use Rattle.effect_infer.specs.Kept.{AreDistinct, some_cover}
@@ -15,7 +15,9 @@ AreFew table = (m : ℕ) → length (row table m) ≤ max_effects
 
 -- the first method that has more
 abbrev pub IsFirstLong : List (List Need) → InferFail → Type 0
-IsFirstLong table (TooMany method) = (method < length table) × (max_effects < length (row table method)) × ((m : ℕ) → m < method → length (row table m) ≤ max_effects)
+IsFirstLong table (TooMany method) =
+    (method < length table) × (max_effects < length (row table method))
+    × ((m : ℕ) → m < method → length (row table m) ≤ max_effects)
 IsFirstLong table (OutOfMemory memory) = Unit {0}
 
 -- the needs of each method are widest ones, each once, and cover all of its needs if there are at most 8
@@ -23,4 +25,5 @@ pub record IsWidestTable (p : Program) (table : List (List Need)) : Type 0 where
   pub long : length table ≡ length p.methods
   pub only : (m : ℕ) (need : Need) → Contains (row table m) need → IsWidest p m need
   pub once : (m : ℕ) → AreDistinct (row table m)
-  pub covered : (m : ℕ) (need : Need) → length (row table m) ≤ max_effects → IsNeed p m need → IsTrue (some_cover (row table m) need)
+  pub covered : (m : ℕ) (need : Need) → length (row table m) ≤ max_effects
+      → IsNeed p m need → IsTrue (some_cover (row table m) need)

@@ -1,12 +1,12 @@
 //! Adds a need to those that were found, unless one of them covers it.
 ghost use Rattle.std.specs.Prelude.{◌≡◌, Contains, IsTrue, OnOk};
-ghost use Rattle.effect_infer.specs.Covered.{Grows, IsCovered};
+ghost use Rattle.effect_infer.specs.Covered.{SummaryGrows, IsCovered};
 
 use crate::found::{AllFound, Found};
 use crate::index::Index;
 use crate::widen::{copy, widens};
 use std::alloc::Global;
-use twe_io::Memory;
+use twe_base::Memory;
 
 /// Whether the need that stands at this place is of the same method and covers the need.
 fn is_covered_at(all: &AllFound, place: usize, found: &Found) -> bool
@@ -25,7 +25,7 @@ pub(crate) fn add(
     alloc: Global,
     found: Found,
 ) -> Result<(), Memory>
-    ensures { OnOk result (Grows all.old all.new (λ need. need ≡ found)) }
+    ensures { OnOk result (SummaryGrows all.old all.new (λ need. need ≡ found)) }
 {
     let place = index.place_or_next(alloc, &found, all.len())?;
     if is_covered_at(all, place, &found) {
@@ -41,7 +41,7 @@ pub(crate) fn add_all(
     alloc: Global,
     starts: &[Found],
 ) -> Result<(), Memory>
-    ensures { OnOk result (Grows all.old all.new (Contains starts.now)) }
+    ensures { OnOk result (SummaryGrows all.old all.new (Contains starts.now)) }
 {
     for start in starts {
         let need = copy(alloc, &start.need)?;

@@ -5,7 +5,7 @@ ghost use Rattle.effect_infer.specs.Rows.{ListsCalls};
 use crate::found::CallSite;
 use crate::rows::{no_rows, push_to};
 use std::alloc::Global;
-use twe_io::{List, Memory};
+use twe_base::{List, Memory};
 
 /// Places in a list.
 pub(crate) type Places = List<usize>;

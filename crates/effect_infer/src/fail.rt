@@ -2,7 +2,7 @@
 
 use std::error::Error;
 use std::fmt;
-use twe_io::Memory;
+use twe_base::Memory;
 
 /// Why the summaries of a program's methods are not given.
 #[derive(Clone, Copy, Debug, PartialEq, Eq)]

@@ -1,8 +1,8 @@
 //! Needs that were found, and the calls that hand them on.
 
-use method_needs::Need;
+use crate::needs::Need;
 use region_paths::Elems;
-use twe_io::List;
+use twe_base::List;
 
 /// A need of a method.
 #[derive(Debug, Drop)]

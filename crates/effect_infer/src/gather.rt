@@ -3,10 +3,10 @@ ghost use Rattle.std.specs.Prelude.{◌≡◌, ◌++◌, ◌<◌, ◌^◌, lengt
 ghost use Rattle.effect_infer.specs.Gathered.{calls_in, calls_of, in_all, starts_in, starts_of};
 
 use crate::found::{AllFound, CallSite, CallSites, Found};
+use crate::needs::{Step, steps_of_body};
 use crate::widen::settle;
-use method_needs::{Step, steps_of_body};
 use std::alloc::Global;
-use twe_io::Memory;
+use twe_base::Memory;
 use twe_program::{CellDecl, Decl};
 
 /// What bodies read and write, and which methods they call.

@@ -5,7 +5,7 @@ use prefix_tree::{Part, PrefixTree};
 use region_paths::Elem;
 use std::alloc::Global;
 use std::collections::BTreeMap;
-use twe_io::{List, Memory};
+use twe_base::{List, Memory};
 
 /// A need of a method, with its path as a number.
 #[derive(Clone, Copy, Debug, PartialEq, Eq, PartialOrd, Ord)]

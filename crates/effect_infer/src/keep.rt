@@ -2,15 +2,15 @@
 ghost use Rattle.std.specs.Prelude.{◌≡◌, ◌<◌, ◌≤◌, ◌^◌, length, Contains, IfOk, OnOk};
 ghost use Rattle.effect_infer.specs.declared.found.Found.{Found as Named};
 ghost use Rattle.effect_infer.specs.Rows.{row};
-ghost use Rattle.effect_infer.specs.Kept.{Keeps, any_indexes, is_any, is_wanted, rank, some_cover};
+ghost use Rattle.effect_infer.specs.Kept.{KeepsNeeds, any_indexes, is_any, is_wanted, method_rank, some_cover};
 
 use crate::found::Found;
+use crate::needs::Need;
 use crate::rows::{no_rows, push_to};
 use crate::widen::{copy, widens};
-use method_needs::Need;
 use region_paths::Elem;
 use std::alloc::Global;
-use twe_io::{List, Memory};
+use twe_base::{List, Memory};
 
 /// Needs of one method.
 pub(crate) type Widest = List<Need>;
@@ -49,7 +49,7 @@ fn any_indexes(elems: &[Elem]) -> u64
 
 /// The rank of a need. A need that covers another has a higher rank, unless the two are equal.
 fn rank(need: &Need) -> u64
-    ensures rank { result ≡ rank need.now }
+    ensures rank { result ≡ method_rank need.now }
     ensures small { result ≤ 2 ^ 63 }
 {
     let write = if need.write { 1 } else { 0 };
@@ -67,7 +67,7 @@ fn higher(first: u64, second: u64) -> u64
 
 /// The highest rank of the needs that were found.
 fn top_rank(all: &[Found]) -> u64
-    ensures top { (need : Named) → Contains all.now need → rank need.need ≤ result }
+    ensures top { (need : Named) → Contains all.now need → method_rank need.need ≤ result }
     ensures small { result ≤ 2 ^ 63 }
 {
     let mut top = 0;
@@ -97,8 +97,8 @@ fn is_wanted(table: &Table, method: usize, need: &Need) -> bool
 
 /// Keeps the needs of this rank, after those of higher ranks.
 fn keep_rank(table: &mut Table, alloc: Global, all: &[Found], this: u64) -> Result<(), Memory>
-    requires { Keeps (length table.old) all.now table.old (λ need. this < rank need.need) }
-    ensures { OnOk result (Keeps (length table.old) all.now table.new (λ need. this ≤ rank need.need)) }
+    requires { KeepsNeeds (length table.old) all.now table.old (λ need. this < method_rank need.need) }
+    ensures { OnOk result (KeepsNeeds (length table.old) all.now table.new (λ need. this ≤ method_rank need.need)) }
 {
     for found in all {
         let method = found.method as usize;
@@ -115,7 +115,7 @@ fn keep_rank(table: &mut Table, alloc: Global, all: &[Found], this: u64) -> Resu
 
 /// For each method the needs that no other covers. If there are more than 9, there are 9 of them.
 pub(crate) fn keep_widest(alloc: Global, all: &[Found], methods: usize) -> Result<Table, Memory>
-    ensures { IfOk result (λ table. Keeps methods all.now table (λ need. Unit {0})) }
+    ensures { IfOk result (λ table. KeepsNeeds methods all.now table (λ need. Unit {0})) }
 {
     let top = top_rank(all);
     let mut table = no_rows(alloc, methods)?;

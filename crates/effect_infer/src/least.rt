@@ -1,9 +1,9 @@
 //! The least summaries of a program's methods.
 ghost use Rattle.std.specs.Prelude.{◌≡◌, ◌<◌, ◌^◌, length, IfErr, IfOk};
 ghost use Rattle.twe_program.specs.WellFormed.{IsWellFormed};
-ghost use Rattle.method_needs.specs.Choices.{NoMethodFails, NoRuleFails, with_summaries};
+ghost use Rattle.effect_infer.specs.needs.Choices.{NoMethodFails, NoRuleFails, with_summaries};
 ghost use Rattle.effect_infer.specs.Covered.{HasFoundAll};
-ghost use Rattle.effect_infer.specs.Inferred.{AreCoveredByAll, AreLeast, HasCause};
+ghost use Rattle.effect_infer.specs.Inferred.{AreCoveredByAll, AreLeast, InferHasCause};
 ghost use Rattle.effect_infer.specs.Table.{IsWidestTable};
 
 use crate::add::add_all;
@@ -15,7 +15,7 @@ use crate::keep::{Table, keep_widest};
 use crate::spread::spread;
 use crate::summary::{Needs, summaries};
 use std::alloc::Global;
-use twe_io::Memory;
+use twe_base::Memory;
 use twe_program::Prog;
 
 /// Needs of methods, among which are the widest of each method.
@@ -55,7 +55,7 @@ pub fn infer(alloc: Global, p: &Prog) -> Result<Needs, InferFail>
     ensures accepted { IfOk result (λ needs. NoMethodFails (with_summaries needs p.now)) }
     ensures stays { IfOk result (λ needs. NoRuleFails p.now → NoRuleFails (with_summaries needs p.now)) }
     ensures covered { IfOk result (AreCoveredByAll p.now) }
-    ensures refused { IfErr result (HasCause p.now) }
+    ensures refused { IfErr result (InferHasCause p.now) }
 {
     let table = widest(alloc, p)?;
     summaries(alloc, &table)

@@ -12,6 +12,7 @@ mod gather;
 mod index;
 mod keep;
 mod least;
+pub mod needs;
 mod rows;
 mod spread;
 mod summary;

@@ -3,7 +3,7 @@ ghost use Rattle.std.specs.Prelude.{◌≡◌, ◌<◌, length, IfOk, OnOk};
 ghost use Rattle.effect_infer.specs.Rows.{no_rows, with_item};
 
 use std::alloc::Global;
-use twe_io::{List, Memory};
+use twe_base::{List, Memory};
 
 /// An empty list for each method.
 pub(crate) fn no_rows<T: Drop>(alloc: Global, count: usize) -> Result<List<List<T>>, Memory>

@@ -1,16 +1,16 @@
 //! Hands each need on to the callers of its method, until nothing is new.
 ghost use Rattle.std.specs.Prelude.{OnOk};
 ghost use Rattle.effect_infer.specs.Rows.{row};
-ghost use Rattle.effect_infer.specs.Covered.{Grows, IsHanded, IsHandedBy, Spreads};
+ghost use Rattle.effect_infer.specs.Covered.{SummaryGrows, IsHanded, IsHandedBy, Spreads};
 
 use crate::add::add;
 use crate::callers::{Callers, callers_of};
 use crate::found::{AllFound, CallSite, CallSites, Found};
 use crate::index::Index;
+use crate::needs::Need;
 use crate::widen::{copy, fill, settle};
-use method_needs::Need;
 use std::alloc::Global;
-use twe_io::Memory;
+use twe_base::Memory;
 
 /// Hands a need of a method on by this call, if it is a call of the method.
 fn hand_on(
@@ -21,7 +21,7 @@ fn hand_on(
     method: u32,
     need: &Need,
 ) -> Result<(), Memory>
-    ensures { OnOk result (Grows all.old all.new (IsHanded call.now method need.now)) }
+    ensures { OnOk result (SummaryGrows all.old all.new (IsHanded call.now method need.now)) }
 {
     if call.callee != method {
         return Ok(());
@@ -42,7 +42,7 @@ fn hand_to_all(
     method: u32,
     need: &Need,
 ) -> Result<(), Memory>
-    ensures { OnOk result (Grows all.old all.new (IsHandedBy calls.now places.now method need.now)) }
+    ensures { OnOk result (SummaryGrows all.old all.new (IsHandedBy calls.now places.now method need.now)) }
 {
     for place in places {
         if let Some(call) = calls.get(*place) {
@@ -62,7 +62,7 @@ fn hand_to_callers(
     method: u32,
     need: &Need,
 ) -> Result<(), Memory>
-    ensures { OnOk result (Grows all.old all.new (IsHandedBy calls.now (row callers.now method) method need.now)) }
+    ensures { OnOk result (SummaryGrows all.old all.new (IsHandedBy calls.now (row callers.now method) method need.now)) }
 {
     match callers.get(method as usize) {
         None => Ok(()),

@@ -1,17 +1,17 @@
 //! The summaries that needs make.
 ghost use Rattle.std.specs.Prelude.{◌≡◌, ◌<◌, ◌^◌, length, map, IfOk, IfErr};
-ghost use Rattle.method_needs.specs.Needs.{effect_of};
+ghost use Rattle.effect_infer.specs.needs.Needs.{effect_of};
 ghost use Rattle.effect_infer.specs.Inferred.{summary_of};
 ghost use Rattle.effect_infer.specs.Table.{AreFew, IsFirstLong};
 
 use crate::fail::InferFail;
 use crate::keep::{Table, Widest};
+use crate::needs::Need;
 use crate::widen::copy;
 use effect_sets::{Effect, Effects, Summary};
-use method_needs::Need;
 use region_paths::{Elems, Path};
 use std::alloc::Global;
-use twe_io::{List, Memory};
+use twe_base::{List, Memory};
 
 /// How many effects a summary has at most.
 const MAX_EFFECTS: usize = 8;

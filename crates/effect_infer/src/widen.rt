@@ -4,12 +4,12 @@ ghost use Rattle.std.specs.List.{list_all};
 ghost use Rattle.region_paths.specs.Filled.{fill_elem};
 ghost use Rattle.region_paths.specs.Inside.{each_within, starts_within, within};
 ghost use Rattle.effect_sets.specs.Covers.{effect_covers};
-ghost use Rattle.method_needs.specs.Needs.{effect_of, filled_need, settled, settled_elem};
+ghost use Rattle.effect_infer.specs.needs.Needs.{effect_of, filled_need, settled, settled_elem};
 
-use method_needs::Need;
+use crate::needs::Need;
 use region_paths::{Elem, Elems};
 use std::alloc::Global;
-use twe_io::Memory;
+use twe_base::Memory;
 
 /// Whether an element is within another: the two are equal, or the inner is any kind of index and the outer `AnyIndex`.
 fn is_within(inner: Elem, outer: Elem) -> bool

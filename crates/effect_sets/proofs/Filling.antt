@@ -3,7 +3,7 @@ use Rattle.std.proofs.Common.{◌≡◌, ℤ, IsTrue, List, [], ◌∷◌, map, 
 use Rattle.std.proofs.lemmas.Bool.{and_parts, and_from}
 use Rattle.region_paths.specs.declared.elements.Elem.{Elem}
 use Rattle.region_paths.specs.Written.{WrittenPath}
-use Rattle.region_paths.specs.Arguments.{ArgumentsStand, Gives, literals}
+use Rattle.region_paths.specs.Arguments.{ArgumentsStand, GivesValue, literals}
 use Rattle.region_paths.specs.Filled.{Valuation, filled, has_args, no_var}
 use Rattle.region_paths.proofs.Filling.{fill-filled, filled-fill}
 use Rattle.region_paths.proofs.Numbers.{fill-literals, fill-within}
@@ -17,7 +17,7 @@ all_filled-fill args (e ∷ es) h plain =
     let parts = and_parts _ _ h in
     and_from _ _ (filled-fill args e.path parts.0 plain) (all_filled-fill args es parts.1 plain)
 
-pub fill_effect-literals : (v : Valuation) (numbers : List ℤ) (e : Effect) → Gives v numbers → IsTrue (has_args (literals numbers) e.path) → fill_effect (literals numbers) e ≡ effect_under v e
+pub fill_effect-literals : (v : Valuation) (numbers : List ℤ) (e : Effect) → GivesValue v numbers → IsTrue (has_args (literals numbers) e.path) → fill_effect (literals numbers) e ≡ effect_under v e
 fill_effect-literals v numbers e gives below =
     let made : WrittenPath → Effect = λ p. record { write = e.write; path = p } in
     ap made (fill-literals v numbers e.path gives below)

@@ -5,7 +5,7 @@ ghost use Rattle.effect_sets.specs.Filled.{all_filled, all_have_args, fill_effec
 
 use region_paths::{Elem, Path};
 use std::alloc::Global;
-use twe_io::{List, Memory};
+use twe_base::{List, Memory};
 
 /// A read or a write of the regions of a path. A write covers reads too.
 #[derive(Debug, Drop)]

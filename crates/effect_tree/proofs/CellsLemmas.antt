@@ -16,7 +16,7 @@ use Rattle.prefix_tree.proofs.PrefixLemmas.{IsPrefix-snoc, IsPrefix-nil}
 use Rattle.twe_program.specs.declared.program.CellDecl.{CellDecl}
 use Rattle.twe_program.specs.declared.program.Dims.{Dims}
 use Rattle.twe_program.specs.declared.program.Dims.TheVariants.{Scalar, Row, Grid}
-use Rattle.twe_program.specs.Nodes.{console, BeginsWith, Declares, IsPrefixOfDeclared}
+use Rattle.twe_program.specs.Nodes.{console, PathBeginsWith, Declares, IsPrefixOfDeclared}
 use Rattle.effect_tree.specs.inner.Parts.{elem_of, elem_paths}
 use Rattle.effect_tree.specs.inner.Growth.{HasPaths, IsFrontPath}
 use Rattle.effect_tree.proofs.SolidLemmas.{take_while-solid, take_while-other}
@@ -90,8 +90,8 @@ cells-none old new is grows parts =
           let there = old_node.1 in
           let first : old_node.0 ≡ 0 = omega arith in
           let empty = sym root ∙ ap (path_of old) (sym first) ∙ old_node.2 in
-          inl (subst (λ (p : List Part). BeginsWith console (map elem_of p)) empty (console, refl)))
-          (λ e. inl (subst (λ (p : List Part). BeginsWith console (map elem_of p)) (sym (e ∙ ap (λ (p : List Part). p ++ part.Name 0 ∷ []) root)) ([], refl)))
+          inl (subst (λ (p : List Part). PathBeginsWith console (map elem_of p)) empty (console, refl)))
+          (λ e. inl (subst (λ (p : List Part). PathBeginsWith console (map elem_of p)) (sym (e ∙ ap (λ (p : List Part). p ++ part.Name 0 ∷ []) root)) ([], refl)))
           ((grows.exact parts).0 node),
       λ h.
           (grows.exact parts).1

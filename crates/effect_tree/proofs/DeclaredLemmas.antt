@@ -11,20 +11,20 @@ use Rattle.prefix_tree.proofs.PrefixLemmas.{IsPrefix-refl, IsPrefix-snoc}
 use Rattle.prefix_tree.proofs.GrowthLemmas.{Grows-append, Grows-same}
 use Rattle.twe_program.specs.declared.program.Dims.{Dims}
 use Rattle.twe_program.specs.declared.program.Dims.TheVariants.{Scalar, Row, Grid}
-use Rattle.twe_program.specs.Nodes.{BeginsWith, IsPrefixOfDeclared}
+use Rattle.twe_program.specs.Nodes.{PathBeginsWith, IsPrefixOfDeclared}
 use Rattle.effect_tree.specs.inner.Parts.{elem_of}
 use Rattle.effect_tree.proofs.PartPaths.{elem_of-same, elems-snoc}
 
 -- the elements of a path begin with those of its prefixes, and with those of no other path
 
-begins : (whole parts : List Part) → IsPrefix parts whole → BeginsWith (map elem_of whole) (map elem_of parts)
+begins : (whole parts : List Part) → IsPrefix parts whole → PathBeginsWith (map elem_of whole) (map elem_of parts)
 begins whole [] h = (map elem_of whole, refl)
 begins [] (p ∷ ps) h = absurd h
 begins (w ∷ ws) (p ∷ ps) h =
     let rest = begins ws ps h.1 in
     (rest.0, ap (λ (xs : List Elem). elem_of w ∷ xs) rest.1 ∙ ap (λ (q : Part). elem_of q ∷ (map elem_of ps ++ rest.0)) (sym h.0))
 
-pub prefix-of : (whole parts : List Part) → BeginsWith (map elem_of whole) (map elem_of parts) → IsPrefix parts whole
+pub prefix-of : (whole parts : List Part) → PathBeginsWith (map elem_of whole) (map elem_of parts) → IsPrefix parts whole
 prefix-of whole [] h = tt
 prefix-of [] (p ∷ ps) h = let e = h.1 in cc
 prefix-of (w ∷ ws) (p ∷ ps) h =
@@ -33,10 +33,10 @@ prefix-of (w ∷ ws) (p ∷ ps) h =
     let tail : map elem_of ws ≡ map elem_of ps ++ h.0 = cc in
     (sym (elem_of-same w p head), prefix-of ws ps (h.0, tail))
 
-as-begins : (whole parts : List Part) (declared : List Elem) → map elem_of whole ≡ declared → IsPrefix parts whole → BeginsWith declared (map elem_of parts)
+as-begins : (whole parts : List Part) (declared : List Elem) → map elem_of whole ≡ declared → IsPrefix parts whole → PathBeginsWith declared (map elem_of parts)
 as-begins whole parts declared is h = let b = begins whole parts h in (b.0, sym is ∙ b.1)
 
-as-prefix : (declared : List Elem) (whole parts : List Part) → declared ≡ map elem_of whole → BeginsWith declared (map elem_of parts) → IsPrefix parts whole
+as-prefix : (declared : List Elem) (whole parts : List Part) → declared ≡ map elem_of whole → PathBeginsWith declared (map elem_of parts) → IsPrefix parts whole
 as-prefix declared whole parts is h = prefix-of whole parts (h.0, sym is ∙ h.1)
 
 itself : (parts whole : List Part) → parts ≡ whole → IsPrefix parts whole

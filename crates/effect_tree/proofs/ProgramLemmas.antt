@@ -4,7 +4,7 @@ use Rattle.std.specs.Prelude.{take_while}
 use Rattle.std.specs.List.{All, AllByRecursion}
 use Rattle.std.proofs.lemmas.List.{get_or_default}
 use Rattle.std.proofs.lemmas.List.Elements.{All-from_recursion}
-use Rattle.twe_limits.specs.Language.{max_nodes}
+use Rattle.twe_base.specs.Language.{max_nodes}
 use Rattle.region_paths.specs.declared.elements.Elem.{Elem}
 use Rattle.region_paths.specs.declared.elements.Elem.TheVariants.{Name, Index, Var, AnyIndex}
 use Rattle.region_paths.specs.Filled.{is_solid, solid_prefix}

@@ -5,7 +5,7 @@ ghost use Rattle.effect_tree.specs.inner.Children.{items_of, with_pushed, HasChi
 
 use prefix_tree::PrefixTree;
 use std::alloc::Global;
-use twe_io::Memory;
+use twe_base::Memory;
 
 /// `count` lists without numbers.
 fn empty_lists(alloc: Global, count: u32) -> Result<Vec<Vec<u32>>, Memory>

@@ -9,12 +9,13 @@ ghost use Rattle.effect_tree.specs.inner.Growth.{HasPaths, IsFrontPath};
 use crate::parts::solid_parts;
 use prefix_tree::{Part, PrefixTree};
 use std::alloc::Global;
-use twe_io::Memory;
+use twe_base::Memory;
 use twe_program::{CellDecl, Dims};
 
 /// Adds all paths that a cell declares, below the solid elements at the front of its path.
 fn add_cell(alloc: Global, tree: &mut PrefixTree, cell: &CellDecl) -> Result<(), Memory>
-    ensures { OnOk result (Grows tree.old tree.new (λ parts. IsPrefixOfDeclared (solid_prefix cell.now.path) cell.now.dims (map elem_of parts))) }
+    ensures { OnOk result
+        (Grows tree.old tree.new (λ parts. IsPrefixOfDeclared (solid_prefix cell.now.path) cell.now.dims (map elem_of parts))) }
 {
     let front = solid_parts(alloc, cell.path.elems().as_slice())?;
     let at = tree.add_path(front.as_slice())?;

@@ -6,7 +6,7 @@ ghost use Rattle.effect_tree.specs.inner.Parts.{part_of, elem_of};
 use prefix_tree::Part;
 use region_paths::Elem;
 use std::alloc::Global;
-use twe_io::Memory;
+use twe_base::Memory;
 
 /// The part that an element is, or `None` for a variable or a wildcard.
 pub(crate) fn part(elem: Elem) -> Option<Part>

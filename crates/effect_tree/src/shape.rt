@@ -9,7 +9,7 @@ use prefix_tree::PrefixTree;
 use region_paths::{Elem, Path};
 use std::alloc::Global;
 use std::marker::Model;
-use twe_io::Memory;
+use twe_base::Memory;
 use twe_program::{CellDecl, Prog};
 
 /// The nodes of a program's effect tree, numbered from 0, which is the root: `Console`, and every prefix of the path of
@@ -41,7 +41,7 @@ impl Shape {
     ghost use Rattle.region_paths.specs.declared.elements.Elem.{Elem};
     ghost use Rattle.region_paths.specs.Filled.{is_solid};
     ghost use Rattle.prefix_tree.specs.Nodes.{path_of, IsNode, IsParent, IsTreeOfPaths};
-    ghost use Rattle.twe_limits.specs.Language.{max_nodes};
+    ghost use Rattle.twe_base.specs.Language.{max_nodes};
     ghost use Rattle.twe_program.specs.Nodes.{IsNodePath};
     ghost use Rattle.effect_tree.specs.Place.{IsPlace, IsDeepest};
     ghost use Rattle.effect_tree.specs.inner.Growth.{HasPaths, IsFrontPath};

@@ -4,7 +4,7 @@ use region_paths::{Elem, Elems, Path};
 use std::alloc::Global;
 use std::process::Abort;
 use std::test::Fail;
-use twe_io::{Memory, Place, Word};
+use twe_base::{Memory, Place, Word};
 use twe_program::{CellDecl, Dims};
 
 const DATA: Elem = Elem::Name(1);

@@ -10,9 +10,9 @@ use Rattle.twe_machine.specs.declared.state.State.{State}
 use Rattle.twe_machine.specs.declared.state.TaskRow.{TaskRow}
 use Rattle.twe_machine.specs.Legal.{Interfere}
 use Rattle.twe_machine.specs.Rows.{IsRow}
-use Rattle.twe_machine.proofs.Places.{got_one}
+use Rattle.twe_machine.proofs.lists.Places.{got_one}
 use Rattle.flat_sched.specs.declared.groups.Group.{Group}
-use Rattle.flat_sched.specs.inner.Groups.{AreAlike, AreGroups, HasGroup, IsKey, IsMember, Writes, WritesPath}
+use Rattle.flat_sched.specs.inner.Groups.{AreAlike, AreGroups, HasGroup, IsKey, IsMember, MayWriteAt, WritesPath}
 use Rattle.flat_sched.specs.inner.Lists.{IsReady}
 
 or_left : (a b : Bool) → a ≡ true → (a || b) ≡ true
@@ -21,7 +21,7 @@ or_left a b e = ap (λ (x : Bool). x || b) e
 both_interfere : (d e : Effect) (c : ConcretePath) → WritesPath c d → WritesPath c e → Interferes d e
 both_interfere d e c a b = (or_left d.write e.write a.0, (c, a.1, b.1))
 
-pub both_write : (st : State) (s t : ℕ) (c : ConcretePath) → Writes st s c → Writes st t c → Interfere st s t
+pub both_write : (st : State) (s t : ℕ) (c : ConcretePath) → MayWriteAt st s c → MayWriteAt st t c → Interfere st s t
 both_write st s t c a b =
     let one = a.2 in
     let other = b.2 in
@@ -29,16 +29,16 @@ both_write st s t c a b =
 
 -- effects that cover the key write its path
 pub covered_write : (st : State) (t : ℕ) (row : TaskRow) (key : Effect) (c : ConcretePath) → IsRow st t row → IsKey c key
-    → Any (λ d. EffectWithin d key) row.effects.effects → Writes st t c
+    → Any (λ d. EffectWithin d key) row.effects.effects → MayWriteAt st t c
 covered_write st t row key c here is h = (row, here, (h.0, h.1, h.2, h.3, (h.4.0 is.1.0, h.4.1 c is.1.1)))
 
 -- one task more in a group, and fewer
-pub alike_more : (st : State) (g : Group) (members : List ℕ) (t : ℕ) (a : AreAlike st g) → Writes st t a.path
+pub alike_more : (st : State) (g : Group) (members : List ℕ) (t : ℕ) (a : AreAlike st g) → MayWriteAt st t a.path
     → ((x : ℕ) → IsReady members x → IsReady g.members x ⊎ (x ≡ t)) → AreAlike st (record g { members = members })
 alike_more st g members t a writes back = record {
   path = a.path;
   key = a.key;
-  members = λ x h. elim (back x h) [ inl was ↦ a.members x was | inr is ↦ subst (λ (n : ℕ). Writes st n a.path) (sym is) writes ];
+  members = λ x h. elim (back x h) [ inl was ↦ a.members x was | inr is ↦ subst (λ (n : ℕ). MayWriteAt st n a.path) (sym is) writes ];
 }
 
 pub alike_fewer : (st : State) (g : Group) (members : List ℕ) → AreAlike st g → ((x : ℕ) → IsReady members x → IsReady g.members x)

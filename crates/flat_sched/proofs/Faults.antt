@@ -2,14 +2,14 @@
 use Rattle.std.proofs.Common.{◌≡◌, ◌+◌, ℕ, ℤ, Bool, List, Option, Some, None, true, false, refl}
 use Rattle.std.specs.Prelude.{if◌then◌else◌, nat_lt, slice_get}
 use Rattle.effect_sets.specs.declared.effects.Summary.{Summary}
-use Rattle.twe_limits.specs.declared.fault.FaultKind.{FaultKind}
-use Rattle.twe_limits.specs.declared.fault.FaultKind.TheVariants.{TaskLimit}
+use Rattle.twe_base.specs.declared.fault.FaultKind.{FaultKind}
+use Rattle.twe_base.specs.declared.fault.FaultKind.TheVariants.{TaskLimit}
 use Rattle.seg_journal.specs.declared.journal.End.{End}
 use Rattle.seg_journal.specs.declared.journal.End.TheVariants as ends
 use Rattle.seg_journal.specs.declared.moves.Kind.{Kind}
 use Rattle.seg_journal.specs.declared.moves.Kind.TheVariants.{Admit, Run}
-use Rattle.twe_limits.specs.Limits.{Bounds}
-use Rattle.twe_io.specs.declared.place.Place.{Place}
+use Rattle.twe_base.specs.Limits.{Bounds}
+use Rattle.twe_base.specs.declared.place.Place.{Place}
 use Rattle.twe_program.specs.Program.{Program}
 use Rattle.wait_graph.specs.Link.{link_of}
 use Rattle.seg_exec.specs.declared.frame.Frame.{Frame}

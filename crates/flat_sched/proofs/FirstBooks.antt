@@ -1,13 +1,13 @@
 -- The books of a run that has not begun are in step with its first state.
 use Rattle.std.proofs.Common.{◌≡◌, inl, ℕ, zero, suc, List, [], Option, subst, sym}
-use Rattle.twe_limits.specs.Limits.{Bounds}
+use Rattle.twe_base.specs.Limits.{Bounds}
 use Rattle.wait_graph.specs.Waiting.{WaitsFor}
 use Rattle.twe_program.specs.Program.{Program}
 use Rattle.twe_machine.specs.declared.state.TaskStatus.TheVariants.{Made}
 use Rattle.twe_machine.specs.Listings.{IsListing}
 use Rattle.twe_machine.specs.Moves.{start_of}
 use Rattle.twe_machine.specs.Rows.{HasStatus}
-use Rattle.twe_machine.proofs.MadeTasks.{none_enabled}
+use Rattle.twe_machine.proofs.tasks.MadeTasks.{none_enabled}
 use Rattle.flat_sched.specs.inner.Books.{Keeps}
 use Rattle.flat_sched.specs.inner.Groups.{AreGroups}
 use Rattle.flat_sched.specs.inner.Lists.{IsReady}

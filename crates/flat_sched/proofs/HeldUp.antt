@@ -17,7 +17,7 @@ use Rattle.twe_machine.specs.declared.state.TaskStatus.TheVariants.{Made, Enable
 use Rattle.twe_machine.specs.Legal.{Interfere, IsBar, MayAdmit, MayMove}
 use Rattle.twe_machine.specs.Rows.{HasStatus, LinksAgree, is_done_row, is_done_status, link_of_row}
 use Rattle.twe_machine.specs.Runs.{AllTasksDone}
-use Rattle.twe_machine.proofs.Once.{not_past}
+use Rattle.twe_machine.proofs.counts.Once.{not_past}
 use Rattle.flat_sched.specs.Stuck.{AreHolders, IsHolder}
 
 -- the links of a task say whether its row is done

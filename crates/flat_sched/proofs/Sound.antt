@@ -6,7 +6,7 @@ use Rattle.twe_machine.specs.declared.state.State.{State}
 use Rattle.twe_machine.specs.declared.state.TaskStatus.TheVariants.{Faulted}
 use Rattle.twe_machine.specs.Rows.{HasStatus}
 use Rattle.twe_machine.specs.Runs.{IsReachable}
-use Rattle.twe_machine.proofs.ReachedStands.{reached_stands}
+use Rattle.twe_machine.proofs.standing.ReachedStands.{reached_stands}
 
 -- without a first fault no task has met one
 pub no_fault : (p : Program) (st : State) → IsWellFormed p → IsReachable p st → st.first_fault ≡ None → (t : ℕ) → ¬ HasStatus st t Faulted

@@ -9,7 +9,7 @@ use Rattle.effect_sets.specs.Interference.{SomeInterfere}
 use Rattle.region_paths.specs.Concrete.{ConcretePath}
 use Rattle.seg_journal.specs.declared.moves.Kind.{Kind}
 use Rattle.seg_journal.specs.declared.moves.Kind.TheVariants.{Admit, Run}
-use Rattle.twe_limits.specs.Limits.{Bounds}
+use Rattle.twe_base.specs.Limits.{Bounds}
 use Rattle.wait_graph.specs.Chain.{none, more}
 use Rattle.wait_graph.specs.declared.tasks.Link.{Link}
 use Rattle.wait_graph.specs.Link.{link_of}
@@ -24,17 +24,17 @@ use Rattle.twe_machine.specs.declared.state.TaskStatus.TheVariants.{Made, Enable
 use Rattle.twe_machine.specs.Legal.{Interfere, IsBar, MayRun, MayTake}
 use Rattle.twe_machine.specs.Listings.{IsListing}
 use Rattle.twe_machine.specs.Moves.{admitted, admitted_row, result_by_kind}
-use Rattle.twe_machine.specs.Rows.{HasStatus, IsRow, awaited, is_done_row, is_done_status, link_of_row}
-use Rattle.twe_machine.proofs.LaterStates.{taken_later}
-use Rattle.twe_machine.proofs.LinksAgree.{status_of}
-use Rattle.twe_machine.proofs.MadeTasks.{free_by, made_row, orphan_by, yields_by}
-use Rattle.twe_machine.proofs.OtherTasks.{after, after_stands, awaited_there, other, other_done, other_waits, status_back, waits_back, waits_row}
-use Rattle.twe_machine.proofs.Places.{below_there, got_one, set_same}
-use Rattle.twe_machine.proofs.ReachedStands.{linked_of}
-use Rattle.twe_machine.proofs.Standing.{IsOver, Stands}
-use Rattle.twe_machine.proofs.TakenJoins.{row_link}
+use Rattle.twe_machine.specs.Rows.{HasStatus, IsRow, row_awaited, is_done_row, is_done_status, link_of_row}
+use Rattle.twe_machine.proofs.standing.LaterStates.{taken_later}
+use Rattle.twe_machine.proofs.links.LinksAgree.{status_of}
+use Rattle.twe_machine.proofs.tasks.MadeTasks.{free_by, made_row, orphan_by, yields_by}
+use Rattle.twe_machine.proofs.tasks.OtherTasks.{after, after_stands, awaited_there, other, other_done, other_waits, status_back, waits_back, waits_row}
+use Rattle.twe_machine.proofs.lists.Places.{below_there, got_one, set_same}
+use Rattle.twe_machine.proofs.standing.ReachedStands.{linked_of}
+use Rattle.twe_machine.proofs.standing.Standing.{IsOver, Stands}
+use Rattle.twe_machine.proofs.links.TakenJoins.{row_link}
 use Rattle.flat_sched.specs.inner.Books.{IsBehind, IsHeldBack, IsUnder, Keeps, Noted}
-use Rattle.flat_sched.specs.inner.Groups.{AreGroups, IsMember, Writes, WritesPath}
+use Rattle.flat_sched.specs.inner.Groups.{AreGroups, IsMember, MayWriteAt, WritesPath}
 use Rattle.flat_sched.specs.inner.Lists.{IsListed, IsReady}
 use Rattle.flat_sched.specs.declared.books.Books.{Books}
 use Rattle.flat_sched.specs.declared.groups.Group.{Group}
@@ -102,7 +102,7 @@ module _ (p : Program) (lim : Bounds) (well : IsWellFormed p) (st : State) (kind
       let link = row_link p lim next_state stood t row.0 row.1 in
       let is : is_done_row row.0 ≡ true = sym (ap (λ (l : Link). l.done) link) ∙ done in
       let ended = (stood.rows t row.0 row.1).over (over_by row.0.status is) in
-      let free : (link_of_row row.0).waits ≡ None = ap awaited ended in
+      let free : (link_of_row row.0).waits ≡ None = ap row_awaited ended in
       let waits = sym (ap (λ (l : Link). l.waits) link) ∙ wait.waits in
       cc (free, waits)
 
@@ -112,7 +112,7 @@ module _ (p : Program) (lim : Bounds) (well : IsWellFormed p) (st : State) (kind
       ap (λ (r : TaskRow). r.effects) (got_one (slice_get next_state.tasks u) has kept.there) ∙ kept.effects
 
   -- what a task writes stays, so the tasks of a group stay alike
-  writes_after : (u : ℕ) (c : ConcretePath) → Writes st u c → Writes next_state u c
+  writes_after : (u : ℕ) (c : ConcretePath) → MayWriteAt st u c → MayWriteAt next_state u c
   writes_after u c w =
       let kept = (taken_later p lim st kind t (linked_of p lim well st stands)).kept u w.0 w.1 in
       (kept.now, kept.there, subst (λ (e : List Effect). Any (WritesPath c) e) (sym (ap (λ (m : Summary). m.effects) kept.effects)) w.2)

@@ -1,6 +1,6 @@
 //! The books of a run: what it keeps beside its state, so that it looks at few tasks for each move.
 ghost use Rattle.std.specs.Prelude.{◌≡◌, []};
-ghost use Rattle.twe_limits.specs.Limits.{Bounds};
+ghost use Rattle.twe_base.specs.Limits.{Bounds};
 ghost use Rattle.twe_program.specs.Program.{Program};
 ghost use Rattle.twe_machine.specs.Listings.{IsListing};
 ghost use Rattle.twe_machine.specs.Moves.{start_of};
@@ -8,7 +8,7 @@ ghost use Rattle.twe_machine.specs.Moves.{start_of};
 use crate::groups::Groups;
 use crate::ready::Ready;
 use std::alloc::Global;
-use twe_io::List;
+use twe_base::List;
 use twe_machine::EnabledTasks;
 
 /// The books of a run.

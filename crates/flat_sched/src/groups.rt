@@ -13,7 +13,7 @@ use crate::ready::Ready;
 use effect_sets::{Effect, Summary, covers, interferes};
 use std::alloc::Global;
 use std::mem;
-use twe_io::{List, Memory};
+use twe_base::{List, Memory};
 use twe_machine::State;
 
 /// Held tasks that all write one region.

@@ -1,6 +1,6 @@
 //! Laws of stuck runs.
 ghost use Rattle.std.specs.Prelude.{◌≡◌, List};
-ghost use Rattle.twe_limits.specs.Limits.{Bounds, IsWithin};
+ghost use Rattle.twe_base.specs.Limits.{Bounds, IsWithin};
 ghost use Rattle.wait_graph.specs.declared.stuck.Edge.{Edge};
 ghost use Rattle.twe_program.specs.Program.{Program};
 ghost use Rattle.twe_program.specs.WellFormed.{IsWellFormed};

@@ -5,7 +5,7 @@ ghost use Rattle.flat_sched.specs.inner.Lists.{IsListed};
 
 use std::alloc::Global;
 use std::mem;
-use twe_io::{List, Memory};
+use twe_base::{List, Memory};
 
 /// Adds empty lists up to that of task `at`.
 pub(crate) fn reach(alloc: Global, lists: &mut List<List<u32>>, at: u32) -> Result<(), Memory>

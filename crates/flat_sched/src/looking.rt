@@ -17,7 +17,7 @@ use crate::lists::add;
 use crate::passing::release;
 use seg_journal::{Kind, Move};
 use std::alloc::Global;
-use twe_io::Memory;
+use twe_base::Memory;
 use twe_machine::{State, TaskStatus, effects_are_filled};
 
 /// Looks at a task: returns its legal move, if it has one. If it was made and has a bar, it is put on the list of a bar or in its

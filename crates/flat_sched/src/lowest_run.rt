@@ -1,7 +1,7 @@
 //! The lowest-first run of a program: at each step the move of the lowest-numbered task that has one.
 ghost use Rattle.std.specs.Prelude.{◌≡◌, ◌≤◌, ◌+◌, ◌*◌, [], ◌∷◌, ◌++◌, length, None, IfOk, IfSome, IfNone, OnOk};
 ghost use Rattle.twe_machine.specs.declared.ending.Outcome.TheVariants.{AllDone, Unfinished};
-ghost use Rattle.twe_limits.specs.Limits.{Bounds};
+ghost use Rattle.twe_base.specs.Limits.{Bounds};
 ghost use Rattle.twe_program.specs.Program.{Program};
 ghost use Rattle.twe_machine.specs.Legal.{MayMove};
 ghost use Rattle.twe_machine.specs.LowestFirst.{IsLowest, IsOver, LowestFirst};
@@ -15,7 +15,7 @@ use crate::looking::look;
 use crate::noting::note;
 use seg_journal::{Entry, Journal, Limits, Move};
 use std::alloc::Global;
-use twe_io::Memory;
+use twe_base::Memory;
 use twe_machine::{State, each_thing_happens_once, journals_are_short, links_agree, start, step};
 use twe_program::Prog;
 

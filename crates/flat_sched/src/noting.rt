@@ -12,7 +12,7 @@ use crate::passing::pass_on;
 use crate::ready::Ready;
 use seg_journal::Move;
 use std::alloc::Global;
-use twe_io::{List, Memory};
+use twe_base::{List, Memory};
 use twe_machine::{State, is_enabled};
 
 /// Adds all tasks of a list to those that are to be looked at.
@@ -123,7 +123,8 @@ fn enroll_new(alloc: Global, st: &State, books: &mut Books, before: u32) -> Resu
     requires linked { length st.now.links ≡ length st.now.tasks }
     ensures grown { OnOk result (Grown books.old books.new) }
     ensures ready { OnOk result (before < length st.now.tasks → IsReady books.new.ready before) }
-    ensures waits { OnOk result ((u : ℕ) → before < length st.now.tasks → WaitsFor st.now.links before u → IsListed books.new.waiters u before) }
+    ensures waits { OnOk result ((u : ℕ) → before < length st.now.tasks
+        → WaitsFor st.now.links before u → IsListed books.new.waiters u before) }
 {
     if st.links.task_count() <= before {
         return Ok(());

@@ -9,7 +9,7 @@ ghost use Rattle.flat_sched.specs.inner.Lists.{IsReady};
 use crate::books::Books;
 use crate::groups::{put, take};
 use crate::ready::Ready;
-use twe_io::Memory;
+use twe_base::Memory;
 use twe_machine::{State, TaskStatus};
 
 /// Whether a task was made and waits for its admission.

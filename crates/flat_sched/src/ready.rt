@@ -5,7 +5,7 @@ ghost use Rattle.flat_sched.specs.inner.Lists.{IsReady, IsReadyFrom};
 use std::alloc::Global;
 use std::collections::BinaryHeap;
 use std::marker::Model;
-use twe_io::Memory;
+use twe_base::Memory;
 
 /// Tasks, of which the lowest is found at once. A task may stand in it twice. Contracts see it as a list of numbers,
 /// each the distance of a task from the greatest number, in no order that they know.

@@ -10,7 +10,7 @@ ghost use Rattle.flat_sched.specs.Stuck.{AreHolders, IsHolder, IsReason, IsStuck
 
 use crate::held::held_by;
 use std::alloc::Global;
-use twe_io::Memory;
+use twe_base::Memory;
 use twe_machine::{State, TaskStatus, links_agree};
 use twe_program::Prog;
 use wait_graph::Cycle;

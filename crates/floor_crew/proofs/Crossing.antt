@@ -6,7 +6,7 @@ use denote.Struct.Declared.{shape}
 use Rattle.std.proofs.alloc.Global.TheSendSync as global
 use Rattle.std.proofs.marker.PhantomData.TheSendSync as phantom
 use Rattle.std.proofs.sync.atomic.AtomicBool.TheSendSync as flag
-use Rattle.twe_limits.proofs.limits.Limits.TheSendSync as limits
+use Rattle.twe_base.proofs.limits.Limits.TheSendSync as limits
 use Rattle.effect_tree.proofs.shape.Shape.TheSendSync as tree
 use Rattle.effect_tree.specs.contracts.shape.Shape as Shape
 use Rattle.task_floor.proofs.floor.Floor.TheSendSync as floor
@@ -14,7 +14,7 @@ use Rattle.task_floor.specs.contracts.floor.Floor as Floor
 use Rattle.twe_program.specs.contracts.program.Prog as Prog
 use Rattle.twe_rounds.proofs.Crossing.{prog_sync}
 use Rattle.floor_table.specs.declared.rule.Named as Named
-use Rattle.tree_table.specs.declared.rule.Planted as Planted
+use Rattle.floor_table.specs.declared.nodes.rule.Planted as Planted
 use Rattle.floor_crew.specs.declared.located.Located as Located
 use Rattle.floor_crew.specs.contracts.ground.Ground as Ground
 use Rattle.floor_crew.specs.contracts.ground.Ground.TheInside as inside

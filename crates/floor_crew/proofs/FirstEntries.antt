@@ -5,16 +5,16 @@ use Rattle.std.proofs.lemmas.List.{map-append}
 use Rattle.std.proofs.lemmas.Option.{get_or_from_slice_get, slice_get_within}
 use mathlib.Core.List.{IsPrefix}
 use Rattle.seg_journal.specs.declared.journal.Entry.{Entry}
-use Rattle.twe_limits.specs.Limits.{Bounds}
+use Rattle.twe_base.specs.Limits.{Bounds}
 use Rattle.twe_program.specs.Program.{Program}
-use Rattle.journal_merge.specs.declared.numbered.NumberedEntry.{NumberedEntry}
-use Rattle.journal_merge.specs.Merging.{IsMergeOf, journal_of}
-use Rattle.journal_merge.proofs.Slots.{of_all}
+use Rattle.seg_journal.specs.declared.numbered.NumberedEntry.{NumberedEntry}
+use Rattle.seg_journal.specs.Merging.{IsMergeOf, journal_of}
+use Rattle.seg_journal.proofs.Slots.{of_all}
 use Rattle.floor_rule.proofs.Puts.{none_some, some_one}
-use Rattle.floor_steps.specs.declared.rest.Rest.{Rest}
-use Rattle.floor_steps.specs.Resting.{IsRestOf}
-use Rattle.floor_steps.specs.Waking.{log_of}
-use Rattle.floor_steps.proofs.Logs.{log_journal, log_order}
+use Rattle.task_floor.specs.declared.steps.rest.Rest.{Rest}
+use Rattle.task_floor.specs.steps.Resting.{IsRestOf}
+use Rattle.task_floor.specs.steps.Waking.{log_of}
+use Rattle.task_floor.proofs.steps.Logs.{log_journal, log_order}
 
 -- a list begins with one that has the same items at its places
 prefix_by_places : {A : Type 0} (xs ys : List A) → ((n : ℕ) (x : A) → slice_get xs n ≡ Some x → slice_get ys n ≡ Some x) → IsPrefix xs ys

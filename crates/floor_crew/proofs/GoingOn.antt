@@ -1,7 +1,7 @@
 -- A run at rest goes on from what it was.
 use Rattle.std.proofs.Common.{List}
 use Rattle.seg_journal.specs.declared.journal.Entry.{Entry}
-use Rattle.twe_limits.specs.Limits.{Bounds}
+use Rattle.twe_base.specs.Limits.{Bounds}
 use Rattle.twe_program.specs.Program.{Program}
 use Rattle.twe_rounds.proofs.Beginnings.{prefix_self, prefix_trans}
 use Rattle.floor_crew.specs.declared.at_rest.RunAtRest.{RunAtRest}

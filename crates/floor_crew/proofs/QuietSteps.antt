@@ -3,7 +3,7 @@ use Rattle.std.proofs.Common.{◌≡◌, ◌<◌, ℕ, List, [], ◌∷◌, ◌+
 use Rattle.std.proofs.lemmas.Option.{same_Some}
 use mathlib.Core.List.{IsPrefix}
 use Rattle.seg_journal.specs.declared.journal.Entry.{Entry}
-use Rattle.twe_limits.specs.Limits.{Bounds}
+use Rattle.twe_base.specs.Limits.{Bounds}
 use Rattle.twe_program.specs.Program.{Program}
 use Rattle.twe_machine.specs.declared.ending.Outcome.TheVariants as outcomes
 use Rattle.twe_machine.specs.declared.state.State.{State}
@@ -16,7 +16,7 @@ use Rattle.twe_rounds.specs.Crews.{CrewRun, GoesOn, StepsFrom, StepsQuietly}
 use Rattle.floor_crew.specs.declared.at_rest.RunAtRest.{RunAtRest}
 use Rattle.floor_crew.specs.inner.GoingOn.{IsSound}
 use Rattle.floor_crew.specs.Rounds.{GrowsUnlessOver}
-use Rattle.floor_crew.specs.inner.Keeping.{IsKept, Steps, journal_of}
+use Rattle.floor_crew.specs.inner.Keeping.{RunIsKept, Steps, journal_of}
 
 module _ (p : Program) (lim : Bounds) (workers : ℕ) where
   -- the crew whose run has this journal
@@ -41,20 +41,20 @@ module _ (p : Program) (lim : Bounds) (workers : ℕ) where
       )
 
   -- a quiet step of a crew that has the run `old`
-  pub quiet_kept : (crew : CrewRun) (kept : Option RunAtRest) (old new : RunAtRest) (found : Quietly) → kept ≡ Some old → IsKept p lim kept
+  pub quiet_kept : (crew : CrewRun) (kept : Option RunAtRest) (old new : RunAtRest) (found : Quietly) → kept ≡ Some old → RunIsKept p lim kept
       → record { prog = p; lim = lim; workers = workers; journal = journal_of kept } ≡ crew → Steps p lim old new found → StepsQuietly crew (crew_of new.rest.journal) found
   quiet_kept crew kept old new found is sound view steps =
       let same : crew_of old.rest.journal ≡ crew = ap (λ (k : Option RunAtRest). record { prog = p; lim = lim; workers = workers; journal = journal_of k }) (sym is) ∙ view in
-      let sound_now : IsSound p lim old = subst (IsKept p lim) is sound in
+      let sound_now : IsSound p lim old = subst (RunIsKept p lim) is sound in
       subst (λ (c : CrewRun). StepsQuietly c (crew_of new.rest.journal) found) same (old.rest.journal, refl, sound_now.run_is.legal, steps_from old new found sound_now steps)
 
   -- a round of a crew that has the run `old`
-  pub round_kept : (crew : CrewRun) (kept : Option RunAtRest) (old new : RunAtRest) → kept ≡ Some old → IsKept p lim kept
+  pub round_kept : (crew : CrewRun) (kept : Option RunAtRest) (old new : RunAtRest) → kept ≡ Some old → RunIsKept p lim kept
       → record { prog = p; lim = lim; workers = workers; journal = journal_of kept } ≡ crew → IsSound p lim new → IsPrefix old.rest.journal new.rest.journal
       → (workers ≡ 1 → IsOutcome old.rest.state outcomes.Unfinished → length old.rest.journal < length new.rest.journal) → GoesOn crew (crew_of new.rest.journal)
   round_kept crew kept old new is sound view after begins longer =
       let same : crew_of old.rest.journal ≡ crew = ap (λ (k : Option RunAtRest). record { prog = p; lim = lim; workers = workers; journal = journal_of k }) (sym is) ∙ view in
-      let sound_now : IsSound p lim old = subst (IsKept p lim) is sound in
+      let sound_now : IsSound p lim old = subst (RunIsKept p lim) is sound in
       let goes : GoesOn (crew_of old.rest.journal) (crew_of new.rest.journal) = record {
         journal = old.rest.journal;
         later = new.rest.journal;
@@ -67,12 +67,12 @@ module _ (p : Program) (lim : Bounds) (workers : ℕ) where
       subst (λ (c : CrewRun). GoesOn c (crew_of new.rest.journal)) same goes
 
   -- its journal is longer if the run could go on
-  pub grows_kept : (crew : CrewRun) (kept : Option RunAtRest) (old new : RunAtRest) → kept ≡ Some old → IsKept p lim kept
+  pub grows_kept : (crew : CrewRun) (kept : Option RunAtRest) (old new : RunAtRest) → kept ≡ Some old → RunIsKept p lim kept
       → record { prog = p; lim = lim; workers = workers; journal = journal_of kept } ≡ crew
       → (IsOutcome old.rest.state outcomes.Unfinished → length old.rest.journal < length new.rest.journal) → GrowsUnlessOver crew (crew_of new.rest.journal)
   grows_kept crew kept old new is sound view longer =
       let same : crew_of old.rest.journal ≡ crew = ap (λ (k : Option RunAtRest). record { prog = p; lim = lim; workers = workers; journal = journal_of k }) (sym is) ∙ view in
-      let sound_now : IsSound p lim old = subst (IsKept p lim) is sound in
+      let sound_now : IsSound p lim old = subst (RunIsKept p lim) is sound in
       let grows : GrowsUnlessOver (crew_of old.rest.journal) (crew_of new.rest.journal) = λ journal later was then unfinished.
       let first : old.rest.journal ≡ journal = same_Some old.rest.journal journal was in
       let last : new.rest.journal ≡ later = same_Some new.rest.journal later then in

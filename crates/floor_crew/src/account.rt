@@ -4,8 +4,8 @@
 //! A run whose segments are short would spend its time on floors. So its work pays for them: after a floor, another one is laid
 //! out only once as much work was done as it costs. All that is counted here is an estimate, on which no clause rests.
 
-use floor_steps::Rest;
-use twe_limits::Limits;
+use task_floor::steps::Rest;
+use twe_base::Limits;
 use twe_machine::State;
 
 /// What a move counts beside the fuel that it takes, in units of fuel.

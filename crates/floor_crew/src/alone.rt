@@ -14,8 +14,7 @@ use crate::brief::is_brief;
 use crate::looking::{Found, look};
 use seg_journal::{Kind, Move};
 use std::alloc::Global;
-use twe_io::Memory;
-use twe_limits::Limits;
+use twe_base::{Limits, Memory};
 use twe_machine::State;
 use twe_program::Prog;
 

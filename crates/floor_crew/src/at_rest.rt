@@ -5,11 +5,10 @@ ghost use Rattle.twe_machine.specs.Runs.{IsRun, entry_of};
 ghost use Rattle.floor_crew.specs.inner.GoingOn.{IsSound};
 
 use crate::enabled::enabled_in;
-use floor_steps::Rest;
 use seg_journal::{Entry, Journal, Move};
 use std::alloc::Global;
-use twe_io::Memory;
-use twe_limits::Limits;
+use task_floor::steps::Rest;
+use twe_base::{Limits, Memory};
 use twe_machine::{EnabledTasks, links_agree, start, step};
 use twe_program::Prog;
 

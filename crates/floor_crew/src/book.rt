@@ -8,7 +8,7 @@ use seg_journal::{End, Entry};
 use std::alloc::Global;
 use std::collections::{BTreeMap, VecDeque};
 use std::mem;
-use twe_io::Memory;
+use twe_base::Memory;
 
 /// How many tasks that one bar held are found held again before the others of them wait for the next bar unseen.
 const MOST_MISSES: u32 = 8;

@@ -1,7 +1,7 @@
 //! A crew whose rounds run on a floor with the nodes of the program's tree: a run whose moves are taken one by one between the
 //! rounds, and by workers in them.
 ghost use Rattle.std.specs.Prelude.{◌≡◌, ◌≤◌, [], Some, None, IfOk, IfErr, OnOk, OnErr};
-ghost use Rattle.soundness_laws.specs.KeepsEffects.{KeepsEffects};
+ghost use Rattle.isolation_laws.specs.soundness.KeepsEffects.{KeepsEffects};
 ghost use Rattle.twe_machine.specs.Runs.{Legal};
 ghost use Rattle.twe_rounds.specs.Crews.{CrewRun, GoesOn, StepsQuietly, lost, state_of};
 ghost use Rattle.floor_crew.specs.Rounds.{GrowsUnlessOver};
@@ -20,8 +20,7 @@ use std::marker::Model;
 use std::snapshot::Snapshot;
 use std::sync::Wait;
 use std::thread::Threads;
-use twe_io::Memory;
-use twe_limits::Limits;
+use twe_base::{Limits, Memory};
 use twe_machine::{Outcome, State, lowest, outcome};
 use twe_program::Prog;
 use twe_rounds::{Gate, Quietly, lost};
@@ -41,9 +40,9 @@ pub struct FloorCrew {
 
 impl Model for FloorCrew {
     ghost use Rattle.std.specs.Prelude.{◌≤◌};
-    ghost use Rattle.soundness_laws.specs.KeepsEffects.{KeepsEffects};
+    ghost use Rattle.isolation_laws.specs.soundness.KeepsEffects.{KeepsEffects};
     ghost use Rattle.twe_rounds.specs.Crews.{CrewRun};
-    ghost use Rattle.floor_crew.specs.inner.Keeping.{IsKept, IsShapeOf, journal_of};
+    ghost use Rattle.floor_crew.specs.inner.Keeping.{RunIsKept, IsShapeOf, journal_of};
 
     ghost Value = { CrewRun };
 
@@ -55,7 +54,7 @@ impl Model for FloorCrew {
 
     ghost view = { λ crew. record { prog = crew.prog.value; lim = crew.lim; workers = crew.workers; journal = journal_of crew.run } };
 
-    ghost invariant = { λ crew. (1 ≤ crew.workers) × (crew.workers ≤ 64) × KeepsEffects crew.prog.value × IsKept crew.prog.value crew.lim crew.run
+    ghost invariant = { λ crew. (1 ≤ crew.workers) × (crew.workers ≤ 64) × KeepsEffects crew.prog.value × RunIsKept crew.prog.value crew.lim crew.run
         × IsShapeOf crew.prog.value crew.shape };
 }
 

@@ -6,7 +6,7 @@ ghost use Rattle.twe_machine.specs.Listings.{IsListing};
 ghost use Rattle.twe_machine.specs.Rows.{HasStatus};
 
 use std::alloc::Global;
-use twe_io::{List, Memory};
+use twe_base::{List, Memory};
 use twe_machine::{EnabledTasks, State, is_enabled};
 
 /// The enabled tasks of a state, by one look at each task.

@@ -3,7 +3,7 @@
 use seg_journal::{End, Entry, Journal, Kind, Move};
 use std::alloc::Global;
 use std::collections::BTreeMap;
-use twe_io::Memory;
+use twe_base::Memory;
 use twe_rounds::Waiting;
 
 /// Tasks that were found done, and those that are awaited: others wait for them, or are held back by them.

@@ -1,7 +1,7 @@
 //! How a crew goes on from a run at rest: moves at rest and rounds in turn.
 ghost use Rattle.std.specs.Prelude.{◌≡◌, ◌≤◌, ◌<◌, length, IfOk};
 ghost use mathlib.Core.List.{IsPrefix};
-ghost use Rattle.soundness_laws.specs.KeepsEffects.{KeepsEffects};
+ghost use Rattle.isolation_laws.specs.soundness.KeepsEffects.{KeepsEffects};
 ghost use Rattle.twe_machine.specs.declared.ending.Outcome.TheVariants.{Unfinished};
 ghost use Rattle.twe_machine.specs.Runs.{IsOutcome};
 ghost use Rattle.floor_crew.specs.inner.GoingOn.{HasGoneOn, IsSound};
@@ -16,8 +16,7 @@ use std::alloc::Global;
 use std::marker::Brand;
 use std::sync::Wait;
 use std::thread::Threads;
-use twe_io::Memory;
-use twe_limits::Limits;
+use twe_base::{Limits, Memory};
 use twe_program::Prog;
 use twe_rounds::Gate;
 

@@ -5,18 +5,17 @@ ghost use Rattle.floor_crew.specs.inner.Lent.{IsOtherOn};
 use crate::located::Located;
 use effect_tree::Shape;
 use floor_rule::Phase;
-use floor_steps::Served;
 use floor_table::Named;
+use floor_table::nodes::Planted;
 use std::alloc::Global;
 use std::marker::{Model, PhantomData};
 use std::sync::Wait;
 use std::sync::atomic::{AtomicBool, Ordering};
 use std::thread;
 use task_floor::Floor;
-use tree_serve::{Admission, TreeWorker, Workshop};
-use tree_table::Planted;
-use twe_io::Memory;
-use twe_limits::Limits;
+use task_floor::steps::Served;
+use tree_admit::serving::{Admission, TreeWorker, Workshop};
+use twe_base::{Limits, Memory};
 use twe_program::Prog;
 use twe_rounds::{Gate, Look};
 
@@ -41,7 +40,7 @@ pub(crate) struct Ground<'a, N: Named + Planted, F: Located> {
 
 impl<'a, N: Named + Planted, F: Located> Model for Ground<'a, N, F> {
     ghost use Rattle.std.specs.Prelude.{◌≡◌};
-    ghost use Rattle.twe_limits.specs.Limits.{Bounds};
+    ghost use Rattle.twe_base.specs.Limits.{Bounds};
 
     ghost Value = { Bounds };
 

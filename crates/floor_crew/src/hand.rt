@@ -6,10 +6,10 @@ use crate::ground::Ground;
 use crate::located::Located;
 use crate::on_floor::OnFloor;
 use floor_table::Named;
+use floor_table::nodes::Planted;
 use std::marker::{Model, PhantomData};
 use std::sync::Wait;
-use tree_serve::TreeWorker;
-use tree_table::Planted;
+use tree_admit::serving::TreeWorker;
 use twe_rounds::{Gate, Site, Worker};
 
 /// A worker of a round with its deck, and with its stand on the floor, unless it found no memory.

@@ -6,15 +6,15 @@ use crate::ended::Ended;
 use crate::ground::Ground;
 use crate::located::Located;
 use floor_rule::Phase;
-use floor_steps::Served;
 use floor_table::Named;
+use floor_table::nodes::Planted;
 use seg_journal::End;
 use std::marker::Model;
 use std::sync::Wait;
-use tree_serve::TreeWorker;
-use tree_table::Planted;
-use twe_io::Memory;
-use twe_rounds::{Access, Gate, Look, Waiting, lost};
+use task_floor::steps::Served;
+use tree_admit::serving::TreeWorker;
+use twe_base::Memory;
+use twe_rounds::{Gate, Look, RoundAccess, Waiting, lost};
 
 /// How many awaited tasks a worker looks at before it goes on.
 const GLANCES: usize = 64;
@@ -112,7 +112,7 @@ impl<'a, R: Wait, N: Named + Planted, F: Located, G: Gate> OnFloor<'a, R, N, F, 
     }
 }
 
-impl<'a, R: Wait, N: Named + Planted, F: Located, G: Gate> Access for OnFloor<'a, R, N, F, G> {
+impl<'a, R: Wait, N: Named + Planted, F: Located, G: Gate> RoundAccess for OnFloor<'a, R, N, F, G> {
     fn look(&mut self, task: u32) -> Result<Look, Memory> {
         if self.busy.take() == Some(task) {
             return Ok(Look::Over);

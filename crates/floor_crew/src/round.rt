@@ -2,7 +2,7 @@
 ghost use Rattle.std.specs.Prelude.{◌≡◌, ◌≤◌, length, IfOk};
 ghost use mathlib.Core.List.{IsPrefix};
 ghost use Rattle.twe_program.specs.WellFormed.{IsWellFormed};
-ghost use Rattle.soundness_laws.specs.KeepsEffects.{KeepsEffects};
+ghost use Rattle.isolation_laws.specs.soundness.KeepsEffects.{KeepsEffects};
 ghost use Rattle.twe_machine.specs.Runs.{IsRun};
 ghost use Rattle.floor_crew.specs.inner.Lent.{HasParts, IsMainOn, IsNewOn};
 
@@ -11,19 +11,18 @@ use crate::hand::Hand;
 use crate::located::Located;
 use crate::stands::{join_all, split_all};
 use effect_tree::Shape;
-use floor_steps::Rest;
 use floor_table::Named;
-use journal_merge::Part;
+use floor_table::nodes::Planted;
+use seg_journal::JournalPart;
 use std::alloc::Global;
 use std::marker::Brand;
 use std::sync::Wait;
 use std::sync::atomic::AtomicU64;
 use std::thread;
 use std::thread::Threads;
+use task_floor::steps::Rest;
 use task_floor::{Floor, Stand};
-use tree_table::Planted;
-use twe_io::{List, Memory};
-use twe_limits::Limits;
+use twe_base::{Limits, List, Memory};
 use twe_program::Prog;
 use twe_rounds::{Gate, Site, Team, deal};
 
@@ -75,7 +74,7 @@ fn lend<
     stand: Stand,
     team: Team,
     gate: &'a G,
-    parts: &mut List<Part>,
+    parts: &mut List<JournalPart>,
 ) -> Result<Stand, Memory>
     requires some { 1 ≤ workers }
     requires named { (p.now ≡ N.prog) × (lim ≡ N.lim) × (shape.now ≡ N.nodes) }

@@ -1,6 +1,6 @@
 //! A whole run by workers on the floor: a quiet step and a round in turn, until the run is over.
 ghost use Rattle.std.specs.Prelude.{◌≡◌, ◌≤◌, IfOk};
-ghost use Rattle.soundness_laws.specs.KeepsEffects.{KeepsEffects};
+ghost use Rattle.isolation_laws.specs.soundness.KeepsEffects.{KeepsEffects};
 ghost use Rattle.twe_machine.specs.LowestFirst.{IsOver};
 ghost use Rattle.twe_machine.specs.Runs.{Legal, state_after};
 
@@ -9,8 +9,7 @@ use seg_journal::Journal;
 use std::alloc::Global;
 use std::sync::Wait;
 use std::thread::Threads;
-use twe_io::Memory;
-use twe_limits::Limits;
+use twe_base::{Limits, Memory};
 use twe_machine::State;
 use twe_program::Prog;
 use twe_rounds::Gate;

@@ -6,12 +6,12 @@ ghost use Rattle.floor_crew.specs.inner.Lent.{HasParts, IsMainOn, IsNewOn};
 use crate::hand::Hand;
 use crate::located::Located;
 use floor_table::Named;
-use journal_merge::Part;
+use floor_table::nodes::Planted;
+use seg_journal::JournalPart;
 use std::alloc::Global;
 use task_floor::{EntryLog, Floor, Stand};
-use tree_serve::TreeWorker;
-use tree_table::Planted;
-use twe_io::{List, Memory};
+use tree_admit::serving::TreeWorker;
+use twe_base::{List, Memory};
 use twe_rounds::{Worker, lost};
 
 /// A stand for each worker, split off from the main one.
@@ -44,7 +44,7 @@ pub(crate) fn join_all<N: Named + Planted, F: Located>(
     floor: &Floor<N>,
     stand: &mut Stand,
     hands: Vec<Hand<F>>,
-    parts: &mut List<Part>,
+    parts: &mut List<JournalPart>,
 ) -> Result<(), Memory>
     requires located { floor.now ≡ F.table }
     requires main { IsMainOn F.table stand.old (length hands.items) }

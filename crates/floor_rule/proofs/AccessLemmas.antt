@@ -4,7 +4,8 @@ use Rattle.std.specs.Prelude.{◌==◌, slice_set}
 use Rattle.std.proofs.lemmas.Bool.{cases_eq}
 use Rattle.seg_exec.specs.Access.{Access, Reads, Writes, Prints, Agrees, after, value_in}
 use Rattle.isolation_laws.proofs.rows.ListElements.{get_set_other, length_set}
-use Rattle.floor_rule.specs.Touches.{IsAmong, cell_accesses, cell_at, is_written}
+use Rattle.admission_laws.specs.admission_core.States.{IsAmong}
+use Rattle.floor_rule.specs.Touches.{cell_accesses, cell_at, is_written}
 
 -- a cell that is set has the same value in each two lists of one length
 pub set_at : (a b : List ℤ) (c : ℕ) (value : ℤ) → length a ≡ length b → cell_at (slice_set a c value) c ≡ cell_at (slice_set b c value) c

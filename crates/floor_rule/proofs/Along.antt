@@ -4,13 +4,13 @@ use Rattle.std.proofs.lemmas.List.{append_assoc, append-nil}
 use Rattle.seg_journal.specs.declared.journal.End.{End}
 use Rattle.seg_journal.specs.declared.journal.Entry.{Entry}
 use Rattle.seg_journal.specs.declared.moves.Move.{Move}
-use Rattle.twe_limits.specs.Limits.{Bounds}
+use Rattle.twe_base.specs.Limits.{Bounds}
 use Rattle.twe_program.specs.Program.{Program}
 use Rattle.twe_machine.specs.declared.state.State.{State}
 use Rattle.twe_machine.specs.Legal.{MayMove}
 use Rattle.twe_machine.specs.Moves.{move_result, start_of}
 use Rattle.twe_machine.specs.Runs.{IsRun, Legal, LegalFrom, entry_of, replayed, state_after}
-use Rattle.twe_machine.proofs.Replayed.{run_more}
+use Rattle.twe_machine.proofs.replays.Replayed.{run_more}
 
 module _ (p : Program) (lim : Bounds) (R : List Entry → State → Type 0) (start : R [] (start_of p lim))
     (step : (before : List Entry) (st : State) (mv : Move) → IsRun p lim before st → MayMove st mv → R before st → R (before ++ entry_of p lim st mv ∷ []) (move_result p lim st mv).0) where

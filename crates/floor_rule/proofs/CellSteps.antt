@@ -12,14 +12,15 @@ use Rattle.floor_rule.specs.declared.view.OpenSegment.{OpenSegment}
 use Rattle.floor_rule.specs.declared.view.Touch.{Touch}
 use Rattle.floor_rule.specs.declared.view.Touch.TheVariants.{Read, Write}
 use Rattle.floor_rule.specs.Floors.{Floor}
-use Rattle.floor_rule.specs.Fitting.{Fits, IsOpen, NobodyWrote, ReadsHold, SegmentsAreOpen}
+use Rattle.floor_rule.specs.Fitting.{FloorFits, IsOpen, NobodyWrote, ReadsHold, SegmentsAreOpen}
 use Rattle.floor_rule.specs.Steps.{MayTouch, after_load, after_store, touched}
-use Rattle.floor_rule.specs.Touches.{IsAccessFrom, IsAmong, access_by, accesses_of, cell_at, is_written, touches_of}
+use Rattle.admission_laws.specs.admission_core.States.{IsAmong}
+use Rattle.floor_rule.specs.Touches.{IsAccessFrom, access_by, accesses_of, cell_at, is_written, touches_of}
 use Rattle.floor_rule.proofs.Puts.{put_else, put_here, put_was, some_one}
 use Rattle.floor_rule.proofs.AccessLemmas.{after_length, other_write, own_write, set_at, set_else}
 use Rattle.floor_rule.proofs.SegmentLemmas.{hand_made, hand_reads, hand_written, nobody, open_accesses, spared, word_now}
 
-module _ (p : Program) (st : State) (f : Floor) (fits : Fits p st f) (agree : LinksAgree st) (apart : MoversApart p st) (i t : ℕ) (touch : Touch) (may : MayTouch p f i t (access_by touch)) where
+module _ (p : Program) (st : State) (f : Floor) (fits : FloorFits p st f) (agree : LinksAgree st) (apart : MoversApart p st) (i t : ℕ) (touch : Touch) (may : MayTouch p f i t (access_by touch)) where
   abbrev new : OpenSegment
   new = record { task = t; touches = touch ∷ touches_of (f.segments i) }
 
@@ -55,7 +56,7 @@ module _ (p : Program) (st : State) (f : Floor) (fits : Fits p st f) (agree : Li
       nobody p st f fits agree apart i t may.turn may.ready may.has may.may may.own c (fewer (none i new (put_here f.segments i (Some new))))
       (λ j s other at. none j s (put_else f.segments i j (Some new) other ∙ at))
 
-module _ (p : Program) (st : State) (f : Floor) (fits : Fits p st f) (agree : LinksAgree st) (apart : MoversApart p st) (i t c : ℕ) where
+module _ (p : Program) (st : State) (f : Floor) (fits : FloorFits p st f) (agree : LinksAgree st) (apart : MoversApart p st) (i t c : ℕ) where
   -- A load.
   module _ (value : ℤ) (found : value ≡ cell_at f.cells c) (may : MayTouch p f i t (Reads c value)) where
     abbrev read : Touch
@@ -65,7 +66,7 @@ module _ (p : Program) (st : State) (f : Floor) (fits : Fits p st f) (agree : Li
     pub found_is : value ≡ cell_at (after st.cells (open_accesses f i)) c
     found_is = found ∙ word_now p st f fits agree apart i t may.turn may.ready may.has may.may may.own (Reads c value) may.made c (λ v. (refl, refl))
 
-    pub loading : Fits p st (after_load f i t c value)
+    pub loading : FloorFits p st (after_load f i t c value)
     loading = record {
       asked = fits.asked;
       one_holder = fits.one_holder;
@@ -122,7 +123,7 @@ module _ (p : Program) (st : State) (f : Floor) (fits : Fits p st f) (agree : Li
         absurd (cc) in
         set_else f.cells c k value differ ∙ fits.written j s k at written
 
-    pub storing : Fits p st (after_store f i t c value)
+    pub storing : FloorFits p st (after_store f i t c value)
     storing = record {
       asked = fits.asked;
       one_holder = fits.one_holder;

@@ -1,10 +1,10 @@
 -- The state after an entry: the row of its task, the row of a task that it makes, how it ends, and the rows of the others.
 use Rattle.std.proofs.Common.{◌≡◌, ◌≢◌, ◌+◌, ◌<◌, ℕ, ℤ, Bool, true, false, cond, List, length, Option, None, Some, refl, sym, ap, subst, ◌∙◌, inl, inr, nat_lt, arith, length-set}
 use Rattle.std.specs.Prelude.{slice_get, slice_set}
-use Rattle.twe_io.specs.declared.place.Place.{Place}
+use Rattle.twe_base.specs.declared.place.Place.{Place}
 use Rattle.effect_sets.specs.declared.effects.Summary.{Summary}
-use Rattle.twe_limits.specs.Limits.{Bounds}
-use Rattle.twe_limits.specs.declared.fault.FaultKind.TheVariants.{TaskLimit}
+use Rattle.twe_base.specs.Limits.{Bounds}
+use Rattle.twe_base.specs.declared.fault.FaultKind.TheVariants.{TaskLimit}
 use Rattle.seg_journal.specs.declared.journal.End.{End}
 use Rattle.seg_journal.specs.declared.journal.End.TheVariants as ends
 use Rattle.seg_journal.specs.declared.moves.Kind.TheVariants.{Run}
@@ -18,9 +18,9 @@ use Rattle.twe_machine.specs.declared.state.State.{State}
 use Rattle.twe_machine.specs.declared.state.TaskRow.{TaskRow}
 use Rattle.twe_machine.specs.Moves.{done_row, faulted_row, going_row, joined_child, joined_row, making_frame, new_row, parent_of, ran, ready_frame, result_by_kind, state_after_asking, state_after_fault, state_after_join, state_after_make, stop_result, stopped_frame}
 use Rattle.twe_machine.specs.Rows.{IsRow}
-use Rattle.twe_machine.proofs.JoinedWeight.{length_joined}
-use Rattle.twe_machine.proofs.OtherRows.{row_after as other_row}
-use Rattle.twe_machine.proofs.Places.{put_before, put_last}
+use Rattle.twe_machine.proofs.weight.JoinedWeight.{length_joined}
+use Rattle.twe_machine.proofs.tasks.OtherRows.{row_after as other_row}
+use Rattle.twe_machine.proofs.lists.Places.{put_before, put_last}
 use Rattle.isolation_laws.proofs.rows.ListElements.{get_set_within}
 use Rattle.floor_rule.specs.Rows.{unmarked}
 use Rattle.floor_rule.specs.Steps.{end_after, row_after}

@@ -3,10 +3,10 @@ use Rattle.std.proofs.Common.{◌≡◌, ◌≢◌, ◌+◌, ◌++◌, ◌<◌, 
 use Rattle.std.specs.Prelude.{slice_get}
 use Rattle.std.proofs.lemmas.Bool.{cases_eq}
 use Rattle.std.proofs.lemmas.Option.{slice_get_within}
-use Rattle.twe_io.specs.declared.place.Place.{Place}
+use Rattle.twe_base.specs.declared.place.Place.{Place}
 use Rattle.effect_sets.specs.declared.effects.Summary.{Summary}
-use Rattle.twe_limits.specs.Limits.{Bounds}
-use Rattle.twe_limits.specs.declared.fault.FaultKind.TheVariants.{TaskLimit}
+use Rattle.twe_base.specs.Limits.{Bounds}
+use Rattle.twe_base.specs.declared.fault.FaultKind.TheVariants.{TaskLimit}
 use Rattle.seg_journal.specs.declared.journal.End.{End}
 use Rattle.seg_journal.specs.declared.journal.End.TheVariants as ends
 use Rattle.seg_journal.specs.declared.moves.Kind.TheVariants.{Run}
@@ -25,22 +25,22 @@ use Rattle.twe_machine.specs.declared.state.TaskStatus.TheVariants as status
 use Rattle.twe_machine.specs.Changes.{ChangesAsSegment, LeavesAlone, asked_by, made_by, next_segment}
 use Rattle.twe_machine.specs.Legal.{MayRun}
 use Rattle.twe_machine.specs.Moves.{new_row, parent_of, ready_frame, result_by_kind}
-use Rattle.twe_machine.specs.Rows.{HasStatus, IsRow, LinksAgree, awaited}
+use Rattle.twe_machine.specs.Rows.{HasStatus, IsRow, LinksAgree, row_awaited}
 use Rattle.twe_machine.specs.Runs.{IsReached}
-use Rattle.twe_machine.proofs.DoneStays.{value_stays}
-use Rattle.twe_machine.proofs.LeftAlone.{moves_leave_alone}
-use Rattle.twe_machine.proofs.Places.{below_there, got_one}
-use Rattle.twe_machine.proofs.ReachedStands.{reached_stands}
-use Rattle.twe_machine.proofs.Standing.{Stands}
+use Rattle.twe_machine.proofs.tasks.DoneStays.{value_stays}
+use Rattle.twe_machine.proofs.tasks.LeftAlone.{moves_leave_alone}
+use Rattle.twe_machine.proofs.lists.Places.{below_there, got_one}
+use Rattle.twe_machine.proofs.standing.ReachedStands.{reached_stands}
+use Rattle.twe_machine.proofs.standing.Standing.{Stands}
 use Rattle.isolation_laws.specs.Conflicts.{MoversApart}
 use Rattle.floor_rule.specs.declared.view.HeldTurn.{HeldTurn}
 use Rattle.floor_rule.specs.declared.view.OpenSegment.{OpenSegment}
 use Rattle.floor_rule.specs.declared.view.Phase.{Phase}
 use Rattle.floor_rule.specs.declared.view.Phase.TheVariants.{Absent, Made, Running, Waits, Done, Faulted}
 use Rattle.floor_rule.specs.Floors.{Floor, Home, Away, Empty, Holds, TurnWord, Free, Taken, New, put, put_turn}
-use Rattle.floor_rule.specs.Fitting.{Fits, FactsHold, FreePhasesAreLast, HomeFits, IsMade, IsUnheld, OneHolder, OthersHold, PhaseFits, PhasesAreKnown, ReadsHold, RowIs, RowsAreKnown, SegmentsAreOpen, TurnFits, Turns, WrittenHold}
+use Rattle.floor_rule.specs.Fitting.{FloorFits, FactsHold, FreePhasesAreLast, HomeFits, IsMade, IsUnheld, OneHolder, OthersHold, PhaseFits, PhasesAreKnown, ReadsHold, RowIs, RowsAreKnown, SegmentsAreOpen, TurnFits, Turns, WrittenHold}
 use Rattle.floor_rule.specs.Rows.{phase_of, slot_of, unmarked}
-use Rattle.floor_rule.specs.Steps.{MayCommit, after_entry, end_after, first_turn, row_after, with_child, without_child}
+use Rattle.floor_rule.specs.Steps.{MayCommit, after_entry, end_after, first_turn, row_after, row_with_child, without_child}
 use Rattle.floor_rule.specs.Touches.{accesses_of}
 use Rattle.floor_rule.proofs.Puts.{none_some, put_all, put_was, some_one}
 use Rattle.floor_rule.proofs.RunLemmas.{Runs, open_still}
@@ -85,7 +85,7 @@ module _ (st after : State) (t : ℕ) (follows : Follows st after t) where
   phase_later u Running other fits = made_later u fits
   phase_later u (Waits on) other fits =
       let now = follows.stays u fits.row other fits.there in
-      record { row = now.now; there = now.there; enabled = ap (λ (r : TaskRow). r.status) now.same ∙ fits.enabled; on = ap (λ (r : TaskRow). awaited r.frame.next) now.same ∙ fits.on }
+      record { row = now.now; there = now.there; enabled = ap (λ (r : TaskRow). r.status) now.same ∙ fits.enabled; on = ap (λ (r : TaskRow). row_awaited r.frame.next) now.same ∙ fits.on }
   phase_later u Done other fits = status_later u status.Done other fits
   phase_later u Faulted other fits = status_later u status.Faulted other fits
 
@@ -115,7 +115,7 @@ module _ (st after : State) (t : ℕ) (follows : Follows st after t) where
       let one : now.now ≡ row = got_one (slice_get after.tasks u) now.there there in
       last before.0 before.1 ∙ (ap phase_of (sym now.same) ∙ ap phase_of one)
 
-module _ (p : Program) (well : IsWellFormed p) (lim : Bounds) (st : State) (reached : IsReached p lim st) (apart : MoversApart p st) (f : Floor) (fits : Fits p st f)
+module _ (p : Program) (well : IsWellFormed p) (lim : Bounds) (st : State) (reached : IsReached p lim st) (apart : MoversApart p st) (f : Floor) (fits : FloorFits p st f)
     (i t : ℕ) (turn : HeldTurn) (frame : Frame) (stop : Stop) (may : MayCommit p f i t turn frame stop) where
   stands : Stands p lim st
   stands = reached_stands p lim st well reached
@@ -287,7 +287,7 @@ module _ (p : Program) (well : IsWellFormed p) (lim : Bounds) (st : State) (reac
   facts_next j fact among = value_stays p lim st Run t fact.task fact.value running.may (fits.facts j fact among)
 
   -- An entry that makes no task.
-  entry_alone : made_by (end_after lim f.asked stop) ≡ 0 → Fits p next (without_child lim f i t turn frame stop)
+  entry_alone : made_by (end_after lim f.asked stop) ≡ 0 → FloorFits p next (without_child lim f i t turn frame stop)
   entry_alone none =
       let count : length next.tasks ≡ length st.tasks + 0 = alone_law.tasks ∙ ap (λ (n : ℕ). length st.tasks + n) (ap made_by end_is ∙ none) in
       let still : (u : ℕ) → length st.tasks ≤ u → length next.tasks ≤ u = λ u past. omega (arith, count, past) in
@@ -348,7 +348,7 @@ module _ (p : Program) (well : IsWellFormed p) (lim : Bounds) (st : State) (reac
         subst (TurnFits next both f.workers c) (sym (unmade_new st f.held f.workers c (f.turns c) past none_held (fits.turns c)))
         (inr (record { by = record { seat = i; turn = first; has = turn_here set i c (Some first) }; first = refl }))
 
-    entry_with : Fits p next (with_child (without_child lim f i t turn frame stop) i c child)
+    entry_with : FloorFits p next (row_with_child (without_child lim f i t turn frame stop) i c child)
     entry_with = record {
       asked = sym asked_is;
       one_holder = one_holder_put set i c (Some first) one_set (λ j h at. absurd (unheld_set j h at));
@@ -373,11 +373,11 @@ module _ (p : Program) (well : IsWellFormed p) (lim : Bounds) (st : State) (reac
     }
 
 -- The entry, by how its segment stopped.
-module _ (p : Program) (well : IsWellFormed p) (lim : Bounds) (st : State) (reached : IsReached p lim st) (apart : MoversApart p st) (f : Floor) (fits : Fits p st f) (i t : ℕ) (turn : HeldTurn) (frame : Frame) where
+module _ (p : Program) (well : IsWellFormed p) (lim : Bounds) (st : State) (reached : IsReached p lim st) (apart : MoversApart p st) (f : Floor) (fits : FloorFits p st f) (i t : ℕ) (turn : HeldTurn) (frame : Frame) where
   making : (child : Frame) (args : List ℤ) (effects : Summary) (spawned : Bool) (future : ℕ) (place : Place) (may : MayCommit p f i t turn frame (stops.Make child args effects spawned future place))
       → (b : Bool) → nat_lt (f.asked + 1) lim.tasks ≡ b
-      → Fits p (result_by_kind p lim st Run t).0
-      (cond {A = Floor} b (with_child (without_child lim f i t turn frame (stops.Make child args effects spawned future place)) i (f.asked + 1) (new_row lim (f.asked + 1) (parent_of t spawned) child args effects))
+      → FloorFits p (result_by_kind p lim st Run t).0
+      (cond {A = Floor} b (row_with_child (without_child lim f i t turn frame (stops.Make child args effects spawned future place)) i (f.asked + 1) (new_row lim (f.asked + 1) (parent_of t spawned) child args effects))
       (without_child lim f i t turn frame (stops.Make child args effects spawned future place)))
   making child args effects spawned future place may true is =
       let stop = stops.Make child args effects spawned future place in
@@ -401,7 +401,7 @@ module _ (p : Program) (well : IsWellFormed p) (lim : Bounds) (st : State) (reac
       let none : made_by (end_after lim f.asked stop) ≡ 0 = ap (λ (b : Bool). made_by (cond {A = End} b (ends.Made (f.asked + 1)) (ends.Fault TaskLimit place))) is in
       entry_alone p well lim st reached apart f fits i t turn frame stop may none
 
-  pub committing : (stop : Stop) → MayCommit p f i t turn frame stop → Fits p (result_by_kind p lim st Run t).0 (after_entry lim f i t turn frame stop)
+  pub committing : (stop : Stop) → MayCommit p f i t turn frame stop → FloorFits p (result_by_kind p lim st Run t).0 (after_entry lim f i t turn frame stop)
   committing (stops.Make child args effects spawned future place) may = making child args effects spawned future place may (nat_lt (f.asked + 1) lim.tasks) refl
   committing (stops.Waits on) may = entry_alone p well lim st reached apart f fits i t turn frame (stops.Waits on) may refl
   committing (stops.Joins on) may = entry_alone p well lim st reached apart f fits i t turn frame (stops.Joins on) may refl
@@ -413,7 +413,7 @@ pub record IsOneEntry (frame other : Frame) (stop last : Stop) : Type 0 where
   pub frames : frame ≡ other
   pub stops : stop ≡ last
 
-pub one_entry : (p : Program) (well : IsWellFormed p) (lim : Bounds) (st : State) (reached : IsReached p lim st) (apart : MoversApart p st) (f : Floor) (fits : Fits p st f) (i t : ℕ) (turn : HeldTurn) (frame other : Frame) (stop last : Stop)
+pub one_entry : (p : Program) (well : IsWellFormed p) (lim : Bounds) (st : State) (reached : IsReached p lim st) (apart : MoversApart p st) (f : Floor) (fits : FloorFits p st f) (i t : ℕ) (turn : HeldTurn) (frame other : Frame) (stop last : Stop)
     → MayCommit p f i t turn frame stop → MayCommit p f i t turn other last → IsOneEntry frame other stop last
 one_entry p well lim st reached apart f fits i t turn frame other stop last may may_other =
     let a = running p well lim st reached apart f fits i t turn frame stop may in

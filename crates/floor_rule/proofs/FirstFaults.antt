@@ -4,7 +4,7 @@ use Rattle.seg_journal.specs.declared.journal.End.{End}
 use Rattle.seg_journal.specs.declared.journal.End.TheVariants as ends
 use Rattle.seg_journal.specs.declared.journal.Entry.{Entry}
 use Rattle.seg_journal.specs.declared.moves.Move.{Move}
-use Rattle.twe_limits.specs.Limits.{Bounds}
+use Rattle.twe_base.specs.Limits.{Bounds}
 use Rattle.twe_program.specs.Program.{Program}
 use Rattle.twe_program.specs.WellFormed.{IsWellFormed}
 use Rattle.twe_machine.specs.declared.state.FirstFault.{FirstFault}
@@ -13,7 +13,7 @@ use Rattle.twe_machine.specs.Changes.{fault_after}
 use Rattle.twe_machine.specs.Legal.{MayMove}
 use Rattle.twe_machine.specs.Moves.{move_result}
 use Rattle.twe_machine.specs.Runs.{IsRun, Legal, entry_of, state_after}
-use Rattle.twe_machine.proofs.LeftAlone.{moves_leave_alone}
+use Rattle.twe_machine.proofs.tasks.LeftAlone.{moves_leave_alone}
 use Rattle.floor_rule.specs.Shown.{earlier_of, fault_of, first_fault_in}
 use Rattle.floor_rule.proofs.Along.{after_all}
 

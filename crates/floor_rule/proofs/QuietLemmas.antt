@@ -4,21 +4,22 @@ use Rattle.std.specs.Prelude.{◌==◌, slice_get, count_by}
 use Rattle.std.proofs.lemmas.Bool.{cases_eq, ltb-true, ltb-false}
 use Rattle.std.proofs.lemmas.List.Sums.{sum_by-append}
 use Rattle.std.proofs.lemmas.Option.{slice_get_within}
-use Rattle.twe_limits.specs.Limits.{Bounds}
+use Rattle.twe_base.specs.Limits.{Bounds}
 use Rattle.twe_program.specs.Program.{Program}
 use Rattle.twe_machine.specs.declared.state.State.{State}
 use Rattle.twe_machine.specs.declared.state.TaskRow.{TaskRow}
 use Rattle.twe_machine.specs.Rows.{IsRow}
 use Rattle.twe_machine.specs.Runs.{IsRun}
-use Rattle.twe_machine.proofs.Places.{got_one}
-use Rattle.journal_merge.specs.declared.numbered.NumberedEntry.{NumberedEntry}
-use Rattle.journal_merge.specs.Merging.{has_number, journal_of, prints_of}
+use Rattle.twe_machine.proofs.lists.Places.{got_one}
+use Rattle.seg_journal.specs.declared.numbered.NumberedEntry.{NumberedEntry}
+use Rattle.seg_journal.specs.Merging.{has_number, journal_of, prints_of}
 use Rattle.floor_rule.specs.Floors.{Floor, Home, Away, Empty, Holds, TurnWord, Free, Taken, New, put}
-use Rattle.floor_rule.specs.Fitting.{Fits, HomeFits, PhaseFits, TurnFits}
+use Rattle.floor_rule.specs.Fitting.{FloorFits, HomeFits, PhaseFits, TurnFits}
 use Rattle.floor_rule.specs.Rows.{slot_of}
 use Rattle.floor_rule.specs.Rule.{AreInOrder, KeepsRule, LiesInParts, times_drawn}
 use Rattle.floor_rule.specs.Steps.{IsQuiet, ShowsState, floor_at, home_at_start, phase_at_start, turn_at_start}
-use Rattle.floor_rule.specs.Touches.{IsAmong, cell_at}
+use Rattle.admission_laws.specs.admission_core.States.{IsAmong}
+use Rattle.floor_rule.specs.Touches.{cell_at}
 use Rattle.floor_rule.proofs.Puts.{none_some, put_all}
 use Rattle.floor_rule.proofs.TurnSteps.{row_phase_fits}
 
@@ -56,7 +57,7 @@ module _ (p : Program) (lim : Bounds) (log : List NumberedEntry) (st : State) wh
   phase_starts t None is = tt
   phase_starts t (Some row) is = row_phase_fits st t row is
 
-  starts_fit : Fits p st (floor_at log st)
+  starts_fit : FloorFits p st (floor_at log st)
   starts_fit = record {
     asked = refl;
     one_holder = λ i j t turn other at. absurd (none_some at);
@@ -150,7 +151,7 @@ module _ (p : Program) (lim : Bounds) (log : List NumberedEntry) (st : State) wh
     parts = starts_lie order;
     entries = refl;
     prints = ap (λ (s : State). s.prints) (sym run.same) ∙ prints;
-    fits = subst (λ (s : State). Fits p s (floor_at log st)) run.same starts_fit;
+    fits = subst (λ (s : State). FloorFits p s (floor_at log st)) run.same starts_fit;
   }
 
 -- Quiet points.
@@ -164,7 +165,7 @@ same_cells (x ∷ a) (y ∷ b) size same =
     let rest : a ≡ b = same_cells a b (omega (arith, size)) (λ c. same (suc c)) in
     λ k. first k ∷ rest k
 
-module _ (p : Program) (st : State) (f : Floor) (fits : Fits p st f) (quiet : IsQuiet f) where
+module _ (p : Program) (st : State) (f : Floor) (fits : FloorFits p st f) (quiet : IsQuiet f) where
   free_by : (t : ℕ) (row : TaskRow) → IsRow st t row → (word : TurnWord) → TurnFits st f.held f.workers t word → word ≡ Free
   free_by t row there Free fits_word = refl
   free_by t row there (Taken worker) fits_word = absurd (none_some (sym (quiet.no_turns fits_word.by.seat t) ∙ fits_word.by.has))

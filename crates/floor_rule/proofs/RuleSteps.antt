@@ -4,45 +4,46 @@ use Rattle.std.specs.Prelude.{◌==◌, slice_get, count_by}
 use Rattle.std.proofs.lemmas.Bool.{cases_eq, le-ltb, lt-ltb, ltb-false, ltb-true}
 use Rattle.std.proofs.lemmas.List.{append-nil, map-append}
 use Rattle.std.proofs.lemmas.List.Sums.{sum_by-append}
-use Rattle.twe_io.specs.declared.place.Place.{Place}
+use Rattle.twe_base.specs.declared.place.Place.{Place}
 use Rattle.effect_sets.specs.declared.effects.Summary.{Summary}
-use Rattle.twe_limits.specs.Limits.{Bounds}
+use Rattle.twe_base.specs.Limits.{Bounds}
 use Rattle.seg_journal.specs.declared.journal.Entry.{Entry}
 use Rattle.seg_journal.specs.declared.journal.End.{End}
 use Rattle.seg_journal.specs.declared.moves.Kind.TheVariants.{Run}
 use Rattle.seg_journal.specs.declared.moves.Move.{Move}
 use Rattle.twe_program.specs.Program.{Program}
 use Rattle.twe_program.specs.WellFormed.{IsWellFormed}
-use Rattle.soundness_laws.specs.KeepsEffects.{KeepsEffects}
+use Rattle.isolation_laws.specs.soundness.KeepsEffects.{KeepsEffects}
 use Rattle.seg_exec.specs.declared.frame.Frame.{Frame}
 use Rattle.seg_exec.specs.declared.stop.Stop.{Stop}
 use Rattle.seg_exec.specs.declared.stop.Stop.TheVariants as stops
 use Rattle.seg_exec.specs.Access.{Access, Reads, Writes, after}
-use Rattle.soundness_laws.specs.DeclaredNow.{access_of}
+use Rattle.isolation_laws.specs.soundness.DeclaredNow.{access_of}
 use Rattle.twe_machine.specs.declared.state.State.{State}
 use Rattle.twe_machine.specs.Changes.{IsDoneWith}
 use Rattle.twe_machine.specs.Moves.{new_row, parent_of, result_by_kind}
 use Rattle.twe_machine.specs.Rows.{LinksAgree}
 use Rattle.twe_machine.specs.Runs.{IsReached, IsRun, entry_of, state_after}
-use Rattle.twe_machine.proofs.Places.{count_put, put_before, put_cases, put_last}
-use Rattle.twe_machine.proofs.ReachedStands.{reached_stands}
-use Rattle.twe_machine.proofs.Replayed.{run_more}
+use Rattle.twe_machine.proofs.lists.Places.{count_put, put_before, put_cases, put_last}
+use Rattle.twe_machine.proofs.standing.ReachedStands.{reached_stands}
+use Rattle.twe_machine.proofs.replays.Replayed.{run_more}
 use Rattle.isolation_laws.specs.Conflicts.{MoversApart}
 use Rattle.isolation_laws.specs.CoveredNow.{CoveredNow}
 use Rattle.isolation_laws.proofs.running.Covered.{reached_covered}
 use Rattle.isolation_laws.proofs.running.Movers.{movers_apart}
-use Rattle.journal_merge.specs.declared.numbered.NumberedEntry.{NumberedEntry}
-use Rattle.journal_merge.specs.Merging.{has_number, journal_of, prints_of}
+use Rattle.seg_journal.specs.declared.numbered.NumberedEntry.{NumberedEntry}
+use Rattle.seg_journal.specs.Merging.{has_number, journal_of, prints_of}
 use Rattle.floor_rule.specs.declared.view.HeldTurn.{HeldTurn}
 use Rattle.floor_rule.specs.declared.view.OpenSegment.{OpenSegment}
 use Rattle.floor_rule.specs.declared.view.Phase.{Phase}
 use Rattle.floor_rule.specs.declared.view.Phase.TheVariants.{Done}
 use Rattle.floor_rule.specs.Floors.{Floor, Free, Holds, put}
-use Rattle.floor_rule.specs.Fitting.{Fits}
+use Rattle.floor_rule.specs.Fitting.{FloorFits}
 use Rattle.floor_rule.specs.Rows.{slot_of}
 use Rattle.floor_rule.specs.Rule.{KeepsRule, LiesInParts, times_drawn}
-use Rattle.floor_rule.specs.Steps.{HasNoTurn, MayCommit, MayGive, MayJoin, MayStorePhase, MayTouch, after_entry, after_finding_done, after_giving, after_join, after_load, after_phase, after_split, after_store, after_taking, entry_drawn, with_child, without_child}
-use Rattle.floor_rule.specs.Touches.{IsAmong, accesses_of, cell_at, is_written}
+use Rattle.floor_rule.specs.Steps.{HasNoTurn, MayCommit, MayGive, MayJoin, MayStorePhase, MayTouch, after_entry, after_finding_done, after_giving, after_join, after_load, after_phase, after_split, after_store, after_taking, entry_drawn, row_with_child, without_child}
+use Rattle.admission_laws.specs.admission_core.States.{IsAmong}
+use Rattle.floor_rule.specs.Touches.{accesses_of, cell_at, is_written}
 use Rattle.floor_rule.proofs.Puts.{put_all, put_else, put_here, put_was}
 use Rattle.floor_rule.proofs.AccessLemmas.{writer_of}
 use Rattle.floor_rule.proofs.SegmentLemmas.{access_covered, clash, open_accesses}
@@ -275,7 +276,7 @@ module _ (p : Program) (well : IsWellFormed p) (keeps : KeepsEffects p) (lim : B
   apart = movers_apart p well keeps lim (state_after p lim (journal_of log)) reached
 
   -- a step that draws no entry
-  keep : (g : Floor) → g.entries ≡ f.entries → LiesInParts log g.parts → Fits p (state_after p lim (journal_of log)) g → KeepsRule p lim log g
+  keep : (g : Floor) → g.entries ≡ f.entries → LiesInParts log g.parts → FloorFits p (state_after p lim (journal_of log)) g → KeepsRule p lim log g
   keep g entries parts fits = record {
     legal = rule.legal;
     numbers = rule.numbers;
@@ -355,7 +356,7 @@ module _ (p : Program) (well : IsWellFormed p) (keeps : KeepsEffects p) (lim : B
     run_is : IsRun p lim (journal_of (log ++ e ∷ [])) (result_by_kind p lim st Run t).0
     run_is = subst (λ (journal : List Entry). IsRun p lim journal (result_by_kind p lim st Run t).0) journal_same run_then
 
-    drawn : (g : Floor) → g.parts ≡ put f.parts i (f.parts i ++ e ∷ []) → g.entries ≡ f.entries + 1 → Fits p (result_by_kind p lim st Run t).0 g → KeepsRule p lim (log ++ e ∷ []) g
+    drawn : (g : Floor) → g.parts ≡ put f.parts i (f.parts i ++ e ∷ []) → g.entries ≡ f.entries + 1 → FloorFits p (result_by_kind p lim st Run t).0 g → KeepsRule p lim (log ++ e ∷ []) g
     drawn g parts entries fits = record {
       legal = run_is.legal;
       numbers = λ n x at.
@@ -368,14 +369,14 @@ module _ (p : Program) (well : IsWellFormed p) (keeps : KeepsEffects p) (lim : B
       prints =
           ap (λ (s : State). s.prints) (sym run_is.same)
           ∙ (prints_are p well lim st reached apart f rule.fits i t turn frame stop may ∙ (ap (λ (l : List ℤ). l ++ frame.prints) rule.prints ∙ sym (prints_more log e)));
-      fits = subst (λ (s : State). Fits p s g) run_is.same fits;
+      fits = subst (λ (s : State). FloorFits p s g) run_is.same fits;
     }
 
   module _ (i t : ℕ) (turn : HeldTurn) (frame : Frame) where
     abbrev made_by_stop : Bool → Frame → List ℤ → Summary → Bool → ℕ → Place → Floor
     made_by_stop b child args effects spawned future place =
         let drawn_floor = without_child lim f i t turn frame (stops.Make child args effects spawned future place) in
-        cond {A = Floor} b (with_child drawn_floor i (f.asked + 1) (new_row lim (f.asked + 1) (parent_of t spawned) child args effects)) drawn_floor
+        cond {A = Floor} b (row_with_child drawn_floor i (f.asked + 1) (new_row lim (f.asked + 1) (parent_of t spawned) child args effects)) drawn_floor
 
     parts_made : (b : Bool) (child : Frame) (args : List ℤ) (effects : Summary) (spawned : Bool) (future : ℕ) (place : Place)
         → (made_by_stop b child args effects spawned future place).parts ≡ put f.parts i (f.parts i ++ entry_drawn lim f t frame (stops.Make child args effects spawned future place) ∷ [])

@@ -13,14 +13,14 @@ use Rattle.twe_machine.specs.declared.state.TaskStatus.TheVariants as status
 use Rattle.twe_machine.specs.Changes.{IsDoneWith}
 use Rattle.twe_machine.specs.Legal.{MayRun}
 use Rattle.twe_machine.specs.Moves.{awaited_value, ready_frame, value_of}
-use Rattle.twe_machine.specs.Rows.{IsRow, LinksAgree, awaited, is_done_status}
-use Rattle.twe_machine.proofs.Places.{got_one}
+use Rattle.twe_machine.specs.Rows.{IsRow, LinksAgree, row_awaited, is_done_status}
+use Rattle.twe_machine.proofs.lists.Places.{got_one}
 use Rattle.isolation_laws.proofs.rows.LinksOfRows.{link_there}
 use Rattle.floor_rule.specs.declared.view.DoneFact.{DoneFact}
 use Rattle.floor_rule.specs.declared.view.HeldTurn.{HeldTurn}
 use Rattle.floor_rule.specs.Fitting.{IsOpen, KnowsAwaited, MayRunFrom, RowIs}
 use Rattle.floor_rule.specs.Rows.{unmarked}
-use Rattle.floor_rule.specs.Touches.{IsAmong}
+use Rattle.admission_laws.specs.admission_core.States.{IsAmong}
 use Rattle.floor_rule.proofs.Puts.{some_one}
 
 -- all of these facts are among those
@@ -39,12 +39,12 @@ knows_more facts more (Some u) value among knows = among (record { task = u; val
 pub may_still : (turn other : HeldTurn) (facts more : List DoneFact) (ready : Frame) → other.first ≡ turn.first → other.row ≡ turn.row → AreAmong facts more
     → MayRunFrom turn facts ready → MayRunFrom other more ready
 may_still turn other facts more ready first row among may =
-    let on : awaited turn.row.frame.next ≡ awaited other.row.frame.next = ap (λ (r : TaskRow). awaited r.frame.next) (sym row) in
+    let on : row_awaited turn.row.frame.next ≡ row_awaited other.row.frame.next = ap (λ (r : TaskRow). row_awaited r.frame.next) (sym row) in
     record {
       taken = first ∙ may.taken;
       enabled = ap (λ (r : TaskRow). r.status) row ∙ may.enabled;
       value = may.value;
-      known = subst (λ (o : Option ℕ). KnowsAwaited more o may.value) on (knows_more facts more (awaited turn.row.frame.next) may.value among may.known);
+      known = subst (λ (o : Option ℕ). KnowsAwaited more o may.value) on (knows_more facts more (row_awaited turn.row.frame.next) may.value among may.known);
       frame = may.frame ∙ ap (λ (r : TaskRow). given r.frame may.value) (sym row);
     }
 
@@ -91,7 +91,7 @@ runs st t turn facts ready agree hold known may =
     let row = known.row in
     let frame : turn.row.frame ≡ row.frame = sym (ap (λ (r : TaskRow). r.frame) known.same) in
     let enabled : row.status ≡ status.Enabled = ap (λ (r : TaskRow). r.status) known.same ∙ may.enabled in
-    let knows : KnowsAwaited facts (awaited row.frame.next) may.value = subst (λ (fr : Frame). KnowsAwaited facts (awaited fr.next) may.value) frame may.known in
+    let knows : KnowsAwaited facts (row_awaited row.frame.next) may.value = subst (λ (fr : Frame). KnowsAwaited facts (row_awaited fr.next) may.value) frame may.known in
     record {
       row = row;
       there = known.there;
@@ -99,12 +99,12 @@ runs st t turn facts ready agree hold known may =
       may = (
         (row, known.there, enabled),
         λ u waits.
-            let on : awaited row.frame.next ≡ Some u = sym (ap (λ (l : Link). l.waits) (link_there st agree t row known.there)) ∙ waits.waits in
-            let done = awaits_done st facts agree hold (awaited row.frame.next) may.value knows u on in
+            let on : row_awaited row.frame.next ≡ Some u = sym (ap (λ (l : Link). l.waits) (link_there st agree t row known.there)) ∙ waits.waits in
+            let done = awaits_done st facts agree hold (row_awaited row.frame.next) may.value knows u on in
             let no : true ≡ false = sym done ∙ waits.undone in
             absurd (cc),
       );
-      frame = may.frame ∙ (ap (λ (fr : Frame). given fr may.value) frame ∙ ap (given row.frame) (value_awaited st facts (awaited row.frame.next) may.value hold knows));
+      frame = may.frame ∙ (ap (λ (fr : Frame). given fr may.value) frame ∙ ap (given row.frame) (value_awaited st facts (row_awaited row.frame.next) may.value hold knows));
     }
 
 -- a task has one frame to start its next segment from

@@ -2,12 +2,12 @@
 -- it, and what one segment does leaves what the others know.
 use Rattle.std.proofs.Common.{◌≡◌, ◌≢◌, ◌⊎◌, ℕ, ℤ, Bool, true, false, List, length, Contains, Option, None, Some, refl, sym, ap, subst, ◌∙◌, inl, inr, ⊎_elim}
 use Rattle.std.proofs.lemmas.Bool.{cases_eq}
-use Rattle.effect_sets.specs.Access.{Access as PathAccess, Conflict}
+use Rattle.effect_sets.specs.Access.{PathAccess as PathAccess, Conflict}
 use Rattle.twe_program.specs.Program.{Program}
 use Rattle.seg_exec.specs.declared.frame.Frame.{Frame}
 use Rattle.seg_exec.specs.Access.{Access, Reads, Writes, Agrees, after}
 use Rattle.seg_exec.specs.Segment.{segment}
-use Rattle.soundness_laws.specs.DeclaredNow.{access_of}
+use Rattle.isolation_laws.specs.soundness.DeclaredNow.{access_of}
 use Rattle.twe_machine.specs.declared.state.State.{State}
 use Rattle.twe_machine.specs.Rows.{LinksAgree}
 use Rattle.isolation_laws.specs.Conflicts.{AccessesAreCovered, Makes, MoversApart}
@@ -15,9 +15,10 @@ use Rattle.isolation_laws.specs.CoveredNow.{CoveredNow}
 use Rattle.floor_rule.specs.declared.view.HeldTurn.{HeldTurn}
 use Rattle.floor_rule.specs.declared.view.OpenSegment.{OpenSegment}
 use Rattle.floor_rule.specs.Floors.{Floor, put}
-use Rattle.floor_rule.specs.Fitting.{Fits, MayRunFrom, NobodyWrote, OthersHold, ReadsHold, WrittenHold}
+use Rattle.floor_rule.specs.Fitting.{FloorFits, MayRunFrom, NobodyWrote, OthersHold, ReadsHold, WrittenHold}
 use Rattle.floor_rule.specs.Steps.{IsOwn}
-use Rattle.floor_rule.specs.Touches.{IsAccessFrom, IsAmong, accesses_of, cell_at, is_written, touches_of}
+use Rattle.admission_laws.specs.admission_core.States.{IsAmong}
+use Rattle.floor_rule.specs.Touches.{IsAccessFrom, accesses_of, cell_at, is_written, touches_of}
 use Rattle.floor_rule.proofs.Puts.{none_some, put_else, put_was}
 use Rattle.floor_rule.proofs.RunLemmas.{Runs, one_ready, runs}
 use Rattle.floor_rule.proofs.AccessLemmas.{after_length, after_unwritten, after_written, agrees_over, writer_of}
@@ -30,7 +31,7 @@ bool_cases false = inr refl
 abbrev pub open_accesses : Floor → ℕ → List Access
 open_accesses f i = accesses_of (touches_of (f.segments i))
 
-module _ (p : Program) (st : State) (f : Floor) (fits : Fits p st f) (agree : LinksAgree st) (apart : MoversApart p st) where
+module _ (p : Program) (st : State) (f : Floor) (fits : FloorFits p st f) (agree : LinksAgree st) (apart : MoversApart p st) where
   pub runs_of : (i t : ℕ) (turn : HeldTurn) (ready : Frame) → f.held i t ≡ Some turn → MayRunFrom turn (f.facts i) ready → Runs st t turn ready
   runs_of i t turn ready has may = runs st t turn (f.facts i) ready agree (fits.facts i) (fits.rows i t turn has) may
 

@@ -3,19 +3,19 @@ use Rattle.std.proofs.Common.{◌≡◌, ◌≢◌, ◌⊎◌, ◌<◌, ◌==◌
 use Rattle.std.specs.Prelude.{pos, slice_get}
 use Rattle.std.specs.List.{list_any}
 use Rattle.std.proofs.lemmas.Option.{slice_get_within}
-use Rattle.twe_limits.specs.Limits.{Bounds}
+use Rattle.twe_base.specs.Limits.{Bounds}
 use Rattle.twe_program.specs.Program.{Program}
 use Rattle.twe_program.specs.WellFormed.{IsWellFormed}
 use Rattle.twe_machine.specs.declared.state.State.{State}
 use Rattle.twe_machine.specs.declared.state.TaskRow.{TaskRow}
 use Rattle.twe_machine.specs.declared.state.TaskStatus.{TaskStatus}
 use Rattle.twe_machine.specs.declared.state.TaskStatus.TheVariants as status
-use Rattle.twe_machine.specs.Rows.{IsRow, awaited}
+use Rattle.twe_machine.specs.Rows.{IsRow, row_awaited}
 use Rattle.twe_machine.specs.Runs.{IsReached}
-use Rattle.twe_machine.proofs.Members.{IsIn, any_in, contains_in, in_contains, none_in}
-use Rattle.twe_machine.proofs.Places.{below_there, got_one}
-use Rattle.twe_machine.proofs.ReachedStands.{reached_stands}
-use Rattle.twe_machine.proofs.Standing.{IsChild, Stands}
+use Rattle.twe_machine.proofs.lists.Members.{IsIn, any_in, contains_in, in_contains, none_in}
+use Rattle.twe_machine.proofs.lists.Places.{below_there, got_one}
+use Rattle.twe_machine.proofs.standing.ReachedStands.{reached_stands}
+use Rattle.twe_machine.proofs.standing.Standing.{IsChild, Stands}
 use Rattle.floor_rule.specs.Rows.{phase_at, phase_of, slot_of}
 use Rattle.floor_rule.specs.Shown.{has_child, is_joined, is_unjoined, row_by, status_by, value_by}
 use Rattle.floor_rule.proofs.DoneValues.{reached_has}
@@ -129,9 +129,9 @@ module _ (p : Program) (lim : Bounds) (well : IsWellFormed p) (st : State) (reac
   row_shown t row there =
       let joined = joined_shown t row there in
       let out = out_is t row there in
-      let status_is = sym (status_again row.status (awaited row.frame.next)) in
+      let status_is = sym (status_again row.status (row_awaited row.frame.next)) in
       let value =
-      sym (value_again row.status (awaited row.frame.next) row.frame.value row.value (λ done. reached_has p lim well st reached t row there done) (reached_plain p lim well st reached t row there).value) in
+      sym (value_again row.status (row_awaited row.frame.next) row.frame.value row.value (λ done. reached_has p lim well st reached t row there done) (reached_plain p lim well st reached t row there).value) in
       λ i. record {
         decl = row.decl;
         args = row.args;

@@ -8,8 +8,8 @@ use Rattle.twe_machine.specs.declared.state.TaskRow.{TaskRow}
 use Rattle.twe_machine.specs.declared.state.TaskStatus.{TaskStatus}
 use Rattle.twe_machine.specs.declared.state.TaskStatus.TheVariants as status
 use Rattle.twe_machine.specs.Changes.{IsDoneWith}
-use Rattle.twe_machine.specs.Rows.{HasStatus, IsRow, awaited}
-use Rattle.twe_machine.proofs.Places.{got_one}
+use Rattle.twe_machine.specs.Rows.{HasStatus, IsRow, row_awaited}
+use Rattle.twe_machine.proofs.lists.Places.{got_one}
 use Rattle.std.proofs.lemmas.Option.{slice_get_within}
 use Rattle.floor_rule.specs.declared.view.DoneFact.{DoneFact}
 use Rattle.floor_rule.specs.declared.view.HeldTurn.{HeldTurn}
@@ -18,10 +18,11 @@ use Rattle.floor_rule.specs.declared.view.Phase.{Phase}
 use Rattle.floor_rule.specs.declared.view.Phase.TheVariants.{Done}
 use Rattle.floor_rule.specs.declared.view.TaskSlot.{TaskSlot}
 use Rattle.floor_rule.specs.Floors.{Floor, Home, Away, Empty, Holds, TurnWord, Free, Taken, New, put, put_turn}
-use Rattle.floor_rule.specs.Fitting.{Fits, FactsHold, HomeFits, IsHeld, IsMade, IsUnheld, PhaseFits, SegmentsAreOpen, SlotIs, TurnFits, Turns}
+use Rattle.floor_rule.specs.Fitting.{FloorFits, FactsHold, HomeFits, IsHeld, IsMade, IsUnheld, PhaseFits, SegmentsAreOpen, SlotIs, TurnFits, Turns}
 use Rattle.floor_rule.specs.Rows.{phase_at, phase_of, slot_of, unmarked}
 use Rattle.floor_rule.specs.Steps.{MayGive, MayJoin, MayStorePhase, HasNoTurn, after_finding_done, after_giving, after_join, after_phase, after_split, after_taking, with_row}
-use Rattle.floor_rule.specs.Touches.{IsAmong, accesses_of}
+use Rattle.admission_laws.specs.admission_core.States.{IsAmong}
+use Rattle.floor_rule.specs.Touches.{accesses_of}
 use Rattle.floor_rule.proofs.Puts.{none_some, put_all, put_else, put_here, some_one}
 use Rattle.floor_rule.proofs.RunLemmas.{AllHold, AreAmong, open_still}
 use Rattle.floor_rule.proofs.TurnLemmas.{held_else, held_replaced, one_holder_put, phases_put, rows_put, turn_fits_else, turn_fits_replaced, turn_here, turn_of_other, turn_was, turns_elsewhere, unheld_else, unheld_replaced}
@@ -54,7 +55,7 @@ given_away held i t alone j =
     ap (λ (g : ℕ → Option HeldTurn). g t) (turns_elsewhere held i t None j differ) ∙ none_of (held j t) (λ other at. differ (alone j other at)))
     (cases_eq j i)
 
-phase_by : (st : State) (t : ℕ) (row : TaskRow) → IsRow st t row → (to : TaskStatus) (on : Option ℕ) → row.status ≡ to → awaited row.frame.next ≡ on → PhaseFits st t (phase_at to on)
+phase_by : (st : State) (t : ℕ) (row : TaskRow) → IsRow st t row → (to : TaskStatus) (on : Option ℕ) → row.status ≡ to → row_awaited row.frame.next ≡ on → PhaseFits st t (phase_at to on)
 phase_by st t row there status.Made on is waits = slice_get_within st.tasks t row there
 phase_by st t row there status.Enabled None is waits = slice_get_within st.tasks t row there
 phase_by st t row there status.Enabled (Some u) is waits = record { row = row; there = there; enabled = is; on = waits }
@@ -63,9 +64,9 @@ phase_by st t row there status.Faulted on is waits = (row, there, is)
 
 -- the phase that its row gives a task fits
 pub row_phase_fits : (st : State) (t : ℕ) (row : TaskRow) → IsRow st t row → PhaseFits st t (phase_of row)
-row_phase_fits st t row there = phase_by st t row there row.status (awaited row.frame.next) refl refl
+row_phase_fits st t row there = phase_by st t row there row.status (row_awaited row.frame.next) refl refl
 
-module _ (p : Program) (st : State) (f : Floor) (fits : Fits p st f) where
+module _ (p : Program) (st : State) (f : Floor) (fits : FloorFits p st f) where
   free_fits : (t : ℕ) → f.turns t ≡ Free → IsMade st t × IsUnheld f.held t
   free_fits t is = subst (TurnFits st f.held f.workers t) is (fits.turns t)
 
@@ -102,7 +103,7 @@ module _ (p : Program) (st : State) (f : Floor) (fits : Fits p st f) where
       before
 
   -- Taking.
-  pub taking : (i t : ℕ) → f.turns t ≡ Free → (turn : HeldTurn) × (turn.first ≡ false) × (f.homes t ≡ Holds (slot_of turn.row)) × Fits p st (after_taking f i t turn)
+  pub taking : (i t : ℕ) → f.turns t ≡ Free → (turn : HeldTurn) × (turn.first ≡ false) × (f.homes t ≡ Holds (slot_of turn.row)) × FloorFits p st (after_taking f i t turn)
   taking i t free =
       let here = free_fits t free in
       let home = home_of t here.0 here.1 (f.homes t) refl in
@@ -170,7 +171,7 @@ module _ (p : Program) (st : State) (f : Floor) (fits : Fits p st f) where
   more_put : (i : ℕ) (facts : List DoneFact) → AreAmong (f.facts i) facts → (j : ℕ) → AreAmong (f.facts j) (put f.facts i facts j)
   more_put i facts more = put_all (λ (j : ℕ) (known : List DoneFact). AreAmong (f.facts j) known) f.facts i facts more (λ j other. all_same (f.facts j))
 
-  pub giving : (i t : ℕ) (turn : HeldTurn) → MayGive f i t turn → Fits p st (after_giving f i t turn)
+  pub giving : (i t : ℕ) (turn : HeldTurn) → MayGive f i t turn → FloorFits p st (after_giving f i t turn)
   giving i t turn may =
       let set : Turns = put_turn f.held i t None in
       let known = fits.rows i t turn may.has in
@@ -253,7 +254,7 @@ module _ (p : Program) (st : State) (f : Floor) (fits : Fits p st f) where
         (all_same (f.facts j))
         before
 
-  pub storing_phase : (i t : ℕ) (turn : HeldTurn) (phase : Phase) → MayStorePhase f i t turn phase → Fits p st (after_phase f i t turn phase)
+  pub storing_phase : (i t : ℕ) (turn : HeldTurn) (phase : Phase) → MayStorePhase f i t turn phase → FloorFits p st (after_phase f i t turn phase)
   storing_phase i t turn phase may =
       let new : HeldTurn = record turn { phase = phase } in
       let known = fits.rows i t turn may.has in
@@ -285,7 +286,7 @@ module _ (p : Program) (st : State) (f : Floor) (fits : Fits p st f) where
       }
 
   -- Whoever finds the phase `Done` knows the task's value.
-  pub finding_done : (i t : ℕ) → f.phases t ≡ Done → (value : ℤ) × IsDoneWith st t value × Fits p st (after_finding_done f i t value)
+  pub finding_done : (i t : ℕ) → f.phases t ≡ Done → (value : ℤ) × IsDoneWith st t value × FloorFits p st (after_finding_done f i t value)
   finding_done i t is =
       let done : HasStatus st t status.Done = subst (PhaseFits st t) is (fits.phases t) in
       let value : ℤ = (done.0).value in
@@ -326,7 +327,7 @@ module _ (p : Program) (st : State) (f : Floor) (fits : Fits p st f) where
       let other : here.by.seat ≢ i = λ same. none_some (sym (none t) ∙ (ap (λ (n : ℕ). f.held n t) (sym same) ∙ here.by.has)) in
       record { by = here.by; taken = here.taken; worker_is = put_else f.workers i here.by.seat worker other ∙ here.worker_is }
 
-  pub splitting : (i worker : ℕ) → HasNoTurn f i → Fits p st (after_split f i worker)
+  pub splitting : (i worker : ℕ) → HasNoTurn f i → FloorFits p st (after_split f i worker)
   splitting i worker none = record {
     asked = fits.asked;
     one_holder = fits.one_holder;
@@ -354,7 +355,7 @@ module _ (p : Program) (st : State) (f : Floor) (fits : Fits p st f) where
   both_hold (x ∷ a) b here there fact (inl same) = here fact (inl same)
   both_hold (x ∷ a) b here there fact (inr later) = both_hold a b (λ y among. here y (inr among)) there fact later
 
-  pub joining : (i j : ℕ) → MayJoin f i j → Fits p st (after_join f i j)
+  pub joining : (i j : ℕ) → MayJoin f i j → FloorFits p st (after_join f i j)
   joining i j may =
       let both : List DoneFact = f.facts i ++ f.facts j in
       let facts : ℕ → List DoneFact = put (put f.facts i both) j [] in

@@ -8,7 +8,7 @@ use Rattle.twe_machine.specs.declared.state.State.{State}
 use Rattle.twe_machine.specs.declared.state.TaskRow.{TaskRow}
 use Rattle.twe_machine.specs.declared.state.TaskStatus.TheVariants as status
 use Rattle.twe_machine.specs.Changes.{IsDoneWith}
-use Rattle.twe_machine.specs.Rows.{HasStatus, IsRow, awaited}
+use Rattle.twe_machine.specs.Rows.{HasStatus, IsRow, row_awaited}
 use Rattle.floor_rule.specs.declared.view.DoneFact.{DoneFact}
 use Rattle.floor_rule.specs.declared.view.HeldTurn.{HeldTurn}
 use Rattle.floor_rule.specs.declared.view.OpenSegment.{OpenSegment}
@@ -17,7 +17,8 @@ use Rattle.floor_rule.specs.declared.view.Phase.TheVariants.{Absent, Made, Runni
 use Rattle.floor_rule.specs.declared.view.TaskSlot.{TaskSlot}
 use Rattle.floor_rule.specs.Floors.{Floor, Home, Away, Empty, Holds, TurnWord, Free, Taken, New}
 use Rattle.floor_rule.specs.Rows.{phase_of, slot_of, unmarked}
-use Rattle.floor_rule.specs.Touches.{IsAccessFrom, IsAmong, accesses_of, cell_at, is_written}
+use Rattle.admission_laws.specs.admission_core.States.{IsAmong}
+use Rattle.floor_rule.specs.Touches.{IsAccessFrom, accesses_of, cell_at, is_written}
 
 -- the turns of all seats, by seat and task
 abbrev pub Turns : Type 0
@@ -54,6 +55,8 @@ pub record IsFirstHeld (held : Turns) (t : ℕ) : Type 0 where
   pub by : IsHeld held t
   pub first : by.turn.first ≡ true
 
+-- The turn word of task t fits the turns of the seats: a free turn is at no seat and t is made, a taken one is at the seat of
+-- the worker that the word names, and the turn of a new task is at no seat before t is made, or a first turn.
 abbrev pub TurnFits : State → Turns → (ℕ → ℕ) → ℕ → TurnWord → Type 0
 TurnFits st held workers t Free = IsMade st t × IsUnheld held t
 TurnFits st held workers t (Taken worker) = IsTakenBy held workers worker t
@@ -67,6 +70,7 @@ pub record RowIs (st : State) (t : ℕ) (known : TaskRow) : Type 0 where
   pub there : IsRow st t row
   pub same : unmarked row ≡ known
 
+-- each seat knows the row of each task whose turn it has
 abbrev pub RowsAreKnown : State → Turns → Type 0
 RowsAreKnown st held = (i t : ℕ) (turn : HeldTurn) → held i t ≡ Some turn → RowIs st t turn.row
 
@@ -76,6 +80,8 @@ pub record SlotIs (st : State) (t : ℕ) (slot : TaskSlot) : Type 0 where
   pub there : IsRow st t row
   pub same : slot ≡ slot_of row
 
+-- The slot of task t fits the turns: it is out while a seat has the turn, empty while t is not made, and else it holds what
+-- t's row says.
 abbrev pub HomeFits : State → Turns → ℕ → Home → Type 0
 HomeFits st held t Away = IsHeld held t
 HomeFits st held t Empty = length st.tasks ≤ t
@@ -84,17 +90,19 @@ HomeFits st held t (Holds slot) = IsUnheld held t × SlotIs st t slot
 -- Phases.
 
 -- task t is enabled, and its next operation is a wait for u
-pub record WaitsAt (st : State) (t u : ℕ) : Type 0 where
+pub record PhaseWaitsAt (st : State) (t u : ℕ) : Type 0 where
   pub row : TaskRow
   pub there : IsRow st t row
   pub enabled : row.status ≡ status.Enabled
-  pub on : awaited row.frame.next ≡ Some u
+  pub on : row_awaited row.frame.next ≡ Some u
 
+-- What the phase word of task t says holds in the state. `Absent` says nothing; `Made` and `Running` say that t was made, since
+-- either may be old; the end of a task, or that it waits, is true as long as the word says it.
 abbrev pub PhaseFits : State → ℕ → Phase → Type 0
 PhaseFits st t Absent = Unit {0}
 PhaseFits st t Made = IsMade st t
 PhaseFits st t Running = IsMade st t
-PhaseFits st t (Waits u) = WaitsAt st t u
+PhaseFits st t (Waits u) = PhaseWaitsAt st t u
 PhaseFits st t Done = HasStatus st t status.Done
 PhaseFits st t Faulted = HasStatus st t status.Faulted
 
@@ -119,18 +127,20 @@ pub record MayRunFrom (turn : HeldTurn) (facts : List DoneFact) (ready : Frame) 
   pub taken : turn.first ≡ false
   pub enabled : turn.row.status ≡ status.Enabled
   pub value : ℤ
-  pub known : KnowsAwaited facts (awaited turn.row.frame.next) value
+  pub known : KnowsAwaited facts (row_awaited turn.row.frame.next) value
   pub frame : ready ≡ given turn.row.frame value
 
 -- The segment of this task is open at a seat with these turns and facts: the seat may run it, and it has made no accesses
 -- but such as that segment makes.
-pub record IsOpen (p : Program) (turns : ℕ → Option HeldTurn) (facts : List DoneFact) (task : ℕ) (accesses : List Access) : Type 0 where
+pub record IsOpen (p : Program) (turns : ℕ → Option HeldTurn) (facts : List DoneFact) (task : ℕ)
+    (accesses : List Access) : Type 0 where
   pub turn : HeldTurn
   pub has : turns task ≡ Some turn
   pub ready : Frame
   pub may : MayRunFrom turn facts ready
   pub made : (access : Access) → IsAmong access accesses → IsAccessFrom p ready access
 
+-- each segment that a seat has open is one that the seat may run, with accesses that this segment makes
 abbrev pub SegmentsAreOpen : Program → Turns → (ℕ → List DoneFact) → (ℕ → Option OpenSegment) → Type 0
 SegmentsAreOpen p held facts segments =
     (i : ℕ) (s : OpenSegment) → segments i ≡ Some s → IsOpen p (held i) (facts i) s.task (accesses_of s.touches)
@@ -162,7 +172,7 @@ abbrev pub FactsHold : State → (ℕ → List DoneFact) → Type 0
 FactsHold st facts = (i : ℕ) (fact : DoneFact) → IsAmong fact (facts i) → IsDoneWith st fact.task fact.value
 
 -- The floor fits the state.
-pub record Fits (p : Program) (st : State) (f : Floor) : Type 0 where
+pub record FloorFits (p : Program) (st : State) (f : Floor) : Type 0 where
   pub asked : f.asked ≡ st.asked
   pub one_holder : OneHolder f.held
   pub turns : (t : ℕ) → TurnFits st f.held f.workers t (f.turns t)

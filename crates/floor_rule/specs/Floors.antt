@@ -1,6 +1,6 @@
 -- The floor as plain data: its words, its slots, and what each seat knows. Seats are numbered, and a worker has one each.
 use Rattle.std.specs.Prelude.{◌==◌, ℕ, ℤ, List, Option, if◌then◌else◌}
-use Rattle.journal_merge.specs.declared.numbered.NumberedEntry.{NumberedEntry}
+use Rattle.seg_journal.specs.declared.numbered.NumberedEntry.{NumberedEntry}
 use Rattle.floor_rule.specs.declared.view.DoneFact.{DoneFact}
 use Rattle.floor_rule.specs.declared.view.HeldTurn.{HeldTurn}
 use Rattle.floor_rule.specs.declared.view.OpenSegment.{OpenSegment}
@@ -24,6 +24,7 @@ pub data Home : Type 0 where
   Empty : Home
   Holds : (slot : TaskSlot) → Home
 
+-- the floor: its words and slots, and what each seat has and knows
 pub record Floor : Type 0 where
   -- the clock: how many entries were drawn, and how many tasks were asked for
   pub entries : ℕ

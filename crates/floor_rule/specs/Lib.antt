@@ -6,3 +6,4 @@ pub mod Rule
 pub mod Steps
 pub mod Shown
 pub mod LastTouches
+pub mod nodes

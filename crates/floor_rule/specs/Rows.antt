@@ -3,7 +3,7 @@ use Rattle.std.specs.Prelude.{ℕ, false, Option, None, Some}
 use Rattle.twe_machine.specs.declared.state.TaskRow.{TaskRow}
 use Rattle.twe_machine.specs.declared.state.TaskStatus.{TaskStatus}
 use Rattle.twe_machine.specs.declared.state.TaskStatus.TheVariants as status
-use Rattle.twe_machine.specs.Rows.{awaited}
+use Rattle.twe_machine.specs.Rows.{row_awaited}
 use Rattle.floor_rule.specs.declared.view.Phase.{Phase}
 use Rattle.floor_rule.specs.declared.view.Phase.TheVariants.{Made, Running, Waits, Done, Faulted}
 use Rattle.floor_rule.specs.declared.view.TaskSlot.{TaskSlot}
@@ -12,6 +12,7 @@ use Rattle.floor_rule.specs.declared.view.TaskSlot.{TaskSlot}
 abbrev pub unmarked : TaskRow → TaskRow
 unmarked row = record row { joined = false }
 
+-- the phase of a task with this status, whose next operation is a wait for this task, if it is a wait
 abbrev pub phase_at : TaskStatus → Option ℕ → Phase
 phase_at status.Made on = Made
 phase_at status.Enabled None = Running
@@ -21,7 +22,7 @@ phase_at status.Faulted on = Faulted
 
 -- what the phase word of a task with this row says while nobody has its turn
 abbrev pub phase_of : TaskRow → Phase
-phase_of row = phase_at row.status (awaited row.frame.next)
+phase_of row = phase_at row.status (row_awaited row.frame.next)
 
 -- what the slot of the task holds while nobody has its turn
 abbrev pub slot_of : TaskRow → TaskSlot

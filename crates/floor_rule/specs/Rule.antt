@@ -1,13 +1,13 @@
 -- The rule of the floor: what holds between any two atomic steps.
 use Rattle.std.specs.Prelude.{◌≡◌, ◌&&◌, ◌==◌, ℕ, List, length, Some, count_by, if◌then◌else◌, nat_lt, slice_get}
-use Rattle.twe_limits.specs.Limits.{Bounds}
+use Rattle.twe_base.specs.Limits.{Bounds}
 use Rattle.twe_program.specs.Program.{Program}
 use Rattle.twe_machine.specs.Runs.{Legal, state_after}
-use Rattle.journal_merge.specs.declared.numbered.NumberedEntry.{NumberedEntry}
-use Rattle.journal_merge.specs.Merging.{has_number, journal_of, prints_of}
+use Rattle.seg_journal.specs.declared.numbered.NumberedEntry.{NumberedEntry}
+use Rattle.seg_journal.specs.Merging.{has_number, journal_of, prints_of}
 use Rattle.floor_rule.specs.Floors.{Floor}
-use Rattle.floor_rule.specs.Fitting.{Fits}
-use Rattle.floor_rule.specs.Touches.{IsAmong}
+use Rattle.floor_rule.specs.Fitting.{FloorFits}
+use Rattle.admission_laws.specs.admission_core.States.{IsAmong}
 
 -- the entries have the numbers 0, 1 and so on, in this order
 abbrev pub AreInOrder : List NumberedEntry → Type 0
@@ -31,4 +31,4 @@ pub record KeepsRule (p : Program) (lim : Bounds) (log : List NumberedEntry) (f 
   pub parts : LiesInParts log f.parts
   pub entries : f.entries ≡ length log
   pub prints : (state_after p lim (journal_of log)).prints ≡ prints_of log
-  pub fits : Fits p (state_after p lim (journal_of log)) f
+  pub fits : FloorFits p (state_after p lim (journal_of log)) f

@@ -14,6 +14,7 @@ use Rattle.floor_rule.specs.declared.view.TaskSlot.{TaskSlot}
 
 -- Rows.
 
+-- the status of a task whose turn nobody has and whose phase word says this (no made task has the phase `Absent` then)
 abbrev pub status_by : Phase → TaskStatus
 status_by Absent = status.Made
 status_by Made = status.Made

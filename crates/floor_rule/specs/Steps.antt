@@ -1,7 +1,7 @@
 -- The kinds of step: what the seat that takes one has to know, and the floor after it.
 use Rattle.std.specs.Prelude.{◌≡◌, ◌≢◌, ◌⊎◌, ◌+◌, ◌++◌, ℕ, ℤ, true, List, [], ◌∷◌, length, Option, Some, None, if◌then◌else◌, nat_lt, slice_get, slice_set}
-use Rattle.twe_limits.specs.declared.fault.FaultKind.TheVariants.{TaskLimit}
-use Rattle.twe_limits.specs.Limits.{Bounds}
+use Rattle.twe_base.specs.declared.fault.FaultKind.TheVariants.{TaskLimit}
+use Rattle.twe_base.specs.Limits.{Bounds}
 use Rattle.seg_journal.specs.declared.journal.End.{End}
 use Rattle.seg_journal.specs.declared.journal.End.TheVariants as ends
 use Rattle.seg_journal.specs.declared.moves.Kind.TheVariants.{Run}
@@ -18,7 +18,7 @@ use Rattle.twe_machine.specs.declared.state.TaskStatus.TheVariants as status
 use Rattle.twe_machine.specs.Moves.{done_row, faulted_row, going_row, making_frame, new_row, parent_of, stopped_frame}
 use Rattle.twe_machine.specs.Changes.{asked_by}
 use Rattle.twe_machine.specs.Rows.{IsRow}
-use Rattle.journal_merge.specs.declared.numbered.NumberedEntry.{NumberedEntry}
+use Rattle.seg_journal.specs.declared.numbered.NumberedEntry.{NumberedEntry}
 use Rattle.floor_rule.specs.declared.view.DoneFact.{DoneFact}
 use Rattle.floor_rule.specs.declared.view.HeldTurn.{HeldTurn}
 use Rattle.floor_rule.specs.declared.view.OpenSegment.{OpenSegment}
@@ -29,7 +29,8 @@ use Rattle.floor_rule.specs.declared.view.Touch.TheVariants.{Read, Write}
 use Rattle.floor_rule.specs.Floors.{Floor, Home, Away, Empty, Holds, TurnWord, Free, New, Taken, put, put_turn}
 use Rattle.floor_rule.specs.Fitting.{MayRunFrom}
 use Rattle.floor_rule.specs.Rows.{phase_of, slot_of}
-use Rattle.floor_rule.specs.Touches.{IsAccessFrom, IsAmong, accesses_of, cell_accesses, touches_of}
+use Rattle.admission_laws.specs.admission_core.States.{IsAmong}
+use Rattle.floor_rule.specs.Touches.{IsAccessFrom, accesses_of, cell_accesses, touches_of}
 
 -- Turns.
 
@@ -70,13 +71,15 @@ after_giving f i t turn = record f {
 abbrev pub IsPhaseFor : List DoneFact → HeldTurn → Phase → Type 0
 IsPhaseFor facts turn phase =
     (phase ≡ phase_of turn.row)
-    ⊎ ((u : ℕ) × (value : ℤ) × (phase_of turn.row ≡ Waits u) × IsAmong (record { task = u; value = value }) facts × (phase ≡ Running))
+    ⊎ ((u : ℕ) × (value : ℤ) × (phase_of turn.row ≡ Waits u) × IsAmong (record { task = u; value = value }) facts
+    × (phase ≡ Running))
 
 -- seat i, which has the turn of task t, may store this phase of it
 pub record MayStorePhase (f : Floor) (i t : ℕ) (turn : HeldTurn) (phase : Phase) : Type 0 where
   pub has : f.held i t ≡ Some turn
   pub fits : IsPhaseFor (f.facts i) turn phase
 
+-- the phase was stored, and seat i knows it
 abbrev pub after_phase : Floor → ℕ → ℕ → HeldTurn → Phase → Floor
 after_phase f i t turn phase = record f {
   phases = put f.phases t phase;
@@ -134,7 +137,9 @@ pub record MayCommit (p : Program) (f : Floor) (i t : ℕ) (turn : HeldTurn) (fr
 -- the task's row after its segment stopped so, if this many tasks were asked for before
 abbrev pub row_after : Bounds → ℕ → TaskRow → Frame → Stop → TaskRow
 row_after lim asked row frame (stops.Make child args effects spawned future place) =
-    if nat_lt (asked + 1) lim.tasks then going_row row (making_frame future spawned (asked + 1) frame) else faulted_row row (stopped_frame frame)
+    if nat_lt (asked + 1) lim.tasks
+    then going_row row (making_frame future spawned (asked + 1) frame)
+    else faulted_row row (stopped_frame frame)
 row_after lim asked row frame (stops.Waits on) = going_row row frame
 row_after lim asked row frame (stops.Joins on) = going_row row frame
 row_after lim asked row frame (stops.Done value) = done_row row frame value
@@ -149,9 +154,13 @@ end_after lim asked (stops.Joins on) = ends.Joins on
 end_after lim asked (stops.Done value) = ends.Done value
 end_after lim asked (stops.Fault kind place) = ends.Fault kind place
 
+-- the entry of the segment of task t that left this frame and this stop, with the number that the clock said
 abbrev pub entry_drawn : Bounds → Floor → ℕ → Frame → Stop → NumberedEntry
-entry_drawn lim f t frame stop =
-    record { number = f.entries; entry = record { mv = record { kind = Run; task = t }; end = end_after lim f.asked stop }; prints = frame.prints }
+entry_drawn lim f t frame stop = record {
+  number = f.entries;
+  entry = record { mv = record { kind = Run; task = t }; end = end_after lim f.asked stop };
+  prints = frame.prints;
+}
 
 -- the first turn of a task that was just made
 abbrev pub first_turn : TaskRow → HeldTurn
@@ -168,14 +177,16 @@ without_child lim f i t turn frame stop = record f {
 }
 
 -- beside that, seat i has the first turn of the task that was made, and what its slot will hold
-abbrev pub with_child : Floor → ℕ → ℕ → TaskRow → Floor
-with_child f i child row = record f { homes = put f.homes child Away; held = put_turn f.held i child (Some (first_turn row)) }
+abbrev pub row_with_child : Floor → ℕ → ℕ → TaskRow → Floor
+row_with_child f i child row = record f { homes = put f.homes child Away; held = put_turn f.held i child (Some (first_turn row)) }
 
+-- The floor after the entry was drawn. If the segment stopped to make a task and the limit leaves room for it, the seat has the
+-- first turn of that task.
 abbrev pub after_entry : Bounds → Floor → ℕ → ℕ → HeldTurn → Frame → Stop → Floor
 after_entry lim f i t turn frame (stops.Make child args effects spawned future place) =
     let drawn = without_child lim f i t turn frame (stops.Make child args effects spawned future place) in
     if nat_lt (f.asked + 1) lim.tasks
-    then with_child drawn i (f.asked + 1) (new_row lim (f.asked + 1) (parent_of t spawned) child args effects)
+    then row_with_child drawn i (f.asked + 1) (new_row lim (f.asked + 1) (parent_of t spawned) child args effects)
     else drawn
 after_entry lim f i t turn frame (stops.Waits on) = without_child lim f i t turn frame (stops.Waits on)
 after_entry lim f i t turn frame (stops.Joins on) = without_child lim f i t turn frame (stops.Joins on)
@@ -223,14 +234,17 @@ pub record ShowsState (st : State) (f : Floor) : Type 0 where
 
 -- Starts.
 
+-- the turn word at a start, of a task with this row or of one that is not made yet
 abbrev pub turn_at_start : Option TaskRow → TurnWord
 turn_at_start None = New
 turn_at_start (Some row) = Free
 
+-- its phase word at a start
 abbrev pub phase_at_start : Option TaskRow → Phase
 phase_at_start None = Absent
 phase_at_start (Some row) = phase_of row
 
+-- its slot at a start
 abbrev pub home_at_start : Option TaskRow → Home
 home_at_start None = Empty
 home_at_start (Some row) = Holds (slot_of row)

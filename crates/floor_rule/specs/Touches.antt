@@ -4,11 +4,12 @@ use Rattle.twe_program.specs.Program.{Program}
 use Rattle.seg_exec.specs.declared.frame.Frame.{Frame}
 use Rattle.seg_exec.specs.Access.{Access, Reads, Writes, Prints, value_in}
 use Rattle.seg_exec.specs.Segment.{segment}
-use Rattle.soundness_laws.specs.DeclaredNow.{access_of}
+use Rattle.isolation_laws.specs.soundness.DeclaredNow.{access_of}
 use Rattle.floor_rule.specs.declared.view.OpenSegment.{OpenSegment}
 use Rattle.floor_rule.specs.declared.view.Touch.{Touch}
 use Rattle.floor_rule.specs.declared.view.Touch.TheVariants.{Read, Write}
 
+-- the touch as an access of a segment, with the same cell and value
 abbrev pub access_by : Touch → Access
 access_by (Read cell value) = Reads cell value
 access_by (Write cell value) = Writes cell value
@@ -35,11 +36,6 @@ is_written c (Prints value ∷ earlier) = is_written c earlier
 -- the value of a cell
 abbrev pub cell_at : List ℤ → ℕ → ℤ
 cell_at cells c = value_in (slice_get cells c)
-
--- x is in the list
-abbrev pub IsAmong : {X : Type 0} → X → List X → Type 0
-IsAmong x [] = ⊥
-IsAmong x (y ∷ ys) = (x ≡ y) ⊎ IsAmong x ys
 
 -- The segment that starts from this frame makes such an access over some list of cells: of the same concrete path, and a write
 -- if it is one. Its value doesn't count.

@@ -4,21 +4,21 @@
 //! All laws are of a program that keeps the rules on effects. Seats are numbered. The log has the entries that all seats
 //! have drawn so far.
 ghost use Rattle.std.specs.Prelude.{◌≡◌, ◌≢◌, ◌++◌, ℕ, ℤ, List, [], ◌∷◌, Contains, Some, false, true};
-ghost use Rattle.twe_limits.specs.Limits.{Bounds};
+ghost use Rattle.twe_base.specs.Limits.{Bounds};
 ghost use Rattle.twe_program.specs.Program.{Program};
 ghost use Rattle.twe_program.specs.WellFormed.{IsWellFormed};
 ghost use Rattle.seg_exec.specs.declared.frame.Frame.{Frame};
 ghost use Rattle.seg_exec.specs.declared.stop.Stop.{Stop};
 ghost use Rattle.seg_exec.specs.Access.{Access, Reads, Writes, after};
 ghost use Rattle.seg_exec.specs.Segment.{segment};
-ghost use Rattle.soundness_laws.specs.DeclaredNow.{access_of};
-ghost use Rattle.soundness_laws.specs.KeepsEffects.{KeepsEffects};
+ghost use Rattle.isolation_laws.specs.soundness.DeclaredNow.{access_of};
+ghost use Rattle.isolation_laws.specs.soundness.KeepsEffects.{KeepsEffects};
 ghost use Rattle.twe_machine.specs.declared.state.State.{State};
 ghost use Rattle.twe_machine.specs.Changes.{IsDoneWith};
 ghost use Rattle.twe_machine.specs.Runs.{IsReached, IsRun, state_after};
 ghost use Rattle.isolation_laws.specs.CoveredNow.{CoveredNow};
-ghost use Rattle.journal_merge.specs.declared.numbered.NumberedEntry.{NumberedEntry};
-ghost use Rattle.journal_merge.specs.Merging.{journal_of, prints_of};
+ghost use Rattle.seg_journal.specs.declared.numbered.NumberedEntry.{NumberedEntry};
+ghost use Rattle.seg_journal.specs.Merging.{journal_of, prints_of};
 ghost use Rattle.floor_rule.specs.declared.view.HeldTurn.{HeldTurn};
 ghost use Rattle.floor_rule.specs.declared.view.OpenSegment.{OpenSegment};
 ghost use Rattle.floor_rule.specs.declared.view.Phase.{Phase};
@@ -30,7 +30,8 @@ ghost use Rattle.floor_rule.specs.Rule.{AreInOrder, KeepsRule};
 ghost use Rattle.floor_rule.specs.Steps.{HasNoTurn, IsOwn, IsQuiet, MayCommit, MayGive, MayJoin, MayStorePhase, MayTouch, ShowsState, floor_at};
 ghost use Rattle.floor_rule.specs.Steps.{after_entry, after_finding_done, after_giving, after_join, after_load, after_phase, after_split};
 ghost use Rattle.floor_rule.specs.Steps.{after_store, after_taking, entry_drawn};
-ghost use Rattle.floor_rule.specs.Touches.{IsAmong, accesses_of, cell_at, is_written, touches_of};
+ghost use Rattle.admission_laws.specs.admission_core.States.{IsAmong};
+ghost use Rattle.floor_rule.specs.Touches.{accesses_of, cell_at, is_written, touches_of};
 
 /// The floor that starts from the state of a run keeps the rule. Its log has the entries of the run, in order, with the
 /// numbers that the run has printed.
@@ -44,7 +45,8 @@ pub fn a_floor_starts_by_the_rule()
 pub fn free_turns_can_be_taken()
     ensures { (p : Program) (lim : Bounds) (log : List NumberedEntry) (f : Floor) (i t : ℕ) → IsWellFormed p → KeepsEffects p
         → KeepsRule p lim log f → f.turns t ≡ Free
-        → (turn : HeldTurn) × (turn.first ≡ false) × (f.homes t ≡ Holds (slot_of turn.row)) × KeepsRule p lim log (after_taking f i t turn) }
+        → (turn : HeldTurn) × (turn.first ≡ false) × (f.homes t ≡ Holds (slot_of turn.row))
+        × KeepsRule p lim log (after_taking f i t turn) }
 {}
 
 /// A seat that gives the turn of a task keeps the rule if the phase word is that of the task's row, the slot gets the row's
@@ -70,7 +72,8 @@ pub fn phases_say_the_truth()
         → PhaseFits (state_after p lim (journal_of log)) t (f.phases t) }
     ensures done { (p : Program) (lim : Bounds) (log : List NumberedEntry) (f : Floor) (i t : ℕ) → IsWellFormed p
         → KeepsEffects p → KeepsRule p lim log f → f.phases t ≡ Done
-        → (value : ℤ) × IsDoneWith (state_after p lim (journal_of log)) t value × KeepsRule p lim log (after_finding_done f i t value) }
+        → (value : ℤ) × IsDoneWith (state_after p lim (journal_of log)) t value
+        × KeepsRule p lim log (after_finding_done f i t value) }
 {}
 
 /// If a seat may run the next segment of a task, it may make each access that this segment makes over any cells.
@@ -108,8 +111,9 @@ pub fn entries_keep_the_rule()
 
 /// What a seat may draw for a task is one entry: the segment leaves one frame, and stops in one way.
 pub fn a_seat_may_draw_one_entry()
-    ensures { (p : Program) (lim : Bounds) (log : List NumberedEntry) (f : Floor) (i t : ℕ) (turn : HeldTurn) (frame other : Frame)
-        (stop last : Stop) → IsWellFormed p → KeepsEffects p → KeepsRule p lim log f → MayCommit p f i t turn frame stop
+    ensures { (p : Program) (lim : Bounds) (log : List NumberedEntry) (f : Floor) (i t : ℕ) (turn : HeldTurn)
+        (frame other : Frame) (stop last : Stop) → IsWellFormed p → KeepsEffects p → KeepsRule p lim log f
+        → MayCommit p f i t turn frame stop
         → MayCommit p f i t turn other last → (frame ≡ other) × (stop ≡ last) }
 {}
 
@@ -128,10 +132,12 @@ pub fn joining_seats_keeps_the_rule()
 /// Segments that are open at the same time do not disturb one another. Each access that one has made is covered for its task
 /// in the state. No cell that one has written has been read or written by another.
 pub fn open_segments_stay_apart()
-    ensures covered { (p : Program) (lim : Bounds) (log : List NumberedEntry) (f : Floor) (i : ℕ) (s : OpenSegment) (access : Access)
+    ensures covered { (p : Program) (lim : Bounds) (log : List NumberedEntry) (f : Floor) (i : ℕ) (s : OpenSegment)
+        (access : Access)
         → IsWellFormed p → KeepsEffects p → KeepsRule p lim log f → f.segments i ≡ Some s → IsAmong access (accesses_of s.touches)
         → CoveredNow (state_after p lim (journal_of log)) s.task (access_of p access) }
-    ensures apart { (p : Program) (lim : Bounds) (log : List NumberedEntry) (f : Floor) (i j c : ℕ) (s r : OpenSegment) (value : ℤ)
+    ensures apart { (p : Program) (lim : Bounds) (log : List NumberedEntry) (f : Floor) (i j c : ℕ) (s r : OpenSegment)
+        (value : ℤ)
         → IsWellFormed p → KeepsEffects p → KeepsRule p lim log f → i ≢ j → f.segments i ≡ Some s → f.segments j ≡ Some r
         → is_written c (accesses_of s.touches) ≡ true
         → ¬ IsAmong (Reads c value) (accesses_of r.touches) × ¬ IsAmong (Writes c value) (accesses_of r.touches) }

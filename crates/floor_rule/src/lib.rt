@@ -7,6 +7,7 @@
 #![tactic(auto)]
 
 mod laws;
+pub mod nodes;
 mod shown_laws;
 mod touch_laws;
 mod view;

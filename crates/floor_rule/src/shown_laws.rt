@@ -1,7 +1,7 @@
 //! What a quiet floor and its journal say of the state: together they say all of it.
 ghost use Rattle.std.specs.Prelude.{◌≡◌, ℕ, List, map};
 ghost use Rattle.seg_journal.specs.declared.journal.Entry.{Entry};
-ghost use Rattle.twe_limits.specs.Limits.{Bounds};
+ghost use Rattle.twe_base.specs.Limits.{Bounds};
 ghost use Rattle.twe_program.specs.Program.{Program};
 ghost use Rattle.twe_program.specs.WellFormed.{IsWellFormed};
 ghost use Rattle.twe_machine.specs.declared.state.State.{State};

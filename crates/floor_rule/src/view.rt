@@ -2,7 +2,7 @@
 
 use effect_sets::Summary;
 use seg_exec::Frame;
-use twe_io::{Ints, List};
+use twe_base::{Ints, List};
 use twe_machine::TaskRow;
 
 /// What the phase word of a task says of it.

@@ -4,7 +4,7 @@ use Rattle.std.specs.Prelude.{◌==◌, ◌^◌, slice_index}
 use mathlib.Core.Option as core
 use prog.Atomic.{either}
 use Rattle.atomic_table.specs.Table.{Allows, State, step}
-use Rattle.twe_limits.specs.Limits.{Bounds}
+use Rattle.twe_base.specs.Limits.{Bounds}
 use Rattle.twe_program.specs.Program.{Program, cell_count}
 use Rattle.seg_exec.specs.Access.{Reads, Writes}
 use Rattle.floor_rule.specs.declared.view.HeldTurn.{HeldTurn}

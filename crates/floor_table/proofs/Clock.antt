@@ -5,16 +5,16 @@ use Rattle.std.proofs.Math.Nat.{add-mul, mod-eq_of_lt, mul-le-mul}
 use Rattle.std.proofs.lemmas.Nat.{div-mul-add, mod-mul-add, mul-add-lt}
 use Rattle.std.proofs.lemmas.List.{length-map}
 use Rattle.std.proofs.lemmas.List.Sums.{count_by-le-length}
-use Rattle.twe_limits.specs.Limits.{Bounds, IsWithin}
+use Rattle.twe_base.specs.Limits.{Bounds, IsWithin}
 use Rattle.twe_program.specs.Program.{Program}
 use Rattle.twe_program.specs.WellFormed.{IsWellFormed}
 use Rattle.twe_machine.specs.declared.state.State.{State}
 use Rattle.twe_machine.specs.Runs.{IsReached, Legal}
-use Rattle.twe_machine.proofs.AllJournals.{journal_length}
-use Rattle.twe_machine.proofs.ReachedStands.{reached_stands}
-use Rattle.twe_machine.proofs.Standing.{is_faulted_row}
-use Rattle.journal_merge.specs.declared.numbered.NumberedEntry.{NumberedEntry}
-use Rattle.journal_merge.specs.Merging.{journal_of}
+use Rattle.twe_machine.proofs.counts.AllJournals.{journal_length}
+use Rattle.twe_machine.proofs.standing.ReachedStands.{reached_stands}
+use Rattle.twe_machine.proofs.standing.Standing.{is_faulted_row}
+use Rattle.seg_journal.specs.declared.numbered.NumberedEntry.{NumberedEntry}
+use Rattle.seg_journal.specs.Merging.{journal_of}
 
 gather : (a b c r x : ℕ) → c ≡ a + b → x ≡ a + r → x + (1 + b) ≡ c + (r + 1)
 gather a b c r x sum is = omega (arith, sum, is)

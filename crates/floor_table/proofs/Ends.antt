@@ -8,17 +8,18 @@ use Rattle.std.proofs.lemmas.Option.{slice_get_within}
 use mathlib.Core.Option as core
 use lib.ListN.{get_elem?}
 use Rattle.atomic_table.specs.Table.{Final, Seen}
-use Rattle.twe_limits.specs.Limits.{Bounds}
+use Rattle.twe_base.specs.Limits.{Bounds}
 use Rattle.twe_program.specs.Program.{Program, cell_count}
 use Rattle.twe_machine.specs.Runs.{state_after}
-use Rattle.journal_merge.specs.declared.numbered.NumberedEntry.{NumberedEntry}
-use Rattle.journal_merge.specs.Merging.{IsMergeOf, has_number, journal_of}
+use Rattle.seg_journal.specs.declared.numbered.NumberedEntry.{NumberedEntry}
+use Rattle.seg_journal.specs.Merging.{IsMergeOf, has_number, journal_of}
 use Rattle.floor_rule.specs.declared.view.TaskSlot.{TaskSlot}
 use Rattle.floor_rule.specs.Floors.{Floor}
 use Rattle.floor_rule.specs.Rows.{slot_of}
 use Rattle.floor_rule.specs.Rule.{LiesInParts, times_drawn}
 use Rattle.floor_rule.specs.Steps.{IsQuiet, ShowsState}
-use Rattle.floor_rule.specs.Touches.{IsAmong, cell_at}
+use Rattle.admission_laws.specs.admission_core.States.{IsAmong}
+use Rattle.floor_rule.specs.Touches.{cell_at}
 use Rattle.floor_rule.proofs.QuietLemmas.{shows}
 use Rattle.floor_table.specs.declared.view.SeatKind.TheVariants.{Main}
 use Rattle.floor_table.specs.declared.view.View.{View}

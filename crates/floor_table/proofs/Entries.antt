@@ -6,9 +6,9 @@ use Rattle.std.proofs.lemmas.Nat.{div-add-mod'}
 use mathlib.Core.Option as core
 use lib.ListN.{get_elem?}
 use Rattle.atomic_table.specs.Table.{Act, Allows, Valid, carried_after, keeps, stepped, takes}
-use Rattle.twe_io.specs.declared.place.Place.{Place}
+use Rattle.twe_base.specs.declared.place.Place.{Place}
 use Rattle.effect_sets.specs.declared.effects.Summary.{Summary}
-use Rattle.twe_limits.specs.Limits.{Bounds}
+use Rattle.twe_base.specs.Limits.{Bounds}
 use Rattle.twe_program.specs.Program.{Program, cell_count}
 use Rattle.seg_exec.specs.declared.frame.Frame.{Frame}
 use Rattle.seg_exec.specs.declared.stop.Stop.{Stop}
@@ -18,9 +18,9 @@ use Rattle.twe_machine.specs.declared.state.TaskRow.{TaskRow}
 use Rattle.twe_machine.specs.Changes.{asked_by}
 use Rattle.twe_machine.specs.Moves.{new_row, parent_of}
 use Rattle.twe_machine.specs.Runs.{IsReached, state_after}
-use Rattle.twe_machine.proofs.ReachedStands.{reached_stands}
-use Rattle.journal_merge.specs.declared.numbered.NumberedEntry.{NumberedEntry}
-use Rattle.journal_merge.specs.Merging.{journal_of}
+use Rattle.twe_machine.proofs.standing.ReachedStands.{reached_stands}
+use Rattle.seg_journal.specs.declared.numbered.NumberedEntry.{NumberedEntry}
+use Rattle.seg_journal.specs.Merging.{journal_of}
 use Rattle.floor_rule.specs.declared.view.DoneFact.{DoneFact}
 use Rattle.floor_rule.specs.declared.view.HeldTurn.{HeldTurn}
 use Rattle.floor_rule.specs.declared.view.OpenSegment.{OpenSegment}
@@ -28,15 +28,15 @@ use Rattle.floor_rule.specs.declared.view.TaskSlot.{TaskSlot}
 use Rattle.floor_rule.specs.Floors.{Floor, Home, Away, Empty, Holds, put, put_turn}
 use Rattle.floor_rule.specs.Fitting.{HomeFits, MayRunFrom}
 use Rattle.floor_rule.specs.Rule.{KeepsRule}
-use Rattle.floor_rule.specs.Steps.{MayCommit, after_entry, entry_drawn, first_turn, row_after, with_child, without_child}
+use Rattle.floor_rule.specs.Steps.{MayCommit, after_entry, entry_drawn, first_turn, row_after, row_with_child, without_child}
 use Rattle.floor_rule.specs.Touches.{accesses_of, touches_of}
 use Rattle.floor_rule.proofs.Puts.{put_here, some_one}
 use Rattle.floor_rule.proofs.RuleSteps.{commit, one_drawn}
 use Rattle.floor_table.specs.declared.view.SeatKind.TheVariants.{Spent}
 use Rattle.floor_table.specs.declared.view.View.{View}
-use Rattle.floor_table.specs.FloorOf.{Table, facts_at, floor_of, home_at, part_at, segment_at, turn_in, turns_at, worker_at}
+use Rattle.floor_table.specs.FloorOf.{Table, seat_facts_at, floor_of, home_at, part_at, segment_at, turn_in, turns_at, worker_at}
 use Rattle.floor_table.specs.Holds.{TableKeeps}
-use Rattle.floor_table.specs.Layout.{asked_of_clock, cell_place, cells_from, clock_place, entries_of_clock, number_at}
+use Rattle.floor_table.specs.Layout.{asked_of_clock, cell_place, cell_words_from, clock_place, entries_of_clock, number_at}
 use Rattle.floor_table.specs.Tells.{DrewEntry, DrewOfLatest, DrewOne, HadNoneNext, IsLatest, MayDraw, Seat, clock_step, drawn_seat, drawn_view, drawn_with, with_turn}
 use Rattle.floor_table.proofs.Elements.{at_else, at_within, word_at}
 use Rattle.floor_table.proofs.Words.{cells_else, phases_kept, turns_kept}
@@ -136,7 +136,7 @@ module _ (p : Program) (lim : Bounds) (s : Table) (kept : TableKeeps p lim s) (i
     asked_now : asked_of_clock (number_at (get_elem? words clock_place)) ≡ f.asked + asked_by stop
     asked_now = ap (λ (o : core.Option ℕ). asked_of_clock (number_at o)) clock_now ∙ tick.parts
 
-    cells_now : cells_from words 8 (cell_count p) ≡ cells_from s.words 8 (cell_count p)
+    cells_now : cell_words_from words 8 (cell_count p) ≡ cell_words_from s.words 8 (cell_count p)
     cells_now = cells_else s.words 8 (cell_count p) clock_place now (λ c below same. omega (arith, same))
 
     small_now : (c : ℕ) → c < cell_count p → number_at (get_elem? words (cell_place c)) < 2 ^ 32
@@ -162,7 +162,7 @@ module _ (p : Program) (lim : Bounds) (s : Table) (kept : TableKeeps p lim s) (i
         (seats_put part_at s.views id v view at (f.parts id ++ entry_drawn lim f t frame stop ∷ []) (ap (λ (l : List NumberedEntry). l ++ entry_drawn lim f t frame stop ∷ []) (sym part_id)))
         (seats_put turns_at s.views id v view at (put (f.held id) t (Some new_turn)) (ap (λ (g : ℕ → Option HeldTurn). put g t (Some new_turn)) (sym (turns_id p lim s kept id v at live))))
         (seats_put segment_at s.views id v view at None refl)
-        (seats_kept facts_at s.views id v view at refl)
+        (seats_kept seat_facts_at s.views id v view at refl)
 
     plain_step : (mine : List (ℕ × Option TaskSlot)) (log : List NumberedEntry) → KeepsRule p lim log (without_child lim f id t turn frame stop) → (view, mine) ≡ drawn_seat lim clock (v, mine) t turn frame stop
         → (w : View) × (a : Act (Option TaskSlot)) × Valid s.homes mine a × TableKeeps p lim (stepped s clock_place now id mine w a) × DrewEntry lim (v, mine) t turn frame stop clock (w, carried_after mine a)
@@ -188,10 +188,10 @@ module _ (p : Program) (lim : Bounds) (s : Table) (kept : TableKeeps p lim s) (i
           put_twice f.held id (put (f.held id) t (Some new_turn)) (put (put (f.held id) t (Some new_turn)) c (Some (first_turn child)))
           ∙ ap (λ (g : ℕ → Option HeldTurn). put set id (put g c (Some (first_turn child)))) (sym (put_here f.held id (put (f.held id) t (Some new_turn))))
 
-      with_tie : floor_of p (record { words = words; homes = slice_set s.homes c core.none; views = slice_set s.views id both_view }) ≡ with_child (without_child lim f id t turn frame stop) id c child
+      with_tie : floor_of p (record { words = words; homes = slice_set s.homes c core.none; views = slice_set s.views id both_view }) ≡ row_with_child (without_child lim f id t turn frame stop) id c child
       with_tie =
           let slots = kept.slots in
-          floor_is _ (with_child (without_child lim f id t turn frame stop) id c child) entries_now asked_now cells_now
+          floor_is _ (row_with_child (without_child lim f id t turn frame stop) id c child) entries_now asked_now cells_now
           (turns_kept p s.words clock_place now (λ u same. omega (arith, same)))
           (phases_kept p s.words clock_place now (λ u same. omega (arith, same)))
           (homes_put s.homes c core.none (omega (arith, slots, below)))
@@ -201,9 +201,9 @@ module _ (p : Program) (lim : Bounds) (s : Table) (kept : TableKeeps p lim s) (i
           (ap (λ (g : ℕ → Option HeldTurn). put (put g t (Some new_turn)) c (Some (first_turn child))) (sym (turns_id p lim s kept id v at live)))
           ∙ turns_both)
           (seats_put segment_at s.views id v both_view at None refl)
-          (seats_kept facts_at s.views id v both_view at refl)
+          (seats_kept seat_facts_at s.views id v both_view at refl)
 
-      with_step : (mine : List (ℕ × Option TaskSlot)) (log : List NumberedEntry) → KeepsRule p lim log (with_child (without_child lim f id t turn frame stop) id c child)
+      with_step : (mine : List (ℕ × Option TaskSlot)) (log : List NumberedEntry) → KeepsRule p lim log (row_with_child (without_child lim f id t turn frame stop) id c child)
           → drawn_with (view, mine) c child ≡ drawn_seat lim clock (v, mine) t turn frame stop
           → (w : View) × (a : Act (Option TaskSlot)) × Valid s.homes mine a × TableKeeps p lim (stepped s clock_place now id mine w a) × DrewEntry lim (v, mine) t turn frame stop clock (w, carried_after mine a)
       with_step mine log rule seat = (
@@ -258,7 +258,7 @@ module _ (p : Program) (lim : Bounds) (s : Table) (kept : TableKeeps p lim s) (i
 
   making : (mine : List (ℕ × Option TaskSlot)) (child : Frame) (args : List ℤ) (effects : Summary) (spawned : Bool) (future : ℕ) (place : Place) (b : Bool) → nat_lt (f.asked + 1) lim.tasks ≡ b
       → KeepsRule p lim (kept.log ++ entry_drawn lim f t frame (stops.Make child args effects spawned future place) ∷ [])
-      (cond {A = Floor} b (with_child (without_child lim f id t turn frame (stops.Make child args effects spawned future place)) id (f.asked + 1) (new_row lim (f.asked + 1) (parent_of t spawned) child args effects))
+      (cond {A = Floor} b (row_with_child (without_child lim f id t turn frame (stops.Make child args effects spawned future place)) id (f.asked + 1) (new_row lim (f.asked + 1) (parent_of t spawned) child args effects))
       (without_child lim f id t turn frame (stops.Make child args effects spawned future place)))
       → Drawn mine (stops.Make child args effects spawned future place) clock
   making mine child args effects spawned future place true is rule =

@@ -3,6 +3,7 @@
 
 -- Lists of which one element was set, and the words of the floor.
 pub mod Elements
+pub mod Added
 pub mod Words
 -- The views of seats.
 pub mod Views

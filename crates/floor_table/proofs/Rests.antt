@@ -6,24 +6,24 @@ use Rattle.std.proofs.lemmas.Option.{slice_get_within}
 use mathlib.Core.Option as core
 use lib.ListN.{get_elem?}
 use Rattle.atomic_table.specs.Table.{Final, Seen}
-use Rattle.twe_limits.specs.Limits.{Bounds}
+use Rattle.twe_base.specs.Limits.{Bounds}
 use Rattle.twe_program.specs.Program.{Program, cell_count}
 use Rattle.twe_machine.specs.declared.state.State.{State}
 use Rattle.twe_machine.specs.Runs.{state_after}
-use Rattle.journal_merge.specs.declared.numbered.NumberedEntry.{NumberedEntry}
-use Rattle.journal_merge.specs.Merging.{AreNumbered, IsMergeOf, all_of, has_number, journal_of}
-use Rattle.journal_merge.proofs.Slots.{in_contains, occurs}
+use Rattle.seg_journal.specs.declared.numbered.NumberedEntry.{NumberedEntry}
+use Rattle.seg_journal.specs.Merging.{AreNumbered, IsMergeOf, all_of, has_number, journal_of}
+use Rattle.seg_journal.proofs.Slots.{in_contains, occurs}
 use Rattle.floor_rule.specs.declared.view.TaskSlot.{TaskSlot}
 use Rattle.floor_rule.specs.Fitting.{HomeFits}
 use Rattle.floor_rule.specs.Floors.{Floor, Home, Away, Empty, Holds}
 use Rattle.floor_rule.specs.Steps.{IsQuiet, ShowsState}
-use Rattle.floor_rule.specs.Touches.{IsAmong}
+use Rattle.admission_laws.specs.admission_core.States.{IsAmong}
 use Rattle.floor_rule.proofs.Puts.{none_some, some_one}
 use Rattle.floor_table.specs.declared.view.SeatKind.TheVariants.{Main}
 use Rattle.floor_table.specs.declared.view.View.{View}
 use Rattle.floor_table.specs.FloorOf.{Table, floor_of, home_at}
 use Rattle.floor_table.specs.Holds.{Ended, HasGivenAll, TableKeeps}
-use Rattle.floor_table.specs.Layout.{asked_of_clock, cells_from, clock_place, number_at, phase_place, phase_word_at}
+use Rattle.floor_table.specs.Layout.{asked_of_clock, cell_words_from, clock_place, number_at, phase_place, phase_word_at}
 use Rattle.floor_table.specs.Shown.{EndedQuiet, ShowsRest}
 use Rattle.floor_table.proofs.Ends.{closed_ends, contains_among, merged, once, quiet, showing, size, within}
 
@@ -121,7 +121,7 @@ module _ (p : Program) (lim : Bounds) (s : Table) (kept : TableKeeps p lim s) (i
       word_count = sym (ap length same) ∙ kept.words;
       slot_count = sym count ∙ kept.slots;
       asked = sym (ap (λ (l : List ℕ). asked_of_clock (number_at (get_elem? l clock_place))) same) ∙ shown.asked;
-      cells = sym (ap (λ (l : List ℕ). cells_from l 8 (cell_count p)) same) ∙ shown.cells;
+      cells = sym (ap (λ (l : List ℕ). cell_words_from l 8 (cell_count p)) same) ∙ shown.cells;
       phases = λ t row there. sym (ap (λ (l : List ℕ). phase_word_at (get_elem? l (phase_place p t))) same) ∙ shown.phases t row there;
       unmade = λ t past below. homes t None (empty_home t past below);
     }

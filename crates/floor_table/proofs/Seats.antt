@@ -5,9 +5,9 @@ use Rattle.std.proofs.lemmas.Bool.{cases_eq}
 use mathlib.Core.Option as core
 use lib.ListN.{get_elem?}
 use Rattle.atomic_table.specs.Table.{Joins, Splits}
-use Rattle.twe_limits.specs.Limits.{Bounds}
+use Rattle.twe_base.specs.Limits.{Bounds}
 use Rattle.twe_program.specs.Program.{Program}
-use Rattle.journal_merge.specs.declared.numbered.NumberedEntry.{NumberedEntry}
+use Rattle.seg_journal.specs.declared.numbered.NumberedEntry.{NumberedEntry}
 use Rattle.floor_rule.specs.declared.view.DoneFact.{DoneFact}
 use Rattle.floor_rule.specs.Floors.{Floor, put}
 use Rattle.floor_rule.specs.Rule.{KeepsRule}
@@ -16,7 +16,7 @@ use Rattle.floor_rule.proofs.Puts.{put_else, put_here}
 use Rattle.floor_rule.proofs.RuleSteps.{join, split}
 use Rattle.floor_table.specs.declared.view.SeatKind.TheVariants.{Main, Other}
 use Rattle.floor_table.specs.declared.view.View.{View}
-use Rattle.floor_table.specs.FloorOf.{Table, facts_at, floor_of, part_at, segment_at, turn_in, turns_at, worker_at}
+use Rattle.floor_table.specs.FloorOf.{Table, seat_facts_at, floor_of, part_at, segment_at, turn_in, turns_at, worker_at}
 use Rattle.floor_table.specs.Holds.{HasGivenAll, SeatsFit, TableKeeps, joined_view, left_view, right_view, spent_view}
 use Rattle.floor_table.proofs.Elements.{at_else}
 use Rattle.floor_table.proofs.Views.{seats_kept, seats_put}
@@ -99,7 +99,7 @@ module _ (p : Program) (lim : Bounds) (s : Table) (kept : TableKeeps p lim s) (i
       let w = left_view v in
       floor_is (floor_of p (with_views left_views)) f refl refl refl refl refl refl (seats_kept worker_at s.views id v w at refl) (seats_kept part_at s.views id v w at refl) (seats_kept turns_at s.views id v w at refl)
       (seats_kept segment_at s.views id v w at refl)
-      (seats_kept facts_at s.views id v w at refl)
+      (seats_kept seat_facts_at s.views id v w at refl)
 
   split_tie : floor_of p (with_views (left_views ++ right_view v ∷ [])) ≡ after_split (floor_of p (with_views left_views)) (length left_views) (v.split + 1)
   split_tie =
@@ -109,7 +109,7 @@ module _ (p : Program) (lim : Bounds) (s : Table) (kept : TableKeeps p lim s) (i
       (seats_unchanged part_at left_views x refl)
       (seats_unchanged turns_at left_views x refl)
       (seats_unchanged segment_at left_views x refl)
-      (seats_unchanged facts_at left_views x refl)
+      (seats_unchanged seat_facts_at left_views x refl)
 
   pub split_step : TableKeeps p lim (with_views (left_views ++ right_view v ∷ []))
   split_step =
@@ -149,16 +149,16 @@ module _ (p : Program) (lim : Bounds) (s : Table) (kept : TableKeeps p lim s) (i
         let one = slice_set s.views id both in
         let part_v : part_at (get_elem? s.views id) ≡ v.part = ap part_at at in
         let part_w : part_at (get_elem? s.views other) ≡ w.part = ap part_at at_other in
-        let done_v : facts_at (get_elem? s.views id) ≡ v.done = ap facts_at at in
-        let done_w : facts_at (get_elem? s.views other) ≡ w.done = ap facts_at at_other in
+        let done_v : seat_facts_at (get_elem? s.views id) ≡ v.done = ap seat_facts_at at in
+        let done_w : seat_facts_at (get_elem? s.views other) ≡ w.done = ap seat_facts_at at_other in
         floor_is (floor_of p (with_views joined_views)) goal_floor refl refl refl refl refl refl
         (seats_put worker_at one other w spent_view at_next 0 refl ∙ ap (λ (g : ℕ → ℕ). put g other 0) (seats_kept worker_at s.views id v both at refl))
         (seats_put part_at one other w spent_view at_next [] refl
         ∙ ap (λ (g : ℕ → List NumberedEntry). put g other []) (seats_put part_at s.views id v both at (f.parts id ++ f.parts other) (ap (λ (l : List NumberedEntry). l ++ w.part) (sym part_v) ∙ ap (λ (l : List NumberedEntry). f.parts id ++ l) (sym part_w))))
         (seats_kept turns_at one other w spent_view at_next (sym none_left) ∙ seats_kept turns_at s.views id v both at refl)
         (seats_kept segment_at one other w spent_view at_next (sym given.segment) ∙ seats_kept segment_at s.views id v both at refl)
-        (seats_put facts_at one other w spent_view at_next [] refl
-        ∙ ap (λ (g : ℕ → List DoneFact). put g other []) (seats_put facts_at s.views id v both at (f.facts id ++ f.facts other) (ap (λ (l : List DoneFact). l ++ w.done) (sym done_v) ∙ ap (λ (l : List DoneFact). f.facts id ++ l) (sym done_w))))
+        (seats_put seat_facts_at one other w spent_view at_next [] refl
+        ∙ ap (λ (g : ℕ → List DoneFact). put g other []) (seats_put seat_facts_at s.views id v both at (f.facts id ++ f.facts other) (ap (λ (l : List DoneFact). l ++ w.done) (sym done_v) ∙ ap (λ (l : List DoneFact). f.facts id ++ l) (sym done_w))))
 
     pub join_step : TableKeeps p lim (with_views joined_views)
     join_step =

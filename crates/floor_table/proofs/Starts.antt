@@ -8,16 +8,16 @@ use lib.ListN.{get_elem?}
 use native.Mathlib.Decide.{dec_le}
 use Rattle.atomic_table.specs.Table.{opening}
 use Rattle.seg_exec.specs.Access.{value_in}
-use Rattle.twe_limits.specs.Limits.{Bounds, IsWithin}
+use Rattle.twe_base.specs.Limits.{Bounds, IsWithin}
 use Rattle.twe_program.specs.Program.{Program, cell_count}
 use Rattle.twe_program.specs.WellFormed.{IsWellFormed}
-use Rattle.soundness_laws.specs.KeepsEffects.{KeepsEffects}
+use Rattle.isolation_laws.specs.soundness.KeepsEffects.{KeepsEffects}
 use Rattle.twe_machine.specs.declared.state.State.{State}
 use Rattle.twe_machine.specs.declared.state.TaskRow.{TaskRow}
 use Rattle.twe_machine.specs.Runs.{IsReached, IsRun}
-use Rattle.twe_machine.proofs.ReachedStands.{reached_stands}
-use Rattle.journal_merge.specs.declared.numbered.NumberedEntry.{NumberedEntry}
-use Rattle.journal_merge.specs.Merging.{journal_of, prints_of}
+use Rattle.twe_machine.proofs.standing.ReachedStands.{reached_stands}
+use Rattle.seg_journal.specs.declared.numbered.NumberedEntry.{NumberedEntry}
+use Rattle.seg_journal.specs.Merging.{journal_of, prints_of}
 use Rattle.floor_rule.specs.declared.view.TaskSlot.{TaskSlot}
 use Rattle.floor_rule.specs.Floors.{put}
 use Rattle.floor_rule.specs.Rule.{AreInOrder, KeepsRule}
@@ -26,9 +26,9 @@ use Rattle.floor_rule.specs.Touches.{cell_at}
 use Rattle.floor_rule.proofs.Puts.{put_else, put_here}
 use Rattle.floor_rule.proofs.QuietLemmas.{same_cells, starts}
 use Rattle.floor_table.specs.declared.view.View.{View}
-use Rattle.floor_table.specs.FloorOf.{Table, facts_at, floor_of, home_at, part_at, segment_at, turns_at, worker_at}
+use Rattle.floor_table.specs.FloorOf.{Table, seat_facts_at, floor_of, home_at, part_at, segment_at, turns_at, worker_at}
 use Rattle.floor_table.specs.Holds.{IsLaidOut, TableKeeps, first_view, slot_of_row, turn_word_of}
-use Rattle.floor_table.specs.Layout.{asked_of_clock, cell_place, cells_from, clock_place, entries_of_clock, number_at, phase_place, phase_word_at, turn_place, turn_word_at, value_of_word}
+use Rattle.floor_table.specs.Layout.{asked_of_clock, cell_place, cell_words_from, clock_place, entries_of_clock, number_at, phase_place, phase_word_at, turn_place, turn_word_at, value_of_word}
 use Rattle.floor_table.proofs.Clock.{entries_few}
 use Rattle.floor_table.proofs.SeatKinds.{seats_first}
 use Rattle.floor_table.proofs.Steps.{floor_is, phase_again}
@@ -119,17 +119,17 @@ module _ (p : Program) (lim : Bounds) (log : List NumberedEntry) (st : State) (w
       ap home_at (beyond (map core.some slots) t (omega (arith, size, size_mapped, past))) ∙ sym (ap home_at_start (no_task t past)))
       (below_or t lim.tasks)
 
-  cells_are : cells_from words 8 (cell_count p) ≡ st.cells
+  cells_are : cell_words_from words 8 (cell_count p) ≡ st.cells
   cells_are =
-      let size : length (cells_from words 8 (cell_count p)) ≡ length st.cells = cells_length words 8 (cell_count p) ∙ sym (reached_stands p lim st well reached).cells in
-      same_cells (cells_from words 8 (cell_count p)) st.cells size (λ c. cell_is c size)
+      let size : length (cell_words_from words 8 (cell_count p)) ≡ length st.cells = cells_length words 8 (cell_count p) ∙ sym (reached_stands p lim st well reached).cells in
+      same_cells (cell_words_from words 8 (cell_count p)) st.cells size (λ c. cell_is c size)
     where
       past_cell : (cells : List ℤ) (c : ℕ) → length cells ≤ c → slice_get cells c ≡ None
       past_cell [] c past = refl
       past_cell (x ∷ cells) zero past = absurd (omega (arith, past))
       past_cell (x ∷ cells) (suc c) past = past_cell cells c (omega (arith, past))
 
-      cell_is : (c : ℕ) → length (cells_from words 8 (cell_count p)) ≡ length st.cells → cell_at (cells_from words 8 (cell_count p)) c ≡ cell_at st.cells c
+      cell_is : (c : ℕ) → length (cell_words_from words 8 (cell_count p)) ≡ length st.cells → cell_at (cell_words_from words 8 (cell_count p)) c ≡ cell_at st.cells c
       cell_is c size =
           ⊎_elim
           (λ (below : c < cell_count p).
@@ -137,7 +137,7 @@ module _ (p : Program) (lim : Bounds) (log : List NumberedEntry) (st : State) (w
           cells_at words 8 (cell_count p) c (cell_place c) refl below ∙ (ap (λ (o : core.Option ℕ). value_of_word (number_at o)) word.there ∙ word.means))
           (λ (past : cell_count p ≤ c).
           let mine = cells_length words 8 (cell_count p) in
-          ap value_in (past_cell (cells_from words 8 (cell_count p)) c (omega (arith, mine, past))) ∙ sym (ap value_in (past_cell st.cells c (omega (arith, mine, size, past)))))
+          ap value_in (past_cell (cell_words_from words 8 (cell_count p)) c (omega (arith, mine, past))) ∙ sym (ap value_in (past_cell st.cells c (omega (arith, mine, size, past)))))
           (below_or c (cell_count p))
 
   -- the one seat
@@ -162,7 +162,7 @@ module _ (p : Program) (lim : Bounds) (log : List NumberedEntry) (st : State) (w
       (λ k i. alone part_at i k)
       (λ k i. (alone turns_at i ∙ unchanged (λ (t : ℕ). None) i) k)
       (λ k i. (alone segment_at i ∙ unchanged None i) k)
-      (λ k i. (alone facts_at i ∙ unchanged [] i) k)
+      (λ k i. (alone seat_facts_at i ∙ unchanged [] i) k)
 
   pub starts_keep : TableKeeps p lim (opening words slots (first_view log))
   starts_keep = record {

@@ -7,7 +7,7 @@ use lib.ListN.{get_elem?}
 use prog.Atomic.{either}
 use Rattle.atomic_table.specs.Table.{Act, Allows, Valid, carried_after, gives, keeps, stepped, takes}
 use Rattle.atomic_table.proofs.Lists.{exchanged}
-use Rattle.twe_limits.specs.Limits.{Bounds, IsWithin}
+use Rattle.twe_base.specs.Limits.{Bounds, IsWithin}
 use Rattle.twe_program.specs.Program.{Program, cell_count}
 use Rattle.twe_program.specs.WellFormed.{IsWellFormed}
 use Rattle.seg_exec.specs.Access.{Access, Reads, Writes}
@@ -15,8 +15,8 @@ use Rattle.twe_machine.specs.declared.state.State.{State}
 use Rattle.twe_machine.specs.declared.state.TaskRow.{TaskRow}
 use Rattle.twe_machine.specs.declared.state.TaskStatus.TheVariants as status
 use Rattle.twe_machine.specs.Runs.{IsReached, Legal, state_after}
-use Rattle.journal_merge.specs.declared.numbered.NumberedEntry.{NumberedEntry}
-use Rattle.journal_merge.specs.Merging.{journal_of}
+use Rattle.seg_journal.specs.declared.numbered.NumberedEntry.{NumberedEntry}
+use Rattle.seg_journal.specs.Merging.{journal_of}
 use Rattle.floor_rule.specs.declared.view.DoneFact.{DoneFact}
 use Rattle.floor_rule.specs.declared.view.HeldTurn.{HeldTurn}
 use Rattle.floor_rule.specs.declared.view.OpenSegment.{OpenSegment}
@@ -32,8 +32,8 @@ use Rattle.floor_rule.specs.Rule.{KeepsRule}
 use Rattle.floor_rule.specs.Steps.{MayGive, MayStorePhase, MayTouch, after_finding_done, after_giving, after_load, after_phase, after_store, after_taking, IsPhaseFor, touched, with_row}
 use Rattle.floor_rule.specs.Touches.{cell_at, touches_of}
 use Rattle.floor_rule.specs.LastTouches.{last_touched}
-use Rattle.twe_machine.proofs.ReachedStands.{reached_stands}
-use Rattle.twe_machine.proofs.SettlesNext.{awaited_above}
+use Rattle.twe_machine.proofs.standing.ReachedStands.{reached_stands}
+use Rattle.twe_machine.proofs.standing.SettlesNext.{awaited_above}
 use Rattle.floor_rule.proofs.DoneValues.{reached_has}
 use Rattle.floor_rule.proofs.Puts.{put_else, put_here}
 use Rattle.floor_rule.proofs.TurnLemmas.{turn_here}
@@ -41,9 +41,9 @@ use Rattle.floor_rule.proofs.RuleSteps.{find_done, give, load, store, store_phas
 use Rattle.floor_rule.proofs.LastTouches.{load_last}
 use Rattle.floor_table.specs.declared.view.SeatKind.TheVariants.{Spent}
 use Rattle.floor_table.specs.declared.view.View.{View}
-use Rattle.floor_table.specs.FloorOf.{Table, facts_at, floor_of, home_at, part_at, segment_at, turn_in, turns_at, worker_at}
+use Rattle.floor_table.specs.FloorOf.{Table, seat_facts_at, floor_of, home_at, part_at, segment_at, turn_in, turns_at, worker_at}
 use Rattle.floor_table.specs.Holds.{TableKeeps}
-use Rattle.floor_table.specs.Layout.{asked_of_clock, cell_place, cells_from, clock_place, entries_of_clock, free_word, number_at, phase_of_word, phase_place, phase_word_at, taken_word, turn_word_at, turn_of_word, turn_place, value_of_word, word_of_phase}
+use Rattle.floor_table.specs.Layout.{asked_of_clock, cell_place, cell_words_from, clock_place, entries_of_clock, free_word, number_at, phase_of_word, phase_place, phase_word_at, taken_word, turn_word_at, turn_of_word, turn_place, value_of_word, word_of_phase}
 use Rattle.floor_table.specs.Tells.{FoundPhase, GaveTurn, IsLastTouch, IsOwnPhase, MayGiveTurn, MayStore, MayTouchCell, ReadCell, StoredPhase, TriedTurn, WaitsAbove, WroteCell, with_touch, with_turn}
 use Rattle.floor_table.proofs.Elements.{at_else, at_within, set_same, word_at}
 use Rattle.floor_table.proofs.Words.{cells_at, cells_else, cells_length, cells_put, phases_kept, phases_put, turns_kept, turns_put}
@@ -145,7 +145,7 @@ module _ (p : Program) (lim : Bounds) (s : Table) (kept : TableKeeps p lim s) (i
   clock_else : (i x : ℕ) → 8 + cell_count p ≤ i → number_at (get_elem? (slice_set s.words i x) clock_place) ≡ number_at (get_elem? s.words clock_place)
   clock_else i x past = ap number_at (at_else s.words i 0 x (λ same. omega (arith, same, past)))
 
-  cells_stay : (i x : ℕ) → 8 + cell_count p ≤ i → cells_from (slice_set s.words i x) 8 (cell_count p) ≡ cells_from s.words 8 (cell_count p)
+  cells_stay : (i x : ℕ) → 8 + cell_count p ≤ i → cell_words_from (slice_set s.words i x) 8 (cell_count p) ≡ cell_words_from s.words 8 (cell_count p)
   cells_stay i x past = cells_else s.words 8 (cell_count p) i x (λ c below same. omega (arith, below, same, past))
 
   small_stay : (i x : ℕ) → 8 + cell_count p ≤ i → (c : ℕ) → c < cell_count p → number_at (get_elem? (slice_set s.words i x) (cell_place c)) < 2 ^ 32
@@ -197,7 +197,7 @@ module _ (p : Program) (lim : Bounds) (s : Table) (kept : TableKeeps p lim s) (i
         (seats_kept part_at s.views id v w at refl)
         (seats_put turns_at s.views id v w at (put (f.held id) t (Some turn)) (ap (λ (g : ℕ → Option HeldTurn). put g t (Some turn)) (sym turns_id)))
         (seats_kept segment_at s.views id v w at refl)
-        (seats_kept facts_at s.views id v w at refl)
+        (seats_kept seat_facts_at s.views id v w at refl)
 
     -- what the rule tells of a turn that was just taken
     taken_row : (turn : HeldTurn) → KeepsRule p lim kept.log (after_taking f id t turn) → RowIs (state_after p lim (journal_of kept.log)) t turn.row
@@ -259,8 +259,8 @@ module _ (p : Program) (lim : Bounds) (s : Table) (kept : TableKeeps p lim s) (i
       inr (other, refl),
     )
 
-  pub facts_id : facts_at (get_elem? s.views id) ≡ v.done
-  facts_id = ap facts_at at
+  pub facts_id : seat_facts_at (get_elem? s.views id) ≡ v.done
+  facts_id = ap seat_facts_at at
 
   pub segment_id : segment_at (get_elem? s.views id) ≡ v.segment
   segment_id = ap segment_at at
@@ -288,7 +288,7 @@ module _ (p : Program) (lim : Bounds) (s : Table) (kept : TableKeeps p lim s) (i
         (seats_kept part_at s.views id v w at refl)
         (seats_put turns_at s.views id v w at (put (f.held id) t None) (ap (λ (g : ℕ → Option HeldTurn). put g t None) (sym turns_id)))
         (seats_kept segment_at s.views id v w at refl)
-        (seats_put facts_at s.views id v w at (with_row turn.row.status t turn.row (f.facts id)) (ap (with_row turn.row.status t turn.row) (sym facts_id)))
+        (seats_put seat_facts_at s.views id v w at (with_row turn.row.status t turn.row (f.facts id)) (ap (with_row turn.row.status t turn.row) (sym facts_id)))
 
     pub give_step : (rest : List (ℕ × Option TaskSlot)) → MayGiveTurn (v, (t, Some (slot_of turn.row)) ∷ rest) t turn rest
         → (w : View) × (a : Act (Option TaskSlot)) × Valid s.homes ((t, Some (slot_of turn.row)) ∷ rest) a
@@ -332,7 +332,7 @@ module _ (p : Program) (lim : Bounds) (s : Table) (kept : TableKeeps p lim s) (i
         (seats_kept part_at s.views id v w at refl)
         (seats_put turns_at s.views id v w at (put (f.held id) t (Some (record turn { phase = phase }))) (ap (λ (g : ℕ → Option HeldTurn). put g t (Some (record turn { phase = phase }))) (sym turns_id)))
         (seats_kept segment_at s.views id v w at refl)
-        (seats_kept facts_at s.views id v w at refl)
+        (seats_kept seat_facts_at s.views id v w at refl)
 
     pub store_phase_step : (mine : List (ℕ × Option TaskSlot)) → MayStore (v, mine) t turn phase
         → (w : View) × (a : Act (Option TaskSlot)) × Valid s.homes mine a × TableKeeps p lim (stepped s (phase_place p t) (word_of_phase phase) id mine w a) × StoredPhase (v, mine) t turn phase (w, carried_after mine a)
@@ -373,7 +373,7 @@ module _ (p : Program) (lim : Bounds) (s : Table) (kept : TableKeeps p lim s) (i
         let w = done_view value in
         floor_is _ (after_finding_done f id t value) refl refl refl refl refl refl (seats_kept worker_at s.views id v w at refl) (seats_kept part_at s.views id v w at refl) (seats_kept turns_at s.views id v w at refl)
         (seats_kept segment_at s.views id v w at refl)
-        (seats_put facts_at s.views id v w at (record { task = t; value = value } ∷ f.facts id) (ap (λ (l : List DoneFact). record { task = t; value = value } ∷ l) (sym facts_id)))
+        (seats_put seat_facts_at s.views id v w at (record { task = t; value = value } ∷ f.facts id) (ap (λ (l : List DoneFact). record { task = t; value = value } ∷ l) (sym facts_id)))
 
     own_phase : (mine : List (ℕ × Option TaskSlot)) → IsOwnPhase (v, mine) t found_phase
     own_phase mine turn has =
@@ -447,7 +447,7 @@ module _ (p : Program) (lim : Bounds) (s : Table) (kept : TableKeeps p lim s) (i
         let w = with_touch v t (Read c value) in
         floor_is _ (after_load f id t c value) refl refl refl refl refl refl (seats_kept worker_at s.views id v w at refl) (seats_kept part_at s.views id v w at refl) (seats_kept turns_at s.views id v w at refl)
         (touch_put (Read c value))
-        (seats_kept facts_at s.views id v w at refl)
+        (seats_kept seat_facts_at s.views id v w at refl)
 
     pub load_step : (mine : List (ℕ × Option TaskSlot)) (any : ℤ) → MayTouchCell p (v, mine) t (Reads c any)
         → (w : View) × (a : Act (Option TaskSlot)) × Valid s.homes mine a × TableKeeps p lim (stepped s (cell_place c) found_cell id mine w a) × ReadCell (v, mine) t c found_cell (w, carried_after mine a)
@@ -486,7 +486,7 @@ module _ (p : Program) (lim : Bounds) (s : Table) (kept : TableKeeps p lim s) (i
         (seats_kept part_at s.views id v w at refl)
         (seats_kept turns_at s.views id v w at refl)
         (touch_put (Write c value))
-        (seats_kept facts_at s.views id v w at refl)
+        (seats_kept seat_facts_at s.views id v w at refl)
 
     small_put : (x : ℕ) → x < 2 ^ 32 → (d : ℕ) → d < cell_count p → number_at (get_elem? (slice_set s.words (cell_place c) x) (cell_place d)) < 2 ^ 32
     small_put x small d here =

@@ -9,12 +9,12 @@ use Rattle.floor_rule.specs.declared.view.Phase.{Phase}
 use Rattle.floor_rule.specs.Floors.{TurnWord, put}
 use Rattle.floor_rule.specs.Touches.{cell_at}
 use Rattle.floor_rule.proofs.Puts.{put_else, put_here}
-use Rattle.floor_table.specs.Layout.{cells_from, number_at, phase_word_at, phase_of_word, phase_place, turn_word_at, turn_of_word, turn_place, value_of_word}
+use Rattle.floor_table.specs.Layout.{cell_words_from, number_at, phase_word_at, phase_of_word, phase_place, turn_word_at, turn_of_word, turn_place, value_of_word}
 use Rattle.floor_table.proofs.Elements.{at_else, at_within}
 
 -- Cells.
 
-pub cells_else : (words : List ℕ) (place n i x : ℕ) → ((c : ℕ) → c < n → place + c ≢ i) → cells_from (slice_set words i x) place n ≡ cells_from words place n
+pub cells_else : (words : List ℕ) (place n i x : ℕ) → ((c : ℕ) → c < n → place + c ≢ i) → cell_words_from (slice_set words i x) place n ≡ cell_words_from words place n
 cells_else words place zero i x other = refl
 cells_else words place (suc n) i x other =
     let here : place ≢ i = λ same. other 0 (omega arith) (omega (arith, same)) in
@@ -24,7 +24,7 @@ cells_else words place (suc n) i x other =
     λ k. first k ∷ rest k
 
 pub cells_put : (words : List ℕ) (place n c i x : ℕ) → i ≡ place + c → c < n → i < length words
-    → cells_from (slice_set words i x) place n ≡ slice_set (cells_from words place n) c (value_of_word x)
+    → cell_words_from (slice_set words i x) place n ≡ slice_set (cell_words_from words place n) c (value_of_word x)
 cells_put words place zero c i x is below within = absurd (omega (arith, below))
 cells_put words place (suc n) zero i x is below within =
     let same : place ≡ i = omega (arith, is) in
@@ -40,12 +40,12 @@ cells_put words place (suc n) (suc c) i x is below within =
     λ k. first k ∷ rest k
 
 -- the value of a cell is that of its word
-pub cells_at : (words : List ℕ) (place n c i : ℕ) → i ≡ place + c → c < n → cell_at (cells_from words place n) c ≡ value_of_word (number_at (get_elem? words i))
+pub cells_at : (words : List ℕ) (place n c i : ℕ) → i ≡ place + c → c < n → cell_at (cell_words_from words place n) c ≡ value_of_word (number_at (get_elem? words i))
 cells_at words place zero c i is below = absurd (omega (arith, below))
 cells_at words place (suc n) zero i is below = let same : place ≡ i = omega (arith, is) in ap (λ (j : ℕ). value_of_word (number_at (get_elem? words j))) same
 cells_at words place (suc n) (suc c) i is below = cells_at words (place + 1) n c i (omega (arith, is)) (omega (arith, below))
 
-pub cells_length : (words : List ℕ) (place n : ℕ) → length (cells_from words place n) ≡ n
+pub cells_length : (words : List ℕ) (place n : ℕ) → length (cell_words_from words place n) ≡ n
 cells_length words place zero = refl
 cells_length words place (suc n) = ap suc (cells_length words (place + 1) n)
 

@@ -4,7 +4,7 @@ use mathlib.Core.Option as core
 use lib.ListN.{get_elem?}
 use Rattle.atomic_table.specs.Table as table
 use Rattle.twe_program.specs.Program.{Program, cell_count}
-use Rattle.journal_merge.specs.declared.numbered.NumberedEntry.{NumberedEntry}
+use Rattle.seg_journal.specs.declared.numbered.NumberedEntry.{NumberedEntry}
 use Rattle.floor_rule.specs.declared.view.DoneFact.{DoneFact}
 use Rattle.floor_rule.specs.declared.view.HeldTurn.{HeldTurn}
 use Rattle.floor_rule.specs.declared.view.OpenSegment.{OpenSegment}
@@ -12,7 +12,7 @@ use Rattle.floor_rule.specs.declared.view.TaskSlot.{TaskSlot}
 use Rattle.floor_rule.specs.Floors.{Floor, Home, Away, Empty, Holds}
 use Rattle.floor_table.specs.declared.view.TurnChange.{TurnChange}
 use Rattle.floor_table.specs.declared.view.View.{View}
-use Rattle.floor_table.specs.Layout.{asked_of_clock, cells_from, clock_place, entries_of_clock, number_at, phase_word_at, phase_place, turn_word_at, turn_place}
+use Rattle.floor_table.specs.Layout.{asked_of_clock, cell_words_from, clock_place, entries_of_clock, number_at, phase_word_at, phase_place, turn_word_at, turn_place}
 
 -- a table of the floor: a slot holds a task, or nothing before its task is made
 abbrev pub Table : Type 0
@@ -32,31 +32,37 @@ turn_in (change ∷ changes) t = if t == change.task then change.turn else turn_
 
 -- What the view of a seat says, if the seat is there.
 
+-- the number of its worker
 abbrev pub worker_at : core.Option View → ℕ
 worker_at core.none = 0
 worker_at (core.some v) = v.worker
 
+-- the entries that it has drawn
 abbrev pub part_at : core.Option View → List NumberedEntry
 part_at core.none = []
 part_at (core.some v) = v.part
 
+-- the turns that it has
 abbrev pub turns_at : core.Option View → ℕ → Option HeldTurn
 turns_at core.none = λ t. None
 turns_at (core.some v) = turn_in v.turns
 
+-- the segment that it has open
 abbrev pub segment_at : core.Option View → Option OpenSegment
 segment_at core.none = None
 segment_at (core.some v) = v.segment
 
-abbrev pub facts_at : core.Option View → List DoneFact
-facts_at core.none = []
-facts_at (core.some v) = v.done
+-- the tasks that it knows to be done
+abbrev pub seat_facts_at : core.Option View → List DoneFact
+seat_facts_at core.none = []
+seat_facts_at (core.some v) = v.done
 
+-- the floor that a table shows: its words and slots by their places, and what the views of its seats say
 abbrev pub floor_of : Program → Table → Floor
 floor_of p s = record {
   entries = entries_of_clock (number_at (get_elem? s.words clock_place));
   asked = asked_of_clock (number_at (get_elem? s.words clock_place));
-  cells = cells_from s.words 8 (cell_count p);
+  cells = cell_words_from s.words 8 (cell_count p);
   turns = λ t. turn_word_at (get_elem? s.words (turn_place p t));
   phases = λ t. phase_word_at (get_elem? s.words (phase_place p t));
   homes = λ t. home_at (get_elem? s.homes t);
@@ -64,5 +70,5 @@ floor_of p s = record {
   parts = λ i. part_at (get_elem? s.views i);
   held = λ i. turns_at (get_elem? s.views i);
   segments = λ i. segment_at (get_elem? s.views i);
-  facts = λ i. facts_at (get_elem? s.views i);
+  facts = λ i. seat_facts_at (get_elem? s.views i);
 }

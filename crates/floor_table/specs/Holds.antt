@@ -2,16 +2,16 @@
 use Rattle.std.specs.Prelude.{◌≡◌, ◌+◌, ◌-◌, ◌*◌, ◌++◌, ◌<◌, ◌^◌, ℕ, ℤ, Bool, true, false, List, [], ◌∷◌, length, Option, None, Some, count_by, slice_get}
 use mathlib.Core.Option as core
 use lib.ListN.{get_elem?}
-use Rattle.twe_limits.specs.Limits.{Bounds, IsWithin}
+use Rattle.twe_base.specs.Limits.{Bounds, IsWithin}
 use Rattle.twe_program.specs.Program.{Program, cell_count}
 use Rattle.twe_program.specs.WellFormed.{IsWellFormed}
-use Rattle.soundness_laws.specs.KeepsEffects.{KeepsEffects}
+use Rattle.isolation_laws.specs.soundness.KeepsEffects.{KeepsEffects}
 use Rattle.twe_machine.specs.declared.state.State.{State}
 use Rattle.twe_machine.specs.declared.state.TaskRow.{TaskRow}
 use Rattle.twe_machine.specs.Rows.{IsRow}
 use Rattle.twe_machine.specs.Runs.{Legal, state_after}
-use Rattle.journal_merge.specs.declared.numbered.NumberedEntry.{NumberedEntry}
-use Rattle.journal_merge.specs.Merging.{IsMergeOf, journal_of, prints_of}
+use Rattle.seg_journal.specs.declared.numbered.NumberedEntry.{NumberedEntry}
+use Rattle.seg_journal.specs.Merging.{IsMergeOf, journal_of, prints_of}
 use Rattle.floor_rule.specs.declared.view.TaskSlot.{TaskSlot}
 use Rattle.floor_rule.specs.Rows.{slot_of}
 use Rattle.floor_rule.specs.Rule.{KeepsRule}
@@ -28,6 +28,7 @@ pub record HasGivenAll (v : View) : Type 0 where
   pub turns : (t : ℕ) → turn_in v.turns t ≡ None
   pub segment : v.segment ≡ None
 
+-- the kind of a seat that was split off and not joined
 abbrev pub is_other_kind : SeatKind → Bool
 is_other_kind Main = false
 is_other_kind Other = true
@@ -67,7 +68,16 @@ pub record TableKeeps (p : Program) (lim : Bounds) (s : Table) : Type 0 where
 
 -- the view of a new seat
 abbrev pub new_view : SeatKind → ℕ → List NumberedEntry → View
-new_view kind worker part = record { worker = worker; kind = kind; split = 0; out = 0; part = part; turns = []; segment = None; done = [] }
+new_view kind worker part = record {
+  worker = worker;
+  kind = kind;
+  split = 0;
+  out = 0;
+  part = part;
+  turns = [];
+  segment = None;
+  done = [];
+}
 
 -- the view of the first seat, which is the main one, has the entries so far
 abbrev pub first_view : List NumberedEntry → View
@@ -77,6 +87,7 @@ first_view log = new_view Main 0 log
 abbrev pub left_view : View → View
 left_view v = record v { split = v.split + 1; out = v.out + 1 }
 
+-- the view of the seat that is split off: it has and knows nothing yet
 abbrev pub right_view : View → View
 right_view v = new_view Other (v.split + 1) []
 
@@ -84,6 +95,7 @@ right_view v = new_view Other (v.split + 1) []
 abbrev pub joined_view : View → View → View
 joined_view v w = record v { out = v.out - 1; part = v.part ++ w.part; done = v.done ++ w.done }
 
+-- the view of a seat that was joined to the main one
 abbrev pub spent_view : View
 spent_view = new_view Spent 0 []
 
@@ -94,6 +106,7 @@ abbrev pub turn_word_of : Option TaskRow → ℕ
 turn_word_of None = new_word
 turn_word_of (Some row) = free_word
 
+-- what lies in the slot of a task with this row when a floor starts: nothing if the task is not made yet
 abbrev pub slot_of_row : Option TaskRow → Option TaskSlot
 slot_of_row None = None
 slot_of_row (Some row) = Some (slot_of row)
@@ -106,13 +119,15 @@ pub record IsWordOf (words : List ℕ) (place : ℕ) (value : ℤ) : Type 0 wher
   pub means : value_of_word word ≡ value
 
 -- The words and slots show this state, after as many entries as the log has.
-pub record IsLaidOut (p : Program) (lim : Bounds) (log : List NumberedEntry) (st : State) (words : List ℕ) (slots : List (Option TaskSlot)) : Type 0 where
+pub record IsLaidOut (p : Program) (lim : Bounds) (log : List NumberedEntry) (st : State) (words : List ℕ)
+    (slots : List (Option TaskSlot)) : Type 0 where
   pub word_count : length words ≡ word_count p lim
   pub slot_count : length slots ≡ lim.tasks
   pub clock : get_elem? words clock_place ≡ core.some (st.asked * 2 ^ 45 + length log)
   pub cells : (c : ℕ) → c < cell_count p → IsWordOf words (cell_place c) (cell_at st.cells c)
   pub turns : (t : ℕ) → t < lim.tasks → get_elem? words (turn_place p t) ≡ core.some (turn_word_of (slice_get st.tasks t))
-  pub phases : (t : ℕ) → t < lim.tasks → get_elem? words (phase_place p t) ≡ core.some (word_of_phase (phase_at_start (slice_get st.tasks t)))
+  pub phases : (t : ℕ) → t < lim.tasks
+      → get_elem? words (phase_place p t) ≡ core.some (word_of_phase (phase_at_start (slice_get st.tasks t)))
   pub slots_are : (t : ℕ) → t < lim.tasks → get_elem? slots t ≡ core.some (slot_of_row (slice_get st.tasks t))
 
 -- a table whose words and slots ended so shows this state: its cells' words have its cells' values, and the slot of each task

@@ -2,7 +2,7 @@
 use Rattle.std.specs.Prelude.{◌+◌, ◌*◌, ◌-ℤ◌, ◌/◌, ◌%◌, ◌^◌, ℕ, zero, suc, ℤ, pos, List, [], ◌∷◌}
 use mathlib.Core.Option.{Option, none, some}
 use lib.ListN.{get_elem?}
-use Rattle.twe_limits.specs.Limits.{Bounds}
+use Rattle.twe_base.specs.Limits.{Bounds}
 use Rattle.twe_program.specs.Program.{Program, cell_count}
 use Rattle.floor_rule.specs.declared.view.Phase.{Phase}
 use Rattle.floor_rule.specs.declared.view.Phase.TheVariants.{Absent, Made, Running, Waits, Done, Faulted}
@@ -14,12 +14,15 @@ use Rattle.floor_rule.specs.Floors.{TurnWord, Free, Taken, New}
 abbrev pub clock_place : ℕ
 clock_place = 0
 
+-- the place of a cell's word
 abbrev pub cell_place : ℕ → ℕ
 cell_place c = 8 + c
 
+-- the place of a task's turn word
 abbrev pub turn_place : Program → ℕ → ℕ
 turn_place p t = 16 + cell_count p + 2 * t
 
+-- the place of a task's phase word
 abbrev pub phase_place : Program → ℕ → ℕ
 phase_place p t = 16 + cell_count p + 2 * t + 1
 
@@ -31,6 +34,7 @@ word_count p lim = 16 + cell_count p + 2 * lim.tasks
 abbrev pub entries_of_clock : ℕ → ℕ
 entries_of_clock n = n % 2 ^ 45
 
+-- how many tasks were asked for, by the clock
 abbrev pub asked_of_clock : ℕ → ℕ
 asked_of_clock n = n / 2 ^ 45
 
@@ -38,20 +42,25 @@ asked_of_clock n = n / 2 ^ 45
 abbrev pub value_of_word : ℕ → ℤ
 value_of_word n = pos n -ℤ pos 2147483648
 
+-- the turn word of a task whose turn nobody has
 abbrev pub free_word : ℕ
 free_word = 0
 
+-- the turn word of a task that is not made yet, or whose first turn was not given
 abbrev pub new_word : ℕ
 new_word = 1
 
+-- the turn word of a task whose turn this worker took
 abbrev pub taken_word : ℕ → ℕ
 taken_word worker = suc (suc worker)
 
+-- what a turn word says
 abbrev pub turn_of_word : ℕ → TurnWord
 turn_of_word zero = Free
 turn_of_word (suc zero) = New
 turn_of_word (suc (suc worker)) = Taken worker
 
+-- what a phase word says: from 5 on, that the task waits for another one, whose number is 5 less than the word
 abbrev pub phase_of_word : ℕ → Phase
 phase_of_word zero = Absent
 phase_of_word (suc zero) = Made
@@ -62,22 +71,25 @@ phase_of_word (suc (suc (suc (suc (suc on))))) = Waits on
 
 -- Beyond the words of the table no task is made.
 
+-- a word of the table, or 0 beyond its words
 abbrev pub number_at : Option ℕ → ℕ
 number_at none = 0
 number_at (some n) = n
 
+-- what the turn word says; beyond the words the task is new
 abbrev pub turn_word_at : Option ℕ → TurnWord
 turn_word_at none = New
 turn_word_at (some n) = turn_of_word n
 
+-- what the phase word says; beyond the words the task is absent
 abbrev pub phase_word_at : Option ℕ → Phase
 phase_word_at none = Absent
 phase_word_at (some n) = phase_of_word n
 
 -- the values of n cells whose words lie from this place on
-abbrev pub cells_from : List ℕ → ℕ → ℕ → List ℤ
-cells_from words place zero = []
-cells_from words place (suc n) = value_of_word (number_at (get_elem? words place)) ∷ cells_from words (place + 1) n
+abbrev pub cell_words_from : List ℕ → ℕ → ℕ → List ℤ
+cell_words_from words place zero = []
+cell_words_from words place (suc n) = value_of_word (number_at (get_elem? words place)) ∷ cell_words_from words (place + 1) n
 
 -- the number that stands for a phase
 abbrev pub word_of_phase : Phase → ℕ

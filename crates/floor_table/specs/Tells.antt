@@ -1,7 +1,7 @@
 -- What each step of a seat tells it.
 use Rattle.std.specs.Prelude.{◌≡◌, ◌≢◌, ◌⊎◌, ◌+◌, ◌*◌, ◌<◌, ◌^◌, ◌++◌, ℕ, ℤ, false, List, [], ◌∷◌, Option, None, Some, if◌then◌else◌, nat_lt}
 use Rattle.atomic_table.specs.Table.{Me}
-use Rattle.twe_limits.specs.Limits.{Bounds}
+use Rattle.twe_base.specs.Limits.{Bounds}
 use Rattle.seg_journal.specs.declared.moves.Kind.TheVariants.{Run}
 use Rattle.seg_exec.specs.declared.frame.Frame.{Frame}
 use Rattle.seg_exec.specs.declared.stop.Stop.{Stop}
@@ -12,7 +12,7 @@ use Rattle.twe_machine.specs.declared.state.TaskRow.{TaskRow}
 use Rattle.twe_machine.specs.declared.state.TaskStatus.TheVariants as status
 use Rattle.twe_machine.specs.Changes.{asked_by}
 use Rattle.twe_machine.specs.Moves.{new_row, parent_of}
-use Rattle.journal_merge.specs.declared.numbered.NumberedEntry.{NumberedEntry}
+use Rattle.seg_journal.specs.declared.numbered.NumberedEntry.{NumberedEntry}
 use Rattle.twe_program.specs.Program.{Program}
 use Rattle.floor_rule.specs.declared.view.HeldTurn.{HeldTurn}
 use Rattle.floor_rule.specs.declared.view.OpenSegment.{OpenSegment}
@@ -48,6 +48,7 @@ pub record TookTurn (before after : Seat) (t : ℕ) : Type 0 where
   pub value : turn.row.status ≡ status.Done → turn.row.frame.value ≡ turn.row.value
   pub seat : after ≡ (with_turn before.0 t (Some turn), (t, Some (slot_of turn.row)) ∷ before.1)
 
+-- the turn word was free and the seat has the turn, or the word was not free and nothing changed
 abbrev pub TriedTurn : Seat → ℕ → ℕ → Seat → Type 0
 TriedTurn before t found after = ((found ≡ free_word) × TookTurn before after t) ⊎ ((found ≢ free_word) × (after ≡ before))
 
@@ -58,6 +59,7 @@ pub record MayGiveTurn (me : Seat) (t : ℕ) (turn : HeldTurn) (rest : List (ℕ
   pub closed : (s : OpenSegment) → me.0.segment ≡ Some s → s.task ≢ t
   pub slot : me.1 ≡ (t, Some (slot_of turn.row)) ∷ rest
 
+-- The seat has given the turn, and the slots that it has out beside the task's are left. If the task is done, it knows the value.
 abbrev pub GaveTurn : Seat → ℕ → HeldTurn → List (ℕ × Option TaskSlot) → Seat → Type 0
 GaveTurn before t turn rest after =
     after ≡ (record (with_turn before.0 t None) { done = with_row turn.row.status t turn.row before.0.done }, rest)
@@ -67,6 +69,7 @@ pub record MayStore (me : Seat) (t : ℕ) (turn : HeldTurn) (phase : Phase) : Ty
   pub has : turn_in me.0.turns t ≡ Some turn
   pub fits : IsPhaseFor me.0.done turn phase
 
+-- the seat knows that the phase word of the task says this phase
 abbrev pub StoredPhase : Seat → ℕ → HeldTurn → Phase → Seat → Type 0
 StoredPhase before t turn phase after = after ≡ (with_turn before.0 t (Some (record turn { phase = phase })), before.1)
 
@@ -83,6 +86,7 @@ IsOwnPhase before t found = (turn : HeldTurn) → turn_in before.0.turns t ≡ S
 abbrev pub WaitsAbove : Bounds → ℕ → ℕ → Type 0
 WaitsAbove lim t found = (u : ℕ) → phase_of_word found ≡ Waits u → (t < u) × (u < lim.tasks)
 
+-- the seat has loaded the phase word of task t: it learns the task's value if the word says `Done`, and else nothing
 abbrev pub FoundPhase : Bounds → Seat → ℕ → ℕ → Seat → Type 0
 FoundPhase lim before t found after =
     IsOwnPhase before t found × (found < 2 ^ 32) × WaitsAbove lim t found
@@ -97,6 +101,7 @@ pub record MayTouchCell (p : Program) (me : Seat) (t : ℕ) (access : Access) : 
   pub made : IsAccessFrom p ready access
   pub own : (s : OpenSegment) → me.0.segment ≡ Some s → s.task ≡ t
 
+-- the open segment of task t has touched one more cell, or is opened by its first touch
 abbrev pub with_touch : View → ℕ → Touch → View
 with_touch v t touch = record v { segment = Some (record { task = t; touches = touch ∷ touches_of v.segment }) }
 
@@ -107,8 +112,10 @@ IsLastTouch me c value = (known : ℤ) → last_touched (touches_of me.0.segment
 -- the word found fits 32 bits, and its value was read; a cell that the segment has touched has the value of the last touch
 abbrev pub ReadCell : Seat → ℕ → ℕ → ℕ → Seat → Type 0
 ReadCell before t c found after =
-    (found < 2 ^ 32) × IsLastTouch before c (value_of_word found) × (after ≡ (with_touch before.0 t (Read c (value_of_word found)), before.1))
+    (found < 2 ^ 32) × IsLastTouch before c (value_of_word found)
+    × (after ≡ (with_touch before.0 t (Read c (value_of_word found)), before.1))
 
+-- the value was written to the cell
 abbrev pub WroteCell : Seat → ℕ → ℕ → ℤ → Seat → Type 0
 WroteCell before t c value after = after ≡ (with_touch before.0 t (Write c value), before.1)
 
@@ -140,8 +147,8 @@ entry_at lim clock t frame stop = record {
 
 -- the seat has the entry and the task's new row, and its segment is no longer open
 abbrev pub drawn_view : Bounds → ℕ → View → ℕ → HeldTurn → Frame → Stop → View
-drawn_view lim clock v t turn frame stop =
-    record (with_turn v t (Some (record turn { row = row_after lim (asked_of_clock clock) turn.row frame stop }))) {
+drawn_view lim clock v t turn frame stop = record (with_turn v t
+    (Some (record turn { row = row_after lim (asked_of_clock clock) turn.row frame stop }))) {
       part = v.part ++ entry_at lim clock t frame stop ∷ [];
       segment = None;
     }
@@ -150,16 +157,22 @@ drawn_view lim clock v t turn frame stop =
 abbrev pub drawn_with : Seat → ℕ → TaskRow → Seat
 drawn_with me child row = (with_turn me.0 child (Some (first_turn row)), (child, None) ∷ me.1)
 
+-- The seat after it drew the entry, if the clock said this. If the segment stopped to make a task and the limit leaves room for
+-- it, the seat has that task's first turn beside the entry.
 abbrev pub drawn_seat : Bounds → ℕ → Seat → ℕ → HeldTurn → Frame → Stop → Seat
 drawn_seat lim clock me t turn frame (stops.Make child args effects spawned future place) =
     let drawn : Seat = (drawn_view lim clock me.0 t turn frame (stops.Make child args effects spawned future place), me.1) in
     let number = asked_of_clock clock + 1 in
-    if nat_lt number lim.tasks then drawn_with drawn number (new_row lim number (parent_of t spawned) child args effects) else drawn
+    if nat_lt number lim.tasks
+    then drawn_with drawn number (new_row lim number (parent_of t spawned) child args effects)
+    else drawn
 drawn_seat lim clock me t turn frame (stops.Waits on) = (drawn_view lim clock me.0 t turn frame (stops.Waits on), me.1)
 drawn_seat lim clock me t turn frame (stops.Joins on) = (drawn_view lim clock me.0 t turn frame (stops.Joins on), me.1)
 drawn_seat lim clock me t turn frame (stops.Done value) = (drawn_view lim clock me.0 t turn frame (stops.Done value), me.1)
-drawn_seat lim clock me t turn frame (stops.Fault kind place) = (drawn_view lim clock me.0 t turn frame (stops.Fault kind place), me.1)
+drawn_seat lim clock me t turn frame (stops.Fault kind place) =
+    (drawn_view lim clock me.0 t turn frame (stops.Fault kind place), me.1)
 
+-- the seat has drawn this entry, with what it found at the clock
 abbrev pub DrewEntry : Bounds → Seat → ℕ → HeldTurn → Frame → Stop → ℕ → Seat → Type 0
 DrewEntry lim before t turn frame stop found after = after ≡ drawn_seat lim found before t turn frame stop
 
@@ -179,5 +192,6 @@ DrewOfLatest p lim before found after =
 abbrev pub HadNoneNext : Bounds → Seat → ℕ → Type 0
 HadNoneNext lim before found = asked_of_clock found + 1 < lim.tasks → turn_in before.0.turns (asked_of_clock found + 1) ≡ None
 
+-- the seat has drawn the one entry that it might draw, and had no turn of the task that is made next
 abbrev pub DrewOne : Program → Bounds → Seat → ℕ → Seat → Type 0
 DrewOne p lim before found after = DrewOfLatest p lim before found after × HadNoneNext lim before found

@@ -1,21 +1,22 @@
 //! The steps of a seat. Each law is what `atomic_table` requires of a call: whatever the table is when the word changes, the
 //! seat can pick a view and move slots so that the rule of the floor holds afterwards. It also says what the step tells the
-//! seat, in the words of the step's `Play` (`rule.rt`). `v` is the seat's view and `mine` are the slots that it has out, the latest first.
+//! seat, in the words of `specs/Plays.antt` and `specs/Tells.antt`. `v` is the seat's view and `mine` are the slots that it
+//! has out, the latest first.
 ghost use Rattle.std.specs.Prelude.{◌≡◌, ◌≢◌, ◌+◌, ◌%◌, ◌^◌, ◌<◌, ◌==◌, ℕ, ℤ, List, Option};
 ghost use prog.Atomic.{either};
 ghost use Rattle.atomic_table.specs.Table.{Allows, Final, Joins, Seen, Splits, opening, step};
 ghost use mathlib.Core.Option.{none};
-ghost use Rattle.twe_limits.specs.Limits.{Bounds, IsWithin};
+ghost use Rattle.twe_base.specs.Limits.{Bounds, IsWithin};
 ghost use Rattle.twe_program.specs.Program.{Program, cell_count};
 ghost use Rattle.twe_program.specs.WellFormed.{IsWellFormed};
 ghost use Rattle.seg_exec.specs.declared.frame.Frame.{Frame};
 ghost use Rattle.seg_exec.specs.declared.stop.Stop.{Stop};
 ghost use Rattle.seg_exec.specs.Access.{Reads, Writes};
-ghost use Rattle.soundness_laws.specs.KeepsEffects.{KeepsEffects};
+ghost use Rattle.isolation_laws.specs.soundness.KeepsEffects.{KeepsEffects};
 ghost use Rattle.twe_machine.specs.declared.state.State.{State};
 ghost use Rattle.twe_machine.specs.Runs.{IsRun};
-ghost use Rattle.journal_merge.specs.declared.numbered.NumberedEntry.{NumberedEntry};
-ghost use Rattle.journal_merge.specs.Merging.{journal_of, prints_of};
+ghost use Rattle.seg_journal.specs.declared.numbered.NumberedEntry.{NumberedEntry};
+ghost use Rattle.seg_journal.specs.Merging.{journal_of, prints_of};
 ghost use Rattle.floor_rule.specs.declared.view.HeldTurn.{HeldTurn};
 ghost use Rattle.floor_rule.specs.declared.view.Phase.{Phase};
 ghost use Rattle.floor_rule.specs.declared.view.TaskSlot.{TaskSlot};

@@ -5,6 +5,7 @@
 
 mod brand;
 mod laws;
+pub mod nodes;
 mod quiet_laws;
 mod rule;
 mod view;
@@ -15,8 +16,5 @@ pub use laws::{
     a_turn_may_be_given, a_turn_may_be_tried, an_entry_may_be_drawn, seats_may_be_joined,
 };
 pub use quiet_laws::a_closed_table_shows_the_rest;
-pub use rule::{
-    BothSeats, DrawEntry, FloorLaw, GiveTurn, LoadCell, LoadPhase, Named, NextSeat, StoreCell,
-    StorePhase, TryTurn,
-};
+pub use rule::Named;
 pub use view::{SeatKind, TurnChange, View};

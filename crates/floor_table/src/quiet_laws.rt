@@ -1,7 +1,7 @@
 //! What a table says that is closed at a quiet point.
 ghost use Rattle.std.specs.Prelude.{◌≡◌, ℕ, List, Option};
 ghost use Rattle.atomic_table.specs.Table.{Final, Seen};
-ghost use Rattle.twe_limits.specs.Limits.{Bounds};
+ghost use Rattle.twe_base.specs.Limits.{Bounds};
 ghost use Rattle.twe_program.specs.Program.{Program};
 ghost use Rattle.floor_rule.specs.declared.view.TaskSlot.{TaskSlot};
 ghost use Rattle.floor_table.specs.declared.view.SeatKind.TheVariants.{Main};

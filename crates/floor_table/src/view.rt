@@ -1,8 +1,8 @@
 //! What a worker knows of the floor. Views exist in proofs alone.
 
 use floor_rule::{DoneFact, HeldTurn, OpenSegment};
-use journal_merge::Part;
-use twe_io::List;
+use seg_journal::JournalPart;
+use twe_base::List;
 
 /// A turn that a worker took, or the first turn of a task that it made; or that it gave the turn of this task.
 #[derive(Debug, Drop)]
@@ -36,7 +36,7 @@ pub struct View {
     /// How many of them have not been joined again.
     pub out: u32,
     /// The entries that it has drawn.
-    pub part: Part,
+    pub part: JournalPart,
     /// The turns that it has had and given, the latest first.
     pub turns: List<TurnChange>,
     /// The segment that it has open, if it has one.

@@ -2,11 +2,11 @@
 use Rattle.std.specs.Prelude.{◌≢◌, ◌≤◌, ℕ, ℤ, List, Contains, length, take}
 use Rattle.effect_sets.specs.Access.{Conflict}
 use Rattle.seg_journal.specs.declared.journal.Entry.{Entry}
-use Rattle.twe_limits.specs.Limits.{Bounds}
+use Rattle.twe_base.specs.Limits.{Bounds}
 use Rattle.twe_program.specs.Program.{Program}
 use Rattle.seg_exec.specs.Access.{Access}
 use Rattle.seg_exec.specs.Segment.{segment}
-use Rattle.soundness_laws.specs.DeclaredNow.{access_of}
+use Rattle.isolation_laws.specs.soundness.DeclaredNow.{access_of}
 use Rattle.twe_machine.specs.declared.state.State.{State}
 use Rattle.twe_machine.specs.declared.state.TaskRow.{TaskRow}
 use Rattle.twe_machine.specs.Legal.{MayRun}
@@ -34,4 +34,5 @@ AlwaysCovered p lim journal = (n : ℕ) → n ≤ length journal → AccessesAre
 abbrev pub MoversApart : Program → State → Type 0
 MoversApart p st =
     (s t : ℕ) (a b : TaskRow) → s ≢ t → IsRow st s a → IsRow st t b → MayRun st s → MayRun st t
-    → (cells other : List ℤ) (x y : Access) → Makes p st a cells x → Makes p st b other y → ¬ Conflict (access_of p x) (access_of p y)
+    → (cells other : List ℤ) (x y : Access) → Makes p st a cells x → Makes p st b other y
+    → ¬ Conflict (access_of p x) (access_of p y)

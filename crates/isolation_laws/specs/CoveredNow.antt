@@ -1,6 +1,6 @@
 -- When an access of a running task is covered.
 use Rattle.std.specs.Prelude.{◌≡◌, ℕ, Option, None, Some}
-use Rattle.effect_sets.specs.Access.{Access, AccessInterferesWithSome, SomeCoversAccess}
+use Rattle.effect_sets.specs.Access.{PathAccess, AccessInterferesWithSome, SomeCoversAccess}
 use Rattle.seg_exec.specs.declared.frame.Next.{Next}
 use Rattle.seg_exec.specs.declared.frame.Next.TheVariants.{Go, Get, Join, Closing, Ended}
 use Rattle.wait_graph.specs.Waiting.{IsDone, SpawnedBy}
@@ -23,7 +23,7 @@ WillJoin st row child = (child_to_join row.frame.next ≡ Some child) × IsDone 
 -- The access is covered for task t in this state. It lies in the set of one effect of t, which writes if the access
 -- writes, and it interferes with no effect of an unjoined child of t. A done child whose join the frame of t waits for
 -- counts as joined here, since the next segment of t joins it.
-pub record CoveredNow (st : State) (t : ℕ) (access : Access) : Type 0 where
+pub record CoveredNow (st : State) (t : ℕ) (access : PathAccess) : Type 0 where
   pub row : TaskRow
   pub there : IsRow st t row
   pub declared : SomeCoversAccess row.effects.effects access

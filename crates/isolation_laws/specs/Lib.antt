@@ -3,3 +3,4 @@ pub mod Conflicts
 pub mod CoveredNow
 pub mod Rows
 pub mod Within
+pub mod soundness

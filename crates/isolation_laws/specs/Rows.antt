@@ -3,7 +3,7 @@ use Rattle.std.specs.Prelude.{◌≡◌, ◌≢◌, ℕ}
 use Rattle.effect_sets.specs.Interference.{SomeInterfere}
 use Rattle.twe_program.specs.Program.{Program}
 use Rattle.seg_exec.specs.Entry.{effects_at}
-use Rattle.soundness_laws.specs.RunsWith.{RunsWith}
+use Rattle.isolation_laws.specs.soundness.RunsWith.{RunsWith}
 use Rattle.wait_graph.specs.Waiting.{SpawnedBy}
 use Rattle.twe_machine.specs.declared.state.State.{State}
 use Rattle.twe_machine.specs.declared.state.TaskRow.{TaskRow}

@@ -4,10 +4,10 @@
 //! every reached state holds at every moment of every run.
 ghost use Rattle.std.specs.Prelude.{ℕ, List, take};
 ghost use Rattle.seg_journal.specs.declared.journal.Entry.{Entry};
-ghost use Rattle.twe_limits.specs.Limits.{Bounds};
+ghost use Rattle.twe_base.specs.Limits.{Bounds};
 ghost use Rattle.twe_program.specs.Program.{Program};
 ghost use Rattle.twe_program.specs.WellFormed.{IsWellFormed};
-ghost use Rattle.soundness_laws.specs.KeepsEffects.{KeepsEffects};
+ghost use Rattle.isolation_laws.specs.soundness.KeepsEffects.{KeepsEffects};
 ghost use Rattle.twe_machine.specs.declared.state.State.{State};
 ghost use Rattle.twe_machine.specs.Runs.{AlwaysIsolated, IsReached, Legal, state_after};
 ghost use Rattle.isolation_laws.specs.Admission.{ChildrenInside, LastMakersAreFree, MadeTasksAreAlone, ParentsAreEnabledOrFaulted, WaitersAreEnabled};

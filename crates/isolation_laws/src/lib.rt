@@ -5,6 +5,7 @@
 #![tactic(auto)]
 
 mod laws;
+pub mod soundness;
 
 pub use laws::{
     accepted_runs_are_isolated, beginnings_of_legal_journals_are_legal,

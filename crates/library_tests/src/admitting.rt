@@ -1,8 +1,8 @@
-//! Whether a task is admitted on a floor goes by who waits for whom: a task that it would meet holds it back, until that one waits
-//! for it. What is in the way, and at which node, was worked out by hand.
+//! Whether a task is admitted on a floor goes by who waits for whom: a task that it would meet holds it back, until that one
+//! waits for it. What is in the way, and at which node, was worked out by hand.
 ghost use Rattle.std.specs.Prelude.{◌≡◌, ◌<◌, IfOk, IfSome};
 ghost use Rattle.twe_program.specs.WellFormed.{IsWellFormed};
-ghost use Rattle.soundness_laws.specs.KeepsEffects.{KeepsEffects};
+ghost use Rattle.isolation_laws.specs.soundness.KeepsEffects.{KeepsEffects};
 ghost use Rattle.twe_machine.specs.Runs.{IsRun};
 ghost use Rattle.floor_rule.specs.declared.view.HeldTurn.{HeldTurn};
 ghost use Rattle.floor_rule.specs.declared.view.Phase.TheVariants.{Made};
@@ -11,21 +11,20 @@ ghost use Rattle.task_floor.specs.Holding.{HoldsTaskBeside, IsIdleBeside};
 
 use effect_tree::Shape;
 use floor_rule::{Phase, TaskSlot};
-use floor_steps::Rest;
 use floor_table::Named;
+use floor_table::nodes::Planted;
 use run_gates::FreeGate;
 use seg_journal::{End, Kind, Move};
 use std::alloc::Global;
 use std::marker::Brand;
 use std::sync::Wait;
 use std::test::Fail;
+use task_floor::steps::Rest;
 use task_floor::{EntryLog, Floor, Stand};
+use tree_admit::serving::{Admission, Served, TreeWorker, Workshop};
 use tree_admit::{Admittance, Bar, Footing, try_admit};
-use tree_serve::{Admission, Served, TreeWorker, Workshop};
-use tree_table::Planted;
+use twe_base::{Limits, Memory};
 use twe_frontend::read_program;
-use twe_io::Memory;
-use twe_limits::Limits;
 use twe_machine::replay_journal;
 use twe_program::Prog;
 
@@ -37,6 +36,14 @@ task void t() writes X, Y { x = x + 1; y = y + 1; }\n\
 task void s() writes X { future f = t.executeLater(); f.getValue(); }\n\
 task void a() writes X, Y { future c = s.spawn(); y = y + 10; c.join(); y = y * 2; }\n\
 task void main() pure { future f = a.executeLater(); }\n";
+
+/// `main` makes `a` and `c`, tasks 1 and 2. While `a` waits for `b`, task 3, it holds `c` back.
+const HELD: &[u8] = b"region X;\n\
+int x in X;\n\
+task void b() pure { }\n\
+task void a() writes X { future f = b.executeLater(); f.getValue(); }\n\
+task void c() writes X { x = x + 1; }\n\
+task void main() pure { future f = a.executeLater(); future g = c.executeLater(); }\n";
 
 /// The number of the only worker.
 const WORKER: u32 = 1;
@@ -89,8 +96,8 @@ fn bar_of_taken<R: Wait, N: Named + Planted>(
     }
 }
 
-/// The worker that has this stand, once it has tried to admit a task, and what was in the way; none if nothing was, or if the task
-/// does not wait for its admission.
+/// The worker that has this stand, once it has tried to admit a task, and what was in the way; none if nothing was, or if the
+/// task does not wait for its admission.
 fn bar_of<R: Wait, N: Named + Planted>(
     rt: &R,
     alloc: Global,
@@ -159,6 +166,41 @@ fn meet_after<R: Wait>(rt: &R, alloc: Global, moves: &[Move]) -> Result<Option<M
     Ok(meet::<R, Brand>(rt, alloc, &p, &shape, lim, rest)?)
 }
 
+/// What is in the way of the admission of task 2 on a floor that woke so; none if nothing is.
+fn first_bar<R: Wait, N: Named + Planted>(
+    rt: &R,
+    alloc: Global,
+    p: &Prog,
+    shape: &Shape,
+    lim: Limits,
+    rest: Rest,
+) -> Result<Option<Bar>, Memory>
+    requires accepted { IsWellFormed N.prog × KeepsEffects N.prog }
+    requires named { (p.now ≡ N.prog) × (lim ≡ N.lim) × (shape.now ≡ N.nodes) }
+    requires run { IsRun N.prog N.lim rest.journal rest.state }
+    requires tasks { 2 < N.lim.tasks }
+{
+    let _main = p.main;
+    let (floor, stand, _part) = Floor::<N>::wake(alloc, shape, lim, rest)?;
+    let mut stand = stand;
+    let other = floor.split(&mut stand);
+    let log = EntryLog::new(alloc);
+    let Some((_worker, bar)) = bar_of(rt, alloc, &floor, shape, lim, other, log, 2)? else {
+        return Ok(None);
+    };
+    Ok(Some(bar))
+}
+
+/// What is in the way of the admission of `c` after these moves.
+fn bar_after<R: Wait>(rt: &R, alloc: Global, moves: &[Move]) -> Result<Option<Bar>, Fail> {
+    let p = read_program(alloc, HELD)?;
+    let lim = Limits::default();
+    let (journal, state) = replay_journal(alloc, &p, lim, moves)?;
+    let shape = Shape::build(alloc, &p)?;
+    let rest = Rest { state, journal };
+    Ok(first_bar::<R, Brand>(rt, alloc, &p, &shape, lim, rest)?)
+}
+
 /// The admission of this task.
 fn admit(task: u32) -> Move {
     let kind = Kind::Admit;
@@ -189,5 +231,19 @@ fn a_writer_is_held_until_the_other_waits_for_it(rt: HostRuntime) -> Result<(), 
         admission: Admission::Admitted,
     };
     assert_eq!(rt; met, Some(wanted));
+    Ok(())
+}
+
+#[test]
+fn a_bar_ends_at_the_task_that_its_own_task_waits_for(rt: HostRuntime) -> Result<(), Fail> {
+    let moves = [admit(0), run(0), run(0), admit(1), run(1), run(1)];
+    let met = bar_after(&rt, rt.alloc(), &moves)?;
+    // The nodes are the root, `Console` and X.
+    let bar = Bar {
+        node: 2,
+        by: 1,
+        end: 3,
+    };
+    assert_eq!(rt; met, Some(bar));
     Ok(())
 }

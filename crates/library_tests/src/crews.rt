@@ -1,16 +1,16 @@
-//! A crew takes one quiet step, which admits `main`, and one round, in which the run comes to its end: all other tasks are admitted
-//! in that round, whether while the run lies still or by its workers.
+//! A crew takes one quiet step, which admits `main`, and one round, in which the run comes to its end: all other tasks are
+//! admitted in that round, whether while the run lies still or by its workers.
 ghost use Rattle.std.specs.Prelude.{◌≤◌};
 
 use floor_crew::{FloorCrew, FreeGate, Gate};
 use seg_journal::{End, Entry, Kind, Move};
 use std::alloc::Global;
 use std::sync::Wait;
-use std::sync::atomic::{AtomicBool, Ordering};
+use std::sync::atomic::{AtomicU64, Ordering};
 use std::test::Fail;
 use std::thread::Threads;
+use twe_base::{FaultKind, Limits, Place};
 use twe_frontend::read_program;
-use twe_limits::Limits;
 use twe_machine::{Outcome, outcome};
 
 /// The effects of `all` meet those of the two other tasks: `deep` writes far below them, and `far` is at no node of its own.
@@ -38,8 +38,8 @@ task void a() writes X { future f = b.executeLater(); f.getValue(); }\n\
 task void c() writes X { x = x + 1; }\n\
 task void main() pure { future f = a.executeLater(); future g = c.executeLater(); }\n";
 
-/// The same, but `a` and the first `b` have much to do, so that the run goes on a floor before `a` has ended, and the `b` that `a`
-/// makes and waits for is held back by the first one.
+/// The same, but `a` and the first `b` have much to do, so that the run goes on a floor before `a` has ended, and the `b` that
+/// `a` makes and waits for is held back by the first one.
 const HELD_LONG: &[u8] = b"region X, Y;\n\
 int x in X;\n\
 int y in Y;\n\
@@ -56,17 +56,58 @@ future g = c.executeLater();\n\
 future h = b.executeLater();\n\
 }\n";
 
-/// A gate that notes whether a worker runs a segment of one task.
+/// The same with effects below one another: `all` may be admitted once `a` has ended, whose records stand below its wildcard.
+const HELD_BELOW: &[u8] = b"region Data, L, Y;\n\
+int d[4] in Data;\n\
+int x in Data:[3]:L;\n\
+int y in Y;\n\
+task void b() writes Y { while (y < 1000) { y = y + 1; } y = 0; }\n\
+task void a() writes Data:[2], Data:[3]:L {\n\
+while (x < 1000) { x = x + 1; }\n\
+future f = b.executeLater();\n\
+f.getValue();\n\
+}\n\
+task void all() writes Data:* { d[2] = x; x = 0; }\n\
+task void main() pure {\n\
+future f = a.executeLater();\n\
+future g = all.executeLater();\n\
+future h = b.executeLater();\n\
+}\n";
+
+/// The first task meets a fault. It and the second one are admitted before there is a floor.
+const FAULTY: &[u8] = b"task int bad(int n) pure { return 1 / n; }\n\
+task void c() pure { }\n\
+task void main() pure { future f = bad.executeLater(0); future g = c.executeLater(); }\n";
+
+/// A gate that counts the segments of some tasks which workers are about to run.
 #[derive(Drop)]
 struct Watched {
-    task: u32,
-    passed: AtomicBool,
+    // The tasks from this number on, and below that one.
+    from: u32,
+    below: u32,
+    passed: AtomicU64,
+}
+
+impl Watched {
+    /// A gate for these tasks, which nobody has passed.
+    fn new(from: u32, below: u32) -> Self {
+        Watched {
+            from,
+            below,
+            passed: AtomicU64::new(0),
+        }
+    }
+
+    /// How many segments there were.
+    fn passed(&self) -> u64 {
+        self.passed.load(Ordering::SeqCst)
+    }
 }
 
 impl Gate for Watched {
     fn pass(&self, task: u32) {
-        if task == self.task {
-            self.passed.store(true, Ordering::SeqCst);
+        if self.from <= task && task < self.below {
+            self.passed.fetch_add(1, Ordering::SeqCst);
         }
     }
 
@@ -75,7 +116,7 @@ impl Gate for Watched {
 
 /// What a quiet step and a round have made of a run.
 #[derive(Clone, Copy, Debug, PartialEq, Eq)]
-struct Ran {
+pub(crate) struct Ran {
     /// The first entry of the journal.
     first: Option<Entry>,
     /// How many tasks were made.
@@ -85,7 +126,7 @@ struct Ran {
 }
 
 /// What a quiet step and a round of so many workers make of a run of the text, with this gate.
-fn step_and_round<R: Threads + Wait + Sync, G: Gate + Sync>(
+pub(crate) fn step_and_round<R: Threads + Wait + Sync, G: Gate + Sync>(
     rt: &R,
     alloc: Global,
     text: &[u8],
@@ -108,7 +149,7 @@ fn step_and_round<R: Threads + Wait + Sync, G: Gate + Sync>(
 }
 
 /// A run that began with the admission of `main` and made so many tasks, all of which are done.
-fn all_done(tasks: usize) -> Ran {
+pub(crate) fn all_done(tasks: usize) -> Ran {
     let mv = Move {
         kind: Kind::Admit,
         task: 0,
@@ -145,12 +186,32 @@ fn a_task_that_was_held_goes_on_in_the_same_round(rt: HostRuntime) -> Result<(),
 #[test]
 fn a_worker_goes_on_with_a_task_that_was_held(rt: HostRuntime) -> Result<(), Fail> {
     // The only floor that this run pays for begins while `a`, task 1, holds back `c`, task 2. So a worker has admitted `c`.
-    let gate = Watched {
-        task: 2,
-        passed: AtomicBool::new(false),
-    };
+    let gate = Watched::new(2, 3);
     let ran = step_and_round(&rt, rt.alloc(), HELD_LONG, 1, &gate)?;
     assert_eq!(rt; ran, all_done(5));
-    assert!(rt; gate.passed.load(Ordering::SeqCst));
+    assert_eq!(rt; gate.passed(), 1);
+    Ok(())
+}
+
+#[test]
+fn a_worker_goes_on_with_a_wildcard_that_was_held(rt: HostRuntime) -> Result<(), Fail> {
+    // A worker has admitted `all`, task 2, and has walked through the nodes below its place.
+    let gate = Watched::new(2, 3);
+    let ran = step_and_round(&rt, rt.alloc(), HELD_BELOW, 1, &gate)?;
+    assert_eq!(rt; ran, all_done(5));
+    assert_eq!(rt; gate.passed(), 1);
+    Ok(())
+}
+
+#[test]
+fn no_worker_begins_a_segment_once_a_fault_is_known(rt: HostRuntime) -> Result<(), Fail> {
+    // The only worker takes the tasks in order, and the first one meets a fault.
+    let gate = Watched::new(1, 3);
+    let ran = step_and_round(&rt, rt.alloc(), FAULTY, 1, &gate)?;
+    let kind = FaultKind::DivZero;
+    let place = Place { line: 1, col: 37 };
+    let task = 1;
+    assert_eq!(rt; ran.outcome, Outcome::Fault { task, kind, place });
+    assert_eq!(rt; gate.passed(), 1);
     Ok(())
 }

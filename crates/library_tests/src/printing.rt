@@ -2,7 +2,7 @@
 use ast_printer::print_ast;
 use std::alloc::Global;
 use std::test::Fail;
-use twe_io::Bytes;
+use twe_base::Bytes;
 use twe_parser::{ParseFail, parse};
 
 /// The printed tree of a text.
@@ -21,8 +21,10 @@ const TEXTS: &[(&[u8], &[u8])] = &[
         b"task void main ( ) pure {\n}\n",
     ),
     (
-        b"int m(int i) reads Root:A:[i], Root:* writes Root { /* dropped */ return (a[i] + ((2))) * -(1 * 3) - (5 - -2147483648); }",
-        b"int m ( int i ) reads A : [ i ] , Root : * writes Root {\nreturn ( a [ i ] + 2 ) * - ( 1 * 3 ) - ( 5 - - 2147483648 ) ;\n}\n",
+        b"int m(int i) reads Root:A:[i], Root:* writes Root { /* dropped */ \
+return (a[i] + ((2))) * -(1 * 3) - (5 - -2147483648); }",
+        b"int m ( int i ) reads A : [ i ] , Root : * writes Root {\n\
+return ( a [ i ] + 2 ) * - ( 1 * 3 ) - ( 5 - - 2147483648 ) ;\n}\n",
     ),
 ];
 

@@ -2,21 +2,20 @@
 //! with, and that was worked out by hand.
 ghost use Rattle.std.specs.Prelude.{◌≡◌};
 ghost use Rattle.twe_program.specs.WellFormed.{IsWellFormed};
-ghost use Rattle.soundness_laws.specs.KeepsEffects.{KeepsEffects};
+ghost use Rattle.isolation_laws.specs.soundness.KeepsEffects.{KeepsEffects};
 ghost use Rattle.twe_machine.specs.Runs.{IsRun};
 
 use effect_tree::Shape;
-use floor_steps::Rest;
 use floor_table::Named;
+use floor_table::nodes::Planted;
 use seg_journal::{Kind, Move};
 use std::alloc::Global;
 use std::marker::Brand;
 use std::test::Fail;
 use task_floor::Floor;
-use tree_table::Planted;
+use task_floor::steps::Rest;
+use twe_base::{Limits, Memory};
 use twe_frontend::read_program;
-use twe_io::Memory;
-use twe_limits::Limits;
 use twe_machine::{State, TaskRow, TaskStatus, replay_journal};
 use twe_program::Prog;
 

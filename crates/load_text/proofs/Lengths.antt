@@ -2,13 +2,13 @@
 use Rattle.std.proofs.Common.{◌≡◌, ℕ, ◌+◌, ◌*◌, ◌%◌, ◌^◌, ◌<◌, ◌≤◌, zero, suc, List, ◌++◌, length, length-append, arith}
 use Rattle.std.specs.Prelude.{decimal}
 use Rattle.std.proofs.lemmas.Fmt.{length-decimal-le}
-use Rattle.load_text.specs.Text.{cell_line, child_line, parent_line, cell_lines, start_line, each_below, load_text_of}
+use Rattle.load_text.specs.Text.{load_cell_line, child_line, parent_line, cell_lines, start_line, each_below, load_text_of}
 
 -- a number has at most four digits
 digits_most : (n : ℕ) → n < 10000 → length (decimal n) ≤ 4
 digits_most n small = length-decimal-le 4 n (omega arith) (omega arith) (omega arith)
 
-cell_most : (i : ℕ) → i < 2000 → length (cell_line i) ≤ 31
+cell_most : (i : ℕ) → i < 2000 → length (load_cell_line i) ≤ 31
 cell_most i small =
     let digits = digits_most i (omega arith) in
     let value = digits_most ((7 * i) % 1000) (omega arith) in
@@ -25,7 +25,7 @@ lines_most i small =
     let cell = cell_most i small in
     let child = child_most i small in
     let parent = parent_most i small in
-    omega (arith, length-append (cell_line i) (child_line i ++ parent_line i), length-append (child_line i) (parent_line i))
+    omega (arith, length-append (load_cell_line i) (child_line i ++ parent_line i), length-append (child_line i) (parent_line i))
 
 start_most : (i : ℕ) → i < 2000 → length (start_line i) ≤ 40
 start_most i small = let digits = digits_most i (omega arith) in simp length-append (omega arith)

@@ -7,8 +7,8 @@ abbrev pub numbered : List ℕ → ℕ → List ℕ
 numbered word number = word ++ decimal number
 
 -- `int c7 in R:[7] = 49;`
-abbrev pub cell_line : ℕ → List ℕ
-cell_line i =
+abbrev pub load_cell_line : ℕ → List ℕ
+load_cell_line i =
     numbered (codes "int c") i ++ (numbered (codes " in R:[") i ++ (numbered (codes "] = ") ((7 * i) % 1000) ++ codes ";\n"))
 
 -- `] { c7 = c7 * 3 + 7; }`
@@ -27,7 +27,7 @@ parent_line i =
 
 -- the lines of a cell and of its two tasks
 abbrev pub cell_lines : ℕ → List ℕ
-cell_lines i = cell_line i ++ (child_line i ++ parent_line i)
+cell_lines i = load_cell_line i ++ (child_line i ++ parent_line i)
 
 -- `future f7 = t7.executeLater();`
 abbrev pub start_line : ℕ → List ℕ

@@ -3,10 +3,8 @@
 //! The crate makes the text. It does not say what the text means, nor that it is accepted.
 #![tactic(auto)]
 
+pub mod accepted;
 mod lines;
 mod text;
 
 pub use text::load_text;
-
-#[cfg(test)]
-mod tests;

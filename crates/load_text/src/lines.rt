@@ -1,9 +1,9 @@
 //! The lines of a cell, of its tasks, and of their start.
 ghost use Rattle.std.specs.Prelude.{◌≡◌, ◌≤◌, ◌++◌, OnOk};
-ghost use Rattle.load_text.specs.Text.{numbered, cell_line, change_part, child_line, parent_line, cell_lines, start_line};
+ghost use Rattle.load_text.specs.Text.{numbered, load_cell_line, change_part, child_line, parent_line, cell_lines, start_line};
 
 use itoa::Buffer;
-use twe_io::{Bytes, Memory};
+use twe_base::{Bytes, Memory};
 
 /// Appends the lines of cell `i` and of its two tasks to a text.
 pub(crate) fn push_cell_lines(text: &mut Bytes, i: u32) -> Result<(), Memory>
@@ -18,7 +18,7 @@ pub(crate) fn push_cell_lines(text: &mut Bytes, i: u32) -> Result<(), Memory>
 /// Appends the declaration of cell `i` to a text.
 fn push_cell_line(text: &mut Bytes, i: u32) -> Result<(), Memory>
     requires { i ≤ 2000 }
-    ensures { OnOk result (text.new ≡ text.old ++ cell_line i) }
+    ensures { OnOk result (text.new ≡ text.old ++ load_cell_line i) }
 {
     push_numbered(text, b"int c", i)?;
     push_numbered(text, b" in R:[", i)?;

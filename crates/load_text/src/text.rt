@@ -1,11 +1,11 @@
 //! The whole text.
 ghost use Rattle.std.specs.Prelude.{◌≡◌, ◌≤◌, ◌++◌, length, IfOk, OnOk};
-ghost use Rattle.twe_limits.specs.Language.{max_text_bytes};
+ghost use Rattle.twe_base.specs.Language.{max_text_bytes};
 ghost use Rattle.load_text.specs.Text.{cell_lines, start_line, each_below, load_text_of};
 
 use crate::lines::{push_cell_lines, push_start_line};
 use std::alloc::Global;
-use twe_io::{Bytes, Memory};
+use twe_base::{Bytes, Memory};
 
 /// The text of the load generator for `n` cells, 1 to 2,000. It is no longer than a program text may be.
 pub fn load_text(alloc: Global, n: u32) -> Result<Bytes, Memory>

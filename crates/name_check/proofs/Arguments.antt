@@ -3,9 +3,9 @@ use Rattle.std.proofs.Common.{◌≡◌, ◌+◌, List, [], ◌∷◌, length, g
 use Rattle.std.proofs.lemmas.List.{drop_more}
 use Rattle.twe_ast.specs.Expression.{Expression, argument}
 use Rattle.twe_ast.specs.inner.ExpressionView.{arguments_of}
-use Rattle.name_check.specs.Types.{count_of}
+use Rattle.name_check.specs.Types.{argument_count}
 
-pub count_is : (items : List Expression) → count_of (arguments_of items) ≡ length items
+pub count_is : (items : List Expression) → argument_count (arguments_of items) ≡ length items
 count_is [] = refl
 count_is (first ∷ others) = let rest = count_is others in omega arith
 

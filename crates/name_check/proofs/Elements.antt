@@ -4,16 +4,16 @@ use Rattle.std.proofs.lemmas.Bool.{false≢true}
 use Rattle.std.proofs.lemmas.List.Sums.{sum_by-cons}
 use Rattle.std.specs.List.{slice_get, flat_map, count_by}
 use Rattle.std.specs.Option.{option_map}
-use Rattle.twe_io.specs.declared.place.Place.{Place}
+use Rattle.twe_base.specs.declared.place.Place.{Place}
 use Rattle.twe_ast.specs.declared.item.Clause.{Clause}
 use Rattle.twe_ast.specs.declared.path.Path.{Path}
 use Rattle.twe_ast.specs.declared.path.PathElem.{PathElem}
 use Rattle.name_check.specs.declared.rule.NRule.{NRule}
 use Rattle.name_check.specs.FailsName.{NameFailure}
 use Rattle.name_check.specs.Limits.{StandsAfter, IsSecondStar, is_star}
-use Rattle.first_failure.specs.First.{failure_if}
+use Rattle.twe_base.specs.First.{failure_if}
 use Rattle.name_check.specs.inner.OtherFailures.{failures_of_place, second_star, path_failures, paths_failures, clauses_failures}
-use Rattle.first_failure.proofs.Members.{IsIn, in-left, in-right, in-cases}
+use Rattle.twe_base.proofs.Members.{IsIn, in-left, in-right, in-cases}
 
 abbrev pub failure : NRule → Place → NameFailure
 failure rule place = record { rule = rule; place = place }

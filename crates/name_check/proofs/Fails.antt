@@ -6,8 +6,8 @@ use Rattle.std.specs.List.{Contains, flat_map, list_any}
 use Rattle.std.specs.Prelude.{codes}
 use Rattle.std.specs.Str.{bytes_eq}
 use Rattle.std.specs.Cmp.Lexicographic.{bytes_decides}
-use Rattle.twe_limits.specs.Language.{max_effects, max_parameters, max_path_elements}
-use Rattle.twe_io.specs.declared.place.Place.{Place}
+use Rattle.twe_base.specs.Language.{max_effects, max_parameters, max_path_elements}
+use Rattle.twe_base.specs.declared.place.Place.{Place}
 use Rattle.twe_ast.specs.declared.item.Ast.{Ast}
 use Rattle.twe_ast.specs.declared.item.CellDecl.{CellDecl}
 use Rattle.twe_ast.specs.declared.item.Decl.{Decl}
@@ -21,7 +21,7 @@ use Rattle.twe_ast.specs.declared.path.Path.{Path}
 use Rattle.twe_ast.specs.declared.path.PathElem.{PathElem}
 use Rattle.twe_ast.specs.declared.stmt.LocalType.{LocalType}
 use Rattle.twe_ast.specs.declared.stmt.LocalType.TheVariants.{Int, Boolean}
-use Rattle.cell_limits.specs.GoesOver.{cells_of, cells_of_item, GoesOver}
+use Rattle.name_check.specs.cell_limits.GoesOver.{cells_of, cells_of_item, GoesOver}
 use Rattle.name_check.specs.declared.rule.NRule.{NRule}
 use Rattle.name_check.specs.declared.rule.NRule.TheVariants.{N1, N2, N3, N4, N5, N6, N7, N8, N9}
 use Rattle.name_check.specs.FailsName.{NameFailure}
@@ -42,12 +42,12 @@ use Rattle.name_check.specs.Limits.{StandsAfter, decls_of, decls_of_item, paths_
 use Rattle.name_check.specs.FailsName as rules
 use Rattle.name_check.specs.FailsName.{FailsName, Asks, HasMain, IsDeclaredAgain, binding_as, fits}
 use Rattle.name_check.specs.inner.Failures.{lacks_value, has_other_count, assigns_constant, failures_of_use, differs, failures_by, failures_at, is_void}
-use Rattle.first_failure.specs.First.{failure_if}
+use Rattle.twe_base.specs.First.{failure_if}
 use Rattle.name_check.specs.inner.OtherFailures.{failures_of_place, parameter_over_limit, path_over_limit, element_over_limit, path_failures, clauses_failures, lacks_return, decl_failures, item_failures}
 use Rattle.name_check.specs.inner.Whole.{is_again, again_failures, is_main_item}
-use Rattle.first_failure.proofs.Firsts.{in-if}
+use Rattle.twe_base.proofs.Firsts.{in-if}
 use Rattle.name_check.proofs.Elements.{failure, in-over, in-star, in-clauses}
-use Rattle.first_failure.proofs.Members.{IsIn, in-left, in-right, contains-in, in-contains, flat_map-in, in-flat_map, list_any-in, in-list_any, both-true, true-both, true-or, false-not}
+use Rattle.twe_base.proofs.Members.{IsIn, in-left, in-right, contains-in, in-contains, flat_map-in, in-flat_map, list_any-in, in-list_any, both-true, true-both, true-or, false-not}
 use Rattle.name_check.proofs.Gathered.{site_failures, failures_in_item, failures_in}
 
 -- it is the failure of a declaration that goes over a limit

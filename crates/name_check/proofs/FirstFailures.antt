@@ -9,13 +9,13 @@ use Rattle.name_check.specs.declared.scope.LocalName.{LocalName}
 use Rattle.name_check.specs.FailsName.{NameFailure}
 use Rattle.name_check.specs.Types.{type_of}
 use Rattle.name_check.specs.Asks.{Ask, need, place_of}
-use Rattle.first_failure.proofs.Firsts as firsts_of
-use Rattle.name_check.specs.FailsName.{number_of}
+use Rattle.twe_base.proofs.Firsts as firsts_of
+use Rattle.name_check.specs.FailsName.{name_rule_number}
 use Rattle.name_check.specs.inner.First.{first_from}
 use Rattle.name_check.specs.inner.Failures.{first_of_asks, failures_here, failures_of_need}
 
 pub first_from-append : (first : Option NameFailure) (xs ys : List NameFailure) → first_from first (xs ++ ys) ≡ first_from (first_from first xs) ys
-first_from-append first xs ys = firsts_of.first_from-append number_of first xs ys
+first_from-append first xs ys = firsts_of.first_from-append name_rule_number first xs ys
 
 module _ (globals : List GlobalName) (locals : List LocalName) where
   pub first_of_asks-append : (first : Option NameFailure) (xs ys : List Ask)

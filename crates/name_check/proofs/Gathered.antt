@@ -9,7 +9,7 @@ use Rattle.name_check.specs.FailsName.{NameFailure}
 use Rattle.name_check.specs.Names.{globals_of}
 use Rattle.name_check.specs.Sites.{Site, sites_of_item}
 use Rattle.name_check.specs.inner.Failures.{failures_at, first_of_sites}
-use Rattle.first_failure.specs.First.{failure_if}
+use Rattle.twe_base.specs.First.{failure_if}
 use Rattle.name_check.specs.inner.First.{first_from}
 use Rattle.name_check.specs.inner.OtherFailures.{item_failures}
 use Rattle.name_check.specs.inner.Whole.{again_failures, first_but_nodes, first_in_items, is_main_item}

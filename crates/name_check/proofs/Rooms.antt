@@ -3,7 +3,7 @@ use Rattle.std.proofs.Common.{◌≡◌, ℕ, ◌+◌, length, take, List, arith
 use Rattle.twe_ast.specs.Statement.{Statement, Statements}
 use Rattle.name_check.specs.declared.names.GlobalName.{GlobalName}
 use Rattle.name_check.specs.declared.scope.BodyScope.{BodyScope}
-use Rattle.name_check.specs.BodyScope.{after, after_all, after_block, counted}
+use Rattle.name_check.specs.BodyScope.{after, after_all, after_block, counted_binding}
 use Rattle.name_check.specs.Size.{statements_in, statements_in_all}
 use Rattle.name_check.specs.inner.Room.{HasRoom}
 use Rattle.name_check.proofs.Walks.{Passes, passes, passes_all, passes-block, passes-take}
@@ -16,7 +16,7 @@ module _ (a b : BodyScope) (m n : ℕ) (room : HasRoom a (m + n)) where
   room_past h = record { points = omega arith; vars = omega arith; futures = omega arith }
 
 -- inside a statement that is counted
-pub room_inside : (here : BodyScope) (n : ℕ) → HasRoom here (n + 1) → HasRoom (counted here) n
+pub room_inside : (here : BodyScope) (n : ℕ) → HasRoom here (n + 1) → HasRoom (counted_binding here) n
 room_inside here n room = record { points = omega arith; vars = omega arith; futures = omega arith }
 
 module _ (globals : List GlobalName) (here : BodyScope) where

@@ -5,7 +5,7 @@ use Rattle.twe_ast.specs.Statement.{Statement, Block, Let, Set, SetArray, SetGri
 use Rattle.name_check.specs.declared.names.GlobalName.{GlobalName}
 use Rattle.name_check.specs.declared.scope.LocalName.{LocalName}
 use Rattle.name_check.specs.declared.scope.BodyScope.{BodyScope}
-use Rattle.name_check.specs.BodyScope.{counted, leaving, after, after_all, after_arms}
+use Rattle.name_check.specs.BodyScope.{counted_binding, leaving, after, after_all, after_arms}
 use Rattle.name_check.specs.Size.{statements_in, statements_in_all, statements_in_arms}
 
 -- from one place to a later one there are so many statements
@@ -57,7 +57,7 @@ passes-block here inside count p = record {
   locals = append-nothing here.locals;
 }
 
-passes-one : (here : BodyScope) → Passes here (counted here) 1
+passes-one : (here : BodyScope) → Passes here (counted_binding here) 1
 passes-one here = record {
   points = refl;
   vars_more = omega arith;
@@ -68,7 +68,7 @@ passes-one here = record {
   locals = append-nothing here.locals;
 }
 
-passes-variable : (here : BodyScope) (name : LocalName) → Passes here (record (counted here) { locals = here.locals ++ name ∷ []; vars = here.vars + 1 }) 1
+passes-variable : (here : BodyScope) (name : LocalName) → Passes here (record (counted_binding here) { locals = here.locals ++ name ∷ []; vars = here.vars + 1 }) 1
 passes-variable here name = record {
   points = refl;
   vars_more = omega arith;
@@ -79,7 +79,7 @@ passes-variable here name = record {
   locals = refl;
 }
 
-passes-future : (here : BodyScope) (name : LocalName) → Passes here (record (counted here) { locals = here.locals ++ name ∷ []; futures = here.futures + 1 }) 1
+passes-future : (here : BodyScope) (name : LocalName) → Passes here (record (counted_binding here) { locals = here.locals ++ name ∷ []; futures = here.futures + 1 }) 1
 passes-future here name = record {
   points = refl;
   vars_more = omega arith;
@@ -90,15 +90,15 @@ passes-future here name = record {
   locals = refl;
 }
 
-passes-nested : (here later : BodyScope) (count : ℕ) → Passes (counted here) later count → Passes here later (count + 1)
-passes-nested here later count p = passes-then here (counted here) later 1 count (count + 1) (omega arith) (passes-one here) p
+passes-nested : (here later : BodyScope) (count : ℕ) → Passes (counted_binding here) later count → Passes here later (count + 1)
+passes-nested here later count p = passes-then here (counted_binding here) later 1 count (count + 1) (omega arith) (passes-one here) p
 
 mutual
   pub passes : (globals : List GlobalName) (here : BodyScope) (s : Statement) → Passes here (after globals here s) (statements_in s)
-  passes globals here (Block body) = passes-nested here _ _ (passes-block (counted here) _ _ (passes_all globals (counted here) body))
+  passes globals here (Block body) = passes-nested here _ _ (passes-block (counted_binding here) _ _ (passes_all globals (counted_binding here) body))
   passes globals here (Let is_final local_type name value) = passes-variable here _
-  passes globals here (If arms) = passes-nested here _ _ (passes_arms globals (counted here) arms)
-  passes globals here (While place condition body) = passes-nested here _ _ (passes-block (counted here) _ _ (passes_all globals (counted here) body))
+  passes globals here (If arms) = passes-nested here _ _ (passes_arms globals (counted_binding here) arms)
+  passes globals here (While place condition body) = passes-nested here _ _ (passes-block (counted_binding here) _ _ (passes_all globals (counted_binding here) body))
   passes globals here (Make future task spawned args) = passes-future here _
   passes globals here (LetWait is_final name wait) = passes-variable here _
   passes globals here (Set name value) = passes-one here

@@ -17,9 +17,10 @@ use Rattle.name_check.specs.declared.scope.BodyScope.{BodyScope}
 use Rattle.name_check.specs.Names.{binding_of}
 
 -- one statement more
-abbrev pub counted : BodyScope → BodyScope
-counted here = record here { points = here.points + 1 }
+abbrev pub counted_binding : BodyScope → BodyScope
+counted_binding here = record here { points = here.points + 1 }
 
+-- the binding of the parameter or local that comes next: its number is that of parameters and locals before it
 abbrev pub variable_at : BodyScope → LocalType → Bool → Local
 variable_at here local_type constant = local_kinds.Variable here.vars local_type constant
 
@@ -38,15 +39,22 @@ is_void _ = false
 -- a future more
 abbrev pub with_future : List GlobalName → BodyScope → List ℕ → List ℕ → Bool → BodyScope
 with_future globals here text task spawned = record here {
-  locals = here.locals ++ record { text = text; local = local_kinds.Future here.futures spawned (is_void (binding_of globals here.locals task)) } ∷ [];
+  locals = here.locals ++ record {
+    text = text;
+    local = local_kinds.Future here.futures spawned (is_void (binding_of globals here.locals task));
+  } ∷ [];
   futures = here.futures + 1;
 }
 
 -- the parameters, with their numbers
 abbrev pub params_from : ℕ → List Name → List LocalName
 params_from number [] = []
-params_from number (name ∷ names) = record { text = name.text; local = local_kinds.Variable number types.Int true } ∷ params_from (number + 1) names
+params_from number (name ∷ names) = record {
+  text = name.text;
+  local = local_kinds.Variable number types.Int true;
+} ∷ params_from (number + 1) names
 
+-- the parameters of a declaration, numbered from 0
 abbrev pub params_of : Decl → List LocalName
 params_of decl = params_from 0 decl.params
 
@@ -58,19 +66,19 @@ leaving outside inside = record inside { locals = outside.locals }
 -- scope after their declaration.
 abbrev mutual
   pub after : List GlobalName → BodyScope → Statement → BodyScope
-  after globals here (Block body) = leaving (counted here) (after_all globals (counted here) body)
-  after globals here (Let is_final local_type name value) = with_variable (counted here) name.text local_type is_final
-  after globals here (Set name value) = counted here
-  after globals here (SetArray array index value) = counted here
-  after globals here (SetGrid array row column value) = counted here
-  after globals here (If arms) = after_arms globals (counted here) arms
-  after globals here (While place condition body) = leaving (counted here) (after_all globals (counted here) body)
-  after globals here (Return place value) = counted here
-  after globals here (Print place value) = counted here
-  after globals here (Call method args) = counted here
-  after globals here (Make future task spawned args) = with_future globals (counted here) future.text task.text spawned
-  after globals here (Wait wait) = counted here
-  after globals here (LetWait is_final name wait) = with_variable (counted here) name.text types.Int is_final
+  after globals here (Block body) = leaving (counted_binding here) (after_all globals (counted_binding here) body)
+  after globals here (Let is_final local_type name value) = with_variable (counted_binding here) name.text local_type is_final
+  after globals here (Set name value) = counted_binding here
+  after globals here (SetArray array index value) = counted_binding here
+  after globals here (SetGrid array row column value) = counted_binding here
+  after globals here (If arms) = after_arms globals (counted_binding here) arms
+  after globals here (While place condition body) = leaving (counted_binding here) (after_all globals (counted_binding here) body)
+  after globals here (Return place value) = counted_binding here
+  after globals here (Print place value) = counted_binding here
+  after globals here (Call method args) = counted_binding here
+  after globals here (Make future task spawned args) = with_future globals (counted_binding here) future.text task.text spawned
+  after globals here (Wait wait) = counted_binding here
+  after globals here (LetWait is_final name wait) = with_variable (counted_binding here) name.text types.Int is_final
 
   pub after_all : List GlobalName → BodyScope → Statements → BodyScope
   after_all globals here (end_of_block close) = here
@@ -81,5 +89,6 @@ abbrev mutual
   after_arms globals here (otherwise body) = leaving here (after_all globals here body)
   after_arms globals here no_else = here
 
+-- the scope after a block: what the block declares is out of scope again
 abbrev pub after_block : List GlobalName → BodyScope → Statements → BodyScope
 after_block globals here body = leaving here (after_all globals here body)

@@ -9,3 +9,4 @@ pub mod Size
 pub mod FailsName
 pub mod Checked
 pub mod inner
+pub mod cell_limits

@@ -10,12 +10,13 @@ use Rattle.twe_ast.specs.declared.path.PathElem.{PathElem}
 use Rattle.twe_ast.specs.declared.path.PathElemKind.{PathElemKind}
 use Rattle.twe_ast.specs.declared.path.PathElemKind.TheVariants as elem_kinds
 
--- the declarations of methods and tasks, in the order of the text
+-- the declaration of a method or a task; other items have none
 abbrev pub decls_of_item : Item → List Decl
 decls_of_item (items.Method decl) = decl ∷ []
 decls_of_item (items.Task deterministic decl) = decl ∷ []
 decls_of_item _ = []
 
+-- the declarations of methods and tasks, in the order of the text
 abbrev pub decls_of : Ast → List Decl
 decls_of ast = flat_map decls_of_item ast.items
 
@@ -30,6 +31,7 @@ pub record StandsAfter {A : Type 0} (count : ℕ) (items : List A) (item : A) : 
   pub list : items ≡ before ++ item ∷ after
   pub many : length before ≡ count
 
+-- the kind of the element is `*`
 abbrev pub is_star_kind : PathElemKind → Bool
 is_star_kind elem_kinds.Star = true
 is_star_kind _ = false

@@ -25,6 +25,7 @@ pub record Before : Type 0 where
 abbrev pub at_start : Before
 at_start = record { regions = 1; cells = 0; methods = 0; tasks = 0 }
 
+-- how many indexes a use of a cell of this shape has
 abbrev pub indexes_of : CellShape → ℕ
 indexes_of (shapes.Scalar initial) = 0
 indexes_of (shapes.Array elements) = 1
@@ -33,24 +34,39 @@ indexes_of (shapes.Grid rows columns) = 2
 -- regions, with their numbers
 abbrev pub regions_from : ℕ → List Name → List GlobalName
 regions_from number [] = []
-regions_from number (name ∷ names) = record { text = name.text; place = name.place; global = global_kinds.Region number } ∷ regions_from (number + 1) names
+regions_from number (name ∷ names) = record {
+  text = name.text;
+  place = name.place;
+  global = global_kinds.Region number;
+} ∷ regions_from (number + 1) names
 
 -- what an item declares, if these are before it
 abbrev pub declared_by : Before → Item → List GlobalName
 declared_by before (items.Regions names) = regions_from before.regions names
-declared_by before (items.Cell cell) =
-    record { text = cell.name.text; place = cell.name.place; global = global_kinds.Cells before.cells (indexes_of cell.shape) } ∷ []
-declared_by before (items.Method decl) =
-    record { text = decl.name.text; place = decl.name.place; global = global_kinds.Method before.methods (length decl.params) decl.returns } ∷ []
-declared_by before (items.Task deterministic decl) =
-    record { text = decl.name.text; place = decl.name.place; global = global_kinds.Task before.tasks (length decl.params) decl.returns } ∷ []
+declared_by before (items.Cell cell) = record {
+  text = cell.name.text;
+  place = cell.name.place;
+  global = global_kinds.Cells before.cells (indexes_of cell.shape);
+} ∷ []
+declared_by before (items.Method decl) = record {
+  text = decl.name.text;
+  place = decl.name.place;
+  global = global_kinds.Method before.methods (length decl.params) decl.returns;
+} ∷ []
+declared_by before (items.Task deterministic decl) = record {
+  text = decl.name.text;
+  place = decl.name.place;
+  global = global_kinds.Task before.tasks (length decl.params) decl.returns;
+} ∷ []
 
+-- the numbers after an item, if these are the numbers before it
 abbrev pub past : Before → Item → Before
 past before (items.Regions names) = record before { regions = before.regions + length names }
 past before (items.Cell cell) = record before { cells = before.cells + 1 }
 past before (items.Method decl) = record before { methods = before.methods + 1 }
 past before (items.Task deterministic decl) = record before { tasks = before.tasks + 1 }
 
+-- what the items declare, in their order, if these numbers are before them
 abbrev pub globals_from : Before → List Item → List GlobalName
 globals_from before [] = []
 globals_from before (item ∷ others) = declared_by before item ++ globals_from (past before item) others
@@ -64,6 +80,7 @@ abbrev pub first_global : List ℕ → List GlobalName → Option Global
 first_global text [] = None
 first_global text (first ∷ others) = if bytes_eq text first.text then Some first.global else first_global text others
 
+-- the same for the parameters, locals and futures of a declaration
 abbrev pub first_local : List ℕ → List LocalName → Option Local
 first_local text [] = None
 first_local text (first ∷ others) = if bytes_eq text first.text then Some first.local else first_local text others
@@ -72,14 +89,17 @@ first_local text (first ∷ others) = if bytes_eq text first.text then Some firs
 abbrev pub global_of : List GlobalName → List ℕ → Option Global
 global_of globals text = if bytes_eq text (codes "Console") then Some (global_kinds.Region 0) else first_global text globals
 
+-- the binding of a name to a parameter, a local or a future, if one was found
 abbrev pub binding_of_local : Option Local → Option Binding
 binding_of_local None = None
 binding_of_local (Some local) = Some (bindings.Local local)
 
+-- the binding of a name to something global, if that was found
 abbrev pub seen_as_global : Option Global → Option Binding
 seen_as_global None = None
 seen_as_global (Some global) = Some (bindings.Global global)
 
+-- the binding inside the declaration if there is one, and otherwise the global one
 abbrev pub either : Option Local → Option Global → Option Binding
 either None global = seen_as_global global
 either (Some local) global = Some (bindings.Local local)

@@ -1,6 +1,6 @@
 -- The places at which a text needs something, each with its scope.
 use Rattle.std.specs.Prelude.{ℕ, ◌+◌, true, false, List, [], ◌∷◌, ◌++◌, map, length, Option, None, Some}
-use Rattle.twe_io.specs.declared.place.Place.{Place}
+use Rattle.twe_base.specs.declared.place.Place.{Place}
 use Rattle.std.specs.List.{flat_map}
 use Rattle.twe_ast.specs.declared.item.Ast.{Ast}
 use Rattle.twe_ast.specs.declared.item.Item.{Item}
@@ -30,8 +30,8 @@ use Rattle.name_check.specs.declared.names.GlobalName.{GlobalName}
 use Rattle.name_check.specs.declared.scope.LocalName.{LocalName}
 use Rattle.name_check.specs.Names.{globals_of, binding_of}
 use Rattle.name_check.specs.declared.scope.BodyScope.{BodyScope}
-use Rattle.name_check.specs.BodyScope.{counted, after, after_block, params_of, params_from}
-use Rattle.name_check.specs.Types.{count_of}
+use Rattle.name_check.specs.BodyScope.{counted_binding, after, after_block, params_of, params_from}
+use Rattle.name_check.specs.Types.{argument_count}
 use Rattle.name_check.specs.Asks.{Ask, uses, declares, returns_value, returns_nothing, asks_of, asks_of_all, place_of}
 
 -- something that is needed, the names in scope there beside the global ones, and what the declaration around it returns
@@ -40,6 +40,7 @@ pub record Site : Type 0 where
   pub returns : ReturnType
   pub ask : Ask
 
+-- the sites of several needs that have one scope and stand in one declaration
 abbrev pub sites_at : List LocalName → ReturnType → List Ask → List Site
 sites_at locals returns asks = map (λ ask. record { locals = locals; returns = returns; ask = ask }) asks
 
@@ -56,29 +57,36 @@ asks_of_return globals locals (Some value) nothing = returns_value (place_of val
 -- what statements need, in all of their parts
 abbrev mutual
   pub sites_in : List GlobalName → ReturnType → BodyScope → Statement → List Site
-  sites_in globals returns here (Block body) = sites_in_all globals returns (counted here) body
+  sites_in globals returns here (Block body) = sites_in_all globals returns (counted_binding here) body
   sites_in globals returns here (Let is_final local_type name value) =
       sites_at here.locals returns (declares name ∷ asks_of globals here.locals (Some local_type) value)
   sites_in globals returns here (Set name value) =
-      sites_at here.locals returns (uses name name_use.Target ∷ asks_of globals here.locals (Some (target_type (binding_of globals here.locals name.text))) value)
+      sites_at here.locals returns
+      (uses name name_use.Target
+      ∷ asks_of globals here.locals (Some (target_type (binding_of globals here.locals name.text))) value)
   sites_in globals returns here (SetArray array index value) =
       sites_at here.locals returns
-      (uses array (name_use.Array 1) ∷ (asks_of globals here.locals (Some Int) index ++ asks_of globals here.locals (Some Int) value))
+      (uses array (name_use.Array 1) ∷ (asks_of globals here.locals (Some Int) index
+      ++ asks_of globals here.locals (Some Int) value))
   sites_in globals returns here (SetGrid array row column value) =
       sites_at here.locals returns
       (uses array (name_use.Array 2) ∷ (asks_of globals here.locals (Some Int) row
       ++ (asks_of globals here.locals (Some Int) column ++ asks_of globals here.locals (Some Int) value)))
-  sites_in globals returns here (If arms) = sites_in_arms globals returns (counted here) arms
+  sites_in globals returns here (If arms) = sites_in_arms globals returns (counted_binding here) arms
   sites_in globals returns here (While place condition body) =
-      sites_at here.locals returns (asks_of globals here.locals (Some Boolean) condition) ++ sites_in_all globals returns (counted here) body
+      sites_at here.locals returns (asks_of globals here.locals (Some Boolean) condition)
+      ++ sites_in_all globals returns (counted_binding here) body
   sites_in globals returns here (Return place value) =
       sites_at here.locals returns (asks_of_return globals here.locals value (returns_nothing place))
   sites_in globals returns here (Print place value) = sites_at here.locals returns (asks_of globals here.locals (Some Int) value)
   sites_in globals returns here (Call method args) =
-      sites_at here.locals returns (uses method (name_use.Method (count_of args) false) ∷ asks_of_all globals here.locals args)
+      sites_at here.locals returns
+      (uses method (name_use.Method (argument_count args) false) ∷ asks_of_all globals here.locals args)
   sites_in globals returns here (Make future task spawned args) =
-      sites_at here.locals returns (declares future ∷ uses task (name_use.Task (count_of args)) ∷ asks_of_all globals here.locals args)
-  sites_in globals returns here (Wait wait) = sites_at here.locals returns (uses wait.future (name_use.Future wait.join false) ∷ [])
+      sites_at here.locals returns
+      (declares future ∷ uses task (name_use.Task (argument_count args)) ∷ asks_of_all globals here.locals args)
+  sites_in globals returns here (Wait wait) =
+      sites_at here.locals returns (uses wait.future (name_use.Future wait.join false) ∷ [])
   sites_in globals returns here (LetWait is_final name wait) =
       sites_at here.locals returns (declares name ∷ uses wait.future (name_use.Future wait.join true) ∷ [])
 
@@ -97,9 +105,11 @@ abbrev mutual
 -- the parameters get their names one after another
 abbrev pub sites_of_params : ReturnType → List LocalName → ℕ → List Name → List Site
 sites_of_params returns before number [] = []
-sites_of_params returns before number (name ∷ names) =
-    record { locals = before; returns = returns; ask = declares name }
-    ∷ sites_of_params returns (before ++ params_from number (name ∷ [])) (number + 1) names
+sites_of_params returns before number (name ∷ names) = record {
+  locals = before;
+  returns = returns;
+  ask = declares name;
+} ∷ sites_of_params returns (before ++ params_from number (name ∷ [])) (number + 1) names
 
 -- what an element of a path needs: a region for a name, and a parameter for a name in brackets
 abbrev pub asks_of_kind : PathElemKind → Place → List Ask
@@ -109,16 +119,20 @@ asks_of_kind (elem_kinds.Variable name) place = uses name name_use.Parameter ∷
 asks_of_kind elem_kinds.AnyIndex place = []
 asks_of_kind elem_kinds.Star place = []
 
+-- what the elements of an effect's path need
 abbrev pub asks_of_path : Path → List Ask
 asks_of_path path = flat_map (λ (elem : PathElem). asks_of_kind elem.kind elem.place) path.elems
 
+-- what the paths of a clause of effects need
 abbrev pub asks_of_clause : Clause → List Ask
 asks_of_clause clause = flat_map asks_of_path clause.paths
 
+-- what an element of a cell's path needs: a region for a name
 abbrev pub asks_of_cell_kind : CellElemKind → Place → List Ask
 asks_of_cell_kind (cell_kinds.Name text) place = uses (record { text = text; place = place }) name_use.Region ∷ []
 asks_of_cell_kind (cell_kinds.Index index) place = []
 
+-- what the elements of a cell's path need
 abbrev pub asks_of_cell_path : CellPath → List Ask
 asks_of_cell_path path = flat_map (λ (elem : CellElem). asks_of_cell_kind elem.kind elem.place) path.elems
 
@@ -130,13 +144,16 @@ at_body decl = record { locals = params_of decl; points = 0; vars = length decl.
 abbrev pub sites_of_decl : List GlobalName → Decl → List Site
 sites_of_decl globals decl =
     sites_of_params decl.returns [] 0 decl.params
-    ++ (sites_at (params_of decl) decl.returns (flat_map asks_of_clause decl.effects) ++ sites_in_all globals decl.returns (at_body decl) decl.body)
+    ++ (sites_at (params_of decl) decl.returns (flat_map asks_of_clause decl.effects)
+    ++ sites_in_all globals decl.returns (at_body decl) decl.body)
 
+-- what an item needs: of a cell its path, of a method or a task its whole declaration
 abbrev pub sites_of_item : List GlobalName → Item → List Site
 sites_of_item globals (items.Regions names) = []
 sites_of_item globals (items.Cell cell) = sites_at [] return_types.Void (asks_of_cell_path cell.path)
 sites_of_item globals (items.Method decl) = sites_of_decl globals decl
 sites_of_item globals (items.Task deterministic decl) = sites_of_decl globals decl
 
+-- what a text needs, in its order
 abbrev pub sites_of : Ast → List Site
 sites_of ast = flat_map (sites_of_item (globals_of ast)) ast.items

@@ -23,9 +23,11 @@ abbrev mutual
   statements_in_arms (otherwise body) = statements_in_all body
   statements_in_arms no_else = 0
 
+-- what has to be numbered of a declaration: its parameters, its statements and itself
 abbrev pub size_of_decl : Decl → ℕ
 size_of_decl decl = length decl.params + statements_in_all decl.body + 1
 
+-- what has to be numbered of an item
 abbrev pub size_of_item : Item → ℕ
 size_of_item (items.Regions names) = length names
 size_of_item (items.Cell cell) = 1

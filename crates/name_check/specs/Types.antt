@@ -15,9 +15,9 @@ use Rattle.name_check.specs.declared.scope.LocalName.{LocalName}
 use Rattle.name_check.specs.Names.{binding_of}
 
 -- the number of arguments
-abbrev pub count_of : Arguments → ℕ
-count_of no_more = 0
-count_of (argument first others) = count_of others + 1
+abbrev pub argument_count : Arguments → ℕ
+argument_count no_more = 0
+argument_count (argument first others) = argument_count others + 1
 
 -- both types are there, and the same
 abbrev pub same_type : Option LocalType → Option LocalType → Bool
@@ -61,9 +61,11 @@ type_of_element _ given = None
 
 -- the type of a call with `given` arguments: that of what the method returns
 abbrev pub type_of_call : Option Binding → ℕ → Option LocalType
-type_of_call (Some (bindings.Global (global_kinds.Method number params return_types.Int))) given = if params == given then Some Int else None
+type_of_call (Some (bindings.Global (global_kinds.Method number params return_types.Int))) given =
+    if params == given then Some Int else None
 type_of_call _ given = None
 
+-- the type if the condition holds, and none otherwise
 abbrev pub type_if : Bool → Option LocalType → Option LocalType
 type_if true type = type
 type_if false type = None
@@ -93,12 +95,14 @@ abbrev mutual
       type_if (same_type (type_of globals locals row) (Some Int) && same_type (type_of globals locals column) (Some Int))
       (type_of_element (binding_of globals locals array.text) 2)
   type_of_shape globals locals (CallValue method args) =
-      type_if (are_ints globals locals args) (type_of_call (binding_of globals locals method.text) (count_of args))
+      type_if (are_ints globals locals args) (type_of_call (binding_of globals locals method.text) (argument_count args))
   type_of_shape globals locals (Negative operand) = type_if (same_type (type_of globals locals operand) (Some Int)) (Some Int)
-  type_of_shape globals locals (Negation operand) = type_if (same_type (type_of globals locals operand) (Some Boolean)) (Some Boolean)
+  type_of_shape globals locals (Negation operand) =
+      type_if (same_type (type_of globals locals operand) (Some Boolean)) (Some Boolean)
   type_of_shape globals locals (Binary op left right place) =
       type_if (operands_agree op (type_of globals locals left) (type_of globals locals right)) (Some (gives op))
 
   pub are_ints : List GlobalName → List LocalName → Arguments → Bool
   are_ints globals locals no_more = true
-  are_ints globals locals (argument first others) = same_type (type_of globals locals first) (Some Int) && are_ints globals locals others
+  are_ints globals locals (argument first others) =
+      same_type (type_of globals locals first) (Some Int) && are_ints globals locals others

@@ -1,6 +1,6 @@
 //! How the scope changes along a body.
 ghost use Rattle.std.specs.Prelude.{◌≡◌, ◌+◌, ◌<◌, ◌^◌, IfOk, OnOk, length, take};
-ghost use Rattle.name_check.specs.BodyScope.{counted, is_void as names_void_task, with_future, with_variable};
+ghost use Rattle.name_check.specs.BodyScope.{counted_binding, is_void as names_void_task, with_future, with_variable};
 ghost use Rattle.name_check.specs.Sites.{at_body};
 
 use crate::binding::{Binding, Global, Local};
@@ -9,7 +9,7 @@ use crate::names::Globals;
 use crate::scope::{BodyScope, Locals};
 use std::alloc;
 use twe_ast::{Decl, LocalType, ReturnType};
-use twe_io::{Memory, Word};
+use twe_base::{Memory, Word};
 
 /// Whether a name is bound to a task that returns nothing.
 fn is_void(binding: Option<Binding>) -> bool
@@ -51,7 +51,7 @@ impl BodyScope {
     /// Advances past one statement.
     pub fn count(&mut self)
         requires { self.old.points + 1 < 2 ^ 32 }
-        ensures { self.new ≡ counted self.old }
+        ensures { self.new ≡ counted_binding self.old }
     {
         self.points += 1;
     }

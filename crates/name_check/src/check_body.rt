@@ -11,10 +11,9 @@ use crate::check_simple::{check_simple, pass_simple};
 use crate::names::Globals;
 use crate::rule::NRule;
 use crate::scope::BodyScope;
-use first_failure::Failure;
 use std::alloc::Global;
 use twe_ast::{Arms, Block, LocalType, ReturnType, Stmt, StmtKind};
-use twe_io::Memory;
+use twe_base::{Failure, Memory};
 
 /// Checks a statement with all of its parts, and advances the scope past it.
 #[cycle(body)]
@@ -29,7 +28,8 @@ fn check_stmt(
 ) -> Result<(), Memory>
     requires { HasRoom scope.old (statements_in stmt.now) }
     ensures passed { OnOk result (scope.new ≡ after globals.now scope.old stmt.now) }
-    ensures reported { OnOk result (first.new ≡ first_of_sites globals.now first.old (sites_in globals.now returns scope.old stmt.now)) }
+    ensures reported { OnOk result (first.new ≡ first_of_sites globals.now first.old
+        (sites_in globals.now returns scope.old stmt.now)) }
 {
     match &stmt.kind {
         StmtKind::Block(body) => {
@@ -70,7 +70,8 @@ pub fn check_block(
 ) -> Result<(), Memory>
     requires { HasRoom scope.old (statements_in_all block.now) }
     ensures passed { OnOk result (scope.new ≡ after_block globals.now scope.old block.now) }
-    ensures reported { OnOk result (first.new ≡ first_of_sites globals.now first.old (sites_in_all globals.now returns scope.old block.now)) }
+    ensures reported { OnOk result (first.new ≡ first_of_sites globals.now first.old
+        (sites_in_all globals.now returns scope.old block.now)) }
 {
     let mark = scope.mark();
     for stmt in block.stmts.as_slice() {
@@ -93,7 +94,8 @@ fn check_arms(
 ) -> Result<(), Memory>
     requires { HasRoom scope.old (statements_in_arms arms.now) }
     ensures passed { OnOk result (scope.new ≡ after_arms globals.now scope.old arms.now) }
-    ensures reported { OnOk result (first.new ≡ first_of_sites globals.now first.old (sites_in_arms globals.now returns scope.old arms.now)) }
+    ensures reported { OnOk result (first.new ≡ first_of_sites globals.now first.old
+        (sites_in_arms globals.now returns scope.old arms.now)) }
 {
     for arm in arms.arms.as_slice() {
         let boolean = Some(LocalType::Boolean);

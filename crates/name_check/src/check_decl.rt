@@ -15,10 +15,9 @@ use crate::names::Globals;
 use crate::rule::NRule;
 use crate::scope::{BodyScope, Locals};
 use crate::uses::check_declared;
-use first_failure::Failure;
 use std::alloc::Global;
 use twe_ast::{CellDecl, Decl, Item};
-use twe_io::Memory;
+use twe_base::{Failure, Memory};
 
 /// Checks the names of the parameters of a declaration, and returns the parameters.
 #[tactic(auto, using(crate::proofs::FirstSites::decl_sites))]
@@ -30,7 +29,8 @@ fn check_params(
 ) -> Result<Locals, Memory>
     requires { length decl.now.params < 2 ^ 32 }
     ensures params { IfOk result (λ locals. locals ≡ params_of decl.now) }
-    ensures reported { OnOk result (first.new ≡ first_of_sites globals.now first.old (sites_of_params decl.now.returns [] 0 decl.now.params)) }
+    ensures reported { OnOk result (first.new ≡ first_of_sites globals.now first.old
+        (sites_of_params decl.now.returns [] 0 decl.now.params)) }
 {
     let mut locals = Locals::new(alloc);
     let mut number = 0;
@@ -72,7 +72,9 @@ fn check_decl(
     first: &mut Option<Failure<NRule>>,
 ) -> Result<(), Memory>
     requires { size_of_decl decl.now < 2 ^ 32 }
-    ensures { OnOk result (first.new ≡ first_from (first_of_sites globals.now first.old (sites_of_decl globals.now decl.now)) (decl_failures decl.now)) }
+    ensures { OnOk result (first.new ≡ first_from
+        (first_of_sites globals.now first.old (sites_of_decl globals.now decl.now))
+        (decl_failures decl.now)) }
 {
     check_names(decl, alloc, globals, first)?;
     check_limits(decl, first);
@@ -98,7 +100,9 @@ pub fn check_item(
     first: &mut Option<Failure<NRule>>,
 ) -> Result<(), Memory>
     requires { size_of_item item.now < 2 ^ 32 }
-    ensures { OnOk result (first.new ≡ first_from (first_of_sites globals.now first.old (sites_of_item globals.now item.now)) (item_failures item.now)) }
+    ensures { OnOk result (first.new ≡ first_from
+        (first_of_sites globals.now first.old (sites_of_item globals.now item.now))
+        (item_failures item.now)) }
 {
     match item {
         Item::Regions(_) => Ok(()),

@@ -1,7 +1,7 @@
 //! The rules of names in expressions.
 ghost use Rattle.std.specs.Prelude.{◌≡◌, ◌++◌, None, Some};
 ghost use Rattle.twe_ast.specs.Expression.{ArrayElement, CallValue, GridElement, Variable};
-ghost use Rattle.name_check.specs.Types.{are_ints, count_of, gives, left_need, operands_agree, right_need, type_if, type_of, type_of_shape};
+ghost use Rattle.name_check.specs.Types.{are_ints, argument_count, gives, left_need, operands_agree, right_need, type_if, type_of, type_of_shape};
 ghost use Rattle.name_check.specs.Asks.{asks_inside, asks_of, asks_of_all};
 ghost use Rattle.name_check.specs.inner.Failures.{failures_of_need, first_of_asks};
 ghost use Rattle.name_check.specs.inner.First.{first_from};
@@ -16,9 +16,8 @@ use crate::types::{
     unary_type,
 };
 use crate::uses::check_use;
-use first_failure::{Failure, report_if};
 use twe_ast::{Args, BinOp, Expr, ExprKind, LocalType, Name};
-use twe_io::Place;
+use twe_base::{Failure, Place, report_if};
 
 /// Returns the type that was found, and reports it if it differs from the one that is needed.
 fn check_type(
@@ -44,7 +43,7 @@ fn check_type(
 /// How many arguments there are.
 #[tactic(auto, using(crate::proofs::Arguments::count_is))]
 pub fn count(args: &Args) -> usize
-    ensures { result ≡ count_of args.now }
+    ensures { result ≡ argument_count args.now }
 {
     args.items.len()
 }
@@ -57,7 +56,8 @@ fn check_name(
     first: &mut Option<Failure<NRule>>,
 ) -> Option<LocalType>
     ensures found { result ≡ type_of_shape globals.now locals.now (Variable name.now) }
-    ensures reported { first.new ≡ first_of_asks globals.now locals.now first.old (asks_inside globals.now locals.now (Variable name.now)) }
+    ensures reported { first.new ≡ first_of_asks globals.now locals.now first.old
+        (asks_inside globals.now locals.now (Variable name.now)) }
 {
     check_use(name, NameUse::Value, globals, locals, first);
     name_type(look_up(globals, locals, &name.text))
@@ -74,7 +74,8 @@ fn check_element(
     first: &mut Option<Failure<NRule>>,
 ) -> Option<LocalType>
     ensures found { result ≡ type_of_shape globals.now locals.now (ArrayElement array.now index.now) }
-    ensures reported { first.new ≡ first_of_asks globals.now locals.now first.old (asks_inside globals.now locals.now (ArrayElement array.now index.now)) }
+    ensures reported { first.new ≡ first_of_asks globals.now locals.now first.old
+        (asks_inside globals.now locals.now (ArrayElement array.now index.now)) }
 {
     check_use(array, NameUse::Array { indexes: 1 }, globals, locals, first);
     let index = check_expr(index, Some(LocalType::Int), globals, locals, first);
@@ -115,7 +116,8 @@ fn check_call(
     first: &mut Option<Failure<NRule>>,
 ) -> Option<LocalType>
     ensures found { result ≡ type_of_shape globals.now locals.now (CallValue method.now args.now) }
-    ensures reported { first.new ≡ first_of_asks globals.now locals.now first.old (asks_inside globals.now locals.now (CallValue method.now args.now)) }
+    ensures reported { first.new ≡ first_of_asks globals.now locals.now first.old
+        (asks_inside globals.now locals.now (CallValue method.now args.now)) }
 {
     let count = count(args);
     let name_use = NameUse::Method {
@@ -139,7 +141,8 @@ fn check_operands(
     first: &mut Option<Failure<NRule>>,
 ) -> Option<LocalType>
     ensures found { result ≡ type_if
-        (operands_agree op (type_of globals.now locals.now left.now) (type_of globals.now locals.now right.now)) (Some (gives op)) }
+        (operands_agree op (type_of globals.now locals.now left.now) (type_of globals.now locals.now right.now))
+        (Some (gives op)) }
     ensures reported { first.new ≡ first_of_asks globals.now locals.now first.old
         (asks_of globals.now locals.now (left_need op) left.now
         ++ asks_of globals.now locals.now (right_need op (type_of globals.now locals.now left.now)) right.now) }

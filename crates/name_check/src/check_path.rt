@@ -10,8 +10,8 @@ use crate::names::Globals;
 use crate::rule::NRule;
 use crate::scope::Locals;
 use crate::uses::{check_text, check_use};
-use first_failure::Failure;
 use twe_ast::{CellElem, CellElemKind, Clause, Path, PathElem, PathElemKind};
+use twe_base::Failure;
 
 /// Checks an element of the path of an effect.
 fn check_elem(

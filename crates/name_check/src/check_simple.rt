@@ -13,10 +13,9 @@ use crate::names::Globals;
 use crate::rule::NRule;
 use crate::scope::BodyScope;
 use crate::uses::{check_declared, check_use};
-use first_failure::{Failure, report_if};
 use std::alloc::Global;
 use twe_ast::{Expr, LocalType, ReturnType, Stmt, StmtKind};
-use twe_io::{Memory, Place};
+use twe_base::{Failure, Memory, Place, report_if};
 
 /// The type that an assigned value needs: that of the local, and otherwise `int`.
 fn target_type(binding: Option<Binding>) -> LocalType

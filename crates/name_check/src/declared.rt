@@ -8,7 +8,7 @@ use crate::binding::Global;
 use crate::names::Globals;
 use std::alloc;
 use twe_ast::{Ast, CellShape, Decl, Item, Name};
-use twe_io::Memory;
+use twe_base::Memory;
 
 /// The numbers of regions, declarations of cells, methods and tasks before an item. `Console` counts as a region.
 #[derive(Debug, Drop)]

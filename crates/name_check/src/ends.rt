@@ -3,11 +3,11 @@ ghost use Rattle.std.specs.Prelude.{◌≡◌};
 ghost use Rattle.name_check.specs.Ends as ends;
 
 use twe_ast::{Arms, Block, Expr, ExprKind, Stmt, StmtKind};
-use twe_io::Place;
+use twe_base::Place;
 
 /// Whether an expression is the literal `true`.
 fn is_true(expr: &Expr) -> bool
-    ensures { result ≡ ends.is_true expr.now }
+    ensures { result ≡ ends.is_literal_true expr.now }
 {
     match &expr.kind {
         ExprKind::Truth(value) => *value,
@@ -18,7 +18,7 @@ fn is_true(expr: &Expr) -> bool
 /// Whether a statement ends the body.
 #[cycle(ends)]
 fn stmt_ends(stmt: &Stmt) -> bool
-    ensures { result ≡ ends.ends stmt.now }
+    ensures { result ≡ ends.always_returns stmt.now }
 {
     match &stmt.kind {
         StmtKind::Block(body) => block_ends(body),

@@ -5,7 +5,7 @@ ghost use Rattle.name_check.specs.inner.Firsts.{AddsFirst, DropsFirst, HaveSameF
 
 use std::alloc::Global;
 use std::collections::BTreeMap;
-use twe_io::{Memory, Word};
+use twe_base::{Memory, Word};
 
 /// The first place of a name, if it is there. It takes no memory.
 pub fn first_place(firsts: &BTreeMap<String, u32>, text: &Word) -> Option<usize>

@@ -6,6 +6,7 @@
 
 mod binding;
 mod body_scope;
+pub mod cell_limits;
 mod check_body;
 mod check_decl;
 mod check_expr;

@@ -10,10 +10,8 @@ ghost use Rattle.name_check.specs.inner.OtherFailures as failures;
 use crate::check_simple::is_void;
 use crate::ends::{block_ends, close_of};
 use crate::rule::NRule;
-use first_failure::{Failure, report_if};
 use twe_ast::{CellElem, Clause, Decl, Name, Path, PathElem, PathElemKind};
-use twe_io::{List, Place};
-use twe_limits::{MAX_EFFECTS, MAX_PARAMETERS, MAX_PATH_ELEMENTS};
+use twe_base::{Failure, List, MAX_EFFECTS, MAX_PARAMETERS, MAX_PATH_ELEMENTS, Place, report_if};
 
 /// Reports the failure of the rule at the place, if there is one.
 pub fn report_at(first: &mut Option<Failure<NRule>>, rule: NRule, place: Option<Place>)

@@ -5,7 +5,7 @@ ghost use Rattle.name_check.specs.Names.{binding_of};
 use crate::binding::Binding;
 use crate::names::Globals;
 use crate::scope::Locals;
-use twe_io::Word;
+use twe_base::Word;
 
 /// The binding of a name if these names are in scope: a parameter, a local or a future, or else a global one. It takes no
 /// memory.

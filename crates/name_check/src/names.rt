@@ -9,12 +9,11 @@ ghost use Rattle.name_check.specs.Names.{global_of};
 use crate::binding::Global;
 use crate::firsts::{add_first, first_place};
 use crate::rule::NRule;
-use first_failure::{Failure, report_if};
 use std::alloc;
 use std::collections::BTreeMap;
 use std::marker::Model;
 use twe_ast::Name;
-use twe_io::{Memory, Place, Word};
+use twe_base::{Failure, Memory, Place, Word, report_if};
 
 /// A global name, and its binding.
 #[derive(Debug, Drop)]
@@ -64,7 +63,8 @@ impl Globals {
         name: &Name,
         global: Global,
     ) -> Result<(), Memory>
-        ensures { OnOk result (self.new ≡ self.old ++ record { text = name.now.text; place = name.now.place; global = global } ∷ []) }
+        ensures { OnOk result (self.new ≡ self.old
+            ++ record { text = name.now.text; place = name.now.place; global = global } ∷ []) }
     {
         let number = self.entries.len();
         if number > u32::MAX as usize {

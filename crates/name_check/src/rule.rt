@@ -1,6 +1,6 @@
 //! The rules of names.
 
-use first_failure::Rule;
+use twe_base::Rule;
 
 /// A rule of names.
 #[derive(Clone, Copy, Debug, PartialEq, Eq)]
@@ -26,7 +26,7 @@ pub enum NRule {
 }
 
 impl Rule for NRule {
-    ghost use Rattle.name_check.specs.FailsName.{number_of as number_in_name};
+    ghost use Rattle.name_check.specs.FailsName.{name_rule_number as number_in_name};
 
     ghost number_of = { number_in_name };
 

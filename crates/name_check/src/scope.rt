@@ -9,7 +9,7 @@ use std::alloc::Global;
 use std::collections::BTreeMap;
 use std::marker::Model;
 use twe_ast::LocalType;
-use twe_io::{Memory, Word};
+use twe_base::{Memory, Word};
 
 /// A name inside a declaration, and its binding.
 #[derive(Debug, Drop)]

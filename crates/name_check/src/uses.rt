@@ -10,9 +10,8 @@ use crate::look::look_up;
 use crate::names::Globals;
 use crate::rule::NRule;
 use crate::scope::Locals;
-use first_failure::{Failure, report_if};
 use twe_ast::{Name, ReturnType};
-use twe_io::{Place, Word};
+use twe_base::{Failure, Place, Word, report_if};
 
 /// The binding of a name for this use. As an index in the path of an effect only parameters are in scope.
 fn binding_as(globals: &Globals, locals: &Locals, name_use: NameUse, text: &Word) -> Option<Binding>
@@ -120,7 +119,8 @@ pub fn check_text(
     locals: &Locals,
     first: &mut Option<Failure<NRule>>,
 )
-    ensures { first.new ≡ first_from first.old (failures_here globals.now locals.now (uses (record { text = text.now; place = place }) name_use)) }
+    ensures { first.new ≡ first_from first.old
+        (failures_here globals.now locals.now (uses (record { text = text.now; place = place }) name_use)) }
 {
     let binding = binding_as(globals, locals, name_use, text);
     report_use(first, name_use, binding, place);

@@ -1,24 +1,23 @@
 //! The check of the names of a tree.
 ghost use Rattle.std.specs.Prelude.{◌≡◌, ◌<◌, ◌^◌, IfOk, MatchOption, OnOk};
 ghost use Rattle.std.specs.List.{list_any, sum_by};
-ghost use Rattle.twe_io.specs.declared.place.Place.{Place as Somewhere};
+ghost use Rattle.twe_base.specs.declared.place.Place.{Place as Somewhere};
 ghost use Rattle.name_check.specs.declared.rule.NRule.{NRule as Named};
-ghost use Rattle.name_check.specs.FailsName.{FailsName, IsFirstFailure};
+ghost use Rattle.name_check.specs.FailsName.{FailsName, IsFirstNameFailure};
 ghost use Rattle.name_check.specs.Names.{globals_of};
 ghost use Rattle.name_check.specs.Checked.{IsCheckOf};
 ghost use Rattle.name_check.specs.Size.{IsCountable, size_of_item};
 ghost use Rattle.name_check.specs.inner.Whole.{first_but_nodes, first_in_items, is_main, is_main_item};
 
+use crate::cell_limits::first_over;
 use crate::check_decl::check_item;
 use crate::check_simple::is_void;
 use crate::limits::report_at;
 use crate::names::Globals;
 use crate::rule::NRule;
-use cell_limits::first_over;
-use first_failure::{Failure, report_if};
 use std::alloc::Global;
 use twe_ast::{Ast, Decl, Item};
-use twe_io::Memory;
+use twe_base::{Failure, Memory, report_if};
 
 /// Whether a task is `main`, has no parameters and returns nothing.
 fn is_main(decl: &Decl) -> bool
@@ -118,7 +117,7 @@ pub fn first_failure(alloc: Global, ast: &Ast) -> Result<Option<Failure<NRule>>,
     requires { IsCountable ast.now }
     ensures { IfOk result (λ found. MatchOption found
         ((rule : Named) (place : Somewhere) → ¬ FailsName ast.now rule place)
-        (λ failure. IsFirstFailure ast.now failure.rule failure.place)) }
+        (λ failure. IsFirstNameFailure ast.now failure.rule failure.place)) }
 {
     match check_names(alloc, ast)? {
         CheckedNames::Accepted(_) => Ok(None),

@@ -4,7 +4,7 @@ use Rattle.std.proofs.lemmas.Option.{same_Some}
 use Rattle.seg_journal.specs.declared.journal.Entry.{Entry}
 use Rattle.seg_journal.specs.declared.moves.Kind.TheVariants as kinds
 use Rattle.seg_journal.specs.declared.moves.Move.{Move}
-use Rattle.twe_limits.specs.Limits.{Bounds}
+use Rattle.twe_base.specs.Limits.{Bounds}
 use Rattle.twe_program.specs.Program.{Program}
 use Rattle.twe_machine.specs.declared.state.State.{State}
 use Rattle.twe_machine.specs.declared.state.TaskRow.{TaskRow}
@@ -14,7 +14,7 @@ use Rattle.twe_machine.specs.Legal.{MayMove}
 use Rattle.twe_machine.specs.Moves.{admitted, move_result, start_of}
 use Rattle.twe_machine.specs.Rows.{IsRow}
 use Rattle.twe_machine.specs.Runs.{counted, entry_of}
-use Rattle.twe_machine.proofs.Replayed.{run_more}
+use Rattle.twe_machine.proofs.replays.Replayed.{run_more}
 use Rattle.flat_sched.proofs.Faults.{taken_well}
 use Rattle.twe_rounds.specs.Keeping.{NoFaults}
 use Rattle.twe_rounds.proofs.Faultless.{counted_more, none_more}
@@ -22,8 +22,8 @@ use Rattle.opt_engine.specs.declared.core_run.CoreRun.{CoreRun}
 use Rattle.opt_engine.specs.declared.drafts.Drafted.{Drafted}
 use Rattle.opt_engine.specs.declared.verdict.Verdict.{Verdict}
 use Rattle.opt_engine.specs.declared.verdict.Verdict.TheVariants.{Committed, Passed, Held, Changed}
-use Rattle.opt_engine.specs.Taking.{Steps}
-use Rattle.opt_engine.specs.Verdicts.{Answers, AreLegalFrom, entries_from, moves_of, state_from}
+use Rattle.opt_engine.specs.Taking.{TakingSteps}
+use Rattle.opt_engine.specs.Verdicts.{AnswersCommit, AreLegalFrom, entries_from, moves_of, state_from}
 use Rattle.opt_crew.specs.Keeping.{EndsAtFault, IsSound, StopsAtFault}
 
 -- a run that has not begun is sound
@@ -54,7 +54,7 @@ module _ (p : Program) (lim : Bounds) where
       subst (IsSound p lim) same sound
 
   -- so it does when the move is taken
-  pub sound_steps : (old new : CoreRun) (mv : Move) → IsSound p lim old → old.state.first_fault ≡ None → MayMove old.state mv → Steps p lim old mv new → IsSound p lim new
+  pub sound_steps : (old new : CoreRun) (mv : Move) → IsSound p lim old → old.state.first_fault ≡ None → MayMove old.state mv → TakingSteps p lim old mv new → IsSound p lim new
   sound_steps old new mv sound clear may steps =
       sound_as (more old mv) new (sym steps.journal) (sym steps.state) (sound_more old mv sound clear may)
 
@@ -89,7 +89,7 @@ module _ (p : Program) (lim : Bounds) where
 
   -- what a core keeps after it has answered to a draft, if its run had met no fault
   pub answered_stops : (earlier : List Entry) (old new : Option CoreRun) (run : CoreRun) (d : Drafted) (verdict : Verdict) → old ≡ Some run → StopsAtFault old
-      → run.state.first_fault ≡ None → Answers p lim earlier old d verdict new → StopsAtFault new
+      → run.state.first_fault ≡ None → AnswersCommit p lim earlier old d verdict new → StopsAtFault new
   answered_stops earlier old new run d (Committed number) is stops clear answers =
       let had = answers.0 in
       let same : had ≡ run = same_Some had run (sym answers.1 ∙ is) in

@@ -1,20 +1,21 @@
 -- A quiet step in a run, as a step of the crew that has the run.
 use Rattle.std.proofs.Common.{◌≡◌, ◌<◌, ℕ, List, [], ◌∷◌, ◌++◌, Option, Some, length, refl, sym, ap, ◌∙◌, subst}
+use Rattle.std.proofs.lemmas.Option.{same_Some}
 use mathlib.Core.List.{IsPrefix}
 use Rattle.seg_journal.specs.declared.journal.Entry.{Entry}
-use Rattle.twe_limits.specs.Limits.{Bounds}
+use Rattle.twe_base.specs.Limits.{Bounds}
 use Rattle.twe_program.specs.Program.{Program}
 use Rattle.twe_machine.specs.declared.ending.Outcome.TheVariants as outcomes
 use Rattle.twe_machine.specs.declared.state.State.{State}
 use Rattle.twe_machine.specs.LowestFirst.{IsLowest}
-use Rattle.twe_machine.specs.Runs.{IsOutcome, entry_of}
+use Rattle.twe_machine.specs.Runs.{IsOutcome, entry_of, state_after}
 use Rattle.flat_sched.specs.Stuck.{IsStuckCycle}
 use Rattle.twe_rounds.specs.declared.crew.Quietly.{Quietly}
 use Rattle.twe_rounds.specs.declared.crew.Quietly.TheVariants.{Faulted, AllDone, Stuck, Moved}
 use Rattle.twe_rounds.specs.Crews.{CrewRun, GoesOn, StepsFrom, StepsQuietly}
 use Rattle.opt_engine.specs.declared.core_run.CoreRun.{CoreRun}
-use Rattle.opt_crew.specs.Keeping.{IsKept, IsSound, journal_of}
-use Rattle.opt_crew.specs.Stepping.{StepsRun}
+use Rattle.opt_crew.specs.Keeping.{CrewIsKept, IsSound, crew_journal}
+use Rattle.opt_crew.specs.Stepping.{IsLongerUnlessOver, StepsRun}
 
 module _ (p : Program) (lim : Bounds) (workers : ℕ) where
   -- the crew whose run has this journal
@@ -39,20 +40,20 @@ module _ (p : Program) (lim : Bounds) (workers : ℕ) where
       )
 
   -- a quiet step of a crew that has the run `old`
-  pub quiet_kept : (crew : CrewRun) (kept : Option CoreRun) (old new : CoreRun) (found : Quietly) → kept ≡ Some old → IsKept p lim kept
-      → record { prog = p; lim = lim; workers = workers; journal = journal_of kept } ≡ crew → StepsRun p lim old new found → StepsQuietly crew (crew_of new.journal) found
+  pub quiet_kept : (crew : CrewRun) (kept : Option CoreRun) (old new : CoreRun) (found : Quietly) → kept ≡ Some old → CrewIsKept p lim kept
+      → record { prog = p; lim = lim; workers = workers; journal = crew_journal kept } ≡ crew → StepsRun p lim old new found → StepsQuietly crew (crew_of new.journal) found
   quiet_kept crew kept old new found is sound view steps =
-      let same : crew_of old.journal ≡ crew = ap (λ (k : Option CoreRun). record { prog = p; lim = lim; workers = workers; journal = journal_of k }) (sym is) ∙ view in
-      let sound_now : IsSound p lim old = subst (IsKept p lim) is sound in
+      let same : crew_of old.journal ≡ crew = ap (λ (k : Option CoreRun). record { prog = p; lim = lim; workers = workers; journal = crew_journal k }) (sym is) ∙ view in
+      let sound_now : IsSound p lim old = subst (CrewIsKept p lim) is sound in
       subst (λ (c : CrewRun). StepsQuietly c (crew_of new.journal) found) same (old.journal, refl, sound_now.run_is.legal, steps_from old new found sound_now steps)
 
   -- a round of a crew that has the run `old`
-  pub round_kept : (crew : CrewRun) (kept : Option CoreRun) (old new : CoreRun) → kept ≡ Some old → IsKept p lim kept
-      → record { prog = p; lim = lim; workers = workers; journal = journal_of kept } ≡ crew → IsSound p lim new → IsPrefix old.journal new.journal
+  pub round_kept : (crew : CrewRun) (kept : Option CoreRun) (old new : CoreRun) → kept ≡ Some old → CrewIsKept p lim kept
+      → record { prog = p; lim = lim; workers = workers; journal = crew_journal kept } ≡ crew → IsSound p lim new → IsPrefix old.journal new.journal
       → (workers ≡ 1 → IsOutcome old.state outcomes.Unfinished → length old.journal < length new.journal) → GoesOn crew (crew_of new.journal)
   round_kept crew kept old new is sound view after begins longer =
-      let same : crew_of old.journal ≡ crew = ap (λ (k : Option CoreRun). record { prog = p; lim = lim; workers = workers; journal = journal_of k }) (sym is) ∙ view in
-      let sound_now : IsSound p lim old = subst (IsKept p lim) is sound in
+      let same : crew_of old.journal ≡ crew = ap (λ (k : Option CoreRun). record { prog = p; lim = lim; workers = workers; journal = crew_journal k }) (sym is) ∙ view in
+      let sound_now : IsSound p lim old = subst (CrewIsKept p lim) is sound in
       let goes : GoesOn (crew_of old.journal) (crew_of new.journal) = record {
         journal = old.journal;
         later = new.journal;
@@ -63,3 +64,18 @@ module _ (p : Program) (lim : Bounds) (workers : ℕ) where
         longer = λ one unfinished. longer one (subst (λ (st : State). IsOutcome st outcomes.Unfinished) (sym sound_now.run_is.same) unfinished);
       } in
       subst (λ (c : CrewRun). GoesOn c (crew_of new.journal)) same goes
+
+  -- its journal is longer
+  pub longer_kept : (crew : CrewRun) (kept : Option CoreRun) (old new : CoreRun) → kept ≡ Some old → CrewIsKept p lim kept
+      → record { prog = p; lim = lim; workers = workers; journal = crew_journal kept } ≡ crew
+      → (IsOutcome old.state outcomes.Unfinished → length old.journal < length new.journal) → IsLongerUnlessOver crew (crew_of new.journal)
+  longer_kept crew kept old new is sound view longer =
+      let same : crew_of old.journal ≡ crew = ap (λ (k : Option CoreRun). record { prog = p; lim = lim; workers = workers; journal = crew_journal k }) (sym is) ∙ view in
+      let sound_now : IsSound p lim old = subst (CrewIsKept p lim) is sound in
+      let grows : IsLongerUnlessOver (crew_of old.journal) (crew_of new.journal) = λ journal later was then unfinished.
+      let first : old.journal ≡ journal = same_Some old.journal journal was in
+      let last : new.journal ≡ later = same_Some new.journal later then in
+      let state : state_after p lim journal ≡ old.state = ap (state_after p lim) (sym first) ∙ sym sound_now.run_is.same in
+      let more = longer (subst (λ (st : State). IsOutcome st outcomes.Unfinished) state unfinished) in
+      subst (λ (l : List Entry). length journal < length l) last (subst (λ (l : List Entry). length l < length new.journal) first more) in
+      subst (λ (c : CrewRun). IsLongerUnlessOver c (crew_of new.journal)) same grows

@@ -6,18 +6,18 @@ use crate::named_drafted::NamedDrafted;
 use crate::round_core::RoundCore;
 use seg_journal::End;
 use std::sync::{Mutex, Wait};
-use twe_io::Memory;
-use twe_rounds::{Access, Game, Look, Named, Waiting};
+use twe_base::Memory;
+use twe_rounds::{Game, Look, RoundAccess, RoundName, Waiting};
 
 /// The core as it is lent to a single worker, with the drafts that the worker keeps.
 #[derive(Drop)]
-pub(crate) struct Lent<'a, N: Named> {
+pub(crate) struct Lent<'a, N: RoundName> {
     pub game: &'a Game<'a, N>,
     pub core: &'a mut RoundCore<N>,
     pub kept: Kept<N>,
 }
 
-impl<'a, N: Named> Access for Lent<'a, N> {
+impl<'a, N: RoundName> RoundAccess for Lent<'a, N> {
     fn look(&mut self, task: u32) -> Result<Look, Memory> {
         self.core.look(self.game, task, self.kept.has(task))
     }
@@ -43,14 +43,14 @@ impl<'a, N: Named> Access for Lent<'a, N> {
 
 /// The core under its lock, with the drafts that a worker keeps. Each use of the core takes the lock and gives it back.
 #[derive(Drop)]
-pub(crate) struct Locked<'a, R: Wait, N: Named> {
+pub(crate) struct Locked<'a, R: Wait, N: RoundName> {
     pub rt: &'a R,
     pub game: &'a Game<'a, N>,
     pub core: &'a Mutex<RoundCore<N>>,
     pub kept: Kept<N>,
 }
 
-impl<'a, R: Wait, N: Named> Access for Locked<'a, R, N> {
+impl<'a, R: Wait, N: RoundName> RoundAccess for Locked<'a, R, N> {
     fn look(&mut self, task: u32) -> Result<Look, Memory> {
         let kept = self.kept.has(task);
         self.core.lock(self.rt).look(self.game, task, kept)
@@ -75,7 +75,7 @@ impl<'a, R: Wait, N: Named> Access for Locked<'a, R, N> {
     }
 }
 
-impl<'a, R: Wait, N: Named> Locked<'a, R, N> {
+impl<'a, R: Wait, N: RoundName> Locked<'a, R, N> {
     /// A new draft of a task, which is run without the lock; `None` if the task is not ready.
     fn new_draft(&self, task: u32) -> Result<Option<NamedDrafted<N>>, Memory> {
         let draft = self.core.lock(self.rt).draft(self.game, task)?;

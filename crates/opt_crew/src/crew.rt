@@ -5,9 +5,9 @@ ghost use Rattle.twe_machine.specs.declared.ending.Outcome.TheVariants.{Unfinish
 ghost use Rattle.twe_machine.specs.Legal.{MayMove};
 ghost use Rattle.twe_machine.specs.Runs.{IsOutcome, Legal, counted};
 ghost use Rattle.twe_rounds.specs.Crews.{CrewRun, GoesOn, StepsQuietly, lost, state_of};
-ghost use Rattle.opt_engine.specs.Taking.{Steps};
+ghost use Rattle.opt_engine.specs.Taking.{TakingSteps};
 ghost use Rattle.opt_crew.specs.Keeping.{IsSound};
-ghost use Rattle.opt_crew.specs.Stepping.{StepsRun};
+ghost use Rattle.opt_crew.specs.Stepping.{IsLongerUnlessOver, StepsRun};
 
 use crate::sharing::{alone, together};
 use flat_sched::stuck_cycle;
@@ -18,8 +18,7 @@ use std::marker::{Brand, Model};
 use std::snapshot::Snapshot;
 use std::sync::Wait;
 use std::thread::Threads;
-use twe_io::Memory;
-use twe_limits::Limits;
+use twe_base::{Limits, Memory};
 use twe_machine::{Outcome, State, lowest, outcome};
 use twe_program::Prog;
 use twe_rounds::{Quietly, lost};
@@ -38,7 +37,7 @@ pub struct OptCrew {
 impl Model for OptCrew {
     ghost use Rattle.std.specs.Prelude.{◌≤◌};
     ghost use Rattle.twe_rounds.specs.Crews.{CrewRun};
-    ghost use Rattle.opt_crew.specs.Keeping.{IsKept, journal_of};
+    ghost use Rattle.opt_crew.specs.Keeping.{CrewIsKept, crew_journal};
 
     ghost Value = { CrewRun };
 
@@ -48,9 +47,10 @@ impl Model for OptCrew {
 
     ghost coded = { Prim.hlevel (codes, cell.the_row.coded, decl.the_row.coded) };
 
-    ghost view = { λ crew. record { prog = crew.prog.value; lim = crew.lim; workers = crew.workers; journal = journal_of crew.run } };
+    ghost view = { λ crew.
+        record { prog = crew.prog.value; lim = crew.lim; workers = crew.workers; journal = crew_journal crew.run } };
 
-    ghost invariant = { λ crew. (1 ≤ crew.workers) × (crew.workers ≤ 64) × IsKept crew.prog.value crew.lim crew.run };
+    ghost invariant = { λ crew. (1 ≤ crew.workers) × (crew.workers ≤ 64) × CrewIsKept crew.prog.value crew.lim crew.run };
 }
 
 impl OptCrew {
@@ -83,11 +83,12 @@ impl OptCrew {
         Ok(found)
     }
 
-    /// A round: the workers run drafts and commit them until they find no more that can be committed. A single worker takes the
-    /// lowest legal move first.
+    /// A round: the lowest legal move is taken, if the run can go on, and then the workers run drafts and commit them until they
+    /// find no more that can be committed.
     pub fn round<R: Threads + Wait + Sync>(&mut self, rt: &R, p: &Prog) -> Result<(), Memory>
         requires { p.now ≡ self.old.prog }
         ensures ok { OnOk result (GoesOn self.old self.new) }
+        ensures longer { OnOk result (IsLongerUnlessOver self.old self.new) }
         ensures err { OnErr result (self.new ≡ lost self.old) }
     {
         let run = self.run.take().ok_or(lost())?;
@@ -143,12 +144,13 @@ fn take_clear(
     requires clear { run.old.state.first_fault ≡ None }
     requires legal { MayMove run.old.state mv }
     ensures sound { OnOk result (IsSound p.now lim run.new) }
-    ensures steps { OnOk result (Steps p.now lim run.old mv run.new) }
+    ensures steps { OnOk result (TakingSteps p.now lim run.old mv run.new) }
 {
     run.take(alloc, p, lim, mv)
 }
 
-/// A round of this many workers.
+/// A round of this many workers. The lowest legal move is taken first, if the run can go on.
+#[tactic(auto, using(twe_rounds::proofs::Beginnings::begins_by_one, twe_rounds::proofs::Beginnings::longer_by_one))]
 fn round_of<R: Threads + Wait + Sync>(
     rt: &R,
     alloc: Global,
@@ -161,27 +163,6 @@ fn round_of<R: Threads + Wait + Sync>(
     requires sound { IsSound p.now lim run }
     ensures sound { IfOk result (IsSound p.now lim) }
     ensures begins { IfOk result (λ after. IsPrefix run.journal after.journal) }
-    ensures longer { IfOk result (λ after. workers ≡ 1 → IsOutcome run.state Unfinished → length run.journal < length after.journal) }
-{
-    if workers == 1 {
-        round_of_one(rt, alloc, p, lim, run)
-    } else {
-        round_of_many(rt, alloc, p, lim, workers, run)
-    }
-}
-
-/// A round of a single worker, which takes the lowest legal move first.
-#[tactic(auto, using(twe_rounds::proofs::Beginnings::begins_by_one, twe_rounds::proofs::Beginnings::longer_by_one))]
-fn round_of_one<R: Wait>(
-    rt: &R,
-    alloc: Global,
-    p: &Prog,
-    lim: Limits,
-    run: CoreRun,
-) -> Result<CoreRun, Memory>
-    requires { IsSound p.now lim run }
-    ensures sound { IfOk result (IsSound p.now lim) }
-    ensures begins { IfOk result (λ after. IsPrefix run.journal after.journal) }
     ensures longer { IfOk result (λ after. IsOutcome run.state Unfinished → length run.journal < length after.journal) }
 {
     let mut run = run;
@@ -192,25 +173,27 @@ fn round_of_one<R: Wait>(
         return Ok(run);
     };
     take_clear(alloc, p, lim, &mut run, mv)?;
-    alone::<Brand, R>(rt, alloc, p, lim, run, mv.task)
+    lend(rt, alloc, p, lim, workers, run, mv.task)
 }
 
-/// A round of more than one worker.
-fn round_of_many<R: Threads + Wait + Sync>(
+/// Lends the run to so many workers. A single one begins with the task `first`.
+fn lend<R: Threads + Wait + Sync>(
     rt: &R,
     alloc: Global,
     p: &Prog,
     lim: Limits,
     workers: u32,
     run: CoreRun,
+    first: u32,
 ) -> Result<CoreRun, Memory>
     requires some { 1 ≤ workers }
     requires sound { IsSound p.now lim run }
     ensures sound { IfOk result (IsSound p.now lim) }
     ensures begins { IfOk result (λ after. IsPrefix run.journal after.journal) }
 {
-    if run.state.first_fault.is_some() {
-        return Ok(run);
+    if workers == 1 {
+        alone::<Brand, R>(rt, alloc, p, lim, run, first)
+    } else {
+        together::<Brand, R>(rt, alloc, p, lim, workers, run)
     }
-    together::<Brand, R>(rt, alloc, p, lim, workers, run)
 }

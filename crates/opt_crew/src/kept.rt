@@ -5,16 +5,16 @@ use crate::round_core::Tried;
 use seg_journal::End;
 use std::alloc::Global;
 use std::collections::BTreeMap;
-use twe_io::Memory;
-use twe_rounds::Named;
+use twe_base::Memory;
+use twe_rounds::RoundName;
 
 /// Beside each task the draft of it that was held back. It is committed once the task may be admitted.
 #[derive(Drop)]
-pub(crate) struct Kept<N: Named> {
+pub(crate) struct Kept<N: RoundName> {
     drafts: BTreeMap<u32, NamedDrafted<N>>,
 }
 
-impl<N: Named> Kept<N> {
+impl<N: RoundName> Kept<N> {
     /// No drafts.
     pub(crate) fn new(alloc: Global) -> Self {
         Kept {

@@ -4,17 +4,17 @@ ghost use Rattle.opt_engine.specs.Drafts.{IsDraftOf, IsDraftedOf};
 
 use opt_engine::{Draft, Drafted, run_draft};
 use std::marker::{Model, PhantomData};
-use twe_io::Memory;
-use twe_rounds::{Game, Named};
+use twe_base::Memory;
+use twe_rounds::{Game, RoundName};
 
 /// A draft of the named program that was run.
 #[derive(Drop)]
-pub(crate) struct NamedDrafted<N: Named> {
+pub(crate) struct NamedDrafted<N: RoundName> {
     drafted: Drafted,
     of: PhantomData<N>,
 }
 
-impl<N: Named> Model for NamedDrafted<N> {
+impl<N: RoundName> Model for NamedDrafted<N> {
     ghost use Rattle.opt_engine.specs.declared.drafts.Drafted.{Drafted};
 
     ghost Value = { Drafted };
@@ -26,7 +26,7 @@ impl<N: Named> Model for NamedDrafted<N> {
     ghost invariant = { λ named. IsDraftedOf N.prog named.drafted };
 }
 
-impl<N: Named> NamedDrafted<N> {
+impl<N: RoundName> NamedDrafted<N> {
     /// This draft, by its name.
     pub(crate) fn new(drafted: Drafted) -> Self
         requires { IsDraftedOf N.prog drafted }

@@ -9,15 +9,14 @@ use opt_engine::{Core, CoreRun, Draft, Verdict};
 use seg_journal::{End, Kind, Move};
 use std::alloc::Global;
 use std::marker::Model;
-use twe_io::Memory;
-use twe_limits::Limits;
+use twe_base::{Limits, Memory};
 use twe_machine::{State, TaskStatus, Why, may};
 use twe_program::Prog;
-use twe_rounds::{Game, Look, Named, Waiting, lost};
+use twe_rounds::{Game, Look, RoundName, Waiting, lost};
 
 /// What became of a draft that was handed to the core.
 #[derive(Drop)]
-pub(crate) enum Tried<N: Named> {
+pub(crate) enum Tried<N: RoundName> {
     /// Its moves were taken, and the last of them has this end.
     Taken(End),
     /// Its task is held back. The draft is given back.
@@ -28,11 +27,11 @@ pub(crate) enum Tried<N: Named> {
 
 /// The core of a round.
 #[derive(Drop)]
-pub(crate) struct RoundCore<N: Named> {
+pub(crate) struct RoundCore<N: RoundName> {
     core: Core<N>,
 }
 
-impl<N: Named> Model for RoundCore<N> {
+impl<N: RoundName> Model for RoundCore<N> {
     ghost use Rattle.std.specs.Prelude.{Option};
     ghost use Rattle.opt_engine.specs.declared.core_run.CoreRun.{CoreRun};
     ghost use Rattle.opt_crew.specs.Keeping.{StopsAtFault};
@@ -44,7 +43,7 @@ impl<N: Named> Model for RoundCore<N> {
     ghost invariant = { λ round. StopsAtFault round.core };
 }
 
-impl<N: Named> RoundCore<N> {
+impl<N: RoundName> RoundCore<N> {
     /// The core of a round that begins with this run.
     pub(crate) fn new(alloc: Global, lim: Limits, run: CoreRun) -> Self
         requires named { lim ≡ N.lim }

@@ -8,13 +8,13 @@ use seg_journal::Journal;
 use std::alloc::Global;
 use std::sync::Wait;
 use std::thread::Threads;
-use twe_io::Memory;
-use twe_limits::Limits;
+use twe_base::{Limits, Memory};
 use twe_machine::State;
 use twe_program::Prog;
 
-/// Runs the program under these limits to its end, by this many workers, 1 to 64, which run ahead of admission. Returns the journal
-/// of the run and the state that it leads to. Which of the legal journals it is depends on the workers. Nothing comes after a fault.
+/// Runs the program under these limits to its end, by this many workers, 1 to 64, which run ahead of admission. Returns the
+/// journal of the run and the state that it leads to. Which of the legal journals it is depends on the workers. Nothing
+/// comes after a fault.
 pub fn run_ahead<R: Threads + Wait + Sync>(
     rt: &R,
     alloc: Global,

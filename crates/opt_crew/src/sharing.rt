@@ -11,13 +11,12 @@ use std::sync::atomic::AtomicU64;
 use std::sync::{Mutex, Wait};
 use std::thread;
 use std::thread::Threads;
-use twe_io::Memory;
-use twe_limits::Limits;
+use twe_base::{Limits, Memory};
 use twe_program::Prog;
-use twe_rounds::{FreeGate, Game, Named, Site, Worker, deal, lost};
+use twe_rounds::{FreeGate, Game, RoundName, Site, Worker, deal, lost};
 
 /// The run after the moves of a single worker, which begins with the task `first`.
-pub(crate) fn alone<N: Named, R: Wait>(
+pub(crate) fn alone<N: RoundName, R: Wait>(
     rt: &R,
     alloc: Global,
     p: &Prog,
@@ -50,7 +49,7 @@ pub(crate) fn alone<N: Named, R: Wait>(
 }
 
 /// The run after the moves of several workers, each on a thread of its own. Meanwhile the run lies under a lock.
-pub(crate) fn together<'a, N: Named + Send + Sync, R: Threads + Wait + Sync>(
+pub(crate) fn together<'a, N: RoundName + Send + Sync, R: Threads + Wait + Sync>(
     rt: &'a R,
     alloc: Global,
     p: &'a Prog,
@@ -81,14 +80,14 @@ pub(crate) fn together<'a, N: Named + Send + Sync, R: Threads + Wait + Sync>(
 
 /// What the workers of a round share.
 #[derive(Drop)]
-struct Shared<'a, R: Wait, N: Named> {
+struct Shared<'a, R: Wait, N: RoundName> {
     rt: &'a R,
     pending: &'a AtomicU64,
     game: &'a Game<'a, N>,
     core: &'a Mutex<RoundCore<N>>,
 }
 
-impl<'a, R: Wait, N: Named> Shared<'a, R, N> {
+impl<'a, R: Wait, N: RoundName> Shared<'a, R, N> {
     /// Sends a worker to work.
     fn send(&self, worker: &mut Worker) {
         let mut access = Locked {

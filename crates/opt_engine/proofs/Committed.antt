@@ -6,7 +6,7 @@ use Rattle.seg_journal.specs.declared.journal.End.{End}
 use Rattle.seg_journal.specs.declared.journal.Entry.{Entry}
 use Rattle.seg_journal.specs.declared.moves.Kind.TheVariants as kinds
 use Rattle.seg_journal.specs.declared.moves.Move.{Move}
-use Rattle.twe_limits.specs.Limits.{Bounds, IsWithin}
+use Rattle.twe_base.specs.Limits.{Bounds, IsWithin}
 use Rattle.wait_graph.specs.declared.tasks.Link.{Link}
 use Rattle.wait_graph.specs.Link.{link_of}
 use Rattle.wait_graph.specs.Waiting.{WaitsFor}
@@ -26,21 +26,21 @@ use Rattle.twe_machine.specs.declared.state.TaskStatus.{TaskStatus}
 use Rattle.twe_machine.specs.declared.state.TaskStatus.TheVariants.{Made, Enabled}
 use Rattle.twe_machine.specs.Legal.{MayAdmit, MayMove, MayRun}
 use Rattle.twe_machine.specs.Moves.{MaySettle, admitted, admitted_row, awaited_value, move_result, ran, ready_frame, settling_result}
-use Rattle.twe_machine.specs.Rows.{HasStatus, IsRow, awaited, link_of_row}
+use Rattle.twe_machine.specs.Rows.{HasStatus, IsRow, row_awaited, link_of_row}
 use Rattle.twe_machine.specs.Runs.{IsReached, IsRun, entry_of}
-use Rattle.twe_machine.proofs.Linked.{link_at}
-use Rattle.twe_machine.proofs.LinksAgree.{status_of}
-use Rattle.twe_machine.proofs.Places.{got_one, set_same}
-use Rattle.twe_machine.proofs.ReachedStands.{reached_stands}
-use Rattle.twe_machine.proofs.Replayed.{run_more}
-use Rattle.twe_machine.proofs.SettlesNext.{may_settle, settles_with}
+use Rattle.twe_machine.proofs.links.Linked.{link_at}
+use Rattle.twe_machine.proofs.links.LinksAgree.{status_of}
+use Rattle.twe_machine.proofs.lists.Places.{got_one, set_same}
+use Rattle.twe_machine.proofs.standing.ReachedStands.{reached_stands}
+use Rattle.twe_machine.proofs.replays.Replayed.{run_more}
+use Rattle.twe_machine.proofs.standing.SettlesNext.{may_settle, settles_with}
 use Rattle.opt_engine.specs.declared.core_run.CoreRun.{CoreRun}
 use Rattle.opt_engine.specs.declared.drafts.Drafted.{Drafted}
-use Rattle.opt_engine.specs.declared.touch.Touch.{Touch}
-use Rattle.opt_engine.specs.Drafts.{BeginsWith, Fits, IsDraftedOf, IsReady, StandsIn, drafted}
+use Rattle.opt_engine.specs.declared.touch.CellValue.{CellValue}
+use Rattle.opt_engine.specs.Drafts.{AccessesBeginWith, Fits, IsDraftedOf, DraftIsReady, StandsIn, drafted}
 use Rattle.opt_engine.specs.Touches.{first_reads, last_writes, with_writes}
 use Rattle.opt_engine.specs.Verdicts.{AreLegalFrom, IsFree, Takes, entries_from, moves_of, state_from}
-use Rattle.opt_engine.specs.Taking.{Steps}
+use Rattle.opt_engine.specs.Taking.{TakingSteps}
 use Rattle.opt_engine.specs.inner.Judging.{Admits}
 use Rattle.opt_engine.proofs.Drafting.{may_access}
 use Rattle.opt_engine.proofs.Places.{Each, all_each, each_all, each_weaker}
@@ -51,7 +51,7 @@ reached_by p lim run is = record { journal = run.journal; legal = is.legal; same
 
 -- a legal move was taken
 pub steps_is : (p : Program) (lim : Bounds) (old new : CoreRun) (mv : Move) (end : End) → IsRun p lim old.journal old.state → MayMove old.state mv
-    → (new.state, end) ≡ move_result p lim old.state mv → new.journal ≡ old.journal ++ record { mv = mv; end = end } ∷ [] → Steps p lim old mv new
+    → (new.state, end) ≡ move_result p lim old.state mv → new.journal ≡ old.journal ++ record { mv = mv; end = end } ∷ [] → TakingSteps p lim old mv new
 steps_is p lim old new mv end run may moved pushed =
     let state : new.state ≡ (move_result p lim old.state mv).0 = ap (λ (x : State × End). x.0) moved in
     let journal : new.journal ≡ old.journal ++ entry_of p lim old.state mv ∷ [] =
@@ -63,7 +63,7 @@ steps_is p lim old new mv end run may moved pushed =
     }
 
 -- the entry of the move is the last
-pub last_is : (p : Program) (lim : Bounds) (old new : CoreRun) (mv : Move) (len number : ℕ) → Steps p lim old mv new → len ≡ length new.journal → number ≡ len - 1 → number + 1 ≡ length new.journal
+pub last_is : (p : Program) (lim : Bounds) (old new : CoreRun) (mv : Move) (len number : ℕ) → TakingSteps p lim old mv new → len ≡ length new.journal → number ≡ len - 1 → number + 1 ≡ length new.journal
 last_is p lim old new mv len number steps counted less =
     let whole : length new.journal ≡ length old.journal + 1 = ap length steps.journal ∙ length-append old.journal (entry_of p lim old.state mv ∷ []) in
     omega (arith, whole, counted, less)
@@ -77,18 +77,18 @@ module _ (p : Program) (lim : Bounds) (st : State) (d : Drafted) (well : IsWellF
   long = (reached_stands p lim st well reached).cells ∙ sym is.is_draft.cells
 
   -- the reads and the writes are of cells that there are
-  pub reads_there : All (λ (r : Touch). r.cell < length st.cells) d.reads
+  pub reads_there : All (λ (r : CellValue). r.cell < length st.cells) d.reads
   reads_there =
-      each_all (λ (r : Touch). r.cell < length st.cells) d.reads
-      (subst (Each (λ (r : Touch). r.cell < length st.cells)) (sym (ap (λ (x : Drafted). x.reads) is.gave))
-      (each_weaker (λ (r : Touch). r.cell < length is.draft.cells) (λ (r : Touch). r.cell < length st.cells) (first_reads left.accesses)
+      each_all (λ (r : CellValue). r.cell < length st.cells) d.reads
+      (subst (Each (λ (r : CellValue). r.cell < length st.cells)) (sym (ap (λ (x : Drafted). x.reads) is.gave))
+      (each_weaker (λ (r : CellValue). r.cell < length is.draft.cells) (λ (r : CellValue). r.cell < length st.cells) (first_reads left.accesses)
       (λ r lt. subst (λ (n : ℕ). r.cell < n) (sym long) lt) (reads_below is.draft.cells left.accesses (may_access p is.draft is.draft.frame well is.is_draft))))
 
-  pub writes_there : All (λ (w : Touch). w.cell < length st.cells) d.writes
+  pub writes_there : All (λ (w : CellValue). w.cell < length st.cells) d.writes
   writes_there =
-      each_all (λ (w : Touch). w.cell < length st.cells) d.writes
-      (subst (Each (λ (w : Touch). w.cell < length st.cells)) (sym (ap (λ (x : Drafted). x.writes) is.gave))
-      (each_weaker (λ (w : Touch). w.cell < length is.draft.cells) (λ (w : Touch). w.cell < length st.cells) (last_writes left.accesses)
+      each_all (λ (w : CellValue). w.cell < length st.cells) d.writes
+      (subst (Each (λ (w : CellValue). w.cell < length st.cells)) (sym (ap (λ (x : Drafted). x.writes) is.gave))
+      (each_weaker (λ (w : CellValue). w.cell < length is.draft.cells) (λ (w : CellValue). w.cell < length st.cells) (last_writes left.accesses)
       (λ w lt. subst (λ (n : ℕ). w.cell < n) (sym long) lt) (writes_below is.draft.cells left.accesses (may_access p is.draft is.draft.frame well is.is_draft))))
 
   -- a draft that fits is the segment that its task runs next
@@ -138,7 +138,7 @@ module _ (p : Program) (lim : Bounds) (st : State) (d : Drafted) (well : IsWellF
 
 -- a task that does not wait begins with its frame
 ready_going : (rows : List TaskRow) (frame : Frame) → frame.next ≡ Go → ready_frame rows frame ≡ frame
-ready_going rows frame goes = ap (λ (n : Next). given_by n frame (awaited_value rows (awaited frame.next))) goes
+ready_going rows frame goes = ap (λ (n : Next). given_by n frame (awaited_value rows (row_awaited frame.next))) goes
 
 -- after its admission a draft of a task still fits, and the task may run
 record IsAdmitted (st after : State) (d : Drafted) : Type 0 where
@@ -159,7 +159,7 @@ after_admission p lim st d row well reached made there fits =
     let begins : d.before ≡ row.frame = fits.is_next.1.2 ∙ (ap (λ (r : TaskRow). ready_frame st.tasks r.frame) own ∙ ready_going st.tasks row.frame goes) in
     let free : (u : ℕ) → ¬ WaitsFor st.links t u = λ u waits.
     let link : link_of st.links t ≡ link_of_row row = ap (λ (l : List Link). link_of l t) stands.links ∙ link_at st.tasks t row there in
-    let none : (link_of st.links t).waits ≡ None = ap (λ (l : Link). l.waits) link ∙ ap awaited goes in
+    let none : (link_of st.links t).waits ≡ None = ap (λ (l : Link). l.waits) link ∙ ap row_awaited goes in
     cc (none, waits.waits) in
     let may : MayRun (admitted st t (Some row)) t = ((new, now, refl), free) in
     record {
@@ -199,7 +199,7 @@ entered p lim old new d well run fits (inr kept) =
 
 -- the moves of the draft were taken
 pub took : (p : Program) (lim : Bounds) (old between new : CoreRun) (d : Drafted) (number : ℕ) → Fits old.state d → IsFree old.state d.task → Admits p lim old d.task between
-    → MayRun between.state d.task → Steps p lim between (record { kind = kinds.Run; task = d.task }) new → number + 1 ≡ length new.journal → Takes p lim old d number new
+    → MayRun between.state d.task → TakingSteps p lim between (record { kind = kinds.Run; task = d.task }) new → number + 1 ≡ length new.journal → Takes p lim old d number new
 took p lim old between new d number fits free (inl admits) may steps last =
     let t = d.task in
     let row = fits.is_next.1.0 in

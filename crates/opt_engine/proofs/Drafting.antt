@@ -13,7 +13,7 @@ use Rattle.seg_exec.proofs.Accesses.{may_carry_out}
 use Rattle.opt_engine.specs.declared.drafts.Draft.{Draft}
 use Rattle.opt_engine.specs.declared.drafts.Drafted.{Drafted}
 use Rattle.opt_engine.specs.declared.notes.Notes.{Notes}
-use Rattle.opt_engine.specs.declared.touch.Touch.{Touch}
+use Rattle.opt_engine.specs.declared.touch.CellValue.{CellValue}
 use Rattle.opt_engine.specs.declared.touching.Touching.{Touching}
 use Rattle.opt_engine.specs.inner.Noting.{MayTouch, TouchFollows, fresh, no_notes, notes_after, read_noted, touch_knows, value_at, write_noted}
 use Rattle.opt_engine.specs.Drafts.{IsDraftOf, drafted}

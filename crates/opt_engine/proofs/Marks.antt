@@ -7,7 +7,7 @@ use Rattle.seg_exec.specs.Plain.{list_ways}
 use Rattle.opt_engine.specs.declared.notes.Mark.{Mark}
 use Rattle.opt_engine.specs.declared.notes.Mark.TheVariants as marks
 use Rattle.opt_engine.specs.declared.notes.Notes.{Notes}
-use Rattle.opt_engine.specs.declared.touch.Touch.{Touch}
+use Rattle.opt_engine.specs.declared.touch.CellValue.{CellValue}
 use Rattle.opt_engine.specs.inner.Noting.{first_write_noted, no_notes, notes_after, read_by_mark, read_noted, write_by_mark, write_noted}
 use Rattle.opt_engine.specs.Touches.{first_reads, is_touched, last_written, written_cells}
 use Rattle.opt_engine.proofs.Places.{get_replicate, if_false, if_true, same_place, set_place}
@@ -95,7 +95,7 @@ module _ (n : ℕ) (earlier : List Access) (cell : ℕ) (value : ℤ) (notes : N
     size = length-set notes.marks cell marks.Read ∙ stands.size;
     marked = λ k lt. set_place notes.marks cell k marks.Read (mark_of earlier k) (on_read (mark_of earlier k)) (stands.marked k lt)
         (λ same. sym (ap on_read (there k marks.Untouched is same)));
-    reads = ap (λ (l : List Touch). l ++ record { cell = cell; value = value } ∷ []) stands.reads
+    reads = ap (λ (l : List CellValue). l ++ record { cell = cell; value = value } ∷ []) stands.reads
         ∙ sym (if_false (is_touched earlier cell) (first_reads earlier) (first_reads earlier ++ record { cell = cell; value = value } ∷ []) (touched_is earlier cell ∙ ap is_mark is));
     written = stands.written;
   }

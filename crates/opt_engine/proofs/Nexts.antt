@@ -1,7 +1,7 @@
 -- When a draft is of the segment that its task runs next.
 use Rattle.std.proofs.Common.{◌≡◌, ◌≢◌, ◌⊎◌, ℕ, ℤ, Bool, List, length, Some, refl, sym, ap, ◌∙◌, inl, inr, subst}
 use Rattle.std.specs.Prelude.{◌↔◌, IsTrue, slice_get}
-use Rattle.twe_limits.specs.Limits.{Bounds}
+use Rattle.twe_base.specs.Limits.{Bounds}
 use Rattle.twe_program.specs.Program.{Program}
 use Rattle.twe_program.specs.WellFormed.{IsWellFormed}
 use Rattle.seg_exec.specs.declared.frame.Frame.{Frame}
@@ -11,17 +11,17 @@ use Rattle.twe_machine.specs.declared.state.TaskStatus.TheVariants.{Faulted}
 use Rattle.twe_machine.specs.Moves.{ready_frame}
 use Rattle.twe_machine.specs.Rows.{IsRow}
 use Rattle.twe_machine.specs.Runs.{IsReached}
-use Rattle.twe_machine.proofs.LinksAgree.{status_of}
-use Rattle.twe_machine.proofs.Places.{got_one}
-use Rattle.twe_machine.proofs.ReachedStands.{reached_stands}
-use Rattle.twe_machine.proofs.SettlesNext.{as_many_links}
+use Rattle.twe_machine.proofs.links.LinksAgree.{status_of}
+use Rattle.twe_machine.proofs.lists.Places.{got_one}
+use Rattle.twe_machine.proofs.standing.ReachedStands.{reached_stands}
+use Rattle.twe_machine.proofs.standing.SettlesNext.{as_many_links}
 use Rattle.opt_engine.specs.declared.drafts.Drafted.{Drafted}
-use Rattle.opt_engine.specs.Drafts.{IsDraftedOf, IsNext, IsReady, unreserved}
+use Rattle.opt_engine.specs.Drafts.{IsDraftedOf, IsNext, DraftIsReady, unreserved}
 use Rattle.opt_engine.specs.Verdicts.{IsDraftAt}
 use Rattle.opt_engine.proofs.Plain.{plainly_ready}
 
 -- a ready task has met no fault
-pub ready_well : (st : State) (t : ℕ) (row : TaskRow) → IsReady st t → IsRow st t row → row.status ≢ Faulted
+pub ready_well : (st : State) (t : ℕ) (row : TaskRow) → DraftIsReady st t → IsRow st t row → row.status ≢ Faulted
 ready_well st t row (inl made) there = λ bad. let status = status_of st t row _ made there in cc (bad, status)
 ready_well st t row (inr may) there = λ bad. let status = status_of st t row _ may.0 there in cc (bad, status)
 
@@ -36,7 +36,7 @@ linked p lim st well reached = as_many_links p lim st (reached_stands p lim st w
 
 -- comparing the frame that a draft began with tells whether it is of the task's next segment
 pub next_decided : (p : Program) (lim : Bounds) (st : State) (d : Drafted) (row : TaskRow) (copy : Frame) (same : Bool) → IsReached p lim st → IsDraftedOf p d
-    → IsReady st d.task → IsRow st d.task row → copy ≡ unreserved (ready_frame st.tasks row.frame) → (IsTrue same ↔ (unreserved d.before ≡ unreserved copy))
+    → DraftIsReady st d.task → IsRow st d.task row → copy ≡ unreserved (ready_frame st.tasks row.frame) → (IsTrue same ↔ (unreserved d.before ≡ unreserved copy))
     → IsTrue same ↔ IsNext st d
 next_decided p lim st d row copy same reached drafted ready there copied says =
     let next = ready_frame st.tasks row.frame in
@@ -48,7 +48,7 @@ next_decided p lim st d row copy same reached drafted ready there copied says =
     )
 
 -- copies of the cells and of the frame that the next segment of a ready task begins with are a draft of it
-pub draft_is : (p : Program) (lim : Bounds) (st : State) (t : ℕ) (row : TaskRow) (frame : Frame) (cells : List ℤ) → IsWellFormed p → IsReached p lim st → IsReady st t → IsRow st t row
+pub draft_is : (p : Program) (lim : Bounds) (st : State) (t : ℕ) (row : TaskRow) (frame : Frame) (cells : List ℤ) → IsWellFormed p → IsReached p lim st → DraftIsReady st t → IsRow st t row
     → frame ≡ unreserved (ready_frame st.tasks row.frame) → cells ≡ st.cells → IsDraftAt p st t (Some (record { task = t; frame = frame; cells = cells }))
 draft_is p lim st t row frame cells well reached ready there copied same = (
   ready,

@@ -6,8 +6,8 @@ use Rattle.seg_journal.specs.declared.journal.End.TheVariants as ends
 use Rattle.seg_journal.specs.declared.journal.Entry.{Entry}
 use Rattle.seg_journal.specs.declared.moves.Kind.{Kind}
 use Rattle.seg_journal.specs.declared.moves.Kind.TheVariants.{Admit, Run}
-use Rattle.twe_limits.specs.Limits.{Bounds}
-use Rattle.twe_limits.specs.declared.fault.FaultKind.TheVariants.{TaskLimit}
+use Rattle.twe_base.specs.Limits.{Bounds}
+use Rattle.twe_base.specs.declared.fault.FaultKind.TheVariants.{TaskLimit}
 use Rattle.wait_graph.specs.Link.{link_of}
 use Rattle.twe_program.specs.Program.{Program}
 use Rattle.seg_exec.specs.declared.frame.Frame.{Frame}
@@ -27,10 +27,10 @@ use Rattle.twe_machine.specs.declared.state.TaskStatus.{TaskStatus}
 use Rattle.twe_machine.specs.declared.state.TaskStatus.TheVariants.{Made, Enabled, Faulted}
 use Rattle.twe_machine.specs.Legal.{MayTake}
 use Rattle.twe_machine.specs.Moves.{admitted, admitted_row, awaited_value, done_row, faulted_row, going_row, joined_child, joined_row, joined_rows, making_frame, new_row, parent_of, ran, ready_frame, result_by_kind, room_with, start_of, state_after_asking, state_after_fault, state_after_join, state_after_make, stop_result, stopped_frame}
-use Rattle.twe_machine.specs.Rows.{HasStatus, IsRow, awaited}
+use Rattle.twe_machine.specs.Rows.{HasStatus, IsRow, row_awaited}
 use Rattle.twe_machine.specs.Runs.{IsReached, LegalFrom, replayed}
-use Rattle.twe_machine.proofs.LinksAgree.{status_of}
-use Rattle.twe_machine.proofs.Places.{got_one, put_cases, set_cases}
+use Rattle.twe_machine.proofs.links.LinksAgree.{status_of}
+use Rattle.twe_machine.proofs.lists.Places.{got_one, put_cases, set_cases}
 use Rattle.opt_engine.specs.Drafts.{unreserved}
 
 abbrev pub IsPlainRow : TaskRow → Type 0
@@ -118,7 +118,7 @@ given_room Ended frame value = refl
 
 -- the frame that the next segment of a task begins with
 pub ready_room : (rows : List TaskRow) (frame : Frame) → (ready_frame rows frame).out.room ≡ frame.out.room
-ready_room rows frame = given_room frame.next frame (awaited_value rows (awaited frame.next))
+ready_room rows frame = given_room frame.next frame (awaited_value rows (row_awaited frame.next))
 
 ran_plain : (p : Program) (lim : Bounds) (st : State) (t : ℕ) (found : Option TaskRow) → slice_get st.tasks t ≡ found → HasStatus st t Enabled → ArePlain st.tasks
     → ArePlain (ran p lim st t found).0.tasks

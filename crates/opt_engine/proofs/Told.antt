@@ -2,14 +2,14 @@
 use Rattle.std.proofs.Common.{◌≡◌, ℕ, List, [], ◌++◌, Option, None, Some, refl, sym, ap, ◌∙◌, subst}
 use mathlib.Core.List.{IsPrefix}
 use Rattle.seg_journal.specs.declared.journal.Entry.{Entry}
-use Rattle.twe_limits.specs.Limits.{Bounds}
+use Rattle.twe_base.specs.Limits.{Bounds}
 use Rattle.twe_program.specs.Program.{Program}
 use Rattle.twe_machine.specs.Runs.{IsReached, IsRun}
 use Rattle.opt_engine.specs.declared.core_run.CoreRun.{CoreRun}
 use Rattle.twe_rounds.proofs.Beginnings.{prefix_self, prefix_trans}
 use Rattle.opt_engine.specs.declared.drafts.Drafted.{Drafted}
 use Rattle.opt_engine.specs.declared.verdict.Verdict.{Verdict}
-use Rattle.opt_engine.specs.Verdicts.{Answers, GoesOn, IsKept, Judges, Takes, entries_from, moves_of}
+use Rattle.opt_engine.specs.Verdicts.{AnswersCommit, RunGoesOn, IsKept, Judges, Takes, entries_from, moves_of}
 use Rattle.opt_engine.proofs.Committed.{reached_by}
 
 -- the journal goes on when the moves of a draft are taken
@@ -25,7 +25,7 @@ reached_of p lim run is = (lim, reached_by p lim run is)
 -- the core had this run, and answers as it does
 pub answer_kept : (p prog : Program) (limits lim : Bounds) (earlier : List Entry) (core kept : Option CoreRun) (old after : CoreRun) (d : Drafted) (verdict : Verdict)
     → p ≡ prog → limits ≡ lim → kept ≡ Some old → kept ≡ core → IsKept prog lim earlier kept → Judges p limits old d verdict (Some after)
-    → Answers prog lim earlier core d verdict (Some after)
+    → AnswersCommit prog lim earlier core d verdict (Some after)
 answer_kept p prog limits lim earlier core kept old after d verdict same_program same_limits is view keeps judges = (
   old,
   sym view ∙ is,
@@ -35,9 +35,9 @@ answer_kept p prog limits lim earlier core kept old after d verdict same_program
 
 -- and keeps its run
 pub answer_goes_on : (p prog : Program) (limits lim : Bounds) (earlier : List Entry) (kept : Option CoreRun) (old after : CoreRun) → p ≡ prog → limits ≡ lim → kept ≡ Some old
-    → IsKept prog lim earlier kept → IsRun p limits after.journal after.state → IsPrefix old.journal after.journal → GoesOn prog lim earlier after
+    → IsKept prog lim earlier kept → IsRun p limits after.journal after.state → IsPrefix old.journal after.journal → RunGoesOn prog lim earlier after
 answer_goes_on p prog limits lim earlier kept old after same_program same_limits is keeps run begins =
-    let before : GoesOn prog lim earlier old = subst (IsKept prog lim earlier) is keeps in
+    let before : RunGoesOn prog lim earlier old = subst (IsKept prog lim earlier) is keeps in
     record {
       run_is = subst (λ (x : Program × Bounds). IsRun x.0 x.1 after.journal after.state) (λ i. (same_program i, same_limits i)) run;
       begins = prefix_trans earlier old.journal after.journal before.begins begins;

@@ -5,8 +5,8 @@ use Rattle.std.proofs.lemmas.Bool.{eqb-true, false≢true, or_cases}
 use Rattle.std.proofs.lemmas.Bool.Decides.{eqb_tells}
 use Rattle.seg_exec.specs.Access.{Access, Reads, Writes, Prints, Agrees, MayAll, after, value_in}
 use Rattle.seg_exec.specs.Plain.{list_ways}
-use Rattle.twe_machine.proofs.Places.{below_there, set_other, set_same}
-use Rattle.opt_engine.specs.declared.touch.Touch.{Touch}
+use Rattle.twe_machine.proofs.lists.Places.{below_there, set_other, set_same}
+use Rattle.opt_engine.specs.declared.touch.CellValue.{CellValue}
 use Rattle.opt_engine.specs.inner.Noting.{value_at}
 use Rattle.opt_engine.specs.Drafts.{StandsIn}
 use Rattle.opt_engine.specs.Touches.{first_reads, is_touched, last_write, last_writes, last_written, with_writes, written_cells}
@@ -94,17 +94,17 @@ values_are cells accesses may =
     (written_each cells accesses may))
 
 -- so the writes are of cells that there are
-pub writes_below : (cells : List ℤ) (accesses : List Access) → MayAll list_ways cells accesses → Each (λ (w : Touch). w.cell < length cells) (last_writes accesses)
+pub writes_below : (cells : List ℤ) (accesses : List Access) → MayAll list_ways cells accesses → Each (λ (w : CellValue). w.cell < length cells) (last_writes accesses)
 writes_below cells accesses may =
-    each_map (λ (w : Touch). w.cell < length cells) (last_write accesses) (written_cells accesses)
+    each_map (λ (w : CellValue). w.cell < length cells) (last_write accesses) (written_cells accesses)
     (each_weaker (IsWrittenOf (length cells) accesses) (λ (k : ℕ). k < length cells) (written_cells accesses) (λ k is. is.1) (written_each cells accesses may))
 
-pub reads_below : (cells : List ℤ) (accesses : List Access) → MayAll list_ways cells accesses → Each (λ (r : Touch). r.cell < length cells) (first_reads accesses)
+pub reads_below : (cells : List ℤ) (accesses : List Access) → MayAll list_ways cells accesses → Each (λ (r : CellValue). r.cell < length cells) (first_reads accesses)
 reads_below cells [] may = tt
 reads_below cells (Reads cell value ∷ earlier) may = by (reads_below cells earlier may.1) (is_touched earlier cell) where
-  by : Each (λ (r : Touch). r.cell < length cells) (first_reads earlier) → (b : Bool) → Each (λ (r : Touch). r.cell < length cells) (if b then first_reads earlier else first_reads earlier ++ record { cell = cell; value = value } ∷ [])
+  by : Each (λ (r : CellValue). r.cell < length cells) (first_reads earlier) → (b : Bool) → Each (λ (r : CellValue). r.cell < length cells) (if b then first_reads earlier else first_reads earlier ++ record { cell = cell; value = value } ∷ [])
   by kept true = kept
-  by kept false = each_push (λ (r : Touch). r.cell < length cells) (first_reads earlier) (record { cell = cell; value = value }) kept may.0
+  by kept false = each_push (λ (r : CellValue). r.cell < length cells) (first_reads earlier) (record { cell = cell; value = value }) kept may.0
 reads_below cells (Writes cell value ∷ earlier) may = reads_below cells earlier may.1
 reads_below cells (Prints value ∷ earlier) may = reads_below cells earlier may
 
@@ -149,7 +149,7 @@ has_written (Writes cell value ∷ earlier) k = by (has_written earlier k) (is_s
       ]
 has_written (Prints value ∷ earlier) k = has_written earlier k
 
-pub length_written : (cells : List ℤ) (writes : List Touch) → length (with_writes cells writes) ≡ length cells
+pub length_written : (cells : List ℤ) (writes : List CellValue) → length (with_writes cells writes) ≡ length cells
 length_written cells [] = refl
 length_written cells (w ∷ ws) = length_written (slice_set cells w.cell w.value) ws ∙ length-set cells w.cell w.value
 

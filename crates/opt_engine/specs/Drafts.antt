@@ -10,7 +10,7 @@ use Rattle.twe_machine.specs.declared.state.TaskStatus.TheVariants.{Made}
 use Rattle.twe_machine.specs.Legal.{MayRun}
 use Rattle.twe_machine.specs.Moves.{ready_frame}
 use Rattle.twe_machine.specs.Rows.{HasStatus, IsRow}
-use Rattle.opt_engine.specs.declared.touch.Touch.{Touch}
+use Rattle.opt_engine.specs.declared.touch.CellValue.{CellValue}
 use Rattle.opt_engine.specs.declared.drafts.Draft.{Draft}
 use Rattle.opt_engine.specs.declared.drafts.Drafted.{Drafted}
 use Rattle.opt_engine.specs.Touches.{first_reads, last_writes}
@@ -27,8 +27,7 @@ pub record IsDraftOf (p : Program) (draft : Draft) : Type 0 where
 -- what the segment of a draft gives
 abbrev pub drafted : Program → Draft → Drafted
 drafted p draft =
-    let left = segment p draft.frame draft.cells in
-    record {
+    let left = segment p draft.frame draft.cells in record {
       task = draft.task;
       before = draft.frame;
       after = left.frame;
@@ -44,19 +43,19 @@ pub record IsDraftedOf (p : Program) (d : Drafted) : Type 0 where
   pub gave : d ≡ drafted p draft
 
 -- the task is ready: it waits for its admission, or it is enabled and waits for nobody
-abbrev pub IsReady : State → ℕ → Type 0
-IsReady st t = HasStatus st t Made ⊎ MayRun st t
+abbrev pub DraftIsReady : State → ℕ → Type 0
+DraftIsReady st t = HasStatus st t Made ⊎ MayRun st t
 
 -- the next segment of the task begins with this frame; if the task has waited, the frame has the awaited value
-abbrev pub BeginsWith : State → ℕ → Frame → Type 0
-BeginsWith st t frame = (row : TaskRow) × IsRow st t row × (frame ≡ ready_frame st.tasks row.frame)
+abbrev pub AccessesBeginWith : State → ℕ → Frame → Type 0
+AccessesBeginWith st t frame = (row : TaskRow) × IsRow st t row × (frame ≡ ready_frame st.tasks row.frame)
 
 -- the draft is of the segment that its task runs next
 abbrev pub IsNext : State → Drafted → Type 0
-IsNext st d = IsReady st d.task × BeginsWith st d.task d.before
+IsNext st d = DraftIsReady st d.task × AccessesBeginWith st d.task d.before
 
 -- the cell has the value that was read
-abbrev pub StandsIn : List ℤ → Touch → Type 0
+abbrev pub StandsIn : List ℤ → CellValue → Type 0
 StandsIn cells read = slice_get cells read.cell ≡ Some read.value
 
 -- the draft is of the segment that its task runs next, and what it has read still stands

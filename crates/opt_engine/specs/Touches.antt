@@ -2,7 +2,7 @@
 -- the latest first.
 use Rattle.std.specs.Prelude.{ℕ, ℤ, Bool, false, ◌||◌, List, [], ◌∷◌, ◌++◌, map, Option, None, Some, is_some, nat_eq, if◌then◌else◌, slice_set}
 use Rattle.seg_exec.specs.Access.{Access, Reads, Writes, Prints, value_in}
-use Rattle.opt_engine.specs.declared.touch.Touch.{Touch}
+use Rattle.opt_engine.specs.declared.touch.CellValue.{CellValue}
 
 -- the cell was read or written
 abbrev pub is_touched : List Access → ℕ → Bool
@@ -19,7 +19,7 @@ last_written (Writes other value ∷ earlier) cell = if nat_eq other cell then S
 last_written (Prints value ∷ earlier) cell = last_written earlier cell
 
 -- the cells that were read before they were read or written, each with the value read, in the order of reading
-abbrev pub first_reads : List Access → List Touch
+abbrev pub first_reads : List Access → List CellValue
 first_reads [] = []
 first_reads (Reads cell value ∷ earlier) =
     if is_touched earlier cell then first_reads earlier else first_reads earlier ++ record { cell = cell; value = value } ∷ []
@@ -35,14 +35,14 @@ written_cells (Writes cell value ∷ earlier) =
 written_cells (Prints value ∷ earlier) = written_cells earlier
 
 -- a cell with its last written value
-abbrev pub last_write : List Access → ℕ → Touch
+abbrev pub last_write : List Access → ℕ → CellValue
 last_write accesses cell = record { cell = cell; value = value_in (last_written accesses cell) }
 
 -- the cells that were written, each with its last value
-abbrev pub last_writes : List Access → List Touch
+abbrev pub last_writes : List Access → List CellValue
 last_writes accesses = map (last_write accesses) (written_cells accesses)
 
 -- the cells after these writes
-abbrev pub with_writes : List ℤ → List Touch → List ℤ
+abbrev pub with_writes : List ℤ → List CellValue → List ℤ
 with_writes cells [] = cells
 with_writes cells (w ∷ ws) = with_writes (slice_set cells w.cell w.value) ws

@@ -6,7 +6,7 @@ use Rattle.seg_journal.specs.declared.journal.Entry.{Entry}
 use Rattle.seg_journal.specs.declared.moves.Kind.TheVariants.{Admit}
 use Rattle.seg_journal.specs.declared.moves.Kind.TheVariants as kinds
 use Rattle.seg_journal.specs.declared.moves.Move.{Move}
-use Rattle.twe_limits.specs.Limits.{Bounds}
+use Rattle.twe_base.specs.Limits.{Bounds}
 use Rattle.twe_program.specs.Program.{Program}
 use Rattle.twe_machine.specs.declared.legal.Why.TheVariants.{HeldBy}
 use Rattle.twe_machine.specs.declared.state.State.{State}
@@ -18,22 +18,22 @@ use Rattle.twe_machine.specs.Moves.{move_result}
 use Rattle.twe_machine.specs.Rows.{HasStatus, IsRow}
 use Rattle.twe_machine.specs.Runs.{IsRun, entry_of}
 use Rattle.opt_engine.specs.declared.core_run.CoreRun.{CoreRun}
-use Rattle.opt_engine.specs.declared.touch.Touch.{Touch}
+use Rattle.opt_engine.specs.declared.touch.CellValue.{CellValue}
 use Rattle.opt_engine.specs.declared.drafts.Draft.{Draft}
 use Rattle.opt_engine.specs.declared.drafts.Drafted.{Drafted}
 use Rattle.opt_engine.specs.declared.verdict.Verdict.{Verdict}
 use Rattle.opt_engine.specs.declared.verdict.Verdict.TheVariants.{Committed, Passed, Held, Changed}
-use Rattle.opt_engine.specs.Drafts.{BeginsWith, Fits, IsDraftOf, IsNext, IsReady, StandsIn}
+use Rattle.opt_engine.specs.Drafts.{AccessesBeginWith, Fits, IsDraftOf, IsNext, DraftIsReady, StandsIn}
 
 -- The journal is legal for the program under the limits, and leads to the state. It goes on from the earlier one.
-pub record GoesOn (p : Program) (lim : Bounds) (earlier : List Entry) (run : CoreRun) : Type 0 where
+pub record RunGoesOn (p : Program) (lim : Bounds) (earlier : List Entry) (run : CoreRun) : Type 0 where
   pub run_is : IsRun p lim run.journal run.state
   pub begins : IsPrefix earlier run.journal
 
 -- the run of a core goes on from the earlier journal; None once memory ran out
 abbrev pub IsKept : Program → Bounds → List Entry → Option CoreRun → Type 0
 IsKept p lim earlier None = Unit {0}
-IsKept p lim earlier (Some run) = GoesOn p lim earlier run
+IsKept p lim earlier (Some run) = RunGoesOn p lim earlier run
 
 -- the moves that a draft of a task with this status stands for: its admission first, if it waits for it
 abbrev pub moves_of : TaskStatus → ℕ → List Move
@@ -47,11 +47,12 @@ abbrev pub AreLegalFrom : Program → Bounds → State → List Move → Type 0
 AreLegalFrom p lim st [] = Unit {0}
 AreLegalFrom p lim st (mv ∷ mvs) = MayMove st mv × AreLegalFrom p lim (move_result p lim st mv).0 mvs
 
--- the entries of the moves, and the state after them
+-- the entries of the moves, one after another from this state on
 abbrev pub entries_from : Program → Bounds → State → List Move → List Entry
 entries_from p lim st [] = []
 entries_from p lim st (mv ∷ mvs) = entry_of p lim st mv ∷ entries_from p lim (move_result p lim st mv).0 mvs
 
+-- the state after the moves
 abbrev pub state_from : Program → Bounds → State → List Move → State
 state_from p lim st [] = st
 state_from p lim st (mv ∷ mvs) = state_from p lim (move_result p lim st mv).0 mvs
@@ -68,9 +69,9 @@ pub record Takes (p : Program) (lim : Bounds) (old : CoreRun) (d : Drafted) (num
   pub last : number + 1 ≡ length new.journal
 
 -- this read is the first of the reads whose cell has another value now
-pub record IsFirstChange (cells : List ℤ) (reads : List Touch) (cell : ℕ) (read now : ℤ) : Type 0 where
-  pub before : List Touch
-  pub after : List Touch
+pub record IsFirstChange (cells : List ℤ) (reads : List CellValue) (cell : ℕ) (read now : ℤ) : Type 0 where
+  pub before : List CellValue
+  pub after : List CellValue
   pub split : reads ≡ before ++ record { cell = cell; value = read } ∷ after
   pub stand : All (StandsIn cells) before
   pub is_now : slice_get cells cell ≡ Some now
@@ -86,20 +87,23 @@ Judges p lim run d (Committed number) new = (after : CoreRun) × (new ≡ Some a
 -- the draft is not of the segment that its task runs next
 Judges p lim run d Passed new = (new ≡ Some run) × ¬ IsNext run.state d
 -- it is, and the task is held back; this is the lowest bar, and the draft is given back
-Judges p lim run d (Held by draft) new = (new ≡ Some run) × IsNext run.state d × Forbids run.state Admit d.task (HeldBy by) × (draft ≡ d)
+Judges p lim run d (Held by draft) new =
+    (new ≡ Some run) × IsNext run.state d × Forbids run.state Admit d.task (HeldBy by) × (draft ≡ d)
 -- it is, nothing holds the task back, and this is the first read whose cell has another value now
 Judges p lim run d (Changed cell read now) new =
     (new ≡ Some run) × IsNext run.state d × IsFree run.state d.task × IsFirstChange run.state.cells d.reads cell read now
 
 -- the core had a run, and answers so
-abbrev pub Answers : Program → Bounds → List Entry → Option CoreRun → Drafted → Verdict → Option CoreRun → Type 0
-Answers p lim earlier old d verdict new = (run : CoreRun) × (old ≡ Some run) × GoesOn p lim earlier run × Judges p lim run d verdict new
+abbrev pub AnswersCommit : Program → Bounds → List Entry → Option CoreRun → Drafted → Verdict → Option CoreRun → Type 0
+AnswersCommit p lim earlier old d verdict new =
+    (run : CoreRun) × (old ≡ Some run) × RunGoesOn p lim earlier run × Judges p lim run d verdict new
 
 -- a draft of the next segment of the task: the task is ready, and the draft has the cells and the frame that the segment
 -- begins with; none if the task is not ready
 abbrev pub IsDraftAt : Program → State → ℕ → Option Draft → Type 0
-IsDraftAt p st t None = ¬ IsReady st t
-IsDraftAt p st t (Some draft) = IsReady st t × (draft.task ≡ t) × BeginsWith st t draft.frame × (draft.cells ≡ st.cells) × IsDraftOf p draft
+IsDraftAt p st t None = ¬ DraftIsReady st t
+IsDraftAt p st t (Some draft) =
+    DraftIsReady st t × (draft.task ≡ t) × AccessesBeginWith st t draft.frame × (draft.cells ≡ st.cells) × IsDraftOf p draft
 
 -- the core had a run, and gives a draft of its state
 abbrev pub Drafts : Program → Option CoreRun → ℕ → Option Draft → Type 0

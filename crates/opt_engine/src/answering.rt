@@ -11,8 +11,7 @@ use crate::drafts::Drafted;
 use crate::judging::{Finding, judge};
 use crate::verdict::Verdict;
 use std::alloc::Global;
-use twe_io::Memory;
-use twe_limits::Limits;
+use twe_base::{Limits, Memory};
 use twe_program::Prog;
 
 /// Takes the moves that a draft stands for, if it fits and they are legal, and else says why not. Then the run is as before.

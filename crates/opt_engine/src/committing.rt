@@ -6,17 +6,16 @@ ghost use Rattle.twe_machine.specs.Runs.{IsRun};
 ghost use Rattle.opt_engine.specs.Drafts.{Fits, IsDraftedOf};
 ghost use Rattle.opt_engine.specs.Touches.{with_writes};
 ghost use Rattle.opt_engine.specs.Verdicts.{IsFree, Takes};
-ghost use Rattle.opt_engine.specs.Taking.{Steps};
+ghost use Rattle.opt_engine.specs.Taking.{TakingSteps};
 ghost use Rattle.opt_engine.specs.inner.Judging.{Admits};
 
 use crate::core_run::CoreRun;
 use crate::drafts::Drafted;
 use crate::readiness::is_made;
-use crate::touch::Touch;
+use crate::touch::CellValue;
 use seg_journal::{Entry, Kind, Move};
 use std::alloc::Global;
-use twe_io::{Ints, Memory};
-use twe_limits::Limits;
+use twe_base::{Ints, Limits, Memory};
 use twe_machine::settle;
 use twe_program::Prog;
 
@@ -66,7 +65,7 @@ fn admit_if_made(
 fn admit(alloc: Global, p: &Prog, lim: Limits, run: &mut CoreRun, t: u32) -> Result<(), Memory>
     requires run { IsRun p.now lim run.old.journal run.old.state }
     requires may { MayAdmit run.old.state t }
-    ensures { OnOk result (Steps p.now lim run.old (record { kind = Kind.Admit; task = t }) run.new) }
+    ensures { OnOk result (TakingSteps p.now lim run.old (record { kind = Kind.Admit; task = t }) run.new) }
 {
     let mv = Move {
         kind: Kind::Admit,
@@ -81,7 +80,7 @@ fn enter(alloc: Global, p: &Prog, lim: Limits, run: &mut CoreRun, d: Drafted) ->
     requires drafted { IsDraftedOf p.now d }
     requires fits { Fits run.old.state d }
     requires may { MayRun run.old.state d.task }
-    ensures { OnOk result (Steps p.now lim run.old (record { kind = Kind.Run; task = d.task }) run.new) }
+    ensures { OnOk result (TakingSteps p.now lim run.old (record { kind = Kind.Run; task = d.task }) run.new) }
 {
     let _main = p.main;
     let _tasks = lim.tasks;
@@ -102,7 +101,7 @@ fn enter(alloc: Global, p: &Prog, lim: Limits, run: &mut CoreRun, d: Drafted) ->
 }
 
 /// Gives each written cell its value.
-fn make_writes(cells: &mut Ints, writes: &[Touch])
+fn make_writes(cells: &mut Ints, writes: &[CellValue])
     requires { All (λ w. w.cell < length cells.old) writes.now }
     ensures { cells.new ≡ with_writes cells.old writes.now }
 {
@@ -112,7 +111,7 @@ fn make_writes(cells: &mut Ints, writes: &[Touch])
 }
 
 /// Gives a written cell its value.
-fn make_write(cells: &mut Ints, w: Touch)
+fn make_write(cells: &mut Ints, w: CellValue)
     requires { w.cell < length cells.old }
     ensures { cells.new ≡ slice_set cells.old w.cell w.value }
 {

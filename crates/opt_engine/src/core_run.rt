@@ -3,12 +3,11 @@ ghost use Rattle.std.specs.Prelude.{◌≡◌, [], IfOk, OnOk};
 ghost use Rattle.twe_machine.specs.Legal.{MayMove};
 ghost use Rattle.twe_machine.specs.Moves.{start_of};
 ghost use Rattle.twe_machine.specs.Runs.{IsRun};
-ghost use Rattle.opt_engine.specs.Taking.{Steps};
+ghost use Rattle.opt_engine.specs.Taking.{TakingSteps};
 
 use seg_journal::{Entry, Journal, Move};
 use std::alloc::Global;
-use twe_io::Memory;
-use twe_limits::Limits;
+use twe_base::{Limits, Memory};
 use twe_machine::{State, start, step};
 use twe_program::Prog;
 
@@ -36,7 +35,7 @@ impl CoreRun {
     pub fn take(&mut self, alloc: Global, p: &Prog, lim: Limits, mv: Move) -> Result<(), Memory>
         requires run { IsRun p.now lim self.old.journal self.old.state }
         requires legal { MayMove self.old.state mv }
-        ensures { OnOk result (Steps p.now lim self.old mv self.new) }
+        ensures { OnOk result (TakingSteps p.now lim self.old mv self.new) }
     {
         let end = step(alloc, p, lim, &mut self.state, mv)?;
         self.journal.push(Entry { mv, end })?;

@@ -2,7 +2,7 @@
 ghost use Rattle.std.specs.Prelude.{◌≡◌, [], Some, None, IfOk, OnErr, option_copied};
 ghost use Rattle.twe_machine.specs.Moves.{start_of};
 ghost use Rattle.opt_engine.specs.Drafts.{IsDraftedOf};
-ghost use Rattle.opt_engine.specs.Verdicts.{Answers, Drafts, GoesOn, IsKept};
+ghost use Rattle.opt_engine.specs.Verdicts.{AnswersCommit, Drafts, RunGoesOn, IsKept};
 
 use crate::answering::answer;
 use crate::core_run::CoreRun;
@@ -11,22 +11,21 @@ use crate::readiness::draft_of;
 use crate::verdict::Verdict;
 use std::alloc::Global;
 use std::marker::{Model, PhantomData};
-use twe_io::Memory;
-use twe_limits::Limits;
+use twe_base::{Limits, Memory};
 use twe_program::Prog;
-use twe_rounds::{Named, lost};
+use twe_rounds::{RoundName, lost};
 
 /// A run of the named program under the named limits, which goes on from the named journal. Once memory runs out while a
 /// draft is committed, the run is lost, and every later call answers `Memory`.
 #[derive(Drop)]
-pub struct Core<N: Named> {
+pub struct Core<N: RoundName> {
     alloc: Global,
     lim: Limits,
     run: Option<CoreRun>,
     of: PhantomData<N>,
 }
 
-impl<N: Named> Model for Core<N> {
+impl<N: RoundName> Model for Core<N> {
     ghost use Rattle.std.specs.Prelude.{◌≡◌, Option};
     ghost use Rattle.opt_engine.specs.declared.core_run.CoreRun.{CoreRun};
     ghost use Rattle.opt_engine.specs.Verdicts.{IsKept};
@@ -38,7 +37,7 @@ impl<N: Named> Model for Core<N> {
     ghost invariant = { λ core. (core.lim ≡ N.lim) × IsKept N.prog N.lim N.earlier core.run };
 }
 
-impl<N: Named> Core<N> {
+impl<N: RoundName> Core<N> {
     /// A core with the run that has not begun.
     pub fn new(alloc: Global, p: &Prog, lim: Limits) -> Result<Self, Memory>
         requires named { (p.now ≡ N.prog) × (lim ≡ N.lim) }
@@ -57,7 +56,7 @@ impl<N: Named> Core<N> {
     /// A core with this run, which goes on from the named journal.
     pub fn of(alloc: Global, lim: Limits, run: CoreRun) -> Self
         requires named { lim ≡ N.lim }
-        requires goes_on { GoesOn N.prog N.lim N.earlier run }
+        requires goes_on { RunGoesOn N.prog N.lim N.earlier run }
         ensures { result ≡ Some run }
     {
         Core {
@@ -100,7 +99,7 @@ impl<N: Named> Core<N> {
     pub fn commit(&mut self, p: &Prog, d: Drafted) -> Result<Verdict, Memory>
         requires named { p.now ≡ N.prog }
         requires drafted { IsDraftedOf p.now d }
-        ensures ok { IfOk result (λ verdict. Answers N.prog N.lim N.earlier self.old d verdict self.new) }
+        ensures ok { IfOk result (λ verdict. AnswersCommit N.prog N.lim N.earlier self.old d verdict self.new) }
         ensures err { OnErr result (self.new ≡ None) }
     {
         let run = self.run.take().ok_or(lost())?;

@@ -7,7 +7,7 @@ use crate::touch::Touched;
 use crate::touching::Touching;
 use seg_exec::{Frame, Stop, run_segment};
 use std::alloc::Global;
-use twe_io::{Ints, Memory};
+use twe_base::{Ints, Memory};
 use twe_program::Prog;
 
 /// A segment that may be run ahead: a task, with copies of the frame that its next segment begins with and of the cells.

@@ -7,7 +7,7 @@ ghost use Rattle.opt_engine.specs.inner.Frames.{SameContents, SameProgress};
 
 use seg_exec::{Children, Frame, OpenBody, Position};
 use std::alloc::Global;
-use twe_io::Memory;
+use twe_base::Memory;
 
 /// A copy of a frame in its own memory, with no memory reserved for a further child.
 pub fn copy_frame(alloc: Global, frame: &Frame) -> Result<Frame, Memory>

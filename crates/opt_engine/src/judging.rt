@@ -5,7 +5,7 @@ ghost use Rattle.twe_machine.specs.Runs.{IsReached};
 ghost use Rattle.seg_journal.specs.declared.moves.Kind.TheVariants.{Admit};
 ghost use Rattle.twe_machine.specs.declared.legal.Why.TheVariants.{HeldBy};
 ghost use Rattle.twe_machine.specs.Legal.{Forbids};
-ghost use Rattle.twe_limits.specs.Limits.{Bounds};
+ghost use Rattle.twe_base.specs.Limits.{Bounds};
 ghost use Rattle.opt_engine.specs.Drafts.{IsDraftedOf, IsNext, StandsIn};
 ghost use Rattle.opt_engine.specs.Verdicts.{IsFree};
 ghost use Rattle.opt_engine.specs.inner.Judging.{Finds, HasChanged, IsChange};
@@ -13,10 +13,10 @@ ghost use Rattle.opt_engine.specs.inner.Judging.{Finds, HasChanged, IsChange};
 use crate::drafts::Drafted;
 use crate::frames::same_frame;
 use crate::readiness::{is_ready, ready_copy};
-use crate::touch::Touch;
+use crate::touch::CellValue;
 use seg_journal::{Kind, Move};
 use std::alloc::Global;
-use twe_io::{Ints, Memory};
+use twe_base::{Ints, Memory};
 use twe_machine::{State, Why, may};
 use twe_program::Prog;
 
@@ -97,7 +97,7 @@ fn holder(p: &Prog, st: &State, t: u32) -> Option<u32>
 }
 
 /// The first read whose cell has another value now.
-fn first_change(cells: &Ints, reads: &[Touch]) -> Option<Change>
+fn first_change(cells: &Ints, reads: &[CellValue]) -> Option<Change>
     requires { All (λ read. read.cell < length cells.now) reads.now }
     ensures { MatchOption result (All (StandsIn cells.now) reads.now) (IsChange cells.now reads.now) }
 {
@@ -110,7 +110,7 @@ fn first_change(cells: &Ints, reads: &[Touch]) -> Option<Change>
 }
 
 /// The change of a cell since it was read, if it has another value now.
-fn change_of(cells: &Ints, read: Touch) -> Option<Change>
+fn change_of(cells: &Ints, read: CellValue) -> Option<Change>
     requires { read.cell < length cells.now }
     ensures { MatchOption result (StandsIn cells.now read) (HasChanged cells.now read) }
 {

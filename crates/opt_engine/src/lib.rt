@@ -22,5 +22,5 @@ pub use core_run::CoreRun;
 pub use draft_core::Core;
 pub use drafts::{Draft, Drafted, run_draft};
 pub use frames::{copy_frame, same_frame};
-pub use touch::{Touch, Touched};
+pub use touch::{CellValue, Touched};
 pub use verdict::Verdict;

@@ -2,9 +2,9 @@
 ghost use Rattle.std.specs.Prelude.{◌≡◌, ◌<◌, length, IfOk, OnOk};
 ghost use Rattle.opt_engine.specs.inner.Noting.{first_write_noted, no_notes, read_noted, write_noted};
 
-use crate::touch::{Touch, Touched};
+use crate::touch::{CellValue, Touched};
 use std::alloc::Global;
-use twe_io::{List, Memory};
+use twe_base::{List, Memory};
 
 /// What was done to a cell so far.
 #[derive(Clone, Copy, Debug, PartialEq, Eq)]
@@ -50,7 +50,7 @@ impl Notes {
         match self.marks.as_slice()[at] {
             Mark::Untouched => {
                 self.marks.set(at, Mark::Read);
-                self.reads.push(Touch { cell, value })
+                self.reads.push(CellValue { cell, value })
             }
             Mark::Read => Ok(()),
             Mark::Written => Ok(()),

@@ -1,25 +1,25 @@
 //! Which tasks are ready, and the frames that their next segments begin with.
-ghost use Rattle.std.specs.Prelude.{◌≡◌, ◌↔◌, IfOk, IsTrue, length, option_copied};
+ghost use Rattle.std.specs.Prelude.{◌≡◌, ◌↔◌, IfOk, IsTrue, length};
 ghost use Rattle.twe_machine.specs.declared.state.TaskStatus.TheVariants.{Made};
-ghost use Rattle.twe_machine.specs.Moves.{awaited_value, ready_frame, value_of};
-ghost use Rattle.twe_machine.specs.Rows.{HasStatus, awaited};
+ghost use Rattle.twe_machine.specs.Moves.{ready_frame};
+ghost use Rattle.twe_machine.specs.Rows.{HasStatus};
 ghost use Rattle.twe_machine.specs.Runs.{IsReached};
-ghost use Rattle.twe_limits.specs.Limits.{Bounds};
-ghost use Rattle.opt_engine.specs.Drafts.{IsReady, unreserved};
+ghost use Rattle.twe_base.specs.Limits.{Bounds};
+ghost use Rattle.opt_engine.specs.Drafts.{DraftIsReady, unreserved};
 ghost use Rattle.opt_engine.specs.Verdicts.{IsDraftAt};
 
 use crate::drafts::Draft;
 use crate::frames::copy_frame;
-use seg_exec::{Frame, Next};
+use seg_exec::Frame;
 use std::alloc::Global;
-use twe_io::{List, Memory};
-use twe_machine::{State, TaskRow, TaskStatus};
+use twe_base::{List, Memory};
+use twe_machine::{State, TaskRow, TaskStatus, awaited, awaited_value};
 use twe_program::Prog;
 
 /// Whether a task is ready: whether it waits for its admission, or is enabled and waits for nobody.
 pub(crate) fn is_ready(st: &State, t: u32) -> bool
     requires { length st.now.links ≡ length st.now.tasks }
-    ensures { IsTrue result ↔ IsReady st.now t }
+    ensures { IsTrue result ↔ DraftIsReady st.now t }
 {
     match st.tasks.get(t as usize) {
         None => false,
@@ -73,38 +73,5 @@ pub(crate) fn draft_of(alloc: Global, p: &Prog, st: &State, t: u32) -> Result<Op
             frame: ready_copy(alloc, &st.tasks, row)?,
             cells: st.cells.copy(alloc)?,
         })),
-    }
-}
-
-/// The task that the next operation waits for, if it is a wait.
-fn awaited(next: Next) -> Option<u32>
-    ensures { result ≡ awaited next }
-{
-    match next {
-        Next::Go => None,
-        Next::Get { on, .. } => Some(on),
-        Next::Join { on, .. } => Some(on),
-        Next::Closing { on } => Some(on),
-        Next::Ended => None,
-    }
-}
-
-/// The value of the awaited task, and 0 if there is none.
-fn awaited_value(rows: &List<TaskRow>, on: Option<u32>) -> i32
-    ensures { result ≡ awaited_value rows.now on }
-{
-    match on {
-        None => 0,
-        Some(on) => value_of(rows.get(on as usize)),
-    }
-}
-
-/// The value of a task, and 0 if there is no such task.
-fn value_of(row: Option<&TaskRow>) -> i32
-    ensures { result ≡ value_of (option_copied row.entry) }
-{
-    match row {
-        None => 0,
-        Some(row) => row.value,
     }
 }

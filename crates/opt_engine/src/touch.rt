@@ -1,10 +1,10 @@
 //! Cells with values.
 
-use twe_io::List;
+use twe_base::List;
 
 /// A cell and a value of it.
 #[derive(Clone, Copy, Debug, PartialEq, Eq)]
-pub struct Touch {
+pub struct CellValue {
     /// The number of the cell.
     pub cell: u32,
     /// The value.
@@ -12,4 +12,4 @@ pub struct Touch {
 }
 
 /// Cells with values, in order.
-pub type Touched = List<Touch>;
+pub type Touched = List<CellValue>;

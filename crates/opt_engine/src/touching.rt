@@ -3,10 +3,10 @@ ghost use Rattle.std.specs.Prelude.{◌≡◌, map, IfOk, None};
 ghost use Rattle.opt_engine.specs.inner.Noting.{MayTouch, TouchFollows, fresh, touch_knows, value_at};
 
 use crate::notes::Notes;
-use crate::touch::{Touch, Touched};
+use crate::touch::{CellValue, Touched};
 use seg_exec::Cells;
 use std::alloc::Global;
-use twe_io::{Ints, List, Memory};
+use twe_base::{Ints, List, Memory};
 
 /// The values of the cells, with notes of what was read and written. A note that finds no memory is missing, and so is
 /// each later one.
@@ -56,14 +56,14 @@ impl Touching {
 }
 
 /// A cell with its value.
-fn value_at(cells: &Ints, cell: u32) -> Touch
+fn value_at(cells: &Ints, cell: u32) -> CellValue
     ensures { result ≡ value_at cells.now cell }
 {
     let value = match cells.get(cell as usize) {
         Some(value) => *value,
         None => 0,
     };
-    Touch { cell, value }
+    CellValue { cell, value }
 }
 
 /// Each cell is known, and may be read and written.

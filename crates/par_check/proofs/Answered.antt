@@ -1,7 +1,7 @@
 -- Programs that are all answered.
 use Rattle.std.proofs.Common.{◌≡◌, ℕ, List, [], ◌∷◌, map, Result, Ok, Err, IfOk, sym, subst}
 use Rattle.std.specs.List.{AllZip}
-use Rattle.twe_io.specs.declared.memory.Memory.{Memory}
+use Rattle.twe_base.specs.declared.memory.Memory.{Memory}
 use Rattle.text_answers.specs.Answer.{Answer}
 
 -- the answers in results that are all there

@@ -33,7 +33,8 @@ command_of Run = commands.Run 0 default_limits false
 -- what is written for one program: `program 7: status 0`, the bytes for out and those for err
 abbrev pub answer_text : ℕ → Answer → List ℕ
 answer_text number answer =
-    codes "program " ++ (decimal number ++ (codes ": status " ++ (decimal (code_of answer.status) ++ 10 ∷ (answer.out ++ answer.err))))
+    codes "program " ++ (decimal number ++ (codes ": status "
+    ++ (decimal (code_of answer.status) ++ 10 ∷ (answer.out ++ answer.err))))
 
 -- what is written for programs one after another; the first has this number
 abbrev pub batch_text : ℕ → List Answer → List ℕ
@@ -42,4 +43,6 @@ batch_text number (answer ∷ answers) = answer_text number answer ++ batch_text
 
 -- this is written for the batch: an answer for each of its programs, in their order
 abbrev pub IsBatch : Job → List ℕ → List ℕ → Type 0
-IsBatch job batch text = (answers : List Answer) × AllZip (IsAnswerTo (command_of job)) (programs_of batch) answers × (text ≡ batch_text 1 answers)
+IsBatch job batch text =
+    (answers : List Answer) × AllZip (IsAnswerTo (command_of job)) (programs_of batch) answers
+    × (text ≡ batch_text 1 answers)

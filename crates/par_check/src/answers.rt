@@ -1,7 +1,7 @@
 //! The answers to programs.
 ghost use Rattle.std.specs.Prelude.{◌≡◌, ◌≤◌, length, All, IfOk};
 ghost use Rattle.std.specs.List.{AllZip};
-ghost use Rattle.twe_limits.specs.Language.{max_text_bytes};
+ghost use Rattle.twe_base.specs.Language.{max_text_bytes};
 ghost use Rattle.text_answers.specs.Answers.{IsAnswerTo};
 ghost use Rattle.par_check.specs.Batch.{command_of};
 
@@ -11,7 +11,7 @@ use rayon::prelude::*;
 use std::alloc::Global;
 use std::thread::Threads;
 use text_answers::{Answer, answer_text};
-use twe_io::{Bytes, List, Memory};
+use twe_base::{Bytes, List, Memory};
 
 /// Answers in the order of their programs.
 pub type Answers = List<Answer>;

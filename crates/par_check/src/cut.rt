@@ -1,11 +1,11 @@
 //! The cutting of a batch.
 ghost use Rattle.std.specs.Prelude.{◌≡◌, ◌≤◌, length, All, IfOk};
-ghost use Rattle.twe_limits.specs.Language.{max_text_bytes};
+ghost use Rattle.twe_base.specs.Language.{max_text_bytes};
 ghost use Rattle.par_check.specs.Batch.{programs_of};
 
 use std::alloc::Global;
 use text_answers::cut_at_mark;
-use twe_io::{Bytes, List, Memory};
+use twe_base::{Bytes, List, Memory};
 
 /// Texts in order.
 pub type Texts = List<Bytes>;

@@ -3,7 +3,7 @@ ghost use Rattle.std.specs.Prelude.{◌≡◌};
 ghost use Rattle.par_check.specs.Batch.{command_of};
 
 use command_line::Command;
-use twe_limits::Limits;
+use twe_base::Limits;
 
 /// What is done with each program of a batch.
 #[derive(Clone, Copy, Debug, PartialEq, Eq)]

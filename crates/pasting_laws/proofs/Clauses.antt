@@ -3,9 +3,10 @@ use Rattle.std.proofs.Common.{◌≡◌, ◌⊎◌, ◌<◌, ◌≤◌, ℕ, pos
 use Rattle.std.specs.List.{AllByRecursion, flat_map, list_any, prefix_len}
 use Rattle.std.proofs.lemmas.Bool.{true≢false}
 use Rattle.std.proofs.lemmas.List.{take_all, drop_all}
-use Rattle.twe_limits.specs.Language.{max_path_elements}
+use Rattle.twe_base.specs.Language.{max_path_elements}
 use Rattle.region_paths.specs.declared.elements.Elem.{Elem}
 use Rattle.region_paths.specs.declared.elements.Elem.TheVariants.{Name, Index, Var, AnyIndex}
+use Rattle.region_paths.specs.Written.{WrittenPath}
 use Rattle.effect_sets.specs.declared.effects.Effect.{Effect}
 use Rattle.effect_sets.specs.declared.effects.Summary.{Summary}
 use Rattle.twe_ast.specs.declared.item.Clause.{Clause}
@@ -26,9 +27,9 @@ use Rattle.name_check.specs.Limits.{is_star}
 use Rattle.twe_names.specs.PathMeaning as means
 use Rattle.twe_names.specs.PathMeaning.{region_number, param_number, elem_of_kind, elems_of, before_star, after_star, effects_of_clause}
 use Rattle.std.proofs.lemmas.Grind.{flat_map-append}
-use Rattle.first_failure.proofs.Members.{IsIn, not-true, in-cases, in-left, in-right, all-append}
-use Rattle.pasting_laws.specs.Clauses.{name_at, kind_of, elem_of, path_of, clause_of, reads_of, writes_of, clauses_of, IsWritable}
-use Rattle.place_laws.specs.Places.{nowhere}
+use Rattle.twe_base.proofs.Members.{IsIn, not-true, in-cases, in-left, in-right, all-append}
+use Rattle.pasting_laws.specs.Clauses.{name_at, clause_kind_of, elem_of, with_star, clause_path_of, clause_of, reads_of, writes_of, clauses_of, IsWritable}
+use Rattle.pasting_laws.specs.places.Places.{no_place}
 
 -- what a filter keeps
 one-kept : {X : Type 0} (P : X → Type 0) (test : X → Bool) (x : X) (kept : List X) (b : Bool) → test x ≡ b → P x → AllByRecursion (λ y. (test y ≡ true) × P y) kept
@@ -95,9 +96,9 @@ in-clauses effects effect h = by effect.write refl
 
 -- the paths of the clauses
 pub clause-paths : (regions params : List (List ℕ)) (write : Bool) (effects : List Effect)
-    → flat_map (λ (clause : Clause). clause.paths) (clause_of regions params write effects) ≡ map (path_of regions params) effects
+    → flat_map (λ (clause : Clause). clause.paths) (clause_of regions params write effects) ≡ map (clause_path_of regions params) effects
 clause-paths regions params write [] = refl
-clause-paths regions params write (first ∷ others) = append-nil (map (path_of regions params) (first ∷ others))
+clause-paths regions params write (first ∷ others) = append-nil (map (clause_path_of regions params) (first ∷ others))
 
 -- no element is a star
 elem-no-star : (regions params : List (List ℕ)) (e : Elem) → is_star (elem_of regions params e) ≡ false
@@ -126,9 +127,24 @@ before-all xs h = ap (λ n. take n xs) (star-prefix xs h) ∙ take_all (length x
 after-none : (xs : List PathElem) → AllByRecursion (λ (elem : PathElem). is_star elem ≡ false) xs → after_star xs ≡ []
 after-none xs h = ap (λ (ys : List PathElem). drop (length ys) xs) (before-all xs h) ∙ drop_all (length xs) xs (omega arith)
 
+-- the path of the effect has no star
+abbrev pub IsPlainEffect : Effect → Type 0
+IsPlainEffect effect = effect.path ≡ record { elems = effect.path.elems; star = false; tail = [] }
+
+-- a path without a star as a text writes it
+abbrev pub plain_path_of : List (List ℕ) → List (List ℕ) → List Elem → Path
+plain_path_of regions params es = record { elems = map (elem_of regions params) es; place = no_place }
+
+pub plain-path : (regions params : List (List ℕ)) (effect : Effect) → IsPlainEffect effect → clause_path_of regions params effect ≡ plain_path_of regions params effect.path.elems
+plain-path regions params effect plain =
+    ap (λ (path : WrittenPath). record {
+      elems = with_star path.star (map (elem_of regions params) path.elems) (map (elem_of regions params) path.tail);
+      place = no_place;
+    }) plain
+
 -- an effect that a clause can say: its path has no star, names regions and parameters that are there, and has literals of a text
 pub record Fits (regions params : ℕ) (effect : Effect) : Type 0 where
-  pub plain : effect.path ≡ record { elems = effect.path.elems; star = false; tail = [] }
+  pub plain : IsPlainEffect effect
   pub elems : AllByRecursion (ElementFits regions params) effect.path.elems
   pub literals : AllByRecursion IsWritable effect.path.elems
   pub short : length effect.path.elems ≤ max_path_elements
@@ -144,7 +160,7 @@ module _ (globals : List GlobalName) (regions : List (List ℕ)) (locals : List 
     (region-bound : (n : ℕ) → n < length regions → global_of globals (name_at regions n) ≡ Some (global_kinds.Region n))
     (in-scope : (n : ℕ) → n < length regions → binding_of globals locals (name_at regions n) ≡ Some (bindings.Global (global_kinds.Region n)))
     (param-bound : (k : ℕ) → k < length params → first_local (name_at params k) locals ≡ Some (local_kinds.Variable k types.Int true)) where
-  elem-means : (e : Elem) → ElementFits (length regions) (length params) e → IsWritable e → elem_of_kind globals locals (kind_of regions params e) ≡ e ∷ []
+  elem-means : (e : Elem) → ElementFits (length regions) (length params) e → IsWritable e → elem_of_kind globals locals (clause_kind_of regions params e) ≡ e ∷ []
   elem-means (Name n) fits writable = ap (λ o. Name (region_number o) ∷ []) (region-bound n fits)
   elem-means (Index (pos i)) fits writable = refl
   elem-means (Index (negsuc i)) fits writable = absurd writable
@@ -156,18 +172,18 @@ module _ (globals : List GlobalName) (regions : List (List ℕ)) (locals : List 
   elems-mean [] fit writable = refl
   elems-mean (e ∷ es) fit writable = λ i. elem-means e fit.0 writable.0 i ++ elems-mean es fit.1 writable.1 i
 
-  path-means : (effect : Effect) → Fits (length regions) (length params) effect → means.path_of globals locals (path_of regions params effect) ≡ effect.path
+  path-means : (effect : Effect) → Fits (length regions) (length params) effect → means.path_meaning globals locals (clause_path_of regions params effect) ≡ effect.path
   path-means effect fits =
       let xs = map (elem_of regions params) effect.path.elems in
       let none = path-no-star regions params effect.path.elems in
       let front : elems_of globals locals (before_star xs) ≡ effect.path.elems = ap (elems_of globals locals) (before-all xs none) ∙ elems-mean effect.path.elems fits.elems fits.literals in
       let back : elems_of globals locals (after_star xs) ≡ [] = ap (elems_of globals locals) (after-none xs none) in
-      let same : means.path_of globals locals (path_of regions params effect) ≡ record { elems = effect.path.elems; star = false; tail = [] } =
+      let same : means.path_meaning globals locals (plain_path_of regions params effect.path.elems) ≡ record { elems = effect.path.elems; star = false; tail = [] } =
       λ i. record { elems = front i; star = any-star xs none i; tail = back i } in
-      same ∙ sym fits.plain
+      ap (means.path_meaning globals locals) (plain-path regions params effect fits.plain) ∙ same ∙ sym fits.plain
 
   effects-mean : (write : Bool) (effects : List Effect) → AllByRecursion (λ (e : Effect). (e.write ≡ write) × Fits (length regions) (length params) e) effects
-      → map (λ (path : Path). record { write = write; path = means.path_of globals locals path }) (map (path_of regions params) effects) ≡ effects
+      → map (λ (path : Path). record { write = write; path = means.path_meaning globals locals path }) (map (clause_path_of regions params) effects) ≡ effects
   effects-mean write [] h = refl
   effects-mean write (effect ∷ effects) h =
       λ i. (record { write = sym h.0.0 i; path = path-means effect h.0.1 i }) ∷ effects-mean write effects h.1 i
@@ -194,7 +210,7 @@ module _ (globals : List GlobalName) (regions : List (List ℕ)) (locals : List 
       flat-append (clause_of regions params false (reads_of summary.effects)) (clause_of regions params true (writes_of summary.effects))
       ∙ (λ i. reads i ++ writes i)
 
-  elem-fits : (e : Elem) → ElementFits (length regions) (length params) e → AllByRecursion (AskFits globals locals) (asks_of_kind (kind_of regions params e) nowhere)
+  elem-fits : (e : Elem) → ElementFits (length regions) (length params) e → AllByRecursion (AskFits globals locals) (asks_of_kind (clause_kind_of regions params e) no_place)
   elem-fits (Name n) fits = ((n, in-scope n fits), tt)
   elem-fits (Index i) fits = tt
   elem-fits (Var k) fits = ((k, param-bound k fits), tt)
@@ -203,17 +219,20 @@ module _ (globals : List GlobalName) (regions : List (List ℕ)) (locals : List 
   elems-fit : (es : List Elem) → AllByRecursion (ElementFits (length regions) (length params)) es
       → AllByRecursion (AskFits globals locals) (flat_map (λ (elem : PathElem). asks_of_kind elem.kind elem.place) (map (elem_of regions params) es))
   elems-fit [] h = tt
-  elems-fit (e ∷ es) h = all-append (AskFits globals locals) (asks_of_kind (kind_of regions params e) nowhere) _ (elem-fits e h.0) (elems-fit es h.1)
+  elems-fit (e ∷ es) h = all-append (AskFits globals locals) (asks_of_kind (clause_kind_of regions params e) no_place) _ (elem-fits e h.0) (elems-fit es h.1)
 
-  paths-fit : (effects : List Effect) → AllByRecursion (Fits (length regions) (length params)) effects → AllByRecursion (AskFits globals locals) (flat_map asks_of_path (map (path_of regions params) effects))
+  paths-fit : (effects : List Effect) → AllByRecursion (Fits (length regions) (length params)) effects → AllByRecursion (AskFits globals locals) (flat_map asks_of_path (map (clause_path_of regions params) effects))
   paths-fit [] h = tt
-  paths-fit (effect ∷ effects) h = all-append (AskFits globals locals) (asks_of_path (path_of regions params effect)) _ (elems-fit effect.path.elems h.0.elems) (paths-fit effects h.1)
+  paths-fit (effect ∷ effects) h =
+      all-append (AskFits globals locals) (asks_of_path (clause_path_of regions params effect)) _
+      (subst (λ (path : Path). AllByRecursion (AskFits globals locals) (asks_of_path path)) (sym (plain-path regions params effect h.0.plain)) (elems-fit effect.path.elems h.0.elems))
+      (paths-fit effects h.1)
 
   clause-fits : (write : Bool) (effects : List Effect) → AllByRecursion (Fits (length regions) (length params)) effects
       → AllByRecursion (AskFits globals locals) (flat_map asks_of_clause (clause_of regions params write effects))
   clause-fits write [] h = tt
   clause-fits write (first ∷ others) h =
-      all-append (AskFits globals locals) (flat_map asks_of_path (map (path_of regions params) (first ∷ others))) [] (paths-fit (first ∷ others) h) tt
+      all-append (AskFits globals locals) (flat_map asks_of_path (map (clause_path_of regions params) (first ∷ others))) [] (paths-fit (first ∷ others) h) tt
 
   second-part : {X : Type 0} (P Q : X → Type 0) (xs : List X) → AllByRecursion (λ x. P x × Q x) xs → AllByRecursion Q xs
   second-part P Q [] h = tt

@@ -1,8 +1,10 @@
 -- Summaries that are made of needs, and that a text can have, fit into the text.
-use Rattle.std.proofs.Common.{◌≡◌, ◌<◌, ℕ, ◌+◌, zero, suc, false, List, [], ◌∷◌, map, length, Option, None, Some, inl, inr, refl, sym, ap, ◌∙◌, subst, arith}
+use Rattle.std.proofs.Common.{◌≡◌, ◌<◌, ◌≤◌, ℕ, ◌+◌, zero, suc, false, List, [], ◌∷◌, map, length, Option, None, Some, inl, inr, refl, sym, ap, ◌∙◌, subst, arith}
 use Rattle.std.specs.Prelude.{slice_get}
 use Rattle.std.specs.List.{AllByRecursion, AllZip, flat_map}
 use Rattle.std.proofs.lemmas.List.{length-map}
+use Rattle.twe_base.specs.Language.{max_path_elements}
+use Rattle.region_paths.specs.Written.{WrittenPath}
 use Rattle.effect_sets.specs.declared.effects.Effect.{Effect}
 use Rattle.effect_sets.specs.declared.effects.Summary.{Summary}
 use Rattle.twe_ast.specs.declared.item.Ast.{Ast}
@@ -23,23 +25,23 @@ use Rattle.name_check.specs.declared.names.GlobalName.{GlobalName}
 use Rattle.name_check.specs.Names.{globals_of, global_of, seen_as_global}
 use Rattle.name_check.specs.BodyScope.{params_of}
 use Rattle.name_check.specs.Limits.{decls_of_item, decls_of}
-use Rattle.cell_limits.specs.GoesOver.{cells_of}
+use Rattle.name_check.specs.cell_limits.GoesOver.{cells_of}
 use Rattle.effect_check.specs.Standing.{elements_from}
 use Rattle.twe_names.specs.PathMeaning.{region_number, elem_of_cell_kind}
 use Rattle.twe_names.specs.Meaning.{dims_of, cells_from, decl_of, methods_of_item, program_of}
 use Rattle.twe_names.proofs.There.{GlobalsThere, SeenThere, global-there}
 use Rattle.twe_names.proofs.Globals.{globals-there}
-use Rattle.method_needs.specs.declared.need.Need.{Need}
-use Rattle.method_needs.specs.Needs.{IsNeed}
-use Rattle.method_needs.specs.Choices.{HasNeeds}
-use Rattle.first_failure.proofs.Members.{IsIn, in-contains, in-cases, all-in, all-front, all-back}
+use Rattle.effect_infer.specs.declared.needs.need.Need.{Need}
+use Rattle.effect_infer.specs.needs.Needs.{IsNeed, effect_of}
+use Rattle.effect_infer.specs.needs.Choices.{HasNeeds}
+use Rattle.twe_base.proofs.Members.{IsIn, in-contains, in-cases, all-in, all-front, all-back}
 use Rattle.ast_printer.specs.ItemTokens.{item_tokens, items_tokens}
 use Rattle.ast_printer.proofs.Passing.{Sound}
-use Rattle.pasting_laws.specs.Clauses.{texts_of, CanBeWritten}
+use Rattle.pasting_laws.specs.Clauses.{texts_of, elements_written, CanBeWritten}
 use Rattle.pasting_laws.specs.Pasted.{HaveSameEffects}
 use Rattle.pasting_laws.proofs.Names.{Keeps, region-bound, region-in-scope, param-bound}
 use Rattle.pasting_laws.proofs.NeedsFit.{RegionFits, RegionsFit, NeedFits, need-fits}
-use Rattle.pasting_laws.proofs.Clauses.{Fits, all-from, clauses-mean, clauses-fit}
+use Rattle.pasting_laws.proofs.Clauses.{Fits, all-from, clauses-mean, clauses-fit, IsPlainEffect}
 use Rattle.pasting_laws.proofs.PastedItems.{methods_in, Aligned, aligned, Needed, Meant}
 use Rattle.pasting_laws.proofs.PastedNames.{IsWithin}
 use Rattle.pasting_laws.proofs.Sounds.{IsRead, Sounds, program-regions, item-params}
@@ -119,6 +121,10 @@ module _ (tree : Ast) (keeps : Keeps tree) (summaries written : List Summary) (n
       let there = globals-there tree in
       need-fits p there.console (λ cell. cells-fit p (globals_of tree) there 0 (cells_of tree.items) cell) m need is
 
+  -- the effect of a need has no star
+  plain-need : (need : Need) (effect : Effect) → effect ≡ effect_of need → IsPlainEffect effect
+  plain-need need effect is = subst (λ (x : Effect). IsPlainEffect x) (sym is) refl
+
   effect-fits : (m : ℕ) (summary : Summary) (decl : Decl) → slice_get written m ≡ Some summary → slice_get (flat_map methods_in tree.items) m ≡ Some decl
       → (effect : Effect) → IsIn effect summary.effects → Fits (length p.regions) (length decl.params) effect
   effect-fits m summary decl e f effect there =
@@ -131,11 +137,11 @@ module _ (tree : Ast) (keeps : Keeps tree) (summaries written : List Summary) (n
       let its : fits.decl ≡ decl_of (globals_of tree) false decl = cc in
       let params : fits.decl.params ≡ length decl.params = ap (λ (d : resolved.Decl). d.params) its in
       record {
-        plain = subst (λ (x : Effect). x.path ≡ record { elems = x.path.elems; star = false; tail = [] }) (sym need.2) refl;
+        plain = plain-need need.0 effect need.2;
         elems = subst (λ (x : Effect). AllByRecursion (ElementFits (length p.regions) (length decl.params)) x.path.elems) (sym need.2)
             (subst (λ n. AllByRecursion (ElementFits (length p.regions) n) need.0.elems) params fits.elems);
         literals = all-in _ summary.effects can_be.literals effect there;
-        short = all-in _ summary.effects can_be.short effect there;
+        short = subst (λ (path : WrittenPath). elements_written path ≤ max_path_elements) (plain-need need.0 effect need.2) (all-in _ summary.effects can_be.short effect there);
       }
 
   many-texts : (decl : Decl) → length (texts_of decl.params) ≡ length decl.params
@@ -163,7 +169,13 @@ module _ (tree : Ast) (keeps : Keeps tree) (summaries written : List Summary) (n
 
   pub all-within : Aligned IsWithin written tree.items
   all-within = aligned IsWithin written tree.items (λ m summary decl e f.
-      let can_be = at-all CanBeWritten written can m summary e in record { few = can_be.few; short = can_be.short })
+      let can_be = at-all CanBeWritten written can m summary e in
+      let fits = effect-fits m summary decl e f in
+      record {
+        few = can_be.few;
+        plain = all-from _ summary.effects (λ effect there. (fits effect there).plain);
+        short = all-from _ summary.effects (λ effect there. (fits effect there).short);
+      })
 
   -- the names in the clauses are read as names
   pub all-read : Sounds (items_tokens tree.items) → Aligned (Read p.regions) written tree.items

@@ -5,7 +5,7 @@ use Rattle.std.specs.List.{Contains, flat_map}
 use Rattle.std.proofs.lemmas.Bool.{cond-true, cond-false, false_from_ne_true, ltb-true, ltb-false}
 use Rattle.std.proofs.lemmas.List.{length-map}
 use Rattle.std.proofs.lemmas.Slice.Eq.{bytes_eq-Decides}
-use Rattle.twe_io.specs.declared.place.Place.{Place}
+use Rattle.twe_base.specs.declared.place.Place.{Place}
 use Rattle.twe_ast.specs.declared.item.Ast.{Ast}
 use Rattle.twe_ast.specs.declared.item.Decl.{Decl}
 use Rattle.twe_ast.specs.declared.item.Item.{Item}
@@ -28,7 +28,7 @@ use Rattle.name_check.specs.Sites.{Site, sites_of_params, sites_of_decl, sites_o
 use Rattle.name_check.specs.Limits.{decls_of_item, decls_of}
 use Rattle.name_check.specs.FailsName.{FailsName, IsDeclaredAgain, declared_again, hides}
 use Rattle.twe_names.specs.Meaning.{regions_of_item, program_of}
-use Rattle.first_failure.proofs.Members.{IsIn, contains-in, in-contains, in-left, flat_map-in, in-flat_map}
+use Rattle.twe_base.proofs.Members.{IsIn, contains-in, in-contains, in-left, flat_map-in, in-flat_map}
 use Rattle.pasting_laws.specs.Clauses.{name_at, texts_of}
 
 same-bytes : (text : List ℕ) → bytes_eq text text ≡ true

@@ -13,13 +13,13 @@ use Rattle.twe_program.specs.WellFormed.{ElementFits}
 use Rattle.twe_program.specs.Expression.{Expression, Literal, Truth, Variable, CellValue, ArrayElement, GridElement, CallValue, Negative, Negation, Binary, Arguments, argument}
 use Rattle.twe_program.specs.Expression as args
 use Rattle.twe_program.specs.Statement.{Statement, Block, Let, Set, SetCell, SetArray, SetGrid, If, While, Return, Print, Call, Make, Wait, Statements, no_more, statement, Arms, arm, otherwise, no_else}
-use Rattle.effect_check.specs.Standing.{element_of, elements_of, elements_from}
-use Rattle.method_needs.specs.declared.need.Need.{Need}
-use Rattle.method_needs.specs.declared.need.Step.{Step}
-use Rattle.method_needs.specs.declared.need.Step.TheVariants as kinds
-use Rattle.method_needs.specs.Steps.{cell_at, steps_of, steps_of_all, steps_of_value, steps_in, steps_in_all, steps_in_one}
-use Rattle.method_needs.specs.Needs.{settled_elem, IsNeed, own, called}
-use Rattle.first_failure.proofs.Members.{contains-in, all-in, all-append}
+use Rattle.effect_check.specs.Standing.{element_of_index, elements_of, elements_from}
+use Rattle.effect_infer.specs.declared.needs.need.Need.{Need}
+use Rattle.effect_infer.specs.declared.needs.need.Step.{Step}
+use Rattle.effect_infer.specs.declared.needs.need.Step.TheVariants as kinds
+use Rattle.effect_infer.specs.needs.Steps.{declared_cell, steps_of, steps_of_all, steps_of_value, steps_in, steps_in_all, steps_in_one}
+use Rattle.effect_infer.specs.needs.Needs.{settled_elem, IsNeed, own, called}
+use Rattle.twe_base.proofs.Members.{contains-in, all-in, all-append}
 
 -- a region of which there are so many
 abbrev pub RegionFits : ℕ → Elem → Type 0
@@ -30,7 +30,7 @@ abbrev pub RegionsFit : ℕ → List Elem → Type 0
 RegionsFit regions elems = AllByRecursion (RegionFits regions) elems
 
 -- an index is no region
-index-fits : (regions : ℕ) (e : Expression) → RegionFits regions (element_of e)
+index-fits : (regions : ℕ) (e : Expression) → RegionFits regions (element_of_index e)
 index-fits regions (Literal value) = tt
 index-fits regions (Truth value) = tt
 index-fits regions (Variable var true) = tt
@@ -58,7 +58,7 @@ module _ (regions : ℕ) (some : 0 < regions) (cells : List CellDecl) (fit : (ce
   both : (xs ys : List Step) → StepsFit regions xs → StepsFit regions ys → StepsFit regions (xs ++ ys)
   both xs ys h k = all-append (StepFits regions) xs ys h k
 
-  at-fits : (cell : ℕ) (indexes : List Elem) → RegionsFit regions indexes → RegionsFit regions (cell_at cells cell indexes)
+  at-fits : (cell : ℕ) (indexes : List Elem) → RegionsFit regions indexes → RegionsFit regions (declared_cell cells cell indexes)
   at-fits cell indexes h = all-append (RegionFits regions) (elements_from (slice_get cells cell)) indexes (fit cell) h
 
   mutual
@@ -67,9 +67,9 @@ module _ (regions : ℕ) (some : 0 < regions) (cells : List CellDecl) (fit : (ce
     expression-fits (Truth value) = tt
     expression-fits (Variable var fixed) = tt
     expression-fits (CellValue cell place) = (at-fits cell [] tt, tt)
-    expression-fits (ArrayElement array index place) = (at-fits array (element_of index ∷ []) (index-fits regions index, tt), expression-fits index)
+    expression-fits (ArrayElement array index place) = (at-fits array (element_of_index index ∷ []) (index-fits regions index, tt), expression-fits index)
     expression-fits (GridElement array row column place) = (
-      at-fits array (element_of row ∷ element_of column ∷ []) (index-fits regions row, (index-fits regions column, tt)),
+      at-fits array (element_of_index row ∷ element_of_index column ∷ []) (index-fits regions row, (index-fits regions column, tt)),
       both (steps_of cells row) (steps_of cells column) (expression-fits row) (expression-fits column),
     )
     expression-fits (CallValue method given place) = (indexes-fit regions given, arguments-fit given)
@@ -92,11 +92,11 @@ module _ (regions : ℕ) (some : 0 < regions) (cells : List CellDecl) (fit : (ce
     statement-fits (Set point var value) = expression-fits value
     statement-fits (SetCell point cell value place) = (at-fits cell [] tt, expression-fits value)
     statement-fits (SetArray point array index value place) = (
-      at-fits array (element_of index ∷ []) (index-fits regions index, tt),
+      at-fits array (element_of_index index ∷ []) (index-fits regions index, tt),
       both (steps_of cells index) (steps_of cells value) (expression-fits index) (expression-fits value),
     )
     statement-fits (SetGrid point array row column value place) = (
-      at-fits array (element_of row ∷ element_of column ∷ []) (index-fits regions row, (index-fits regions column, tt)),
+      at-fits array (element_of_index row ∷ element_of_index column ∷ []) (index-fits regions row, (index-fits regions column, tt)),
       both (steps_of cells row) (steps_of cells column ++ steps_of cells value) (expression-fits row)
           (both (steps_of cells column) (steps_of cells value) (expression-fits column) (expression-fits value)),
     )

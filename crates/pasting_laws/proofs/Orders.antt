@@ -2,7 +2,7 @@
 use Rattle.std.proofs.Common.{◌≡◌, ℕ, true, List, [], ◌∷◌, length, Option, Some, zero, suc, inl, inr, refl, sym, ap, ◌∙◌, subst, arith}
 use Rattle.std.specs.Prelude.{slice_get}
 use Rattle.std.specs.List.{AllZip, Contains}
-use Rattle.twe_io.specs.declared.place.Place.{Place}
+use Rattle.twe_base.specs.declared.place.Place.{Place}
 use Rattle.region_paths.specs.declared.elements.Elem.{Elem}
 use Rattle.effect_sets.specs.declared.effects.Effect.{Effect}
 use Rattle.effect_sets.specs.declared.effects.Summary.{Summary}
@@ -19,12 +19,12 @@ use Rattle.effect_check.specs.Standing.{elements_of}
 use Rattle.effect_check.specs.Acts.{filled_summary, acts_in_all}
 use Rattle.effect_check.specs.Acts as done
 use Rattle.effect_check.specs.FailsEffect.{MethodFails, access_outside, called_outside}
-use Rattle.first_failure.proofs.Members.{IsIn, contains-in, in-contains, list_any-in, in-list_any}
-use Rattle.method_needs.specs.Choices.{with_each, with_summaries, NoRuleFails}
-use Rattle.method_needs.proofs.Relation.{with_one, with_each-in, with_each-got, get-in}
-use Rattle.method_needs.proofs.Soundness.{filled-in}
-use Rattle.method_needs.proofs.Leastness.{map-in}
-use Rattle.method_needs.proofs.Narrowing.{IsNarrower, in-both, touch-too, tasks-pass}
+use Rattle.twe_base.proofs.Members.{IsIn, contains-in, in-contains, list_any-in, in-list_any}
+use Rattle.effect_infer.specs.needs.Choices.{with_each, with_summaries, NoRuleFails}
+use Rattle.effect_infer.proofs.needs.Relation.{with_one, with_each-in, with_each-got, get-in}
+use Rattle.effect_infer.proofs.needs.Soundness.{filled-in}
+use Rattle.effect_infer.proofs.needs.Leastness.{map-in}
+use Rattle.effect_infer.proofs.needs.Narrowing.{IsNarrower, in-both, touch-too, tasks-pass}
 use Rattle.pasting_laws.specs.Pasted.{HaveSameEffects}
 
 zipped-at : (ws ns : List Summary) → AllZip HaveSameEffects ws ns → (m : ℕ) (w n : Summary) → slice_get ws m ≡ Some w → slice_get ns m ≡ Some n → HaveSameEffects w n

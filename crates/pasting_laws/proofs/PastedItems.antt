@@ -16,12 +16,12 @@ use Rattle.name_check.specs.BodyScope.{params_of}
 use Rattle.name_check.specs.Asks.{Ask}
 use Rattle.name_check.specs.Sites.{Site, sites_at, sites_in_all, sites_of_params, asks_of_clause, at_body, sites_of_decl, sites_of_item}
 use Rattle.name_check.specs.Limits.{decls_of_item, paths_of}
-use Rattle.cell_limits.specs.GoesOver.{cells_of}
+use Rattle.name_check.specs.cell_limits.GoesOver.{cells_of}
 use Rattle.twe_names.specs.PathMeaning.{effects_of_clause}
 use Rattle.twe_names.specs.Meaning.{regions_of_item, decl_of, methods_of_item, tasks_of_item}
-use Rattle.method_needs.specs.Choices.{with_each}
-use Rattle.first_failure.proofs.Members.{IsIn, in-cases, in-left, in-right}
-use Rattle.pasting_laws.specs.Clauses.{texts_of, path_of, clause_of, reads_of, writes_of, clauses_of, with_clauses, pasted_items}
+use Rattle.effect_infer.specs.needs.Choices.{with_each}
+use Rattle.twe_base.proofs.Members.{IsIn, in-cases, in-left, in-right}
+use Rattle.pasting_laws.specs.Clauses.{texts_of, clause_path_of, clause_of, reads_of, writes_of, clauses_of, with_clauses, pasted_items}
 use Rattle.pasting_laws.proofs.Clauses.{AskFits, in_clauses, clause-paths}
 
 -- the methods, in the order of the text
@@ -50,14 +50,14 @@ aligned P (summary ∷ summaries) (items.Method decl ∷ others) h = (h 0 summar
 
 -- the paths of a declaration with a summary's clauses
 pub pasted-paths : (regions : List (List ℕ)) (summary : Summary) (decl : Decl)
-    → paths_of (with_clauses regions summary decl) ≡ map (path_of regions (texts_of decl.params)) (in_clauses summary.effects)
+    → paths_of (with_clauses regions summary decl) ≡ map (clause_path_of regions (texts_of decl.params)) (in_clauses summary.effects)
 pasted-paths regions summary decl =
     let params = texts_of decl.params in
     let reads = clause_of regions params false (reads_of summary.effects) in
     let writes = clause_of regions params true (writes_of summary.effects) in
     flat_map-append (λ (clause : Clause). clause.paths) reads writes
     ∙ (λ i. clause-paths regions params false (reads_of summary.effects) i ++ clause-paths regions params true (writes_of summary.effects) i)
-    ∙ sym (map-append (path_of regions params) (reads_of summary.effects) (writes_of summary.effects))
+    ∙ sym (map-append (clause_path_of regions params) (reads_of summary.effects) (writes_of summary.effects))
 
 -- the summary in the order of its clauses
 abbrev pub reordered : Summary → Summary

@@ -3,7 +3,7 @@ use Rattle.std.proofs.Common.{◌≡◌, ◌⊎◌, ◌<◌, ◌≤◌, ℕ, ◌
 use Rattle.std.specs.List.{AllByRecursion, Contains, flat_map}
 use Rattle.std.proofs.lemmas.Bool.{true≢false}
 use Rattle.std.proofs.lemmas.List.{length-map}
-use Rattle.twe_limits.specs.Language.{max_effects, max_parameters, max_path_elements}
+use Rattle.twe_base.specs.Language.{max_effects, max_parameters, max_path_elements}
 use Rattle.effect_sets.specs.declared.effects.Effect.{Effect}
 use Rattle.effect_sets.specs.declared.effects.Summary.{Summary}
 use Rattle.twe_ast.specs.declared.item.Ast.{Ast}
@@ -29,21 +29,22 @@ use Rattle.name_check.specs.Asks.{Ask, uses}
 use Rattle.name_check.specs.Sites.{Site, sites_of_item, sites_of}
 use Rattle.name_check.specs.Limits.{decls_of, paths_of, StandsAfter, is_star}
 use Rattle.name_check.specs.FailsName.{Asks, binding_as, fits, unknown, declared_again, hides, other_kind, other_type, void_method, void_task, value_for_nothing, nothing_for_value, other_count_of_method, other_count_of_task, no_return, assigned, too_many_cells, long_cell_path, long_path, too_many_effects, too_many_params, no_main, second_star}
-use Rattle.cell_limits.specs.GoesOver.{cells_of, GoesOver}
+use Rattle.name_check.specs.cell_limits.GoesOver.{cells_of, GoesOver}
 use Rattle.twe_names.specs.BodyMeaning.{task_number}
 use Rattle.name_check.specs.Ends.{one_ends}
 use Rattle.twe_names.specs.Meaning.{regions_of_item, cells_from, methods_of_item, tasks_of_item, program_of}
-use Rattle.method_needs.specs.Choices.{with_summaries}
-use Rattle.first_failure.proofs.Members.{IsIn, contains-in, in-contains, in-right, all-in}
-use Rattle.place_laws.proofs.Lists.{map-in}
-use Rattle.pasting_laws.specs.Clauses.{texts_of, elem_of, path_of, pasted}
+use Rattle.effect_infer.specs.needs.Choices.{with_summaries}
+use Rattle.twe_base.proofs.Members.{IsIn, contains-in, in-contains, in-right, all-in}
+use Rattle.pasting_laws.proofs.places.Lists.{map-in}
+use Rattle.pasting_laws.specs.Clauses.{texts_of, elem_of, clause_path_of, pasted}
 use Rattle.pasting_laws.proofs.Names.{Keeps}
-use Rattle.pasting_laws.proofs.Clauses.{AskFits, in_clauses, clauses-length, clauses-in, path-no-star}
+use Rattle.pasting_laws.proofs.Clauses.{AskFits, in_clauses, clauses-length, clauses-in, path-no-star, IsPlainEffect, plain_path_of, plain-path}
 use Rattle.pasting_laws.proofs.PastedItems.{Aligned, pasted-paths, pasted-globals, pasted-cells, pasted-regions, pasted-task, IsPastedDecl, pasted-decl, Needed, pasted-site, Meant, reordered, pasted-methods, pasted-tasks}
 
 -- the summary is within the limits
 pub record IsWithin (summary : Summary) (decl : Decl) : Type 0 where
   pub few : length summary.effects ≤ max_effects
+  pub plain : AllByRecursion IsPlainEffect summary.effects
   pub short : AllByRecursion (λ (effect : Effect). length effect.path.elems ≤ max_path_elements) summary.effects
 
 -- a use that finds what it needs fails no rule
@@ -118,11 +119,12 @@ module _ (tree : Ast) (keeps : Keeps tree) (summaries : List Summary) where
     bound-as locals asks text = ap (λ names. binding_as names locals asks text) (sym same-globals)
 
     new-path : (decl : Decl) (pasted_decl : IsPastedDecl regions IsWithin tree.items decl) (path : Path) → Contains (paths_of decl) path
-        → (effect : Effect) × IsIn effect pasted_decl.summary.effects × (path ≡ path_of regions (texts_of pasted_decl.its.params) effect)
+        → (effect : Effect) × IsIn effect pasted_decl.summary.effects × (path ≡ plain_path_of regions (texts_of pasted_decl.its.params) effect.path.elems)
     new-path decl its path there =
         let paths = ap paths_of its.same ∙ pasted-paths regions its.summary its.its in
-        let found = map-in (path_of regions (texts_of its.its.params)) (in_clauses its.summary.effects) path (subst (IsIn path) paths (contains-in (paths_of decl) path there)) in
-        (found.0, clauses-in its.summary.effects found.0 found.1, found.2)
+        let found = map-in (clause_path_of regions (texts_of its.its.params)) (in_clauses its.summary.effects) path (subst (IsIn path) paths (contains-in (paths_of decl) path there)) in
+        let there_too = clauses-in its.summary.effects found.0 found.1 in
+        (found.0, there_too, found.2 ∙ plain-path regions (texts_of its.its.params) found.0 (all-in _ its.summary.effects its.holds.plain found.0 there_too))
 
     pub names-kept : Keeps new
     names-kept rule place (unknown locals returns name asks there none) = elim (asks-from locals returns (uses name asks) there) [
@@ -173,7 +175,7 @@ module _ (tree : Ast) (keeps : Keeps tree) (summaries : List Summary) where
       | inr its ↦ (let below = stands-below max_effects (paths_of decl) path after in
           let long : length (paths_of decl) ≡ length its.summary.effects =
           ap (λ (d : Decl). length (paths_of d)) its.same ∙ ap length (pasted-paths regions its.summary its.its)
-          ∙ length-map (in_clauses its.summary.effects) (path_of regions (texts_of its.its.params)) ∙ clauses-length its.summary.effects in
+          ∙ length-map (in_clauses its.summary.effects) (clause_path_of regions (texts_of its.its.params)) ∙ clauses-length its.summary.effects in
           omega (arith, below, long, its.holds.few))
     ]
     names-kept rule place (too_many_params decl name there after) = elim (decl-from decl there) [

@@ -16,7 +16,7 @@ use Rattle.twe_names.specs.Meaning.{regions_of_item}
 use Rattle.ast_printer.specs.Text.{when}
 use Rattle.ast_printer.specs.ItemTokens.{names_tokens, params_tokens, decl_tokens, item_tokens, items_tokens}
 use Rattle.ast_printer.proofs.Passing.{Sound, AllPass}
-use Rattle.first_failure.proofs.Members.{IsIn, all-append, all-front, all-back}
+use Rattle.twe_base.proofs.Members.{IsIn, all-append, all-front, all-back}
 use Rattle.pasting_laws.specs.Clauses.{name_at, texts_of}
 
 -- the text is read as a name

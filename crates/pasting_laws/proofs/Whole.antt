@@ -4,27 +4,27 @@ use Rattle.std.specs.List.{AllByRecursion, AllZip}
 use Rattle.effect_sets.specs.declared.effects.Summary.{Summary}
 use Rattle.twe_ast.specs.declared.item.Ast.{Ast}
 use Rattle.twe_program.specs.Program.{Program}
-use Rattle.twe_parser.specs.Limits.{at_start}
+use Rattle.twe_parser.specs.Limits.{limits_at_start}
 use Rattle.twe_names.specs.Meaning.{program_of}
 use Rattle.twe_frontend.specs.Accepted.{IsTreeOf, IsMeaningOf, Accepted}
-use Rattle.ast_printer.specs.ItemTokens.{items_tokens, printed}
+use Rattle.ast_printer.specs.ItemTokens.{items_tokens, printed_tokens}
 use Rattle.ast_printer.specs.ParsesAgain.{ParsesAgain}
 use Rattle.ast_printer.proofs.Supply.{kinds_in}
 use Rattle.ast_printer.proofs.Passing.{AllPass}
 use Rattle.ast_printer.proofs.PassesItem as printer
 use Rattle.ast_printer.proofs.Accepted.{tokens_pass}
 use Rattle.ast_printer.proofs.ParsedAgain.{both_start, from_words}
-use Rattle.place_laws.proofs.Texts.{meant-alike}
-use Rattle.method_needs.specs.Needs.{effect_of}
-use Rattle.method_needs.specs.Choices.{HasNeeds, NoRuleFails, with_summaries}
+use Rattle.pasting_laws.proofs.places.Texts.{meant-alike}
+use Rattle.effect_infer.specs.needs.Needs.{effect_of}
+use Rattle.effect_infer.specs.needs.Choices.{HasNeeds, NoRuleFails, with_summaries}
 use Rattle.effect_infer.specs.Inferred.{AreLeast}
-use Rattle.first_failure.proofs.Members.{IsIn, contains-in, in-contains}
+use Rattle.twe_base.proofs.Members.{IsIn, contains-in, in-contains}
 use Rattle.ast_printer.specs.BareItem as trees
-use Rattle.place_laws.proofs.Lists.{map-in}
-use Rattle.place_laws.specs.Places.{bare_program}
+use Rattle.pasting_laws.proofs.places.Lists.{map-in}
+use Rattle.pasting_laws.specs.places.Places.{bare_program}
 use Rattle.pasting_laws.specs.Clauses.{CanBeWritten, pasted}
 use Rattle.pasting_laws.specs.Pasted.{HaveSameEffects, IsPasted, CanBePasted}
-use Rattle.place_laws.proofs.Rules.{fails-alike}
+use Rattle.pasting_laws.proofs.places.Rules.{fails-alike}
 use Rattle.pasting_laws.proofs.Orders.{order-apart}
 use Rattle.pasting_laws.proofs.Names.{Keeps}
 use Rattle.pasting_laws.proofs.Clauses.{in_clauses, clauses-in, in-clauses}
@@ -76,22 +76,22 @@ module _ (text : List ℕ) (p : Program) (meaning : IsMeaningOf text p) (summari
   abbrev tree : Ast
   tree = meaning.tree
 
-  source-pass : AllPass at_start (kinds_in meaning.parsed.tokens)
+  source-pass : AllPass limits_at_start (kinds_in meaning.parsed.tokens)
   source-pass = tokens_pass text meaning.parsed.tokens meaning.parsed.keeps meaning.parsed.cut
 
   tree-sounds : Sounds (items_tokens tree.items)
-  tree-sounds = all-sound (items_tokens tree.items) at_start ((printer.items_pass meaning.parsed.writes false false).pass at_start at_start both_start source-pass)
+  tree-sounds = all-sound (items_tokens tree.items) limits_at_start ((printer.items_pass meaning.parsed.writes false false).pass limits_at_start limits_at_start both_start source-pass)
 
-  new-pass : AllPass at_start (items_tokens (pasted written tree).items)
+  new-pass : AllPass limits_at_start (items_tokens (pasted written tree).items)
   new-pass =
       (items-pass meaning.parsed.writes (program_of tree).regions written (all-read tree meaning.keeps summaries written needs same can tree-sounds) false false).pass
-      at_start at_start both_start source-pass
+      limits_at_start limits_at_start both_start source-pass
 
-  parses : ParsesAgain (printed (pasted written tree)) (pasted written tree)
+  parses : ParsesAgain (printed_tokens (pasted written tree)) (pasted written tree)
   parses = from_words (pasted written tree) new-pass (items-written meaning.parsed.writes (program_of tree).regions written)
 
   -- the printed text parses, and its tree is the pasted one but for places
-  pub text-printed : (its : Ast) × IsTreeOf (printed (pasted written tree)) its × trees.EqualButForPlaces (pasted written tree) its
+  pub text-printed : (its : Ast) × IsTreeOf (printed_tokens (pasted written tree)) its × trees.EqualButForPlaces (pasted written tree) its
   text-printed = (
     parses.again,
     record {
@@ -131,7 +131,7 @@ module _ (text : List ℕ) (p : Program) (meaning : IsMeaningOf text p) (summari
   needed : HasNeeds (program_of meaning.tree) summaries
   needed = subst (λ (r : Program). HasNeeds r summaries) meaning.meaning (least-needs p summaries least)
 
-  pub least-printed : (its : Ast) × IsTreeOf (printed (pasted written meaning.tree)) its × trees.EqualButForPlaces (pasted written meaning.tree) its
+  pub least-printed : (its : Ast) × IsTreeOf (printed_tokens (pasted written meaning.tree)) its × trees.EqualButForPlaces (pasted written meaning.tree) its
   least-printed = text-printed text p meaning summaries written needed can.same can.can
 
   pub least-meant : (other : List ℕ) (its : Ast) → IsTreeOf other its → trees.EqualButForPlaces (pasted written meaning.tree) its

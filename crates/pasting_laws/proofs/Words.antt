@@ -3,7 +3,7 @@ use Rattle.std.proofs.Common.{◌≡◌, ◌≤◌, ℕ, pos, negsuc, ◌+◌, �
 use Rattle.std.specs.List.{AllByRecursion}
 use Rattle.std.proofs.lemmas.Bool.{ltb-true}
 use Rattle.std.specs.Prelude.{◌==◌}
-use Rattle.twe_limits.specs.Language.{max_literal, max_open_brackets}
+use Rattle.twe_base.specs.Language.{max_literal, max_open_brackets}
 use Rattle.region_paths.specs.declared.elements.Elem.{Elem}
 use Rattle.region_paths.specs.declared.elements.Elem.TheVariants.{Name, Index, Var, AnyIndex}
 use Rattle.effect_sets.specs.declared.effects.Effect.{Effect}
@@ -32,10 +32,10 @@ use Rattle.ast_printer.proofs.Supply.{kinds_in}
 use Rattle.ast_printer.proofs.Passing.{Sound, AllPass, Passed, FromAny, step}
 use Rattle.ast_printer.proofs.PassesStatement.{block_passes}
 use Rattle.ast_printer.proofs.PassesItem.{params_pass, return_step, item_passes}
-use Rattle.first_failure.proofs.Members.{all-in, all-append}
-use Rattle.pasting_laws.specs.Clauses.{texts_of, kind_of, elem_of, path_of, clause_of, reads_of, writes_of, clauses_of, pasted_items, IsWritable}
+use Rattle.twe_base.proofs.Members.{all-in, all-append}
+use Rattle.pasting_laws.specs.Clauses.{texts_of, clause_kind_of, elem_of, clause_path_of, clause_of, reads_of, writes_of, clauses_of, pasted_items, IsWritable}
 use Rattle.pasting_laws.proofs.Sounds.{IsRead, read-at}
-use Rattle.pasting_laws.proofs.Clauses.{Fits, kept-in, all-from}
+use Rattle.pasting_laws.proofs.Clauses.{Fits, kept-in, all-from, plain-path}
 use Rattle.pasting_laws.proofs.PastedItems.{Aligned}
 
 -- What is left of a text after its clauses, where no bracket is open: it keeps the limits from there on.
@@ -214,7 +214,7 @@ decl-passes (decl {type = t} {body = b} {more = m} {others = o} names effects bo
 
 -- The clauses of a summary whose effects fit: their names are read as names.
 module _ (region_names params : List (List ℕ)) (regions_read : AllByRecursion IsRead region_names) (params_read : AllByRecursion IsRead params) where
-  kind-reads : (e : Elem) → ElementFits (length region_names) (length params) e → IsWritable e → KindReads (kind_of region_names params e)
+  kind-reads : (e : Elem) → ElementFits (length region_names) (length params) e → IsWritable e → KindReads (clause_kind_of region_names params e)
   kind-reads (Name n) fits writable = read-at region_names regions_read n fits
   kind-reads (Index (pos i)) fits writable = writable
   kind-reads (Index (negsuc i)) fits writable = absurd writable
@@ -226,9 +226,12 @@ module _ (region_names params : List (List ℕ)) (regions_read : AllByRecursion 
   elems-read [] fit writable = tt
   elems-read (e ∷ es) fit writable = (kind-reads e fit.0 writable.0, elems-read es fit.1 writable.1)
 
-  paths-read : (effects : List Effect) → AllByRecursion (Fits (length region_names) (length params)) effects → AllByRecursion PathReads (map (path_of region_names params) effects)
+  paths-read : (effects : List Effect) → AllByRecursion (Fits (length region_names) (length params)) effects → AllByRecursion PathReads (map (clause_path_of region_names params) effects)
   paths-read [] h = tt
-  paths-read (effect ∷ effects) h = (elems-read effect.path.elems h.0.elems h.0.literals, paths-read effects h.1)
+  paths-read (effect ∷ effects) h = (
+    subst PathReads (sym (plain-path region_names params effect h.0.plain)) (elems-read effect.path.elems h.0.elems h.0.literals),
+    paths-read effects h.1,
+  )
 
   clause-reads : (write : Bool) (effects : List Effect) → AllByRecursion (Fits (length region_names) (length params)) effects
       → AllByRecursion ClauseReads (clause_of region_names params write effects)

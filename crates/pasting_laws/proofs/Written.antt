@@ -1,6 +1,6 @@
 -- The tokens of a tree with other clauses are those that the grammar asks for.
 use Rattle.std.proofs.Common.{ℕ, Bool, true, false, List, [], ◌∷◌, ◌++◌, append_assoc}
-use Rattle.twe_io.specs.declared.place.Place.{Place}
+use Rattle.twe_base.specs.declared.place.Place.{Place}
 use Rattle.effect_sets.specs.declared.effects.Effect.{Effect}
 use Rattle.effect_sets.specs.declared.effects.Summary.{Summary}
 use Rattle.twe_ast.specs.declared.item.Clause.{Clause}
@@ -22,7 +22,7 @@ use Rattle.ast_printer.proofs.PlacedStatement.{second, third}
 use Rattle.ast_printer.proofs.AgainStatement.{block_again}
 use Rattle.ast_printer.proofs.PlacedItem.{placed_elem_kind, placed_elems, placed_paths, placed_clause, placed_clauses, placed_decl, placed_items}
 use Rattle.ast_printer.proofs.AgainItem.{joined, past_path, AgainPath, params_again, item_again}
-use Rattle.pasting_laws.specs.Clauses.{texts_of, path_of, clause_of, reads_of, writes_of, clauses_of, with_clauses, pasted_items}
+use Rattle.pasting_laws.specs.Clauses.{texts_of, clause_path_of, clause_of, reads_of, writes_of, clauses_of, with_clauses, pasted_items}
 
 kind-written : (kind : PathElemKind) (s : List Place) (more : List TokenKind)
     → WritesElem (record { kind = placed_elem_kind kind s; place = here s }) (tokens_at s (elem_tokens kind ++ more)) (tokens_at (after (elem_tokens kind) s) more)
@@ -90,9 +90,9 @@ two-clauses one first others two their their_others s more =
 effects-written : (names params : List (List ℕ)) (reads writes : List Effect) (s : List Place) (more : List TokenKind)
     → AgainEffects (clause_of names params false reads ++ clause_of names params true writes) s more
 effects-written names params [] [] s more = pure
-effects-written names params [] (w ∷ writes) s more = one-clause true (path_of names params w) _ s more
-effects-written names params (r ∷ reads) [] s more = one-clause false (path_of names params r) _ s more
-effects-written names params (r ∷ reads) (w ∷ writes) s more = two-clauses false (path_of names params r) _ true (path_of names params w) _ s more
+effects-written names params [] (w ∷ writes) s more = one-clause true (clause_path_of names params w) _ s more
+effects-written names params (r ∷ reads) [] s more = one-clause false (clause_path_of names params r) _ s more
+effects-written names params (r ∷ reads) (w ∷ writes) s more = two-clauses false (clause_path_of names params r) _ true (clause_path_of names params w) _ s more
 
 decl-written : {in_task : Bool} {d : Decl} {tokens rest : List Token} → WritesDecl in_task d tokens rest → (new : List Clause) → ((s : List Place) (more : List TokenKind) → AgainEffects new s more)
     → (s : List Place) (more : List TokenKind)

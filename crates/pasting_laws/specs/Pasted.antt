@@ -4,8 +4,8 @@ use Rattle.std.specs.List.{AllByRecursion, AllZip}
 use Rattle.effect_sets.specs.declared.effects.Effect.{Effect}
 use Rattle.effect_sets.specs.declared.effects.Summary.{Summary}
 use Rattle.twe_program.specs.Program.{Program}
-use Rattle.method_needs.specs.Choices.{with_summaries}
-use Rattle.place_laws.specs.Places.{EqualButForPlaces}
+use Rattle.effect_infer.specs.needs.Choices.{with_summaries}
+use Rattle.pasting_laws.specs.places.Places.{SameButPlaces}
 use Rattle.pasting_laws.specs.Clauses.{CanBeWritten}
 
 -- the same effects, in any order
@@ -17,7 +17,7 @@ HaveSameEffects one other = (effect : Effect) â†’ Contains one.effects effect â†
 pub record IsPasted (summaries : List Summary) (p q : Program) : Type 0 where
   pub written : List Summary
   pub same_effects : AllZip HaveSameEffects written summaries
-  pub same_otherwise : EqualButForPlaces q (with_summaries written p)
+  pub same_otherwise : SameButPlaces q (with_summaries written p)
 
 -- these are the summaries with their effects in any order, and a text can have them
 pub record CanBePasted (written summaries : List Summary) : Type 0 where

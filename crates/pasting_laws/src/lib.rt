@@ -2,6 +2,7 @@
 #![tactic(auto)]
 
 mod laws;
+pub mod places;
 
 pub use laws::{
     inferred_summaries_can_be_pasted, pasted_trees_keep_names,

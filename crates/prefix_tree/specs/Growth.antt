@@ -18,4 +18,5 @@ IsRowElement above n path = (i : ℕ) × (i < n) × (path ≡ above ++ Index (po
 -- elements, and its rows are left out.
 abbrev pub IsGridElement : List Part → ℕ → ℕ → List Part → Type 0
 IsGridElement above rows columns path =
-    (0 < columns) × ((i : ℕ) × (i < rows) × ((path ≡ above ++ Index (pos i) ∷ []) ⊎ IsRowElement (above ++ Index (pos i) ∷ []) columns path))
+    (0 < columns) × ((i : ℕ) × (i < rows)
+    × ((path ≡ above ++ Index (pos i) ∷ []) ⊎ IsRowElement (above ++ Index (pos i) ∷ []) columns path))

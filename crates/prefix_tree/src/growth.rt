@@ -6,7 +6,7 @@ ghost use Rattle.prefix_tree.specs.Growth.{Grows, IsRowElement, IsGridElement};
 
 use crate::part::Part;
 use crate::tree::PrefixTree;
-use twe_io::Memory;
+use twe_base::Memory;
 
 impl PrefixTree {
     /// Adds all prefixes of a path, and returns the node of the whole path.

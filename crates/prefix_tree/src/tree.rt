@@ -8,7 +8,7 @@ use crate::step::Step;
 use std::alloc::Global;
 use std::collections::BTreeMap;
 use std::marker::Model;
-use twe_io::Memory;
+use twe_base::Memory;
 
 /// A tree of paths, whose nodes are numbered from 0, which is the root. Contracts see it as the list of the nodes'
 /// paths.

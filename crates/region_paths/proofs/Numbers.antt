@@ -10,7 +10,7 @@ use Rattle.region_paths.specs.Written.{WrittenPath}
 use Rattle.region_paths.specs.Concrete.{ConcreteElem, region, number, ConcretePath, elem_stands}
 use Rattle.region_paths.specs.Filled.{Valuation, under, elem_under, fill_elem, fill, vars_below, has_args}
 use Rattle.region_paths.specs.Sets.{SetWithin}
-use Rattle.region_paths.specs.Arguments.{literals, Gives, ArgumentsStand}
+use Rattle.region_paths.specs.Arguments.{literals, GivesValue, ArgumentsStand}
 use Rattle.region_paths.proofs.Standing.{front_stands}
 use Rattle.region_paths.proofs.Lists.{map-reverse}
 use Rattle.region_paths.proofs.Ends.{around_from, around_to, along_from, along_to}
@@ -25,7 +25,7 @@ get_or-literals (y ∷ ys) (suc k) z d h = get_or-literals ys k z d h
 length-literals : (numbers : List ℤ) → length (literals numbers) ≡ length numbers
 length-literals numbers = length-map numbers (λ z. Index z)
 
-map-fill_elem : (v : Valuation) (numbers : List ℤ) (es : List Elem) → Gives v numbers → vars_below (length (literals numbers)) es ≡ true → map (fill_elem (literals numbers)) es ≡ map (elem_under v) es
+map-fill_elem : (v : Valuation) (numbers : List ℤ) (es : List Elem) → GivesValue v numbers → vars_below (length (literals numbers)) es ≡ true → map (fill_elem (literals numbers)) es ≡ map (elem_under v) es
 map-fill_elem v numbers [] gives below = refl
 map-fill_elem v numbers (Name n ∷ es) gives below = ap (λ (ys : List Elem). Name n ∷ ys) (map-fill_elem v numbers es gives below)
 map-fill_elem v numbers (Index i ∷ es) gives below = ap (λ (ys : List Elem). Index i ∷ ys) (map-fill_elem v numbers es gives below)
@@ -38,7 +38,7 @@ map-fill_elem v numbers (Var k ∷ es) gives below =
     ap₂ pair (get_or-literals numbers k (v k) (Var k) (gives k within)) (map-fill_elem v numbers es gives parts.1)
 
 -- filled with numbers, a path is what it is under a valuation that gives these numbers
-pub fill-literals : (v : Valuation) (numbers : List ℤ) (p : WrittenPath) → Gives v numbers → IsTrue (has_args (literals numbers) p) → fill (literals numbers) p ≡ under v p
+pub fill-literals : (v : Valuation) (numbers : List ℤ) (p : WrittenPath) → GivesValue v numbers → IsTrue (has_args (literals numbers) p) → fill (literals numbers) p ≡ under v p
 fill-literals v numbers p gives below =
     let parts = and_parts _ _ below in
     let made : List Elem → List Elem → WrittenPath = λ elems tail. record { elems = elems; star = p.star; tail = tail } in

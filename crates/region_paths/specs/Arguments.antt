@@ -10,8 +10,8 @@ abbrev pub literals : List ℤ → List Elem
 literals numbers = map (λ z. Index z) numbers
 
 -- the valuation gives each variable that has a number in the list this number
-abbrev pub Gives : Valuation → List ℤ → Type 0
-Gives v numbers = (k : ℕ) → k < length numbers → slice_get numbers k ≡ Some (v k)
+abbrev pub GivesValue : Valuation → List ℤ → Type 0
+GivesValue v numbers = (k : ℕ) → k < length numbers → slice_get numbers k ≡ Some (v k)
 
 -- there is one written argument for each number, and it matches the number: it is any index, or it is a literal or a
 -- variable with this value under the valuation

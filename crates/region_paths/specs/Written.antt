@@ -9,5 +9,5 @@ pub record WrittenPath : Type 0 where
   pub tail : List Elem
 
 -- without a star there are no elements after it
-abbrev pub IsWellFormed : WrittenPath → Type 0
-IsWellFormed p = ¬ IsTrue p.star → p.tail ≡ []
+abbrev pub PathIsWellFormed : WrittenPath → Type 0
+PathIsWellFormed p = ¬ IsTrue p.star → p.tail ≡ []

@@ -1,5 +1,5 @@
 //! The elements of a written path.
-use twe_io::List;
+use twe_base::List;
 
 /// One element of a written path below the root.
 #[derive(Clone, Copy, Debug, PartialEq, Eq)]

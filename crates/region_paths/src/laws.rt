@@ -5,7 +5,7 @@ ghost use Rattle.region_paths.specs.Written.{WrittenPath};
 ghost use Rattle.region_paths.specs.Inside.{inside};
 ghost use Rattle.region_paths.specs.Apart.{apart};
 ghost use Rattle.region_paths.specs.Filled.{Valuation, fill, filled, has_args, under};
-ghost use Rattle.region_paths.specs.Arguments.{ArgumentsStand, Gives, literals};
+ghost use Rattle.region_paths.specs.Arguments.{ArgumentsStand, GivesValue, literals};
 ghost use Rattle.region_paths.specs.Sets.{SetWithin, SetsApart, SetsMeet};
 
 /// If a path is inside another, each concrete path of the first is one of the second, whatever the values of their
@@ -33,7 +33,7 @@ pub fn filled_tests_are_exact()
 /// Filling a path with numbers gives the same path as a valuation that gives its variables these numbers, if there is a
 /// number for each of its variables.
 pub fn filling_with_numbers_is_a_valuation()
-    ensures { (v : Valuation) (numbers : List ℤ) (p : WrittenPath) → Gives v numbers
+    ensures { (v : Valuation) (numbers : List ℤ) (p : WrittenPath) → GivesValue v numbers
         → IsTrue (has_args (literals numbers) p) → fill (literals numbers) p ≡ under v p }
 {}
 

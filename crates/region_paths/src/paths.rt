@@ -1,12 +1,12 @@
 //! The written path: elements, then at most one star, and the elements after the star.
 ghost use Rattle.std.specs.Prelude.{◌≡◌, IfOk, IsTrue, length, map};
-ghost use Rattle.region_paths.specs.Written.{IsWellFormed};
+ghost use Rattle.region_paths.specs.Written.{PathIsWellFormed};
 ghost use Rattle.region_paths.specs.Filled.{fill, fill_elem, filled, has_args, is_solid, no_var, solid_prefix};
 
 use crate::elements::{Elem, Elems};
 use std::alloc::{AllocError, Global};
 use std::marker::Model;
-use twe_io::Memory;
+use twe_base::Memory;
 
 /// A path as programs write it: `elems` before the star and `tail` after it. Without a star `tail` is empty; the type
 /// keeps this invariant. Contracts see a `WrittenPath`.
@@ -18,19 +18,19 @@ pub struct Path {
 }
 
 impl Model for Path {
-    ghost use Rattle.region_paths.specs.Written.{WrittenPath, IsWellFormed};
+    ghost use Rattle.region_paths.specs.Written.{WrittenPath, PathIsWellFormed};
 
     ghost Value = { WrittenPath };
 
     ghost view = { λ a. record { elems = a.elems; star = a.star; tail = a.tail } };
 
-    ghost invariant = { λ a. IsWellFormed (record { elems = a.elems; star = a.star; tail = a.tail }) };
+    ghost invariant = { λ a. PathIsWellFormed (record { elems = a.elems; star = a.star; tail = a.tail }) };
 }
 
 impl Path {
     /// The path with these elements, star and tail. It takes no memory.
     pub fn new(elems: Elems, star: bool, tail: Elems) -> Path
-        requires { IsWellFormed (record { elems = elems; star = star; tail = tail }) }
+        requires { PathIsWellFormed (record { elems = elems; star = star; tail = tail }) }
         ensures parts { result ≡ record { elems = elems; star = star; tail = tail } }
     {
         Path { elems, star, tail }
@@ -46,7 +46,7 @@ impl Path {
     /// Whether the path has a star.
     pub fn star(&self) -> bool
         ensures part { result ≡ self.now.star }
-        ensures well_formed { IsWellFormed self.now }
+        ensures well_formed { PathIsWellFormed self.now }
     {
         self.star
     }
@@ -54,7 +54,7 @@ impl Path {
     /// The elements after the star. There are none if there is no star.
     pub fn tail(&self) -> &Elems
         ensures part { result.now ≡ self.now.tail }
-        ensures well_formed { IsWellFormed self.now }
+        ensures well_formed { PathIsWellFormed self.now }
     {
         &self.tail
     }

@@ -6,7 +6,7 @@ use Rattle.seg_exec.specs.declared.request.Request.{Request}
 use Rattle.seg_exec.specs.declared.request.Ending.{Ending}
 use Rattle.seg_exec.specs.declared.request.Ending.TheVariants.{Returned}
 use Rattle.seg_exec.specs.declared.value.Fault.{Fault}
-use Rattle.twe_io.specs.declared.place.Place.{Place}
+use Rattle.twe_base.specs.declared.place.Place.{Place}
 use Rattle.twe_ast.specs.declared.expr.BinOp.{BinOp}
 use Rattle.seg_exec.specs.Access.{Ways}
 use Rattle.seg_exec.specs.Arithmetic.{decided, is_true}

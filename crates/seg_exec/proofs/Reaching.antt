@@ -10,7 +10,7 @@ use Rattle.seg_exec.specs.Store.{Store}
 use Rattle.seg_exec.specs.inner.Continuations.{Config, with_operand}
 use Rattle.seg_exec.specs.inner.Steps.{Step, step_of}
 use Rattle.seg_exec.specs.inner.Runs.{Moment, Over, Comes, run, served, stepped, store_of}
-use Rattle.seg_exec.specs.inner.Reached.{Standing, Served, Advances, MayRequest, MayRun, MayStep, Reaches, Finishes, over}
+use Rattle.seg_exec.specs.inner.Reached.{Standing, Served, Advances, MayRequest, MayGoOn, MayStep, Reaches, Finishes, over}
 use Rattle.seg_exec.proofs.Whole.{over_from}
 use Rattle.seg_exec.proofs.Witnesses.{no_witness_needed, witness_printed, witness_read, witness_written}
 use Rattle.seg_exec.proofs.Simulation.{stays, onward}
@@ -143,7 +143,7 @@ module _ {C : Type 0} (p : Program) (ways : Ways C) where
   ask_later old new (Print value) same h = tt
   ask_later old new (End last) same h = tt
 
-  pub may_step : (old mid : Standing C) → MayRun p ways old → Reaches p ways old mid → MayStep p ways mid
+  pub may_step : (old mid : Standing C) → MayGoOn p ways old → Reaches p ways old mid → MayStep p ways mid
   may_step old mid may r =
       let cells = r.witness.cells in
       let m = may cells in

@@ -15,7 +15,7 @@ use Rattle.seg_exec.specs.Remaining.{resumed}
 use Rattle.seg_exec.specs.Segment.{Stopped, stopped_by, store_at, flow_of, CarriesOut, MayCarryOut}
 use Rattle.seg_exec.specs.Store.{Store, Flow, goes, returns, fails, stops}
 use Rattle.seg_exec.specs.inner.Finished.{finished}
-use Rattle.seg_exec.specs.inner.Reached.{Finishes, MayRun, over, standing}
+use Rattle.seg_exec.specs.inner.Reached.{Finishes, MayGoOn, over, standing}
 use Rattle.seg_exec.specs.inner.Runs.{Moment, Over, moment, run, store_of}
 use Rattle.seg_exec.specs.inner.Continuations.{Config}
 use Rattle.seg_exec.specs.inner.Unfolded.{config_at, unfolded}
@@ -98,7 +98,7 @@ module _ (p : Program) where
     may_end frame cells from (stops operation positions s) may x = (x.0, suspended_at operation positions, s, x.1, may)
 
     pub may_run : (frame : Frame) (from : Machine) (cells : C) (prints : List ℤ) → MayCarryOut p ways frame cells → config_at p frame frame.body ≡ Some (config_of from)
-        → MayRun p ways (standing from cells prints)
+        → MayGoOn p ways (standing from cells prints)
     may_run frame from cells prints may is list =
         may_end frame cells (over (config_of from) list []) (flow_of p frame frame.body list) (may list) (flow_so frame frame.body (config_of from) list is)
 

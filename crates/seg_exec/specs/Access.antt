@@ -1,6 +1,7 @@
 -- What a segment does outside its task: it reads and writes cells, and prints. Lists of accesses have the latest first.
 use Rattle.std.specs.Prelude.{◌≡◌, ◌↔◌, ℕ, ℤ, pos, List, [], ◌∷◌, ◌++◌, Option, None, Some, nat_eq, if◌then◌else◌, slice_get, slice_set}
 
+-- one access of a segment: the read of a cell, the write of a cell, or the print of a number
 pub data Access : Type 0 where
   -- the cell of this number is read, and has this value
   Reads : (cell : ℕ) (value : ℤ) → Access
@@ -43,6 +44,7 @@ pub record Ways (C : Type 0) : Type 1 where
   pub may_write : C → ℕ → Type 0
   pub rule : C → Access → C → Type 0
 
+-- an implementation of cells by these four parts, each of which is a definition of its own
 abbrev pub ways_of : {C : Type 0} → (C → ℕ → Option ℤ) → (C → ℕ → Type 0) → (C → ℕ → Type 0) → (C → Access → C → Type 0) → Ways C
 ways_of known may_read may_write rule = record { known = known; may_read = may_read; may_write = may_write; rule = rule }
 
@@ -78,6 +80,8 @@ MayAll ways cells (Prints value ∷ earlier) = MayAll ways cells earlier
 -- the accesses lead from one state to another: by the rule at each read and each write; a print changes nothing
 abbrev pub Follows : {C : Type 0} → (C → Access → C → Type 0) → C → List Access → C → Type 0
 Follows rule old [] new = new ≡ old
-Follows {C = C} rule old (Reads cell value ∷ earlier) new = (between : C) × Follows rule old earlier between × rule between (Reads cell value) new
-Follows {C = C} rule old (Writes cell value ∷ earlier) new = (between : C) × Follows rule old earlier between × rule between (Writes cell value) new
+Follows {C = C} rule old (Reads cell value ∷ earlier) new =
+    (between : C) × Follows rule old earlier between × rule between (Reads cell value) new
+Follows {C = C} rule old (Writes cell value ∷ earlier) new =
+    (between : C) × Follows rule old earlier between × rule between (Writes cell value) new
 Follows rule old (Prints value ∷ earlier) new = Follows rule old earlier new

@@ -16,6 +16,7 @@ is_true (pos zero) = false
 is_true (pos (suc n)) = true
 is_true (negsuc n) = true
 
+-- whether two numbers are equal: each is at most the other
 abbrev pub is_equal : ℤ → ℤ → Bool
 is_equal x y = int_le x y && int_le y x
 
@@ -54,9 +55,10 @@ decided Or true = Some (pos 1)
 decided And false = Some (pos 0)
 decided _ _ = None
 
--- the negative of a number, which wraps; the negation of a truth value
+-- the negative of a number, which wraps
 abbrev pub negative : ℤ → ℤ
 negative x = int_wrapping_neg w32 x
 
+-- the negation of the truth value that a number stands for, as 0 or 1
 abbrev pub negation : ℤ → ℤ
 negation x = number_of (not (is_true x))

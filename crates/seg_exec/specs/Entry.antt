@@ -34,13 +34,15 @@ frame_of decl task args = record {
   prints = [];
 }
 
+-- the frame of a task of the program with these arguments, before its first segment
 abbrev pub entry_frame : Program → ℕ → List ℤ → Frame
 entry_frame p task args = frame_of (slice_get p.tasks task) task args
 
--- the effects of a task with these arguments: the summary of its declaration, filled with them
+-- the effects of a task of a declaration with these arguments: the declaration's summary, filled with them
 abbrev pub effects_of : Option Decl → List ℤ → Summary
 effects_of None args = record { effects = [] }
 effects_of (Some decl) args = fill_summary (map (λ value. Index value) args) decl.summary
 
+-- the same for a task of the program, by the number of its declaration
 abbrev pub effects_at : Program → ℕ → List ℤ → Summary
 effects_at p task args = effects_of (slice_get p.tasks task) args

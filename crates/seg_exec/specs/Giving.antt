@@ -15,6 +15,7 @@ abbrev pub vars_with : Option ℕ → ℤ → List ℤ → List ℤ
 vars_with None value vars = vars
 vars_with (Some var) value vars = slice_set vars var value
 
+-- the same for the body of a frame, if it has not ended
 abbrev pub body_with : Option ℕ → ℤ → Option OpenBody → Option OpenBody
 body_with into value None = None
 body_with into value (Some body) = Some (record body { vars = vars_with into value body.vars })
@@ -24,9 +25,14 @@ body_with into value (Some body) = Some (record body { vars = vars_with into val
 abbrev pub given_by : Next → Frame → ℤ → Frame
 given_by Go frame value = frame
 given_by (Get on into) frame value = record frame { body = body_with into value frame.body; next = Go }
-given_by (Join on into) frame value = record frame { body = body_with into value frame.body; out = record frame.out { items = without on frame.out.items }; next = Go }
+given_by (Join on into) frame value = record frame {
+  body = body_with into value frame.body;
+  out = record frame.out { items = without on frame.out.items };
+  next = Go;
+}
 given_by (Closing on) frame value = record frame { out = record frame.out { items = without on frame.out.items }; next = Go }
 given_by Ended frame value = frame
 
+-- the frame takes the value of what it waits for
 abbrev pub given : Frame → ℤ → Frame
 given frame value = given_by frame.next frame value

@@ -1,8 +1,8 @@
 -- What expressions and statements do. Operands and arguments are evaluated from the left.
 use Rattle.std.specs.Prelude.{ℕ, zero, suc, ◌+◌, ◌-◌, ℤ, pos, Bool, true, false, List, [], ◌∷◌, ◌++◌, length, replicate, Option, None, Some, nat_le, slice_get}
-use Rattle.twe_io.specs.declared.place.Place.{Place}
-use Rattle.twe_limits.specs.Language.{max_active_calls}
-use Rattle.twe_limits.specs.declared.fault.FaultKind.TheVariants.{DivZero, Index, Depth}
+use Rattle.twe_base.specs.declared.place.Place.{Place}
+use Rattle.twe_base.specs.Language.{max_active_calls}
+use Rattle.twe_base.specs.declared.fault.FaultKind.TheVariants.{DivZero, Index, Depth}
 use Rattle.twe_ast.specs.declared.expr.BinOp.{BinOp}
 use Rattle.twe_program.specs.declared.program.Decl.{Decl}
 use Rattle.twe_program.specs.Program.{Program}
@@ -19,11 +19,12 @@ use Rattle.seg_exec.specs.Store.{Store, Given, gives, faults, Flow, goes, return
 abbrev pub Below : Type 0
 Below = Statement → Store → Flow
 
--- the read and the write of an element; a fault if there is no such element
+-- the read of an element; a fault if there is no such element
 abbrev pub element_read : Option ℕ → Place → Store → Given ℤ
 element_read None place s = faults Index place s
 element_read (Some cell) place s = cell_read cell s
 
+-- the write of an element; a fault if there is no such element
 abbrev pub element_written : Option ℕ → ℤ → Place → Store → Flow
 element_written None value place s = fails Index place s
 element_written (Some cell) value place s = goes (cell_written cell value s)
@@ -38,15 +39,17 @@ abbrev pub right_given : Option ℤ → BinOp → ℤ → Place → Given ℤ �
 right_given (Some value) op left place right s = gives value s
 right_given None op left place right s = then_give right (λ value s1. value_or_fault (operated op left value) place s1)
 
--- the body of a declaration, and its variables at the start: the arguments, and then 0 for each local
+-- the statements of the body of a declaration; none if there is no such declaration
 abbrev pub body_of : Option Decl → Statements
 body_of None = no_more
 body_of (Some decl) = decl.body.block
 
+-- how many variables the body of a declaration has: its parameters and its locals
 abbrev pub var_count_of : Option Decl → ℕ
 var_count_of None = 0
 var_count_of (Some decl) = decl.body.vars
 
+-- the variables of a body at its start: the arguments, and then 0 for each local
 abbrev pub vars_at_start : Option Decl → List ℤ → List ℤ
 vars_at_start decl args = args ++ replicate (var_count_of decl - length args) (pos 0)
 
@@ -71,9 +74,12 @@ entered false below decl args place s =
 -- the call of a method takes a unit of fuel
 abbrev pub called : Below → Program → ℕ → List ℤ → Place → Store → Given ℤ
 called below p method args place s =
-    then_give (unit_taken place s) (λ unit s1. entered (nat_le max_active_calls s1.calls) below (slice_get p.methods method) args place s1)
+    then_give (unit_taken place s) (λ unit s1.
+    entered (nat_le max_active_calls s1.calls) below (slice_get p.methods method) args place s1)
 
+-- what expressions and lists of arguments give
 abbrev mutual
+  -- the value of an expression
   pub value_of : Below → Program → Expression → Store → Given ℤ
   value_of below p (Literal value) s = gives value s
   value_of below p (Truth value) s = gives (number_of value) s
@@ -82,18 +88,22 @@ abbrev mutual
   value_of below p (ArrayElement array index place) s =
       then_give (value_of below p index s) (λ i s1. element_read (element_number p array i) place s1)
   value_of below p (GridElement array row column place) s =
-      then_give (value_of below p row s) (λ i s1. then_give (value_of below p column s1) (λ j s2. element_read (grid_element_number p array i j) place s2))
+      then_give (value_of below p row s) (λ i s1.
+      then_give (value_of below p column s1) (λ j s2. element_read (grid_element_number p array i j) place s2))
   value_of below p (CallValue method args place) s =
       then_give (values_of below p args s) (λ values s1. called below p method values place s1)
   value_of below p (Negative operand) s = then_give (value_of below p operand s) (λ value s1. gives (negative value) s1)
   value_of below p (Negation operand) s = then_give (value_of below p operand s) (λ value s1. gives (negation value) s1)
   value_of below p (Binary op left right place) s =
-      then_give (value_of below p left s) (λ value s1. right_given (decided op (is_true value)) op value place (value_of below p right s1) s1)
+      then_give (value_of below p left s) (λ value s1.
+      right_given (decided op (is_true value)) op value place (value_of below p right s1) s1)
 
+  -- the values of arguments, in order
   pub values_of : Below → Program → Arguments → Store → Given (List ℤ)
   values_of below p args.no_more s = gives [] s
   values_of below p (argument first others) s =
-      then_give (value_of below p first s) (λ value s1. then_give (values_of below p others s1) (λ values s2. gives (value ∷ values) s2))
+      then_give (value_of below p first s) (λ value s1.
+      then_give (values_of below p others s1) (λ values s2. gives (value ∷ values) s2))
 
 -- a turn of a loop takes a unit of fuel and executes the body; then the condition is tested again
 abbrev pub turned : Bool → Place → (Store → Flow) → (Store → Flow) → Store → Flow
@@ -105,6 +115,7 @@ abbrev pub chosen : Bool → Flow → Flow → Flow
 chosen true first second = first
 chosen false first second = second
 
+-- the body returns a value, or meets the fault that its expression met
 abbrev pub value_returned : Given ℤ → Flow
 value_returned given = then_do given (λ value s. returns value s)
 
@@ -115,7 +126,9 @@ stopped_at block after (goes s) = goes s
 stopped_at block after (returns value s) = returns value s
 stopped_at block after (fails kind place s) = fails kind place s
 
+-- what statements, blocks and the arms of an `if` do
 abbrev mutual
+  -- what a statement does
   pub done_by : Below → Program → Statement → Store → Flow
   done_by below p (Block point body) s = done_all below p 0 0 body s
   done_by below p (Let point var value) s = then_do (value_of below p value s) (λ v s1. goes (with_var var v s1))
@@ -123,21 +136,26 @@ abbrev mutual
   done_by below p (SetCell point cell value place) s =
       then_do (value_of below p value s) (λ v s1. goes (cell_written (cell_number p cell) v s1))
   done_by below p (SetArray point array index value place) s =
-      then_do (value_of below p index s) (λ i s1. then_do (value_of below p value s1) (λ v s2. element_written (element_number p array i) v place s2))
+      then_do (value_of below p index s) (λ i s1.
+      then_do (value_of below p value s1) (λ v s2. element_written (element_number p array i) v place s2))
   done_by below p (SetGrid point array row column value place) s =
       then_do (value_of below p row s) (λ i s1. then_do (value_of below p column s1) (λ j s2.
       then_do (value_of below p value s2) (λ v s3. element_written (grid_element_number p array i j) v place s3)))
   done_by below p (If point arms) s = done_arms below p 0 arms s
   done_by below p (While point condition body place) s =
-      then_do (value_of below p condition s) (λ v s1. turned (is_true v) place (done_all below p 0 0 body) (below (While point condition body place)) s1)
+      then_do (value_of below p condition s) (λ v s1.
+      turned (is_true v) place (done_all below p 0 0 body) (below (While point condition body place)) s1)
   done_by below p (Return point None) s = returns (pos 0) s
   done_by below p (Return point (Some value)) s = value_returned (value_of below p value s)
   done_by below p (Print point value place) s =
-      then_do (value_of below p value s) (λ v s1. then_do (unit_taken place s1) (λ unit s2. goes (number_printed v s2)))
+      then_do (value_of below p value s) (λ v s1.
+      then_do (unit_taken place s1) (λ unit s2. goes (number_printed v s2)))
   done_by below p (Call point method args place) s =
-      then_do (values_of below p args s) (λ values s1. then_do (called below p method values place s1) (λ value s2. goes s2))
+      then_do (values_of below p args s) (λ values s1.
+      then_do (called below p method values place s1) (λ value s2. goes s2))
   done_by below p (Make point future task args spawned future_place place) s =
-      then_do (values_of below p args s) (λ values s1. then_do (unit_taken place s1) (λ unit s2. stops (operations.Make future task values spawned place) [] s2))
+      then_do (values_of below p args s) (λ values s1.
+      then_do (unit_taken place s1) (λ unit s2. stops (operations.Make future task values spawned place) [] s2))
   done_by below p (Wait point future join into place) s =
       then_do (unit_taken place s) (λ unit s1. stops (operations.Wait future join into) [] s1)
 
@@ -150,7 +168,8 @@ abbrev mutual
   -- the first arm whose condition is true
   pub done_arms : Below → Program → ℕ → Arms → Store → Flow
   done_arms below p block (arm condition body others) s =
-      then_do (value_of below p condition s) (λ v s1. chosen (is_true v) (done_all below p block 0 body s1) (done_arms below p (block + 1) others s1))
+      then_do (value_of below p condition s) (λ v s1.
+      chosen (is_true v) (done_all below p block 0 body s1) (done_arms below p (block + 1) others s1))
   done_arms below p block (otherwise body) s = done_all below p block 0 body s
   done_arms below p block no_else s = goes s
 

@@ -2,10 +2,11 @@
 use Rattle.std.specs.Prelude.{◌≡◌, ◌<◌, ℕ, ℤ, List, Option, length, slice_get, slice_set}
 use Rattle.seg_exec.specs.Access.{Access, Reads, Writes, Prints, Ways, value_in, ways_of}
 
--- each of its cells is known, and may be read and written
+-- the value of each cell of the list is known
 abbrev pub list_knows : List ℤ → ℕ → Option ℤ
 list_knows cells cell = slice_get cells cell
 
+-- each cell of the list may be read, and may be written
 abbrev pub ListMay : List ℤ → ℕ → Type 0
 ListMay cells cell = cell < length cells
 

@@ -6,25 +6,27 @@ use Rattle.seg_exec.specs.declared.frame.Position.{Position}
 use Rattle.seg_exec.specs.Meaning.{Below, done_all, stopped_at}
 use Rattle.seg_exec.specs.Store.{Store, Flow, goes, then_go}
 
--- the statements after the first n, and the last of the first n
+-- the statements after the first n
 abbrev pub after_first : ℕ → Statements → Statements
 after_first zero stmts = stmts
 after_first (suc n) no_more = no_more
 after_first (suc n) (statement first others) = after_first n others
 
+-- the last of the first n statements; none if n is 0 or above the number of statements
 abbrev pub last_of_first : ℕ → Statements → Option Statement
 last_of_first zero stmts = None
 last_of_first (suc n) no_more = None
 last_of_first (suc zero) (statement first others) = Some first
 last_of_first (suc (suc n)) (statement first others) = last_of_first (suc n) others
 
--- the block of this number among the branches of an `if`, and among the blocks of a statement
+-- the block of this number among the branches of an `if`; empty if there is none
 abbrev pub branch_of : ℕ → Arms → Statements
 branch_of zero (arm condition body others) = body
 branch_of (suc n) (arm condition body others) = branch_of n others
 branch_of n (otherwise body) = body
 branch_of n no_else = no_more
 
+-- the block of this number of a statement: only an `if` has several. Empty if the statement has no block.
 abbrev pub block_of : ℕ → Option Statement → Statements
 block_of n (Some (Block point body)) = body
 block_of n (Some (While point condition body place)) = body
@@ -49,5 +51,6 @@ resumed below p stmts [] s = goes s
 resumed below p stmts (position ∷ inner) s =
     let stmt = last_of_first position.after stmts in
     then_go
-    (stopped_at position.block position.after (turned_again below inner stmt (resumed below p (block_of (block_at inner) stmt) inner s)))
+    (stopped_at position.block position.after
+    (turned_again below inner stmt (resumed below p (block_of (block_at inner) stmt) inner s)))
     (λ s1. done_all below p position.block position.after (after_first position.after stmts) s1)

@@ -32,15 +32,17 @@ with_store frame body s = record frame { body = body; fuel = s.fuel; prints = fr
 abbrev pub open_body : List Position → Store → OpenBody
 open_body open_blocks s = record { vars = s.vars; open_blocks = open_blocks }
 
--- at the end of the body the task joins its unjoined children one by one, and then it is done
+-- what a task does next at the end of its body: it joins its first unjoined child, or, if it has none, it is done
 abbrev pub closing : List ℕ → Next
 closing [] = Ended
 closing (child ∷ others) = Closing child
 
+-- the stop at the end of the body: the join of the first unjoined child, or, if there is none, the end with this value
 abbrev pub closing_stop : List ℕ → ℤ → Stop
 closing_stop [] value = ends.Done value
 closing_stop (child ∷ others) value = ends.Joins child
 
+-- what a segment leaves that comes to the end of the body with this value
 abbrev pub at_end : Frame → ℤ → Store → Stopped
 at_end frame value s = record {
   frame = record (with_store frame None s) { next = closing frame.out.items; value = value };
@@ -55,19 +57,23 @@ task_of (Some (Some task)) = task
 task_of (Some None) = 0
 task_of None = 0
 
+-- what a task does next that stops to join the task `on` or to wait for it; `into` is the variable that takes the value
 abbrev pub waiting : Bool → ℕ → Option ℕ → Next
 waiting true on into = Join on into
 waiting false on into = Get on into
 
+-- the stop at a join of the task `on`, or at a wait for it
 abbrev pub waiting_stop : Bool → ℕ → Stop
 waiting_stop true on = ends.Joins on
 waiting_stop false on = ends.Waits on
 
--- the stop at a task operation, and what the task does next
+-- the stop at a task operation
 abbrev pub operation_stop : Program → Frame → Operation → Stop
-operation_stop p frame (operations.Make future task args spawned place) = ends.Make (entry_frame p task args) args (effects_at p task args) spawned future place
+operation_stop p frame (operations.Make future task args spawned place) =
+    ends.Make (entry_frame p task args) args (effects_at p task args) spawned future place
 operation_stop p frame (operations.Wait future join into) = waiting_stop join (task_of (slice_get frame.futures future))
 
+-- what the task does next after a task operation
 abbrev pub operation_next : Frame → Operation → Next
 operation_next frame (operations.Make future task args spawned place) = Go
 operation_next frame (operations.Wait future join into) = waiting join (task_of (slice_get frame.futures future)) into
@@ -77,10 +83,12 @@ abbrev pub room_to_spawn : Bool → ℕ → ℕ
 room_to_spawn true room = 1
 room_to_spawn false room = room
 
+-- the room for further children at a stop at a task operation: a make that spawns has one reserved
 abbrev pub operation_room : Operation → ℕ → ℕ
 operation_room (operations.Make future task args spawned place) room = room_to_spawn spawned room
 operation_room (operations.Wait future join into) room = room
 
+-- the unjoined children with this room
 abbrev pub operation_out : Operation → Children → Children
 operation_out operation out = record out { room = operation_room operation out.room }
 
@@ -100,7 +108,8 @@ stopped_by p frame (fails kind place s) = record {
   stop = ends.Fault kind place;
 }
 stopped_by p frame (stops operation positions s) = record {
-  frame = record (with_store frame (Some (open_body positions s)) s) { next = operation_next frame operation; out = operation_out operation frame.out };
+  frame = record (with_store frame (Some (open_body positions s)) s)
+      { next = operation_next frame operation; out = operation_out operation frame.out };
   cells = s.cells;
   accesses = s.accesses;
   stop = operation_stop p frame operation;
@@ -114,7 +123,8 @@ store_at frame vars cells = record { cells = cells; vars = vars; fuel = frame.fu
 abbrev pub flow_of : Program → Frame → Option OpenBody → List ℤ → Flow
 flow_of p frame None cells = returns frame.value (store_at frame [] cells)
 flow_of p frame (Some body) cells =
-    resumed (done_within p (frame.fuel + 1)) p (body_of (slice_get p.tasks frame.decl)) body.open_blocks (store_at frame body.vars cells)
+    resumed (done_within p (frame.fuel + 1)) p (body_of (slice_get p.tasks frame.decl)) body.open_blocks
+    (store_at frame body.vars cells)
 
 -- the segment of a frame over a list of cells
 abbrev pub segment : Program → Frame → List ℤ → Stopped
@@ -138,7 +148,8 @@ MayCarryOut p ways frame holder = (cells : List ℤ) → MayAll ways holder (seg
 -- An execution of a segment over any implementation of cells. It makes some accesses, each by the rule of the
 -- implementation. Over each list of cells that agrees with them, the segment makes exactly these accesses and has this
 -- frame and this stop.
-pub record CarriesOut {C : Type 0} (p : Program) (rule : C → Access → C → Type 0) (old_frame : Frame) (old_cells : C) (stop : Stop) (new_frame : Frame) (new_cells : C) : Type 0 where
+pub record CarriesOut {C : Type 0} (p : Program) (rule : C → Access → C → Type 0)
+    (old_frame : Frame) (old_cells : C) (stop : Stop) (new_frame : Frame) (new_cells : C) : Type 0 where
   pub accesses : List Access
   pub follows : Follows rule old_cells accesses new_cells
   pub means : (cells : List ℤ) → Agrees cells accesses

@@ -1,8 +1,8 @@
 -- The state that expressions and statements work on, and how they end.
 use Rattle.std.specs.Prelude.{ℕ, zero, suc, ℤ, List, ◌∷◌, slice_get, slice_set}
-use Rattle.twe_io.specs.declared.place.Place.{Place}
-use Rattle.twe_limits.specs.declared.fault.FaultKind.{FaultKind}
-use Rattle.twe_limits.specs.declared.fault.FaultKind.TheVariants.{Fuel}
+use Rattle.twe_base.specs.declared.place.Place.{Place}
+use Rattle.twe_base.specs.declared.fault.FaultKind.{FaultKind}
+use Rattle.twe_base.specs.declared.fault.FaultKind.TheVariants.{Fuel}
 use Rattle.seg_exec.specs.declared.frame.Position.{Position}
 use Rattle.seg_exec.specs.declared.operation.Operation.{Operation}
 use Rattle.seg_exec.specs.Access.{Access, Reads, Writes, Prints, value_in}
@@ -32,11 +32,12 @@ pub data Flow : Type 0 where
   -- a task operation; the positions of the open blocks, the outermost first, say what remains to be executed
   stops : (operation : Operation) (positions : List Position) (store : Store) → Flow
 
--- continues with the value, unless there was a fault
+-- an expression continues with the value, unless there was a fault
 abbrev pub then_give : {A B : Type 0} → Given A → (A → Store → Given B) → Given B
 then_give (gives value store) next = next value store
 then_give (faults kind place store) next = faults kind place store
 
+-- a statement continues with the value, unless there was a fault
 abbrev pub then_do : {A : Type 0} → Given A → (A → Store → Flow) → Flow
 then_do (gives value store) next = next value store
 then_do (faults kind place store) next = fails kind place store
@@ -48,27 +49,32 @@ then_go (returns value store) next = returns value store
 then_go (fails kind place store) next = fails kind place store
 then_go (stops operation positions store) next = stops operation positions store
 
--- a unit of fuel is taken; a fault if none is left
+-- one unit is taken from this much fuel; a fault if none is left
 abbrev pub unit_of : ℕ → Place → Store → Given (Unit {0})
 unit_of zero place s = faults Fuel place s
 unit_of (suc left) place s = gives tt (record s { fuel = left })
 
+-- one unit is taken from the fuel of the store
 abbrev pub unit_taken : Place → Store → Given (Unit {0})
 unit_taken place s = unit_of s.fuel place s
 
--- the value of a parameter or a local, and an assignment to it
+-- the value of a parameter or a local
 abbrev pub var_in : ℕ → Store → ℤ
 var_in var s = value_in (slice_get s.vars var)
 
+-- a parameter or a local is given this value
 abbrev pub with_var : ℕ → ℤ → Store → Store
 with_var var value s = record s { vars = slice_set s.vars var value }
 
--- the read of a cell, the write of a cell, and the print of a number
+-- a cell is read: it gives its value, and the read is an access
 abbrev pub cell_read : ℕ → Store → Given ℤ
-cell_read cell s = let value = value_in (slice_get s.cells cell) in gives value (record s { accesses = Reads cell value ∷ s.accesses })
+cell_read cell s =
+    let value = value_in (slice_get s.cells cell) in gives value (record s { accesses = Reads cell value ∷ s.accesses })
 
+-- a cell is given this value, and the write is an access
 abbrev pub cell_written : ℕ → ℤ → Store → Store
 cell_written cell value s = record s { cells = slice_set s.cells cell value; accesses = Writes cell value ∷ s.accesses }
 
+-- a number is printed, and the print is an access
 abbrev pub number_printed : ℤ → Store → Store
 number_printed value s = record s { accesses = Prints value ∷ s.accesses }

@@ -7,8 +7,7 @@ use crate::cells::Cells;
 use crate::elements::{cell_number, element_number};
 use crate::plain::is_plain;
 use crate::value::{Fault, value_of};
-use twe_io::{Ints, Place};
-use twe_limits::FaultKind;
+use twe_base::{FaultKind, Ints, Place};
 use twe_program::{Expr, Prog, Stmt, StmtKind};
 
 /// What became of a statement.
@@ -36,7 +35,8 @@ fn put_var(vars: &mut Ints, var: u32, value: i32)
 #[inline(always)]
 fn set_var<C: Cells>(var: u32, value: &Expr, p: &Prog, vars: &mut Ints, cells: &mut C) -> Carried
     requires { MayDo p.now (ways_of C.known C.may_read C.may_write C.rule) (to_variable value.now var) vars.old cells.old }
-    ensures { Does p.now (ways_of C.known C.may_read C.may_write C.rule) (to_variable value.now var) vars.old cells.old result vars.new cells.new }
+    ensures { Does p.now (ways_of C.known C.may_read C.may_write C.rule)
+        (to_variable value.now var) vars.old cells.old result vars.new cells.new }
 {
     if !is_plain(value) {
         return Carried::Left;
@@ -54,7 +54,8 @@ fn set_var<C: Cells>(var: u32, value: &Expr, p: &Prog, vars: &mut Ints, cells: &
 #[inline(always)]
 fn set_cell<C: Cells>(cell: u32, value: &Expr, p: &Prog, vars: &mut Ints, cells: &mut C) -> Carried
     requires { MayDo p.now (ways_of C.known C.may_read C.may_write C.rule) (to_cell value.now cell) vars.old cells.old }
-    ensures { Does p.now (ways_of C.known C.may_read C.may_write C.rule) (to_cell value.now cell) vars.old cells.old result vars.new cells.new }
+    ensures { Does p.now (ways_of C.known C.may_read C.may_write C.rule)
+        (to_cell value.now cell) vars.old cells.old result vars.new cells.new }
 {
     if !is_plain(value) {
         return Carried::Left;
@@ -97,7 +98,8 @@ fn set_element<C: Cells>(
     vars: &mut Ints,
     cells: &mut C,
 ) -> Carried
-    requires { MayDo p.now (ways_of C.known C.may_read C.may_write C.rule) (to_element index.now value.now array place) vars.old cells.old }
+    requires { MayDo p.now (ways_of C.known C.may_read C.may_write C.rule)
+        (to_element index.now value.now array place) vars.old cells.old }
     ensures { Does p.now (ways_of C.known C.may_read C.may_write C.rule)
         (to_element index.now value.now array place) vars.old cells.old result vars.new cells.new }
 {
@@ -120,7 +122,8 @@ fn set_element<C: Cells>(
 #[inline(always)]
 pub(crate) fn assign<C: Cells>(stmt: &Stmt, p: &Prog, vars: &mut Ints, cells: &mut C) -> Carried
     requires { MayDo p.now (ways_of C.known C.may_read C.may_write C.rule) (executing stmt.now) vars.old cells.old }
-    ensures { Does p.now (ways_of C.known C.may_read C.may_write C.rule) (executing stmt.now) vars.old cells.old result vars.new cells.new }
+    ensures { Does p.now (ways_of C.known C.may_read C.may_write C.rule)
+        (executing stmt.now) vars.old cells.old result vars.new cells.new }
 {
     match &stmt.kind {
         StmtKind::Let { var, value } => set_var(*var, value, p, vars, cells),

@@ -7,7 +7,7 @@ ghost use Rattle.seg_exec.specs.inner.Views.{config_of};
 use crate::continuation::{Continuation, ValueUse};
 use crate::machine::Machine;
 use crate::request::Request;
-use twe_io::{Memory, Place};
+use twe_base::{Memory, Place};
 use twe_program::{Arms, Block, Expr, Stmt};
 
 impl<'a> Machine<'a> {

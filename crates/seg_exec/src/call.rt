@@ -15,8 +15,7 @@ use crate::operation::Operation;
 use crate::request::Request;
 use std::alloc::Global;
 use std::mem;
-use twe_io::{Ints, Memory, Place, Stack};
-use twe_limits::{FaultKind, MAX_ACTIVE_CALLS};
+use twe_base::{FaultKind, Ints, MAX_ACTIVE_CALLS, Memory, Place, Stack};
 use twe_program::{Args, Decl, Expr, Prog, Stmt};
 
 /// The statements of a declaration; none if there is no such declaration.
@@ -79,7 +78,8 @@ impl<'a> Machine<'a> {
         args: &'a Args,
         place: Place,
     ) -> Result<Request, Memory>
-        ensures { IfOk result (λ request. (request, config_of self.new) ≡ on (to_do (Gather [] args.now (Enter method place)) (config_of self.old))) }
+        ensures { IfOk result (λ request. (request, config_of self.new) ≡
+            on (to_do (Gather [] args.now (Enter method place)) (config_of self.old))) }
     {
         self.gather(alloc, args, Goal::Enter { method, place })?;
         Ok(Request::Nothing)
@@ -95,7 +95,8 @@ impl<'a> Machine<'a> {
         args: &'a [Expr],
         goal: Goal,
     ) -> Result<Request, Memory>
-        ensures { IfOk result (λ request. (request, config_of self.new) ≡ gathering p.now taken (arguments_of args.now) goal (config_of self.old)) }
+        ensures { IfOk result (λ request. (request, config_of self.new) ≡
+            gathering p.now taken (arguments_of args.now) goal (config_of self.old)) }
     {
         match args {
             [] => self.gathered(alloc, p, taken, goal),
@@ -116,7 +117,8 @@ impl<'a> Machine<'a> {
         args: &'a [Expr],
         goal: Goal,
     ) -> Result<Request, Memory>
-        ensures { IfOk result (λ request. (request, config_of self.new) ≡ taking taken (arguments_of args.now) goal (config_of self.old)) }
+        ensures { IfOk result (λ request. (request, config_of self.new) ≡
+            taking taken (arguments_of args.now) goal (config_of self.old)) }
     {
         let mut taken = taken;
         taken.push(self.pop_operand())?;
@@ -169,7 +171,8 @@ impl<'a> Machine<'a> {
         args: Ints,
         place: Place,
     ) -> Result<Request, Memory>
-        ensures { IfOk result (λ request. (request, config_of self.new) ≡ entering (option_copied decl.entry) args place (config_of self.old)) }
+        ensures { IfOk result (λ request. (request, config_of self.new) ≡
+            entering (option_copied decl.entry) args place (config_of self.old)) }
     {
         if self.fuel == 0 {
             return Ok(fault(FaultKind::Fuel, place));

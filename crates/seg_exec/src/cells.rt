@@ -3,7 +3,7 @@ ghost use Rattle.std.specs.Prelude.{ℕ, ℤ, Option};
 ghost use Rattle.seg_exec.specs.Access.{Access, HasRead, HasWritten, ways_of};
 ghost use Rattle.seg_exec.specs.Plain.{ListFollows, ListMay, list_knows};
 
-use twe_io::Ints;
+use twe_base::Ints;
 
 /// An implementation of the cells of a program, which are known by their numbers. It states three things: the values of
 /// the cells that are known, which cells may be read and which may be written, and a rule for what each access does to

@@ -6,7 +6,7 @@ ghost use Rattle.seg_exec.specs.Giving.{without};
 
 use std::alloc::Global;
 use std::marker::Model;
-use twe_io::Memory;
+use twe_base::Memory;
 
 /// The children of a task that are not yet joined, in the order in which they were spawned. Contracts see their numbers,
 /// and how many more can be added without taking memory.

@@ -12,7 +12,7 @@ use crate::machine::Machine;
 use crate::request::Ending;
 use crate::stepping::{evaluate_then, serve};
 use std::alloc::Global;
-use twe_io::{Ints, Memory};
+use twe_base::{Ints, Memory};
 use twe_program::{Arm, Arms, Block, Prog};
 
 /// Tries the arms of an `if` from the one numbered `block` on, and uses the condition of that arm if it calls no method.
@@ -58,9 +58,11 @@ pub(crate) fn choose_first<'a, C: Cells>(
     prints: &mut Ints,
     arms: &'a Arms,
 ) -> Result<Option<Ending>, Memory>
-    requires { MayGo p.now (ways_of C.known C.may_read C.may_write C.rule) (doing (Choose 0 arms.now) (standing machine.old cells.old prints.old)) }
+    requires { MayGo p.now (ways_of C.known C.may_read C.may_write C.rule)
+        (doing (Choose 0 arms.now) (standing machine.old cells.old prints.old)) }
     ensures { IfOk result (λ ending. Carries p.now (ways_of C.known C.may_read C.may_write C.rule)
-        (doing (Choose 0 arms.now) (standing machine.old cells.old prints.old)) ending (standing machine.new cells.new prints.new)) }
+        (doing (Choose 0 arms.now) (standing machine.old cells.old prints.old)) ending
+        (standing machine.new cells.new prints.new)) }
 {
     choose(
         alloc,

@@ -6,7 +6,7 @@ ghost use Rattle.seg_exec.specs.inner.Views.{continuation_of};
 use crate::frame::Position;
 use crate::held::Held;
 use crate::operation::Operation;
-use twe_io::{Ints, Place, Stack};
+use twe_base::{Ints, Place, Stack};
 use twe_program::{Arm, BinOp, Block, Expr, Stmt};
 
 /// What arguments are evaluated for.

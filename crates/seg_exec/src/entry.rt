@@ -9,7 +9,7 @@ use crate::frame::{Frame, Next, OpenBody, Position};
 use effect_sets::{Effects, Summary};
 use region_paths::Elem;
 use std::alloc::{AllocError, Global};
-use twe_io::{Ints, List, Memory};
+use twe_base::{Ints, List, Memory};
 use twe_program::{Decl, Prog};
 
 /// How many futures a body has; 0 if there is no such declaration.

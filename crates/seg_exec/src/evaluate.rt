@@ -10,7 +10,7 @@ use crate::elements::cell_number;
 use crate::machine::Machine;
 use crate::request::Request;
 use std::alloc::Global;
-use twe_io::{Memory, Place};
+use twe_base::{Memory, Place};
 use twe_program::{BinOp, Expr, ExprKind, Prog};
 
 impl<'a> Machine<'a> {
@@ -38,7 +38,8 @@ impl<'a> Machine<'a> {
         place: Place,
     ) -> Result<Request, Memory>
         ensures { IfOk result (λ request. (request, config_of self.new) ≡
-            on (to_do (Evaluate row.now) (to_do (Evaluate column.now) (to_do (ReadGridElement array place) (config_of self.old))))) }
+            on (to_do (Evaluate row.now)
+            (to_do (Evaluate column.now) (to_do (ReadGridElement array place) (config_of self.old))))) }
     {
         let then = ValueUse::ReadGridElement { array, place };
         self.push(Continuation::UseValue(then))?;

@@ -7,7 +7,7 @@ use crate::continuation::{Continuation, ValueUse};
 use crate::machine::Machine;
 use crate::request::Request;
 use std::alloc::Global;
-use twe_io::{Memory, Place};
+use twe_base::{Memory, Place};
 use twe_program::{Expr, Stmt, StmtKind};
 
 impl<'a> Machine<'a> {
@@ -20,7 +20,8 @@ impl<'a> Machine<'a> {
         value: &'a Expr,
         place: Place,
     ) -> Result<Request, Memory>
-        ensures { IfOk result (λ request. (request, config_of self.new) ≡ assigning array index.now second.now value.now place (config_of self.old)) }
+        ensures { IfOk result (λ request. (request, config_of self.new) ≡
+            assigning array index.now second.now value.now place (config_of self.old)) }
     {
         match second {
             None => {

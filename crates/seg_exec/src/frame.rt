@@ -1,7 +1,7 @@
 //! The frame of a task: what it keeps between its segments.
 
 use crate::children::Children;
-use twe_io::{Ints, List};
+use twe_base::{Ints, List};
 
 /// How far a block of a body has been executed.
 #[derive(Clone, Copy, Debug, PartialEq, Eq)]

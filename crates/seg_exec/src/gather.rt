@@ -16,7 +16,7 @@ use crate::request::Ending;
 use crate::stepping::serve;
 use crate::value::value_of;
 use std::alloc::Global;
-use twe_io::{Ints, Memory, Place};
+use twe_base::{Ints, Memory, Place};
 use twe_program::{Args, Expr, Prog};
 
 /// The argument of this number, if there is one and it calls no method.
@@ -44,7 +44,8 @@ fn gather_next<'a, C: Cells>(
     requires { MayGo p.now (ways_of C.known C.may_read C.may_write C.rule)
         (doing (Gather taken (arguments_of args.now) goal) (standing machine.old cells.old prints.old)) }
     ensures { IfOk result (λ ending. Carries p.now (ways_of C.known C.may_read C.may_write C.rule)
-        (doing (Gather taken (arguments_of args.now) goal) (standing machine.old cells.old prints.old)) ending (standing machine.new cells.new prints.new)) }
+        (doing (Gather taken (arguments_of args.now) goal) (standing machine.old cells.old prints.old)) ending
+        (standing machine.new cells.new prints.new)) }
 {
     let request = machine.gather_next(alloc, p, taken, args, goal)?;
     serve(machine, cells, prints, request)
@@ -65,7 +66,8 @@ pub(crate) fn gather<'a, C: Cells>(
     requires { MayGo p.now (ways_of C.known C.may_read C.may_write C.rule)
         (doing (Gather taken (arguments_of args.now) goal) (standing machine.old cells.old prints.old)) }
     ensures { IfOk result (λ ending. Carries p.now (ways_of C.known C.may_read C.may_write C.rule)
-        (doing (Gather taken (arguments_of args.now) goal) (standing machine.old cells.old prints.old)) ending (standing machine.new cells.new prints.new)) }
+        (doing (Gather taken (arguments_of args.now) goal) (standing machine.old cells.old prints.old)) ending
+        (standing machine.new cells.new prints.new)) }
 {
     let mut values = taken;
     let mut next = 0;
@@ -95,7 +97,8 @@ pub(crate) fn call<'a, C: Cells>(
     requires { MayGo p.now (ways_of C.known C.may_read C.may_write C.rule)
         (doing (Gather [] args.now (Enter method place)) (standing machine.old cells.old prints.old)) }
     ensures { IfOk result (λ ending. Carries p.now (ways_of C.known C.may_read C.may_write C.rule)
-        (doing (Gather [] args.now (Enter method place)) (standing machine.old cells.old prints.old)) ending (standing machine.new cells.new prints.new)) }
+        (doing (Gather [] args.now (Enter method place)) (standing machine.old cells.old prints.old)) ending
+        (standing machine.new cells.new prints.new)) }
 {
     let taken = Ints::with_capacity(alloc, args.items.len())?;
     let goal = Goal::Enter { method, place };

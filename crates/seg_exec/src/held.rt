@@ -5,7 +5,7 @@ use crate::continuation::Suspension;
 use crate::frame::Position;
 use std::alloc::Global;
 use std::marker::Model;
-use twe_io::Memory;
+use twe_base::Memory;
 
 /// A stop at a task operation on the heap. Contracts see the stop.
 #[derive(Debug, Drop)]

@@ -28,7 +28,8 @@ pub fn over_a_list_it_is_the_segment()
 /// A segment of a well-formed program accesses only cells of the program, whatever their values are. So it can be executed
 /// over any list that has as many cells as the program.
 pub fn accesses_are_of_the_program()
-    ensures { (p : Program) (frame : Frame) (cells : List ℤ) → IsWellFormed p → length cells ≡ cell_count p → MayCarryOut p list_ways frame cells }
+    ensures { (p : Program) (frame : Frame) (cells : List ℤ)
+        → IsWellFormed p → length cells ≡ cell_count p → MayCarryOut p list_ways frame cells }
 {}
 
 /// A segment is determined by what it reads. Its accesses agree with the cells that it began with, and lead to the cells

@@ -9,8 +9,7 @@ ghost use Rattle.seg_exec.specs.inner.Views.{continuation_of, config_of, use_of}
 use crate::continuation::{Continuation, ValueUse};
 use crate::pushdown::Pushdown;
 use crate::request::{Ending, Request};
-use twe_io::{Ints, Memory, Place};
-use twe_limits::FaultKind;
+use twe_base::{FaultKind, Ints, Memory, Place};
 use twe_program::Expr;
 
 /// The request to end with a fault at a place of the text.
@@ -67,7 +66,8 @@ impl<'a> Machine<'a> {
         expr: &'a Expr,
         then: ValueUse<'a>,
     ) -> Result<Request, Memory>
-        ensures { IfOk result (λ request. (request, config_of self.new) ≡ on (to_do (Evaluate expr.now) (to_do (use_of then.entry) (config_of self.old)))) }
+        ensures { IfOk result (λ request. (request, config_of self.new) ≡
+            on (to_do (Evaluate expr.now) (to_do (use_of then.entry) (config_of self.old)))) }
     {
         self.push(Continuation::UseValue(then))?;
         self.push(Continuation::Evaluate(expr))?;

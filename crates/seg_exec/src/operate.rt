@@ -11,7 +11,7 @@ use crate::machine::Machine;
 use crate::operation::Operation;
 use crate::request::Request;
 use std::alloc::Global;
-use twe_io::{Memory, Place};
+use twe_base::{Memory, Place};
 use twe_program::Args;
 
 impl<'a> Machine<'a> {

@@ -1,6 +1,6 @@
 //! The task operations, at which a segment stops.
 
-use twe_io::{Ints, Place};
+use twe_base::{Ints, Place};
 
 /// A task operation, once its arguments are evaluated and its unit of fuel is taken.
 #[derive(Debug, Drop)]

@@ -16,7 +16,7 @@ use crate::machine::Machine;
 use crate::request::Ending;
 use crate::stepping::{evaluate, evaluate_then, right_of, serve, step, use_value};
 use std::alloc::Global;
-use twe_io::{Ints, Memory};
+use twe_base::{Ints, Memory};
 use twe_program::{Prog, Stmt, StmtKind};
 
 /// Executes a statement as far as its expressions call no method.
@@ -29,9 +29,11 @@ fn execute<'a, C: Cells>(
     prints: &mut Ints,
     stmt: &'a Stmt,
 ) -> Result<Option<Ending>, Memory>
-    requires { MayGo p.now (ways_of C.known C.may_read C.may_write C.rule) (doing (Execute stmt.now) (standing machine.old cells.old prints.old)) }
+    requires { MayGo p.now (ways_of C.known C.may_read C.may_write C.rule)
+        (doing (Execute stmt.now) (standing machine.old cells.old prints.old)) }
     ensures { IfOk result (λ ending. Carries p.now (ways_of C.known C.may_read C.may_write C.rule)
-        (doing (Execute stmt.now) (standing machine.old cells.old prints.old)) ending (standing machine.new cells.new prints.new)) }
+        (doing (Execute stmt.now) (standing machine.old cells.old prints.old)) ending
+        (standing machine.new cells.new prints.new)) }
 {
     match &stmt.kind {
         StmtKind::Let { var, value } => {
@@ -141,9 +143,11 @@ pub(crate) fn perform<'a, C: Cells>(
     prints: &mut Ints,
     work: Continuation<'a>,
 ) -> Result<Option<Ending>, Memory>
-    requires { MayGo p.now (ways_of C.known C.may_read C.may_write C.rule) (doing (continuation_of work) (standing machine.old cells.old prints.old)) }
+    requires { MayGo p.now (ways_of C.known C.may_read C.may_write C.rule)
+        (doing (continuation_of work) (standing machine.old cells.old prints.old)) }
     ensures { IfOk result (λ ending. Carries p.now (ways_of C.known C.may_read C.may_write C.rule)
-        (doing (continuation_of work.entry) (standing machine.old cells.old prints.old)) ending (standing machine.new cells.new prints.new)) }
+        (doing (continuation_of work.entry) (standing machine.old cells.old prints.old)) ending
+        (standing machine.new cells.new prints.new)) }
 {
     match work {
         Continuation::Evaluate(expr) => evaluate(alloc, p, machine, cells, prints, expr),

@@ -1,10 +1,10 @@
 //! The stacks of the evaluator. A push writes the item where it stays, and is inlined.
 ghost use Rattle.std.specs.Prelude.{◌≡◌, [], ◌∷◌, OnOk, MatchOption};
-ghost use Rattle.twe_io.specs.Stacks.{top, below};
+ghost use Rattle.twe_base.specs.Stacks.{top, below};
 
 use std::alloc::Global;
 use std::marker::Model;
-use twe_io::Memory;
+use twe_base::Memory;
 
 /// A stack: the item pushed last is popped first. Contracts see a list whose first item is the top.
 #[derive(Debug, Drop)]

@@ -1,8 +1,7 @@
 //! What one step of the evaluator requests from whoever runs it, and how a run ends.
 
 use crate::held::Held;
-use twe_io::Place;
-use twe_limits::FaultKind;
+use twe_base::{FaultKind, Place};
 
 /// How a run of the evaluator ends.
 #[derive(Debug, Drop)]

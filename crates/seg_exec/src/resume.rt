@@ -10,8 +10,7 @@ use crate::continuation::{Continuation, Recovered, ValueUse};
 use crate::held::Held;
 use crate::machine::{Machine, fault};
 use crate::request::{Ending, Request};
-use twe_io::{Ints, Memory, Place};
-use twe_limits::FaultKind;
+use twe_base::{FaultKind, Ints, Memory, Place};
 use twe_program::{Arm, Block, Stmt};
 
 impl<'a> Machine<'a> {
@@ -22,7 +21,8 @@ impl<'a> Machine<'a> {
         at: usize,
         stmts: &'a [Stmt],
     ) -> Result<Request, Memory>
-        ensures { IfOk result (λ request. (request, config_of self.new) ≡ rested block at (statements_of (drop at stmts.now)) (config_of self.old)) }
+        ensures { IfOk result (λ request. (request, config_of self.new) ≡
+            rested block at (statements_of (drop at stmts.now)) (config_of self.old)) }
     {
         if at < stmts.len() {
             self.push(Continuation::Rest {
@@ -43,7 +43,8 @@ impl<'a> Machine<'a> {
         arms: &'a [Arm],
         last: &'a Option<Block>,
     ) -> Result<Request, Memory>
-        ensures { IfOk result (λ request. (request, config_of self.new) ≡ choosing block (arms_of (drop block arms.now) last.now) (config_of self.old)) }
+        ensures { IfOk result (λ request. (request, config_of self.new) ≡
+            choosing block (arms_of (drop block arms.now) last.now) (config_of self.old)) }
     {
         if block < arms.len() {
             let arm = &arms[block];
@@ -102,7 +103,8 @@ impl<'a> Machine<'a> {
         body: &'a Block,
         place: Place,
     ) -> Result<Request, Memory>
-        ensures { IfOk result (λ request. (request, config_of self.new) ≡ turned_next again.now body.now place (config_of self.old)) }
+        ensures { IfOk result (λ request. (request, config_of self.new) ≡
+            turned_next again.now body.now place (config_of self.old)) }
     {
         if is_true(self.pop_operand()) {
             if self.fuel == 0 {
@@ -141,7 +143,8 @@ impl<'a> Machine<'a> {
 
     /// Unwinds the continuation up to the caller of the active method, or to its end, and returns the latest value.
     pub(crate) fn unwind(&mut self) -> Result<Request, Memory>
-        ensures { IfOk result (λ request. (request, config_of self.new) ≡ unwound (continuations_of self.old.work) (config_of self.old)) }
+        ensures { IfOk result (λ request. (request, config_of self.new) ≡
+            unwound (continuations_of self.old.work) (config_of self.old)) }
     {
         let Some(work) = self.work.pop() else {
             return Ok(Request::End(Ending::Returned(self.pop_operand())));
@@ -160,7 +163,8 @@ impl<'a> Machine<'a> {
     /// Returns the latest value to the caller of the active method, or from the whole body, at once.
     #[inline(always)]
     pub(crate) fn give_back(&mut self) -> Result<Request, Memory>
-        ensures { IfOk result (λ request. (request, config_of self.new) ≡ returned (continuations_of self.old.work) (config_of self.old)) }
+        ensures { IfOk result (λ request. (request, config_of self.new) ≡
+            returned (continuations_of self.old.work) (config_of self.old)) }
     {
         'frames: loop {
             let Some(work) = self.work.pop() else {

@@ -1,6 +1,6 @@
 //! A run of the evaluator up to its end.
 ghost use Rattle.std.specs.Prelude.{IfOk};
-ghost use Rattle.seg_exec.specs.inner.Reached.{Finishes, MayRun, standing};
+ghost use Rattle.seg_exec.specs.inner.Reached.{Finishes, MayGoOn, standing};
 ghost use Rattle.seg_exec.specs.inner.Strides.{Carries, MayGo};
 ghost use Rattle.seg_exec.specs.Access.{ways_of};
 
@@ -9,7 +9,7 @@ use crate::machine::Machine;
 use crate::perform::perform;
 use crate::request::Ending;
 use std::alloc::Global;
-use twe_io::{Ints, Memory};
+use twe_base::{Ints, Memory};
 use twe_program::Prog;
 
 /// Does what the next continuation frame is for. Returns the ending if that ends the run.
@@ -39,7 +39,7 @@ pub(crate) fn run<'a, C: Cells>(
     cells: &mut C,
     prints: &mut Ints,
 ) -> Result<Ending, Memory>
-    requires { MayRun p.now (ways_of C.known C.may_read C.may_write C.rule) (standing machine.old cells.old prints.old) }
+    requires { MayGoOn p.now (ways_of C.known C.may_read C.may_write C.rule) (standing machine.old cells.old prints.old) }
     ensures { IfOk result (λ ending. Finishes p.now (ways_of C.known C.may_read C.may_write C.rule)
         (standing machine.old cells.old prints.old) ending (standing machine.new cells.new prints.new)) }
 {

@@ -21,7 +21,7 @@ use crate::request::Ending;
 use crate::run::run;
 use crate::stop::Stop;
 use std::alloc::Global;
-use twe_io::{Ints, List, Memory};
+use twe_base::{Ints, List, Memory};
 use twe_program::Prog;
 
 /// The task that a future stands for; 0 if it stands for none.

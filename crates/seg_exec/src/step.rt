@@ -8,7 +8,7 @@ use crate::elements::cell_number;
 use crate::machine::Machine;
 use crate::request::Request;
 use std::alloc::Global;
-use twe_io::Memory;
+use twe_base::Memory;
 use twe_program::Prog;
 
 impl<'a> Machine<'a> {
@@ -56,7 +56,8 @@ impl<'a> Machine<'a> {
         p: &'a Prog,
         work: Continuation<'a>,
     ) -> Result<Request, Memory>
-        ensures { IfOk result (λ request. (request, config_of self.new) ≡ worked p.now (continuation_of work.entry) (config_of self.old)) }
+        ensures { IfOk result (λ request. (request, config_of self.new) ≡
+            worked p.now (continuation_of work.entry) (config_of self.old)) }
     {
         match work {
             Continuation::Evaluate(expr) => self.evaluate(alloc, p, expr),

@@ -15,7 +15,7 @@ use crate::plain::is_plain;
 use crate::request::{Ending, Request};
 use crate::value::value_of;
 use std::alloc::Global;
-use twe_io::{Ints, Memory, Place};
+use twe_base::{Ints, Memory, Place};
 use twe_program::{BinOp, Expr, ExprKind, Prog};
 
 /// Serves what a step requests. Returns the ending if the step is the last.
@@ -52,9 +52,11 @@ pub(crate) fn step<'a, C: Cells>(
     prints: &mut Ints,
     work: Continuation<'a>,
 ) -> Result<Option<Ending>, Memory>
-    requires { MayGo p.now (ways_of C.known C.may_read C.may_write C.rule) (doing (continuation_of work) (standing machine.old cells.old prints.old)) }
+    requires { MayGo p.now (ways_of C.known C.may_read C.may_write C.rule)
+        (doing (continuation_of work) (standing machine.old cells.old prints.old)) }
     ensures { IfOk result (λ ending. Carries p.now (ways_of C.known C.may_read C.may_write C.rule)
-        (doing (continuation_of work.entry) (standing machine.old cells.old prints.old)) ending (standing machine.new cells.new prints.new)) }
+        (doing (continuation_of work.entry) (standing machine.old cells.old prints.old)) ending
+        (standing machine.new cells.new prints.new)) }
 {
     let request = machine.act(alloc, p, work)?;
     serve(machine, cells, prints, request)
@@ -68,7 +70,8 @@ pub(crate) fn leave<'a, C: Cells>(
     cells: &mut C,
     prints: &mut Ints,
 ) -> Result<Option<Ending>, Memory>
-    requires { MayGo p.now (ways_of C.known C.may_read C.may_write C.rule) (doing (Unwind) (standing machine.old cells.old prints.old)) }
+    requires { MayGo p.now (ways_of C.known C.may_read C.may_write C.rule)
+        (doing (Unwind) (standing machine.old cells.old prints.old)) }
     ensures { IfOk result (λ ending. Carries p.now (ways_of C.known C.may_read C.may_write C.rule)
         (doing (Unwind) (standing machine.old cells.old prints.old)) ending (standing machine.new cells.new prints.new)) }
 {
@@ -86,9 +89,11 @@ fn use_now<'a, C: Cells>(
     prints: &mut Ints,
     then: &ValueUse<'a>,
 ) -> Result<Option<Ending>, Memory>
-    requires { MayGo p.now (ways_of C.known C.may_read C.may_write C.rule) (doing (use_of then.now) (standing machine.old cells.old prints.old)) }
+    requires { MayGo p.now (ways_of C.known C.may_read C.may_write C.rule)
+        (doing (use_of then.now) (standing machine.old cells.old prints.old)) }
     ensures { IfOk result (λ ending. Carries p.now (ways_of C.known C.may_read C.may_write C.rule)
-        (doing (use_of then.now) (standing machine.old cells.old prints.old)) ending (standing machine.new cells.new prints.new)) }
+        (doing (use_of then.now) (standing machine.old cells.old prints.old)) ending
+        (standing machine.new cells.new prints.new)) }
 {
     let request = machine.use_value(p, then)?;
     serve(machine, cells, prints, request)
@@ -103,9 +108,11 @@ pub(crate) fn use_value<'a, C: Cells>(
     prints: &mut Ints,
     then: &ValueUse<'a>,
 ) -> Result<Option<Ending>, Memory>
-    requires { MayGo p.now (ways_of C.known C.may_read C.may_write C.rule) (doing (use_of then.now) (standing machine.old cells.old prints.old)) }
+    requires { MayGo p.now (ways_of C.known C.may_read C.may_write C.rule)
+        (doing (use_of then.now) (standing machine.old cells.old prints.old)) }
     ensures { IfOk result (λ ending. Carries p.now (ways_of C.known C.may_read C.may_write C.rule)
-        (doing (use_of then.now) (standing machine.old cells.old prints.old)) ending (standing machine.new cells.new prints.new)) }
+        (doing (use_of then.now) (standing machine.old cells.old prints.old)) ending
+        (standing machine.new cells.new prints.new)) }
 {
     match then {
         ValueUse::Unwind => leave(p, machine, cells, prints),
@@ -123,9 +130,11 @@ fn begin_one<'a, C: Cells>(
     prints: &mut Ints,
     expr: &'a Expr,
 ) -> Result<Option<Ending>, Memory>
-    requires { MayGo p.now (ways_of C.known C.may_read C.may_write C.rule) (doing (Evaluate expr.now) (standing machine.old cells.old prints.old)) }
+    requires { MayGo p.now (ways_of C.known C.may_read C.may_write C.rule)
+        (doing (Evaluate expr.now) (standing machine.old cells.old prints.old)) }
     ensures { IfOk result (λ ending. Carries p.now (ways_of C.known C.may_read C.may_write C.rule)
-        (doing (Evaluate expr.now) (standing machine.old cells.old prints.old)) ending (standing machine.new cells.new prints.new)) }
+        (doing (Evaluate expr.now) (standing machine.old cells.old prints.old)) ending
+        (standing machine.new cells.new prints.new)) }
 {
     match &expr.kind {
         ExprKind::Call {
@@ -150,9 +159,11 @@ fn operand<'a, C: Cells>(
     prints: &mut Ints,
     expr: &'a Expr,
 ) -> Result<Option<Ending>, Memory>
-    requires { MayGo p.now (ways_of C.known C.may_read C.may_write C.rule) (doing (Evaluate expr.now) (standing machine.old cells.old prints.old)) }
+    requires { MayGo p.now (ways_of C.known C.may_read C.may_write C.rule)
+        (doing (Evaluate expr.now) (standing machine.old cells.old prints.old)) }
     ensures { IfOk result (λ ending. Carries p.now (ways_of C.known C.may_read C.may_write C.rule)
-        (doing (Evaluate expr.now) (standing machine.old cells.old prints.old)) ending (standing machine.new cells.new prints.new)) }
+        (doing (Evaluate expr.now) (standing machine.old cells.old prints.old)) ending
+        (standing machine.new cells.new prints.new)) }
 {
     if !is_plain(expr) {
         return begin_one(alloc, p, machine, cells, prints, expr);
@@ -177,9 +188,11 @@ fn begin<'a, C: Cells>(
     prints: &mut Ints,
     expr: &'a Expr,
 ) -> Result<Option<Ending>, Memory>
-    requires { MayGo p.now (ways_of C.known C.may_read C.may_write C.rule) (doing (Evaluate expr.now) (standing machine.old cells.old prints.old)) }
+    requires { MayGo p.now (ways_of C.known C.may_read C.may_write C.rule)
+        (doing (Evaluate expr.now) (standing machine.old cells.old prints.old)) }
     ensures { IfOk result (λ ending. Carries p.now (ways_of C.known C.may_read C.may_write C.rule)
-        (doing (Evaluate expr.now) (standing machine.old cells.old prints.old)) ending (standing machine.new cells.new prints.new)) }
+        (doing (Evaluate expr.now) (standing machine.old cells.old prints.old)) ending
+        (standing machine.new cells.new prints.new)) }
 {
     match &expr.kind {
         ExprKind::Bin {
@@ -209,9 +222,11 @@ pub(crate) fn evaluate<'a, C: Cells>(
     prints: &mut Ints,
     expr: &'a Expr,
 ) -> Result<Option<Ending>, Memory>
-    requires { MayGo p.now (ways_of C.known C.may_read C.may_write C.rule) (doing (Evaluate expr.now) (standing machine.old cells.old prints.old)) }
+    requires { MayGo p.now (ways_of C.known C.may_read C.may_write C.rule)
+        (doing (Evaluate expr.now) (standing machine.old cells.old prints.old)) }
     ensures { IfOk result (λ ending. Carries p.now (ways_of C.known C.may_read C.may_write C.rule)
-        (doing (Evaluate expr.now) (standing machine.old cells.old prints.old)) ending (standing machine.new cells.new prints.new)) }
+        (doing (Evaluate expr.now) (standing machine.old cells.old prints.old)) ending
+        (standing machine.new cells.new prints.new)) }
 {
     if !is_plain(expr) {
         return begin(alloc, p, machine, cells, prints, expr);
@@ -268,9 +283,11 @@ pub(crate) fn right_of<'a, C: Cells>(
     right: &'a Expr,
     place: Place,
 ) -> Result<Option<Ending>, Memory>
-    requires { MayGo p.now (ways_of C.known C.may_read C.may_write C.rule) (doing (Right op right.now place) (standing machine.old cells.old prints.old)) }
+    requires { MayGo p.now (ways_of C.known C.may_read C.may_write C.rule)
+        (doing (Right op right.now place) (standing machine.old cells.old prints.old)) }
     ensures { IfOk result (λ ending. Carries p.now (ways_of C.known C.may_read C.may_write C.rule)
-        (doing (Right op right.now place) (standing machine.old cells.old prints.old)) ending (standing machine.new cells.new prints.new)) }
+        (doing (Right op right.now place) (standing machine.old cells.old prints.old)) ending
+        (standing machine.new cells.new prints.new)) }
 {
     let left = machine.pop_operand();
     match decide(op, is_true(left)) {

@@ -2,8 +2,7 @@
 
 use crate::frame::Frame;
 use effect_sets::Summary;
-use twe_io::{Ints, Place};
-use twe_limits::FaultKind;
+use twe_base::{FaultKind, Ints, Place};
 
 /// How a segment stops.
 #[derive(Debug, Drop)]

@@ -8,7 +8,7 @@ ghost use Rattle.seg_exec.specs.inner.Views.{config_of};
 use crate::continuation::Continuation;
 use crate::frame::Position;
 use crate::machine::Machine;
-use twe_io::Memory;
+use twe_base::Memory;
 use twe_program::{Arm, Arms, Block, Stmt, StmtKind};
 
 /// The statement at an index of a block, if there is one.
@@ -116,7 +116,8 @@ impl<'a> Machine<'a> {
 
     /// Pushes what remains of a body, the innermost block on top.
     pub(crate) fn unfold(&mut self, stmts: &'a [Stmt], positions: &[Position]) -> Result<(), Memory>
-        ensures { IfOk result (λ _. config_of self.new ≡ with_unfolded (statements_of stmts.now) positions.now (config_of self.old)) }
+        ensures { IfOk result (λ _. config_of self.new ≡
+            with_unfolded (statements_of stmts.now) positions.now (config_of self.old)) }
     {
         let mut block = stmts;
         let mut rest = positions;

@@ -9,8 +9,7 @@ use crate::arithmetic::{decide, invert, is_true, negate, number_of, operate};
 use crate::cells::Cells;
 use crate::elements::{cell_number, element_number, grid_element_number};
 use crate::request::Ending;
-use twe_io::Place;
-use twe_limits::FaultKind;
+use twe_base::{FaultKind, Place};
 use twe_program::{BinOp, Expr, ExprKind, Prog};
 
 /// A fault and its place in the text.

@@ -11,8 +11,7 @@ use crate::continuation::{Continuation, ValueUse};
 use crate::elements::{element_number, grid_element_number};
 use crate::machine::{Machine, fault};
 use crate::request::Request;
-use twe_io::{Memory, Place};
-use twe_limits::FaultKind;
+use twe_base::{FaultKind, Memory, Place};
 use twe_program::{BinOp, Expr, Prog};
 
 impl<'a> Machine<'a> {

@@ -1,6 +1,6 @@
 -- What the answer of a reader of journals says, from what it is spelled so and which bad line it names.
 use Rattle.std.proofs.Common.{◌≡◌, ◌⊎◌, ℕ, List, Option, Result, Ok, Err, IfOk, IsErrOf, IsErrAnd, MatchResult, ap, ◌∙◌, sym, refl, inl, inr}
-use Rattle.twe_limits.specs.Limits.{Bounds}
+use Rattle.twe_base.specs.Limits.{Bounds}
 use Rattle.seg_journal.specs.declared.moves.Move.{Move}
 use Rattle.seg_journal.specs.declared.text.JournalText.{JournalText}
 use Rattle.seg_journal.specs.declared.text.JournalFail.{JournalFail}

@@ -1,4 +1,5 @@
 pub mod Spelling
 pub mod Lines
 pub mod Fail
+pub mod Merging
 pub mod inner

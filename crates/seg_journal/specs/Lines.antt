@@ -1,6 +1,6 @@
 -- The lines of a text, and the first of them that is no line of a journal.
 use Rattle.std.specs.Prelude.{◌≡◌, ◌⊎◌, ℕ, ◌+◌, ◌==◌, if◌then◌else◌, List, [], ◌∷◌, ◌++◌, length}
-use Rattle.twe_limits.specs.Limits.{Bounds}
+use Rattle.twe_base.specs.Limits.{Bounds}
 use Rattle.seg_journal.specs.Spelling.{move_line, head_line, HasTask, AreLimits}
 use Rattle.seg_journal.specs.declared.moves.Move.{Move}
 

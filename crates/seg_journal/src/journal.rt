@@ -1,8 +1,7 @@
 //! The entries of a journal: moves and how they ended.
 
 use crate::Move;
-use twe_io::{List, Place};
-use twe_limits::FaultKind;
+use twe_base::{FaultKind, List, Place};
 
 /// How a move ended. An admission ends in `Admitted`, and a segment in one of the others.
 #[derive(Clone, Copy, Debug, PartialEq, Eq)]

@@ -1,6 +1,6 @@
 //! The lines of a journal: reading one at the start of a text, and writing one at the end of a text.
 ghost use Rattle.std.specs.Prelude.{◌≡◌, List, ℕ, ◌++◌, decimal, IfSome, IsSomeAnd, OnOk};
-ghost use Rattle.twe_limits.specs.Limits.{Bounds};
+ghost use Rattle.twe_base.specs.Limits.{Bounds};
 ghost use Rattle.seg_journal.specs.Spelling.{kind_word, move_line, head_line, tasks_part, HasTask, AreLimits};
 ghost use Rattle.seg_journal.specs.declared.moves.Kind.{Kind};
 ghost use Rattle.seg_journal.specs.declared.moves.Move.{Move};
@@ -8,7 +8,7 @@ ghost use Rattle.seg_journal.specs.declared.moves.Move.{Move};
 use crate::number::number_before;
 use crate::{Kind, Limits, Move};
 use itoa::Buffer;
-use twe_io::{Bytes, Memory};
+use twe_base::{Bytes, Memory};
 
 /// The move whose line begins a text, and the rest of the text; none if no such line does.
 pub(crate) fn move_at(text: &[u8]) -> Option<(Move, &[u8])>

@@ -1,6 +1,6 @@
 //! The moves of a run.
 
-use twe_io::List;
+use twe_base::List;
 
 /// What a move does with its task.
 #[derive(Clone, Copy, Debug, PartialEq, Eq)]

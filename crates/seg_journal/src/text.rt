@@ -3,7 +3,7 @@ ghost use Rattle.std.specs.Prelude.{◌≡◌, ◌≢◌, ◌⊎◌, ◌≤◌, 
 ghost use Rattle.std.specs.List.{AllByRecursion, flat_map};
 ghost use Rattle.seg_journal.specs.declared.text.JournalFail.TheVariants.{OutOfMemory};
 ghost use Rattle.seg_journal.specs.declared.moves.Move.{Move};
-ghost use Rattle.twe_limits.specs.Limits.{Bounds};
+ghost use Rattle.twe_base.specs.Limits.{Bounds};
 ghost use Rattle.seg_journal.specs.Spelling.{Spells, head_line, head_part, head_lines, move_line, move_of, HasTask, AreLimits};
 ghost use Rattle.seg_journal.specs.Lines.{IsFirstBadLine};
 ghost use Rattle.seg_journal.specs.Fail.{IsOutOfMemory};
@@ -12,7 +12,7 @@ ghost use Rattle.seg_journal.specs.inner.Stops.{StopsAt};
 use crate::line::{head_at, move_at, push_head, push_move};
 use crate::{Entry, Journal, Limits, Moves};
 use std::alloc::Global;
-use twe_io::{Bytes, Memory};
+use twe_base::{Bytes, Memory};
 
 /// A journal as its text states it.
 #[derive(Debug, Drop)]

@@ -3,8 +3,8 @@ use Rattle.std.proofs.Common.{◌≡◌, ◌+◌, ◌<◌, ◌≤◌, ◌*◌, �
 use Rattle.std.specs.Prelude.{◌==◌, if◌then◌else◌}
 use Rattle.std.proofs.lemmas.Bool.{eq-eqb}
 use Rattle.effect_sets.specs.declared.effects.Summary.{Summary}
-use Rattle.twe_io.specs.declared.place.Place.{Place}
-use Rattle.twe_limits.specs.Limits.{Bounds}
+use Rattle.twe_base.specs.declared.place.Place.{Place}
+use Rattle.twe_base.specs.Limits.{Bounds}
 use Rattle.twe_program.specs.Program.{Program}
 use Rattle.seg_exec.specs.declared.frame.Frame.{Frame}
 use Rattle.seg_exec.specs.declared.frame.Next.{Next}
@@ -13,9 +13,9 @@ use Rattle.seg_exec.specs.declared.stop.Stop.{Stop}
 use Rattle.seg_exec.specs.declared.stop.Stop.TheVariants.{Make, Joins}
 use Rattle.seg_exec.specs.Giving.{given, given_by, without}
 use Rattle.seg_exec.specs.Segment.{segment}
-use Rattle.segment_laws.specs.Keeps.{NextAfter, IsClosing}
-use Rattle.segment_laws.proofs.Following.{makes_follow}
-use Rattle.segment_laws.proofs.SegmentKept.{segment_keeps}
+use Rattle.twe_machine.specs.segment_laws.Keeps.{NextAfter, IsClosing}
+use Rattle.twe_machine.proofs.segment_laws.Following.{makes_follow}
+use Rattle.twe_machine.proofs.segment_laws.SegmentKept.{segment_keeps}
 use Rattle.twe_machine.specs.Moves.{frame_without_prints, making_frame}
 use Rattle.seq_elide.specs.declared.progress.Progress.{Progress}
 use Rattle.seq_elide.specs.Elision.{first_frame}

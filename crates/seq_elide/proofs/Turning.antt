@@ -2,17 +2,17 @@
 use Rattle.std.proofs.Common.{◌≡◌, ◌+◌, ◌<◌, ℕ, suc, ℤ, Bool, true, false, List, [], ◌∷◌, length, refl, sym, ap, ◌∙◌, arith, length-append, length-set}
 use Rattle.std.specs.Prelude.{nat_lt, if◌then◌else◌, pos, slice_set}
 use Rattle.std.proofs.lemmas.Bool.{ltb-true}
-use Rattle.twe_io.specs.declared.place.Place.{Place}
-use Rattle.twe_limits.specs.Limits.{Bounds}
-use Rattle.twe_limits.specs.declared.fault.FaultKind.{FaultKind}
-use Rattle.twe_limits.specs.declared.fault.FaultKind.TheVariants.{TaskLimit}
+use Rattle.twe_base.specs.declared.place.Place.{Place}
+use Rattle.twe_base.specs.Limits.{Bounds}
+use Rattle.twe_base.specs.declared.fault.FaultKind.{FaultKind}
+use Rattle.twe_base.specs.declared.fault.FaultKind.TheVariants.{TaskLimit}
 use Rattle.twe_program.specs.Program.{Program}
 use Rattle.seg_exec.specs.declared.frame.Frame.{Frame}
 use Rattle.seg_exec.specs.declared.stop.Stop.{Stop}
 use Rattle.seg_exec.specs.declared.stop.Stop.TheVariants.{Make, Waits, Joins, Done, Fault}
 use Rattle.seg_exec.specs.Giving.{given}
 use Rattle.seg_exec.specs.Segment.{segment}
-use Rattle.segment_laws.proofs.SegmentKept.{segment_keeps}
+use Rattle.twe_machine.proofs.segment_laws.SegmentKept.{segment_keeps}
 use Rattle.twe_machine.specs.Moves.{frame_without_prints, making_frame}
 use Rattle.seq_elide.specs.declared.progress.Progress.{Progress}
 use Rattle.seq_elide.specs.Elision.{Ending, ends, fails, strays, Running, after_segment, after_stop, first_frame, is_child, kept_value, run_within, then_go_on, with_segment, with_task, with_value}

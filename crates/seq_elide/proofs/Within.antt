@@ -2,9 +2,9 @@
 use Rattle.std.proofs.Common.{◌≡◌, ◌≢◌, ◌+◌, ◌<◌, ◌≤◌, ◌*◌, ◌-◌, ℕ, zero, suc, ℤ, Bool, true, false, List, [], ◌∷◌, length, refl, sym, ap, ◌∙◌, subst, arith, length-append, length-set}
 use Rattle.std.specs.Prelude.{nat_lt, if◌then◌else◌, pos}
 use Rattle.std.proofs.lemmas.Bool.{ltb-true}
-use Rattle.twe_io.specs.declared.place.Place.{Place}
-use Rattle.twe_limits.specs.Limits.{Bounds}
-use Rattle.twe_limits.specs.declared.fault.FaultKind.TheVariants.{TaskLimit}
+use Rattle.twe_base.specs.declared.place.Place.{Place}
+use Rattle.twe_base.specs.Limits.{Bounds}
+use Rattle.twe_base.specs.declared.fault.FaultKind.TheVariants.{TaskLimit}
 use Rattle.twe_program.specs.Program.{Program}
 use Rattle.seg_exec.specs.declared.frame.Frame.{Frame}
 use Rattle.seg_exec.specs.declared.stop.Stop.{Stop}

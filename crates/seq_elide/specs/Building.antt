@@ -1,8 +1,8 @@
 -- Executions, put together from their segments without a bound.
 use Rattle.std.specs.Prelude.{◌≡◌, ◌<◌, ℕ, ℤ, true, List, length}
-use Rattle.twe_io.specs.declared.place.Place.{Place}
+use Rattle.twe_base.specs.declared.place.Place.{Place}
 use Rattle.effect_sets.specs.declared.effects.Summary.{Summary}
-use Rattle.twe_limits.specs.Limits.{Bounds}
+use Rattle.twe_base.specs.Limits.{Bounds}
 use Rattle.twe_program.specs.Program.{Program}
 use Rattle.seg_exec.specs.declared.frame.Frame.{Frame}
 use Rattle.seg_exec.specs.declared.stop.Stop.TheVariants.{Make, Joins, Done}
@@ -16,10 +16,11 @@ use Rattle.seq_elide.specs.Elision.{ends, first_frame, is_child, kept_value, run
 abbrev pub RunsTo : Program → Bounds → Frame → Progress → ℤ → Progress → Type 0
 RunsTo p lim frame s value after = (n : ℕ) × (run_within p lim n frame s ≡ ends value after)
 
--- the frame after the next segment, and what was done up to there
+-- the frame after the next segment
 abbrev pub next_frame : Program → Frame → Progress → Frame
 next_frame p frame s = frame_without_prints (segment p frame s.cells).frame
 
+-- what was done up to the end of the next segment
 abbrev pub next_progress : Program → Frame → Progress → Progress
 next_progress p frame s = with_segment s (segment p frame s.cells)
 
@@ -32,7 +33,8 @@ EndsAtDone =
 -- after a segment that stops at the join of an unjoined child, the execution goes on with the child's value
 abbrev pub GoesOnAtJoin : Type 0
 GoesOnAtJoin =
-    (p : Program) (lim : Bounds) (frame : Frame) (s after : Progress) (on : ℕ) (value : ℤ) → (segment p frame s.cells).stop ≡ Joins on
+    (p : Program) (lim : Bounds) (frame : Frame) (s after : Progress) (on : ℕ) (value : ℤ)
+    → (segment p frame s.cells).stop ≡ Joins on
     → is_child on (next_frame p frame s) ≡ true
     → RunsTo p lim (given (next_frame p frame s) (kept_value (next_progress p frame s) on)) (next_progress p frame s) value after
     → RunsTo p lim frame s value after
@@ -40,7 +42,8 @@ GoesOnAtJoin =
 -- after a segment that stops at a spawn, the execution of the child comes first, and then that of its parent goes on
 abbrev pub GoesOnAtSpawn : Type 0
 GoesOnAtSpawn =
-    (p : Program) (lim : Bounds) (frame child : Frame) (s between after : Progress) (args : List ℤ) (effects : Summary) (future : ℕ) (place : Place) (returned value : ℤ)
+    (p : Program) (lim : Bounds) (frame child : Frame) (s between after : Progress)
+    (args : List ℤ) (effects : Summary) (future : ℕ) (place : Place) (returned value : ℤ)
     → (segment p frame s.cells).stop ≡ Make child args effects true future place → length s.values < lim.tasks
     → RunsTo p lim (first_frame lim (length s.values) child) (with_task (next_progress p frame s)) returned between
     → RunsTo p lim (making_frame future true (length s.values) (next_frame p frame s)) between value after

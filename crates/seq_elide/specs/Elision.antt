@@ -2,10 +2,10 @@
 -- takes the value that was kept.
 use Rattle.std.specs.Prelude.{ℕ, zero, suc, ◌+◌, ◌*◌, ◌==◌, ℤ, pos, Bool, true, false, List, [], ◌∷◌, ◌++◌, length, nat_lt, if◌then◌else◌, slice_get, slice_set}
 use Rattle.std.specs.List.{list_any}
-use Rattle.twe_io.specs.declared.place.Place.{Place}
-use Rattle.twe_limits.specs.Limits.{Bounds}
-use Rattle.twe_limits.specs.declared.fault.FaultKind.{FaultKind}
-use Rattle.twe_limits.specs.declared.fault.FaultKind.TheVariants.{TaskLimit}
+use Rattle.twe_base.specs.declared.place.Place.{Place}
+use Rattle.twe_base.specs.Limits.{Bounds}
+use Rattle.twe_base.specs.declared.fault.FaultKind.{FaultKind}
+use Rattle.twe_base.specs.declared.fault.FaultKind.TheVariants.{TaskLimit}
 use Rattle.twe_program.specs.Program.{Program}
 use Rattle.seg_exec.specs.declared.frame.Frame.{Frame}
 use Rattle.seg_exec.specs.declared.stop.Stop.{Stop}
@@ -54,9 +54,11 @@ abbrev pub spawned : Running → Bounds → Frame → Frame → ℕ → Place �
 spawned rest lim frame child future place s =
     let number = length s.values in
     if nat_lt number lim.tasks
-    then then_go_on (rest (first_frame lim number child) (with_task s)) (λ after. rest (making_frame future true number frame) after)
+    then then_go_on (rest (first_frame lim number child) (with_task s))
+    (λ after. rest (making_frame future true number frame) after)
     else fails TaskLimit place
 
+-- the task with this frame makes a task: a spawn runs it, and an `executeLater` is not fork and join
 abbrev pub made : Running → Bounds → Bool → Frame → Frame → ℕ → Place → Progress → Ending
 made rest lim true frame child future place s = spawned rest lim frame child future place s
 made rest lim false frame child future place s = strays
@@ -70,8 +72,8 @@ abbrev pub is_child : ℕ → Frame → Bool
 is_child task frame = list_any (λ child. child == task) frame.out.items
 
 -- the task with this frame joins a child, and takes the value that was kept
-abbrev pub joined : Running → Frame → ℕ → Progress → Ending
-joined rest frame on s = if is_child on frame then rest (given frame (kept_value s on)) s else strays
+abbrev pub with_joined_child : Running → Frame → ℕ → Progress → Ending
+with_joined_child rest frame on s = if is_child on frame then rest (given frame (kept_value s on)) s else strays
 
 -- the value of the task with this frame is kept
 abbrev pub with_value : Frame → ℤ → Progress → Progress
@@ -81,7 +83,7 @@ with_value frame value s = record s { values = slice_set s.values frame.task val
 abbrev pub after_stop : Running → Bounds → Frame → Stop → Progress → Ending
 after_stop rest lim frame (Make child args effects spawned future place) s = made rest lim spawned frame child future place s
 after_stop rest lim frame (Waits on) s = strays
-after_stop rest lim frame (Joins on) s = joined rest frame on s
+after_stop rest lim frame (Joins on) s = with_joined_child rest frame on s
 after_stop rest lim frame (Done value) s = ends value (with_value frame value s)
 after_stop rest lim frame (Fault kind place) s = fails kind place
 
@@ -89,6 +91,7 @@ after_stop rest lim frame (Fault kind place) s = fails kind place
 abbrev pub with_segment : Progress → Stopped → Progress
 with_segment s after = record s { cells = after.cells; prints = s.prints ++ after.frame.prints }
 
+-- what follows a segment: its frame goes on without the numbers that it printed, which are among what was done
 abbrev pub after_segment : Running → Bounds → Progress → Stopped → Ending
 after_segment rest lim s after = after_stop rest lim (frame_without_prints after.frame) after.stop (with_segment s after)
 
@@ -97,10 +100,11 @@ unfoldable pub run_within : Program → Bounds → ℕ → Running
 run_within p lim zero frame s = goes_on
 run_within p lim (suc n) frame s = after_segment (run_within p lim n) lim s (segment p frame s.cells)
 
--- the first frame of the declaration `task`, and what was done before it: nothing
+-- the first frame of the declaration `task`
 abbrev pub frame_at_start : Program → Bounds → ℕ → List ℤ → Frame
 frame_at_start p lim task args = first_frame lim 0 (entry_frame p task args)
 
+-- what was done before the first segment on these cells: nothing. The first task is there, and its value is 0 so far.
 abbrev pub progress_at_start : List ℤ → Progress
 progress_at_start cells = record { cells = cells; prints = []; values = pos 0 ∷ [] }
 

@@ -9,8 +9,7 @@ use crate::progress::Progress;
 use crate::turn::{Turn, first_frame, take_turn};
 use seg_exec::{Frame, entry_frame};
 use std::alloc::Global;
-use twe_io::{Ints, Memory, Stack};
-use twe_limits::Limits;
+use twe_base::{Ints, Limits, Memory, Stack};
 use twe_program::Prog;
 
 /// What a sequential execution gives.

@@ -2,8 +2,7 @@
 ghost use Rattle.std.specs.Prelude.{◌≡◌};
 ghost use Rattle.seq_elide.specs.declared.fail.ElideFail.TheVariants.{OutOfMemory};
 
-use twe_io::{Memory, Place};
-use twe_limits::FaultKind;
+use twe_base::{FaultKind, Memory, Place};
 
 /// Why a sequential execution has no result.
 #[derive(Clone, Copy, Debug, PartialEq, Eq)]

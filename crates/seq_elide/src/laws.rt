@@ -1,6 +1,6 @@
 //! Laws of sequential executions: the bound in their definition does not matter, and they are made of segments.
 ghost use Rattle.std.specs.Prelude.{◌≡◌, ◌≢◌, ◌≤◌, ℕ, ℤ, List};
-ghost use Rattle.twe_limits.specs.Limits.{Bounds};
+ghost use Rattle.twe_base.specs.Limits.{Bounds};
 ghost use Rattle.twe_program.specs.Program.{Program};
 ghost use Rattle.seg_exec.specs.declared.frame.Frame.{Frame};
 ghost use Rattle.seq_elide.specs.declared.progress.Progress.{Progress};

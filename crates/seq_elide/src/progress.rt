@@ -7,7 +7,7 @@ ghost use Rattle.seq_elide.specs.inner.Printing.{with_prints};
 
 use seg_exec::Frame;
 use std::alloc::Global;
-use twe_io::{Ints, Memory};
+use twe_base::{Ints, Memory};
 
 /// What a sequential execution has done so far.
 #[derive(Debug, Drop)]

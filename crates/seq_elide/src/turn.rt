@@ -1,5 +1,5 @@
 //! One turn of a sequential execution: it carries out one segment, and finds the frame of the next one.
-ghost use Rattle.std.specs.Prelude.{◌≡◌, ◌==◌, ◌<◌, IfOk, IfErr, List, Some, true, length, slice_set};
+ghost use Rattle.std.specs.Prelude.{◌≡◌, ◌==◌, ◌<◌, IfOk, IfErr, List, true, length};
 ghost use Rattle.std.specs.List.{list_any};
 ghost use Rattle.twe_program.specs.Program.{cell_count};
 ghost use Rattle.seg_exec.specs.declared.frame.Frame.{Frame};
@@ -13,8 +13,8 @@ use crate::fail::ElideFail;
 use crate::progress::Progress;
 use seg_exec::{Frame, Stop, run_segment_over_list};
 use std::alloc::Global;
-use twe_io::{List, Memory, Place, Stack};
-use twe_limits::{FaultKind, Limits};
+use twe_base::{FaultKind, Limits, Memory, Place, Stack};
+use twe_machine::set_future;
 use twe_program::Prog;
 
 /// How a turn ends.
@@ -39,7 +39,8 @@ pub(crate) fn take_turn(
     requires { length progress.old.cells ≡ cell_count p.now }
     ensures goes { IfOk result (λ turn. IsTurn (turn_after lim callers.old progress.old (segment p.now frame progress.old.cells))
         turn callers.new progress.new) }
-    ensures fails { IfErr result (λ fail. IsFailure (turn_after lim callers.old progress.old (segment p.now frame progress.old.cells)) fail) }
+    ensures fails { IfErr result (λ fail.
+        IsFailure (turn_after lim callers.old progress.old (segment p.now frame progress.old.cells)) fail) }
 {
     let mut frame = frame;
     let stop = run_segment_over_list(alloc, p, &mut frame, &mut progress.cells)?;
@@ -57,7 +58,8 @@ fn follow(
     progress: &mut Progress,
 ) -> Result<Turn, ElideFail>
     requires { HasRoomToSpawn stop frame }
-    ensures goes { IfOk result (λ turn. IsTurn (turn_at_stop lim callers.old frame stop progress.old) turn callers.new progress.new) }
+    ensures goes { IfOk result (λ turn.
+        IsTurn (turn_at_stop lim callers.old frame stop progress.old) turn callers.new progress.new) }
     ensures fails { IfErr result (λ fail. IsFailure (turn_at_stop lim callers.old frame stop progress.old) fail) }
 {
     match stop {
@@ -76,16 +78,6 @@ fn follow(
             Ok(return_to(callers, value))
         }
         Stop::Fault { kind, place } => Err(ElideFail::Fault { kind, place }),
-    }
-}
-
-/// Lets a future stand for a task, if the frame has that future.
-fn set_future(futures: &mut List<Option<u32>>, future: u32, task: u32)
-    ensures { futures.new ≡ slice_set futures.old future (Some task) }
-{
-    let at = future as usize;
-    if at < futures.len() {
-        futures.set(at, Some(task));
     }
 }
 
@@ -119,7 +111,8 @@ fn spawn(
     progress: &mut Progress,
 ) -> Result<Turn, ElideFail>
     requires { 0 < frame.out.room }
-    ensures goes { IfOk result (λ turn. IsTurn (turn_at_spawn lim callers.old frame child future place progress.old) turn callers.new progress.new) }
+    ensures goes { IfOk result (λ turn.
+        IsTurn (turn_at_spawn lim callers.old frame child future place progress.old) turn callers.new progress.new) }
     ensures fails { IfErr result (λ fail. IsFailure (turn_at_spawn lim callers.old frame child future place progress.old) fail) }
 {
     let tasks = progress.values.len();
@@ -146,7 +139,8 @@ fn has_child(children: &[u32], task: u32) -> bool
 
 /// Joins a child, whose kept value the frame takes.
 fn join(frame: Frame, on: u32, progress: &Progress) -> Result<Turn, ElideFail>
-    ensures goes { IfOk result (λ turn. (callers : List Frame) → IsTurn (turn_at_join callers frame on progress.now) turn callers progress.now) }
+    ensures goes { IfOk result (λ turn.
+        (callers : List Frame) → IsTurn (turn_at_join callers frame on progress.now) turn callers progress.now) }
     ensures fails { IfErr result (λ fail. (callers : List Frame) → IsFailure (turn_at_join callers frame on progress.now) fail) }
 {
     if !has_child(frame.out.as_slice(), on) {

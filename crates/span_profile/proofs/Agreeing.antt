@@ -3,7 +3,7 @@ use Rattle.std.proofs.Common.{◌≡◌, ℕ, zero, suc, List, [], ◌∷◌, le
 use Rattle.std.specs.Prelude.{slice_get, sum_by}
 use Rattle.std.specs.List.{AllZip}
 use Rattle.std.proofs.lemmas.List.Sums.{sum_by-cons}
-use Rattle.heaviest_chain.specs.Chains.{IsChain, IsHeaviest, Leads, chain_weight, weight_at, weight_of_found}
+use Rattle.span_profile.specs.heaviest_chain.Chains.{IsChain, IsHeaviest, Leads, chain_weight, weight_at, weight_of_found}
 use Rattle.span_profile.proofs.Lists.{zip_first, zip_length, zip_second}
 
 module _ {X Y : Type 0} (R : X → Y → Type 0) (weight_x : X → ℕ) (weight_y : Y → ℕ) (LeadsX : X → X → Type 0) (LeadsY : Y → Y → Type 0)

@@ -4,15 +4,15 @@ use Rattle.std.specs.Prelude.{slice_get, slice_set, sum_by, if◌then◌else◌}
 use Rattle.std.proofs.Math.Nat.{mul-le-mul_left}
 use Rattle.std.proofs.lemmas.Bool.{ltb-true}
 use Rattle.std.proofs.lemmas.List.Sums.{sum_by-cons}
-use Rattle.twe_io.specs.declared.place.Place.{Place}
+use Rattle.twe_base.specs.declared.place.Place.{Place}
 use Rattle.effect_sets.specs.declared.effects.Summary.{Summary}
 use Rattle.seg_journal.specs.declared.journal.End.{End}
 use Rattle.seg_journal.specs.declared.journal.End.TheVariants as ends
 use Rattle.seg_journal.specs.declared.journal.Entry.{Entry}
 use Rattle.seg_journal.specs.declared.moves.Kind.{Kind}
 use Rattle.seg_journal.specs.declared.moves.Kind.TheVariants.{Admit, Run}
-use Rattle.twe_limits.specs.declared.fault.FaultKind.TheVariants.{TaskLimit}
-use Rattle.twe_limits.specs.Limits.{Bounds, IsWithin}
+use Rattle.twe_base.specs.declared.fault.FaultKind.TheVariants.{TaskLimit}
+use Rattle.twe_base.specs.Limits.{Bounds, IsWithin}
 use Rattle.twe_program.specs.Program.{Program}
 use Rattle.twe_program.specs.WellFormed.{IsWellFormed}
 use Rattle.wait_graph.specs.Link.{link_of}
@@ -23,18 +23,18 @@ use Rattle.seg_exec.specs.declared.stop.Stop.{Stop}
 use Rattle.seg_exec.specs.declared.stop.Stop.TheVariants as stops
 use Rattle.seg_exec.specs.Giving.{given_by}
 use Rattle.seg_exec.specs.Segment.{segment}
-use Rattle.segment_laws.proofs.SegmentKept.{segment_keeps}
+use Rattle.twe_machine.proofs.segment_laws.SegmentKept.{segment_keeps}
 use Rattle.twe_machine.specs.declared.state.State.{State}
 use Rattle.twe_machine.specs.declared.state.TaskRow.{TaskRow}
 use Rattle.twe_machine.specs.Legal.{MayTake}
 use Rattle.twe_machine.specs.Moves.{admitted_row, awaited_value, done_row, faulted_row, going_row, joined_child, joined_row, joined_rows, making_frame, new_row, parent_of, ready_frame, result_by_kind, start_of, state_after_asking, state_after_fault, state_after_join, state_after_make, stop_result, stopped_frame}
-use Rattle.twe_machine.specs.Rows.{awaited}
+use Rattle.twe_machine.specs.Rows.{row_awaited}
 use Rattle.twe_machine.specs.Runs.{Legal, LegalFrom, replayed}
-use Rattle.twe_machine.proofs.AllJournals.{journal_length}
-use Rattle.twe_machine.proofs.JoinedWeight.{asked_joined, length_joined}
-use Rattle.twe_machine.proofs.ReachedStands.{start_stands, taken_stands}
-use Rattle.twe_machine.proofs.RowNumbers.{joined_there}
-use Rattle.twe_machine.proofs.Standing.{Stands}
+use Rattle.twe_machine.proofs.counts.AllJournals.{journal_length}
+use Rattle.twe_machine.proofs.weight.JoinedWeight.{asked_joined, length_joined}
+use Rattle.twe_machine.proofs.standing.ReachedStands.{start_stands, taken_stands}
+use Rattle.twe_machine.proofs.lists.RowNumbers.{joined_there}
+use Rattle.twe_machine.proofs.standing.Standing.{Stands}
 use Rattle.span_profile.specs.Strands.{strand_by_kind, strand_of, strands, strands_from, weight_of}
 
 -- the fuel that a task has left, that of all tasks, and that of those that may still be made
@@ -134,7 +134,7 @@ given_fuel_by (Closing on) frame value = refl
 given_fuel_by Ended frame value = refl
 
 pub ready_fuel : (rows : List TaskRow) (frame : Frame) → (ready_frame rows frame).fuel ≡ frame.fuel
-ready_fuel rows frame = given_fuel_by frame.next frame (awaited_value rows (awaited frame.next))
+ready_fuel rows frame = given_fuel_by frame.next frame (awaited_value rows (row_awaited frame.next))
 
 module _ (p : Program) (lim : Bounds) where
   -- an entry weighs 1 more than the fuel that it takes

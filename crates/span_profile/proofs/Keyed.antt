@@ -3,10 +3,10 @@ use Rattle.std.proofs.Common.{◌≡◌, ◌<◌, ◌⊎◌, inl, inr, ℕ, ℤ,
 use Rattle.std.specs.Prelude.{◌||◌, IsTrue}
 use Rattle.std.specs.List.{Contains}
 use Rattle.std.proofs.lemmas.List.Elements.{Contains-append_cases, Contains-append_left, Contains-append_right}
-use Rattle.effect_sets.specs.Access.{Access as PathAccess}
-use Rattle.heaviest_chain.specs.Nodes.{Node, SharesKey}
-use Rattle.heaviest_chain.specs.declared.key.Key.{Key}
-use Rattle.heaviest_chain.specs.declared.key.Key.TheVariants.{Task, Value, Write, Access}
+use Rattle.effect_sets.specs.Access.{PathAccess as PathAccess}
+use Rattle.span_profile.specs.heaviest_chain.Nodes.{Node, SharesKey}
+use Rattle.span_profile.specs.declared.heaviest_chain.key.Key.{Key}
+use Rattle.span_profile.specs.declared.heaviest_chain.key.Key.TheVariants.{Task, Value, Write, Access}
 use Rattle.prefix_tree.specs.declared.part.Part.{Part}
 use Rattle.prefix_tree.specs.declared.part.Part.TheVariants.{Name, Index}
 use Rattle.region_paths.specs.Concrete.{ConcreteElem, ConcretePath, region, number}
@@ -14,7 +14,7 @@ use Rattle.seg_exec.specs.Access.{Access as CellAccess, Reads, Writes, Prints, M
 use Rattle.seg_exec.specs.Plain.{list_ways}
 use Rattle.seg_journal.specs.declared.journal.End.{End}
 use Rattle.seg_journal.specs.declared.journal.End.TheVariants as ends
-use Rattle.soundness_laws.specs.DeclaredNow.{access_of}
+use Rattle.isolation_laws.specs.soundness.DeclaredNow.{access_of}
 use Rattle.twe_program.specs.Program.{Program, cell_count}
 use Rattle.twe_machine.specs.Runs.{is_done}
 use Rattle.span_profile.specs.declared.deed.Deed.{Deed}

@@ -5,6 +5,7 @@ pub mod Keyed
 pub mod Lists
 pub mod NumberSets
 pub mod Numbers
+pub mod OneProfile
 pub mod Ran
 pub mod Watching
 pub mod Tracking

@@ -10,7 +10,7 @@ use Rattle.region_paths.specs.Concrete.{ConcretePath}
 use Rattle.twe_program.specs.declared.program.CellDecl.{CellDecl}
 use Rattle.twe_program.specs.Numbering.{CellsCountUp}
 use Rattle.twe_program.specs.Program.{cells_made, size_of}
-use Rattle.soundness_laws.specs.CellPaths.{concrete, indexes_at, path_among, path_within}
+use Rattle.isolation_laws.specs.soundness.CellPaths.{concrete, indexes_at, path_among, path_within}
 use Rattle.span_profile.specs.inner.Numbering.{AreNumbered, IsNumber, KeepsNumbers, Numbered, decl_parts, decl_paths, number_found, part_of, parts_at, parts_of}
 use Rattle.span_profile.proofs.Lists.{zip_push, zip_second}
 

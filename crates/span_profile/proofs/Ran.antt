@@ -14,7 +14,7 @@ use Rattle.twe_machine.specs.declared.state.State.{State}
 use Rattle.twe_machine.specs.declared.state.TaskRow.{TaskRow}
 use Rattle.twe_machine.specs.Changes.{next_segment}
 use Rattle.twe_machine.specs.Moves.{awaited_value, ready_frame}
-use Rattle.twe_machine.specs.Rows.{awaited}
+use Rattle.twe_machine.specs.Rows.{row_awaited}
 use Rattle.span_profile.specs.declared.deed.Deed.{Deed}
 use Rattle.span_profile.specs.declared.watched.Watched.{Watched}
 use Rattle.span_profile.specs.inner.Deeds.{HasDone, has_print}
@@ -47,7 +47,7 @@ ready_prints_by (Closing on) frame value = refl
 ready_prints_by Ended frame value = refl
 
 ready_prints : (rows : List TaskRow) (frame : Frame) → (ready_frame rows frame).prints ≡ frame.prints
-ready_prints rows frame = ready_prints_by frame.next frame (awaited_value rows (awaited frame.next))
+ready_prints rows frame = ready_prints_by frame.next frame (awaited_value rows (row_awaited frame.next))
 
 -- the segment over the cells of the state, whose values were lent
 pub lent : (p : Program) (frame after : Frame) (cells values : List ℤ) (reads writes : NumberSet) (new : Watched) (stop : Stop) → values ≡ cells
@@ -65,7 +65,7 @@ segment_lent p frame after cells new_cells reads writes new stop back w = subst 
 pub has_done : (p : Program) (st : State) (t : ℕ) (row : TaskRow) (deed : Deed) (frame after : Frame) (reads writes : NumberSet) (new watched : Watched) (stop : Stop) → row.frame.prints ≡ []
     → frame ≡ ready_frame st.tasks row.frame → IsWatched p frame (record { values = st.cells; reads = reads; writes = writes }) stop after new
     → reads ≡ no_cells (cell_count p) → writes ≡ no_cells (cell_count p) → watched.reads ≡ new.reads → watched.writes ≡ new.writes
-    → deed.task ≡ t → deed.weight ≡ 1 + (frame.fuel - after.fuel) → deed.taken ≡ awaited row.frame.next → deed.printed ≡ nat_lt (length frame.prints) (length after.prints)
+    → deed.task ≡ t → deed.weight ≡ 1 + (frame.fuel - after.fuel) → deed.taken ≡ row_awaited row.frame.next → deed.printed ≡ nat_lt (length frame.prints) (length after.prints)
     → HasDone p st t row deed watched
 has_done p st t row deed frame after reads writes new watched stop silent taken w no_reads no_writes same_reads same_writes task weight value print =
     let now : segment p frame st.cells ≡ next_segment p st row = ap (λ (f : Frame). segment p f st.cells) taken in

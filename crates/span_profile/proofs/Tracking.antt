@@ -3,23 +3,23 @@ use Rattle.std.proofs.Common.{◌≡◌, ◌<◌, ◌++◌, ℕ, Bool, true, fal
 use Rattle.std.specs.Prelude.{◌||◌, slice_get, sum_by}
 use Rattle.std.specs.List.{AllZip}
 use Rattle.std.proofs.lemmas.List.Sums.{sum_by_push}
-use Rattle.heaviest_chain.specs.Built.{HasRoom, Holds}
-use Rattle.heaviest_chain.specs.Chains.{IsHeaviest}
-use Rattle.heaviest_chain.specs.Nodes.{Node, SharesKey}
-use Rattle.heaviest_chain.specs.Nodes as chain_nodes
-use Rattle.heaviest_chain.specs.declared.chains.Chains.{Chains}
+use Rattle.span_profile.specs.heaviest_chain.Built.{HasRoom, FrontHolds}
+use Rattle.span_profile.specs.heaviest_chain.Chains.{IsHeaviest}
+use Rattle.span_profile.specs.heaviest_chain.Nodes.{Node, SharesKey}
+use Rattle.span_profile.specs.heaviest_chain.Nodes as chain_nodes
+use Rattle.span_profile.specs.declared.heaviest_chain.chains.Chains.{Chains}
 use Rattle.region_paths.specs.Concrete.{region}
 use Rattle.seg_journal.specs.declared.journal.End.{End}
 use Rattle.seg_journal.specs.declared.journal.Entry.{Entry}
 use Rattle.seg_journal.specs.declared.moves.Kind.{Kind}
 use Rattle.seg_journal.specs.declared.moves.Kind.TheVariants.{Admit, Run}
 use Rattle.seg_journal.specs.declared.moves.Move.{Move}
-use Rattle.twe_limits.specs.Limits.{Bounds, IsWithin}
+use Rattle.twe_base.specs.Limits.{Bounds, IsWithin}
 use Rattle.twe_program.specs.Program.{Program, cell_count}
 use Rattle.twe_program.specs.WellFormed.{IsWellFormed}
 use Rattle.seg_exec.specs.Access.{Access, Reads, Writes, Prints}
 use Rattle.seg_exec.proofs.Accesses.{may_carry_out}
-use Rattle.soundness_laws.specs.CellPaths.{path_of_cell}
+use Rattle.isolation_laws.specs.soundness.CellPaths.{path_of_cell}
 use Rattle.twe_machine.specs.declared.state.State.{State}
 use Rattle.twe_machine.specs.declared.state.TaskRow.{TaskRow}
 use Rattle.twe_machine.specs.Changes.{next_segment}
@@ -28,8 +28,8 @@ use Rattle.twe_machine.specs.Listings.{IsListing}
 use Rattle.twe_machine.specs.Moves.{move_result, ready_frame, start_of}
 use Rattle.twe_machine.specs.Rows.{IsRow}
 use Rattle.twe_machine.specs.Runs.{IsRun, Legal, counted, entry_of, is_done, is_fault}
-use Rattle.twe_machine.proofs.ReachedStands.{reached_stands, start_stands}
-use Rattle.twe_machine.proofs.Replayed.{run_more}
+use Rattle.twe_machine.proofs.standing.ReachedStands.{reached_stands, start_stands}
+use Rattle.twe_machine.proofs.replays.Replayed.{run_more}
 use Rattle.span_profile.specs.declared.deed.Deed.{Deed}
 use Rattle.span_profile.specs.declared.places.Places.{Places}
 use Rattle.span_profile.specs.declared.profiling.Tracked.{Tracked}
@@ -120,7 +120,7 @@ noted p st Run t row there deed watched did =
 
 -- The start of a run.
 pub tracked_start : (p : Program) (lim : Bounds) (next : Tracked) → next.st ≡ start_of p lim → next.journal ≡ [] → next.over ≡ false → ArePlaces p next.places
-    → next.watched.reads ≡ no_cells (cell_count p) → next.watched.writes ≡ no_cells (cell_count p) → Holds [] next.chains
+    → next.watched.reads ≡ no_cells (cell_count p) → next.watched.writes ≡ no_cells (cell_count p) → FrontHolds [] next.chains
     → IsListing (start_of p lim) next.enabled → IsTracked p lim next
 tracked_start p lim next st_is journal_is over places reads writes holds listing = record {
   is_run = subst (λ (j : List Entry). IsRun p lim j next.st) (sym journal_is) (record { legal = tt; same = st_is });
@@ -200,7 +200,7 @@ module _ (p : Program) (lim : Bounds) (well : IsWellFormed p) (within : IsWithin
 
   -- so the run is tracked on
   module _ (chains : Chains) (ended : Bool) (over : ended ≡ (run.over || is_fault deed.end)) (kept : run.over ≡ true → chains ≡ run.chains)
-      (added : run.over ≡ false → Holds (t.nodes ++ node_of run.places deed watched ∷ []) chains) (next : Tracked)
+      (added : run.over ≡ false → FrontHolds (t.nodes ++ node_of run.places deed watched ∷ []) chains) (next : Tracked)
       (st_is : next.st ≡ after) (journal_is : next.journal ≡ all) (over_is : next.over ≡ ended) (places_are : next.places ≡ run.places) (reads : next.watched.reads ≡ no_cells (cell_count p))
       (writes : next.watched.writes ≡ no_cells (cell_count p)) (chains_are : next.chains ≡ chains) (listing : IsListing next.st next.enabled) where
     places_next : ArePlaces p next.places
@@ -210,7 +210,7 @@ module _ (p : Program) (lim : Bounds) (well : IsWellFormed p) (within : IsWithin
     over_next =
         over_is ∙ (over ∙ (ap (λ (b : Bool). b || is_fault deed.end) t.over ∙ (sym (has_fault_more run.journal entry) ∙ ap has_fault (sym journal_is))))
 
-    tracked_with : (nodes : List Node) → Holds nodes chains → AllZip (Shows t.places.nodes) nodes (strands p lim (counted all)) → IsTracked p lim next
+    tracked_with : (nodes : List Node) → FrontHolds nodes chains → AllZip (Shows t.places.nodes) nodes (strands p lim (counted all)) → IsTracked p lim next
     tracked_with nodes holds show = record {
       is_run = subst (λ (j : List Entry). IsRun p lim j next.st) (sym journal_is) (subst (IsRun p lim all) (sym st_is) runs_on);
       listing = listing;
@@ -219,7 +219,7 @@ module _ (p : Program) (lim : Bounds) (well : IsWellFormed p) (within : IsWithin
       reads = reads;
       writes = writes;
       nodes = nodes;
-      holds = subst (Holds nodes) (sym chains_are) holds;
+      holds = subst (FrontHolds nodes) (sym chains_are) holds;
       shows = subst (λ (j : List Entry). AllZip (Shows t.places.nodes) nodes (strands p lim (counted j))) (sym journal_is) show;
     } where
       places_cell : (cell : ℕ) → cell < cell_count p → IsNumber t.places.nodes (place_of next.places cell) (parts_of (path_of_cell p cell))
@@ -231,7 +231,7 @@ module _ (p : Program) (lim : Bounds) (well : IsWellFormed p) (within : IsWithin
     tracked_by : (b : Bool) → run.over ≡ b → IsTracked p lim next
     tracked_by true e =
         let faulty : has_fault run.journal ≡ true = sym t.over ∙ e in
-        tracked_with t.nodes (subst (Holds t.nodes) (sym (kept e)) t.holds)
+        tracked_with t.nodes (subst (FrontHolds t.nodes) (sym (kept e)) t.holds)
         (subst (AllZip (Shows t.places.nodes) t.nodes) (ap (strands p lim) (sym (counted_stays run.journal entry faulty))) t.shows)
     tracked_by false e = tracked_with (t.nodes ++ node_of run.places deed watched ∷ []) (added e) (shows_more e)
 

@@ -2,3 +2,4 @@ pub mod LeadsTo
 pub mod Profiles
 pub mod Strands
 pub mod inner
+pub mod heaviest_chain

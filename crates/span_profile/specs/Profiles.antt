@@ -3,16 +3,17 @@ use Rattle.std.specs.Prelude.{◌≡◌, ℕ, List, map}
 use Rattle.seg_journal.specs.declared.journal.Entry.{Entry}
 use Rattle.seg_journal.specs.declared.moves.Move.{Move}
 use Rattle.seg_journal.specs.Spelling.{move_of}
-use Rattle.twe_limits.specs.Limits.{Bounds}
+use Rattle.twe_base.specs.Limits.{Bounds}
 use Rattle.twe_program.specs.Program.{Program}
 use Rattle.twe_machine.specs.Runs.{Legal, counted}
-use Rattle.heaviest_chain.specs.Chains.{IsHeaviest}
+use Rattle.span_profile.specs.heaviest_chain.Chains.{IsHeaviest}
 use Rattle.span_profile.specs.LeadsTo.{LeadsTo}
 use Rattle.span_profile.specs.Strands.{strands, weight_of}
 
 -- The moves are those of a legal journal. Of the entries of its counted part the work is the sum of all weights. The chain
 -- is one of entries each of which leads to the next, it weighs the span, and no chain is heavier. Of the heaviest chains it
--- is the one whose last entry is the lowest, then whose last but one is the lowest, and so on.
+-- is the one whose last entry is the lowest, then whose last but one is the lowest, and so on. Another journal of the same
+-- program can have another span.
 pub record IsProfile (p : Program) (lim : Bounds) (moves : List Move) (work span : ℕ) (chain : List ℕ) : Type 0 where
   pub journal : List Entry
   pub legal : Legal p lim journal

@@ -1,20 +1,20 @@
 -- What each entry of a journal did, as far as the order of entries depends on it.
 use Rattle.std.specs.Prelude.{◌+◌, ◌-◌, ℕ, Bool, false, List, [], ◌∷◌, map, Option, None, Some, slice_get}
-use Rattle.effect_sets.specs.Access.{Access}
+use Rattle.effect_sets.specs.Access.{PathAccess}
 use Rattle.seg_journal.specs.declared.journal.End.{End}
 use Rattle.seg_journal.specs.declared.journal.End.TheVariants as ends
 use Rattle.seg_journal.specs.declared.journal.Entry.{Entry}
 use Rattle.seg_journal.specs.declared.moves.Kind.{Kind}
 use Rattle.seg_journal.specs.declared.moves.Kind.TheVariants.{Admit, Run}
-use Rattle.twe_limits.specs.Limits.{Bounds}
+use Rattle.twe_base.specs.Limits.{Bounds}
 use Rattle.twe_program.specs.Program.{Program}
 use Rattle.seg_exec.specs.Segment.{Stopped}
-use Rattle.soundness_laws.specs.DeclaredNow.{access_of}
+use Rattle.isolation_laws.specs.soundness.DeclaredNow.{access_of}
 use Rattle.twe_machine.specs.declared.state.State.{State}
 use Rattle.twe_machine.specs.declared.state.TaskRow.{TaskRow}
 use Rattle.twe_machine.specs.Changes.{next_segment}
 use Rattle.twe_machine.specs.Moves.{move_result, start_of}
-use Rattle.twe_machine.specs.Rows.{awaited}
+use Rattle.twe_machine.specs.Rows.{row_awaited}
 use Rattle.twe_machine.specs.Runs.{is_done}
 
 -- What an entry did: its task, its weight, the task that it made, the task whose value it took first, whether its task is
@@ -25,11 +25,13 @@ pub record Strand : Type 0 where
   pub made : Option ℕ
   pub taken : Option ℕ
   pub done : Bool
-  pub accesses : List Access
+  pub accesses : List PathAccess
 
+-- the weight of an entry
 abbrev pub weight_of : Strand → ℕ
 weight_of strand = strand.weight
 
+-- the task that an entry with this end has made, if it has made one
 abbrev pub made_task : End → Option ℕ
 made_task (ends.Made child) = Some child
 made_task _ = None
@@ -44,11 +46,12 @@ segment_strand p task row left end = record {
   task = task;
   weight = 1 + (row.frame.fuel - left.frame.fuel);
   made = made_task end;
-  taken = awaited row.frame.next;
+  taken = row_awaited row.frame.next;
   done = is_done end;
   accesses = map (access_of p) left.accesses;
 }
 
+-- what an entry did, by the kind of its move and the row of its task
 abbrev pub strand_by_kind : Program → State → Kind → ℕ → Option TaskRow → End → Strand
 strand_by_kind p st Admit task found end = admission task
 strand_by_kind p st Run task None end = admission task
@@ -58,6 +61,7 @@ strand_by_kind p st Run task (Some row) end = segment_strand p task row (next_se
 abbrev pub strand_of : Program → State → Entry → Strand
 strand_of p st entry = strand_by_kind p st entry.mv.kind entry.mv.task (slice_get st.tasks entry.mv.task) entry.end
 
+-- what these entries did, one after another, from this state on
 abbrev pub strands_from : Program → Bounds → State → List Entry → List Strand
 strands_from p lim st [] = []
 strands_from p lim st (entry ∷ entries) = strand_of p st entry ∷ strands_from p lim (move_result p lim st entry.mv).0 entries

@@ -4,7 +4,7 @@ ghost use Rattle.span_profile.specs.inner.Sets.{has_found, is_in, no_cells, with
 
 use std::alloc::Global;
 use std::marker::Model;
-use twe_io::{List, Memory};
+use twe_base::{List, Memory};
 
 /// Cells below a number, each at most once, in the order in which they were added.
 #[derive(Debug, Drop)]

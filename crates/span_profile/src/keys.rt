@@ -3,11 +3,11 @@ ghost use Rattle.std.specs.Prelude.{◌≡◌, ◌++◌, IfOk, OnOk};
 ghost use Rattle.span_profile.specs.inner.Deeds.{access_keys, asked, end_keys, given, value_keys, write_keys};
 
 use crate::deed::Deed;
+use crate::heaviest_chain::Key;
 use crate::places::Places;
-use heaviest_chain::Key;
 use seg_journal::End;
 use std::alloc::Global;
-use twe_io::{List, Memory};
+use twe_base::{List, Memory};
 
 /// Keys in order.
 pub(crate) type Keys = List<Key>;

@@ -6,12 +6,15 @@
 
 mod cell_set;
 mod deed;
+pub mod heaviest_chain;
 mod keys;
+mod laws;
 mod places;
 mod profiling;
 mod running;
 mod watched;
 
-pub use heaviest_chain::Heaviest as Profile;
+pub use crate::heaviest_chain::Heaviest as Profile;
+pub use laws::one_profile;
 pub use profiling::profile;
 pub use twe_machine::ReplayFail as ProfileFail;

@@ -2,13 +2,13 @@
 ghost use Rattle.std.specs.Prelude.{◌≡◌, ◌<◌, ◌++◌, ◌^◌, ℕ, map, length, IfOk, OnOk, Some, slice_get};
 ghost use Rattle.prefix_tree.specs.Nodes.{path_of};
 ghost use Rattle.twe_program.specs.Program.{size_of};
-ghost use Rattle.soundness_laws.specs.CellPaths.{concrete};
+ghost use Rattle.isolation_laws.specs.soundness.CellPaths.{concrete};
 ghost use Rattle.span_profile.specs.inner.Numbering.{AreNumbered, ArePlaces, IsNumber, KeepsNumbers, decl_paths, part_of, parts_at, place_of};
 
 use prefix_tree::{Part, PrefixTree};
 use region_paths::Elem;
 use std::alloc::Global;
-use twe_io::{List, Memory};
+use twe_base::{List, Memory};
 use twe_program::{CellDecl, Dims, Prog};
 
 /// For each cell the number of its concrete path, and the number of the path of `Console`.
@@ -83,7 +83,8 @@ fn add_cells(
 ) -> Result<(), Memory>
     requires { size_of decl.now.dims < 2 ^ 63 }
     ensures keeps { OnOk result (KeepsNumbers tree.old tree.new) }
-    ensures numbers { OnOk result (AreNumbered tree.old numbers.old tree.new numbers.new (decl_paths decl.now (size_of decl.now.dims))) }
+    ensures numbers { OnOk result (AreNumbered tree.old numbers.old tree.new numbers.new
+        (decl_paths decl.now (size_of decl.now.dims))) }
 {
     let path = parts(alloc, decl.path.elems().as_slice())?;
     let base = tree.add_path(path.as_slice())?;

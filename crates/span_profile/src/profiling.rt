@@ -9,22 +9,22 @@ ghost use Rattle.twe_machine.specs.Replays.{IsFirstIllegal};
 ghost use Rattle.twe_machine.specs.Runs.{IsReached, is_fault};
 ghost use Rattle.twe_program.specs.Program.{cell_count};
 ghost use Rattle.span_profile.specs.Profiles.{IsProfile};
-ghost use Rattle.heaviest_chain.specs.Built.{HasRoom, Holds};
-ghost use Rattle.heaviest_chain.specs.Nodes.{Nodes};
+ghost use Rattle.span_profile.specs.heaviest_chain.Built.{HasRoom, FrontHolds};
+ghost use Rattle.span_profile.specs.heaviest_chain.Nodes.{Nodes};
 ghost use Rattle.span_profile.specs.inner.Deeds.{DidMove, node_of};
 ghost use Rattle.span_profile.specs.inner.Sets.{no_cells};
 ghost use Rattle.span_profile.specs.inner.Tracked.{IsTracked};
 
 use crate::cell_set::CellSet;
 use crate::deed::{Deed, admission};
+use crate::heaviest_chain::{Chains, Heaviest};
 use crate::keys::{asked, given};
 use crate::places::{Places, number_places};
 use crate::running::run;
 use crate::watched::Watched;
-use heaviest_chain::{Chains, Heaviest};
 use seg_journal::{End, Entry, Journal, Kind, Limits, Move};
 use std::alloc::Global;
-use twe_io::{Ints, Memory};
+use twe_base::{Ints, Memory};
 use twe_machine::{EnabledTasks, ReplayFail, State, start, step};
 use twe_program::Prog;
 
@@ -116,8 +116,8 @@ fn add_entry(
 ) -> Result<(), Memory>
     requires some { 0 < deed.now.weight }
     requires room { HasRoom chains.old deed.now.weight }
-    ensures { (nodes : Nodes) → Holds nodes chains.old
-        → OnOk result (Holds (nodes ++ node_of places.now deed.now watched.now ∷ []) chains.new) }
+    ensures { (nodes : Nodes) → FrontHolds nodes chains.old
+        → OnOk result (FrontHolds (nodes ++ node_of places.now deed.now watched.now ∷ []) chains.new) }
 {
     let reads = watched.reads.as_slice();
     let writes = watched.writes.as_slice();
@@ -139,8 +139,8 @@ fn count_entry(
     requires room { over ≡ false → HasRoom chains.old deed.now.weight }
     ensures over { IfOk result (λ ended. ended ≡ (over || is_fault deed.now.end)) }
     ensures kept { OnOk result (over ≡ true → chains.new ≡ chains.old) }
-    ensures added { (nodes : Nodes) → Holds nodes chains.old
-        → OnOk result (over ≡ false → Holds (nodes ++ node_of places.now deed.now watched.now ∷ []) chains.new) }
+    ensures added { (nodes : Nodes) → FrontHolds nodes chains.old
+        → OnOk result (over ≡ false → FrontHolds (nodes ++ node_of places.now deed.now watched.now ∷ []) chains.new) }
 {
     if over {
         return Ok(true);

@@ -3,7 +3,7 @@ ghost use Rattle.std.specs.Prelude.{◌≡◌, ◌<◌, ◌^◌, [], length, IfO
 ghost use Rattle.twe_program.specs.Program.{cell_count};
 ghost use Rattle.twe_machine.specs.declared.state.TaskRow.{TaskRow};
 ghost use Rattle.twe_machine.specs.Moves.{ran};
-ghost use Rattle.twe_machine.specs.Rows.{IsRow, awaited};
+ghost use Rattle.twe_machine.specs.Rows.{IsRow, row_awaited};
 ghost use Rattle.twe_machine.specs.inner.Settling.{SettlesAfter};
 ghost use Rattle.span_profile.specs.inner.Deeds.{HasDone};
 ghost use Rattle.span_profile.specs.inner.Sets.{no_cells};
@@ -14,13 +14,13 @@ use seg_exec::run_segment;
 use seg_journal::Limits;
 use std::alloc::Global;
 use std::mem;
-use twe_io::Memory;
+use twe_base::Memory;
 use twe_machine::{State, awaited, settle, take_ready};
 use twe_program::Prog;
 
 /// The task whose value the next segment of a task takes, if it takes one.
 fn taken_by(st: &State, t: u32) -> Option<u32>
-    ensures { (row : TaskRow) → IsRow st.now t row → result ≡ awaited row.frame.next }
+    ensures { (row : TaskRow) → IsRow st.now t row → result ≡ row_awaited row.frame.next }
 {
     match st.tasks.get(t as usize) {
         None => None,

@@ -3,7 +3,7 @@ ghost use Rattle.span_profile.specs.inner.Watch.{MayTouch, WatchFollows, watch_k
 
 use crate::cell_set::CellSet;
 use seg_exec::Cells;
-use twe_io::Ints;
+use twe_base::Ints;
 
 /// The values of the cells, with the cells that were read and those that were written.
 #[derive(Debug, Drop)]

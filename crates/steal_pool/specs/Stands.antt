@@ -44,13 +44,14 @@ pub record Stands (numbers : List ℕ) (passes : List Hand) : Type 0 where
   pub each : (pass : ℕ) (known : Hand) → slice_get passes pass ≡ Some known → Knows owner gone pass known
   pub no_others : (pass : ℕ) → length passes ≤ pass → taken_by pass gone ≡ []
   -- each number was pushed as often as it occurs in the deck and in the lists of numbers taken, together
-  pub each_once : (number : ℕ) → times number owner.pushed ≡ times number numbers + sum_by (λ known. times number known.took) passes
+  pub each_once : (number : ℕ)
+      → times number owner.pushed ≡ times number numbers + sum_by (λ known. times number known.took) passes
   -- every number that was ever in the deck is below the bound
   pub below : All (λ number. number < owner.bound) owner.pushed
 
 -- One step of a pass that knew `old` before it and knows `new` after it. The deck held `before` and then holds `after`,
 -- and the invariant holds both times. What the other passes know does not change.
-pub record Steps (before after : List ℕ) (old new : Hand) : Type 0 where
+pub record DeckSteps (before after : List ℕ) (old new : Hand) : Type 0 where
   pub passes : List Hand
   pub pass : ℕ
   pub mine : slice_get passes pass ≡ Some old
@@ -59,11 +60,11 @@ pub record Steps (before after : List ℕ) (old new : Hand) : Type 0 where
 
 -- in one step these numbers joined the deck at the back, and the pass records them
 abbrev pub Joins : Hand → List ℕ → Hand → Type 0
-Joins old numbers new = (new ≡ pushing old numbers) × ((held : List ℕ) × Steps held (held ++ numbers) old new)
+Joins old numbers new = (new ≡ pushing old numbers) × ((held : List ℕ) × DeckSteps held (held ++ numbers) old new)
 
 -- in one step these numbers were the first of the deck and left it, and the pass records them
 abbrev pub Leaves : Hand → List ℕ → Hand → Type 0
-Leaves old numbers new = (new ≡ taking old numbers) × ((held : List ℕ) × Steps (numbers ++ held) held old new)
+Leaves old numbers new = (new ≡ taking old numbers) × ((held : List ℕ) × DeckSteps (numbers ++ held) held old new)
 
 -- What a pass knows does not rule out that its deck is empty: there are passes, one of which knows this, for which the
 -- invariant holds of the empty deck.

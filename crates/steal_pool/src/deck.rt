@@ -9,7 +9,7 @@ use crate::other::Other;
 use crate::own::Own;
 use std::marker::Model;
 use std::sync::Wait;
-use twe_io::Memory;
+use twe_base::Memory;
 
 /// One worker's access to all decks: it owns one of them and can steal from the others.
 ///

@@ -7,7 +7,7 @@ use crate::deck::Deck;
 use crate::other::Other;
 use crate::own::Own;
 use std::alloc::Global;
-use twe_io::{List, Memory};
+use twe_base::{List, Memory};
 
 /// The decks of all workers, in the order of the workers' numbers. Each is moved to the thread of its worker.
 pub type Decks = List<Deck>;

@@ -9,7 +9,7 @@ use crate::other::Other;
 use crossbeam_deque::Worker;
 use std::alloc::Global;
 use std::marker::{Brand, Model};
-use twe_io::Memory;
+use twe_base::Memory;
 
 type Owner = Worker<u32, Global, Hand, Law>;
 
@@ -29,7 +29,8 @@ impl Model for Own {
 
     ghost view = { λ own. record { deck = (worker_deque own.worker).0; hand = worker_view own.worker; spare = own.spare } };
 
-    ghost invariant = { λ own. (worker_flavor own.worker ≡ 0) × (worker_port own.worker ≡ 0) × ((worker_view own.worker).takes ≡ true)
+    ghost invariant = { λ own.
+        (worker_flavor own.worker ≡ 0) × (worker_port own.worker ≡ 0) × ((worker_view own.worker).takes ≡ true)
         × (worker_index own.worker + own.spare ≤ worker_capacity own.worker) };
 }
 

@@ -2,7 +2,7 @@
 use Rattle.std.proofs.Common.{◌≡◌, ◌<◌, ℕ, List, Option, None, Some, true, false, refl, sym, ap, subst, ◌∙◌}
 use Rattle.std.specs.Prelude.{is_some}
 use Rattle.region_paths.specs.declared.elements.Elem.{Elem}
-use Rattle.twe_limits.specs.Limits.{Bounds}
+use Rattle.twe_base.specs.Limits.{Bounds}
 use Rattle.twe_machine.specs.declared.state.TaskRow.{TaskRow}
 use Rattle.twe_machine.specs.declared.state.TaskStatus.TheVariants as status
 use Rattle.twe_machine.specs.Moves.{status_at_start}
@@ -11,13 +11,13 @@ use Rattle.floor_rule.specs.Rows.{slot_of}
 use Rattle.floor_rule.specs.Steps.{first_turn}
 use Rattle.floor_rule.proofs.Puts.{none_some, put_here, some_one}
 use Rattle.floor_table.specs.FloorOf.{turn_in}
-use Rattle.floor_steps.specs.Leaving.{MayLeave}
-use Rattle.node_rule.specs.TurnSteps.{LeavesNone}
-use Rattle.tree_table.specs.declared.view.TreeView.{TreeView}
-use Rattle.tree_table.specs.FloorSeats.{HasTaskSlots, floor_seat, tasks_out}
-use Rattle.tree_table.specs.Seats.{TreeSeat, tree_seen}
-use Rattle.tree_table.specs.TurnSeats.{MayLeaveTask, given_tree_view, gives_first}
-use Rattle.task_floor.specs.Committing.{left_to_place, made_by, spawned_slot, with_first, with_made}
+use Rattle.task_floor.specs.steps.Leaving.{MayLeave}
+use Rattle.floor_rule.specs.nodes.TurnSteps.{LeavesNone}
+use Rattle.floor_table.specs.declared.nodes.view.TreeView.{TreeView}
+use Rattle.floor_table.specs.nodes.FloorSeats.{HasTaskSlots, floor_seat, tasks_out}
+use Rattle.floor_table.specs.nodes.Seats.{TreeSeat, tree_seen}
+use Rattle.floor_table.specs.nodes.TurnSeats.{MayLeaveTask, given_tree_view, gives_first}
+use Rattle.task_floor.specs.Committing.{left_to_place, made_in, spawned_slot, with_first, with_made}
 use Rattle.task_floor.specs.Leaving.{HasLeftTask, MayGiveNew, stored_view}
 use Rattle.task_floor.specs.inner.Bringing.{MayBringBeside}
 
@@ -81,7 +81,7 @@ module _ (nodes : List (List Elem)) (lim : Bounds) (me : TreeSeat) (child : ℕ)
     given_made after left =
         left
         ∙ (ap (λ (m : TreeSeat). (given_tree_view (stored_view m.0 child (first_turn row)) child (first_turn row), drawn.1)) may.is
-        ∙ ap (λ (o : Option ℕ). made_by o drawn child row) (sym no_parent))
+        ∙ ap (λ (o : Option ℕ). made_in o drawn child row) (sym no_parent))
 
     pub none_to_place : None ≡ left_to_place (Some row)
     none_to_place = ap (λ (o : Option ℕ). spawned_slot o row) (sym no_parent)
@@ -92,7 +92,7 @@ module _ (nodes : List (List Elem)) (lim : Bounds) (me : TreeSeat) (child : ℕ)
     the_parent = sym parent_same ∙ some
 
     pub kept_made : me ≡ with_made drawn child (Some row)
-    kept_made = may.is ∙ ap (λ (o : Option ℕ). made_by o drawn child row) (sym the_parent)
+    kept_made = may.is ∙ ap (λ (o : Option ℕ). made_in o drawn child row) (sym the_parent)
 
     pub some_to_place : Some slot ≡ left_to_place (Some row)
     some_to_place = ap Some slot_same ∙ ap (λ (o : Option ℕ). spawned_slot o row) (sym the_parent)

@@ -1,6 +1,6 @@
 -- A segment that is carried out over a stand: what holds of its floor's seat holds of the stand.
 use Rattle.std.proofs.Common.{◌≡◌, ℕ, List, [], ◌∷◌, refl, sym, ap, subst}
-use Rattle.twe_limits.specs.Limits.{Bounds}
+use Rattle.twe_base.specs.Limits.{Bounds}
 use Rattle.twe_program.specs.Program.{Program}
 use Rattle.twe_program.specs.WellFormed.{IsWellFormed}
 use Rattle.seg_exec.specs.declared.frame.Frame.{Frame}
@@ -8,12 +8,12 @@ use Rattle.seg_exec.specs.declared.stop.Stop.{Stop}
 use Rattle.seg_exec.specs.Access.{Access, Reads, Writes, Prints, Follows, MayAll}
 use Rattle.seg_exec.specs.Segment.{CarriesOut, MayCarryOut, segment}
 use Rattle.floor_rule.specs.declared.view.HeldTurn.{HeldTurn}
-use Rattle.floor_steps.specs.Segments.{HasRun, MayRun}
-use Rattle.floor_steps.specs.Segments as floor
-use Rattle.floor_steps.proofs.Carrying.{may_carry, still_there}
-use Rattle.floor_steps.proofs.Carrying as carrying
-use Rattle.floor_steps.proofs.Touching.{stand_ways}
-use Rattle.tree_table.specs.FloorSeats.{HasTaskSlots, floor_seat}
+use Rattle.task_floor.specs.steps.Segments.{HasRunSegment, MayRunSegment}
+use Rattle.task_floor.specs.steps.Segments as floor
+use Rattle.task_floor.proofs.steps.Carrying.{may_carry, still_there}
+use Rattle.task_floor.proofs.steps.Carrying as carrying
+use Rattle.task_floor.proofs.steps.Touching.{stand_ways}
+use Rattle.floor_table.specs.nodes.FloorSeats.{HasTaskSlots, floor_seat}
 use Rattle.task_floor.specs.Segments.{StandFollows}
 use Rattle.task_floor.specs.Stands.{StaysInTree, TreeStand, floor_stand}
 use Rattle.task_floor.proofs.Told.{stays_then}
@@ -27,7 +27,7 @@ may_all p lim stand (Reads cell value ∷ earlier) may = (may.0, may_all p lim s
 may_all p lim stand (Writes cell value ∷ earlier) may = (may.0, may_all p lim stand earlier may.1)
 may_all p lim stand (Prints value ∷ earlier) may = may_all p lim stand earlier may
 
-pub may_carry_tree : (p : Program) (lim : Bounds) → IsWellFormed p → (stand : TreeStand) (t : ℕ) (turn : HeldTurn) (ready : Frame) → MayRun (floor_seat stand.me) t turn ready → MayCarryOut p (tree_ways p lim) ready stand
+pub may_carry_tree : (p : Program) (lim : Bounds) → IsWellFormed p → (stand : TreeStand) (t : ℕ) (turn : HeldTurn) (ready : Frame) → MayRunSegment (floor_seat stand.me) t turn ready → MayCarryOut p (tree_ways p lim) ready stand
 may_carry_tree p lim well stand t turn ready may cells = may_all p lim stand (segment p ready cells).accesses (may_carry p well (floor_stand stand) t turn ready may cells)
 
 -- After it.
@@ -48,7 +48,7 @@ follows_stays lim old (Writes cell value ∷ earlier) new has follows = stays_th
 follows_stays lim old (Prints value ∷ earlier) new has follows = follows_stays lim old earlier new has follows
 
 module _ (p : Program) (lim : Bounds) (old new : TreeStand) (ready frame : Frame) (stop : Stop) (carried : CarriesOut p (StandFollows lim) ready old stop frame new) where
-  pub has_run_tree : (t : ℕ) (turn : HeldTurn) → MayRun (floor_seat old.me) t turn ready → HasRun p (floor_seat old.me) (floor_seat new.me) t turn frame stop
+  pub has_run_tree : (t : ℕ) (turn : HeldTurn) → MayRunSegment (floor_seat old.me) t turn ready → HasRunSegment p (floor_seat old.me) (floor_seat new.me) t turn frame stop
   has_run_tree t turn may =
       carrying.has_run p (floor_stand old) (floor_stand new) t turn ready frame stop may (record { accesses = carried.accesses; follows = follows_floor lim old carried.accesses new carried.follows; means = carried.means })
 

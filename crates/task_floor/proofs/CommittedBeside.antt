@@ -3,8 +3,8 @@ use Rattle.std.proofs.Common.{◌≡◌, ◌≢◌, ◌+◌, ◌++◌, ◌<◌, 
 use Rattle.std.proofs.lemmas.Bool.{cases_eq}
 use Rattle.std.specs.Prelude.{nat_lt}
 use Rattle.std.specs.Option.{ForSome}
-use Rattle.twe_limits.specs.declared.fault.FaultKind.TheVariants.{TaskLimit}
-use Rattle.twe_limits.specs.Limits.{Bounds}
+use Rattle.twe_base.specs.declared.fault.FaultKind.TheVariants.{TaskLimit}
+use Rattle.twe_base.specs.Limits.{Bounds}
 use Rattle.seg_journal.specs.declared.journal.End.{End}
 use Rattle.seg_journal.specs.declared.journal.End.TheVariants as ends
 use Rattle.seg_exec.specs.declared.frame.Frame.{Frame}
@@ -12,7 +12,7 @@ use Rattle.seg_exec.specs.declared.stop.Stop.{Stop}
 use Rattle.seg_exec.specs.declared.stop.Stop.TheVariants as stops
 use Rattle.twe_machine.specs.declared.state.TaskRow.{TaskRow}
 use Rattle.twe_machine.specs.Moves.{new_row, parent_of, status_at_start}
-use Rattle.journal_merge.specs.declared.numbered.NumberedEntry.{NumberedEntry}
+use Rattle.seg_journal.specs.declared.numbered.NumberedEntry.{NumberedEntry}
 use Rattle.floor_rule.specs.declared.view.HeldTurn.{HeldTurn}
 use Rattle.floor_rule.specs.declared.view.TaskSlot.{TaskSlot}
 use Rattle.floor_rule.specs.Rows.{phase_of, slot_of}
@@ -22,15 +22,15 @@ use Rattle.floor_table.specs.declared.view.TurnChange.{TurnChange}
 use Rattle.floor_table.specs.FloorOf.{turn_in}
 use Rattle.floor_table.specs.Layout.{asked_of_clock}
 use Rattle.floor_table.specs.Tells.{drawn_view, entry_at}
-use Rattle.floor_steps.specs.Committing.{Log, child_row}
-use Rattle.floor_steps.proofs.CommittedEntries.{child_below}
-use Rattle.admission_core.specs.States.{IsAmong}
-use Rattle.node_rule.proofs.TaskChanges.{among_others}
-use Rattle.tree_table.specs.declared.slot.TreeSlot.{TreeSlot}
-use Rattle.tree_table.specs.declared.slot.TreeSlot.TheVariants as kinds
-use Rattle.tree_table.specs.Seats.{TreeSeat}
-use Rattle.tree_table.specs.TreeOf.{content_in}
-use Rattle.task_floor.specs.Committing.{HasCommittedBeside, left_to_place, made_by, spawned_slot, with_first, with_first_given, with_made}
+use Rattle.task_floor.specs.steps.Committing.{Log, child_row}
+use Rattle.task_floor.proofs.steps.CommittedEntries.{child_below}
+use Rattle.admission_laws.specs.admission_core.States.{IsAmong}
+use Rattle.floor_rule.proofs.nodes.TaskChanges.{among_others}
+use Rattle.floor_table.specs.declared.nodes.slot.TreeSlot.{TreeSlot}
+use Rattle.floor_table.specs.declared.nodes.slot.TreeSlot.TheVariants as kinds
+use Rattle.floor_table.specs.nodes.Seats.{TreeSeat}
+use Rattle.floor_table.specs.nodes.TreeOf.{content_in}
+use Rattle.task_floor.specs.Committing.{HasCommittedBeside, left_to_place, made_in, spawned_slot, with_first, with_first_given, with_made}
 use Rattle.task_floor.specs.Holding.{HoldsChildBeside, HoldsDrawnBeside, HoldsOneBeside}
 
 -- the number of the child is that of the entry's end
@@ -191,7 +191,7 @@ module _ (lim : Bounds) (number : ℕ) (me after : TreeSeat) (old new : Log) (t 
 
   -- By what is left to place.
 
-  made_alone : (row : TaskRow) (parent : Option ℕ) → turn_in me.0.floor.turns c ≡ None → None ≡ spawned_slot parent row → after ≡ made_by parent drawn c row → HoldsDrawnBeside number after new t slot now
+  made_alone : (row : TaskRow) (parent : Option ℕ) → turn_in me.0.floor.turns c ≡ None → None ≡ spawned_slot parent row → after ≡ made_in parent drawn c row → HoldsDrawnBeside number after new t slot now
   made_alone row None had none seat = drawn_given row had seat
   made_alone row (Some parent) had none seat = absurd (none_some none)
 
@@ -210,7 +210,7 @@ module _ (lim : Bounds) (number : ℕ) (me after : TreeSeat) (old new : Log) (t 
     pub holds : HoldsChildBeside lim number after new t slot now c left (first_turn row)
 
   made_left : (left : TaskSlot) (row : TaskRow) (parent : Option ℕ) → turn_in me.0.floor.turns c ≡ None → c < lim.tasks → row.status ≡ status_at_start row.parent → row.parent ≡ parent
-      → Some left ≡ spawned_slot parent row → after ≡ made_by parent drawn c row → HoldsChildBeside lim number after new t slot now c left (first_turn row)
+      → Some left ≡ spawned_slot parent row → after ≡ made_in parent drawn c row → HoldsChildBeside lim number after new t slot now c left (first_turn row)
   made_left left row None had below fits is some seat = absurd (none_some (sym some))
   made_left left row (Some parent) had below fits is some seat = drawn_kept row had left parent (some_one some) below fits is seat
 

@@ -2,7 +2,7 @@
 use Rattle.std.proofs.Common.{◌≡◌, ◌≢◌, ◌+◌, ◌<◌, ℕ, List, Option, None, Some, map, refl, sym, ap, ◌∙◌}
 use Rattle.std.specs.Prelude.{option_map}
 use Rattle.std.specs.Option.{ForSome}
-use Rattle.twe_limits.specs.Limits.{Bounds}
+use Rattle.twe_base.specs.Limits.{Bounds}
 use Rattle.twe_program.specs.Program.{Program}
 use Rattle.seg_exec.specs.declared.stop.Stop.{Stop}
 use Rattle.twe_machine.specs.declared.state.TaskRow.{TaskRow}
@@ -14,16 +14,16 @@ use Rattle.floor_table.specs.declared.view.View.{View}
 use Rattle.floor_table.specs.FloorOf.{turn_in}
 use Rattle.floor_table.specs.Layout.{asked_of_clock}
 use Rattle.floor_table.specs.Tells.{DrewOne, Seat, drawn_seat, drawn_view}
-use Rattle.floor_steps.specs.Committing.{child_row}
-use Rattle.floor_steps.specs.inner.Bringing.{MayBring, seat_with}
-use Rattle.floor_steps.proofs.CommittedEntries.{drawn_is, drawn_kind, may_bring}
-use Rattle.tree_table.specs.declared.slot.TreeSlot.{TreeSlot}
-use Rattle.tree_table.specs.declared.view.TreeView.{TreeView}
-use Rattle.tree_table.specs.EntrySeats.{DrewTreeEntry}
-use Rattle.tree_table.specs.FloorSeats.{HasTaskSlots, TellsFloor, as_slot, floor_seat, tasks_out}
-use Rattle.tree_table.specs.Seats.{TreeSeat}
-use Rattle.tree_table.proofs.Lifts.{out_again}
-use Rattle.task_floor.specs.Committing.{MayCommitBeside, made_by, with_first, with_made}
+use Rattle.task_floor.specs.steps.Committing.{child_row}
+use Rattle.task_floor.specs.steps.inner.Bringing.{MayBring, seat_with}
+use Rattle.task_floor.proofs.steps.CommittedEntries.{drawn_is, drawn_kind, may_bring}
+use Rattle.floor_table.specs.declared.nodes.slot.TreeSlot.{TreeSlot}
+use Rattle.floor_table.specs.declared.nodes.view.TreeView.{TreeView}
+use Rattle.floor_table.specs.nodes.EntrySeats.{DrewTreeEntry}
+use Rattle.floor_table.specs.nodes.FloorSeats.{HasTaskSlots, TellsFloor, as_slot, floor_seat, tasks_out}
+use Rattle.floor_table.specs.nodes.Seats.{TreeSeat}
+use Rattle.floor_table.proofs.nodes.Lifts.{out_again}
+use Rattle.task_floor.specs.Committing.{MayCommitBeside, made_in, with_first, with_made}
 use Rattle.task_floor.specs.inner.Bringing.{MayBringBeside, tree_seat_with}
 use Rattle.task_floor.proofs.Told.{floor_after, told}
 
@@ -86,7 +86,7 @@ module _ (p : Program) (lim : Bounds) (me mid : TreeSeat) (clock t : ℕ) (turn 
     child_is_below = floor_brings.below
 
 -- The slots that are out once the task was made.
-made_slots : (n : ℕ) (me : TreeSeat) (child : ℕ) (made : TaskRow) (parent : Option ℕ) → child < n → HasTaskSlots n me.1 → HasTaskSlots n (made_by parent me child made).1
+made_slots : (n : ℕ) (me : TreeSeat) (child : ℕ) (made : TaskRow) (parent : Option ℕ) → child < n → HasTaskSlots n me.1 → HasTaskSlots n (made_in parent me child made).1
 made_slots n me child made None below has = has
 made_slots n me child made (Some parent) below has = (below, has)
 

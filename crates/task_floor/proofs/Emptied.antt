@@ -3,16 +3,16 @@ use Rattle.std.proofs.Common.{◌≡◌, ◌+◌, ◌++◌, ℕ, List, [], ◌�
 use mathlib.Core.Option.{some}
 use lib.ListN.{get_elem?}
 use Rattle.region_paths.specs.declared.elements.Elem.{Elem}
-use Rattle.twe_limits.specs.Limits.{Bounds}
+use Rattle.twe_base.specs.Limits.{Bounds}
 use Rattle.twe_program.specs.Program.{Program}
 use Rattle.floor_rule.specs.declared.view.TaskSlot.{TaskSlot}
 use Rattle.floor_table.specs.Layout.{word_count}
 use Rattle.floor_table.specs.Shown.{EndedQuiet}
-use Rattle.tree_table.specs.declared.slot.TreeSlot.{TreeSlot}
-use Rattle.tree_table.specs.declared.slot.TreeSlot.TheVariants as kinds
-use Rattle.tree_table.specs.declared.view.TreeView.{TreeView}
-use Rattle.tree_table.specs.Shown.{EndedBesideNodes}
-use Rattle.floor_steps.proofs.Taken.{take_one}
+use Rattle.floor_table.specs.declared.nodes.slot.TreeSlot.{TreeSlot}
+use Rattle.floor_table.specs.declared.nodes.slot.TreeSlot.TheVariants as kinds
+use Rattle.floor_table.specs.declared.nodes.view.TreeView.{TreeView}
+use Rattle.floor_table.specs.nodes.Shown.{EndedBesideNodes}
+use Rattle.task_floor.proofs.steps.Taken.{take_one}
 use Rattle.task_floor.specs.inner.Emptying.{task_in}
 
 map_more : (l : List TreeSlot) (x : TreeSlot) → map task_in (l ++ x ∷ []) ≡ map task_in l ++ task_in x ∷ []

@@ -13,11 +13,11 @@ use Rattle.twe_machine.specs.declared.state.TaskRow.{TaskRow}
 use Rattle.twe_machine.specs.declared.state.TaskStatus.{TaskStatus}
 use Rattle.twe_machine.specs.declared.state.TaskStatus.TheVariants as status
 use Rattle.floor_rule.proofs.Puts.{none_some, some_one}
-use Rattle.admission_core.specs.States.{IsAmong, IsPlaceOf, Record}
-use Rattle.node_rule.specs.Fitting.{IsDistinct}
-use Rattle.node_rule.specs.Starts.{AreOfEnabled, IsOfEnabled}
-use Rattle.tree_table.specs.Without.{same_record}
-use Rattle.tree_table.proofs.Withouts.{record_decided}
+use Rattle.admission_laws.specs.admission_core.States.{IsAmong, IsPlaceOf, Record}
+use Rattle.floor_rule.specs.nodes.Fitting.{IsDistinct}
+use Rattle.floor_rule.specs.nodes.Starts.{AreOfEnabled, IsOfEnabled}
+use Rattle.floor_table.specs.nodes.Without.{same_record}
+use Rattle.floor_table.proofs.nodes.Withouts.{record_decided}
 use Rattle.task_floor.specs.inner.Recording.{AreRecordsOf, IsRecordOf, live_by, live_effects, with_record}
 
 -- Lists.

@@ -1,15 +1,15 @@
 -- Contents that are taken out of the slots of nodes, and given back.
 use Rattle.std.proofs.Common.{◌≡◌, ℕ, List, [], ◌∷◌, ◌++◌, Option, Some, refl, sym, ap, subst, ◌∙◌}
 use Rattle.atomic_table.specs.Table.{rest, turned}
-use Rattle.twe_limits.specs.Limits.{Bounds}
+use Rattle.twe_base.specs.Limits.{Bounds}
 use Rattle.floor_rule.specs.declared.view.TaskSlot.{TaskSlot}
-use Rattle.admission_core.specs.States.{Activity, Record}
-use Rattle.tree_table.specs.declared.slot.Errand.{Errand}
-use Rattle.tree_table.specs.declared.slot.TreeSlot.{TreeSlot}
-use Rattle.tree_table.specs.declared.slot.TreeSlot.TheVariants as kinds
-use Rattle.tree_table.specs.declared.view.TreeView.{TreeView}
-use Rattle.tree_table.specs.Layout.{content_place}
-use Rattle.tree_table.specs.Seats.{GaveNode, HasContent, TreeSeat, unlocked_view}
+use Rattle.admission_laws.specs.admission_core.States.{Activity, Record}
+use Rattle.floor_table.specs.declared.nodes.slot.Errand.{Errand}
+use Rattle.floor_table.specs.declared.nodes.slot.TreeSlot.{TreeSlot}
+use Rattle.floor_table.specs.declared.nodes.slot.TreeSlot.TheVariants as kinds
+use Rattle.floor_table.specs.declared.nodes.view.TreeView.{TreeView}
+use Rattle.floor_table.specs.nodes.Layout.{content_place}
+use Rattle.floor_table.specs.nodes.Seats.{GaveNode, HasContent, TreeSeat, unlocked_view}
 use Rattle.task_floor.specs.Contents.{HasBehind, HasGivenContent, HasInHand, HasTakenContent, nothing}
 
 -- What lies in a slot.

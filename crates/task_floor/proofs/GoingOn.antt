@@ -2,12 +2,12 @@
 use Rattle.std.proofs.Common.{◌≡◌, ◌≢◌, ◌<◌, ◌⊎◌, ℕ, ℤ, List, Some, sym, ap, subst, ◌∙◌, inl, inr, ⊎_elim, arith}
 use Rattle.region_paths.specs.declared.elements.Elem.{Elem}
 use Rattle.effect_sets.specs.declared.effects.Effect.{Effect}
-use Rattle.twe_limits.specs.Limits.{Bounds}
+use Rattle.twe_base.specs.Limits.{Bounds}
 use Rattle.seg_exec.specs.declared.frame.Frame.{Frame}
 use Rattle.twe_machine.specs.declared.state.TaskRow.{TaskRow}
 use Rattle.twe_machine.specs.declared.state.TaskStatus.{TaskStatus}
 use Rattle.twe_machine.specs.declared.state.TaskStatus.TheVariants as status
-use Rattle.twe_machine.specs.Rows.{awaited}
+use Rattle.twe_machine.specs.Rows.{row_awaited}
 use Rattle.floor_rule.specs.declared.view.HeldTurn.{HeldTurn}
 use Rattle.floor_rule.specs.declared.view.Phase.{Phase}
 use Rattle.floor_rule.specs.declared.view.Phase.TheVariants as phases
@@ -16,15 +16,17 @@ use Rattle.floor_rule.proofs.Puts.{some_one}
 use Rattle.floor_table.specs.FloorOf.{turn_in}
 use Rattle.floor_table.specs.Layout.{word_of_phase}
 use Rattle.floor_table.specs.Tells.{StoredPhase, with_turn}
+use Rattle.floor_table.specs.Added.{HasGrown}
+use Rattle.floor_table.proofs.Added.{grown_then}
 use Rattle.floor_table.proofs.Steps.{phase_again}
-use Rattle.floor_steps.specs.Resuming.{HasInHand, KnowsMore, KnowsValue}
-use Rattle.floor_steps.proofs.InHand.{found_more, found_phase, in_hand_more, more_moves, moves_more, status_waits, stored_moves}
-use Rattle.admission_core.specs.States.{IsAmong}
-use Rattle.node_rule.specs.TurnSteps.{HasPlacedChildren, LeavesNone, of_others}
-use Rattle.tree_table.specs.declared.view.TreeView.{TreeView}
-use Rattle.tree_table.specs.FloorSeats.{HasTaskSlots, floor_seat}
-use Rattle.tree_table.specs.Follows.{FollowedPhase}
-use Rattle.tree_table.specs.Seats.{TreeSeat, tree_seen, turns_seen}
+use Rattle.task_floor.specs.steps.Resuming.{HasInHand, KnowsMore, KnowsValue}
+use Rattle.task_floor.proofs.steps.InHand.{found_more, found_phase, in_hand_more, more_moves, moves_more, status_waits, stored_moves}
+use Rattle.admission_laws.specs.admission_core.States.{IsAmong}
+use Rattle.floor_rule.specs.nodes.TurnSteps.{HasPlacedChildren, LeavesNone, of_others}
+use Rattle.floor_table.specs.declared.nodes.view.TreeView.{TreeView}
+use Rattle.floor_table.specs.nodes.FloorSeats.{HasTaskSlots, floor_seat}
+use Rattle.floor_table.specs.nodes.Follows.{FollowedPhase}
+use Rattle.floor_table.specs.nodes.Seats.{TreeSeat, tree_seen, turns_seen}
 use Rattle.task_floor.specs.Resuming.{KnowsEnough, KnowsMoreBeside, MovesOnBeside}
 use Rattle.task_floor.specs.Stands.{StaysInTree}
 use Rattle.task_floor.proofs.LeavingTasks.{children_stored, seat_is, with_phase}
@@ -82,6 +84,7 @@ module _ (nodes : List (List Elem)) (lim : Bounds) (a b : TreeSeat) (t : ℕ) (p
       record {
         floor = moves_more (floor_seat a) (floor_seat b) t looked_more_floor;
         waits = seen.waits;
+        looks = seen.looks;
         clear = inl (clear_same a b seen);
         view = view_with_clear a b seen;
         out = seen.out;
@@ -98,9 +101,10 @@ module _ (nodes : List (List Elem)) (lim : Bounds) (a b : TreeSeat) (t : ℕ) (p
       record {
         floor = more_moves (floor_seat a) (floor_seat b) (floor_seat c) t looked_more_floor moves.floor;
         waits = λ fact among. moves.waits fact (seen.waits fact among);
+        looks = grown_then a.0.looks b.0.looks c.0.looks seen.looks moves.looks;
         clear = ⊎_elim (λ (kept : c.0.clear ≡ b.0.clear). inl (kept ∙ same))
             (λ (forgot : (u : ℕ) × (u ≢ t) × (c.0.clear ≡ of_others u b.0.clear)). inr (forgot.0, forgot.1, forgot.2 ∙ ap (of_others forgot.0) same)) moves.clear;
-        view = moves.view ∙ ap (λ (v : TreeView). record v { floor = c.0.floor; waits = c.0.waits; clear = c.0.clear }) seen.view;
+        view = moves.view ∙ ap (λ (v : TreeView). record v { floor = c.0.floor; waits = c.0.waits; clear = c.0.clear; looks = c.0.looks }) seen.view;
         out = moves.out ∙ seen.out;
       }
 
@@ -111,7 +115,7 @@ module _ (nodes : List (List Elem)) (a b : TreeSeat) (t on : ℕ) (turn : HeldTu
   awaits_other same = omega (arith, same, below)
 
   enabled : turn.row.status ≡ status.Enabled
-  enabled = (status_waits turn.row.status (awaited turn.row.frame.next) on waits).0
+  enabled = (status_waits turn.row.status (row_awaited turn.row.frame.next) on waits).0
 
   pub still_in_hand : HasInHand (floor_seat b) t turn frame
   still_in_hand = in_hand_more (floor_seat a) (floor_seat b) t turn frame more.floor hand
@@ -149,21 +153,22 @@ module _ (nodes : List (List Elem)) (a b : TreeSeat) (t on : ℕ) (turn : HeldTu
     moves_now = record {
       floor = more_moves (floor_seat a) (floor_seat b) (floor_seat c) t more.floor (stored_moves (floor_seat b) (floor_seat c) t on value turn frame still_in_hand waits known stored);
       waits = λ fact among. subst (λ (v : TreeView). IsAmong fact v.waits) (sym view_now) (more.waits fact among);
+      looks = subst (λ (v : TreeView). HasGrown a.0.looks v.looks) (sym view_now) more.looks;
       clear = clear_kept c (ap (λ (v : TreeView). v.clear) view_now);
       view = view_c;
       out = ap (λ (m : TreeSeat). m.1) seat_now ∙ more.out;
     }
       where
-        view_c : c.0 ≡ record a.0 { floor = c.0.floor; waits = c.0.waits; clear = c.0.clear }
+        view_c : c.0 ≡ record a.0 { floor = c.0.floor; waits = c.0.waits; clear = c.0.clear; looks = c.0.looks }
         view_c =
-            let stay : c.0 ≡ record b.0 { floor = c.0.floor; waits = c.0.waits; clear = c.0.clear } = λ k. record c.0 {
+            let stay : c.0 ≡ record b.0 { floor = c.0.floor; waits = c.0.waits; clear = c.0.clear; looks = c.0.looks } = λ k. record c.0 {
               activity = (view_now k).activity;
               kept = (view_now k).kept;
               placed = (view_now k).placed;
               removed = (view_now k).removed;
               fresh = (view_now k).fresh;
             } in
-            stay ∙ ap (λ (v : TreeView). record v { floor = c.0.floor; waits = c.0.waits; clear = c.0.clear }) more.view
+            stay ∙ ap (λ (v : TreeView). record v { floor = c.0.floor; waits = c.0.waits; clear = c.0.clear; looks = c.0.looks }) more.view
 
 -- there is one turn in hand
 pub same_enough : (nodes : List (List Elem)) (a : TreeSeat) (t : ℕ) (turn later : HeldTurn) (frame : Frame) → HasInHand (floor_seat a) t turn frame → HasInHand (floor_seat a) t later frame → KnowsEnough nodes a.0 t turn.row

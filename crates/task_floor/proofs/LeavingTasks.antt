@@ -1,11 +1,11 @@
 -- A task is left beside the nodes: its phase is stored, and then its turn is given.
 use Rattle.std.proofs.Common.{◌≡◌, ◌≢◌, ℕ, List, map, Some, sym, ap, subst, ◌∙◌, ⊎_elim}
 use Rattle.region_paths.specs.declared.elements.Elem.{Elem}
-use Rattle.twe_limits.specs.Limits.{Bounds}
+use Rattle.twe_base.specs.Limits.{Bounds}
 use Rattle.twe_machine.specs.declared.state.TaskRow.{TaskRow}
 use Rattle.twe_machine.specs.declared.state.TaskStatus.{TaskStatus}
 use Rattle.twe_machine.specs.Moves.{status_at_start}
-use Rattle.twe_machine.specs.Rows.{awaited}
+use Rattle.twe_machine.specs.Rows.{row_awaited}
 use Rattle.floor_rule.specs.declared.view.HeldTurn.{HeldTurn}
 use Rattle.floor_rule.specs.declared.view.Phase.{Phase}
 use Rattle.floor_rule.specs.declared.view.TaskSlot.{TaskSlot}
@@ -14,14 +14,14 @@ use Rattle.floor_rule.proofs.Puts.{put_here, put_was, some_one}
 use Rattle.floor_table.specs.declared.view.View.{View}
 use Rattle.floor_table.specs.FloorOf.{turn_in}
 use Rattle.floor_table.specs.Tells.{Seat, StoredPhase, with_turn}
-use Rattle.floor_steps.proofs.LeavingTurns.{may_give_back}
-use Rattle.node_rule.specs.TurnSteps.{HasPlacedChildren}
-use Rattle.tree_table.specs.declared.slot.TreeSlot.{TreeSlot}
-use Rattle.tree_table.specs.declared.view.TreeView.{TreeView}
-use Rattle.tree_table.specs.FloorSeats.{HasTaskSlots, as_slot, floor_seat, tasks_out}
-use Rattle.tree_table.specs.Seats.{TreeSeat, turns_seen}
-use Rattle.tree_table.specs.TurnSeats.{GaveTreeTurn, MayLeaveTask, given_tree_view, gives_first, gives_taken}
-use Rattle.tree_table.proofs.Lifts.{out_again}
+use Rattle.task_floor.proofs.steps.LeavingTurns.{may_give_back}
+use Rattle.floor_rule.specs.nodes.TurnSteps.{HasPlacedChildren}
+use Rattle.floor_table.specs.declared.nodes.slot.TreeSlot.{TreeSlot}
+use Rattle.floor_table.specs.declared.nodes.view.TreeView.{TreeView}
+use Rattle.floor_table.specs.nodes.FloorSeats.{HasTaskSlots, as_slot, floor_seat, tasks_out}
+use Rattle.floor_table.specs.nodes.Seats.{TreeSeat, turns_seen}
+use Rattle.floor_table.specs.nodes.TurnSeats.{GaveTreeTurn, MayLeaveTask, given_tree_view, gives_first, gives_taken}
+use Rattle.floor_table.proofs.nodes.Lifts.{out_again}
 use Rattle.task_floor.specs.Leaving.{HasLeftTask, MayGoFrom}
 use Rattle.task_floor.specs.Stands.{StaysInTree}
 use Rattle.task_floor.specs.Turns.{MayGiveTask}
@@ -90,7 +90,7 @@ module _ (nodes : List (List Elem)) (lim : Bounds) (me mid : TreeSeat) (t : ℕ)
       gave ∙ (ap (λ (m : TreeSeat). (given_tree_view m.0 t turn, others)) mid_is ∙ ap (λ (x : Phase). (given_tree_view (with_phase me.0 t turn x) t turn, others)) is)
 
 -- the phase of a new task whose slot has its row's frame
-pub new_is : (slot : TaskSlot) (row : TaskRow) (phase : Phase) → phase ≡ phase_at (status_at_start slot.parent) (awaited slot.frame.next) → slot ≡ slot_of row → row.status ≡ status_at_start row.parent
+pub new_is : (slot : TaskSlot) (row : TaskRow) (phase : Phase) → phase ≡ phase_at (status_at_start slot.parent) (row_awaited slot.frame.next) → slot ≡ slot_of row → row.status ≡ status_at_start row.parent
     → phase ≡ phase_of row
 new_is slot row phase is same new =
-    is ∙ ap (λ (s : TaskSlot). phase_at (status_at_start s.parent) (awaited s.frame.next)) same ∙ ap (λ (s : TaskStatus). phase_at s (awaited row.frame.next)) (sym new)
+    is ∙ ap (λ (s : TaskSlot). phase_at (status_at_start s.parent) (row_awaited s.frame.next)) same ∙ ap (λ (s : TaskStatus). phase_at s (row_awaited row.frame.next)) (sym new)

@@ -6,26 +6,26 @@ use mathlib.Core.Option as core
 use lib.ListN.{get_elem?}
 use Rattle.atomic_table.proofs.Lists.{at_map}
 use Rattle.region_paths.specs.declared.elements.Elem.{Elem}
-use Rattle.twe_limits.specs.Limits.{Bounds}
+use Rattle.twe_base.specs.Limits.{Bounds}
 use Rattle.twe_program.specs.Program.{Program}
 use Rattle.seg_exec.specs.Entry.{effects_at, entry_frame}
 use Rattle.twe_machine.specs.declared.state.State.{State}
 use Rattle.twe_machine.specs.declared.state.TaskRow.{TaskRow}
 use Rattle.twe_machine.specs.declared.state.TaskStatus.TheVariants as status
 use Rattle.twe_machine.specs.Moves.{new_row, start_of}
-use Rattle.journal_merge.specs.declared.numbered.NumberedEntry.{NumberedEntry}
+use Rattle.seg_journal.specs.declared.numbered.NumberedEntry.{NumberedEntry}
 use Rattle.floor_rule.specs.declared.view.TaskSlot.{TaskSlot}
 use Rattle.floor_rule.proofs.Puts.{none_some, some_one}
 use Rattle.floor_table.specs.Holds.{IsLaidOut}
 use Rattle.floor_table.specs.Layout.{word_count}
-use Rattle.admission_core.specs.States.{IsAmong, Record}
-use Rattle.node_rule.specs.Starts.{AreOfEnabled}
-use Rattle.tree_table.specs.declared.slot.TreeSlot.{TreeSlot}
-use Rattle.tree_table.specs.declared.slot.TreeSlot.TheVariants as kinds
-use Rattle.tree_table.specs.Holds.{HoldsContent, IsTreeLaidOut}
-use Rattle.tree_table.specs.Layout.{content_place, free_lock, lock_place, tree_slot_count, tree_word_count}
-use Rattle.floor_steps.specs.Opening.{ShowsRun}
-use Rattle.floor_steps.proofs.Laid.{get_past}
+use Rattle.admission_laws.specs.admission_core.States.{IsAmong, Record}
+use Rattle.floor_rule.specs.nodes.Starts.{AreOfEnabled}
+use Rattle.floor_table.specs.declared.nodes.slot.TreeSlot.{TreeSlot}
+use Rattle.floor_table.specs.declared.nodes.slot.TreeSlot.TheVariants as kinds
+use Rattle.floor_table.specs.nodes.Holds.{HoldsContent, IsTreeLaidOut}
+use Rattle.floor_table.specs.nodes.Layout.{content_place, free_lock, lock_place, tree_slot_count, tree_word_count}
+use Rattle.task_floor.specs.steps.Opening.{ShowsRun}
+use Rattle.task_floor.proofs.steps.Laid.{get_past}
 use Rattle.task_floor.specs.Opening.{ShowsTreeRun}
 use Rattle.task_floor.specs.inner.Recording.{HoldRecords}
 use Rattle.task_floor.proofs.Sorted.{all_same}
@@ -79,6 +79,7 @@ module _ (nodes : List (List Elem)) (p : Program) (lim : Bounds) (log : List Num
             get_past (map kinds.Task held) (map kinds.Node contents) (content_place lim n) n (ap (λ (k : ℕ). k + n) (sym held_count))
             ∙ at_map kinds.Node contents n those.content those.there;
         all = those.all;
+        once = those.once;
       }
 
   pub planted : IsTreeLaidOut nodes p lim log st records all_words all_slots

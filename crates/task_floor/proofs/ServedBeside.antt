@@ -4,7 +4,7 @@ use Rattle.std.proofs.lemmas.Bool.{cases_eq}
 use Rattle.std.specs.Prelude.{Contains}
 use Rattle.region_paths.specs.declared.elements.Elem.{Elem}
 use Rattle.effect_sets.specs.declared.effects.Effect.{Effect}
-use Rattle.twe_limits.specs.Limits.{Bounds}
+use Rattle.twe_base.specs.Limits.{Bounds}
 use Rattle.twe_program.specs.Program.{Program}
 use Rattle.seg_exec.specs.declared.frame.Frame.{Frame}
 use Rattle.seg_exec.specs.declared.stop.Stop.{Stop}
@@ -12,7 +12,7 @@ use Rattle.seg_exec.specs.Segment.{HasRoomToSpawn}
 use Rattle.twe_machine.specs.declared.state.TaskStatus.{TaskStatus}
 use Rattle.twe_machine.specs.declared.state.TaskStatus.TheVariants as status
 use Rattle.twe_machine.specs.Moves.{admitted_row, status_at_start}
-use Rattle.journal_merge.specs.declared.numbered.NumberedEntry.{NumberedEntry}
+use Rattle.seg_journal.specs.declared.numbered.NumberedEntry.{NumberedEntry}
 use Rattle.floor_rule.specs.declared.view.HeldTurn.{HeldTurn}
 use Rattle.floor_rule.specs.declared.view.Phase.{Phase}
 use Rattle.floor_rule.specs.declared.view.Phase.TheVariants as phases
@@ -23,21 +23,21 @@ use Rattle.floor_table.specs.declared.view.SeatKind.TheVariants.{Spent}
 use Rattle.floor_table.specs.declared.view.View.{View}
 use Rattle.floor_table.specs.FloorOf.{turn_in}
 use Rattle.floor_table.specs.Tells.{Seat, with_turn}
-use Rattle.floor_steps.specs.Committing.{Log}
-use Rattle.floor_steps.specs.Resuming.{HasInHand}
-use Rattle.floor_steps.specs.Segments.{HasRun, MayRun}
-use Rattle.admission_core.specs.States.{IsAmong, IsPlaceOf, Record}
-use Rattle.node_rule.specs.Taking.{clear_after_taking}
-use Rattle.node_rule.specs.TurnSteps.{HasPlacedChildren, IsClearOf, LeavesNone, of_others}
-use Rattle.node_rule.proofs.TaskChanges.{among_others}
-use Rattle.tree_table.specs.declared.slot.TreeSlot.{TreeSlot}
-use Rattle.tree_table.specs.declared.slot.TreeSlot.TheVariants as kinds
-use Rattle.tree_table.specs.declared.view.TreeView.{TreeView}
-use Rattle.tree_table.specs.FloorSeats.{HasTaskSlots, floor_seat, tasks_out}
-use Rattle.tree_table.specs.Seats.{TreeSeat, tree_seen, turns_seen}
-use Rattle.tree_table.specs.TreeOf.{content_in}
-use Rattle.tree_table.specs.TurnSeats.{GaveTreeTurn, given_tree_view, gives_first, gives_taken}
-use Rattle.tree_table.specs.EntrySeats.{admission_at}
+use Rattle.task_floor.specs.steps.Committing.{Log}
+use Rattle.task_floor.specs.steps.Resuming.{HasInHand}
+use Rattle.task_floor.specs.steps.Segments.{HasRunSegment, MayRunSegment}
+use Rattle.admission_laws.specs.admission_core.States.{IsAmong, IsPlaceOf, Record}
+use Rattle.floor_rule.specs.nodes.Taking.{clear_after_taking}
+use Rattle.floor_rule.specs.nodes.TurnSteps.{HasPlacedChildren, IsClearOf, LeavesNone, of_others}
+use Rattle.floor_rule.proofs.nodes.TaskChanges.{among_others}
+use Rattle.floor_table.specs.declared.nodes.slot.TreeSlot.{TreeSlot}
+use Rattle.floor_table.specs.declared.nodes.slot.TreeSlot.TheVariants as kinds
+use Rattle.floor_table.specs.declared.nodes.view.TreeView.{TreeView}
+use Rattle.floor_table.specs.nodes.FloorSeats.{HasTaskSlots, floor_seat, tasks_out}
+use Rattle.floor_table.specs.nodes.Seats.{TreeSeat, tree_seen, turns_seen}
+use Rattle.floor_table.specs.nodes.TreeOf.{content_in}
+use Rattle.floor_table.specs.nodes.TurnSeats.{GaveTreeTurn, given_tree_view, gives_first, gives_taken}
+use Rattle.floor_table.specs.nodes.EntrySeats.{admission_at}
 use Rattle.task_floor.specs.Committing.{HasAdmitted, MayCommitBeside}
 use Rattle.task_floor.specs.Holding.{HoldsChildBeside, HoldsDrawnBeside, HoldsOneBeside, HoldsReadyBeside, HoldsTaskBeside, IsIdleBeside, IsOutsideWith}
 use Rattle.task_floor.specs.Leaving.{HasLeftTask, MayFinishTask, MayGiveNew, MayGoFrom, MayParkTask, stored_view}
@@ -199,7 +199,7 @@ module _ (nodes : List (List Elem)) (number : ℕ) (a b : TreeSeat) (log : Log) 
     };
   }
 
-  pub holds_ready : (frame : Frame) → MayRun (floor_seat b) t (record turn { phase = phases.Running }) frame → HoldsReadyBeside number b log t (record slot { frame = frame }) (record turn { phase = phases.Running })
+  pub holds_ready : (frame : Frame) → MayRunSegment (floor_seat b) t (record turn { phase = phases.Running }) frame → HoldsReadyBeside number b log t (record slot { frame = frame }) (record turn { phase = phases.Running })
   holds_ready frame may = record { one = one_moved; may = may; slot_is = ap (λ (s : TaskSlot). record s { frame = frame }) holds.slot_is }
 
   pub holds_still : (frame : Frame) → HasInHand (floor_seat b) t turn frame → KnowsEnough nodes b.0 t turn.row → HoldsTaskBeside nodes number b log t (record slot { frame = frame }) turn
@@ -212,7 +212,7 @@ module _ (nodes : List (List Elem)) (number : ℕ) (a b : TreeSeat) (log : Log) 
 
 -- Running a segment.
 module _ (p : Program) (lim : Bounds) (number : ℕ) (me ran : TreeSeat) (old new : Log) (t : ℕ) (slot : TaskSlot) (turn : HeldTurn) (frame : Frame) (stop : Stop)
-    (holds : HoldsReadyBeside number me old t slot turn) (logs : new.entries ≡ old.entries) (below : t < lim.tasks) (has : HasRun p (floor_seat me) (floor_seat ran) t turn frame stop) (stays : StaysInTree lim me ran) where
+    (holds : HoldsReadyBeside number me old t slot turn) (logs : new.entries ≡ old.entries) (below : t < lim.tasks) (has : HasRunSegment p (floor_seat me) (floor_seat ran) t turn frame stop) (stays : StaysInTree lim me ran) where
   pub one_ran_beside : HoldsOneBeside number ran new t
   one_ran_beside = record {
     live = λ spent. holds.one.live (sym (ap (λ (m : Seat). m.0.kind) has.kept) ∙ spent);

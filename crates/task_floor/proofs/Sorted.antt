@@ -1,5 +1,5 @@
 -- What lies at each node has the records that stand there.
-use Rattle.std.proofs.Common.{◌≡◌, ◌≢◌, ◌⊎◌, ◌++◌, ◌<◌, ℕ, zero, suc, List, [], ◌∷◌, length, length-set, get_or, replicate, refl, sym, ap, subst, ◌∙◌, inl, inr, ⊎_elim, arith}
+use Rattle.std.proofs.Common.{◌≡◌, ◌≢◌, ◌⊎◌, ◌++◌, ◌<◌, ℕ, zero, suc, List, [], ◌∷◌, length, length-set, get_or, take, replicate, refl, sym, ap, subst, ◌∙◌, inl, inr, ⊎_elim, arith}
 use Rattle.std.specs.Prelude.{slice_set}
 use Rattle.std.proofs.lemmas.Bool.{cases_eq}
 use Rattle.std.proofs.lemmas.List.{length-replicate}
@@ -7,8 +7,8 @@ use mathlib.Core.Option as core
 use mathlib.Core.Option.{some-injective, some-ne-none}
 use lib.ListN.{get_elem?}
 use Rattle.floor_table.proofs.Elements.{at_else, at_within}
-use Rattle.admission_core.specs.States.{IsAmong, Record}
-use Rattle.node_rule.specs.Fitting.{AreRecordsAt}
+use Rattle.admission_laws.specs.admission_core.States.{IsAmong, Record}
+use Rattle.floor_rule.specs.nodes.Fitting.{AreRecordsAt, IsDistinct}
 use Rattle.task_floor.specs.inner.Recording.{HoldRecords, HoldsThose, with_added}
 use Rattle.task_floor.proofs.Gathered.{among_either, among_left, among_right}
 
@@ -32,11 +32,12 @@ item_among (y ∷ l) (suc i) x below is = inr (item_among l i x (omega (arith, b
 pub none_yet : (nodes : ℕ) → HoldRecords nodes [] (replicate nodes [])
 none_yet nodes = record {
   count = length-replicate nodes [];
-  each = λ n below. record { content = []; there = all_same nodes n [] below; all = λ r. (λ among. absurd among, λ pair. absurd pair.0) };
+  each = λ n below. record { content = []; there = all_same nodes n [] below; all = λ r. (λ among. absurd among, λ pair. absurd pair.0); once = tt };
 }
 
 -- one record more
-module _ (nodes : ℕ) (records : List Record) (contents : List (List Record)) (r : Record) (before : HoldRecords nodes records contents) (there : r.node < nodes) where
+module _ (nodes : ℕ) (records : List Record) (contents : List (List Record)) (r : Record) (before : HoldRecords nodes records contents) (there : r.node < nodes)
+    (new_one : ¬ IsAmong r records) where
   abbrev own : HoldsThose records contents r.node
   own = before.each r.node there
 
@@ -71,11 +72,19 @@ module _ (nodes : ℕ) (records : List Record) (contents : List (List Record)) (
       ⊎_elim
       (λ (same : n ≡ r.node).
       subst (HoldsThose (records ++ r ∷ []) (slice_set contents r.node new)) (sym same)
-      (record { content = new; there = at_within contents r.node new (omega (arith, count, there)); all = all_here }))
+      (record { content = new; there = at_within contents r.node new (omega (arith, count, there)); all = all_here; once = (λ among. new_one ((own.all r).0 among).0, own.once) }))
       (λ (other : n ≢ r.node).
       let was = before.each n below in
-      record { content = was.content; there = at_else contents r.node n new other ∙ was.there; all = all_else n was.content other was.all })
+      record { content = was.content; there = at_else contents r.node n new other ∙ was.there; all = all_else n was.content other was.all; once = was.once })
       (cases_eq n r.node)
 
   pub record_added : HoldRecords nodes (records ++ r ∷ []) (with_added r contents)
   record_added = subst (HoldRecords nodes (records ++ r ∷ [])) (sym added_is) (record { count = length-set contents r.node new ∙ before.count; each = each_set })
+
+-- the record that a loop has come to is none of those before it
+pub item_new : {A : Type 0} (l : List A) (i : ℕ) (x : A) → IsDistinct l → i < length l → x ≡ get_or l i x → ¬ IsAmong x (take i l)
+item_new [] i x once below is among = absurd (omega (arith, below))
+item_new (y ∷ l) zero x once below is among = among
+item_new {A} (y ∷ l) (suc i) x once below is among =
+    ⊎_elim (λ (here : x ≡ y). once.0 (subst (λ (z : A). IsAmong z l) here (item_among l i x (omega (arith, below)) is)))
+    (λ (later : IsAmong x (take i l)). item_new l i x once.1 (omega (arith, below)) is later) among

@@ -7,19 +7,21 @@ use Rattle.floor_rule.specs.declared.view.TaskSlot.{TaskSlot}
 use Rattle.floor_rule.specs.Rows.{slot_of}
 use Rattle.floor_table.specs.declared.view.View.{View}
 use Rattle.floor_table.specs.Layout.{free_word}
-use Rattle.floor_steps.proofs.LeavingTurns.{may_give}
-use Rattle.node_rule.specs.Taking.{clear_after_taking}
-use Rattle.tree_table.specs.declared.slot.TreeSlot.{TreeSlot}
-use Rattle.tree_table.specs.declared.slot.TreeSlot.TheVariants as kinds
-use Rattle.tree_table.specs.declared.view.TreeView.{TreeView}
-use Rattle.tree_table.specs.FloorSeats.{HasTaskSlots, floor_seat, tasks_out}
-use Rattle.tree_table.specs.Seats.{TreeSeat}
-use Rattle.tree_table.specs.TurnSeats.{MayGiveTreeTurn, MayLeaveTask, TookTreeTurn, TriedTreeTurn}
+use Rattle.task_floor.proofs.steps.LeavingTurns.{may_give}
+use Rattle.floor_rule.specs.nodes.Taking.{clear_after_taking}
+use Rattle.floor_table.specs.declared.nodes.slot.TreeSlot.{TreeSlot}
+use Rattle.floor_table.specs.declared.nodes.slot.TreeSlot.TheVariants as kinds
+use Rattle.floor_table.specs.declared.nodes.view.TreeView.{TreeView}
+use Rattle.floor_table.specs.nodes.FloorSeats.{HasTaskSlots, floor_seat, tasks_out}
+use Rattle.floor_table.specs.declared.nodes.view.Look.TheVariants.{AtTurn}
+use Rattle.floor_table.specs.nodes.Looks.{looked_seat}
+use Rattle.floor_table.specs.nodes.Seats.{TreeSeat}
+use Rattle.floor_table.specs.nodes.TurnSeats.{MayGiveTreeTurn, MayLeaveTask, TookTreeTurn, TriedTreeTurn}
 use Rattle.task_floor.specs.Turns.{HasTakenTask, MayGiveTask}
 
 pub took_of : (nodes : List (List Elem)) (me after : TreeSeat) (t found : ℕ) → found ≡ free_word → TriedTreeTurn nodes me t found after → TookTreeTurn nodes me t after
 took_of nodes me after t found free tried =
-    ⊎_elim (λ (took : (found ≡ free_word) × TookTreeTurn nodes me t after). took.1) (λ (missed : (found ≢ free_word) × (after ≡ me)). absurd (missed.0 free)) tried
+    ⊎_elim (λ (took : (found ≡ free_word) × TookTreeTurn nodes me t after). took.1) (λ (missed : (found ≢ free_word) × (after ≡ looked_seat me (AtTurn t found))). absurd (missed.0 free)) tried
 
 abbrev slot_first : List (ℕ × TreeSlot) → TreeSlot
 slot_first [] = kinds.Task None

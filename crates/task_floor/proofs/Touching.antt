@@ -1,15 +1,15 @@
 -- What a stand that touches a cell may do afterwards, and what it knows: what its floor's seat does.
 use Rattle.std.proofs.Common.{◌≡◌, ◌≢◌, ℕ, ℤ, sym, ◌∙◌}
-use Rattle.twe_limits.specs.Limits.{Bounds}
+use Rattle.twe_base.specs.Limits.{Bounds}
 use Rattle.twe_program.specs.Program.{Program}
 use Rattle.seg_exec.specs.Access.{HasRead, HasWritten, MaySame, Ways, ways_of}
 use Rattle.floor_rule.specs.declared.view.Touch.{Touch}
 use Rattle.floor_rule.specs.declared.view.Touch.TheVariants.{Read, Write}
 use Rattle.floor_table.specs.declared.view.SeatKind.TheVariants.{Spent}
 use Rattle.floor_table.specs.Tells.{IsLastTouch, IsLatest, WroteCell}
-use Rattle.floor_steps.specs.Stands.{HasLoaded}
-use Rattle.floor_steps.proofs.Touching as floor
-use Rattle.tree_table.specs.FloorSeats.{floor_seat}
+use Rattle.task_floor.specs.steps.Stands.{HasLoaded}
+use Rattle.task_floor.proofs.steps.Touching as floor
+use Rattle.floor_table.specs.nodes.FloorSeats.{floor_seat}
 use Rattle.task_floor.specs.Segments.{HasTouched, MayReadCell, MayWriteCell, StandFollows, stand_knows}
 use Rattle.task_floor.specs.Stands.{StaysInTree, TreeStand, floor_stand}
 

@@ -2,10 +2,10 @@
 use Rattle.std.proofs.Common.{◌≡◌, ◌≢◌, ℕ, true, false, sym, ◌∙◌, ⊎_elim, eqb-true, eq-eqb}
 use Rattle.std.specs.Prelude.{◌==◌}
 use Rattle.std.proofs.lemmas.Bool.{false≢true}
-use Rattle.twe_limits.specs.Limits.{Bounds}
-use Rattle.admission_core.specs.States.{Activity}
-use Rattle.tree_table.specs.Layout.{free_lock}
-use Rattle.tree_table.specs.Seats.{TookNode, TreeSeat, TriedNode}
+use Rattle.twe_base.specs.Limits.{Bounds}
+use Rattle.admission_laws.specs.admission_core.States.{Activity}
+use Rattle.floor_table.specs.nodes.Layout.{free_lock}
+use Rattle.floor_table.specs.nodes.Seats.{TookNode, TreeSeat, TriedNode}
 
 pub took_is : (lim : Bounds) (before : TreeSeat) (n : ℕ) (next : Activity) (found : ℕ) (after : TreeSeat) → (found == 0) ≡ true
     → TriedNode lim before n next found after → TookNode lim before n next after

@@ -1,7 +1,8 @@
 -- The turn of a task is taken, its phase loaded, and the turn given again: to read the task's value.
-use Rattle.std.proofs.Common.{◌≡◌, ◌≢◌, ◌<◌, ℕ, List, None, Some, true, false, sym, ap, subst, ◌∙◌, inl, inr, ⊎_elim}
+use Rattle.std.proofs.Common.{◌≡◌, ◌≢◌, ◌<◌, ℕ, ℤ, List, ◌∷◌, Option, None, Some, true, false, sym, ap, subst, ◌∙◌, inl, inr, ⊎_elim}
+use Rattle.std.specs.Prelude.{IfNone}
 use Rattle.region_paths.specs.declared.elements.Elem.{Elem}
-use Rattle.twe_limits.specs.Limits.{Bounds}
+use Rattle.twe_base.specs.Limits.{Bounds}
 use Rattle.floor_rule.specs.declared.view.HeldTurn.{HeldTurn}
 use Rattle.floor_rule.specs.declared.view.Phase.TheVariants as phases
 use Rattle.floor_rule.specs.declared.view.TaskSlot.{TaskSlot}
@@ -10,21 +11,26 @@ use Rattle.floor_table.specs.declared.view.SeatKind.TheVariants.{Spent}
 use Rattle.floor_table.specs.FloorOf.{turn_in}
 use Rattle.floor_table.specs.Layout.{phase_of_word}
 use Rattle.floor_table.specs.Tells.{FoundPhase, GaveTurn, Seat}
-use Rattle.floor_steps.specs.Resuming.{KnowsMore, KnowsValue}
-use Rattle.floor_steps.proofs.InHand.{found_more, gave_more, gave_value, had_turn, may_give_back, more_then}
-use Rattle.admission_core.specs.States.{IsAmong, Record}
-use Rattle.node_rule.specs.Taking.{clear_after_taking}
-use Rattle.node_rule.specs.TurnSteps.{HasPlacedChildren, of_others}
-use Rattle.node_rule.proofs.Takings.{given_as_taken}
-use Rattle.tree_table.specs.declared.view.TreeView.{TreeView}
-use Rattle.tree_table.specs.FloorSeats.{HasTaskSlots, floor_seat, tasks_out}
-use Rattle.tree_table.specs.Follows.{FollowedPhase}
-use Rattle.tree_table.specs.Seats.{TreeSeat, tree_seen, turns_seen}
-use Rattle.tree_table.specs.TurnSeats.{GaveTreeTurn, MayLeaveTask, given_tree_view, gives_taken}
-use Rattle.task_floor.specs.Resuming.{KnowsEnough, KnowsMoreBeside}
-use Rattle.task_floor.specs.Turns.{HasTakenTask, MayGiveTask}
+use Rattle.floor_table.specs.Added.{HasGrown}
+use Rattle.floor_table.proofs.Added.{added_at, added_before, added_then, grown_by, grown_then}
+use Rattle.floor_table.specs.declared.nodes.view.Look.{Look}
+use Rattle.floor_table.specs.declared.nodes.view.Look.TheVariants.{AtPhase, AtTurn}
+use Rattle.task_floor.specs.declared.steps.readiness.Readiness.TheVariants as readiness
+use Rattle.task_floor.specs.steps.Resuming.{KnowsMore, KnowsValue}
+use Rattle.task_floor.proofs.steps.InHand.{found_more, gave_more, gave_value, had_turn, may_give_back, more_then}
+use Rattle.admission_laws.specs.admission_core.States.{IsAmong, Record}
+use Rattle.floor_rule.specs.nodes.Taking.{clear_after_taking}
+use Rattle.floor_rule.specs.nodes.TurnSteps.{HasPlacedChildren, of_others}
+use Rattle.floor_rule.proofs.nodes.Takings.{given_as_taken}
+use Rattle.floor_table.specs.declared.nodes.view.TreeView.{TreeView}
+use Rattle.floor_table.specs.nodes.FloorSeats.{HasTaskSlots, floor_seat, tasks_out}
+use Rattle.floor_table.specs.nodes.Follows.{FollowedPhase}
+use Rattle.floor_table.specs.nodes.Seats.{TreeSeat, tree_seen, turns_seen}
+use Rattle.floor_table.specs.nodes.TurnSeats.{GaveTreeTurn, MayLeaveTask, given_tree_view, gives_taken}
+use Rattle.task_floor.specs.Resuming.{KnowsEnough, KnowsMoreBeside, WasNotDone}
+use Rattle.task_floor.specs.Turns.{FoundBusy, HasTakenTask, MayGiveTask}
 use Rattle.task_floor.proofs.Forgetting.{none_forgotten, taken_forgotten}
-use Rattle.task_floor.proofs.Looking.{HasLooked, clear_same, found_floor, has_looked}
+use Rattle.task_floor.proofs.Looking.{HasLooked, clear_same, found_floor, has_looked, latest_look}
 
 false_true : false ≡ true → ⊥
 false_true is = cc (is)
@@ -93,7 +99,7 @@ module _ (nodes : List (List Elem)) (a b : TreeSeat) (t : ℕ) (slot : TaskSlot)
       fresh_again : d.0.fresh ≡ a.0.fresh
       fresh_again = ap (λ (v : TreeView). v.fresh) gave_view ∙ (ap (of_others t) fresh_now ∙ none_forgotten t a.0.fresh took.fresh)
 
-      view_again : d.0 ≡ record a.0 { floor = d.0.floor; waits = d.0.waits; clear = d.0.clear }
+      view_again : d.0 ≡ record a.0 { floor = d.0.floor; waits = d.0.waits; clear = d.0.clear; looks = d.0.looks }
       view_again =
           let activity = ap (λ (v : TreeView). v.activity) gave_view ∙ (ap (λ (v : TreeView). v.activity) looked.view ∙ ap (λ (v : TreeView). v.activity) took.view) in
           let kept = ap (λ (v : TreeView). v.kept) gave_view ∙ (ap (λ (v : TreeView). v.kept) looked.view ∙ ap (λ (v : TreeView). v.kept) took.view) in
@@ -101,11 +107,22 @@ module _ (nodes : List (List Elem)) (a b : TreeSeat) (t : ℕ) (slot : TaskSlot)
           let removed = ap (λ (v : TreeView). v.removed) gave_view ∙ (ap (λ (v : TreeView). v.removed) looked.view ∙ ap (λ (v : TreeView). v.removed) took.view) in
           λ k. record d.0 { activity = activity k; kept = kept k; placed = placed k; removed = removed k; fresh = fresh_again k }
 
+      looks_before : b.0.looks ≡ a.0.looks
+      looks_before = ap (λ (v : TreeView). v.looks) took.view
+
+      looks_now : d.0.looks ≡ AtPhase t found ∷ a.0.looks
+      looks_now =
+          ap (λ (v : TreeView). v.looks) gave_view ∙ (latest_look lim b c t found looks ∙ ap (λ (l : List Look). AtPhase t found ∷ l) looks_before)
+
+      pub value_not_had : phase_of_word found ≢ phases.Done → WasNotDone a.0.looks d.0.looks t
+      value_not_had other = (found, inl (added_at (AtPhase t found) a.0.looks d.0.looks looks_now, other))
+
       pub gave_more_beside : KnowsMoreBeside a d t
       gave_more_beside = record {
         floor = gave_more lim (floor_seat a) (floor_seat b) (floor_seat c) (floor_seat d) t found slot took.floor looked_floor gave_floor;
         waits = λ fact among.
             subst (λ (v : TreeView). IsAmong fact v.waits) (sym gave_view) (looked.waits fact (subst (λ (v : TreeView). IsAmong fact v.waits) (sym took.view) among));
+        looks = grown_by (AtPhase t found) a.0.looks d.0.looks looks_now;
         clear = inr forgotten;
         view = view_again;
         out = ap (λ (m : TreeSeat). m.1) gave;
@@ -122,8 +139,9 @@ looked_then_more lim a b c t found looks more =
     record {
       floor = more_then (floor_seat a) (floor_seat b) (floor_seat c) (found_more lim (floor_seat a) (floor_seat b) t found (found_floor lim a b t found looks)) more.floor;
       waits = λ fact among. more.waits fact (seen.waits fact among);
+      looks = grown_then a.0.looks b.0.looks c.0.looks seen.looks more.looks;
       clear = ⊎_elim (λ (kept : c.0.clear ≡ b.0.clear). inl (kept ∙ same)) (λ (forgot : c.0.clear ≡ of_others t b.0.clear). inr (forgot ∙ ap (of_others t) same)) more.clear;
-      view = more.view ∙ ap (λ (v : TreeView). record v { floor = c.0.floor; waits = c.0.waits; clear = c.0.clear }) seen.view;
+      view = more.view ∙ ap (λ (v : TreeView). record v { floor = c.0.floor; waits = c.0.waits; clear = c.0.clear; looks = c.0.looks }) seen.view;
       out = more.out ∙ seen.out;
     }
 
@@ -179,3 +197,30 @@ module _ (lim : Bounds) (a b : TreeSeat) (t : ℕ) (more : KnowsMoreBeside a b t
 
   pub more_slots : HasTaskSlots lim.tasks a.1 → HasTaskSlots lim.tasks b.1
   more_slots has = subst (HasTaskSlots lim.tasks) (sym more.out) has
+
+-- Why a value was not had.
+
+pub busy_not_had : (a b : TreeSeat) (t : ℕ) (holder : Option ℕ) → FoundBusy a b t holder → WasNotDone a.0.looks b.0.looks t
+busy_not_had a b t holder busy =
+    (busy.found, inr (added_at (AtTurn t busy.found) a.0.looks b.0.looks (ap (λ (m : TreeSeat). m.0.looks) busy.seat), busy.busy))
+
+pub look_not_had : (lim : Bounds) (a b : TreeSeat) (t found : ℕ) → FollowedPhase lim a t found b → phase_of_word found ≢ phases.Done → WasNotDone a.0.looks b.0.looks t
+look_not_had lim a b t found looks other = (found, inl (added_at (AtPhase t found) a.0.looks b.0.looks (latest_look lim a b t found looks), other))
+
+pub not_had_since : (a b c : List Look) (t : ℕ) → HasGrown a b → WasNotDone b c t → WasNotDone a c t
+not_had_since a b c t grown (found, inl (look, other)) = (found, inl (added_before (AtPhase t found) a b c grown look, other))
+not_had_since a b c t grown (found, inr (look, other)) = (found, inr (added_before (AtTurn t found) a b c grown look, other))
+
+pub none_had_since : (a b c : List Look) (t : ℕ) (value : Option ℤ) → HasGrown a b → IfNone value (WasNotDone b c t) → IfNone value (WasNotDone a c t)
+none_had_since a b c t None grown had = not_had_since a b c t grown had
+none_had_since a b c t (Some value) grown had = tt
+
+pub waits_for : (a b : List Look) (t u : ℕ) → readiness.Waits t ≡ readiness.Waits u → WasNotDone a b t → WasNotDone a b u
+waits_for a b t u is had = subst (WasNotDone a b) (one_wait t u is) had
+  where
+    one_wait : (t u : ℕ) → readiness.Waits t ≡ readiness.Waits u → t ≡ u
+    one_wait t u h = cc
+
+pub not_had_then : (a b c : List Look) (t : ℕ) → WasNotDone a b t → HasGrown b c → WasNotDone a c t
+not_had_then a b c t (found, inl (look, other)) grown = (found, inl (added_then (AtPhase t found) a b c look grown, other))
+not_had_then a b c t (found, inr (look, other)) grown = (found, inr (added_then (AtTurn t found) a b c look grown, other))

@@ -1,7 +1,7 @@
 -- How a stand draws an entry beside the nodes: what it needs, and what it leaves.
 use Rattle.std.specs.Prelude.{◌≡◌, ◌≢◌, ◌+◌, ℕ, ◌∷◌, Option, None, Some}
 use Rattle.std.specs.Option.{ForSome}
-use Rattle.twe_limits.specs.Limits.{Bounds}
+use Rattle.twe_base.specs.Limits.{Bounds}
 use Rattle.twe_program.specs.Program.{Program}
 use Rattle.seg_journal.specs.declared.journal.End.{End}
 use Rattle.seg_exec.specs.declared.frame.Frame.{Frame}
@@ -14,14 +14,14 @@ use Rattle.floor_rule.specs.Steps.{end_after, first_turn, row_after}
 use Rattle.floor_table.specs.FloorOf.{turn_in}
 use Rattle.floor_table.specs.Layout.{asked_of_clock, entries_of_clock}
 use Rattle.floor_table.specs.Tells.{drawn_view, entry_at, with_turn}
-use Rattle.floor_steps.specs.Committing.{Log, MayCommitEntry, child_row, with_entry}
-use Rattle.admission_core.specs.States.{IsAmong, Record}
-use Rattle.node_rule.specs.TurnSteps.{HasPlacedChildren}
-use Rattle.tree_table.specs.declared.slot.TreeSlot.TheVariants as kinds
-use Rattle.tree_table.specs.EntrySeats.{admission_at, admitted_view}
-use Rattle.tree_table.specs.FloorSeats.{floor_seat}
-use Rattle.tree_table.specs.Seats.{TreeSeat, turns_seen}
-use Rattle.tree_table.specs.TurnSeats.{given_tree_view}
+use Rattle.task_floor.specs.steps.Committing.{Log, MayCommitEntry, child_row, with_entry}
+use Rattle.admission_laws.specs.admission_core.States.{IsAmong, Record}
+use Rattle.floor_rule.specs.nodes.TurnSteps.{HasPlacedChildren}
+use Rattle.floor_table.specs.declared.nodes.slot.TreeSlot.TheVariants as kinds
+use Rattle.floor_table.specs.nodes.EntrySeats.{admission_at, admitted_view}
+use Rattle.floor_table.specs.nodes.FloorSeats.{floor_seat}
+use Rattle.floor_table.specs.nodes.Seats.{TreeSeat, turns_seen}
+use Rattle.floor_table.specs.nodes.TurnSeats.{given_tree_view}
 use Rattle.task_floor.specs.Leaving.{stored_view}
 
 -- Entries of segments.
@@ -38,16 +38,18 @@ with_first me child row =
 
 -- the seat has had the first turn: it has stored the task's phase and given the turn
 abbrev pub with_first_given : TreeSeat → ℕ → TaskRow → TreeSeat
-with_first_given me child row = (given_tree_view (stored_view (with_first me child row).0 child (first_turn row)) child (first_turn row), me.1)
+with_first_given me child row =
+    (given_tree_view (stored_view (with_first me child row).0 child (first_turn row)) child (first_turn row), me.1)
 
 -- a spawned task is left with the seat, since its records are still to be placed; any other one is given at once
-abbrev pub made_by : Option ℕ → TreeSeat → ℕ → TaskRow → TreeSeat
-made_by None me child row = with_first_given me child row
-made_by (Some parent) me child row = with_first me child row
+abbrev pub made_in : Option ℕ → TreeSeat → ℕ → TaskRow → TreeSeat
+made_in None me child row = with_first_given me child row
+made_in (Some parent) me child row = with_first me child row
 
+-- the seat after the task with this row was made, if the entry made one
 abbrev pub with_made : TreeSeat → ℕ → Option TaskRow → TreeSeat
 with_made me child None = me
-with_made me child (Some row) = made_by row.parent me child row
+with_made me child (Some row) = made_in row.parent me child row
 
 -- what the slot of a spawned task will hold
 abbrev pub spawned_slot : Option ℕ → TaskRow → Option TaskSlot
@@ -63,14 +65,16 @@ left_to_place (Some row) = spawned_slot row.parent row
 -- log and what the seat knows have it. The slot is that of the task's new row. The segment is not open any more. The seat had no
 -- turn of a task that was made, and no record of it among those that it has placed. If that task was spawned, the seat has its
 -- first turn, and what its slot will hold was handed out.
-pub record HasCommittedBeside (lim : Bounds) (before : TreeSeat) (t : ℕ) (turn : HeldTurn) (frame : Frame) (stop : Stop) (number : ℕ) (end : End)
-    (child : Option TaskSlot) (slot : TaskSlot) (after : TreeSeat) (old_log new_log : Log) : Type 0 where
+pub record HasCommittedBeside (lim : Bounds) (before : TreeSeat) (t : ℕ) (turn : HeldTurn) (frame : Frame) (stop : Stop)
+    (number : ℕ) (end : End) (child : Option TaskSlot) (slot : TaskSlot) (after : TreeSeat) (old_log new_log : Log) : Type 0 where
   pub clock : ℕ
   pub number_is : number ≡ entries_of_clock clock
   pub end_is : end ≡ end_after lim (asked_of_clock clock) stop
   pub slot_is : slot ≡ slot_of (row_after lim (asked_of_clock clock) turn.row frame stop)
-  pub had_none : ForSome (child_row lim (asked_of_clock clock) t stop) (λ _. turn_in before.0.floor.turns (asked_of_clock clock + 1) ≡ None)
-  pub unplaced : ForSome (child_row lim (asked_of_clock clock) t stop) (λ _. (r : Record) → IsAmong r before.0.fresh → r.task ≢ asked_of_clock clock + 1)
+  pub had_none : ForSome (child_row lim (asked_of_clock clock) t stop)
+      (λ _. turn_in before.0.floor.turns (asked_of_clock clock + 1) ≡ None)
+  pub unplaced : ForSome (child_row lim (asked_of_clock clock) t stop)
+      (λ _. (r : Record) → IsAmong r before.0.fresh → r.task ≢ asked_of_clock clock + 1)
   pub child_is : child ≡ left_to_place (child_row lim (asked_of_clock clock) t stop)
   pub seat : after ≡ with_made (record before.0 { floor = drawn_view lim clock before.0.floor t turn frame stop }, before.1)
       (asked_of_clock clock + 1) (child_row lim (asked_of_clock clock) t stop)
@@ -78,9 +82,10 @@ pub record HasCommittedBeside (lim : Bounds) (before : TreeSeat) (t : ℕ) (turn
 
 -- Entries of admissions.
 
--- The admission of task t was drawn when the clock said this. The log and what the seat knows have it, and the seat knows that the
--- task is enabled.
-pub record HasAdmitted (before : TreeSeat) (t : ℕ) (turn : HeldTurn) (number : ℕ) (after : TreeSeat) (old_log new_log : Log) : Type 0 where
+-- The admission of task t was drawn when the clock said this. The log and what the seat knows have it, and the seat knows that
+-- the task is enabled.
+pub record HasAdmitted (before : TreeSeat) (t : ℕ) (turn : HeldTurn) (number : ℕ) (after : TreeSeat)
+    (old_log new_log : Log) : Type 0 where
   pub clock : ℕ
   pub number_is : number ≡ entries_of_clock clock
   pub seat : after ≡ (admitted_view clock before.0 t turn, before.1)

@@ -1,12 +1,12 @@
 -- What a stand has of the content of a node that it has locked. While the content is handed out, nothing lies in the node's slot.
 use Rattle.std.specs.Prelude.{◌≡◌, ℕ, List, ◌∷◌, None, Some}
-use Rattle.twe_limits.specs.Limits.{Bounds}
-use Rattle.admission_core.specs.States.{Record}
-use Rattle.tree_table.specs.declared.slot.TreeSlot.{TreeSlot}
-use Rattle.tree_table.specs.declared.slot.TreeSlot.TheVariants as kinds
-use Rattle.tree_table.specs.Layout.{content_place}
-use Rattle.tree_table.specs.Seats.{TreeSeat}
-use Rattle.tree_table.specs.TreeOf.{content_in}
+use Rattle.twe_base.specs.Limits.{Bounds}
+use Rattle.admission_laws.specs.admission_core.States.{Record}
+use Rattle.floor_table.specs.declared.nodes.slot.TreeSlot.{TreeSlot}
+use Rattle.floor_table.specs.declared.nodes.slot.TreeSlot.TheVariants as kinds
+use Rattle.floor_table.specs.nodes.Layout.{content_place}
+use Rattle.floor_table.specs.nodes.Seats.{TreeSeat}
+use Rattle.floor_table.specs.nodes.TreeOf.{content_in}
 
 -- what is in the slot of a node whose content was handed out
 abbrev pub nothing : TreeSlot
@@ -17,7 +17,8 @@ abbrev pub IsHandedOut : Bounds → TreeSeat → ℕ → List (ℕ × TreeSlot) 
 IsHandedOut lim me n rest = me.1 ≡ (content_place lim n, nothing) ∷ rest
 
 -- the stand was handed the content of node n, which is the one that it knows
-pub record HasTakenContent (lim : Bounds) (before : TreeSeat) (n : ℕ) (content : List Record) (rest : List (ℕ × TreeSlot)) (after : TreeSeat) : Type 0 where
+pub record HasTakenContent (lim : Bounds) (before : TreeSeat) (n : ℕ) (content : List Record) (rest : List (ℕ × TreeSlot))
+    (after : TreeSeat) : Type 0 where
   pub known : content_in before.0.kept n ≡ Some content
   pub seat : after ≡ (before.0, (content_place lim n, nothing) ∷ rest)
 
@@ -25,12 +26,14 @@ pub record HasTakenContent (lim : Bounds) (before : TreeSeat) (n : ℕ) (content
 abbrev pub HasGivenContent : Bounds → TreeSeat → ℕ → List Record → List (ℕ × TreeSlot) → TreeSeat → Type 0
 HasGivenContent lim before n content rest after = after ≡ (before.0, (content_place lim n, kinds.Node content) ∷ rest)
 
--- this content of node n was handed out, and is the one that the stand knows; the node's slot is the latest that the stand has out
+-- this content of node n was handed out, and is the one that the stand knows; the node's slot is the latest that the stand has
+-- out
 pub record HasInHand (lim : Bounds) (me : TreeSeat) (n : ℕ) (content : List Record) (rest : List (ℕ × TreeSlot)) : Type 0 where
   pub known : content_in me.0.kept n ≡ Some content
   pub slot : IsHandedOut lim me n rest
 
 -- the same, but the stand has taken this slot after that of node n
-pub record HasBehind (lim : Bounds) (me : TreeSeat) (n : ℕ) (content : List Record) (latest : ℕ × TreeSlot) (rest : List (ℕ × TreeSlot)) : Type 0 where
+pub record HasBehind (lim : Bounds) (me : TreeSeat) (n : ℕ) (content : List Record) (latest : ℕ × TreeSlot)
+    (rest : List (ℕ × TreeSlot)) : Type 0 where
   pub known : content_in me.0.kept n ≡ Some content
   pub slots : me.1 ≡ latest ∷ (content_place lim n, nothing) ∷ rest

@@ -1,28 +1,28 @@
 -- A worker between two tasks, and one that has a task in hand, beside the nodes.
 use Rattle.std.specs.Prelude.{◌≡◌, ◌≢◌, ◌⊎◌, ◌<◌, ℕ, true, false, List, [], ◌∷◌, None, Some}
 use Rattle.region_paths.specs.declared.elements.Elem.{Elem}
-use Rattle.twe_limits.specs.Limits.{Bounds}
+use Rattle.twe_base.specs.Limits.{Bounds}
 use Rattle.twe_machine.specs.Moves.{status_at_start}
 use Rattle.floor_rule.specs.declared.view.HeldTurn.{HeldTurn}
 use Rattle.floor_rule.specs.declared.view.TaskSlot.{TaskSlot}
 use Rattle.floor_rule.specs.Rows.{slot_of}
 use Rattle.floor_table.specs.declared.view.SeatKind.TheVariants.{Spent}
 use Rattle.floor_table.specs.FloorOf.{turn_in}
-use Rattle.floor_steps.specs.Committing.{Log}
-use Rattle.floor_steps.specs.Resuming.{HasInHand}
-use Rattle.floor_steps.specs.Segments.{MayRun}
-use Rattle.floor_steps.specs.Working.{IsIdle}
-use Rattle.admission_core.specs.States.{IsAmong, Record}
-use Rattle.tree_table.specs.declared.slot.TreeSlot.TheVariants as kinds
-use Rattle.tree_table.specs.declared.view.TreeView.{TreeView}
-use Rattle.tree_table.specs.FloorSeats.{floor_seat}
-use Rattle.tree_table.specs.Holds.{HasLeftTree}
-use Rattle.tree_table.specs.Seats.{TreeSeat}
-use Rattle.tree_table.specs.TreeOf.{content_in}
+use Rattle.task_floor.specs.steps.Committing.{Log}
+use Rattle.task_floor.specs.steps.Resuming.{HasInHand}
+use Rattle.task_floor.specs.steps.Segments.{MayRunSegment}
+use Rattle.task_floor.specs.steps.Working.{IsIdle}
+use Rattle.admission_laws.specs.admission_core.States.{IsAmong, Record}
+use Rattle.floor_table.specs.declared.nodes.slot.TreeSlot.TheVariants as kinds
+use Rattle.floor_table.specs.declared.nodes.view.TreeView.{TreeView}
+use Rattle.floor_table.specs.nodes.FloorSeats.{floor_seat}
+use Rattle.floor_table.specs.nodes.Holds.{HasLeftTree}
+use Rattle.floor_table.specs.nodes.Seats.{TreeSeat}
+use Rattle.floor_table.specs.nodes.TreeOf.{content_in}
 use Rattle.task_floor.specs.Resuming.{KnowsEnough}
 
--- The worker has nothing in hand: no turn, no slot and no open segment, and nothing of the tree. The stand is its own, and its log
--- has the entries that the stand knows.
+-- The worker has nothing in hand: no turn, no slot and no open segment, and nothing of the tree. The stand is its own, and its
+-- log has the entries that the stand knows.
 pub record IsIdleBeside (number : ℕ) (me : TreeSeat) (log : Log) : Type 0 where
   pub floor : IsIdle number (floor_seat me) log
   pub out : me.1 ≡ []
@@ -45,7 +45,8 @@ pub record HoldsOneBeside (number : ℕ) (me : TreeSeat) (log : Log) (t : ℕ) :
   pub outside : IsOutsideWith (λ u. u ≡ t) me.0
 
 -- it has that turn, between two entries, with this in its hand, and knows enough of the nodes to give it
-pub record HoldsTaskBeside (nodes : List (List Elem)) (number : ℕ) (me : TreeSeat) (log : Log) (t : ℕ) (slot : TaskSlot) (turn : HeldTurn) : Type 0 where
+pub record HoldsTaskBeside (nodes : List (List Elem)) (number : ℕ) (me : TreeSeat) (log : Log) (t : ℕ) (slot : TaskSlot)
+    (turn : HeldTurn) : Type 0 where
   pub one : HoldsOneBeside number me log t
   pub in_hand : HasInHand (floor_seat me) t turn slot.frame
   pub slot_is : slot ≡ slot_of turn.row
@@ -54,7 +55,7 @@ pub record HoldsTaskBeside (nodes : List (List Elem)) (number : ℕ) (me : TreeS
 -- and it may run the next segment from the frame of this slot
 pub record HoldsReadyBeside (number : ℕ) (me : TreeSeat) (log : Log) (t : ℕ) (slot : TaskSlot) (turn : HeldTurn) : Type 0 where
   pub one : HoldsOneBeside number me log t
-  pub may : MayRun (floor_seat me) t turn slot.frame
+  pub may : MayRunSegment (floor_seat me) t turn slot.frame
   pub slot_is : slot ≡ record (slot_of turn.row) { frame = slot.frame }
 
 -- and it has drawn the entry of its segment, which has left this slot
@@ -65,9 +66,10 @@ pub record HoldsDrawnBeside (number : ℕ) (me : TreeSeat) (log : Log) (t : ℕ)
   pub slot_is : slot ≡ slot_of turn.row
   pub closed : me.0.floor.segment ≡ None
 
--- The same with a spawned child: the worker has the first turn of task c too, which the entry has made, and what c's slot will hold.
-pub record HoldsChildBeside (lim : Bounds) (number : ℕ) (me : TreeSeat) (log : Log) (t : ℕ) (slot : TaskSlot) (turn : HeldTurn) (c : ℕ) (child : TaskSlot)
-    (new : HeldTurn) : Type 0 where
+-- The same with a spawned child: the worker has the first turn of task c too, which the entry has made, and what c's slot will
+-- hold.
+pub record HoldsChildBeside (lim : Bounds) (number : ℕ) (me : TreeSeat) (log : Log) (t : ℕ) (slot : TaskSlot) (turn : HeldTurn)
+    (c : ℕ) (child : TaskSlot) (new : HeldTurn) : Type 0 where
   pub live : me.0.floor.kind ≢ Spent
   pub number_is : number ≡ me.0.floor.worker
   pub others : (u : ℕ) → u ≢ t → u ≢ c → turn_in me.0.floor.turns u ≡ None

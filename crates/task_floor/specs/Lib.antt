@@ -8,3 +8,4 @@ pub mod Resuming
 pub mod Committing
 pub mod inner
 pub mod Holding
+pub mod steps

@@ -1,21 +1,22 @@
 -- How a floor starts with the nodes of the tree.
 use Rattle.std.specs.Prelude.{◌≡◌, ℕ, List}
 use Rattle.region_paths.specs.declared.elements.Elem.{Elem}
-use Rattle.twe_limits.specs.Limits.{Bounds}
+use Rattle.twe_base.specs.Limits.{Bounds}
 use Rattle.twe_program.specs.Program.{Program}
 use Rattle.twe_machine.specs.declared.state.State.{State}
 use Rattle.twe_machine.specs.Runs.{IsRun}
-use Rattle.journal_merge.specs.declared.numbered.NumberedEntry.{NumberedEntry}
-use Rattle.journal_merge.specs.Merging.{journal_of, prints_of}
+use Rattle.seg_journal.specs.declared.numbered.NumberedEntry.{NumberedEntry}
+use Rattle.seg_journal.specs.Merging.{journal_of, prints_of}
 use Rattle.floor_rule.specs.Rule.{AreInOrder}
-use Rattle.admission_core.specs.States.{Record}
-use Rattle.node_rule.specs.Starts.{AreOfEnabled}
-use Rattle.tree_table.specs.declared.slot.TreeSlot.{TreeSlot}
-use Rattle.tree_table.specs.Holds.{IsTreeLaidOut}
+use Rattle.admission_laws.specs.admission_core.States.{Record}
+use Rattle.floor_rule.specs.nodes.Starts.{AreOfEnabled}
+use Rattle.floor_table.specs.declared.nodes.slot.TreeSlot.{TreeSlot}
+use Rattle.floor_table.specs.nodes.Holds.{IsTreeLaidOut}
 
--- the words and slots show the state of a run, whose entries are those of the log, and the records, which are those of its enabled
--- tasks
-pub record ShowsTreeRun (nodes : List (List Elem)) (p : Program) (lim : Bounds) (log : List NumberedEntry) (st : State) (records : List Record) (words : List ℕ) (slots : List TreeSlot) : Type 0 where
+-- the words and slots show the state of a run, whose entries are those of the log, and the records, which are those of its
+-- enabled tasks
+pub record ShowsTreeRun (nodes : List (List Elem)) (p : Program) (lim : Bounds) (log : List NumberedEntry) (st : State)
+    (records : List Record) (words : List ℕ) (slots : List TreeSlot) : Type 0 where
   pub run : IsRun p lim (journal_of log) st
   pub order : AreInOrder log
   pub prints : st.prints ≡ prints_of log

@@ -2,13 +2,18 @@
 use Rattle.std.specs.Prelude.{◌≡◌, ◌≢◌, ◌⊎◌, ℕ, List, None}
 use Rattle.region_paths.specs.declared.elements.Elem.{Elem}
 use Rattle.twe_machine.specs.declared.state.TaskRow.{TaskRow}
-use Rattle.floor_steps.specs.Resuming.{KnowsMore, MovesOn}
-use Rattle.admission_core.specs.States.{IsAmong}
-use Rattle.node_rule.specs.Trees.{WaitFact}
-use Rattle.node_rule.specs.TurnSteps.{HasPlacedChildren, LeavesNone, of_others}
-use Rattle.tree_table.specs.declared.view.TreeView.{TreeView}
-use Rattle.tree_table.specs.FloorSeats.{floor_seat}
-use Rattle.tree_table.specs.Seats.{TreeSeat, tree_seen, turns_seen}
+use Rattle.task_floor.specs.steps.Resuming.{KnowsMore, MovesOn}
+use Rattle.admission_laws.specs.admission_core.States.{IsAmong}
+use Rattle.floor_rule.specs.declared.view.Phase.TheVariants.{Done}
+use Rattle.floor_rule.specs.nodes.Trees.{WaitFact}
+use Rattle.floor_rule.specs.nodes.TurnSteps.{HasPlacedChildren, LeavesNone, of_others}
+use Rattle.floor_table.specs.Added.{HasGrown, IsAdded}
+use Rattle.floor_table.specs.Layout.{free_word, phase_of_word}
+use Rattle.floor_table.specs.declared.nodes.view.Look.{Look}
+use Rattle.floor_table.specs.declared.nodes.view.Look.TheVariants.{AtPhase, AtTurn}
+use Rattle.floor_table.specs.declared.nodes.view.TreeView.{TreeView}
+use Rattle.floor_table.specs.nodes.FloorSeats.{floor_seat}
+use Rattle.floor_table.specs.nodes.Seats.{TreeSeat, tree_seen, turns_seen}
 
 -- A seat with this view, which took the turn of task t, knows enough of the nodes to give it while the task has this row: it does
 -- nothing in the tree, has placed all children of the task, and leaves no record that has to be removed.
@@ -17,20 +22,40 @@ pub record KnowsEnough (nodes : List (List Elem)) (v : TreeView) (t : ℕ) (row 
   pub children : HasPlacedChildren (turns_seen v) 0 t
   pub leaves : LeavesNone nodes (tree_seen v) 0 t row.effects.effects row.status
 
--- The seat may know more tasks to be done and more waits. It may have forgotten which records of task t do not
--- stand. All else is as before.
+-- One of the looks that were added shows why the value of task t was not had: its phase word did not say that it is done, or its
+-- turn word was not free.
+abbrev pub WasNotDone : List Look → List Look → ℕ → Type 0
+WasNotDone before after t =
+    (found : ℕ)
+    × ((IsAdded (AtPhase t found) before after × (phase_of_word found ≢ Done))
+    ⊎ (IsAdded (AtTurn t found) before after × (found ≢ free_word)))
+
+-- The seat may know more tasks to be done and more waits, and may have looked. It may have forgotten which records of task t do
+-- not stand. All else is as before.
 pub record KnowsMoreBeside (before after : TreeSeat) (t : ℕ) : Type 0 where
   pub floor : KnowsMore (floor_seat before) (floor_seat after)
   pub waits : (fact : WaitFact) → IsAmong fact before.0.waits → IsAmong fact after.0.waits
+  pub looks : HasGrown before.0.looks after.0.looks
   pub clear : (after.0.clear ≡ before.0.clear) ⊎ (after.0.clear ≡ of_others t before.0.clear)
-  pub view : after.0 ≡ record before.0 { floor = after.0.floor; waits = after.0.waits; clear = after.0.clear }
+  pub view : after.0 ≡ record before.0 {
+    floor = after.0.floor;
+    waits = after.0.waits;
+    clear = after.0.clear;
+    looks = after.0.looks;
+  }
   pub out : after.1 ≡ before.1
 
--- The seat may know more tasks to be done and more waits, and may have another turn of task t. It may have forgotten which
--- records of one other task do not stand. All else is as before.
+-- The seat may know more tasks to be done and more waits, may have looked, and may have another turn of task t. It may have
+-- forgotten which records of one other task do not stand. All else is as before.
 pub record MovesOnBeside (before after : TreeSeat) (t : ℕ) : Type 0 where
   pub floor : MovesOn (floor_seat before) (floor_seat after) t
   pub waits : (fact : WaitFact) → IsAmong fact before.0.waits → IsAmong fact after.0.waits
+  pub looks : HasGrown before.0.looks after.0.looks
   pub clear : (after.0.clear ≡ before.0.clear) ⊎ ((u : ℕ) × (u ≢ t) × (after.0.clear ≡ of_others u before.0.clear))
-  pub view : after.0 ≡ record before.0 { floor = after.0.floor; waits = after.0.waits; clear = after.0.clear }
+  pub view : after.0 ≡ record before.0 {
+    floor = after.0.floor;
+    waits = after.0.waits;
+    clear = after.0.clear;
+    looks = after.0.looks;
+  }
   pub out : after.1 ≡ before.1

@@ -1,12 +1,13 @@
--- What a call of the floor says of a stand that holds no node. Its floor's seat knows all but the nodes, and has the slots of tasks.
+-- What a call of the floor says of a stand that holds no node. Its floor's seat knows all but the nodes, and has the slots of
+-- tasks.
 use Rattle.std.specs.Prelude.{◌≡◌}
 use Rattle.atomic_table.specs.declared.shared.Seat.{Seat as TableSeat}
-use Rattle.twe_limits.specs.Limits.{Bounds}
-use Rattle.floor_steps.specs.Segments.{StandValue}
-use Rattle.tree_table.specs.declared.slot.TreeSlot.{TreeSlot}
-use Rattle.tree_table.specs.declared.view.TreeView.{TreeView}
-use Rattle.tree_table.specs.FloorSeats.{HasTaskSlots, floor_seat}
-use Rattle.tree_table.specs.Seats.{TreeSeat}
+use Rattle.twe_base.specs.Limits.{Bounds}
+use Rattle.task_floor.specs.steps.Segments.{StandValue}
+use Rattle.floor_table.specs.declared.nodes.slot.TreeSlot.{TreeSlot}
+use Rattle.floor_table.specs.declared.nodes.view.TreeView.{TreeView}
+use Rattle.floor_table.specs.nodes.FloorSeats.{HasTaskSlots, floor_seat}
+use Rattle.floor_table.specs.nodes.Seats.{TreeSeat}
 
 -- a stand, as clauses see it
 abbrev pub TreeStand : Type 0

@@ -1,19 +1,21 @@
--- Taking and giving the turn of a task beside the nodes. The slot of a task is empty while a worker has its turn, since what lay in
--- it was handed out.
+-- Taking and giving the turn of a task beside the nodes. The slot of a task is empty while a worker has its turn, since what lay
+-- in it was handed out.
 use Rattle.std.specs.Prelude.{◌≡◌, ◌≢◌, ℕ, List, ◌∷◌, Option, None}
 use Rattle.region_paths.specs.declared.elements.Elem.{Elem}
 use Rattle.floor_rule.specs.declared.view.HeldTurn.{HeldTurn}
 use Rattle.floor_rule.specs.declared.view.TaskSlot.{TaskSlot}
 use Rattle.floor_table.specs.Layout.{free_word}
-use Rattle.floor_steps.specs.Stands.{HasTaken, MayGiveBack, holder_in}
-use Rattle.admission_core.specs.States.{IsAmong, Record}
-use Rattle.node_rule.specs.Taking.{clear_after_taking}
-use Rattle.node_rule.specs.TurnSteps.{HasPlacedChildren}
-use Rattle.tree_table.specs.declared.slot.TreeSlot.{TreeSlot}
-use Rattle.tree_table.specs.declared.slot.TreeSlot.TheVariants as kinds
-use Rattle.tree_table.specs.FloorSeats.{floor_seat, tasks_out}
-use Rattle.tree_table.specs.Seats.{TreeSeat, turns_seen}
-use Rattle.tree_table.specs.TurnSeats.{MayLeaveTask}
+use Rattle.task_floor.specs.steps.Stands.{HasTaken, MayGiveBack, holder_in}
+use Rattle.admission_laws.specs.admission_core.States.{IsAmong, Record}
+use Rattle.floor_rule.specs.nodes.Taking.{clear_after_taking}
+use Rattle.floor_rule.specs.nodes.TurnSteps.{HasPlacedChildren}
+use Rattle.floor_table.specs.declared.nodes.slot.TreeSlot.{TreeSlot}
+use Rattle.floor_table.specs.declared.nodes.slot.TreeSlot.TheVariants as kinds
+use Rattle.floor_table.specs.nodes.FloorSeats.{floor_seat, tasks_out}
+use Rattle.floor_table.specs.declared.nodes.view.Look.TheVariants.{AtTurn}
+use Rattle.floor_table.specs.nodes.Looks.{looked_seat}
+use Rattle.floor_table.specs.nodes.Seats.{TreeSeat, turns_seen}
+use Rattle.floor_table.specs.nodes.TurnSeats.{MayLeaveTask}
 
 -- The seat has taken the turn of task t as a seat of the floor does, and was handed what lay in the task's slot. It has placed no
 -- record of the task since it last got a turn of it, and has no first turn of a child of the task. Unless the task is enabled, it
@@ -28,16 +30,18 @@ pub record HasTakenTask (nodes : List (List Elem)) (before after : TreeSeat) (t 
   }
   pub out : after.1 ≡ (t, kinds.Task None) ∷ before.1
 
--- the turn word was not free, and named this worker, or none; the seat is as it was
-pub record FoundBusy (before after : TreeSeat) (holder : Option ℕ) : Type 0 where
+-- The turn word of task t was not free, and named this worker, or none. The seat knows that it looked and what it found, and is
+-- as it was otherwise.
+pub record FoundBusy (before after : TreeSeat) (t : ℕ) (holder : Option ℕ) : Type 0 where
   pub found : ℕ
   pub busy : found ≢ free_word
   pub named : holder ≡ holder_in found
-  pub seat : after ≡ before
+  pub seat : after ≡ looked_seat before (AtTurn t found)
 
--- The seat may give the turn of task t with this in its slot, as a seat of the floor may. The slot is empty and the latest that the
--- seat has out. Of the nodes the seat knows enough.
-pub record MayGiveTask (nodes : List (List Elem)) (me : TreeSeat) (t : ℕ) (slot : TaskSlot) (turn : HeldTurn) (rest : List (ℕ × TreeSlot)) : Type 0 where
+-- The seat may give the turn of task t with this in its slot, as a seat of the floor may. The slot is empty and the latest that
+-- the seat has out. Of the nodes the seat knows enough.
+pub record MayGiveTask (nodes : List (List Elem)) (me : TreeSeat) (t : ℕ) (slot : TaskSlot) (turn : HeldTurn)
+    (rest : List (ℕ × TreeSlot)) : Type 0 where
   pub floor : MayGiveBack (floor_seat me) t slot turn (tasks_out rest)
   pub out : me.1 ≡ (t, kinds.Task None) ∷ rest
   pub leaves : MayLeaveTask nodes me.0 t turn

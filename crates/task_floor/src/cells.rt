@@ -4,14 +4,14 @@ ghost use Rattle.twe_program.specs.Program.{cell_count};
 ghost use Rattle.seg_exec.specs.Access.{Reads, Writes};
 ghost use Rattle.floor_table.specs.declared.view.SeatKind.TheVariants.{Spent};
 ghost use Rattle.floor_table.specs.Tells.{IsLastTouch, IsLatest, WroteCell};
-ghost use Rattle.floor_steps.specs.Stands.{HasLoaded, MayAccess};
-ghost use Rattle.tree_table.specs.FloorSeats.{HasTaskSlots, floor_seat};
+ghost use Rattle.task_floor.specs.steps.Stands.{HasLoaded, MayAccess};
+ghost use Rattle.floor_table.specs.nodes.FloorSeats.{HasTaskSlots, floor_seat};
 ghost use Rattle.task_floor.specs.Stands.{StaysInTree};
 
 use crate::floor::{Floor, Stand};
 use crate::words::{value_of, word_of_value};
 use floor_table::Named;
-use tree_table::{LoadTreeCell, Planted, StoreTreeCell};
+use floor_table::nodes::{LoadTreeCell, Planted, StoreTreeCell};
 
 impl<N: Named + Planted> Floor<N> {
     /// Loads a cell for the task whose slot is the latest that the stand has out, if the segment of that task may read the cell.

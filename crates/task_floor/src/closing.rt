@@ -3,13 +3,13 @@ ghost use Rattle.std.specs.Prelude.{◌≡◌};
 ghost use Rattle.core.specs.Mem.Slots.{IsFull, slots_items};
 ghost use Rattle.floor_table.specs.declared.view.SeatKind.TheVariants.{Main};
 ghost use Rattle.floor_table.specs.Holds.{HasGivenAll};
-ghost use Rattle.tree_table.specs.Shown.{EndedBesideNodes};
+ghost use Rattle.floor_table.specs.nodes.Shown.{EndedBesideNodes};
 
 use crate::floor::{Floor, Stand};
 use atomic_table::Closed;
 use floor_table::Named;
+use floor_table::nodes::{Planted, TreeSlot};
 use std::alloc::Global;
-use tree_table::{Planted, TreeSlot};
 
 impl<N: Named + Planted> Floor<N> {
     /// Closes the floor, once all other stands were joined to the main one and it has given all its turns. The entries of that

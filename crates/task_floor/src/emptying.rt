@@ -11,9 +11,9 @@ use crate::floor::{Floor, Stand};
 use atomic_table::Closed;
 use floor_rule::TaskSlot;
 use floor_table::Named;
+use floor_table::nodes::{Planted, TreeSlot};
 use std::alloc::Global;
-use tree_table::{Planted, TreeSlot};
-use twe_io::{List, Memory};
+use twe_base::{List, Memory};
 
 /// The words of the floor, without those of nodes, and what lies in the slots of tasks.
 #[derive(Drop)]

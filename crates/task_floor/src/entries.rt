@@ -6,10 +6,10 @@ ghost use Rattle.seg_exec.specs.declared.stop.Stop.{Stop};
 ghost use Rattle.floor_rule.specs.declared.view.HeldTurn.{HeldTurn};
 ghost use Rattle.floor_table.specs.declared.view.SeatKind.TheVariants.{Spent};
 ghost use Rattle.floor_table.specs.Tells.{IsLatest, MayDraw, clock_step};
-ghost use Rattle.node_rule.specs.TurnSteps.{HasPlacedChildren};
-ghost use Rattle.tree_table.specs.EntrySeats.{DrewAdmission, DrewTreeEntry, MayAdmitLatest};
-ghost use Rattle.tree_table.specs.FloorSeats.{HasTaskSlots, floor_seat};
-ghost use Rattle.tree_table.specs.Seats.{TreeSeat, turns_seen};
+ghost use Rattle.floor_rule.specs.nodes.TurnSteps.{HasPlacedChildren};
+ghost use Rattle.floor_table.specs.nodes.EntrySeats.{DrewAdmission, DrewTreeEntry, MayAdmitLatest};
+ghost use Rattle.floor_table.specs.nodes.FloorSeats.{HasTaskSlots, floor_seat};
+ghost use Rattle.floor_table.specs.nodes.Seats.{TreeSeat, turns_seen};
 ghost use Rattle.task_floor.specs.Committing.{HasAdmitted, HasCommittedBeside, MayCommitBeside, left_to_place, with_made};
 ghost use Rattle.task_floor.specs.inner.Bringing.{MayBringBeside};
 
@@ -19,12 +19,11 @@ use crate::floor::{Floor, Stand};
 use crate::settling::{settle, take_prints};
 use floor_rule::TaskSlot;
 use floor_table::Named;
-use journal_merge::NumberedEntry;
+use floor_table::nodes::{DrawAdmission, DrawTreeEntry, Planted};
 use seg_exec::Stop;
-use seg_journal::{End, Entry, Kind, Limits, Move};
+use seg_journal::{End, Entry, Kind, Limits, Move, NumberedEntry};
 use std::alloc::Global;
-use tree_table::{DrawAdmission, DrawTreeEntry, Planted};
-use twe_io::Ints;
+use twe_base::Ints;
 
 /// An entry of a segment that was drawn.
 #[derive(Debug, Drop)]

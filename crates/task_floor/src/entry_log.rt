@@ -1,11 +1,11 @@
 //! The entries that a worker has drawn.
 ghost use Rattle.std.specs.Prelude.{◌≡◌, ◌<◌, OnOk, OnErr};
-ghost use Rattle.floor_steps.specs.Committing.{empty_log, with_entry};
+ghost use Rattle.task_floor.specs.steps.Committing.{empty_log, with_entry};
 
-use journal_merge::{NumberedEntry, Part};
+use seg_journal::{JournalPart, NumberedEntry};
 use std::alloc::Global;
 use std::marker::Model;
-use twe_io::{List, Memory};
+use twe_base::{List, Memory};
 
 /// The entries that a worker has drawn, in order, with room that is reserved for the next one. Contracts see the entries, and
 /// how many more can be added without taking memory.
@@ -18,7 +18,7 @@ pub struct EntryLog {
 
 impl Model for EntryLog {
     ghost use Rattle.std.specs.Prelude.{◌+◌, ◌≤◌, vec_len, vec_capacity};
-    ghost use Rattle.floor_steps.specs.Committing.{Log};
+    ghost use Rattle.task_floor.specs.steps.Committing.{Log};
 
     ghost Value = { Log };
 
@@ -34,16 +34,6 @@ impl EntryLog {
     {
         EntryLog {
             entries: Vec::new(alloc),
-            room: 0,
-        }
-    }
-
-    /// These entries, and no room for one more. It takes no memory.
-    pub fn of(part: Part) -> Self
-        ensures { result ≡ record { entries = part; room = 0 } }
-    {
-        EntryLog {
-            entries: part.into_vec(),
             room: 0,
         }
     }
@@ -67,15 +57,8 @@ impl EntryLog {
         self.room -= 1;
     }
 
-    /// The entries.
-    pub fn as_slice(&self) -> &[NumberedEntry]
-        ensures { result.now ≡ self.now.entries }
-    {
-        self.entries.as_slice()
-    }
-
     /// The entries, as a part of a journal. It takes no memory.
-    pub fn into_part(self) -> Part
+    pub fn into_part(self) -> JournalPart
         ensures { result ≡ self.entries }
     {
         let EntryLog { entries, room: _ } = self;

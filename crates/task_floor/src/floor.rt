@@ -2,13 +2,13 @@
 ghost use Rattle.std.specs.Prelude.{◌≡◌, ◌<◌, ◌^◌, length};
 ghost use Rattle.twe_program.specs.Program.{cell_count};
 ghost use Rattle.floor_table.specs.Layout.{cell_place, phase_place, turn_place, word_count};
-ghost use Rattle.tree_table.specs.Layout.{content_place, lock_place, tree_slot_count, tree_word_count};
+ghost use Rattle.floor_table.specs.nodes.Layout.{content_place, lock_place, tree_slot_count, tree_word_count};
 
 use atomic_table::{Seat, Table};
 use floor_table::Named;
+use floor_table::nodes::{Planted, TreeLaw, TreeSlot, TreeStart, TreeView};
 use std::alloc::Global;
 use std::marker::Model;
-use tree_table::{Planted, TreeLaw, TreeSlot, TreeStart, TreeView};
 
 /// The floor of a run with the nodes of its tree, which all workers share. `N` names the program, the limits and the nodes.
 /// Clauses see the name of its table.
@@ -28,7 +28,7 @@ impl<N: Named + Planted> Model for Floor<N> {
     ghost use Rattle.atomic_table.specs.Seated.{TableId};
     ghost use Rattle.twe_program.specs.Program.{cell_count};
     ghost use Rattle.floor_table.specs.Layout.{word_count};
-    ghost use Rattle.tree_table.specs.Layout.{tree_slot_count, tree_word_count};
+    ghost use Rattle.floor_table.specs.nodes.Layout.{tree_slot_count, tree_word_count};
 
     ghost Value = { TableId };
 

@@ -1,14 +1,14 @@
 //! The words and the slots of a floor that starts from a state.
 ghost use Rattle.std.specs.Prelude.{◌≡◌, ◌<◌, ◌≤◌, ◌-◌, ◌^◌, ◌++◌, ℕ, List, None, length, map, replicate, drop, IfOk, OnOk};
 ghost use Rattle.floor_rule.specs.Rows.{slot_of};
-ghost use Rattle.floor_steps.specs.inner.Laying.{AreWordsOf, gap_words, head_words, held_slot, made_words, unmade_words};
+ghost use Rattle.task_floor.specs.steps.inner.Laying.{AreWordsOf, gap_words, head_words, held_slot, made_words, unmade_words};
 
 use crate::clock::clock_of;
 use crate::row_phase::phase_of;
 use crate::words::{word_of, word_of_value};
 use floor_rule::TaskSlot;
 use std::alloc::Global;
-use twe_io::{List, Memory};
+use twe_base::{List, Memory};
 use twe_machine::{State, TaskRow};
 
 /// The words that show a state after this many entries, if so many tasks may be made.
@@ -21,7 +21,8 @@ pub(crate) fn words_of(
     requires clock { (st.now.asked < 2 ^ 19) × (entries < 2 ^ 45) }
     requires tasks { length st.now.tasks ≤ tasks }
     ensures { IfOk result (λ words. (cells : List ℕ) × AreWordsOf st.now.cells cells
-        × (words ≡ head_words st.now.asked entries ++ (cells ++ (gap_words ++ (made_words st.now.tasks ++ unmade_words (tasks - length st.now.tasks)))))) }
+        × (words ≡ head_words st.now.asked entries
+        ++ (cells ++ (gap_words ++ (made_words st.now.tasks ++ unmade_words (tasks - length st.now.tasks)))))) }
 {
     let mut words = head_words(alloc, st.asked, entries)?;
     add_cells(&mut words, st.cells.as_slice())?;

@@ -3,8 +3,8 @@ ghost use Rattle.std.specs.Prelude.{◌≡◌, ◌≢◌, ◌<◌, ℕ, List};
 ghost use Rattle.floor_rule.specs.declared.view.HeldTurn.{HeldTurn};
 ghost use Rattle.floor_rule.specs.Rows.{phase_of};
 ghost use Rattle.floor_table.specs.declared.view.SeatKind.TheVariants.{Spent};
-ghost use Rattle.tree_table.specs.declared.slot.TreeSlot.{TreeSlot};
-ghost use Rattle.tree_table.specs.FloorSeats.{HasTaskSlots};
+ghost use Rattle.floor_table.specs.declared.nodes.slot.TreeSlot.{TreeSlot};
+ghost use Rattle.floor_table.specs.nodes.FloorSeats.{HasTaskSlots};
 ghost use Rattle.task_floor.specs.Leaving.{HasLeftTask, MayFinishTask, MayGiveNew, MayGoFrom, MayParkTask};
 
 use crate::floor::{Floor, Stand};
@@ -12,7 +12,7 @@ use crate::row_phase::enabled_phase;
 use crate::settling::new_phase;
 use floor_rule::{Phase, TaskSlot};
 use floor_table::Named;
-use tree_table::Planted;
+use floor_table::nodes::Planted;
 
 impl<N: Named + Planted> Floor<N> {
     /// Leaves an enabled task whose slot is the latest that the stand has out, with what its last entry left: stores its phase,

@@ -28,6 +28,7 @@ mod segments;
 mod settling;
 mod sorting;
 mod stands;
+pub mod steps;
 mod turning;
 mod turns;
 mod unjoined;

@@ -2,11 +2,11 @@
 ghost use Rattle.std.specs.Prelude.{◌≡◌, ◌<◌, length, map, slice_set, IfOk, if◌then◌else◌};
 ghost use Rattle.std.specs.Option.{ForSome};
 ghost use Rattle.wait_graph.specs.Link.{IsOrdered, link_of, new_link, with_done, with_joined};
-ghost use Rattle.twe_machine.specs.Rows.{awaited, is_done_status, link_of_row};
-ghost use Rattle.floor_steps.specs.inner.Reading.{links_to};
+ghost use Rattle.twe_machine.specs.Rows.{row_awaited, is_done_status, link_of_row};
+ghost use Rattle.task_floor.specs.steps.inner.Reading.{links_to};
 
 use std::alloc::Global;
-use twe_io::Memory;
+use twe_base::Memory;
 use twe_machine::{TaskRow, TaskStatus, awaited};
 use wait_graph::Links;
 
@@ -38,8 +38,8 @@ fn fresh_links(alloc: Global, rows: &[TaskRow]) -> Result<Links, Memory>
 fn set_link(links: &mut Links, t: u32, row: &TaskRow)
     requires there { t < length links.old }
     requires fresh { link_of links.old t ≡ new_link row.now.parent }
-    requires on_above { ForSome (awaited row.now.frame.next) (λ u. t < u) }
-    requires on_there { ForSome (awaited row.now.frame.next) (λ u. u < length links.old) }
+    requires on_above { ForSome (row_awaited row.now.frame.next) (λ u. t < u) }
+    requires on_there { ForSome (row_awaited row.now.frame.next) (λ u. u < length links.old) }
     ensures { links.new ≡ slice_set links.old t (link_of_row row.now) }
 {
     links.set_wait(t, awaited(row.frame.next));

@@ -1,13 +1,13 @@
 //! How a worker locks nodes. Each call is one try, with one atomic step: it doesn't wait for a lock that another worker has.
 ghost use Rattle.std.specs.Prelude.{◌≡◌, ◌<◌, IsFalse, IsTrue, length};
 ghost use mathlib.Core.Option.{none, some};
-ghost use Rattle.admission_core.specs.States.{Activity};
-ghost use Rattle.tree_table.specs.declared.slot.TreeSlot.TheVariants as kinds;
-ghost use Rattle.tree_table.specs.Seats.{MayLock, TookNode};
+ghost use Rattle.admission_laws.specs.admission_core.States.{Activity};
+ghost use Rattle.floor_table.specs.declared.nodes.slot.TreeSlot.TheVariants as kinds;
+ghost use Rattle.floor_table.specs.nodes.Seats.{MayLock, TookNode};
 
 use crate::floor::{Floor, Stand};
 use floor_table::Named;
-use tree_table::{Errand, Planted, TreeSlot, TryNode};
+use floor_table::nodes::{Errand, Planted, TreeSlot, TryNode};
 
 impl<N: Named + Planted> Floor<N> {
     /// Tries to lock the root for this worker, whose stand it is and which does nothing in the tree. The stand announces what it

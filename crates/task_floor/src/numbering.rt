@@ -1,14 +1,13 @@
 //! The entries of a journal with their numbers.
 ghost use Rattle.std.specs.Prelude.{◌≡◌, IfOk};
-ghost use Rattle.floor_steps.specs.Waking.{log_of, numbered_from};
+ghost use Rattle.task_floor.specs.steps.Waking.{log_of, numbered_from};
 
-use journal_merge::{NumberedEntry, Part};
-use seg_journal::Entry;
+use seg_journal::{Entry, JournalPart, NumberedEntry};
 use std::alloc::Global;
-use twe_io::{Ints, Memory};
+use twe_base::{Ints, Memory};
 
 /// The entries of a journal with their numbers. All that the run has printed stands beside the last of them.
-pub(crate) fn log_of(alloc: Global, journal: &[Entry], prints: Ints) -> Result<Part, Memory>
+pub(crate) fn log_of(alloc: Global, journal: &[Entry], prints: Ints) -> Result<JournalPart, Memory>
     ensures { IfOk result (λ log. log ≡ log_of journal.now prints) }
 {
     let mut log = numbered(alloc, journal)?;
@@ -24,10 +23,10 @@ pub(crate) fn log_of(alloc: Global, journal: &[Entry], prints: Ints) -> Result<P
 }
 
 /// The entries of a journal with their numbers, and nothing printed beside them.
-fn numbered(alloc: Global, journal: &[Entry]) -> Result<Part, Memory>
+fn numbered(alloc: Global, journal: &[Entry]) -> Result<JournalPart, Memory>
     ensures { IfOk result (λ log. log ≡ numbered_from 0 journal.now) }
 {
-    let mut log = Part::with_capacity(alloc, journal.len())?;
+    let mut log = JournalPart::with_capacity(alloc, journal.len())?;
     for (i, entry) in journal.iter().enumerate() {
         log.push(NumberedEntry {
             number: i as u64,

@@ -1,20 +1,20 @@
 //! How a floor is opened.
 ghost use Rattle.std.specs.Prelude.{◌≡◌, [], IfOk};
 ghost use Rattle.prefix_tree.specs.Nodes.{IsTreeOfPaths};
-ghost use Rattle.twe_limits.specs.Limits.{IsWithin};
+ghost use Rattle.twe_base.specs.Limits.{IsWithin};
 ghost use Rattle.twe_program.specs.Program.{cell_count};
 ghost use Rattle.twe_program.specs.WellFormed.{IsWellFormed};
-ghost use Rattle.soundness_laws.specs.KeepsEffects.{KeepsEffects};
+ghost use Rattle.isolation_laws.specs.soundness.KeepsEffects.{KeepsEffects};
 ghost use Rattle.twe_machine.specs.declared.state.State.{State};
-ghost use Rattle.tree_table.specs.Holds.{first_tree_view};
+ghost use Rattle.floor_table.specs.nodes.Holds.{first_tree_view};
 ghost use Rattle.task_floor.specs.Opening.{ShowsTreeRun};
 
 use crate::floor::{Floor, Stand};
 use atomic_table::Table;
 use floor_table::Named;
+use floor_table::nodes::{Planted, TreeSlot, TreeStart};
 use std::alloc::{AllocError, Global};
-use tree_table::{Planted, TreeSlot, TreeStart};
-use twe_io::{List, Memory};
+use twe_base::{List, Memory};
 
 impl<N: Named + Planted> Floor<N> {
     /// A floor with these words and slots, which show the state of a run and the records of its enabled tasks, and its first

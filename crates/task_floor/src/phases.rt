@@ -4,15 +4,15 @@ ghost use Rattle.floor_rule.specs.declared.view.HeldTurn.{HeldTurn};
 ghost use Rattle.floor_table.specs.declared.view.SeatKind.TheVariants.{Spent};
 ghost use Rattle.floor_table.specs.Layout.{word_of_phase};
 ghost use Rattle.floor_table.specs.Tells.{MayStore, StoredPhase};
-ghost use Rattle.tree_table.specs.FloorSeats.{HasTaskSlots, floor_seat};
-ghost use Rattle.tree_table.specs.Follows.{FollowedPhase};
+ghost use Rattle.floor_table.specs.nodes.FloorSeats.{HasTaskSlots, floor_seat};
+ghost use Rattle.floor_table.specs.nodes.Follows.{FollowedPhase};
 ghost use Rattle.task_floor.specs.Stands.{StaysInTree};
 
 use crate::floor::{Floor, Stand};
 use crate::words::{phase_of, word_of};
 use floor_rule::Phase;
 use floor_table::Named;
-use tree_table::{FollowWait, Planted, StoreTreePhase};
+use floor_table::nodes::{FollowWait, Planted, StoreTreePhase};
 
 impl<N: Named + Planted> Floor<N> {
     /// What the phase word of a task says. A stand that finds `Done` knows the task's value from then on. One that finds that the

@@ -1,11 +1,11 @@
 //! The words and the slots of nodes, behind those of a floor that starts.
 ghost use Rattle.std.specs.Prelude.{◌≡◌, ◌++◌, map, replicate, IfOk, OnOk};
-ghost use Rattle.tree_table.specs.declared.slot.TreeSlot.TheVariants as kinds;
+ghost use Rattle.floor_table.specs.declared.nodes.slot.TreeSlot.TheVariants as kinds;
 
 use floor_rule::TaskSlot;
+use floor_table::nodes::{NodeContent, TreeSlot};
 use std::alloc::Global;
-use tree_table::{NodeContent, TreeSlot};
-use twe_io::{List, Memory};
+use twe_base::{List, Memory};
 
 /// Adds the lock words of so many nodes, which nobody has locked.
 pub(crate) fn add_locks(words: &mut List<u64>, nodes: u32) -> Result<(), Memory>

@@ -4,22 +4,22 @@ ghost use lib.ListN.{get_elem?};
 ghost use Rattle.twe_machine.specs.declared.state.TaskRow.{TaskRow};
 ghost use Rattle.seg_journal.specs.declared.journal.Entry.{Entry};
 ghost use Rattle.floor_rule.specs.Shown.{first_fault_in, row_by, status_by, value_by};
-ghost use Rattle.floor_table.specs.Layout.{cells_from, number_at, phase_of_word};
-ghost use Rattle.floor_steps.specs.inner.Reading.{held_in, joined_unless, row_in, rows_from};
+ghost use Rattle.floor_table.specs.Layout.{cell_words_from, number_at, phase_of_word};
+ghost use Rattle.task_floor.specs.steps.inner.Reading.{held_in, joined_unless, row_in, rows_from};
 
 use crate::unjoined::unjoined;
 use crate::words::value_of;
 use floor_rule::TaskSlot;
 use seg_journal::{End, Entry};
 use std::alloc::Global;
-use twe_io::{Ints, List, Memory};
+use twe_base::{Ints, List, Memory};
 use twe_machine::{FirstFault, TaskRow, TaskStatus};
 
 /// The values of this many cells.
 pub(crate) fn cells_of(alloc: Global, words: &[u64], count: usize) -> Result<Ints, Memory>
     requires within { 8 + count ≤ length words.now }
     requires small { (c : ℕ) → c < count → number_at (get_elem? words.now (8 + c)) < 2 ^ 32 }
-    ensures { IfOk result (λ cells. cells ≡ cells_from words.now 8 count) }
+    ensures { IfOk result (λ cells. cells ≡ cell_words_from words.now 8 count) }
 {
     let mut cells = Ints::new(alloc);
     for c in 0..count {

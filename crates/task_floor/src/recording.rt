@@ -1,16 +1,16 @@
 //! The records of the enabled tasks, with which the nodes of a floor start.
 ghost use Rattle.std.specs.Prelude.{◌≡◌, ◌≤◌, ◌<◌, ◌^◌, ◌++◌, ℕ, List, length, IfOk, OnOk};
 ghost use Rattle.std.specs.List.{list_any};
-ghost use Rattle.admission_core.specs.States.{IsPlaceOf, Record};
-ghost use Rattle.node_rule.specs.Starts.{AreOfEnabled};
-ghost use Rattle.tree_table.specs.Without.{same_record};
+ghost use Rattle.admission_laws.specs.admission_core.States.{IsPlaceOf, Record};
+ghost use Rattle.floor_rule.specs.nodes.Starts.{AreOfEnabled};
+ghost use Rattle.floor_table.specs.nodes.Without.{same_record};
 ghost use Rattle.task_floor.specs.inner.Recording.{AreRecordsOf, live_effects, with_record};
 
 use effect_sets::Effect;
 use effect_tree::Shape;
+use floor_table::nodes::NodeRecord;
 use std::alloc::Global;
-use tree_table::NodeRecord;
-use twe_io::{List, Memory};
+use twe_base::{List, Memory};
 use twe_machine::{State, TaskRow, TaskStatus};
 
 /// A record for each effect of each enabled task, at the effect's place.

@@ -1,27 +1,26 @@
 //! What is left of a floor at a quiet point.
 ghost use Rattle.std.specs.Prelude.{◌≡◌, ◌∷◌, [], length, IfOk};
-ghost use Rattle.twe_limits.specs.Limits.{IsWithin};
+ghost use Rattle.twe_base.specs.Limits.{IsWithin};
 ghost use Rattle.twe_program.specs.Program.{cell_count};
 ghost use Rattle.twe_program.specs.WellFormed.{IsWellFormed};
 ghost use Rattle.twe_machine.specs.Runs.{Legal, state_after};
-ghost use Rattle.journal_merge.specs.Merging.{all_of};
+ghost use Rattle.seg_journal.specs.Merging.{all_of};
 ghost use Rattle.floor_table.specs.declared.view.SeatKind.TheVariants.{Main};
 ghost use Rattle.floor_table.specs.Holds.{HasGivenAll, ShowsEnd};
 ghost use Rattle.floor_table.specs.Shown.{ShowsRest};
-ghost use Rattle.floor_steps.specs.Resting.{IsRestOf};
+ghost use Rattle.task_floor.specs.steps.Resting.{IsRestOf};
 
 use crate::clock::asked_of;
 use crate::emptying::Emptied;
 use crate::floor::{Floor, Stand};
 use crate::linking::links_of;
 use crate::reading::{cells_of, first_fault_in, rows_of};
-use floor_steps::Rest;
+use crate::steps::Rest;
 use floor_table::Named;
-use journal_merge::{Part, merge};
-use seg_journal::Entry;
+use floor_table::nodes::Planted;
+use seg_journal::{Entry, JournalPart, merge};
 use std::alloc::Global;
-use tree_table::Planted;
-use twe_io::{Ints, Memory};
+use twe_base::{Ints, Memory};
 use twe_machine::State;
 
 impl<N: Named + Planted> Floor<N> {
@@ -29,7 +28,7 @@ impl<N: Named + Planted> Floor<N> {
     /// the parts of all stands merge to, and the state that it leads to. The parts together have the entries of the main
     /// stand. It takes time linear in the cells, in the nodes and their records, in the journal and in the tasks that may be
     /// made, and copies no frame. After `Memory` the floor is gone.
-    pub fn rest(self, alloc: Global, stand: Stand, parts: &[Part]) -> Result<Rest, Memory>
+    pub fn rest(self, alloc: Global, stand: Stand, parts: &[JournalPart]) -> Result<Rest, Memory>
         requires here { stand.table_id ≡ self }
         requires main { stand.me.0.floor.kind ≡ Main }
         requires alone { (stand.me.0.floor.out ≡ 0) × HasGivenAll stand.me.0.floor }

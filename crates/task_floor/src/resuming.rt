@@ -1,19 +1,20 @@
 //! How a task that a stand has in hand goes on.
-ghost use Rattle.std.specs.Prelude.{◌≡◌, ◌≢◌, ◌<◌, None, IfSome};
+ghost use Rattle.std.specs.Prelude.{◌≡◌, ◌≢◌, ◌<◌, ℕ, None, IfNone, IfSome};
 ghost use Rattle.floor_rule.specs.declared.view.HeldTurn.{HeldTurn};
 ghost use Rattle.floor_rule.specs.declared.view.Phase.TheVariants.{Waits};
 ghost use Rattle.floor_rule.specs.Rows.{phase_of};
 ghost use Rattle.floor_table.specs.declared.view.SeatKind.TheVariants.{Spent};
-ghost use Rattle.floor_steps.specs.Resuming.{HasInHand, IsReadiness, KnowsValue};
-ghost use Rattle.tree_table.specs.FloorSeats.{HasTaskSlots, floor_seat};
-ghost use Rattle.task_floor.specs.Resuming.{KnowsEnough, KnowsMoreBeside, MovesOnBeside};
+ghost use Rattle.task_floor.specs.declared.steps.readiness.Readiness.TheVariants as readiness;
+ghost use Rattle.task_floor.specs.steps.Resuming.{HasInHand, IsReadiness, KnowsValue};
+ghost use Rattle.floor_table.specs.nodes.FloorSeats.{HasTaskSlots, floor_seat};
+ghost use Rattle.task_floor.specs.Resuming.{KnowsEnough, KnowsMoreBeside, MovesOnBeside, WasNotDone};
 
 use crate::floor::{Floor, Stand};
+use crate::steps::Readiness;
 use floor_rule::{Phase, TaskSlot};
-use floor_steps::Readiness;
 use floor_table::Named;
+use floor_table::nodes::Planted;
 use seg_exec::Frame;
-use tree_table::Planted;
 
 /// The value that lies in the slot of a done task.
 fn value_in(slot: &TaskSlot) -> i32
@@ -23,9 +24,9 @@ fn value_in(slot: &TaskSlot) -> i32
 }
 
 impl<N: Named + Planted> Floor<N> {
-    /// The value of a task. `None` if its phase word does not say that it is done, or if another worker has its turn just then.
-    /// Otherwise the stand knows the task to be done with this value from then on. The stand holds no node and does nothing in
-    /// the tree.
+    /// The value of a task. `None` if its phase word does not say that it is done, or if another worker has its turn just then:
+    /// the stand has found that. Otherwise the stand knows the task to be done with this value from then on. The stand holds no
+    /// node and does nothing in the tree.
     pub fn value_of(&self, stand: &mut Stand, worker: u32, task: u32) -> Option<i32>
         requires here { stand.old.table_id ≡ self.now }
         requires live { stand.old.me.0.floor.kind ≢ Spent }
@@ -35,6 +36,7 @@ impl<N: Named + Planted> Floor<N> {
         requires closed { stand.old.me.0.floor.segment ≡ None }
         requires idle { stand.old.me.0.activity ≡ None }
         ensures value { IfSome result (λ value. KnowsValue (floor_seat stand.new.me) task value) }
+        ensures none { IfNone result (WasNotDone stand.old.me.0.looks stand.new.me.0.looks task) }
         ensures more { KnowsMoreBeside stand.old.me stand.new.me task }
         ensures same { (stand.new.table_id ≡ stand.old.table_id) × (stand.new.id ≡ stand.old.id) }
     {
@@ -54,11 +56,13 @@ impl<N: Named + Planted> Floor<N> {
         requires closed { stand.old.me.0.floor.segment ≡ None }
         requires idle { stand.old.me.0.activity ≡ None }
         ensures value { IfSome result (λ value. KnowsValue (floor_seat stand.new.me) task value) }
+        ensures none { IfNone result (WasNotDone stand.old.me.0.looks stand.new.me.0.looks task) }
         ensures more { KnowsMoreBeside stand.old.me stand.new.me task }
         ensures same { (stand.new.table_id ≡ stand.old.table_id) × (stand.new.id ≡ stand.old.id) }
     {
-        let Ok(slot) = self.take_turn(stand, worker, task) else {
-            return None;
+        let slot = match self.take_turn(stand, worker, task) {
+            Ok(slot) => slot,
+            Err(_) => return None,
         };
         let value = value_in(&slot);
         let phase = self.status(stand, task);
@@ -90,6 +94,8 @@ impl<N: Named + Planted> Floor<N> {
             → IsReadiness turn (floor_seat stand.new.me) task frame.new result }
         ensures enough { (turn : HeldTurn) → HasInHand (floor_seat stand.old.me) task turn frame.old
             → KnowsEnough N.nodes stand.new.me.0 task turn.row }
+        ensures waits { (on : ℕ) → result ≡ readiness.Waits on
+            → WasNotDone stand.old.me.0.looks stand.new.me.0.looks on }
         ensures moves { MovesOnBeside stand.old.me stand.new.me task }
         ensures same { (stand.new.table_id ≡ stand.old.table_id) × (stand.new.id ≡ stand.old.id) }
     {
@@ -126,11 +132,14 @@ impl<N: Named + Planted> Floor<N> {
             → IsReadiness turn (floor_seat stand.new.me) task frame.new result }
         ensures enough { (turn : HeldTurn) → HasInHand (floor_seat stand.old.me) task turn frame.old
             → KnowsEnough N.nodes stand.new.me.0 task turn.row }
+        ensures waits { (on : ℕ) → result ≡ readiness.Waits on
+            → WasNotDone stand.old.me.0.looks stand.new.me.0.looks on }
         ensures moves { MovesOnBeside stand.old.me stand.new.me task }
         ensures same { (stand.new.table_id ≡ stand.old.table_id) × (stand.new.id ≡ stand.old.id) }
     {
-        let Some(value) = self.value_of(stand, worker, on) else {
-            return Readiness::Waits { on };
+        let value = match self.value_of(stand, worker, on) {
+            Some(value) => value,
+            None => return Readiness::Waits { on },
         };
         self.set_phase(stand, task, Phase::Running);
         frame.give(value);

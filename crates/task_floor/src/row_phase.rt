@@ -1,7 +1,7 @@
 //! The phase of a task, by its row or by its frame.
 ghost use Rattle.std.specs.Prelude.{◌≡◌};
 ghost use Rattle.twe_machine.specs.declared.state.TaskStatus.TheVariants.{Enabled};
-ghost use Rattle.twe_machine.specs.Rows.{awaited};
+ghost use Rattle.twe_machine.specs.Rows.{row_awaited};
 ghost use Rattle.floor_rule.specs.Rows.{phase_at, phase_of};
 
 use floor_rule::Phase;
@@ -22,7 +22,7 @@ pub(crate) fn phase_of(row: &TaskRow) -> Phase
 
 /// The phase of an enabled task that does this next.
 pub(crate) fn enabled_phase(next: Next) -> Phase
-    ensures { result ≡ phase_at Enabled (awaited next) }
+    ensures { result ≡ phase_at Enabled (row_awaited next) }
 {
     match awaited(next) {
         None => Phase::Running,

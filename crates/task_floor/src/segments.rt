@@ -3,19 +3,19 @@ ghost use Rattle.std.specs.Prelude.{◌≡◌, ◌≢◌, ℕ, IfOk};
 ghost use Rattle.seg_exec.specs.Segment.{HasRoomToSpawn};
 ghost use Rattle.floor_rule.specs.declared.view.HeldTurn.{HeldTurn};
 ghost use Rattle.floor_table.specs.declared.view.SeatKind.TheVariants.{Spent};
-ghost use Rattle.floor_steps.specs.Segments.{HasRun, MayRun};
-ghost use Rattle.tree_table.specs.FloorSeats.{HasTaskSlots, floor_seat};
+ghost use Rattle.task_floor.specs.steps.Segments.{HasRunSegment, MayRunSegment};
+ghost use Rattle.floor_table.specs.nodes.FloorSeats.{HasTaskSlots, floor_seat};
 ghost use Rattle.task_floor.specs.Segments.{MayReadCell, MayWriteCell, StandFollows, stand_knows};
 ghost use Rattle.task_floor.specs.Stands.{StaysInTree};
 
 use crate::floor::{Floor, Stand};
 use floor_table::Named;
+use floor_table::nodes::Planted;
 use run_gates::Gate;
 use seg_exec::{Cells, Frame, Stop, run_segment};
 use std::alloc::Global;
 use std::marker::Model;
-use tree_table::Planted;
-use twe_io::Memory;
+use twe_base::Memory;
 use twe_program::Prog;
 
 /// The cells of the floor, as the segment of one task sees them: the task whose slot is the latest that the stand has out. It
@@ -33,7 +33,7 @@ pub struct Seg<'a, N: Named + Planted, G> {
 impl<'a, N: Named + Planted, G> Model for Seg<'a, N, G> {
     ghost use Rattle.std.specs.Prelude.{◌≡◌, ◌≢◌};
     ghost use Rattle.floor_table.specs.declared.view.SeatKind.TheVariants.{Spent};
-    ghost use Rattle.tree_table.specs.FloorSeats.{HasTaskSlots};
+    ghost use Rattle.floor_table.specs.nodes.FloorSeats.{HasTaskSlots};
     ghost use Rattle.task_floor.specs.Stands.{TreeStand};
 
     ghost Value = { TreeStand };
@@ -109,9 +109,9 @@ impl<N: Named + Planted> Floor<N> {
         requires here { stand.table_id ≡ self.now }
         requires live { stand.me.0.floor.kind ≢ Spent }
         requires slots { HasTaskSlots N.lim.tasks stand.me.1 }
-        requires may { (t : ℕ) × (turn : HeldTurn) × MayRun (floor_seat stand.me) t turn frame.old }
-        ensures ran { IfOk result (λ ran. (t : ℕ) (turn : HeldTurn) → MayRun (floor_seat stand.me) t turn frame.old
-            → HasRun N.prog (floor_seat stand.me) (floor_seat ran.0.me) t turn frame.new ran.1) }
+        requires may { (t : ℕ) × (turn : HeldTurn) × MayRunSegment (floor_seat stand.me) t turn frame.old }
+        ensures ran { IfOk result (λ ran. (t : ℕ) (turn : HeldTurn) → MayRunSegment (floor_seat stand.me) t turn frame.old
+            → HasRunSegment N.prog (floor_seat stand.me) (floor_seat ran.0.me) t turn frame.new ran.1) }
         ensures stays { IfOk result (λ ran. StaysInTree N.lim stand.me ran.0.me) }
         ensures room { IfOk result (λ ran. HasRoomToSpawn ran.1 frame.new) }
         ensures same { IfOk result (λ ran. (ran.0.table_id ≡ stand.table_id) × (ran.0.id ≡ stand.id)) }

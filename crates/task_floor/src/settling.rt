@@ -1,21 +1,22 @@
 //! What an entry does to the frame of its task, how it ends, and what the slot of a task that it makes will hold.
-ghost use Rattle.std.specs.Prelude.{◌≡◌, ◌<◌, ◌+◌, ◌^◌, true, Some, option_map, slice_set};
+ghost use Rattle.std.specs.Prelude.{◌≡◌, ◌<◌, ◌+◌, ◌^◌, option_map};
 ghost use Rattle.seg_exec.specs.Segment.{HasRoomToSpawn};
-ghost use Rattle.twe_machine.specs.Moves.{children_with, frame_without_prints, making_frame, new_row, parent_of, status_at_start, stopped_frame};
-ghost use Rattle.twe_machine.specs.Rows.{awaited};
+ghost use Rattle.twe_machine.specs.Moves.{frame_without_prints, new_row, status_at_start, stopped_frame};
+ghost use Rattle.twe_machine.specs.Rows.{row_awaited};
 ghost use Rattle.floor_rule.specs.Rows.{phase_at, slot_of};
 ghost use Rattle.floor_rule.specs.Steps.{end_after};
-ghost use Rattle.floor_steps.specs.Committing.{child_row};
-ghost use Rattle.floor_steps.specs.inner.Bringing.{frame_after};
+ghost use Rattle.task_floor.specs.steps.Committing.{child_row};
+ghost use Rattle.task_floor.specs.steps.inner.Bringing.{frame_after};
 
 use crate::row_phase::enabled_phase;
 use effect_sets::Summary;
 use floor_rule::{Phase, TaskSlot};
-use seg_exec::{Children, Frame, Next, Stop};
+use seg_exec::{Frame, Next, Stop};
 use seg_journal::{End, FaultKind, Limits};
 use std::alloc::Global;
 use std::mem;
-use twe_io::{Ints, List};
+use twe_base::Ints;
+use twe_machine::{note_child, parent_of};
 
 /// Takes the printed numbers out of a frame.
 pub(crate) fn take_prints(alloc: Global, frame: &mut Frame) -> Ints
@@ -25,48 +26,12 @@ pub(crate) fn take_prints(alloc: Global, frame: &mut Frame) -> Ints
     mem::replace(&mut frame.prints, Ints::new(alloc))
 }
 
-/// Lets a future stand for a task, if the frame has that future.
-fn set_future(futures: &mut List<Option<u32>>, future: u32, task: u32)
-    ensures { futures.new ≡ slice_set futures.old future (Some task) }
-{
-    let at = future as usize;
-    if at < futures.len() {
-        futures.set(at, Some(task));
-    }
-}
-
-/// Adds a spawned child after the other children, in the room that was reserved for it.
-fn add_child(out: &mut Children, child: u32, spawned: bool)
-    requires { spawned ≡ true → 0 < out.old.room }
-    ensures { out.new ≡ children_with spawned child out.old }
-{
-    if spawned {
-        out.push_within(child);
-    }
-}
-
-/// Records a new task in the frame of its maker.
-fn note_child(frame: &mut Frame, child: u32, future: u32, spawned: bool)
-    requires { spawned ≡ true → 0 < frame.old.out.room }
-    ensures { frame.new ≡ making_frame future spawned child frame.old }
-{
-    set_future(&mut frame.futures, future, child);
-    add_child(&mut frame.out, child, spawned);
-}
-
 /// Leaves nothing to run in the frame of a task that has met a fault at a make.
 fn stop_frame(frame: &mut Frame)
     ensures { frame.new ≡ stopped_frame frame.old }
 {
     frame.body = None;
     frame.next = Next::Ended;
-}
-
-/// The spawn parent of a task that `task` makes.
-fn parent_of(task: u32, spawned: bool) -> Option<u32>
-    ensures { result ≡ parent_of task spawned }
-{
-    if spawned { Some(task) } else { None }
 }
 
 /// What the slot of a new task of this number holds: its frame gets the number, and all of the fuel.
@@ -94,7 +59,7 @@ fn new_slot(
 
 /// The phase of a new task: one with a parent runs at once, and another one waits for its admission.
 pub(crate) fn new_phase(slot: &TaskSlot) -> Phase
-    ensures { result ≡ phase_at (status_at_start slot.now.parent) (awaited slot.now.frame.next) }
+    ensures { result ≡ phase_at (status_at_start slot.now.parent) (row_awaited slot.now.frame.next) }
 {
     match slot.parent {
         None => Phase::Made,

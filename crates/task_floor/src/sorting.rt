@@ -1,19 +1,21 @@
 //! What lies at the nodes of a floor that starts.
 ghost use Rattle.std.specs.Prelude.{◌≡◌, ◌<◌, [], length, replicate, IfOk, OnOk};
-ghost use Rattle.admission_core.specs.States.{IsAmong, Record};
+ghost use Rattle.admission_laws.specs.admission_core.States.{IsAmong, Record};
+ghost use Rattle.floor_rule.specs.nodes.Fitting.{IsDistinct};
 ghost use Rattle.task_floor.specs.inner.Recording.{HoldRecords, with_added};
 
+use floor_table::nodes::{NodeContent, NodeRecord};
 use std::alloc::Global;
-use tree_table::{NodeContent, NodeRecord};
-use twe_io::{List, Memory};
+use twe_base::{List, Memory};
 
-/// For each of so many nodes the records that stand there.
+/// For each of so many nodes the records that stand there, each of them once.
 pub(crate) fn contents_of(
     alloc: Global,
     nodes: u32,
     records: &[NodeRecord],
 ) -> Result<List<NodeContent>, Memory>
-    requires { (r : Record) → IsAmong r records.now → r.node < nodes }
+    requires within { (r : Record) → IsAmong r records.now → r.node < nodes }
+    requires once { IsDistinct records.now }
     ensures { IfOk result (HoldRecords nodes records.now) }
 {
     let mut contents = empty_contents(alloc, nodes)?;

@@ -2,11 +2,11 @@
 ghost use Rattle.std.specs.Prelude.{◌≡◌, []};
 ghost use Rattle.floor_table.specs.declared.view.SeatKind.TheVariants.{Main, Other};
 ghost use Rattle.floor_table.specs.Holds.{HasGivenAll};
-ghost use Rattle.tree_table.specs.Holds.{HasLeftTree, joined_tree_view, left_tree_view, right_tree_view};
+ghost use Rattle.floor_table.specs.nodes.Holds.{HasLeftTree, joined_tree_view, left_tree_view, right_tree_view};
 
 use crate::floor::{Floor, Stand};
 use floor_table::Named;
-use tree_table::{BothTreeSeats, NextTreeSeat, Planted};
+use floor_table::nodes::{BothTreeSeats, NextTreeSeat, Planted};
 
 impl<N: Named + Planted> Floor<N> {
     /// A stand for the worker with the next number, split off from the main one.

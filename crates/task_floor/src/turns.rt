@@ -3,18 +3,18 @@ ghost use Rattle.std.specs.Prelude.{◌≡◌, ◌≢◌, ◌<◌, ℕ, List, Op
 ghost use Rattle.floor_rule.specs.declared.view.HeldTurn.{HeldTurn};
 ghost use Rattle.floor_rule.specs.declared.view.TaskSlot.{TaskSlot};
 ghost use Rattle.floor_table.specs.declared.view.SeatKind.TheVariants.{Spent};
-ghost use Rattle.floor_steps.specs.Stands.{holder_in};
-ghost use Rattle.tree_table.specs.declared.slot.TreeSlot as slots;
-ghost use Rattle.tree_table.specs.declared.slot.TreeSlot.TheVariants.{Task};
-ghost use Rattle.tree_table.specs.FloorSeats.{HasTaskSlots};
-ghost use Rattle.tree_table.specs.TurnSeats.{GaveTreeTurn};
+ghost use Rattle.task_floor.specs.steps.Stands.{holder_in};
+ghost use Rattle.floor_table.specs.declared.nodes.slot.TreeSlot as slots;
+ghost use Rattle.floor_table.specs.declared.nodes.slot.TreeSlot.TheVariants.{Task};
+ghost use Rattle.floor_table.specs.nodes.FloorSeats.{HasTaskSlots};
+ghost use Rattle.floor_table.specs.nodes.TurnSeats.{GaveTreeTurn};
 ghost use Rattle.task_floor.specs.Turns.{FoundBusy, HasTakenTask, MayGiveTask};
 
 use crate::floor::{Floor, Stand};
+use crate::steps::Busy;
 use floor_rule::TaskSlot;
-use floor_steps::Busy;
 use floor_table::Named;
-use tree_table::{GiveTreeTurn, Planted, TreeSlot, TryTreeTurn};
+use floor_table::nodes::{GiveTreeTurn, Planted, TreeSlot, TryTreeTurn};
 
 /// Whom a turn word names that is not free.
 fn found_busy(word: u64) -> Busy
@@ -39,8 +39,8 @@ pub(crate) fn task_in(slot: TreeSlot) -> Option<TaskSlot>
 
 impl<N: Named + Planted> Floor<N> {
     /// Takes the turn of a task for this worker, whose stand it is, and what lies in the task's slot. Unless the task is enabled,
-    /// the stand knows then that no record of it stands. `Busy` if the turn word was not free; then the stand is as it was. The
-    /// stand holds no node.
+    /// the stand knows then that no record of it stands. `Busy` if the turn word was not free; then the stand knows what it found
+    /// there, and is as it was otherwise. The stand holds no node.
     pub fn take_turn(&self, stand: &mut Stand, worker: u32, task: u32) -> Result<TaskSlot, Busy>
         requires here { stand.old.table_id ≡ self.now }
         requires live { stand.old.me.0.floor.kind ≢ Spent }
@@ -48,7 +48,7 @@ impl<N: Named + Planted> Floor<N> {
         requires task { task < N.lim.tasks }
         requires worker { worker ≡ stand.old.me.0.floor.worker }
         ensures taken { IfOk result (λ slot. HasTakenTask N.nodes stand.old.me stand.new.me task slot) }
-        ensures busy { IfErr result (λ busy. FoundBusy stand.old.me stand.new.me busy.holder) }
+        ensures busy { IfErr result (λ busy. FoundBusy stand.old.me stand.new.me task busy.holder) }
         ensures same { (stand.new.table_id ≡ stand.old.table_id) × (stand.new.id ≡ stand.old.id) }
     {
         let place = self.turn_place(task);

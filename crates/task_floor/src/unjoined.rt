@@ -2,16 +2,17 @@
 ghost use Rattle.std.specs.Prelude.{◌≡◌, ◌<◌, ◌||◌, ◌==◌, ℕ, [], ◌∷◌, false, length, slice_index_or, IfOk};
 ghost use Rattle.std.specs.List.{list_any};
 ghost use Rattle.floor_rule.specs.Shown.{is_unjoined};
-ghost use Rattle.floor_steps.specs.inner.Reading.{held_in};
+ghost use Rattle.task_floor.specs.steps.inner.Reading.{held_in};
 
 use floor_rule::TaskSlot;
 use std::alloc::Global;
-use twe_io::{List, Memory};
+use twe_base::{List, Memory};
 
 /// For each task whether some task has it as an unjoined child.
 pub(crate) fn unjoined(alloc: Global, slots: &[Option<TaskSlot>]) -> Result<List<bool>, Memory>
     ensures size { IfOk result (λ marks. length marks ≡ length slots.now) }
-    ensures marks { IfOk result (λ marks. (c : ℕ) → c < length slots.now → slice_index_or marks c false ≡ is_unjoined c (held_in slots.now)) }
+    ensures marks { IfOk result
+        (λ marks. (c : ℕ) → c < length slots.now → slice_index_or marks c false ≡ is_unjoined c (held_in slots.now)) }
 {
     let mut marks = List::from(vec![in alloc; false; slots.len()]?);
     for slot in slots {

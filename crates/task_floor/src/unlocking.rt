@@ -1,14 +1,14 @@
 //! How a worker unlocks nodes. Each call has one atomic step.
 ghost use Rattle.std.specs.Prelude.{◌≡◌, ◌<◌, ℕ, List, ◌∷◌, Option, Some, length};
-ghost use Rattle.admission_core.specs.States.{Activity};
-ghost use Rattle.tree_table.specs.declared.slot.TreeSlot as slots;
-ghost use Rattle.tree_table.specs.Seats.{GaveNode, MayGoOn, MayStop};
+ghost use Rattle.admission_laws.specs.admission_core.States.{Activity};
+ghost use Rattle.floor_table.specs.declared.nodes.slot.TreeSlot as slots;
+ghost use Rattle.floor_table.specs.nodes.Seats.{GaveNode, MayGoOn, MayStop};
 ghost use Rattle.task_floor.specs.Contents.{HasBehind, HasInHand};
 
 use crate::floor::{Floor, Stand};
 use crate::turning::turn_slots;
 use floor_table::Named;
-use tree_table::{GoOn, NodeContent, Planted, StopAt};
+use floor_table::nodes::{GoOn, NodeContent, Planted, StopAt};
 
 impl<N: Named + Planted> Floor<N> {
     /// Puts its content back into a node, unlocks the node and goes on: the node is the parent of the other that the stand holds,
@@ -45,9 +45,9 @@ impl<N: Named + Planted> Floor<N> {
         turn_slots(stand, others);
     }
 
-    /// Puts its content back into the last node that the stand holds, unlocks it and stops: from then on the stand only gives back
-    /// the other nodes that it holds, by this call too. Once it holds none, it does nothing in the tree any more. The node's slot
-    /// is the latest that the stand has out.
+    /// Puts its content back into the last node that the stand holds, unlocks it and stops: from then on the stand only gives
+    /// back the other nodes that it holds, by this call too. Once it holds none, it does nothing in the tree any more. The node's
+    /// slot is the latest that the stand has out.
     pub fn back_out(&self, stand: &mut Stand, node: u32, content: NodeContent)
         requires here { stand.old.table_id ≡ self.now }
         requires node { node < length N.nodes }

@@ -1,12 +1,12 @@
 //! How a floor goes on from a quiet point.
 ghost use Rattle.std.specs.Prelude.{◌≡◌, List, [], IfOk};
 ghost use Rattle.twe_program.specs.WellFormed.{IsWellFormed};
-ghost use Rattle.soundness_laws.specs.KeepsEffects.{KeepsEffects};
+ghost use Rattle.isolation_laws.specs.soundness.KeepsEffects.{KeepsEffects};
 ghost use Rattle.twe_machine.specs.Runs.{IsRun};
-ghost use Rattle.admission_core.specs.States.{Record};
-ghost use Rattle.node_rule.specs.Starts.{AreOfEnabled};
-ghost use Rattle.tree_table.specs.Holds.{first_tree_view};
-ghost use Rattle.floor_steps.specs.Waking.{log_of};
+ghost use Rattle.admission_laws.specs.admission_core.States.{Record};
+ghost use Rattle.floor_rule.specs.nodes.Starts.{AreOfEnabled};
+ghost use Rattle.floor_table.specs.nodes.Holds.{first_tree_view};
+ghost use Rattle.task_floor.specs.steps.Waking.{log_of};
 
 use crate::floor::{Floor, Stand};
 use crate::laying::{slots_of, words_of};
@@ -14,14 +14,13 @@ use crate::numbering::log_of;
 use crate::planting::{add_locks, tree_slots};
 use crate::recording::records_of;
 use crate::sorting::contents_of;
+use crate::steps::Rest;
 use effect_tree::Shape;
-use floor_steps::Rest;
 use floor_table::Named;
-use journal_merge::Part;
-use seg_journal::{Journal, Limits};
+use floor_table::nodes::{Planted, TreeStart};
+use seg_journal::{Journal, JournalPart, Limits};
 use std::alloc::Global;
-use tree_table::{Planted, TreeStart};
-use twe_io::Memory;
+use twe_base::Memory;
 use twe_machine::{State, start};
 use twe_program::Prog;
 
@@ -33,7 +32,7 @@ impl<N: Named + Planted> Floor<N> {
         p: &Prog,
         shape: &Shape,
         lim: Limits,
-    ) -> Result<(Self, Stand, Part), Memory>
+    ) -> Result<(Self, Stand, JournalPart), Memory>
         requires accepted { IsWellFormed N.prog × KeepsEffects N.prog }
         requires named { (p.now ≡ N.prog) × (shape.now ≡ N.nodes) × (lim ≡ N.lim) }
         ensures stand { IfOk result (λ floor. (floor.1.table_id ≡ floor.0) × (floor.1.me ≡ (first_tree_view [] [], []))) }
@@ -53,7 +52,7 @@ impl<N: Named + Planted> Floor<N> {
         shape: &Shape,
         lim: Limits,
         rest: Rest,
-    ) -> Result<(Self, Stand, Part), Memory>
+    ) -> Result<(Self, Stand, JournalPart), Memory>
         requires accepted { IsWellFormed N.prog × KeepsEffects N.prog }
         requires named { (shape.now ≡ N.nodes) × (lim ≡ N.lim) }
         requires run { IsRun N.prog N.lim rest.journal rest.state }

@@ -2,11 +2,11 @@
 use Rattle.std.proofs.Common.{◌≡◌, ◌≤◌, ℕ, Bool, true, false, List, [], ◌∷◌, length, map, take, Result, Ok, Err, IfOk, refl, sym, ap, ◌∙◌, subst, arith}
 use Rattle.std.specs.Prelude.{ℤ, if◌then◌else◌}
 use Rattle.std.proofs.lemmas.List.{take_all}
-use Rattle.twe_io.specs.declared.memory.Memory as out_of
+use Rattle.twe_base.specs.declared.memory.Memory as out_of
 use Rattle.seg_journal.specs.declared.journal.Entry.{Entry}
 use Rattle.seg_journal.specs.declared.moves.Move.{Move}
 use Rattle.seg_journal.specs.Spelling.{move_of}
-use Rattle.twe_limits.specs.Limits.{Bounds}
+use Rattle.twe_base.specs.Limits.{Bounds}
 use Rattle.twe_program.specs.Program.{Program}
 use Rattle.twe_machine.specs.declared.ending.Outcome.{Outcome}
 use Rattle.twe_machine.specs.declared.legal.Why.{Why}
@@ -14,9 +14,9 @@ use Rattle.twe_machine.specs.declared.replaying.ReplayFail.{ReplayFail}
 use Rattle.twe_machine.specs.declared.replaying.ReplayFail.TheVariants.{Illegal}
 use Rattle.twe_machine.specs.declared.state.State.{State}
 use Rattle.twe_machine.specs.Moves.{move_result, start_of}
-use Rattle.twe_machine.specs.Replays.{IsOutOfMemory, IsReplay}
+use Rattle.twe_machine.specs.Replays.{ReplayIsOutOfMemory, IsReplay}
 use Rattle.twe_machine.specs.Runs.{Legal, LegalFrom, counted, is_fault, state_after}
-use Rattle.twe_machine.proofs.Replayed.{one_from}
+use Rattle.twe_machine.proofs.replays.Replayed.{one_from}
 use Rattle.text_answers.specs.Answer.{Answer}
 use Rattle.text_answers.specs.Answers.{AnswersRun}
 
@@ -62,8 +62,8 @@ prints_again p lim journal moves st (Ok prints) legal are again same =
 prints_again p lim journal moves st (Err e) legal are again same = tt
 
 -- a move that is not legal is no lack of memory
-pub legal_is_replayed : (fail : ReplayFail) (n : ℕ) (why : Why) → fail ≡ Illegal n why → IsOutOfMemory fail → ⊥
-legal_is_replayed fail n why is out = subst IsOutOfMemory is out
+pub legal_is_replayed : (fail : ReplayFail) (n : ℕ) (why : Why) → fail ≡ Illegal n why → ReplayIsOutOfMemory fail → ⊥
+legal_is_replayed fail n why is out = subst ReplayIsOutOfMemory is out
 
 -- The numbers that were printed up to the first fault.
 module _ (p : Program) (lim : Bounds) (journal : List Entry) where

@@ -1,9 +1,9 @@
 -- From what the parts of a call ensure to the answer that is due.
 use Rattle.std.proofs.Common.{◌≡◌, ℕ, Bool, List, Option, Result, Ok, Err, None, Some, IfOk, OnOk, sym, ap, subst}
 use Rattle.std.proofs.lemmas.Option.{none-some, same_Some}
-use Rattle.twe_io.specs.declared.memory.Memory as out_of
+use Rattle.twe_base.specs.declared.memory.Memory as out_of
 use Rattle.seg_journal.specs.declared.journal.Entry.{Entry}
-use Rattle.twe_limits.specs.Limits.{Bounds}
+use Rattle.twe_base.specs.Limits.{Bounds}
 use Rattle.twe_program.specs.Program.{Program}
 use Rattle.twe_frontend.specs.declared.refusal.Refusal.{Refusal}
 use Rattle.twe_frontend.specs.Accepted.{Accepted, IsRefusal}
@@ -16,7 +16,7 @@ use Rattle.command_line.specs.declared.command.Command.TheVariants.{Check, Run, 
 use Rattle.text_answers.specs.Answer.{Answer}
 use Rattle.text_answers.specs.declared.book.Book.{Book}
 use Rattle.text_answers.specs.declared.status.Status.TheVariants.{Done, Refused}
-use Rattle.text_streams.specs.Answers.{on_err, on_out}
+use Rattle.twe_io.specs.Answers.{on_err, on_out}
 use Rattle.text_answers.specs.Answers.{Due, AnswersReplay, IsAnswerTo, default_limits}
 use Rattle.text_answers.specs.Input.{program_text, journal_text}
 use Rattle.text_answers.specs.Running.{IsDueForProgram, IsRunFor, IsWholeRun}

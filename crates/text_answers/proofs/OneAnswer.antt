@@ -7,7 +7,7 @@ use Rattle.seg_journal.specs.declared.moves.Move.{Move}
 use Rattle.seg_journal.specs.Spelling.{Spells, head_lines, move_of}
 use Rattle.seg_journal.proofs.BadLines.{none_bad, one_first_bad}
 use Rattle.seg_journal.proofs.OneSpelling.{one_journal}
-use Rattle.twe_limits.specs.Limits.{Bounds}
+use Rattle.twe_base.specs.Limits.{Bounds}
 use Rattle.twe_program.specs.Program.{Program}
 use Rattle.twe_frontend.specs.declared.refusal.Refusal.{Refusal}
 use Rattle.twe_frontend.specs.Accepted.{Accepted, IsRefusal}
@@ -20,7 +20,7 @@ use Rattle.twe_machine.specs.LowestFirst.{LowestFirst}
 use Rattle.twe_machine.specs.Moves.{start_of}
 use Rattle.twe_machine.specs.Replays.{IsFirstIllegal}
 use Rattle.twe_machine.specs.Runs.{IsOutcome, Legal, counted, state_after}
-use Rattle.twe_machine.proofs.Replayed.{never_both, one_first, one_from}
+use Rattle.twe_machine.proofs.replays.Replayed.{never_both, one_first, one_from}
 use Rattle.flat_sched.specs.Stuck.{IsCycleOfReasons, IsStuckCycle}
 use Rattle.flat_sched.proofs.Holders.{one_cycle}
 use Rattle.twe_report.specs.Texts as texts
@@ -30,7 +30,7 @@ use Rattle.command_line.specs.Words.{workers_of}
 use Rattle.text_answers.specs.Answer.{Answer}
 use Rattle.text_answers.specs.declared.book.Book.{Book}
 use Rattle.text_answers.specs.declared.status.Status.TheVariants as statuses
-use Rattle.text_streams.specs.Answers.{on_err, on_out}
+use Rattle.twe_io.specs.Answers.{on_err, on_out}
 use Rattle.text_answers.specs.Answers.{AnswersReplay, AnswersRun, Due, IsAnswerTo, after_prints, default_limits, for_load, limits_with, with_journal}
 use Rattle.text_answers.specs.Input.{journal_text, program_text}
 use Rattle.text_answers.specs.Theorem.{HasJournal, HasReplay, HasRun}

@@ -1,6 +1,6 @@
 -- How a run has ended, and the answer to a stuck one.
 use Rattle.std.proofs.Common.{◌≡◌, ℕ, ℤ, List, Result, Ok, Err, Some, None, IfOk, sym, subst, ap, ◌∙◌}
-use Rattle.twe_io.specs.declared.memory.Memory as out_of
+use Rattle.twe_base.specs.declared.memory.Memory as out_of
 use Rattle.wait_graph.specs.declared.stuck.Edge.{Edge}
 use Rattle.seg_journal.specs.declared.journal.Entry.{Entry}
 use Rattle.twe_program.specs.Program.{Program}
@@ -9,8 +9,8 @@ use Rattle.twe_machine.specs.declared.ending.Outcome.TheVariants.{AllDone, Fault
 use Rattle.twe_machine.specs.declared.state.State.{State}
 use Rattle.twe_machine.specs.Runs.{AlwaysIsolated, EachAtMostOnce, EachOnce, IsOutcome, IsRun, Legal, state_after}
 use Rattle.isolation_laws.specs.Conflicts.{AlwaysCovered}
-use Rattle.determinism_results.specs.Main.{MainHasItsResult}
-use Rattle.determinism_results.specs.Results.{DeterministicTasksHaveResults}
+use Rattle.determinism_laws.specs.results.Main.{MainHasItsResult}
+use Rattle.determinism_laws.specs.results.Results.{DeterministicTasksHaveResults}
 use Rattle.flat_sched.specs.Stuck.{IsCycleOfReasons, IsStuckCycle}
 use Rattle.twe_report.specs.Texts.{stuck_text}
 use Rattle.text_answers.specs.Answer.{Answer}
@@ -18,7 +18,7 @@ use Rattle.text_answers.specs.declared.status.Status.TheVariants as statuses
 use Rattle.text_answers.specs.Answers.{AnswersRun, after_prints}
 use Rattle.text_answers.specs.Theorem.{EachAsOften, HasJournal}
 use Rattle.text_answers.specs.declared.book.Book.{Book}
-use Rattle.twe_limits.specs.Limits.{Bounds}
+use Rattle.twe_base.specs.Limits.{Bounds}
 
 -- everything happened as often as it should
 pub often : (st : State) (journal : List Entry) (outcome : Outcome) → IsOutcome st outcome → (IsOutcome st AllDone → EachOnce journal st) → EachAtMostOnce journal → EachAsOften outcome journal st

@@ -1,12 +1,12 @@
 -- The answer to a replay.
 use Rattle.std.proofs.Common.{◌≡◌, ◌+◌, ◌≤◌, ℕ, List, ◌∷◌, length, map, Result, Ok, Err, IfOk, length-append, sym, ap, ◌∙◌, subst, arith}
 use Rattle.std.proofs.lemmas.List.{length-map}
-use Rattle.twe_io.specs.declared.memory.Memory as out_of
+use Rattle.twe_base.specs.declared.memory.Memory as out_of
 use Rattle.seg_journal.specs.declared.moves.Move.{Move}
 use Rattle.seg_journal.specs.declared.text.JournalText.{JournalText}
 use Rattle.seg_journal.specs.Lines.{IsFirstBadLine}
 use Rattle.seg_journal.specs.Spelling.{Spells, head_lines, move_of}
-use Rattle.twe_limits.specs.Limits.{Bounds}
+use Rattle.twe_base.specs.Limits.{Bounds}
 use Rattle.twe_program.specs.Program.{Program}
 use Rattle.twe_machine.specs.declared.legal.Why.{Why}
 use Rattle.twe_machine.specs.Replays.{IsFirstIllegal}
@@ -14,7 +14,7 @@ use Rattle.twe_report.specs.Texts.{not_a_move_text, not_legal_text}
 use Rattle.text_answers.specs.Answer.{Answer}
 use Rattle.text_answers.specs.declared.book.Book.{Book}
 use Rattle.text_answers.specs.declared.status.Status.TheVariants.{BadJournal}
-use Rattle.text_streams.specs.Answers.{on_err}
+use Rattle.twe_io.specs.Answers.{on_err}
 use Rattle.text_answers.specs.Answers.{AnswersReplay, limits_with}
 use Rattle.text_answers.specs.Theorem.{HasProgram}
 use Rattle.text_answers.specs.inner.Given.{AnswersFound, IsAnswerOfReplay}

@@ -10,7 +10,7 @@ use Rattle.seg_journal.specs.Spelling.{Spells, HasTask, head_line, move_line, mo
 use Rattle.seg_journal.proofs.BadLines.{none_bad}
 use Rattle.seg_journal.proofs.FirstLines.{joined-lines_of}
 use Rattle.seg_journal.proofs.OneSpelling.{one_journal}
-use Rattle.twe_limits.specs.Limits.{Bounds, IsWithin}
+use Rattle.twe_base.specs.Limits.{Bounds, IsWithin}
 use Rattle.twe_program.specs.Program.{Program}
 use Rattle.twe_program.specs.WellFormed.{IsWellFormed}
 use Rattle.twe_frontend.specs.declared.refusal.Refusal.{Refusal}
@@ -19,10 +19,10 @@ use Rattle.twe_machine.specs.declared.ending.Outcome.{Outcome}
 use Rattle.twe_machine.specs.declared.state.State.{State}
 use Rattle.twe_machine.specs.Moves.{move_result, start_of}
 use Rattle.twe_machine.specs.Runs.{IsOutcome, Legal, LegalFrom, counted, state_after}
-use Rattle.twe_machine.proofs.Movers.{mover_there}
-use Rattle.twe_machine.proofs.ReachedStands.{start_stands, taken_stands}
-use Rattle.twe_machine.proofs.Replayed.{never_both, one_from}
-use Rattle.twe_machine.proofs.Standing.{Stands}
+use Rattle.twe_machine.proofs.tasks.Movers.{mover_there}
+use Rattle.twe_machine.proofs.standing.ReachedStands.{start_stands, taken_stands}
+use Rattle.twe_machine.proofs.replays.Replayed.{never_both, one_from}
+use Rattle.twe_machine.proofs.standing.Standing.{Stands}
 use Rattle.twe_report.specs.Texts as texts
 use Rattle.command_line.specs.declared.command.Command.{Command}
 use Rattle.command_line.specs.declared.command.Command.TheVariants.{Check, Run, Replay}
@@ -176,7 +176,7 @@ module _ (one_program : (text : List ℕ) (p other : Program) → Accepted text 
 
   pub written_replays : (text : List ℕ) (workers : ℕ) (lim other : Bounds) (p : Program) (run book : Book) (ran answer : Answer) → IsWellFormed p → IsWithin lim.fuel lim.tasks
       → ends_line text ≡ true → list_any is_mark (lines_of text) ≡ false → Accepted text p → Due (Run workers lim true) text run ran
-      → Due (Replay other) (text ++ texts.journal_part lim run.journal) book answer → ran ≡ with_journal true lim run.journal answer
+      → Due (Replay other) (text ++ texts.journal_part_text lim run.journal) book answer → ran ≡ with_journal true lim run.journal answer
   written_replays text workers lim other p run book ran answer well within ends none accepted due replay =
       let r = run_answer text workers lim p run ran accepted due in
       let rest = head_line lim ++ flat_map move_line (map move_of run.journal) in

@@ -1,5 +1,5 @@
 -- An answer of the program: a status, and the bytes for the two sinks.
-use Rattle.text_streams.specs.declared.answer.Answer.{Answer as AnswerWith}
+use Rattle.twe_io.specs.declared.answer.Answer.{Answer as AnswerWith}
 use Rattle.text_answers.specs.declared.status.Status.{Status}
 
 abbrev pub Answer : Type 0

@@ -5,8 +5,8 @@ use Rattle.seg_journal.specs.declared.journal.Entry.{Entry}
 use Rattle.seg_journal.specs.declared.moves.Move.{Move}
 use Rattle.seg_journal.specs.Lines.{IsFirstBadLine}
 use Rattle.seg_journal.specs.Spelling.{Spells, head_lines}
-use Rattle.twe_limits.specs.Language.{default_fuel, default_tasks}
-use Rattle.twe_limits.specs.Limits.{Bounds}
+use Rattle.twe_base.specs.Language.{default_fuel, default_tasks}
+use Rattle.twe_base.specs.Limits.{Bounds}
 use Rattle.twe_program.specs.Program.{Program}
 use Rattle.twe_frontend.specs.declared.refusal.Refusal.{Refusal}
 use Rattle.twe_frontend.specs.Accepted.{Accepted, IsRefusal}
@@ -19,14 +19,14 @@ use Rattle.twe_machine.specs.Runs.{state_after, counted}
 use Rattle.flat_sched.specs.Stuck.{IsCycleOfReasons, IsStuckCycle}
 use Rattle.twe_report.specs.Texts.{result_text, prints_text, fault_text, stuck_text, unfinished_text, not_a_move_text, not_legal_text, accepted_text, refusal_text}
 use Rattle.twe_report.specs.Texts as texts
-use Rattle.text_streams.specs.Answers.{on_err, on_out}
+use Rattle.twe_io.specs.Answers.{on_err, on_out}
 use Rattle.text_answers.specs.Answer.{Answer}
 use Rattle.text_answers.specs.declared.book.Book.{Book}
 use Rattle.text_answers.specs.declared.status.Status.{Status}
 use Rattle.text_answers.specs.declared.status.Status.TheVariants.{Done, Refused, Fault, Stuck, BadJournal, Unfinished}
 use Rattle.command_line.specs.declared.command.Command.{Command}
 use Rattle.command_line.specs.declared.command.Command.TheVariants.{Check, Run, Replay, Load}
-use Rattle.text_answers.specs.Codes.{is_done}
+use Rattle.text_answers.specs.Codes.{is_status_done}
 use Rattle.text_answers.specs.Theorem.{HasProgram, HasReplay, HasRun, HasRefusal}
 use Rattle.text_answers.specs.Input.{program_text, journal_text}
 
@@ -36,12 +36,12 @@ after_prints status prints line = record { status = status; out = prints_text pr
 
 -- the answer with the journal after its lines on out, if the journal is asked for
 abbrev pub with_journal : Bool → Bounds → List Entry → Answer → Answer
-with_journal asked lim journal answer = record answer { out = if asked then answer.out ++ texts.journal_part lim journal else answer.out }
+with_journal asked lim journal answer = record answer { out = if asked then answer.out ++ texts.journal_part_text lim journal else answer.out }
 
 -- The answer to the run of a load that has come to this state. If all tasks are done, it has the result of the load, and else
 -- nothing on out.
 abbrev pub for_load : ℕ → State → Answer → Answer
-for_load n last answer = if is_done answer.status then on_out Done (texts.load_result_text n last) else on_err answer.status answer.err
+for_load n last answer = if is_status_done answer.status then on_out Done (texts.load_result_text n last) else on_err answer.status answer.err
 
 -- the limits of a run, if no option gives them
 abbrev pub default_limits : Bounds

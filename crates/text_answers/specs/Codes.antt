@@ -17,6 +17,6 @@ code_of BadJournal = 9
 code_of Unfinished = 10
 
 -- all went well, and every task is done
-abbrev pub is_done : Status → Bool
-is_done Done = true
-is_done _ = false
+abbrev pub is_status_done : Status → Bool
+is_status_done Done = true
+is_status_done _ = false

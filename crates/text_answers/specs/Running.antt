@@ -1,7 +1,7 @@
 -- The run that a command asks for, and the answer to it.
 use Rattle.std.specs.Prelude.{◌≡◌, ℕ, List, Option, None, Some}
 use Rattle.seg_journal.specs.declared.journal.Entry.{Entry}
-use Rattle.twe_limits.specs.Limits.{Bounds}
+use Rattle.twe_base.specs.Limits.{Bounds}
 use Rattle.twe_program.specs.Program.{Program}
 use Rattle.twe_frontend.specs.Accepted.{Accepted}
 use Rattle.twe_machine.specs.declared.state.State.{State}

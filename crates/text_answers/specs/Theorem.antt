@@ -3,7 +3,7 @@ use Rattle.std.specs.Prelude.{◌≡◌, ◌≢◌, ℕ, List, [], None, Some, m
 use Rattle.seg_journal.specs.declared.journal.Entry.{Entry}
 use Rattle.seg_journal.specs.declared.moves.Move.{Move}
 use Rattle.seg_journal.specs.Spelling.{move_of}
-use Rattle.twe_limits.specs.Limits.{Bounds}
+use Rattle.twe_base.specs.Limits.{Bounds}
 use Rattle.twe_frontend.specs.declared.refusal.Refusal.{Refusal}
 use Rattle.twe_program.specs.Program.{Program}
 use Rattle.twe_machine.specs.declared.ending.Outcome.{Outcome}
@@ -12,8 +12,8 @@ use Rattle.twe_machine.specs.declared.state.State.{State}
 use Rattle.twe_machine.specs.LowestFirst.{LowestFirst}
 use Rattle.twe_machine.specs.Runs.{Legal, state_after, IsOutcome, EachOnce, EachAtMostOnce, AlwaysIsolated}
 use Rattle.isolation_laws.specs.Conflicts.{AlwaysCovered}
-use Rattle.determinism_results.specs.Main.{MainHasItsResult}
-use Rattle.determinism_results.specs.Results.{DeterministicTasksHaveResults}
+use Rattle.determinism_laws.specs.results.Main.{MainHasItsResult}
+use Rattle.determinism_laws.specs.results.Results.{DeterministicTasksHaveResults}
 use Rattle.text_answers.specs.declared.book.Book.{Book}
 
 -- each task was made, enabled and ended exactly once if all tasks are done, and else at most once

@@ -3,4 +3,4 @@
 use crate::status::Status;
 
 /// An answer of the program: the status, and the bytes for the two sinks.
-pub type Answer = text_streams::Answer<Status>;
+pub type Answer = twe_io::Answer<Status>;

@@ -1,10 +1,10 @@
 //! From the input of a command to its answer.
 ghost use Rattle.std.specs.Prelude.{◌≡◌, ◌≤◌, length, IfOk, OnOk};
 ghost use Rattle.command_line.specs.Words.{IsSized};
-ghost use Rattle.twe_limits.specs.Language.{max_text_bytes};
-ghost use Rattle.soundness_laws.specs.KeepsEffects.{KeepsEffects};
+ghost use Rattle.twe_base.specs.Language.{max_text_bytes};
+ghost use Rattle.isolation_laws.specs.soundness.KeepsEffects.{KeepsEffects};
 ghost use Rattle.twe_report.specs.Texts as texts;
-ghost use Rattle.text_streams.specs.Answers.{on_err, on_out};
+ghost use Rattle.twe_io.specs.Answers.{on_err, on_out};
 ghost use Rattle.text_answers.specs.Answers.{Due, IsAnswerTo};
 ghost use Rattle.text_answers.specs.Theorem.{HasProgram, HasRefusal, IsNew};
 ghost use Rattle.text_answers.specs.declared.status.Status.TheVariants.{Done, Refused};
@@ -19,9 +19,8 @@ use crate::status::Status;
 use command_line::Command;
 use load_text::load_text;
 use std::alloc::Global;
+use twe_base::{Limits, Memory};
 use twe_frontend::{FrontFail, Refusal, read_program};
-use twe_io::Memory;
-use twe_limits::Limits;
 use twe_program::Prog;
 use twe_report::{accepted_text, refusal_text};
 

@@ -5,8 +5,7 @@ ghost use Rattle.twe_machine.specs.Runs.{Legal, counted, state_after};
 
 use seg_journal::{End, Entry, Moves};
 use std::alloc::Global;
-use twe_io::{Ints, Memory};
-use twe_limits::Limits;
+use twe_base::{Ints, Limits, Memory};
 use twe_machine::{ReplayFail, replay};
 use twe_program::Prog;
 

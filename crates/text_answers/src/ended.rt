@@ -3,7 +3,7 @@ ghost use Rattle.std.specs.Prelude.{◌≡◌, IfOk};
 ghost use Rattle.twe_machine.specs.Runs.{IsOutcome, IsReachable, IsRun, counted, state_after};
 ghost use Rattle.twe_machine.specs.declared.ending.Outcome.TheVariants as outcomes;
 ghost use Rattle.twe_report.specs.Texts as texts;
-ghost use Rattle.text_streams.specs.Answers.{on_err, on_out};
+ghost use Rattle.twe_io.specs.Answers.{on_err, on_out};
 ghost use Rattle.text_answers.specs.Answers.{AnswersRun, after_prints};
 ghost use Rattle.text_answers.specs.declared.status.Status.TheVariants.{Done, Unfinished};
 
@@ -13,8 +13,7 @@ use crate::status::Status;
 use flat_sched::stuck_cycle;
 use seg_journal::Journal;
 use std::alloc::Global;
-use twe_io::{Bytes, Memory};
-use twe_limits::Limits;
+use twe_base::{Bytes, Limits, Memory};
 use twe_machine::{Outcome, State};
 use twe_program::Prog;
 use twe_report::{fault_text, prints_text, result_text, stuck_text, unfinished_text};

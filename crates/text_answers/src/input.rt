@@ -1,6 +1,6 @@
 //! The input of a command: the text of a program, and for `replay` the text of a journal.
 ghost use Rattle.std.specs.Prelude.{◌≡◌, ◌≤◌, length, take, drop, true, None, IfSome};
-ghost use Rattle.twe_limits.specs.Language.{max_text_bytes};
+ghost use Rattle.twe_base.specs.Language.{max_text_bytes};
 ghost use Rattle.text_answers.specs.Input.{HasNoMark, has_input, has_mark, is_mark, program_part, journal_part};
 ghost use Rattle.text_answers.specs.inner.FirstLine.{line_length};
 

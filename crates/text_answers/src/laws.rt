@@ -1,14 +1,14 @@
 //! Laws of answers: without workers there is one; journals that are written replay; a deterministic `main` has one result text.
 ghost use Rattle.std.specs.Prelude.{◌≡◌, ◌++◌, ℕ, List, true};
 ghost use Rattle.seg_journal.specs.declared.journal.Entry.{Entry};
-ghost use Rattle.twe_limits.specs.Limits.{Bounds, IsWithin};
+ghost use Rattle.twe_base.specs.Limits.{Bounds, IsWithin};
 ghost use Rattle.twe_program.specs.Program.{Program};
 ghost use Rattle.twe_program.specs.WellFormed.{IsWellFormed};
 ghost use Rattle.twe_frontend.specs.Accepted.{Accepted};
-ghost use Rattle.soundness_laws.specs.KeepsEffects.{KeepsEffects};
+ghost use Rattle.isolation_laws.specs.soundness.KeepsEffects.{KeepsEffects};
 ghost use Rattle.twe_machine.specs.Runs.{AllTasksDone, Legal, state_after};
-ghost use Rattle.determinism_results.specs.Main.{MainIsDeterministic};
-ghost use Rattle.twe_report.specs.Texts.{journal_part, result_text};
+ghost use Rattle.determinism_laws.specs.results.Main.{MainIsDeterministic};
+ghost use Rattle.twe_report.specs.Texts.{journal_part_text, result_text};
 ghost use Rattle.command_line.specs.Words.{workers_of};
 ghost use Rattle.command_line.specs.declared.command.Command.{Command};
 ghost use Rattle.command_line.specs.declared.command.Command.TheVariants.{Run, Replay};
@@ -17,7 +17,7 @@ ghost use Rattle.text_answers.specs.declared.book.Book.{Book};
 ghost use Rattle.text_answers.specs.Answers.{Due, IsAnswerTo, with_journal};
 ghost use Rattle.text_answers.specs.Input.{HasNoMark, ends_line};
 
-use determinism_results::deterministic_mains_have_one_result;
+use determinism_laws::results::deterministic_mains_have_one_result;
 use twe_frontend::{one_program, one_refusal, refused_or_accepted};
 use twe_machine::one_lowest_first;
 
@@ -39,7 +39,7 @@ pub fn one_answer_without_workers()
 pub fn written_journals_replay()
     ensures { (text : List ℕ) (workers : ℕ) (lim other : Bounds) (p : Program) (run book : Book) (ran answer : Answer)
         → IsWellFormed p → IsWithin lim.fuel lim.tasks → ends_line text ≡ true → HasNoMark text → Accepted text p
-        → Due (Run workers lim true) text run ran → Due (Replay other) (text ++ journal_part lim run.journal) book answer
+        → Due (Run workers lim true) text run ran → Due (Replay other) (text ++ journal_part_text lim run.journal) book answer
         → ran ≡ with_journal true lim run.journal answer }
 {
     one_program();

@@ -1,9 +1,9 @@
 //! The replay of a journal text on an accepted program, and the answer to it.
 ghost use Rattle.std.specs.Prelude.{◌≡◌, ◌+◌, ◌≤◌, length, IfOk};
 ghost use Rattle.seg_journal.specs.Spelling.{head_lines};
-ghost use Rattle.soundness_laws.specs.KeepsEffects.{KeepsEffects};
+ghost use Rattle.isolation_laws.specs.soundness.KeepsEffects.{KeepsEffects};
 ghost use Rattle.twe_machine.specs.Replays.{IsReplay};
-ghost use Rattle.text_streams.specs.Answers.{on_err};
+ghost use Rattle.twe_io.specs.Answers.{on_err};
 ghost use Rattle.text_answers.specs.Answers.{AnswersReplay};
 ghost use Rattle.text_answers.specs.Theorem.{HasProgram, IsNew};
 ghost use Rattle.text_answers.specs.declared.status.Status.TheVariants.{BadJournal};
@@ -13,14 +13,13 @@ use crate::answer::Answer;
 use crate::book::Book;
 use crate::ended::answer_ended;
 use crate::status::Status;
-use determinism_results::{
+use determinism_laws::results::{
     deterministic_mains_have_their_results, deterministic_tasks_have_results,
 };
 use isolation_laws::accepted_runs_are_isolated;
 use seg_journal::{Journal, JournalFail, JournalText, Move, read_journal};
 use std::alloc::Global;
-use twe_io::{Bytes, Memory};
-use twe_limits::Limits;
+use twe_base::{Bytes, Limits, Memory};
 use twe_machine::{ReplayFail, State, each_thing_happens_once, outcome, replay_journal};
 use twe_program::Prog;
 use twe_report::{not_a_move_text, not_legal_text};

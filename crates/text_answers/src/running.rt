@@ -1,6 +1,6 @@
 //! The run of an accepted program, and the answer to it.
 ghost use Rattle.std.specs.Prelude.{◌≡◌, Some, IfOk, OnOk};
-ghost use Rattle.soundness_laws.specs.KeepsEffects.{KeepsEffects};
+ghost use Rattle.isolation_laws.specs.soundness.KeepsEffects.{KeepsEffects};
 ghost use Rattle.text_answers.specs.Answers.{for_load, with_journal};
 ghost use Rattle.text_answers.specs.Running.{IsDueForProgram, IsRunFor, IsWholeRun, limits_to_run};
 ghost use Rattle.text_answers.specs.Theorem.{IsNew};
@@ -11,15 +11,14 @@ use crate::book::Book;
 use crate::ended::answer_ended;
 use crate::status::Status;
 use command_line::Command;
-use determinism_results::{
+use determinism_laws::results::{
     deterministic_mains_have_their_results, deterministic_tasks_have_results,
 };
 use flat_sched::run_lowest;
 use isolation_laws::accepted_runs_are_isolated;
 use seg_journal::Journal;
 use std::alloc::Global;
-use twe_io::Memory;
-use twe_limits::Limits;
+use twe_base::{Limits, Memory};
 use twe_machine::{State, each_thing_happens_once, outcome};
 use twe_program::Prog;
 use twe_report::{journal_part, load_result_text};

@@ -1,6 +1,6 @@
 //! The statuses that the program ends with.
 ghost use Rattle.std.specs.Prelude.{◌≡◌};
-ghost use Rattle.text_answers.specs.Codes.{code_of, is_done};
+ghost use Rattle.text_answers.specs.Codes.{code_of, is_status_done};
 
 /// What a call of the program comes to.
 #[derive(Clone, Copy, Debug, PartialEq, Eq)]
@@ -32,7 +32,7 @@ pub enum Status {
 impl Status {
     /// Whether all went well, and every task is done.
     pub(crate) fn is_done(self) -> bool
-        ensures { result ≡ is_done self }
+        ensures { result ≡ is_status_done self }
     {
         matches!(self, Status::Done)
     }

@@ -8,33 +8,37 @@ use Rattle.std.proofs.lemmas.Option.{get_or_from_slice_get, slice_get-get_or, sl
 use Rattle.region_paths.specs.declared.elements.Elem.{Elem}
 use Rattle.effect_sets.specs.declared.effects.Effect.{Effect}
 use Rattle.prefix_tree.specs.Nodes.{IsTreeOfPaths}
+use Rattle.twe_base.specs.Limits.{Bounds}
 use Rattle.floor_rule.specs.declared.view.HeldTurn.{HeldTurn}
 use Rattle.floor_table.specs.declared.view.View.{View}
+use Rattle.floor_table.proofs.Added.{grown_then}
 use Rattle.floor_table.specs.FloorOf.{turn_in}
-use Rattle.admission_core.specs.States.{IsAmong, IsPlaceOf, Record}
-use Rattle.admission_core.proofs.EffectLemmas.{one_place}
-use Rattle.node_rule.specs.FactSteps.{HasPlacedAll}
-use Rattle.node_rule.specs.RecordSteps.{not_clear}
-use Rattle.node_rule.specs.TurnSteps.{IsClearOf}
-use Rattle.node_rule.proofs.Records.{clear_among}
-use Rattle.tree_table.specs.declared.slot.Errand.{Errand}
-use Rattle.tree_table.specs.declared.slot.ErrandKind.{ErrandKind}
-use Rattle.tree_table.specs.declared.view.TreeView.{TreeView}
-use Rattle.tree_table.specs.Seats.{TreeSeat, tree_seen, turns_seen}
-use Rattle.tree_table.specs.Without.{without}
-use Rattle.tree_table.proofs.Withouts.{without_is}
-use Rattle.twe_io.specs.declared.memory.Memory.{Memory}
+use Rattle.admission_laws.specs.admission_core.States.{IsAmong, IsPlaceOf, Record}
+use Rattle.admission_laws.proofs.admission_core.EffectLemmas.{one_place}
+use Rattle.floor_rule.specs.nodes.FactSteps.{HasPlacedAll}
+use Rattle.floor_rule.specs.nodes.RecordSteps.{not_clear}
+use Rattle.floor_rule.specs.nodes.TurnSteps.{IsClearOf}
+use Rattle.floor_rule.proofs.nodes.Records.{clear_among}
+use Rattle.floor_table.specs.declared.nodes.slot.Errand.{Errand}
+use Rattle.floor_table.specs.declared.nodes.slot.ErrandKind.{ErrandKind}
+use Rattle.floor_table.specs.declared.nodes.view.TreeView.{TreeView}
+use Rattle.floor_table.specs.nodes.Seats.{TreeSeat, tree_seen, turns_seen}
+use Rattle.floor_table.specs.nodes.Without.{without_record}
+use Rattle.floor_table.proofs.nodes.Withouts.{without_is}
+use Rattle.twe_base.specs.declared.memory.Memory.{Memory}
 use Rattle.tree_admit.specs.declared.admitting.Admittance.{Admittance}
 use Rattle.tree_admit.specs.declared.admitting.Admittance.TheVariants.{Held}
 use Rattle.tree_admit.specs.declared.bars.Bar.{Bar}
 use Rattle.tree_admit.specs.declared.bars.Attempt.{Attempt}
 use Rattle.tree_admit.specs.declared.bars.Attempt.TheVariants.{Barred, Placed, Stood}
-use Rattle.tree_admit.specs.declared.placing.Obstacle.TheVariants.{InTheWay}
-use Rattle.tree_admit.specs.Attempts.{HasMet, HasPlacedEach, HasPlacedFirst, HasPlacedNone, HasTakenOutFirst, HasTurnWith, IsOneOfFirst, IsRecordOf, KeepsAllElse, MayTryToAdmit, Stands, WasBarredFor}
+use Rattle.tree_admit.specs.declared.placing.Obstacle.{Obstacle}
+use Rattle.tree_admit.specs.declared.placing.Obstacle.TheVariants.{InTheWay, NoMemory}
+use Rattle.tree_admit.specs.Attempts.{HasMet, HasPlacedEach, HasPlacedFirst, HasPlacedNone, HasTakenOutFirst, HasTurnWith, IsObstacle, IsOneOfFirst, IsRecordOf, KeepsAllElse, MayTryToAdmit, RecordStands, WasBarredFor}
 use Rattle.tree_admit.specs.Descents.{HasTakenOut, HasTried}
 use Rattle.tree_admit.specs.Errands.{KnowsErrand, MaySetOutFor, record_of, with_clear, with_placed, with_removed}
 use Rattle.tree_admit.specs.Going.{HasLeft, IsOutside}
 use Rattle.tree_admit.specs.Outcomes.{HasPlaced, IsTakenOut, missing, placed, removed, stood}
+use Rattle.tree_admit.proofs.Learning.{barred_kept, barred_since}
 
 -- Lists of records.
 
@@ -67,7 +71,7 @@ module _ (t : ℕ) (r x : Record) (own : r.task ≡ t) (other : x.task ≢ t) wh
     λ among. others_stay r.task n x l (λ same. other (same ∙ own)) among,
   )
 
-  other_without : (l : List Record) → (IsAmong x (without r l) ↔ IsAmong x l)
+  other_without : (l : List Record) → (IsAmong x (without_record r l) ↔ IsAmong x l)
   other_without l = (λ among. ((without_is r l x).0 among).0, λ among. (without_is r l x).1 (among, not_this))
 
 over : (x : Record) (l m k : List Record) → l ≡ m → (IsAmong x m ↔ IsAmong x k) → (IsAmong x l ↔ IsAmong x k)
@@ -83,7 +87,8 @@ module _ (t : ℕ) (before after : TreeSeat) (outside : IsOutside before.0) wher
     floor = h.learned.floor;
     done = h.learned.done;
     waits = h.learned.waits;
-    seen = h.learned.seen;
+    kept = h.learned.kept;
+    looks = h.learned.looks;
     fresh = λ x other. same_list x after.0.fresh before.0.fresh h.learned.fresh;
     clear = λ x other. same_list x after.0.clear before.0.clear h.learned.clear;
   }
@@ -96,7 +101,8 @@ module _ (t : ℕ) (before after : TreeSeat) (outside : IsOutside before.0) wher
       floor = h.learned.floor;
       done = h.learned.done;
       waits = h.learned.waits;
-      seen = h.learned.seen;
+      kept = h.learned.kept;
+      looks = h.learned.looks;
       fresh = λ x other. over x after.0.fresh (r ∷ before.0.fresh) before.0.fresh h.learned.fresh (other_behind t r x own other before.0.fresh);
       clear = λ x other.
           over x after.0.clear (not_clear r.task r.node before.0.clear) before.0.clear h.learned.clear (other_clear t r x own other r.node before.0.clear);
@@ -109,8 +115,9 @@ module _ (t : ℕ) (before after : TreeSeat) (outside : IsOutside before.0) wher
       floor = h.learned.floor;
       done = h.learned.done;
       waits = h.learned.waits;
-      seen = h.learned.seen;
-      fresh = λ x other. over x after.0.fresh (without r before.0.fresh) before.0.fresh h.learned.fresh (other_without t r x own other before.0.fresh);
+      kept = h.learned.kept;
+      looks = h.learned.looks;
+      fresh = λ x other. over x after.0.fresh (without_record r before.0.fresh) before.0.fresh h.learned.fresh (other_without t r x own other before.0.fresh);
       clear = λ x other. over x after.0.clear (r ∷ before.0.clear) before.0.clear h.learned.clear (other_behind t r x own other before.0.clear);
     }
 
@@ -121,7 +128,8 @@ module _ (t : ℕ) (before after : TreeSeat) (outside : IsOutside before.0) wher
       floor = h.learned.floor;
       done = h.learned.done;
       waits = h.learned.waits;
-      seen = h.learned.seen;
+      kept = h.learned.kept;
+      looks = h.learned.looks;
       fresh = λ x other. same_list x after.0.fresh before.0.fresh h.learned.fresh;
       clear = λ x other. over x after.0.clear (r ∷ before.0.clear) before.0.clear h.learned.clear (other_behind t r x own other before.0.clear);
     }
@@ -175,7 +183,8 @@ keeps_trans t a b c h k = record {
   floor = k.floor ∙ ap (λ (f : View). record f { done = c.0.floor.done }) h.floor;
   done = λ fact among. k.done fact (h.done fact among);
   waits = λ fact among. k.waits fact (h.waits fact among);
-  seen = λ change among. k.seen change (h.seen change among);
+  kept = grown_then a.0.kept b.0.kept c.0.kept h.kept k.kept;
+  looks = grown_then a.0.looks b.0.looks c.0.looks h.looks k.looks;
   fresh = λ x other. (λ among. (h.fresh x other).0 ((k.fresh x other).0 among), λ among. (k.fresh x other).1 ((h.fresh x other).1 among));
   clear = λ x other. (λ among. (h.clear x other).0 ((k.clear x other).0 among), λ among. (k.clear x other).1 ((h.clear x other).1 among));
 }
@@ -304,28 +313,14 @@ module _ (nodes : List (List Elem)) (t : ℕ) (effects : List Effect) where
       (h.only r (out.only r among))
 
   -- what was in the way was so
-  pub barred_still : (before after : TreeSeat) (bar : Bar) → KeepsAllElse t before after → WasBarredFor before.0 t effects bar → WasBarredFor after.0 t effects bar
-  barred_still before after bar keeps (e, contains, (content, among, (r, there, of))) = (
-    e,
-    contains,
-    (
-      content,
-      keeps.seen (record { node = bar.node; content = Some content }) among,
-      (
-        r,
-        there,
-        record {
-          other = of.other;
-          meets = of.meets;
-          task = of.task;
-          leads =
-              ⊎_elim (λ (same : bar.by ≡ bar.end). inl same)
-              (λ (known : IsAmong (record { waiter = bar.by; awaited = bar.end }) before.0.waits).
-              inr (keeps.waits (record { waiter = bar.by; awaited = bar.end }) known)) of.leads;
-        },
-      ),
-    ),
-  )
+  pub barred_still : (lim : Bounds) (since before after : TreeSeat) (bar : Bar) → KeepsAllElse t before after → WasBarredFor lim since.0 before.0 t effects bar → WasBarredFor lim since.0 after.0 t effects bar
+  barred_still lim since before after bar keeps (e, contains, was) =
+      (e, contains, barred_kept lim t e since.0 before.0 after.0 bar (record { waits = keeps.waits; kept = keeps.kept; looks = keeps.looks }) was)
+
+  -- what was met now was met since any seat before
+  pub met_since : (lim : Bounds) (kind : ErrandKind) (a b c : TreeSeat) (by : Obstacle) → KeepsAllElse t a b → IsObstacle lim kind b.0 c.0 t effects by → IsObstacle lim kind a.0 c.0 t effects by
+  met_since lim kind a b c (InTheWay bar) keeps (is, (e, contains, was)) = (is, (e, contains, barred_since lim t e a.0 b.0 c.0 bar keeps.kept keeps.looks was))
+  met_since lim kind a b c (NoMemory memory) keeps is = tt
 
   -- One effect.
 
@@ -350,18 +345,18 @@ module _ (nodes : List (List Elem)) (t : ℕ) (effects : List Effect) where
       more,
     )
 
-    pub placed_of : (before after : TreeSeat) (attempt : Attempt) → attempt ≡ Placed → HasTried before.0 before.1 errand e attempt after → Stands nodes t effects k before after
-    placed_of before after attempt is came = (record_of errand e, record_is, placed (subst (λ (a : Attempt). HasTried before.0 before.1 errand e a after) is came))
+    pub placed_of : (lim : Bounds) (before after : TreeSeat) (attempt : Attempt) → attempt ≡ Placed → HasTried lim before.0 before.1 errand e attempt after → RecordStands nodes t effects k before after
+    placed_of lim before after attempt is came = (record_of errand e, record_is, placed (subst (λ (a : Attempt). HasTried lim before.0 before.1 errand e a after) is came))
 
-    pub stood_of : (before after : TreeSeat) (attempt : Attempt) → attempt ≡ Stood → HasTried before.0 before.1 errand e attempt after → Stands nodes t effects k before after
-    stood_of before after attempt is came =
-        let found = subst (λ (a : Attempt). HasTried before.0 before.1 errand e a after) is came in
+    pub stood_of : (lim : Bounds) (before after : TreeSeat) (attempt : Attempt) → attempt ≡ Stood → HasTried lim before.0 before.1 errand e attempt after → RecordStands nodes t effects k before after
+    stood_of lim before after attempt is came =
+        let found = subst (λ (a : Attempt). HasTried lim before.0 before.1 errand e a after) is came in
         (record_of errand e, record_is, stood found.1 found.0)
 
-    pub barred_of : (before after : TreeSeat) (attempt : Attempt) (bar : Bar) → attempt ≡ Barred bar → HasTried before.0 before.1 errand e attempt after
-        → HasMet kind t effects (InTheWay bar) before after
-    barred_of before after attempt bar is came =
-        let found = subst (λ (a : Attempt). HasTried before.0 before.1 errand e a after) is came in
+    pub barred_of : (lim : Bounds) (before after : TreeSeat) (attempt : Attempt) (bar : Bar) → attempt ≡ Barred bar → HasTried lim before.0 before.1 errand e attempt after
+        → HasMet lim kind t effects (InTheWay bar) before after
+    barred_of lim before after attempt bar is came =
+        let found = subst (λ (a : Attempt). HasTried lim before.0 before.1 errand e a after) is came in
         (found.0, (found.1, (e, contains, found.2)))
 
     pub taken_out_of : (before after : TreeSeat) (taken : Bool) → HasTakenOut before.0 before.1 errand e taken after

@@ -3,7 +3,7 @@ use Rattle.std.proofs.Common.{◌≡◌, ◌+◌, ◌<◌, ◌≤◌, ℕ, zero,
 use Rattle.std.specs.Prelude.{slice_get}
 use Rattle.std.proofs.lemmas.Bool.{cases_eq, cases_lt}
 use Rattle.floor_rule.proofs.Puts.{some_one}
-use Rattle.admission_core.specs.States.{IsAmong, Record}
+use Rattle.admission_laws.specs.admission_core.States.{IsAmong, Record}
 use Rattle.tree_admit.specs.Passing.{EachBetween}
 
 -- those of one stretch and those of the next

@@ -10,15 +10,15 @@ use Rattle.region_paths.specs.declared.elements.Elem.{Elem}
 use Rattle.effect_sets.specs.declared.effects.Effect.{Effect}
 use Rattle.floor_rule.specs.declared.view.HeldTurn.{HeldTurn}
 use Rattle.floor_table.specs.FloorOf.{turn_in}
-use Rattle.admission_core.specs.States.{Descends, IsPlaceOf, Stage, Walks, effect_of}
-use Rattle.admission_core.specs.Events.{HasCome}
-use Rattle.node_rule.specs.LockSteps.{MaySetOut}
-use Rattle.tree_table.specs.declared.slot.Errand.{Errand}
-use Rattle.tree_table.specs.declared.slot.ErrandKind.{ErrandKind}
-use Rattle.tree_table.specs.declared.slot.ErrandKind.TheVariants.{Admission, Placing, Removal}
-use Rattle.tree_table.specs.declared.slot.TreeSlot.TheVariants as kinds
-use Rattle.tree_table.specs.declared.view.TreeView.{TreeView}
-use Rattle.tree_table.specs.Seats.{MayLock, activity_for, effect_known, enters, errand_of, purpose_for, turns_seen}
+use Rattle.admission_laws.specs.admission_core.States.{Descends, IsPlaceOf, Stage, Walks, record_effect}
+use Rattle.admission_laws.specs.admission_core.Events.{HasCome}
+use Rattle.floor_rule.specs.nodes.LockSteps.{MaySetOut}
+use Rattle.floor_table.specs.declared.nodes.slot.Errand.{Errand}
+use Rattle.floor_table.specs.declared.nodes.slot.ErrandKind.{ErrandKind}
+use Rattle.floor_table.specs.declared.nodes.slot.ErrandKind.TheVariants.{Admission, Placing, Removal}
+use Rattle.floor_table.specs.declared.nodes.slot.TreeSlot.TheVariants as kinds
+use Rattle.floor_table.specs.declared.nodes.view.TreeView.{TreeView}
+use Rattle.floor_table.specs.nodes.Seats.{MayLock, activity_for, effect_known, enters, errand_of, purpose_for, turns_seen}
 use Rattle.tree_admit.specs.Going.{IsOutside}
 use Rattle.tree_admit.specs.Errands.{KnowsErrand, MaySetOutFor, come_to, errand_at}
 
@@ -46,7 +46,7 @@ has_come place n = ⊎_elim (λ (at : n ≡ place). inr (at, come_there place n 
 pub has_effect : (effects : List Effect) (k : ℕ) (e : Effect) → slice_get effects k ≡ Some e → Contains effects e
 has_effect effects k e is = subst (Contains effects) (get_or_from_slice_get effects k e e is) (Contains-get_or effects k e (slice_get_within effects k e is))
 
-pub effect_is : (kind : ErrandKind) (t : ℕ) (e : Effect) → effect_of (purpose_for kind t e) ≡ e
+pub effect_is : (kind : ErrandKind) (t : ℕ) (e : Effect) → record_effect (purpose_for kind t e) ≡ e
 effect_is Admission t e = refl
 effect_is Placing t e = refl
 effect_is Removal t e = refl

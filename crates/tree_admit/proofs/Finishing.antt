@@ -7,9 +7,9 @@ use Rattle.std.proofs.lemmas.List.Elements.{Contains-get_or}
 use Rattle.std.proofs.lemmas.Option.{get_or_from_slice_get, slice_get-get_or}
 use Rattle.region_paths.specs.declared.elements.Elem.{Elem}
 use Rattle.prefix_tree.specs.Nodes.{IsParent, IsTreeOfPaths}
-use Rattle.admission_core.specs.States.{IsAbove, IsAmong}
-use Rattle.admission_core.proofs.TreeLemmas.{above_refl, over_above, parent_over}
-use Rattle.tree_ways.proofs.WayLemmas.{siblings}
+use Rattle.admission_laws.specs.admission_core.States.{IsAbove, IsAmong}
+use Rattle.admission_laws.proofs.admission_core.TreeLemmas.{above_refl, over_above, parent_over}
+use Rattle.tree_admit.proofs.ways.WayLemmas.{siblings}
 use Rattle.tree_admit.specs.Descents.{HasFinishedBelow, NoneBelow}
 
 -- the first k children are finished, the nodes that were finished are so still, and each other one lies at or below one of the first k children

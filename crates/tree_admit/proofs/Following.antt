@@ -2,14 +2,18 @@
 use Rattle.std.proofs.Common.{◌≡◌, ◌⊎◌, ℕ, ℤ, Bool, true, false, List, [], ◌∷◌, if◌then◌else◌, refl, sym, ap, subst, ◌∙◌, inl, inr, ⊎_elim}
 use Rattle.std.specs.Prelude.{◌==◌}
 use Rattle.std.proofs.lemmas.Bool.Decides.{Decides-eqb, not_from_Decides}
-use Rattle.twe_limits.specs.Limits.{Bounds}
+use Rattle.twe_base.specs.Limits.{Bounds}
 use Rattle.floor_rule.specs.declared.view.Phase.{Phase}
 use Rattle.floor_rule.specs.declared.view.Phase.TheVariants.{Absent, Made, Running, Waits, Done, Faulted}
 use Rattle.floor_table.specs.Layout.{phase_of_word, word_of_phase}
-use Rattle.admission_core.specs.States.{IsAmong}
-use Rattle.node_rule.specs.Trees.{WaitFact}
-use Rattle.tree_table.specs.Follows.{FollowedPhase, Learns, done_view, led_on, waits_view}
-use Rattle.tree_table.specs.Seats.{TreeSeat}
+use Rattle.admission_laws.specs.admission_core.States.{IsAmong}
+use Rattle.floor_rule.specs.nodes.Trees.{WaitFact}
+use Rattle.floor_table.proofs.Added.{grown_by, grown_same}
+use Rattle.floor_table.specs.declared.nodes.view.Look.{Look}
+use Rattle.floor_table.specs.declared.nodes.view.Look.TheVariants.{AtPhase}
+use Rattle.floor_table.specs.nodes.Looks.{looked_seat}
+use Rattle.floor_table.specs.nodes.Follows.{FollowedPhase, Learns, done_view, led_on, waits_view}
+use Rattle.floor_table.specs.nodes.Seats.{TreeSeat}
 use Rattle.tree_admit.specs.Bars.{IsLedTo}
 use Rattle.tree_admit.specs.Going.{HasOnlyFollowed}
 use Rattle.tree_admit.proofs.Learning.{learned_refl, learned_trans}
@@ -56,7 +60,25 @@ done_followed before u value = record {
   activity = refl;
   kept = refl;
   slots = refl;
-  learned = record { floor = refl; done = λ fact among. inr among; waits = λ fact among. among; placed = refl; removed = refl; fresh = refl; clear = refl; seen = λ change among. among };
+  learned = record { floor = refl; done = λ fact among. inr among; waits = λ fact among. among; placed = refl; removed = refl; fresh = refl; clear = refl; kept = grown_same before.0.kept; looks = grown_same before.0.looks };
+}
+
+look_followed : (before : TreeSeat) (look : Look) → HasOnlyFollowed before (looked_seat before look)
+look_followed before look = record {
+  activity = refl;
+  kept = refl;
+  slots = refl;
+  learned = record {
+    floor = refl;
+    done = λ fact among. among;
+    waits = λ fact among. among;
+    placed = refl;
+    removed = refl;
+    fresh = refl;
+    clear = refl;
+    kept = grown_same before.0.kept;
+    looks = grown_by look before.0.looks (look ∷ before.0.looks) refl;
+  };
 }
 
 waits_followed : (before : TreeSeat) (u t : ℕ) → HasOnlyFollowed before (waits_view before.0 u t, before.1)
@@ -72,7 +94,8 @@ waits_followed before u t = record {
     removed = refl;
     fresh = refl;
     clear = refl;
-    seen = λ change among. among;
+    kept = grown_same before.0.kept;
+    looks = grown_same before.0.looks;
   };
 }
 
@@ -85,7 +108,9 @@ learns_only Done before u after is = subst (HasOnlyFollowed before) (sym is.1) (
 learns_only Faulted before u after is = followed_same before after is
 
 pub follows_only : (lim : Bounds) (before : TreeSeat) (u : ℕ) (phase : Phase) (after : TreeSeat) → FollowedPhase lim before u (word_of_phase phase) after → HasOnlyFollowed before after
-follows_only lim before u phase after found = learns_only (phase_of_word (word_of_phase phase)) before u after found.3
+follows_only lim before u phase after found =
+    let look = AtPhase u (word_of_phase phase) in
+    followed_trans before (looked_seat before look) after (look_followed before look) (learns_only (phase_of_word (word_of_phase phase)) (looked_seat before look) u after found.3)
 
 -- whoever was led to u is led on to the task for which u waits
 pub led_further : (lim : Bounds) (before : TreeSeat) (s u t : ℕ) (after : TreeSeat) → IsLedTo before.0 s u → FollowedPhase lim before u (word_of_phase (Waits t)) after

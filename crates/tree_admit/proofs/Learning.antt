@@ -1,18 +1,24 @@
 -- A view that learns goes on to know what it knew.
-use Rattle.std.proofs.Common.{◌≡◌, ◌≢◌, ℕ, Some, refl, sym, ap, subst, ◌∙◌, inl, inr, ⊎_elim}
+use Rattle.std.proofs.Common.{◌≡◌, ◌≢◌, ◌++◌, ℕ, List, Some, refl, sym, ap, subst, ◌∙◌, inl, inr, ⊎_elim}
+use Rattle.twe_base.specs.Limits.{Bounds}
+use Rattle.floor_rule.specs.nodes.Trees.{WaitFact}
+use Rattle.floor_table.specs.Added.{HasGrown}
+use Rattle.floor_table.specs.declared.nodes.view.Look.{Look}
+use Rattle.floor_table.specs.nodes.Chains.{HasFollowedTo}
+use Rattle.floor_table.proofs.Added.{added_before, added_then, grown_same, grown_then}
 use Rattle.floor_table.specs.declared.view.View.{View}
-use Rattle.tree_table.specs.declared.view.TreeView.{TreeView}
-use Rattle.admission_core.specs.States.{Record}
+use Rattle.floor_table.specs.declared.nodes.view.TreeView.{TreeView}
+use Rattle.admission_laws.specs.admission_core.States.{IsAmong, Record}
 use Rattle.floor_table.specs.declared.view.SeatKind.{SeatKind}
 use Rattle.floor_table.specs.declared.view.SeatKind.TheVariants.{Spent}
 use Rattle.effect_sets.specs.declared.effects.Effect.{Effect}
-use Rattle.node_rule.specs.LockSteps.{IsKnownToPass, apart, own, waiting}
+use Rattle.floor_rule.specs.nodes.LockSteps.{IsKnownToPass, apart, own, waiting}
 use Rattle.tree_admit.specs.declared.bars.Bar.{Bar}
 use Rattle.tree_admit.specs.Bars.{IsBarOf, IsLedTo, WasBarred}
 use Rattle.tree_admit.specs.Going.{HasOnlyLearned}
 
 pub learned_refl : (v : TreeView) → HasOnlyLearned v v
-learned_refl v = record { floor = refl; done = λ fact h. h; waits = λ fact h. h; placed = refl; removed = refl; fresh = refl; clear = refl; seen = λ change h. h }
+learned_refl v = record { floor = refl; done = λ fact h. h; waits = λ fact h. h; placed = refl; removed = refl; fresh = refl; clear = refl; kept = grown_same v.kept; looks = grown_same v.looks }
 
 pub learned_trans : (u v w : TreeView) → HasOnlyLearned u v → HasOnlyLearned v w → HasOnlyLearned u w
 learned_trans u v w h k = record {
@@ -23,7 +29,8 @@ learned_trans u v w h k = record {
   removed = k.removed ∙ h.removed;
   fresh = k.fresh ∙ h.fresh;
   clear = k.clear ∙ h.clear;
-  seen = λ change among. k.seen change (h.seen change among);
+  kept = grown_then u.kept v.kept w.kept h.kept k.kept;
+  looks = grown_then u.looks v.looks w.looks h.looks k.looks;
 }
 
 -- what is known of the floor beside the done tasks is known as before
@@ -41,9 +48,62 @@ pass_kept v w t e r h (apart away) = apart away
 pass_kept v w t e r h (own same) = own same
 pass_kept v w t e r h (waiting known) = waiting (h.waits (record { waiter = r.task; awaited = t }) known)
 
-pub bar_kept : (v w : TreeView) (t : ℕ) (e : Effect) (r : Record) (bar : Bar) → HasOnlyLearned v w → IsBarOf v t e r bar → IsBarOf w t e r bar
-bar_kept v w t e r bar h is = record { other = is.other; meets = is.meets; task = is.task; leads = led_kept v w bar.by bar.end h is.leads }
+-- What a later view knows of waits, contents and looks, where an earlier one knew no more.
+pub record KnowsAll (v w : TreeView) : Type 0 where
+  pub waits : (fact : WaitFact) → IsAmong fact v.waits → IsAmong fact w.waits
+  pub kept : HasGrown v.kept w.kept
+  pub looks : HasGrown v.looks w.looks
 
-pub barred_kept : (v w : TreeView) (t : ℕ) (e : Effect) (bar : Bar) → HasOnlyLearned v w → WasBarred v t e bar → WasBarred w t e bar
-barred_kept v w t e bar h (content, seen, (r, among, is)) =
-    (content, h.seen (record { node = bar.node; content = Some content }) seen, (r, among, bar_kept v w t e r bar h is))
+pub learned_all : (v w : TreeView) → HasOnlyLearned v w → KnowsAll v w
+learned_all v w h = record { waits = h.waits; kept = h.kept; looks = h.looks }
+
+-- Chains that were followed.
+
+followed_then : (a b c : List Look) (s u : ℕ) → HasFollowedTo a b s u → HasGrown b c → HasFollowedTo a c s u
+followed_then a b c s u is grown = record {
+  start = is.start;
+  chain = is.chain;
+  earlier = is.earlier;
+  ended = is.ended;
+  later = grown_then (is.chain ++ is.start) b c is.later grown;
+}
+
+followed_since : (a b c : List Look) (s u : ℕ) → HasGrown a b → HasFollowedTo b c s u → HasFollowedTo a c s u
+followed_since a b c s u grown is = record {
+  start = is.start;
+  chain = is.chain;
+  earlier = grown_then a b is.start grown is.earlier;
+  ended = is.ended;
+  later = is.later;
+}
+
+-- Bars, of which the seat knows more later, and which it has met since any view before.
+module _ (lim : Bounds) (t : ℕ) (e : Effect) where
+  pub bar_kept : (since v w : TreeView) (r : Record) (bar : Bar) → KnowsAll v w → IsBarOf lim since v t e r bar → IsBarOf lim since w t e r bar
+  bar_kept since v w r bar h is = record {
+    other = is.other;
+    meets = is.meets;
+    task = is.task;
+    leads = ⊎_elim (λ (same : bar.by ≡ bar.end). inl same)
+        (λ (known : IsAmong (record { waiter = bar.by; awaited = bar.end }) v.waits). inr (h.waits (record { waiter = bar.by; awaited = bar.end }) known)) is.leads;
+    elsewhere = is.elsewhere;
+    followed = λ low. followed_then since.looks v.looks w.looks bar.by bar.end (is.followed low) h.looks;
+  }
+
+  pub bar_since : (u v w : TreeView) (r : Record) (bar : Bar) → HasGrown u.looks v.looks → IsBarOf lim v w t e r bar → IsBarOf lim u w t e r bar
+  bar_since u v w r bar grown is = record {
+    other = is.other;
+    meets = is.meets;
+    task = is.task;
+    leads = is.leads;
+    elsewhere = is.elsewhere;
+    followed = λ low. followed_since u.looks v.looks w.looks bar.by bar.end grown (is.followed low);
+  }
+
+  pub barred_kept : (since v w : TreeView) (bar : Bar) → KnowsAll v w → WasBarred lim since v t e bar → WasBarred lim since w t e bar
+  barred_kept since v w bar h (content, added, (r, among, is)) =
+      (content, added_then (record { node = bar.node; content = Some content }) since.kept v.kept w.kept added h.kept, (r, among, bar_kept since v w r bar h is))
+
+  pub barred_since : (u v w : TreeView) (bar : Bar) → HasGrown u.kept v.kept → HasGrown u.looks v.looks → WasBarred lim v w t e bar → WasBarred lim u w t e bar
+  barred_since u v w bar kept looks (content, added, (r, among, is)) =
+      (content, added_before (record { node = bar.node; content = Some content }) u.kept v.kept w.kept kept added, (r, among, bar_since u v w r bar looks is))

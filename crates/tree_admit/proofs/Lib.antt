@@ -6,6 +6,7 @@ pub mod Steps
 pub mod Marks
 pub mod Entering
 pub mod Following
+pub mod Chained
 -- Records that are passed over.
 pub mod Between
 pub mod PassedOver

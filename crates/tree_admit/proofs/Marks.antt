@@ -1,25 +1,26 @@
 -- What a seat has once it has marked a record as placed or removed, or a node as clear.
-use Rattle.std.proofs.Common.{◌≡◌, ◌≢◌, ◌⊎◌, ℕ, true, false, List, [], ◌∷◌, Some, refl, sym, ap, subst, ◌∙◌, inr}
+use Rattle.std.proofs.Common.{◌≡◌, ◌≢◌, ◌⊎◌, ℕ, true, false, List, [], ◌∷◌, Some, refl, sym, ap, subst, ◌∙◌}
 use Rattle.std.specs.Prelude.{Contains, is_some}
 use Rattle.region_paths.specs.declared.elements.Elem.{Elem}
 use Rattle.effect_sets.specs.declared.effects.Effect.{Effect}
 use Rattle.effect_tree.specs.Place.{IsSolid}
-use Rattle.twe_limits.specs.Limits.{Bounds}
+use Rattle.twe_base.specs.Limits.{Bounds}
 use Rattle.twe_machine.specs.declared.state.TaskStatus.TheVariants as status
 use Rattle.floor_rule.specs.declared.view.HeldTurn.{HeldTurn}
 use Rattle.floor_table.specs.FloorOf.{turn_in}
 use Rattle.floor_table.specs.declared.view.View.{View}
-use Rattle.admission_core.specs.States.{Activity, Admit, Child, IsAmong, Record, Remove, Walks}
-use Rattle.admission_core.specs.Events.{AllFinished}
-use Rattle.node_rule.specs.FactSteps.{FindsClear}
-use Rattle.node_rule.specs.LockSteps.{stopped}
-use Rattle.node_rule.specs.RecordSteps.{IsWithout, not_clear, record_here}
-use Rattle.tree_table.specs.declared.slot.TreeSlot.{TreeSlot}
-use Rattle.tree_table.specs.declared.view.TreeView.{TreeView}
-use Rattle.tree_table.specs.RecordSeats.{MayMark, MayUnmark, clear_view, marked_view, marks, marks_child, record_about, task_of, unmarked_view}
-use Rattle.tree_table.specs.Seats.{TreeSeat, tree_seen, turns_seen}
-use Rattle.tree_table.specs.Without.{without}
-use Rattle.tree_table.proofs.Withouts.{without_is}
+use Rattle.admission_laws.specs.admission_core.States.{Activity, Admit, Child, IsAmong, Record, Remove, Walks}
+use Rattle.admission_laws.specs.admission_core.Events.{AllFinished}
+use Rattle.floor_rule.specs.nodes.FactSteps.{FindsClear}
+use Rattle.floor_rule.specs.nodes.LockSteps.{stopped}
+use Rattle.floor_rule.specs.nodes.RecordSteps.{IsWithout, not_clear, record_here}
+use Rattle.floor_table.specs.declared.nodes.slot.TreeSlot.{TreeSlot}
+use Rattle.floor_table.specs.declared.nodes.view.TreeView.{TreeView}
+use Rattle.floor_table.proofs.Added.{grown_by, grown_then}
+use Rattle.floor_table.specs.nodes.RecordSeats.{MayMark, MayUnmark, clear_view, marked_view, marks, marks_child, record_about, record_task, unmarked_view}
+use Rattle.floor_table.specs.nodes.Seats.{TreeSeat, tree_seen, turns_seen}
+use Rattle.floor_table.specs.nodes.Without.{without_record}
+use Rattle.floor_table.proofs.nodes.Withouts.{without_is}
 use Rattle.tree_admit.specs.Going.{HasNode, HasOnlyLearned}
 use Rattle.tree_admit.specs.Errands.{AllPass, with_clear, with_placed, with_removed}
 use Rattle.tree_admit.proofs.Contents.{content_else, content_here}
@@ -72,7 +73,9 @@ module _ (lim : Bounds) (earlier : TreeView) (rest : List (ℕ × TreeSlot)) (a 
           removed = h.learned.removed;
           fresh = ap (λ (l : List Record). r ∷ l) h.learned.fresh;
           clear = ap (λ (l : List Record). not_clear r.task r.node l) h.learned.clear;
-          seen = λ change among. inr (h.learned.seen change among);
+          kept = grown_then earlier.kept me.0.kept (marked_view me.0 a content).kept h.learned.kept
+              (grown_by (record { node = a.place; content = Some (r ∷ content) }) me.0.kept (marked_view me.0 a content).kept refl);
+          looks = h.learned.looks;
         };
       })
 
@@ -91,8 +94,8 @@ module _ (lim : Bounds) (earlier : TreeView) (rest : List (ℕ × TreeSlot)) (a 
           stage = stage;
           has = h.known;
           there = subst (λ (r : Record). IsAmong r content) same there;
-          others = subst (λ (r : Record). IsWithout r content (without (record_about a) content)) same (without_is (record_about a) content);
-          fresh_others = subst (λ (r : Record). IsWithout r me.0.fresh (without (record_about a) me.0.fresh)) same (without_is (record_about a) me.0.fresh);
+          others = subst (λ (r : Record). IsWithout r content (without_record (record_about a) content)) same (without_is (record_about a) content);
+          fresh_others = subst (λ (r : Record). IsWithout r me.0.fresh (without_record (record_about a) me.0.fresh)) same (without_is (record_about a) me.0.fresh);
           turn = turn;
           holds = turn_known earlier me.0 t turn h.learned has;
           taken = taken;
@@ -101,14 +104,14 @@ module _ (lim : Bounds) (earlier : TreeView) (rest : List (ℕ × TreeSlot)) (a 
       }
 
   pub removed_has : (after : TreeSeat) → after ≡ (unmarked_view me.0 a content, me.1)
-      → HasNode lim (with_removed (record_about a) earlier) rest (stopped a) a.place (without (record_about a) content) after
+      → HasNode lim (with_removed (record_about a) earlier) rest (stopped a) a.place (without_record (record_about a) content) after
   removed_has after is =
       let r = record_about a in
-      subst (HasNode lim (with_removed r earlier) rest (stopped a) a.place (without r content)) (sym is)
+      subst (HasNode lim (with_removed r earlier) rest (stopped a) a.place (without_record r content)) (sym is)
       (record {
         active = refl;
-        known = content_here a.place (Some (without r content)) me.0.kept;
-        others = λ m other. content_else m a.place (Some (without r content)) me.0.kept other ∙ h.others m other;
+        known = content_here a.place (Some (without_record r content)) me.0.kept;
+        others = λ m other. content_else m a.place (Some (without_record r content)) me.0.kept other ∙ h.others m other;
         slots = h.slots;
         learned = record {
           floor = h.learned.floor;
@@ -116,18 +119,20 @@ module _ (lim : Bounds) (earlier : TreeView) (rest : List (ℕ × TreeSlot)) (a 
           waits = h.learned.waits;
           placed = h.learned.placed;
           removed = ap (λ (l : List Record). r ∷ l) h.learned.removed;
-          fresh = ap (λ (l : List Record). without r l) h.learned.fresh;
+          fresh = ap (λ (l : List Record). without_record r l) h.learned.fresh;
           clear = ap (λ (l : List Record). r ∷ l) h.learned.clear;
-          seen = λ change among. inr (h.learned.seen change among);
+          kept = grown_then earlier.kept me.0.kept (unmarked_view me.0 a content).kept h.learned.kept
+              (grown_by (record { node = a.place; content = Some (without_record r content) }) me.0.kept (unmarked_view me.0 a content).kept refl);
+          looks = h.learned.looks;
         };
       })
 
 -- Not finding the record.
 module _ (lim : Bounds) (earlier : TreeView) (rest : List (ℕ × TreeSlot)) (a : Activity) (content : List Record) (me : TreeSeat)
     (h : HasNode lim earlier rest a a.place content me) where
-  pub may_clear : (turn : HeldTurn) → turn_in earlier.floor.turns (task_of a.purpose) ≡ Some turn → ¬ IsAmong (record_about a) content
+  pub may_clear : (turn : HeldTurn) → turn_in earlier.floor.turns (record_task a.purpose) ≡ Some turn → ¬ IsAmong (record_about a) content
       → FindsClear (turns_seen me.0) (tree_seen me.0) 0 (record_about a)
-  may_clear turn has none = record { turn = (turn, turn_known earlier me.0 (task_of a.purpose) turn h.learned has); content = content; has = h.known; none = none }
+  may_clear turn has none = record { turn = (turn, turn_known earlier me.0 (record_task a.purpose) turn h.learned has); content = content; has = h.known; none = none }
 
   pub clear_has : (after : TreeSeat) → after ≡ (clear_view me.0 (record_about a), me.1) → HasNode lim (with_clear (record_about a) earlier) rest a a.place content after
   clear_has after is =
@@ -145,6 +150,7 @@ module _ (lim : Bounds) (earlier : TreeView) (rest : List (ℕ × TreeSlot)) (a 
           removed = h.learned.removed;
           fresh = h.learned.fresh;
           clear = ap (λ (l : List Record). record_about a ∷ l) h.learned.clear;
-          seen = h.learned.seen;
+          kept = h.learned.kept;
+          looks = h.learned.looks;
         };
       })

@@ -4,16 +4,16 @@ use Rattle.std.specs.Prelude.{◌==◌}
 use Rattle.std.proofs.lemmas.Bool.{eqb-true, not-true, or_cases}
 use Rattle.effect_sets.specs.declared.effects.Effect.{Effect}
 use Rattle.effect_sets.specs.Interference.{statically_interferes}
-use Rattle.twe_limits.specs.Limits.{Bounds}
+use Rattle.twe_base.specs.Limits.{Bounds}
 use Rattle.floor_rule.specs.declared.view.Phase.TheVariants.{Waits}
 use Rattle.floor_table.specs.Layout.{word_of_phase}
-use Rattle.admission_core.specs.States.{Record}
-use Rattle.node_rule.specs.LockSteps.{IsKnownToPass, apart, own, waiting}
-use Rattle.node_rule.specs.Trees.{WaitFact}
-use Rattle.tree_table.specs.declared.view.TreeView.{TreeView}
-use Rattle.tree_table.specs.Follows.{FollowedPhase}
-use Rattle.tree_table.specs.Seats.{TreeSeat}
-use Rattle.tree_ways.proofs.ApartLemmas.{apart_effects}
+use Rattle.admission_laws.specs.admission_core.States.{Record}
+use Rattle.floor_rule.specs.nodes.LockSteps.{IsKnownToPass, apart, own, waiting}
+use Rattle.floor_rule.specs.nodes.Trees.{WaitFact}
+use Rattle.floor_table.specs.declared.nodes.view.TreeView.{TreeView}
+use Rattle.floor_table.specs.nodes.Follows.{FollowedPhase}
+use Rattle.floor_table.specs.nodes.Seats.{TreeSeat}
+use Rattle.tree_admit.proofs.ways.ApartLemmas.{apart_effects}
 use Rattle.tree_admit.specs.Bars.{IsLedTo}
 use Rattle.tree_admit.specs.Going.{HasOnlyLearned}
 use Rattle.tree_admit.specs.Passing.{EachBetween, is_at_ease, is_passed_over}

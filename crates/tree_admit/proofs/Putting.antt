@@ -3,19 +3,19 @@ use Rattle.std.proofs.Common.{◌≡◌, ℕ, Bool, true, false, List, [], ◌�
 use Rattle.std.specs.List.{list_any}
 use Rattle.region_paths.specs.declared.elements.Elem.{Elem}
 use Rattle.effect_sets.specs.declared.effects.Effect.{Effect}
-use Rattle.twe_limits.specs.Limits.{Bounds}
-use Rattle.admission_core.specs.States.{Activity, IsAmong, Purpose, Record, Stage}
-use Rattle.node_rule.specs.FactSteps.{FindsClear}
-use Rattle.node_rule.specs.LockSteps.{stopped}
-use Rattle.tree_table.specs.declared.slot.Errand.{Errand}
-use Rattle.tree_table.specs.declared.slot.ErrandKind.{ErrandKind}
-use Rattle.tree_table.specs.declared.slot.ErrandKind.TheVariants.{Admission, Placing, Removal}
-use Rattle.tree_table.specs.declared.slot.TreeSlot.{TreeSlot}
-use Rattle.tree_table.specs.declared.view.TreeView.{TreeView}
-use Rattle.tree_table.specs.RecordSeats.{MayMark, MayUnmark, clear_view, marked_view, record_about, task_of, unmarked_view}
-use Rattle.tree_table.specs.Seats.{MayStop, TreeSeat, purpose_for, tree_seen, turns_seen}
-use Rattle.tree_table.specs.Without.{same_record, without}
-use Rattle.tree_table.proofs.Contents.{found_among}
+use Rattle.twe_base.specs.Limits.{Bounds}
+use Rattle.admission_laws.specs.admission_core.States.{Activity, IsAmong, Purpose, Record, Stage}
+use Rattle.floor_rule.specs.nodes.FactSteps.{FindsClear}
+use Rattle.floor_rule.specs.nodes.LockSteps.{stopped}
+use Rattle.floor_table.specs.declared.nodes.slot.Errand.{Errand}
+use Rattle.floor_table.specs.declared.nodes.slot.ErrandKind.{ErrandKind}
+use Rattle.floor_table.specs.declared.nodes.slot.ErrandKind.TheVariants.{Admission, Placing, Removal}
+use Rattle.floor_table.specs.declared.nodes.slot.TreeSlot.{TreeSlot}
+use Rattle.floor_table.specs.declared.nodes.view.TreeView.{TreeView}
+use Rattle.floor_table.specs.nodes.RecordSeats.{MayMark, MayUnmark, clear_view, marked_view, record_about, record_task, unmarked_view}
+use Rattle.floor_table.specs.nodes.Seats.{MayStop, TreeSeat, purpose_for, tree_seen, turns_seen}
+use Rattle.floor_table.specs.nodes.Without.{same_record, without_record}
+use Rattle.floor_table.proofs.nodes.Contents.{found_among}
 use Rattle.tree_admit.specs.Going.{HasNode}
 use Rattle.tree_admit.specs.Errands.{AllPass, KnowsErrand, errand_at, record_of, with_clear, with_placed, with_removed}
 use Rattle.tree_admit.specs.Descents.{MayPutFor, MayTakeOutOf, walking}
@@ -23,7 +23,7 @@ use Rattle.tree_admit.proofs.Entering.{come_there, effect_is, has_effect}
 use Rattle.tree_admit.proofs.Marks.{clear_has, may_clear, may_place, may_place_child, may_remove, placed_has, removed_has}
 use Rattle.tree_admit.proofs.Steps.{may_stop}
 
-task_is : (kind : ErrandKind) (t : ℕ) (e : Effect) → task_of (purpose_for kind t e) ≡ t
+task_is : (kind : ErrandKind) (t : ℕ) (e : Effect) → record_task (purpose_for kind t e) ≡ t
 task_is Admission t e = refl
 task_is Placing t e = refl
 task_is Removal t e = refl
@@ -72,9 +72,9 @@ module _ (errand : Errand) (e : Effect) (done : List ℕ) where
         (subst (λ (r : Record). IsAmong r content) (sym about_is) there) knows.has may.0 may.1
 
     pub unmarked_has : (after : TreeSeat) → after ≡ (unmarked_view me.0 at_place content, me.1)
-        → HasNode lim (with_removed (record_of errand e) earlier) rest (stopped at_place) errand.place (without (record_of errand e) content) after
+        → HasNode lim (with_removed (record_of errand e) earlier) rest (stopped at_place) errand.place (without_record (record_of errand e) content) after
     unmarked_has after is =
-        subst (λ (r : Record). HasNode lim (with_removed r earlier) rest (stopped at_place) errand.place (without r content) after) about_is
+        subst (λ (r : Record). HasNode lim (with_removed r earlier) rest (stopped at_place) errand.place (without_record r content) after) about_is
         (removed_has lim earlier rest at_place content me has after is)
 
     pub may_find_clear : (nodes : List (List Elem)) (knows : KnowsErrand nodes earlier errand e) → ¬ IsAmong (record_of errand e) content

@@ -1,24 +1,27 @@
 -- One step down, from a node to its child.
-use Rattle.std.proofs.Common.{◌≡◌, ℕ, List, ◌∷◌, Option, Some, None, refl, sym, subst, inr}
+use Rattle.std.proofs.Common.{◌≡◌, ℕ, List, ◌∷◌, Option, Some, None, refl, sym, subst}
 use mathlib.Core.Option as core
 use Rattle.region_paths.specs.declared.elements.Elem.{Elem}
 use Rattle.effect_sets.specs.declared.effects.Effect.{Effect}
-use Rattle.twe_limits.specs.Limits.{Bounds}
-use Rattle.admission_core.specs.States.{Activity, IsAmong, Record, Steps}
-use Rattle.tree_table.specs.declared.slot.TreeSlot.{TreeSlot}
-use Rattle.tree_table.specs.declared.slot.TreeSlot.TheVariants as kinds
-use Rattle.tree_table.specs.declared.view.TreeView.{TreeView}
-use Rattle.tree_table.specs.Layout.{content_place}
-use Rattle.tree_table.specs.Seats.{GaveNode, MayGoOn, MayLock, TreeSeat, unlocked_view}
+use Rattle.twe_base.specs.Limits.{Bounds}
+use Rattle.admission_laws.specs.admission_core.States.{Activity, Record, Steps}
+use Rattle.floor_table.specs.declared.nodes.slot.TreeSlot.{TreeSlot}
+use Rattle.floor_table.specs.declared.nodes.slot.TreeSlot.TheVariants as kinds
+use Rattle.floor_table.specs.declared.nodes.view.TreeView.{TreeView}
+use Rattle.floor_table.specs.Added.{HasGrown, IsAdded}
+use Rattle.floor_table.proofs.Added.{added_then, grown_by, grown_same}
+use Rattle.floor_table.specs.nodes.Layout.{content_place}
+use Rattle.floor_table.specs.nodes.TreeOf.{content_in}
+use Rattle.floor_table.specs.nodes.Seats.{GaveNode, MayGoOn, MayLock, TreeSeat, unlocked_view}
 use Rattle.task_floor.specs.Contents.{HasBehind, HasInHand}
 use Rattle.tree_admit.specs.declared.bars.Bar.{Bar}
 use Rattle.tree_admit.specs.Bars.{IsBarIn, WasBarred}
-use Rattle.tree_admit.specs.Going.{HasLocked, HasNode, HasOnlyLearned}
+use Rattle.tree_admit.specs.Going.{HasLocked, HasNode}
 use Rattle.tree_admit.specs.Errands.{come_to}
 use Rattle.tree_admit.specs.Descents.{MayStepDown}
-use Rattle.tree_admit.proofs.Contents.{content_among}
+use Rattle.tree_admit.proofs.Contents.{content_added}
 use Rattle.tree_admit.proofs.Entering.{has_come}
-use Rattle.tree_admit.proofs.Learning.{bar_kept}
+use Rattle.tree_admit.proofs.Learning.{KnowsAll, bar_kept, bar_since}
 use Rattle.tree_admit.proofs.Steps.{child_alone, may_go_down, may_leave_parent, parent_known, parent_slots}
 
 module _ (nodes : List (List Elem)) (lim : Bounds) (earlier : TreeView) (rest : List (ℕ × TreeSlot)) (a : Activity) (n : ℕ) (content : List Record) (c : ℕ) (me : TreeSeat)
@@ -50,13 +53,16 @@ module _ (lim : Bounds) (earlier : TreeView) (rest : List (ℕ × TreeSlot)) (a 
   pub in_hand : HasInHand lim me n content rest
   in_hand = record { known = h.known; slot = h.slots }
 
-  -- who gives back a node at which a bar stands was barred
-  pub barred_after : (t : ℕ) (e : Effect) (bar : Bar) (goes : Option Activity) (final : TreeSeat) → bar.node ≡ n → IsBarIn me.0 t e content bar → GaveNode me n goes rest final
-      → WasBarred final.0 t e bar
-  barred_after t e bar goes final at (r, among, is) gave =
+  -- who gives back a node at which a bar stands was barred, since it has had the node
+  pub barred_after : (from : TreeSeat) (t : ℕ) (e : Effect) (bar : Bar) (goes : Option Activity) (final : TreeSeat) → content_in earlier.kept n ≡ None → HasGrown earlier.looks from.0.looks → bar.node ≡ n
+      → IsBarIn lim from.0 me.0 t e content bar → GaveNode me n goes rest final → WasBarred lim earlier final.0 t e bar
+  barred_after from t e bar goes final none looks at (r, among, is) gave =
       let left = unlocked_view me.0 n goes in
-      let learned : HasOnlyLearned me.0 left =
-      record { floor = refl; done = λ fact f. f; waits = λ fact f. f; placed = refl; removed = refl; fresh = refl; clear = refl; seen = λ change f. inr f } in
-      let seen : IsAmong (record { node = bar.node; content = Some content }) left.kept =
-      subst (λ (m : ℕ). IsAmong (record { node = m; content = Some content }) left.kept) (sym at) (inr (content_among n content me.0.kept h.known)) in
-      subst (λ (w : TreeSeat). WasBarred w.0 t e bar) (sym gave) (content, seen, (r, among, bar_kept me.0 left t e r bar learned is))
+      let more : HasGrown me.0.kept left.kept = grown_by (record { node = n; content = None }) me.0.kept left.kept refl in
+      let knows : KnowsAll me.0 left = record { waits = λ fact known. known; kept = more; looks = grown_same me.0.looks } in
+      let had = content_added earlier.kept me.0.kept n content h.learned.kept none h.known in
+      let added = added_then (record { node = n; content = Some content }) earlier.kept me.0.kept left.kept had more in
+      let here : IsAdded (record { node = bar.node; content = Some content }) earlier.kept left.kept =
+      subst (λ (m : ℕ). IsAdded (record { node = m; content = Some content }) earlier.kept left.kept) (sym at) added in
+      subst (λ (w : TreeSeat). WasBarred lim earlier w.0 t e bar) (sym gave)
+      (content, here, (r, among, bar_kept lim t e earlier me.0 left r bar knows (bar_since lim t e earlier from.0 me.0 r bar looks is)))

@@ -1,21 +1,22 @@
 -- What a seat has after each step on its way.
-use Rattle.std.proofs.Common.{◌≡◌, ◌≢◌, ℕ, List, ◌∷◌, Option, Some, None, refl, sym, ap, subst, ◌∙◌, inr, ⊎_elim}
+use Rattle.std.proofs.Common.{◌≡◌, ◌≢◌, ℕ, List, ◌∷◌, Option, Some, None, refl, sym, ap, subst, ◌∙◌, ⊎_elim}
 use Rattle.std.proofs.lemmas.Bool.{cases_eq}
 use mathlib.Core.Option as core
 use Rattle.region_paths.specs.declared.elements.Elem.{Elem}
 use Rattle.effect_sets.specs.declared.effects.Effect.{Effect}
 use Rattle.effect_tree.specs.Place.{IsSolid}
 use Rattle.prefix_tree.specs.Nodes.{IsParent}
-use Rattle.twe_limits.specs.Limits.{Bounds}
-use Rattle.admission_core.specs.States.{Activity, Admit, Descends, IsAbove, IsAmong, Record, Stage, Steps, Walks, held}
-use Rattle.admission_core.specs.Events.{AllFinished, HasCome}
-use Rattle.node_rule.specs.LockSteps.{SeesPass}
-use Rattle.tree_table.specs.declared.slot.TreeSlot.{TreeSlot}
-use Rattle.tree_table.specs.declared.slot.TreeSlot.TheVariants as kinds
-use Rattle.tree_table.specs.declared.view.TreeView.{TreeView}
-use Rattle.tree_table.specs.Layout.{content_place}
-use Rattle.tree_table.specs.Seats.{GaveNode, MayGoOn, MayLock, MayStop, TreeSeat, gives_parent, goes_down, left_to_give, locked_view, tree_seen, unlocked_view, walks_down, walks_up}
-use Rattle.tree_table.specs.TreeOf.{content_in}
+use Rattle.twe_base.specs.Limits.{Bounds}
+use Rattle.admission_laws.specs.admission_core.States.{Activity, Admit, Descends, IsAbove, IsAmong, Record, Stage, Steps, Walks, held}
+use Rattle.admission_laws.specs.admission_core.Events.{AllFinished, HasCome}
+use Rattle.floor_rule.specs.nodes.LockSteps.{SeesPass}
+use Rattle.floor_table.specs.declared.nodes.slot.TreeSlot.{TreeSlot}
+use Rattle.floor_table.specs.declared.nodes.slot.TreeSlot.TheVariants as kinds
+use Rattle.floor_table.specs.declared.nodes.view.TreeView.{TreeView}
+use Rattle.floor_table.proofs.Added.{grown_by, grown_then}
+use Rattle.floor_table.specs.nodes.Layout.{content_place}
+use Rattle.floor_table.specs.nodes.Seats.{GaveNode, MayGoOn, MayLock, MayStop, TreeSeat, gives_parent, goes_down, left_to_give, locked_view, tree_seen, unlocked_view, walks_down, walks_up}
+use Rattle.floor_table.specs.nodes.TreeOf.{content_in}
 use Rattle.tree_admit.specs.Going.{HasLeft, HasLocked, HasNode, HasOnlyFollowed, HasOnlyLearned}
 use Rattle.tree_admit.specs.Errands.{AllPass}
 use Rattle.tree_admit.proofs.Contents.{content_else, content_here}
@@ -23,10 +24,30 @@ use Rattle.tree_admit.proofs.Learning.{learned_refl, learned_trans}
 
 -- locking and unlocking teach nothing
 locked_learned : (v u : TreeView) (n : ℕ) (content : List Record) (next : Activity) → HasOnlyLearned v u → HasOnlyLearned v (locked_view u n content next)
-locked_learned v u n content next h = record { floor = h.floor; done = h.done; waits = h.waits; placed = h.placed; removed = h.removed; fresh = h.fresh; clear = h.clear; seen = λ change among. inr (h.seen change among) }
+locked_learned v u n content next h = record {
+  floor = h.floor;
+  done = h.done;
+  waits = h.waits;
+  placed = h.placed;
+  removed = h.removed;
+  fresh = h.fresh;
+  clear = h.clear;
+  kept = grown_then v.kept u.kept (locked_view u n content next).kept h.kept (grown_by (record { node = n; content = Some content }) u.kept (locked_view u n content next).kept refl);
+  looks = h.looks;
+}
 
 pub unlocked_learned : (v u : TreeView) (n : ℕ) (next : Option Activity) → HasOnlyLearned v u → HasOnlyLearned v (unlocked_view u n next)
-unlocked_learned v u n next h = record { floor = h.floor; done = h.done; waits = h.waits; placed = h.placed; removed = h.removed; fresh = h.fresh; clear = h.clear; seen = λ change among. inr (h.seen change among) }
+unlocked_learned v u n next h = record {
+  floor = h.floor;
+  done = h.done;
+  waits = h.waits;
+  placed = h.placed;
+  removed = h.removed;
+  fresh = h.fresh;
+  clear = h.clear;
+  kept = grown_then v.kept u.kept (unlocked_view u n next).kept h.kept (grown_by (record { node = n; content = None }) u.kept (unlocked_view u n next).kept refl);
+  looks = h.looks;
+}
 
 -- who has locked a first node, or one more, has it
 pub locked_has : (lim : Bounds) (before : TreeSeat) (n : ℕ) (next : Activity) (content : List Record) (after : TreeSeat) → HasLocked lim before n next content after

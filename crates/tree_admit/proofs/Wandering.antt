@@ -8,16 +8,16 @@ use Rattle.region_paths.specs.declared.elements.Elem.{Elem}
 use Rattle.effect_sets.specs.declared.effects.Effect.{Effect}
 use Rattle.effect_tree.specs.Place.{IsSolid}
 use Rattle.prefix_tree.specs.Nodes.{IsParent, IsTreeOfPaths}
-use Rattle.twe_limits.specs.Limits.{Bounds}
-use Rattle.admission_core.specs.States.{Activity, Admit, Child, Remove, IsOver, Leaves, Purpose, Record}
-use Rattle.admission_core.proofs.TreeLemmas.{over_above, parent_other, parent_over}
-use Rattle.tree_table.specs.declared.slot.Errand.{Errand}
-use Rattle.tree_table.specs.declared.slot.ErrandKind.{ErrandKind}
-use Rattle.tree_table.specs.declared.slot.ErrandKind.TheVariants.{Admission}
-use Rattle.tree_table.specs.declared.slot.TreeSlot.{TreeSlot}
-use Rattle.tree_table.specs.declared.view.TreeView.{TreeView}
-use Rattle.tree_table.specs.Seats.{GaveNode, MayGoOn, MayLock, MayStop, TreeSeat, left_to_give, purpose_for, unlocked_view}
-use Rattle.tree_table.specs.TreeOf.{content_in}
+use Rattle.twe_base.specs.Limits.{Bounds}
+use Rattle.admission_laws.specs.admission_core.States.{Activity, Admit, Child, Remove, ActivityIsOver, Leaves, Purpose, Record}
+use Rattle.admission_laws.proofs.admission_core.TreeLemmas.{over_above, parent_other, parent_over}
+use Rattle.floor_table.specs.declared.nodes.slot.Errand.{Errand}
+use Rattle.floor_table.specs.declared.nodes.slot.ErrandKind.{ErrandKind}
+use Rattle.floor_table.specs.declared.nodes.slot.ErrandKind.TheVariants.{Admission}
+use Rattle.floor_table.specs.declared.nodes.slot.TreeSlot.{TreeSlot}
+use Rattle.floor_table.specs.declared.nodes.view.TreeView.{TreeView}
+use Rattle.floor_table.specs.nodes.Seats.{GaveNode, MayGoOn, MayLock, MayStop, TreeSeat, left_to_give, purpose_for, unlocked_view}
+use Rattle.floor_table.specs.nodes.TreeOf.{content_in}
 use Rattle.tree_admit.specs.Going.{HasLeft, HasLocked, HasNode, HasOnlyFollowed, HasOnlyLearned}
 use Rattle.tree_admit.specs.Errands.{AllPass}
 use Rattle.tree_admit.specs.Descents.{HasWalkedBelow, MayWalkBelow, walking}
@@ -42,7 +42,7 @@ pub record HasWalkedPart (nodes : List (List Elem)) (lim : Bounds) (earlier : Tr
   pub has : HasNode lim earlier rest (walking errand e (n ∷ stack) after) n content me
   pub pass : AllPass me.0.waits (purpose_for errand.kind errand.task e) content
   pub walked : HasWalked nodes children k done after
-  pub unheld : (m : ℕ) → IsOver nodes n m → content_in me.0.kept m ≡ None
+  pub unheld : (m : ℕ) → ActivityIsOver nodes n m → content_in me.0.kept m ≡ None
 
 abbrev pub AreChildren : List (List Elem) → ℕ → List ℕ → Type 0
 AreChildren nodes n children = (m : ℕ) → (Contains children m → IsParent nodes n m) × (IsParent nodes n m → Contains children m)
@@ -98,7 +98,7 @@ module _ (nodes : List (List Elem)) (tree : IsTreeOfPaths nodes) (lim : Bounds) 
         has = locked_has lim me child at_child below locked_me locked;
         unfinished = none_below_next nodes tree n children each rising done may.unfinished k within part.after part.walked;
         unheld = λ m over.
-            let down : IsOver nodes n m = over_above nodes tree n child m (parent_over nodes tree n child parent) over.above in
+            let down : ActivityIsOver nodes n m = over_above nodes tree n child m (parent_over nodes tree n child parent) over.above in
             (locked_has lim me child at_child below locked_me locked).others m (λ same. over.other (sym same)) ∙ part.unheld m down;
         none = part.unheld child (parent_over nodes tree n child parent);
       }

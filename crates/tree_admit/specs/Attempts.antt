@@ -5,14 +5,15 @@ use Rattle.effect_sets.specs.declared.effects.Effect.{Effect}
 use Rattle.twe_machine.specs.declared.state.TaskStatus.TheVariants as status
 use Rattle.floor_rule.specs.declared.view.DoneFact.{DoneFact}
 use Rattle.floor_rule.specs.declared.view.HeldTurn.{HeldTurn}
+use Rattle.twe_base.specs.Limits.{Bounds}
+use Rattle.floor_table.specs.Added.{HasGrown}
 use Rattle.floor_table.specs.FloorOf.{turn_in}
-use Rattle.admission_core.specs.States.{IsAmong, IsPlaceOf, Record}
-use Rattle.node_rule.specs.Trees.{WaitFact}
-use Rattle.tree_table.specs.declared.slot.ErrandKind.{ErrandKind}
-use Rattle.tree_table.specs.declared.slot.ErrandKind.TheVariants.{Admission}
-use Rattle.tree_table.specs.declared.view.ContentChange.{ContentChange}
-use Rattle.tree_table.specs.declared.view.TreeView.{TreeView}
-use Rattle.tree_table.specs.Seats.{TreeSeat}
+use Rattle.admission_laws.specs.admission_core.States.{IsAmong, IsPlaceOf, Record}
+use Rattle.floor_rule.specs.nodes.Trees.{WaitFact}
+use Rattle.floor_table.specs.declared.nodes.slot.ErrandKind.{ErrandKind}
+use Rattle.floor_table.specs.declared.nodes.slot.ErrandKind.TheVariants.{Admission}
+use Rattle.floor_table.specs.declared.nodes.view.TreeView.{TreeView}
+use Rattle.floor_table.specs.nodes.Seats.{TreeSeat}
 use Rattle.tree_admit.specs.declared.bars.Bar.{Bar}
 use Rattle.tree_admit.specs.declared.placing.Obstacle.{Obstacle}
 use Rattle.tree_admit.specs.declared.placing.Obstacle.TheVariants.{InTheWay, NoMemory}
@@ -66,14 +67,16 @@ pub record MayPlaceAll (v : TreeView) (kind : ErrandKind) (t : ℕ) (effects : L
 -- After.
 
 -- The seat stands outside the tree and has the slots that it had. Of the floor it knows what it knew, and perhaps of more tasks
--- that they are done. It knows the waits and the contents that it knew, and of records of tasks other than t what it knew.
+-- that they are done. It knows the waits, the contents and the looks that it knew, and of records of tasks other than t what it
+-- knew.
 pub record KeepsAllElse (t : ℕ) (before after : TreeSeat) : Type 0 where
   pub outside : IsOutside after.0
   pub slots : after.1 ≡ before.1
   pub floor : after.0.floor ≡ record before.0.floor { done = after.0.floor.done }
   pub done : (fact : DoneFact) → IsAmong fact before.0.floor.done → IsAmong fact after.0.floor.done
   pub waits : (fact : WaitFact) → IsAmong fact before.0.waits → IsAmong fact after.0.waits
-  pub seen : (change : ContentChange) → IsAmong change before.0.kept → IsAmong change after.0.kept
+  pub kept : HasGrown before.0.kept after.0.kept
+  pub looks : HasGrown before.0.looks after.0.looks
   pub fresh : (r : Record) → r.task ≢ t → (IsAmong r after.0.fresh ↔ IsAmong r before.0.fresh)
   pub clear : (r : Record) → r.task ≢ t → (IsAmong r after.0.clear ↔ IsAmong r before.0.clear)
 
@@ -88,14 +91,16 @@ abbrev pub IsOneOfFirst : List (List Elem) → ℕ → List Effect → ℕ → R
 IsOneOfFirst nodes t effects k r = (j : ℕ) × (j < k) × IsRecordOf nodes t effects j r
 
 -- each of the first k effects of task t has a record that the seat has placed, and it has placed no others since
-pub record HasPlacedFirst (nodes : List (List Elem)) (t : ℕ) (effects : List Effect) (k : ℕ) (before after : TreeSeat) : Type 0 where
+pub record HasPlacedFirst (nodes : List (List Elem)) (t : ℕ) (effects : List Effect) (k : ℕ)
+    (before after : TreeSeat) : Type 0 where
   pub keeps : KeepsAllElse t before after
   pub each : (j : ℕ) (e : Effect) → j < k → slice_get effects j ≡ Some e
       → (n : ℕ) × IsPlaceOf nodes e n × IsAmong (record { task = t; effect = e; node = n }) after.0.fresh
   pub only : (r : Record) → IsAmong r after.0.fresh → IsAmong r before.0.fresh ⊎ IsOneOfFirst nodes t effects k r
 
 -- the seat knows that no record of one of the first k effects of task t stands, and has placed none since
-pub record HasTakenOutFirst (nodes : List (List Elem)) (t : ℕ) (effects : List Effect) (k : ℕ) (before after : TreeSeat) : Type 0 where
+pub record HasTakenOutFirst (nodes : List (List Elem)) (t : ℕ) (effects : List Effect) (k : ℕ)
+    (before after : TreeSeat) : Type 0 where
   pub keeps : KeepsAllElse t before after
   pub each : (r : Record) → IsOneOfFirst nodes t effects k r → IsAmong r after.0.clear
   pub gone : (r : Record) → IsOneOfFirst nodes t effects k r → ¬ IsAmong r after.0.fresh
@@ -104,28 +109,30 @@ pub record HasTakenOutFirst (nodes : List (List Elem)) (t : ℕ) (effects : List
 -- each effect has a record at its place that the seat has placed
 abbrev pub HasPlacedEach : List (List Elem) → TreeView → ℕ → List Effect → Type 0
 HasPlacedEach nodes v t effects =
-    (e : Effect) → Contains effects e → (n : ℕ) × IsPlaceOf nodes e n × IsAmong (record { task = t; effect = e; node = n }) v.fresh
+    (e : Effect) → Contains effects e
+    → (n : ℕ) × IsPlaceOf nodes e n × IsAmong (record { task = t; effect = e; node = n }) v.fresh
 
--- a record was in the way of one of the effects
-abbrev pub WasBarredFor : TreeView → ℕ → List Effect → Bar → Type 0
-WasBarredFor v t effects bar = (e : Effect) × Contains effects e × WasBarred v t e bar
+-- a record was in the way of one of the effects since the seat had the first view
+abbrev pub WasBarredFor : Bounds → TreeView → TreeView → ℕ → List Effect → Bar → Type 0
+WasBarredFor lim since v t effects bar = (e : Effect) × Contains effects e × WasBarred lim since v t e bar
 
 -- the record of effect number k of task t stands now
-abbrev pub Stands : List (List Elem) → ℕ → List Effect → ℕ → TreeSeat → TreeSeat → Type 0
-Stands nodes t effects k before after = (r : Record) × IsRecordOf nodes t effects k r × HasPlaced before r after
+abbrev pub RecordStands : List (List Elem) → ℕ → List Effect → ℕ → TreeSeat → TreeSeat → Type 0
+RecordStands nodes t effects k before after = (r : Record) × IsRecordOf nodes t effects k r × HasPlaced before r after
 
 -- the bar that was in the way, if one was; nothing if memory ran out
-abbrev pub IsObstacle : ErrandKind → TreeView → ℕ → List Effect → Obstacle → Type 0
-IsObstacle kind v t effects (InTheWay bar) = (kind ≡ Admission) × WasBarredFor v t effects bar
-IsObstacle kind v t effects (NoMemory memory) = Unit {0}
+abbrev pub IsObstacle : Bounds → ErrandKind → TreeView → TreeView → ℕ → List Effect → Obstacle → Type 0
+IsObstacle lim kind since v t effects (InTheWay bar) = (kind ≡ Admission) × WasBarredFor lim since v t effects bar
+IsObstacle lim kind since v t effects (NoMemory memory) = Unit {0}
 
 -- the seat met this obstacle, and did nothing else
-abbrev pub HasMet : ErrandKind → ℕ → List Effect → Obstacle → TreeSeat → TreeSeat → Type 0
-HasMet kind t effects by before after = HasLeft before.0 before.1 None after × IsObstacle kind after.0 t effects by
+abbrev pub HasMet : Bounds → ErrandKind → ℕ → List Effect → Obstacle → TreeSeat → TreeSeat → Type 0
+HasMet lim kind t effects by before after =
+    HasLeft before.0 before.1 None after × IsObstacle lim kind before.0 after.0 t effects by
 
 -- the seat has placed the records of the first effects, so many as it says, and then met this obstacle
-pub record HasStopped (nodes : List (List Elem)) (kind : ErrandKind) (t : ℕ) (effects : List Effect) (stopped : Stopped)
-    (before after : TreeSeat) : Type 0 where
+pub record HasStopped (nodes : List (List Elem)) (lim : Bounds) (kind : ErrandKind) (t : ℕ) (effects : List Effect)
+    (stopped : Stopped) (before after : TreeSeat) : Type 0 where
   pub within : stopped.placed < length effects
   pub placed : HasPlacedFirst nodes t effects stopped.placed before after
-  pub by : IsObstacle kind after.0 t effects stopped.by
+  pub by : IsObstacle lim kind before.0 after.0 t effects stopped.by

@@ -4,18 +4,18 @@ use Rattle.region_paths.specs.declared.elements.Elem.{Elem}
 use Rattle.effect_sets.specs.declared.effects.Effect.{Effect}
 use Rattle.effect_tree.specs.Place.{IsSolid}
 use Rattle.prefix_tree.specs.Nodes.{IsParent}
-use Rattle.twe_limits.specs.Limits.{Bounds}
+use Rattle.twe_base.specs.Limits.{Bounds}
 use Rattle.twe_machine.specs.declared.state.TaskStatus.TheVariants as status
 use Rattle.floor_rule.specs.declared.view.HeldTurn.{HeldTurn}
-use Rattle.admission_core.specs.States.{Activity, Descends, IsAbove, IsAmong, IsOver, Record, Walks}
-use Rattle.admission_core.specs.Events.{AllFinished}
-use Rattle.tree_table.specs.declared.slot.Errand.{Errand}
-use Rattle.tree_table.specs.declared.slot.ErrandKind.{ErrandKind}
-use Rattle.tree_table.specs.declared.slot.ErrandKind.TheVariants.{Admission, Placing, Removal}
-use Rattle.tree_table.specs.declared.slot.TreeSlot.{TreeSlot}
-use Rattle.tree_table.specs.declared.view.TreeView.{TreeView}
-use Rattle.tree_table.specs.Seats.{HasOwn, TreeSeat, purpose_for}
-use Rattle.tree_table.specs.TreeOf.{content_in}
+use Rattle.admission_laws.specs.admission_core.States.{Activity, Descends, IsAbove, IsAmong, ActivityIsOver, Record, Walks}
+use Rattle.admission_laws.specs.admission_core.Events.{AllFinished}
+use Rattle.floor_table.specs.declared.nodes.slot.Errand.{Errand}
+use Rattle.floor_table.specs.declared.nodes.slot.ErrandKind.{ErrandKind}
+use Rattle.floor_table.specs.declared.nodes.slot.ErrandKind.TheVariants.{Admission, Placing, Removal}
+use Rattle.floor_table.specs.declared.nodes.slot.TreeSlot.{TreeSlot}
+use Rattle.floor_table.specs.declared.nodes.view.TreeView.{TreeView}
+use Rattle.floor_table.specs.nodes.Seats.{HasOwn, TreeSeat, purpose_for}
+use Rattle.floor_table.specs.nodes.TreeOf.{content_in}
 use Rattle.tree_admit.specs.declared.bars.Attempt.{Attempt}
 use Rattle.tree_admit.specs.declared.bars.Attempt.TheVariants.{Placed, Stood, Barred}
 use Rattle.tree_admit.specs.Bars.{WasBarred}
@@ -24,7 +24,8 @@ use Rattle.tree_admit.specs.Errands.{AllPass, KnowsErrand, errand_at, record_of,
 
 -- The seat holds node n alone on its way, each record there passes, and c is the next node on the way. The earlier view had no
 -- content of node n.
-pub record MayStepDown (nodes : List (List Elem)) (lim : Bounds) (earlier : TreeView) (rest : List (ℕ × TreeSlot)) (a : Activity) (n : ℕ) (content : List Record) (c : ℕ) (me : TreeSeat) : Type 0 where
+pub record MayStepDown (nodes : List (List Elem)) (lim : Bounds) (earlier : TreeView) (rest : List (ℕ × TreeSlot)) (a : Activity)
+    (n : ℕ) (content : List Record) (c : ℕ) (me : TreeSeat) : Type 0 where
   pub has : HasNode lim earlier rest a n content me
   pub stage : a.stage ≡ Descends n
   pub child : IsParent nodes n c
@@ -35,27 +36,33 @@ pub record MayStepDown (nodes : List (List Elem)) (lim : Bounds) (earlier : Tree
 
 -- what a worker does on this errand for this effect that holds these nodes at its place and below it, and has finished those
 abbrev pub walking : Errand → Effect → List ℕ → List ℕ → Activity
-walking errand e stack done = record { purpose = purpose_for errand.kind errand.task e; place = errand.place; stage = Walks stack done }
+walking errand e stack done = record {
+  purpose = purpose_for errand.kind errand.task e;
+  place = errand.place;
+  stage = Walks stack done;
+}
 
 -- no node below this one is finished
 abbrev pub NoneBelow : List (List Elem) → ℕ → List ℕ → Type 0
-NoneBelow nodes n done = (m : ℕ) → IsOver nodes n m → ¬ IsAmong m done
+NoneBelow nodes n done = (m : ℕ) → ActivityIsOver nodes n m → ¬ IsAmong m done
 
 -- what was finished is so still, all children of the node are finished, and all else that is finished lies below the node
 pub record HasFinishedBelow (nodes : List (List Elem)) (n : ℕ) (before after : List ℕ) : Type 0 where
   pub all : AllFinished nodes n after
   pub kept : (m : ℕ) → IsAmong m before → IsAmong m after
-  pub below : (m : ℕ) → IsAmong m after → IsAmong m before ⊎ IsOver nodes n m
+  pub below : (m : ℕ) → IsAmong m after → IsAmong m before ⊎ ActivityIsOver nodes n m
 
 -- The seat may walk below node n, the last that it holds: of the nodes below it none is finished and none is held.
-pub record MayWalkBelow (nodes : List (List Elem)) (lim : Bounds) (earlier : TreeView) (rest : List (ℕ × TreeSlot)) (errand : Errand) (e : Effect) (n : ℕ) (stack done : List ℕ) (content : List Record) (me : TreeSeat) : Type 0 where
+pub record MayWalkBelow (nodes : List (List Elem)) (lim : Bounds) (earlier : TreeView) (rest : List (ℕ × TreeSlot))
+    (errand : Errand) (e : Effect) (n : ℕ) (stack done : List ℕ) (content : List Record) (me : TreeSeat) : Type 0 where
   pub has : HasNode lim earlier rest (walking errand e (n ∷ stack) done) n content me
   pub unfinished : NoneBelow nodes n done
-  pub unheld : (m : ℕ) → IsOver nodes n m → content_in me.0.kept m ≡ None
+  pub unheld : (m : ℕ) → ActivityIsOver nodes n m → content_in me.0.kept m ≡ None
   pub none : content_in earlier.kept n ≡ None
 
 -- The seat has walked below node n, and holds it as before: each record there passes, and all nodes below it are finished.
-pub record HasWalkedBelow (nodes : List (List Elem)) (lim : Bounds) (earlier : TreeView) (rest : List (ℕ × TreeSlot)) (errand : Errand) (e : Effect) (n : ℕ) (stack done : List ℕ) (content : List Record) (me : TreeSeat) : Type 0 where
+pub record HasWalkedBelow (nodes : List (List Elem)) (lim : Bounds) (earlier : TreeView) (rest : List (ℕ × TreeSlot))
+    (errand : Errand) (e : Effect) (n : ℕ) (stack done : List ℕ) (content : List Record) (me : TreeSeat) : Type 0 where
   pub after : List ℕ
   pub has : HasNode lim earlier rest (walking errand e (n ∷ stack) after) n content me
   pub pass : AllPass me.0.waits (purpose_for errand.kind errand.task e) content
@@ -64,12 +71,14 @@ pub record HasWalkedBelow (nodes : List (List Elem)) (lim : Bounds) (earlier : T
 -- what the worker needs at the place to place the record: for an admission, that each record there passes and nothing stands
 -- below that could be in the way; for a spawned child, its first turn
 abbrev pub MayPutFor : List (List Elem) → ErrandKind → TreeView → ℕ → Effect → HeldTurn → ℕ → List ℕ → List Record → Type 0
-MayPutFor nodes Admission v t e turn place done content = AllPass v.waits (purpose_for Admission t e) content × (IsSolid e.path ⊎ AllFinished nodes place done)
+MayPutFor nodes Admission v t e turn place done content =
+    AllPass v.waits (purpose_for Admission t e) content × (IsSolid e.path ⊎ AllFinished nodes place done)
 MayPutFor nodes Placing v t e turn place done content = (turn.first ≡ true) × (is_some turn.row.parent ≡ true)
 MayPutFor nodes Removal v t e turn place done content = ⊥
 
 -- The seat is at its place on this errand, which knows its effect, and may place the record there.
-pub record MayPut (nodes : List (List Elem)) (lim : Bounds) (earlier : TreeView) (rest : List (ℕ × TreeSlot)) (errand : Errand) (e : Effect) (done : List ℕ) (content : List Record) (me : TreeSeat) : Type 0 where
+pub record MayPut (nodes : List (List Elem)) (lim : Bounds) (earlier : TreeView) (rest : List (ℕ × TreeSlot)) (errand : Errand)
+    (e : Effect) (done : List ℕ) (content : List Record) (me : TreeSeat) : Type 0 where
   pub has : HasNode lim earlier rest (walking errand e (errand.place ∷ []) done) errand.place content me
   pub knows : KnowsErrand nodes earlier errand e
   pub may : MayPutFor nodes errand.kind me.0 errand.task e knows.turn errand.place done content
@@ -87,10 +96,11 @@ abbrev pub MayTakeOutOf : HeldTurn → Type 0
 MayTakeOutOf turn = (turn.first ≡ false) × (turn.row.status ≢ status.Enabled)
 
 -- how a try to place the record of an errand ended: a record that stood already had been placed by the seat before
-abbrev pub HasTried : TreeView → List (ℕ × TreeSlot) → Errand → Effect → Attempt → TreeSeat → Type 0
-HasTried earlier rest errand e Placed me = HasLeft (with_placed (record_of errand e) earlier) rest None me
-HasTried earlier rest errand e Stood me = HasLeft earlier rest None me × IsAmong (record_of errand e) earlier.fresh
-HasTried earlier rest errand e (Barred bar) me = HasLeft earlier rest None me × (errand.kind ≡ Admission) × WasBarred me.0 errand.task e bar
+abbrev pub HasTried : Bounds → TreeView → List (ℕ × TreeSlot) → Errand → Effect → Attempt → TreeSeat → Type 0
+HasTried lim earlier rest errand e Placed me = HasLeft (with_placed (record_of errand e) earlier) rest None me
+HasTried lim earlier rest errand e Stood me = HasLeft earlier rest None me × IsAmong (record_of errand e) earlier.fresh
+HasTried lim earlier rest errand e (Barred bar) me =
+    HasLeft earlier rest None me × (errand.kind ≡ Admission) × WasBarred lim earlier me.0 errand.task e bar
 
 -- how taking out the record of an errand ended: whether it was there; if it was not, the seat had not placed it
 abbrev pub HasTakenOut : TreeView → List (ℕ × TreeSlot) → Errand → Effect → Bool → TreeSeat → Type 0
@@ -99,7 +109,8 @@ HasTakenOut earlier rest errand e false me =
     HasLeft (with_clear (record_of errand e) earlier) rest None me × (¬ IsAmong (record_of errand e) earlier.fresh)
 
 -- The seat has come to its place, and does nothing else in the tree. It knows its errand.
-pub record MayLookAround (nodes : List (List Elem)) (lim : Bounds) (earlier : TreeView) (rest : List (ℕ × TreeSlot)) (errand : Errand) (e : Effect) (content : List Record) (me : TreeSeat) : Type 0 where
+pub record MayLookAround (nodes : List (List Elem)) (lim : Bounds) (earlier : TreeView) (rest : List (ℕ × TreeSlot))
+    (errand : Errand) (e : Effect) (content : List Record) (me : TreeSeat) : Type 0 where
   pub has : HasNode lim earlier rest (errand_at errand e errand.place) errand.place content me
   pub knows : KnowsErrand nodes earlier errand e
   pub child : IsOfChild errand.kind knows.turn

@@ -5,16 +5,16 @@ use Rattle.effect_sets.specs.declared.effects.Effect.{Effect}
 use Rattle.twe_machine.specs.declared.state.TaskStatus.TheVariants as status
 use Rattle.floor_rule.specs.declared.view.HeldTurn.{HeldTurn}
 use Rattle.floor_table.specs.FloorOf.{turn_in}
-use Rattle.admission_core.specs.States.{Activity, Descends, IsAmong, IsPlaceOf, Purpose, Record, Stage, Walks}
-use Rattle.node_rule.specs.LockSteps.{PassesHere}
-use Rattle.node_rule.specs.RecordSteps.{not_clear}
-use Rattle.node_rule.specs.Trees.{WaitFact}
-use Rattle.tree_table.specs.declared.slot.Errand.{Errand}
-use Rattle.tree_table.specs.declared.slot.ErrandKind.{ErrandKind}
-use Rattle.tree_table.specs.declared.slot.ErrandKind.TheVariants.{Admission, Placing, Removal}
-use Rattle.tree_table.specs.declared.view.TreeView.{TreeView}
-use Rattle.tree_table.specs.Seats.{purpose_for}
-use Rattle.tree_table.specs.Without.{without}
+use Rattle.admission_laws.specs.admission_core.States.{Activity, Descends, IsAmong, IsPlaceOf, Purpose, Record, Stage, Walks}
+use Rattle.floor_rule.specs.nodes.LockSteps.{PassesHere}
+use Rattle.floor_rule.specs.nodes.RecordSteps.{not_clear}
+use Rattle.floor_rule.specs.nodes.Trees.{WaitFact}
+use Rattle.floor_table.specs.declared.nodes.slot.Errand.{Errand}
+use Rattle.floor_table.specs.declared.nodes.slot.ErrandKind.{ErrandKind}
+use Rattle.floor_table.specs.declared.nodes.slot.ErrandKind.TheVariants.{Admission, Placing, Removal}
+use Rattle.floor_table.specs.declared.nodes.view.TreeView.{TreeView}
+use Rattle.floor_table.specs.nodes.Seats.{purpose_for}
+use Rattle.floor_table.specs.nodes.Without.{without_record}
 
 -- the stage of who holds node n alone on the way to a place, or at it
 abbrev pub come_to : ℕ → ℕ → Stage
@@ -22,7 +22,11 @@ come_to place n = if place == n then Walks (n ∷ []) [] else Descends n
 
 -- what a worker does on this errand for this effect that has come to node n
 abbrev pub errand_at : Errand → Effect → ℕ → Activity
-errand_at errand e n = record { purpose = purpose_for errand.kind errand.task e; place = errand.place; stage = come_to errand.place n }
+errand_at errand e n = record {
+  purpose = purpose_for errand.kind errand.task e;
+  place = errand.place;
+  stage = come_to errand.place n;
+}
 
 -- the task of an errand is still to be admitted, if the errand is for that
 abbrev pub MaySetOutFor : ErrandKind → HeldTurn → Type 0
@@ -48,11 +52,14 @@ record_of errand e = record { task = errand.task; effect = e; node = errand.plac
 
 -- What a view knows once a record was placed, or removed, or not found where it would stand.
 
+-- the record was placed: it is fresh, and is no longer among those that do not stand
 abbrev pub with_placed : Record → TreeView → TreeView
 with_placed r v = record v { placed = r ∷ v.placed; fresh = r ∷ v.fresh; clear = not_clear r.task r.node v.clear }
 
+-- the record was removed: it is fresh no longer, and does not stand
 abbrev pub with_removed : Record → TreeView → TreeView
-with_removed r v = record v { removed = r ∷ v.removed; fresh = without r v.fresh; clear = r ∷ v.clear }
+with_removed r v = record v { removed = r ∷ v.removed; fresh = without_record r v.fresh; clear = r ∷ v.clear }
 
+-- the record was not found: it does not stand
 abbrev pub with_clear : Record → TreeView → TreeView
 with_clear r v = record v { clear = r ∷ v.clear }

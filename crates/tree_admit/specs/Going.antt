@@ -1,24 +1,25 @@
--- What a stand has and knows while it goes down the tree. Each definition speaks of the stand's seat: its view, and the slots that
--- it has out, the latest first.
+-- What a stand has and knows while it goes down the tree. Each definition speaks of the stand's seat: its view, and the slots
+-- that it has out, the latest first.
 use Rattle.std.specs.Prelude.{◌≡◌, ◌≢◌, ℕ, List, ◌∷◌, Option, Some, None}
-use Rattle.twe_limits.specs.Limits.{Bounds}
+use Rattle.twe_base.specs.Limits.{Bounds}
 use Rattle.floor_rule.specs.declared.view.DoneFact.{DoneFact}
-use Rattle.admission_core.specs.States.{Activity, IsAmong, Record}
-use Rattle.node_rule.specs.Trees.{WaitFact}
-use Rattle.tree_table.specs.declared.slot.TreeSlot.{TreeSlot}
-use Rattle.tree_table.specs.declared.slot.TreeSlot.TheVariants as kinds
-use Rattle.tree_table.specs.declared.view.ContentChange.{ContentChange}
-use Rattle.tree_table.specs.declared.view.TreeView.{TreeView}
-use Rattle.tree_table.specs.Layout.{content_place}
-use Rattle.tree_table.specs.Seats.{TreeSeat, locked_view}
-use Rattle.tree_table.specs.TreeOf.{content_in}
+use Rattle.admission_laws.specs.admission_core.States.{Activity, IsAmong, Record}
+use Rattle.floor_rule.specs.nodes.Trees.{WaitFact}
+use Rattle.floor_table.specs.declared.nodes.slot.TreeSlot.{TreeSlot}
+use Rattle.floor_table.specs.declared.nodes.slot.TreeSlot.TheVariants as kinds
+use Rattle.floor_table.specs.Added.{HasGrown}
+use Rattle.floor_table.specs.declared.nodes.view.TreeView.{TreeView}
+use Rattle.floor_table.specs.nodes.Layout.{content_place}
+use Rattle.floor_table.specs.nodes.Seats.{TreeSeat, locked_view}
+use Rattle.floor_table.specs.nodes.TreeOf.{content_in}
 
 -- the seat does nothing in the tree, and has the content of no node
 pub record IsOutside (v : TreeView) : Type 0 where
   pub idle : v.activity ≡ None
   pub none : (n : ℕ) → content_in v.kept n ≡ None
 
--- The second view has learned of waits and of tasks that are done. Of the floor and of the records it knows what the first one knew.
+-- The second view has learned of waits and of tasks that are done, and has had contents of nodes and looked. Of the floor and of
+-- the records it knows what the first one knew.
 pub record HasOnlyLearned (v w : TreeView) : Type 0 where
   pub floor : w.floor ≡ record v.floor { done = w.floor.done }
   pub done : (fact : DoneFact) → IsAmong fact v.floor.done → IsAmong fact w.floor.done
@@ -27,8 +28,9 @@ pub record HasOnlyLearned (v w : TreeView) : Type 0 where
   pub removed : w.removed ≡ v.removed
   pub fresh : w.fresh ≡ v.fresh
   pub clear : w.clear ≡ v.clear
-  -- it knows which contents it had
-  pub seen : (change : ContentChange) → IsAmong change v.kept → IsAmong change w.kept
+  -- it knows which contents it had, and what it looked at
+  pub kept : HasGrown v.kept w.kept
+  pub looks : HasGrown v.looks w.looks
 
 -- the seat followed waits, and did nothing else
 pub record HasOnlyFollowed (before after : TreeSeat) : Type 0 where
@@ -37,9 +39,10 @@ pub record HasOnlyFollowed (before after : TreeSeat) : Type 0 where
   pub slots : after.1 ≡ before.1
   pub learned : HasOnlyLearned before.0 after.0
 
--- The seat has locked node n, and its content is in hand: nothing lies in the node's slot, which is the latest that it has out. It
--- does this in the tree. Of the other nodes it has the contents that an earlier view had, and it has only learned since then.
-pub record HasNode (lim : Bounds) (earlier : TreeView) (rest : List (ℕ × TreeSlot)) (a : Activity) (n : ℕ) (content : List Record) (me : TreeSeat) : Type 0 where
+-- The seat has locked node n, and its content is in hand: nothing lies in the node's slot, which is the latest that it has out.
+-- It does this in the tree. Of the other nodes it has the contents that an earlier view had, and it has only learned since then.
+pub record HasNode (lim : Bounds) (earlier : TreeView) (rest : List (ℕ × TreeSlot)) (a : Activity) (n : ℕ) (content : List Record)
+    (me : TreeSeat) : Type 0 where
   pub active : me.0.activity ≡ Some a
   pub known : content_in me.0.kept n ≡ Some content
   pub others : (m : ℕ) → m ≢ n → content_in me.0.kept m ≡ content_in earlier.kept m
@@ -55,4 +58,5 @@ pub record HasLeft (earlier : TreeView) (rest : List (ℕ × TreeSlot)) (activit
 
 -- the seat has locked node n, does this from then on, and has this content in hand
 abbrev pub HasLocked : Bounds → TreeSeat → ℕ → Activity → List Record → TreeSeat → Type 0
-HasLocked lim before n next content after = after ≡ (locked_view before.0 n content next, (content_place lim n, kinds.Task None) ∷ before.1)
+HasLocked lim before n next content after =
+    after ≡ (locked_view before.0 n content next, (content_place lim n, kinds.Task None) ∷ before.1)

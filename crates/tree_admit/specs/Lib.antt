@@ -5,3 +5,5 @@ pub mod Passing
 pub mod Descents
 pub mod Outcomes
 pub mod Attempts
+pub mod ways
+pub mod serving

@@ -2,7 +2,7 @@
 use Rattle.std.specs.Prelude.{◌≡◌, ◌==◌, ◌≤◌, ◌<◌, ◌||◌, ℕ, Bool, not, List, Some, slice_get}
 use Rattle.effect_sets.specs.declared.effects.Effect.{Effect}
 use Rattle.effect_sets.specs.Interference.{statically_interferes}
-use Rattle.admission_core.specs.States.{Record}
+use Rattle.admission_laws.specs.admission_core.States.{Record}
 
 -- the record is of task t, or its effect is apart from effect e, so it passes whatever is known of waits
 abbrev pub is_at_ease : ℕ → Effect → Record → Bool

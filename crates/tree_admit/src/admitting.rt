@@ -1,7 +1,7 @@
 //! Trying to admit a task.
 ghost use Rattle.std.specs.Prelude.{◌≡◌, ◌<◌, ◌^◌, Ok, OnErr, length};
-ghost use Rattle.node_rule.specs.FactSteps.{HasPlacedAll};
-ghost use Rattle.tree_table.specs.Seats.{tree_seen, turns_seen};
+ghost use Rattle.floor_rule.specs.nodes.FactSteps.{HasPlacedAll};
+ghost use Rattle.floor_table.specs.nodes.Seats.{tree_seen, turns_seen};
 ghost use Rattle.tree_admit.specs.declared.admitting.Admittance.TheVariants as admittances;
 ghost use Rattle.tree_admit.specs.declared.bars.Bar as bars;
 ghost use Rattle.tree_admit.specs.Attempts.{HasPlacedNone, KeepsAllElse, MayTryToAdmit, WasBarredFor};
@@ -14,11 +14,11 @@ use crate::releasing::take_out_first;
 use effect_sets::Effect;
 use effect_tree::Shape;
 use floor_table::Named;
+use floor_table::nodes::{ErrandKind, Planted};
 use std::alloc::Global;
 use std::sync::Wait;
 use task_floor::{Floor, Stand};
-use tree_table::{ErrandKind, Planted};
-use twe_io::Memory;
+use twe_base::Memory;
 
 /// What an attempt to admit a task came to.
 #[derive(Clone, Copy, Debug, PartialEq, Eq)]
@@ -53,7 +53,8 @@ pub fn try_admit<R: Wait, N: Named + Planted>(
     ensures admitted { result ≡ Ok admittances.Admitted
         → HasPlacedAll N.nodes (turns_seen stand.new.me.0) (tree_seen stand.new.me.0) 0 task }
     ensures held { (bar : bars.Bar) → result ≡ Ok (admittances.Held bar)
-        → HasPlacedNone stand.new.me.0 task × WasBarredFor stand.new.me.0 task effects.now bar }
+        → HasPlacedNone stand.new.me.0 task
+        × WasBarredFor N.lim stand.old.me.0 stand.new.me.0 task effects.now bar }
     ensures memory { OnErr result (HasPlacedNone stand.new.me.0 task) }
     ensures keeps { KeepsAllElse task stand.old.me stand.new.me }
     ensures same { (stand.new.table_id ≡ stand.old.table_id) × (stand.new.id ≡ stand.old.id) }

@@ -1,8 +1,9 @@
 //! Following the waits from a task, past the records of other tasks on the way.
-ghost use Rattle.std.specs.Prelude.{◌≡◌, ◌≢◌, ◌≤◌, IfErr, IfOk, OnOk};
+ghost use Rattle.std.specs.Prelude.{◌≡◌, ◌≢◌, ◌≤◌, ◌<◌, IfErr, IfOk, OnOk};
 ghost use Rattle.floor_table.specs.declared.view.SeatKind.TheVariants.{Spent};
-ghost use Rattle.admission_core.specs.States.{IsAmong};
-ghost use Rattle.node_rule.specs.LockSteps.{IsKnownToPass};
+ghost use Rattle.admission_laws.specs.admission_core.States.{IsAmong};
+ghost use Rattle.floor_rule.specs.nodes.LockSteps.{IsKnownToPass};
+ghost use Rattle.floor_table.specs.nodes.Chains.{HasFollowedTo};
 ghost use Rattle.tree_admit.specs.Bars.{IsLedTo};
 ghost use Rattle.tree_admit.specs.Going.{HasOnlyFollowed};
 ghost use Rattle.tree_admit.specs.Passing.{EachBetween};
@@ -11,11 +12,11 @@ use crate::passing::pass_over;
 use effect_sets::Effect;
 use floor_rule::Phase;
 use floor_table::Named;
+use floor_table::nodes::{NodeContent, Planted};
 use task_floor::{Floor, Stand};
-use tree_table::{NodeContent, Planted};
 
 /// Follows the waits from a task. `Ok` if they lead to the task `to`: the stand knows that from then on. Otherwise the task at
-/// which they ended.
+/// which they ended: the stand has found that its phase was no wait.
 ///
 /// If they lead there, so do those from each task on the way. So of the first records of a content, `left` of them, the last ones
 /// are passed over meanwhile, as far as they stand in the order of the waits. `Ok` says how many are left.
@@ -32,10 +33,13 @@ pub(crate) fn follow_past<N: Named + Planted>(
     requires here { stand.old.table_id ≡ floor.now }
     requires live { stand.old.me.0.floor.kind ≢ Spent }
     requires tasks { tasks ≡ N.lim.tasks }
+    requires other { from ≢ to }
     ensures known { OnOk result (IsAmong (record { waiter = from; awaited = to }) stand.new.me.0.waits) }
     ensures passed { IfOk result (λ rest. (rest ≤ left)
         × EachBetween (IsKnownToPass stand.new.me.0.waits to effect.now) content.now rest left) }
-    ensures end { IfErr result (λ end. IsLedTo stand.new.me.0 from end) }
+    ensures end { IfErr result (λ end. IsLedTo stand.new.me.0 from end × (end ≢ to)) }
+    ensures followed { IfErr result (λ end. from < N.lim.tasks
+        → HasFollowedTo stand.old.me.0.looks stand.new.me.0.looks from end) }
     ensures only { HasOnlyFollowed stand.old.me stand.new.me }
     ensures same { (stand.new.table_id ≡ stand.old.table_id) × (stand.new.id ≡ stand.old.id) }
 {

@@ -1,11 +1,11 @@
 //! Going down from the root to the place of an effect, hand over hand.
 ghost use Rattle.std.specs.Prelude.{◌≡◌, ◌≢◌, ◌<◌, ℕ, List, None, IfErr, IfOk, length};
 ghost use Rattle.floor_table.specs.declared.view.SeatKind.TheVariants.{Spent};
-ghost use Rattle.admission_core.specs.States.{Activity};
-ghost use Rattle.tree_table.specs.declared.slot.ErrandKind.TheVariants.{Admission};
-ghost use Rattle.tree_table.specs.declared.slot.TreeSlot as slots;
-ghost use Rattle.tree_table.specs.declared.view.TreeView.{TreeView};
-ghost use Rattle.tree_table.specs.Seats.{HasOwn};
+ghost use Rattle.admission_laws.specs.admission_core.States.{Activity};
+ghost use Rattle.floor_table.specs.declared.nodes.slot.ErrandKind.TheVariants.{Admission};
+ghost use Rattle.floor_table.specs.declared.nodes.slot.TreeSlot as slots;
+ghost use Rattle.floor_table.specs.declared.nodes.view.TreeView.{TreeView};
+ghost use Rattle.floor_table.specs.nodes.Seats.{HasOwn};
 ghost use Rattle.tree_admit.specs.Bars.{WasBarred};
 ghost use Rattle.tree_admit.specs.Descents.{MayStepDown};
 ghost use Rattle.tree_admit.specs.Errands.{KnowsErrand, come_to, errand_at};
@@ -15,13 +15,13 @@ use crate::bars::Bar;
 use crate::footing::Footing;
 use crate::locking::{lock_child, lock_root};
 use crate::testing::look_at;
+use crate::ways::next_toward;
 use effect_sets::Effect;
 use effect_tree::Shape;
 use floor_table::Named;
+use floor_table::nodes::{Errand, NodeContent, Planted};
 use std::sync::Wait;
 use task_floor::{Floor, Stand};
-use tree_table::{Errand, NodeContent, Planted};
-use tree_ways::next_toward;
 
 /// Goes from a node, whose content is this, to a child on the way to its place: locks the child and then leaves the node. Returns
 /// the content of the child.
@@ -73,7 +73,7 @@ pub(crate) fn descend<N: Named + Planted, R: Wait>(
         errand.place content stand.new.me) }
     ensures own { IfOk result (λ content. HasOwn stand.old.me.0 errand.place content) }
     ensures barred { IfErr result (λ bar. HasLeft stand.old.me.0 stand.old.me.1 None stand.new.me × (errand.kind ≡ Admission)
-        × WasBarred stand.new.me.0 errand.task effect.now bar) }
+        × WasBarred N.lim stand.old.me.0 stand.new.me.0 errand.task effect.now bar) }
     ensures same { (stand.new.table_id ≡ stand.old.table_id) × (stand.new.id ≡ stand.old.id) }
 {
     let _count = shape.nodes();

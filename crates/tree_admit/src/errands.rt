@@ -2,11 +2,11 @@
 ghost use Rattle.std.specs.Prelude.{◌≡◌, ◌≢◌, ◌<◌, ℕ, List, [], ◌∷◌, IfErr, IfOk, IsFalse, IsTrue, None, length};
 ghost use Rattle.effect_tree.specs.Place.{IsSolid};
 ghost use Rattle.floor_table.specs.declared.view.SeatKind.TheVariants.{Spent};
-ghost use Rattle.tree_table.specs.declared.slot.ErrandKind.TheVariants.{Admission, Removal};
-ghost use Rattle.tree_table.specs.declared.slot.TreeSlot as slots;
-ghost use Rattle.tree_table.specs.declared.view.TreeView.{TreeView};
-ghost use Rattle.tree_table.specs.Seats.{HasOwn};
-ghost use Rattle.tree_table.specs.TreeOf.{content_in};
+ghost use Rattle.floor_table.specs.declared.nodes.slot.ErrandKind.TheVariants.{Admission, Removal};
+ghost use Rattle.floor_table.specs.declared.nodes.slot.TreeSlot as slots;
+ghost use Rattle.floor_table.specs.declared.nodes.view.TreeView.{TreeView};
+ghost use Rattle.floor_table.specs.nodes.Seats.{HasOwn};
+ghost use Rattle.floor_table.specs.nodes.TreeOf.{content_in};
 ghost use Rattle.tree_admit.specs.Bars.{WasBarred};
 ghost use Rattle.tree_admit.specs.Descents.{HasTakenOut, HasTried, IsOfChild, MayLookAround, MayPut, MayTakeOutOf, walking};
 ghost use Rattle.tree_admit.specs.Errands.{KnowsErrand, record_of};
@@ -17,15 +17,15 @@ use crate::descents::descend;
 use crate::footing::Footing;
 use crate::testing::look_at;
 use crate::walks::walk_below;
+use crate::ways::is_solid;
 use effect_sets::Effect;
 use effect_tree::Shape;
 use floor_table::Named;
+use floor_table::nodes::{Errand, ErrandKind, NodeContent, NodeRecord, Planted};
 use std::alloc::Global;
 use std::sync::Wait;
 use task_floor::{Floor, Stand};
-use tree_table::{Errand, ErrandKind, NodeContent, NodeRecord, Planted};
-use tree_ways::is_solid;
-use twe_io::Memory;
+use twe_base::Memory;
 
 /// Places the record of an errand at its place, whose content this is, and comes back. If the record stands there already, or if
 /// memory runs out, it comes back and leaves the content as it was.
@@ -46,7 +46,7 @@ pub(crate) fn put<N: Named + Planted>(
         × MayPut N.nodes N.lim earlier rest errand effect.now done content stand.old.me }
     ensures tried { (earlier : TreeView) (rest : List (ℕ × slots.TreeSlot)) (done : List ℕ)
         → MayPut N.nodes N.lim earlier rest errand effect.now done content stand.old.me
-        → IfOk result (λ attempt. HasTried earlier rest errand effect.now attempt stand.new.me) }
+        → IfOk result (λ attempt. HasTried N.lim earlier rest errand effect.now attempt stand.new.me) }
     ensures failed { (earlier : TreeView) (rest : List (ℕ × slots.TreeSlot)) (done : List ℕ)
         → MayPut N.nodes N.lim earlier rest errand effect.now done content stand.old.me
         → IfErr result (λ _. HasLeft earlier rest None stand.new.me) }
@@ -175,7 +175,7 @@ fn look_around<N: Named + Planted, R: Wait>(
     ensures barred { (earlier : TreeView) (rest : List (ℕ × slots.TreeSlot))
         → MayLookAround N.nodes N.lim earlier rest errand effect.now content stand.old.me
         → IfErr result (λ bar. HasLeft earlier rest None stand.new.me × (errand.kind ≡ Admission)
-        × WasBarred stand.new.me.0 errand.task effect.now bar) }
+        × WasBarred N.lim earlier stand.new.me.0 errand.task effect.now bar) }
     ensures same { (stand.new.table_id ≡ stand.old.table_id) × (stand.new.id ≡ stand.old.id) }
 {
     if goes_below(errand, effect) {
@@ -228,7 +228,8 @@ pub fn place_one<N: Named + Planted, R: Wait>(
     requires slots { footing.slots ≡ length stand.old.me.1 }
     requires outside { IsOutside stand.old.me.0 }
     requires knows { (knows : KnowsErrand N.nodes stand.old.me.0 errand effect.now) × IsOfChild errand.kind knows.turn }
-    ensures tried { IfOk result (λ attempt. HasTried stand.old.me.0 stand.old.me.1 errand effect.now attempt stand.new.me) }
+    ensures tried { IfOk result (λ attempt.
+        HasTried N.lim stand.old.me.0 stand.old.me.1 errand effect.now attempt stand.new.me) }
     ensures failed { IfErr result (λ _. HasLeft stand.old.me.0 stand.old.me.1 None stand.new.me) }
     ensures same { (stand.new.table_id ≡ stand.old.table_id) × (stand.new.id ≡ stand.old.id) }
 {

@@ -12,8 +12,10 @@ mod locking;
 mod passing;
 mod placing;
 mod releasing;
+pub mod serving;
 mod testing;
 mod walks;
+pub mod ways;
 
 pub use admitting::{Admittance, try_admit};
 pub use bars::{Attempt, Bar};

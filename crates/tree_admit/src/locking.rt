@@ -1,16 +1,16 @@
 //! Locking a node, however often one has to try. Who has a lock in the tree waits for none above it, so nobody waits for long.
 ghost use Rattle.std.specs.Prelude.{◌≡◌, ◌<◌, length};
 ghost use mathlib.Core.Option.{none, some};
-ghost use Rattle.admission_core.specs.States.{Activity};
-ghost use Rattle.tree_table.specs.declared.slot.TreeSlot.TheVariants as kinds;
-ghost use Rattle.tree_table.specs.Seats.{HasOwn, MayLock};
+ghost use Rattle.admission_laws.specs.admission_core.States.{Activity};
+ghost use Rattle.floor_table.specs.declared.nodes.slot.TreeSlot.TheVariants as kinds;
+ghost use Rattle.floor_table.specs.nodes.Seats.{HasOwn, MayLock};
 ghost use Rattle.tree_admit.specs.Going.{HasLocked};
 
 use floor_table::Named;
+use floor_table::nodes::{Errand, NodeContent, Planted};
 use std::sync::Wait;
 use std::thread;
 use task_floor::{Floor, Stand};
-use tree_table::{Errand, NodeContent, Planted};
 
 /// Locks the root for an errand, and returns its content.
 pub(crate) fn lock_root<N: Named + Planted, R: Wait>(

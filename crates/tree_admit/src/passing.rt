@@ -1,10 +1,10 @@
 //! Passing over the records that need no walk of their own along the waits.
 ghost use Rattle.std.specs.Prelude.{◌≡◌, ◌+◌, ◌≤◌, ℕ, false, IsTrue, Some, slice_get};
-ghost use Rattle.admission_core.specs.States.{Record};
+ghost use Rattle.admission_laws.specs.admission_core.States.{Record};
 ghost use Rattle.tree_admit.specs.Passing.{EachBetween, is_at_ease, is_passed_over};
 
 use effect_sets::{Effect, interferes};
-use tree_table::{NodeContent, NodeRecord};
+use floor_table::nodes::{NodeContent, NodeRecord};
 
 /// Whether a record passes for an effect of a task whatever is known of waits: it is of that task, or the two effects are apart.
 pub(crate) fn passes_at_once(task: u32, effect: &Effect, r: &NodeRecord) -> bool
@@ -20,8 +20,8 @@ fn passes_at(task: u32, effect: &Effect, at: u32, r: &NodeRecord) -> bool
     r.task() == at || passes_at_once(task, effect, r)
 }
 
-/// Of the first records of a content, `left` of them, passes over those, from the last one on, that are of the task `at` or pass for
-/// an effect of a task at once, until one is neither. Returns how many are left.
+/// Of the first records of a content, `left` of them, passes over those, from the last one on, that are of the task `at` or pass
+/// for an effect of a task at once, until one is neither. Returns how many are left.
 pub(crate) fn pass_over(
     task: u32,
     effect: &Effect,

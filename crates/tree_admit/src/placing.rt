@@ -1,16 +1,7 @@
 //! Placing the records of all effects of a task, one after the other.
 ghost use Rattle.std.specs.Prelude.{◌≡◌, ◌<◌, ◌^◌, IfErr, OnOk, length};
 ghost use Rattle.prefix_tree.specs.Nodes.{IsTreeOfPaths};
-ghost use Rattle.tree_admit.specs.Attempts.{
-  HasMet,
-  HasPlacedEach,
-  HasPlacedFirst,
-  HasStopped,
-  KeepsAllElse,
-  MayPlaceAll,
-  MayPlaceSpawned,
-  Stands,
-};
+ghost use Rattle.tree_admit.specs.Attempts.{HasMet, HasPlacedEach, HasPlacedFirst, HasStopped, KeepsAllElse, MayPlaceAll, MayPlaceSpawned, RecordStands};
 ghost use Rattle.tree_admit.specs.Outcomes.{StandsOn};
 
 use crate::bars::{Attempt, Bar};
@@ -19,11 +10,11 @@ use crate::footing::Footing;
 use effect_sets::Effect;
 use effect_tree::Shape;
 use floor_table::Named;
+use floor_table::nodes::{Errand, ErrandKind, Planted};
 use std::alloc::Global;
 use std::sync::Wait;
 use task_floor::{Floor, Stand};
-use tree_table::{Errand, ErrandKind, Planted};
-use twe_io::Memory;
+use twe_base::Memory;
 
 /// Why a worker stopped placing records.
 #[derive(Debug, Drop)]
@@ -61,8 +52,8 @@ fn place_effect<R: Wait, N: Named + Planted>(
     requires ready { StandsOn N.lim footing stand.old.me }
     requires number { number < length effects.now }
     requires may { MayPlaceAll stand.old.me.0 kind task effects.now }
-    ensures stands { OnOk result (Stands N.nodes task effects.now number stand.old.me stand.new.me) }
-    ensures met { IfErr result (λ by. HasMet kind task effects.now by stand.old.me stand.new.me) }
+    ensures stands { OnOk result (RecordStands N.nodes task effects.now number stand.old.me stand.new.me) }
+    ensures met { IfErr result (λ by. HasMet N.lim kind task effects.now by stand.old.me stand.new.me) }
     ensures same { (stand.new.table_id ≡ stand.old.table_id) × (stand.new.id ≡ stand.old.id) }
 {
     let effect = &effects[number as usize];
@@ -101,7 +92,8 @@ pub(crate) fn place_all<R: Wait, N: Named + Planted>(
     requires few { length effects.now < 2 ^ 32 }
     requires may { MayPlaceAll stand.old.me.0 kind task effects.now }
     ensures all { OnOk result (HasPlacedFirst N.nodes task effects.now (length effects.now) stand.old.me stand.new.me) }
-    ensures stopped { IfErr result (λ stopped. HasStopped N.nodes kind task effects.now stopped stand.old.me stand.new.me) }
+    ensures stopped { IfErr result (λ stopped.
+        HasStopped N.nodes N.lim kind task effects.now stopped stand.old.me stand.new.me) }
     ensures same { (stand.new.table_id ≡ stand.old.table_id) × (stand.new.id ≡ stand.old.id) }
 {
     for number in 0..effects.len() as u32 {

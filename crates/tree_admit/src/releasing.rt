@@ -1,9 +1,9 @@
 //! Taking the records of the effects of a task out, one after the other.
 ghost use Rattle.std.specs.Prelude.{◌≡◌, ◌<◌, ◌≤◌, ◌^◌, length};
 ghost use Rattle.prefix_tree.specs.Nodes.{IsTreeOfPaths};
-ghost use Rattle.admission_core.specs.States.{Record};
-ghost use Rattle.node_rule.specs.TurnSteps.{IsClearOf};
-ghost use Rattle.tree_table.specs.Seats.{tree_seen};
+ghost use Rattle.admission_laws.specs.admission_core.States.{Record};
+ghost use Rattle.floor_rule.specs.nodes.TurnSteps.{IsClearOf};
+ghost use Rattle.floor_table.specs.nodes.Seats.{tree_seen};
 ghost use Rattle.tree_admit.specs.Attempts.{HasTakenOutFirst, IsRecordOf, KeepsAllElse, MayRelease};
 ghost use Rattle.tree_admit.specs.Outcomes.{IsTakenOut, StandsOn};
 
@@ -12,9 +12,9 @@ use crate::footing::Footing;
 use effect_sets::Effect;
 use effect_tree::Shape;
 use floor_table::Named;
+use floor_table::nodes::{Errand, ErrandKind, Planted};
 use std::sync::Wait;
 use task_floor::{Floor, Stand};
-use tree_table::{Errand, ErrandKind, Planted};
 
 /// Takes the record of one effect of a task out, whose effects are these.
 fn take_out_effect<R: Wait, N: Named + Planted>(

@@ -1,9 +1,9 @@
 //! Looking at the records that a worker meets on its way to an admission.
 ghost use Rattle.std.specs.Prelude.{◌≡◌, ◌≢◌, ◌≤◌, IfErr, IfOk, OnOk};
 ghost use Rattle.floor_table.specs.declared.view.SeatKind.TheVariants.{Spent};
-ghost use Rattle.admission_core.specs.States.{Admit};
-ghost use Rattle.node_rule.specs.LockSteps.{IsKnownToPass};
-ghost use Rattle.tree_table.specs.Seats.{purpose_for};
+ghost use Rattle.admission_laws.specs.admission_core.States.{Admit};
+ghost use Rattle.floor_rule.specs.nodes.LockSteps.{IsKnownToPass};
+ghost use Rattle.floor_table.specs.nodes.Seats.{purpose_for};
 ghost use Rattle.tree_admit.specs.Bars.{IsBarIn, IsBarOf};
 ghost use Rattle.tree_admit.specs.Errands.{AllPass};
 ghost use Rattle.tree_admit.specs.Going.{HasOnlyFollowed};
@@ -14,11 +14,11 @@ use crate::chains::follow_past;
 use crate::passing::passes_at_once;
 use effect_sets::Effect;
 use floor_table::Named;
+use floor_table::nodes::{Errand, ErrandKind, NodeContent, NodeRecord, Planted};
 use task_floor::{Floor, Stand};
-use tree_table::{Errand, ErrandKind, NodeContent, NodeRecord, Planted};
 
-/// Whether the record at index `at` of a content, which is that of this node, passes for an effect of a task. Otherwise it is a bar.
-/// If it passes, so do those before it that were passed over on the way, and it returns how many are left.
+/// Whether the record at index `at` of a content, which is that of this node, passes for an effect of a task. Otherwise it is a
+/// bar. If it passes, so do those before it that were passed over on the way, and it returns how many are left.
 fn record_passes<N: Named + Planted>(
     floor: &Floor<N>,
     stand: &mut Stand,
@@ -36,7 +36,8 @@ fn record_passes<N: Named + Planted>(
     ensures passes { OnOk result (IsKnownToPass stand.new.me.0.waits task effect.now r.now) }
     ensures others { IfOk result (λ left. (left ≤ at)
         × EachBetween (IsKnownToPass stand.new.me.0.waits task effect.now) content.now left at) }
-    ensures barred { IfErr result (λ bar. (bar.node ≡ node) × IsBarOf stand.new.me.0 task effect.now r.now bar) }
+    ensures barred { IfErr result (λ bar. (bar.node ≡ node)
+        × IsBarOf N.lim stand.old.me.0 stand.new.me.0 task effect.now r.now bar) }
     ensures only { HasOnlyFollowed stand.old.me stand.new.me }
     ensures same { (stand.new.table_id ≡ stand.old.table_id) × (stand.new.id ≡ stand.old.id) }
 {
@@ -50,9 +51,9 @@ fn record_passes<N: Named + Planted>(
     }
 }
 
-/// Whether all records of a content, which is that of this node, pass for an effect of a task. Otherwise one of them is a bar. The
-/// earliest is looked at first: the waits from its task lead past the tasks that were admitted after it, so a chain of tasks that
-/// wait for one another is followed once, however many of their records stand here.
+/// Whether all records of a content, which is that of this node, pass for an effect of a task. Otherwise one of them is a bar.
+/// The earliest is looked at first: the waits from its task lead past the tasks that were admitted after it, so a chain of tasks
+/// that wait for one another is followed once, however many of their records stand here.
 fn records_pass<N: Named + Planted>(
     floor: &Floor<N>,
     stand: &mut Stand,
@@ -66,7 +67,8 @@ fn records_pass<N: Named + Planted>(
     requires live { stand.old.me.0.floor.kind ≢ Spent }
     requires tasks { tasks ≡ N.lim.tasks }
     ensures passes { OnOk result (AllPass stand.new.me.0.waits (Admit task effect.now) content.now) }
-    ensures barred { IfErr result (λ bar. (bar.node ≡ node) × IsBarIn stand.new.me.0 task effect.now content.now bar) }
+    ensures barred { IfErr result (λ bar. (bar.node ≡ node)
+        × IsBarIn N.lim stand.old.me.0 stand.new.me.0 task effect.now content.now bar) }
     ensures only { HasOnlyFollowed stand.old.me stand.new.me }
     ensures same { (stand.new.table_id ≡ stand.old.table_id) × (stand.new.id ≡ stand.old.id) }
 {
@@ -100,7 +102,7 @@ pub(crate) fn look_at<N: Named + Planted>(
     requires tasks { tasks ≡ N.lim.tasks }
     ensures passes { OnOk result (AllPass stand.new.me.0.waits (purpose_for errand.kind errand.task effect.now) content.now) }
     ensures barred { IfErr result (λ bar. (errand.kind ≡ ErrandKind.Admission) × (bar.node ≡ node)
-        × IsBarIn stand.new.me.0 errand.task effect.now content.now bar) }
+        × IsBarIn N.lim stand.old.me.0 stand.new.me.0 errand.task effect.now content.now bar) }
     ensures only { HasOnlyFollowed stand.old.me stand.new.me }
     ensures same { (stand.new.table_id ≡ stand.old.table_id) × (stand.new.id ≡ stand.old.id) }
 {

@@ -3,10 +3,10 @@
 ghost use Rattle.std.specs.Prelude.{◌≡◌, ◌≢◌, ◌<◌, ℕ, List, IfErr, IfOk, ◌∷◌, length};
 ghost use Rattle.effect_tree.specs.Place.{IsSolid};
 ghost use Rattle.floor_table.specs.declared.view.SeatKind.TheVariants.{Spent};
-ghost use Rattle.tree_table.specs.declared.slot.ErrandKind.TheVariants.{Admission};
-ghost use Rattle.tree_table.specs.declared.slot.TreeSlot as slots;
-ghost use Rattle.tree_table.specs.declared.view.TreeView.{TreeView};
-ghost use Rattle.tree_table.specs.Seats.{left_to_give};
+ghost use Rattle.floor_table.specs.declared.nodes.slot.ErrandKind.TheVariants.{Admission};
+ghost use Rattle.floor_table.specs.declared.nodes.slot.TreeSlot as slots;
+ghost use Rattle.floor_table.specs.declared.nodes.view.TreeView.{TreeView};
+ghost use Rattle.floor_table.specs.nodes.Seats.{left_to_give};
 ghost use Rattle.tree_admit.specs.Bars.{WasBarred};
 ghost use Rattle.tree_admit.specs.Descents.{HasWalkedBelow, MayWalkBelow, walking};
 ghost use Rattle.tree_admit.specs.Going.{HasLeft};
@@ -18,9 +18,9 @@ use crate::testing::look_at;
 use effect_sets::Effect;
 use effect_tree::Shape;
 use floor_table::Named;
+use floor_table::nodes::{Errand, NodeContent, Planted};
 use std::sync::Wait;
 use task_floor::{Floor, Stand};
-use tree_table::{Errand, NodeContent, Planted};
 
 /// Looks at the records at a node, whose content this is, and walks through all nodes below it: it locks each child, walks below
 /// it and leaves it. Returns the content of the node, which the stand holds still. If a record is a bar, it gives the node back.
@@ -52,7 +52,7 @@ pub(crate) fn walk_below<N: Named + Planted, R: Wait>(
         → MayWalkBelow N.nodes N.lim earlier rest errand effect.now node stack done content stand.old.me
         → IfErr result (λ bar.
         HasLeft earlier rest (left_to_give (walking errand effect.now (node ∷ stack) done) stack) stand.new.me
-        × WasBarred stand.new.me.0 errand.task effect.now bar) }
+        × WasBarred N.lim earlier stand.new.me.0 errand.task effect.now bar) }
     ensures unchanged { IfOk result (λ after. after ≡ content) }
     ensures same { (stand.new.table_id ≡ stand.old.table_id) × (stand.new.id ≡ stand.old.id) }
 {

@@ -1,14 +1,16 @@
 -- Expressions as contracts see them: the place of the first token, and the shape. Parentheses that enclose an expression
 -- affect only its place.
 use Rattle.std.specs.Prelude.{ℤ, Bool}
-use Rattle.twe_io.specs.declared.place.Place.{Place}
+use Rattle.twe_base.specs.declared.place.Place.{Place}
 use Rattle.twe_ast.specs.declared.expr.BinOp.{BinOp}
 use Rattle.twe_ast.specs.declared.name.Name.{Name}
 
 mutual
+  -- an expression: the place of its first token, and its shape
   pub data Expression : Type 0 where
     expression : (place : Place) (shape : Shape) → Expression
 
+  -- the kinds of expression, each with its parts
   pub data Shape : Type 0 where
     -- a literal, or one of the two truth values
     Literal : (value : ℤ) → Shape

@@ -1,12 +1,13 @@
 -- Statements as contracts see them.
 use Rattle.std.specs.Prelude.{Bool, Option}
-use Rattle.twe_io.specs.declared.place.Place.{Place}
+use Rattle.twe_base.specs.declared.place.Place.{Place}
 use Rattle.twe_ast.specs.declared.name.Name.{Name}
 use Rattle.twe_ast.specs.declared.stmt.LocalType.{LocalType}
 use Rattle.twe_ast.specs.declared.stmt.WaitCall.{WaitCall}
 use Rattle.twe_ast.specs.Expression.{Expression, Arguments}
 
 mutual
+  -- the kinds of statement, each with its parts
   pub data Statement : Type 0 where
     Block : (body : Statements) → Statement
     -- the declaration of a local, and an assignment to a local or a cell

@@ -4,6 +4,7 @@ pub mod ExpressionCode
 pub mod ExpressionSize
 pub mod ExpressionView
 pub mod NameCode
+pub mod OperatorCode
 pub mod StatementCode
 pub mod StatementSize
 pub mod StatementView

@@ -5,7 +5,7 @@ ghost use Rattle.twe_ast.specs.Precedence.{level_of};
 
 use crate::name::Name;
 use std::marker::Model;
-use twe_io::Place;
+use twe_base::Place;
 
 /// An operator with two operands.
 #[derive(Clone, Copy, Debug, PartialEq, Eq)]

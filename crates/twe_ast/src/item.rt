@@ -3,7 +3,7 @@
 use crate::name::Name;
 use crate::path::{CellPath, Path};
 use crate::stmt::Block;
-use twe_io::{List, Place};
+use twe_base::{List, Place};
 
 /// The tree of a whole text.
 #[derive(Debug, Drop)]

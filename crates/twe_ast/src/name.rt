@@ -1,6 +1,6 @@
 //! Names as they are written in a text.
 
-use twe_io::{Place, Word};
+use twe_base::{Place, Word};
 
 /// A name in a text: an identifier.
 #[derive(Debug, Drop)]

@@ -1,7 +1,7 @@
 //! The paths of effects and of cells, as they are written in a text. A `Root` at the front is left out.
 
 use crate::name::Name;
-use twe_io::{List, Place, Word};
+use twe_base::{List, Place, Word};
 
 /// A path in a clause of effects.
 #[derive(Debug, Drop)]

@@ -3,7 +3,7 @@
 use crate::expr::{Args, Expr};
 use crate::name::Name;
 use std::marker::Model;
-use twe_io::Place;
+use twe_base::Place;
 
 /// A statement.
 #[cycle(stmt)]

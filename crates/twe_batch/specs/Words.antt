@@ -9,9 +9,10 @@ word_for Check = codes "check"
 word_for Run = codes "run"
 
 -- the words are exactly the one that asks for this; or they ask for nothing
-abbrev pub IsMeaning : List (List ℕ) → Option Job → Type 0
-IsMeaning words (Some job) = words ≡ word_for job ∷ []
-IsMeaning words None = (job : Job) → ¬ (words ≡ word_for job ∷ [])
+abbrev pub IsBatchMeaning : List (List ℕ) → Option Job → Type 0
+IsBatchMeaning words (Some job) = words ≡ word_for job ∷ []
+IsBatchMeaning words None = (job : Job) → ¬ (words ≡ word_for job ∷ [])
 
-abbrev pub usage_text : List ℕ
-usage_text = codes "usage: twe_batch check | run" ++ 10 ∷ []
+-- the usage line of `twe_batch`
+abbrev pub batch_usage_text : List ℕ
+batch_usage_text = codes "usage: twe_batch check | run" ++ 10 ∷ []

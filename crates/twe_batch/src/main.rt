@@ -1,5 +1,5 @@
-//! `twe_batch`: many TWEJava programs at once. It reads programs with a line `%%` between two of them from standard input, checks or
-//! runs them in several threads, and writes their answers in order.
+//! `twe_batch`: many TWEJava programs at once. It reads programs with a line `%%` between two of them from standard input,
+//! checks or runs them in several threads, and writes their answers in order.
 #![tactic(auto)]
 
 mod status;
@@ -8,9 +8,8 @@ mod top;
 mod words;
 
 use std::process::ExitCode;
-use text_streams::words_of;
 use top::batch_top;
-use twe_io::{StdSink, StdSource};
+use twe_io::{StdSink, StdSource, words_of};
 
 fn main(rt: HostRuntime) -> ExitCode {
     let alloc = rt.alloc();

@@ -1,6 +1,6 @@
 //! The statuses that the program ends with.
 ghost use Rattle.std.specs.Prelude.{◌≡◌};
-ghost use Rattle.twe_batch.specs.Codes.{code_of};
+ghost use Rattle.twe_batch.specs.Codes.{batch_code_of};
 
 /// What a call of the program comes to.
 #[derive(Clone, Copy, Debug, PartialEq, Eq)]
@@ -22,7 +22,7 @@ pub enum BatchStatus {
 impl BatchStatus {
     /// The number that the process ends with.
     pub fn code(self) -> u8
-        ensures { result ≡ code_of self }
+        ensures { result ≡ batch_code_of self }
     {
         match self {
             BatchStatus::Done => 0,

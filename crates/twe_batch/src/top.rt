@@ -1,9 +1,9 @@
 //! The top call: the whole program, apart from where its bytes come from and go to.
 ghost use Rattle.std.specs.Prelude.{◌≤◌, length, IfOk};
-ghost use Rattle.twe_limits.specs.Language.{max_text_bytes};
-ghost use Rattle.text_streams.specs.Ends.{sink, source};
+ghost use Rattle.twe_base.specs.Language.{max_text_bytes};
+ghost use Rattle.twe_io.specs.Ends.{sink, source};
 ghost use Rattle.par_check.specs.Batch.{IsBatch};
-ghost use Rattle.twe_batch.specs.Answers.{Answers, Cause};
+ghost use Rattle.twe_batch.specs.Answers.{AnswersBatch, BatchCause};
 ghost use Rattle.twe_batch.specs.inner.Given.{AnswersRead};
 
 use crate::status::BatchStatus;
@@ -12,12 +12,12 @@ use crate::words::job_of;
 use par_check::{Job, answer_all, batch_text, programs_of};
 use std::alloc::Global;
 use std::thread::Threads;
-use text_streams::{Unwritten, read_text, tell};
-use twe_io::{Bytes, Memory, ReadFail, Sink, Source, Word};
+use twe_base::{Bytes, Memory, Word};
+use twe_io::{ReadFail, Sink, Source, Unwritten, read_text, tell};
 use twe_report::{read_fault_text, too_long_text};
 
 /// An answer of this program.
-type Answer = text_streams::Answer<BatchStatus>;
+type Answer = twe_io::Answer<BatchStatus>;
 
 /// Reads a batch of programs from the source, checks or runs each of them, and writes their answers in order, with the number
 /// of each program and its status.
@@ -33,7 +33,8 @@ pub fn batch_top<R: Threads + Sync, S: Source, O: Sink, E: Sink>(
     out: &mut O,
     err: &mut E,
 ) -> BatchStatus
-    ensures { Answers (source S.left S.faults S.read_gives) (sink O.written O.faults O.write_gives) (sink E.written E.faults E.write_gives)
+    ensures { AnswersBatch (source S.left S.faults S.read_gives) (sink O.written O.faults O.write_gives)
+        (sink E.written E.faults E.write_gives)
         words.now src.old src.new out.old out.new err.old err.new result }
 {
     let made = answer(rt, alloc, words, src);
@@ -51,7 +52,7 @@ fn answer<R: Threads + Sync, S: Source>(
     words: &[Word],
     src: &mut S,
 ) -> Result<Answer, Memory>
-    ensures { IfOk result (Cause (source S.left S.faults S.read_gives) words.now src.old src.new) }
+    ensures { IfOk result (BatchCause (source S.left S.faults S.read_gives) words.now src.old src.new) }
 {
     match job_of(words) {
         Some(job) => {

@@ -1,14 +1,14 @@
 //! The words after the program's name.
 ghost use Rattle.std.specs.Prelude.{◌≡◌};
-ghost use Rattle.twe_batch.specs.Words.{IsMeaning};
+ghost use Rattle.twe_batch.specs.Words.{IsBatchMeaning};
 ghost use Rattle.twe_batch.specs.inner.Named.{job_in, job_named};
 
 use par_check::Job;
-use twe_io::Word;
+use twe_base::Word;
 
 /// What the words ask for: one word, which is `check` or `run`. Other words ask for nothing.
 pub(crate) fn job_of(words: &[Word]) -> Option<Job>
-    ensures { IsMeaning words.now result }
+    ensures { IsBatchMeaning words.now result }
 {
     job_in(words)
 }

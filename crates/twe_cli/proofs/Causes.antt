@@ -1,8 +1,8 @@
 -- From what the parts of a call ensure to the cause of its answer.
 use Rattle.std.proofs.Common.{◌≡◌, ◌≤◌, ℕ, List, Option, Result, Ok, Err, [], None, Some, IfOk, OnOk, length, true, false, refl, sym, ap, subst, true≢false, ◌∙◌, arith}
-use Rattle.twe_io.specs.declared.memory.Memory as out_of
+use Rattle.twe_base.specs.declared.memory.Memory as out_of
 use Rattle.twe_io.specs.declared.whole.ReadFail.TheVariants as reads
-use Rattle.twe_limits.specs.Language.{max_text_bytes}
+use Rattle.twe_base.specs.Language.{max_text_bytes}
 use Rattle.twe_frontend.specs.declared.refusal.Refusal.{Refusal}
 use Rattle.twe_frontend.specs.Accepted.{IsRefusal}
 use Rattle.twe_report.specs.Texts.{read_fault_text, refusal_text, too_long_text, usage_text}
@@ -10,12 +10,12 @@ use Rattle.load_text.specs.Text.{load_text_of}
 use Rattle.command_line.specs.declared.command.Command.{Command}
 use Rattle.command_line.specs.declared.command.Command.TheVariants.{Check, Run, Replay, Load}
 use Rattle.command_line.specs.Words.{IsSized}
-use Rattle.text_streams.specs.Ends.{SourceTells, SinkTells, WasRead}
+use Rattle.twe_io.specs.Ends.{SourceTells, SinkTells, WasRead}
 use Rattle.text_answers.specs.Answer.{Answer}
 use Rattle.text_answers.specs.declared.book.Book.{Book}
 use Rattle.text_answers.specs.declared.status.Status.{Status}
 use Rattle.text_answers.specs.declared.status.Status.TheVariants.{ReadFault, Refused, TooLong, Usage}
-use Rattle.text_streams.specs.Answers.{on_err}
+use Rattle.twe_io.specs.Answers.{on_err}
 use Rattle.text_answers.specs.Answers.{Due}
 use Rattle.text_answers.specs.Input.{has_input, journal_text, program_text}
 use Rattle.text_answers.specs.Theorem.{HasRefusal, IsNew}
@@ -23,7 +23,7 @@ use Rattle.twe_cli.specs.Answers.{Cause, Answers}
 use Rattle.twe_cli.specs.declared.reading.Input.{Input}
 use Rattle.twe_cli.specs.declared.reading.Input.TheVariants.{Given, Failed}
 use Rattle.twe_cli.specs.inner.Given.{IsDueForText, IsInputOf}
-use Rattle.text_streams.specs.Answers.{TellsMade}
+use Rattle.twe_io.specs.Answers.{TellsMade}
 use Rattle.twe_cli.specs.inner.Writing.{unwritten}
 
 -- a load has one answer whatever the input

@@ -5,8 +5,8 @@ use Rattle.std.proofs.lemmas.List.{length-append}
 use Rattle.twe_io.specs.Faults.{Rose}
 use Rattle.twe_io.specs.Told.{Gives}
 use Rattle.twe_io.specs.declared.whole.ReadFail.TheVariants as reads
-use Rattle.twe_limits.specs.Language.{max_text_bytes}
-use Rattle.twe_limits.specs.Limits.{Bounds}
+use Rattle.twe_base.specs.Language.{max_text_bytes}
+use Rattle.twe_base.specs.Limits.{Bounds}
 use Rattle.twe_program.specs.Program.{Program}
 use Rattle.twe_frontend.specs.declared.refusal.Refusal.{Refusal}
 use Rattle.twe_frontend.specs.Accepted.{Accepted, IsRefusal}
@@ -20,13 +20,13 @@ use Rattle.text_answers.specs.Answer.{Answer}
 use Rattle.text_answers.specs.declared.book.Book.{Book}
 use Rattle.text_answers.specs.declared.status.Status.{Status}
 use Rattle.text_answers.specs.declared.status.Status.TheVariants.{Done, Refused, Usage, Fault, Stuck, ReadFault, WriteFault, Memory, TooLong, BadJournal, Unfinished}
-use Rattle.text_streams.specs.Answers.{Tells, on_err, on_out}
+use Rattle.twe_io.specs.Answers.{Tells, on_err, on_out}
 use Rattle.text_answers.specs.Answers.{AnswersReplay, AnswersRun, Due, default_limits, for_load}
 use Rattle.twe_cli.specs.Answers.{Answers, Cause}
-use Rattle.text_answers.specs.Codes.{is_done}
+use Rattle.text_answers.specs.Codes.{is_status_done}
 use Rattle.twe_report.specs.Texts as texts
-use Rattle.twe_cli.specs.Complete.{Completes, IsAmong, IsComplete, statuses_of}
-use Rattle.text_streams.specs.Ends.{SourceTells, SinkTells}
+use Rattle.twe_cli.specs.Complete.{Completes, IsOneOf, IsComplete, statuses_of}
+use Rattle.twe_io.specs.Ends.{SourceTells, SinkTells}
 use Rattle.text_answers.specs.Input.{HasInput, program_text}
 
 -- the statuses of runs
@@ -34,21 +34,21 @@ abbrev RunStatuses : List Status
 RunStatuses = Done ∷ Fault ∷ Stuck ∷ Memory ∷ []
 
 ran_status : (p : Program) (st : State) (prints : List ℤ) (outcome : Outcome) (answer : Answer) → AnswersRun p st prints outcome answer → outcome ≢ outcomes.Unfinished
-    → IsAmong answer.status RunStatuses
+    → IsOneOf answer.status RunStatuses
 ran_status p st prints outcomes.AllDone answer is over = inl (ap (λ (a : Answer). a.status) is)
 ran_status p st prints (outcomes.Fault task kind place) answer is over = inr (inl (ap (λ (a : Answer). a.status) is))
 ran_status p st prints outcomes.Stuck answer is over = inr (inr (inl (ap (λ (a : Answer). a.status) is.3)))
 ran_status p st prints outcomes.Unfinished answer is over = absurd (over refl)
 
 replayed_status : (p : Program) (st : State) (prints : List ℤ) (outcome : Outcome) (answer : Answer) → AnswersRun p st prints outcome answer
-    → IsAmong answer.status (Done ∷ Fault ∷ Stuck ∷ Memory ∷ BadJournal ∷ Unfinished ∷ [])
+    → IsOneOf answer.status (Done ∷ Fault ∷ Stuck ∷ Memory ∷ BadJournal ∷ Unfinished ∷ [])
 replayed_status p st prints outcomes.AllDone answer is = inl (ap (λ (a : Answer). a.status) is)
 replayed_status p st prints (outcomes.Fault task kind place) answer is = inr (inl (ap (λ (a : Answer). a.status) is))
 replayed_status p st prints outcomes.Stuck answer is = inr (inr (inl (ap (λ (a : Answer). a.status) is.3)))
 replayed_status p st prints outcomes.Unfinished answer is = inr (inr (inr (inr (inr (inl (ap (λ (a : Answer). a.status) is))))))
 
 -- a load keeps the status of its run
-load_keeps : (n : ℕ) (st : State) (status : Status) (answer : Answer) → (cond (is_done status) (on_out Done (texts.load_result_text n st)) (on_err status answer.err)).status ≡ status
+load_keeps : (n : ℕ) (st : State) (status : Status) (answer : Answer) → (cond (is_status_done status) (on_out Done (texts.load_result_text n st)) (on_err status answer.err)).status ≡ status
 load_keeps n st Done answer = refl
 load_keeps n st Refused answer = refl
 load_keeps n st Usage answer = refl
@@ -62,7 +62,7 @@ load_keeps n st BadJournal answer = refl
 load_keeps n st Unfinished answer = refl
 
 replay_status : (p : Program) (lim : Bounds) (text : List ℕ) (book : Book) (answer : Answer) → AnswersReplay p lim text book answer
-    → IsAmong answer.status (Done ∷ Fault ∷ Stuck ∷ Memory ∷ BadJournal ∷ Unfinished ∷ [])
+    → IsOneOf answer.status (Done ∷ Fault ∷ Stuck ∷ Memory ∷ BadJournal ∷ Unfinished ∷ [])
 replay_status p lim text book answer (AnswersReplay.not_a_move n bad has) = inr (inr (inr (inr (inl refl))))
 replay_status p lim text book answer (AnswersReplay.not_legal head moves n why spells first has) = inr (inr (inr (inr (inl refl))))
 replay_status p lim text book answer (AnswersReplay.replayed head moves outcome spells has answers) = replayed_status p _ _ outcome answer answers
@@ -79,7 +79,7 @@ whole_is : (before : Option (List ℕ)) (bytes input : List ℕ) → before ≡ 
 whole_is None bytes input left is = absurd (none-some input left)
 whole_is (Some xs) bytes input left is = is ∙ same_Some xs input left
 
-memory_among : (command : Command) → IsAmong Memory (statuses_of command)
+memory_among : (command : Command) → IsOneOf Memory (statuses_of command)
 memory_among Check = inr (inl refl)
 memory_among (Run workers lim asked) = inr (inr (inr (inl refl)))
 memory_among (Replay lim) = inr (inr (inr (inl refl)))
@@ -108,17 +108,17 @@ module _ (not_refused : (text : List ℕ) (p : Program) (refusal : Refusal) → 
   due_refused command input book answer r is (Due.replayed lim p same accepted answers) = absurd (not_refused (program_text command input) p r accepted is)
 
   due_accepted : (command : Command) (input : List ℕ) (book : Book) (answer : Answer) (p : Program) → Accepted (program_text command input) p → Due command input book answer
-      → IsAmong answer.status (statuses_of command)
+      → IsOneOf answer.status (statuses_of command)
   due_accepted command input book answer p accepted (Due.refused r is has) = absurd (not_refused (program_text command input) p r accepted is)
-  due_accepted command input book answer p accepted (Due.accepted q same is has) = subst (λ (c : Command). IsAmong Done (statuses_of c)) (sym same) (inl refl)
+  due_accepted command input book answer p accepted (Due.accepted q same is has) = subst (λ (c : Command). IsOneOf Done (statuses_of c)) (sym same) (inl refl)
   due_accepted command input book answer p accepted (Due.ran workers lim asked q outcome plain same is has answers) =
-      subst (λ (c : Command). IsAmong plain.status (statuses_of c)) (sym same) (ran_status q _ _ outcome plain answers has.over)
+      subst (λ (c : Command). IsOneOf plain.status (statuses_of c)) (sym same) (ran_status q _ _ outcome plain answers has.over)
   due_accepted command input book answer p accepted (Due.loaded workers n q outcome plain same is has answers) =
       let last = state_after q default_limits book.journal in
-      subst (λ (c : Command). IsAmong (for_load n last plain).status (statuses_of c)) (sym same)
-      (subst (λ (s : Status). IsAmong s RunStatuses) (sym (load_keeps n last plain.status plain)) (ran_status q last _ outcome plain answers has.over))
+      subst (λ (c : Command). IsOneOf (for_load n last plain).status (statuses_of c)) (sym same)
+      (subst (λ (s : Status). IsOneOf s RunStatuses) (sym (load_keeps n last plain.status plain)) (ran_status q last _ outcome plain answers has.over))
   due_accepted command input book answer p accepted (Due.replayed lim q same is answers) =
-      subst (λ (c : Command). IsAmong answer.status (statuses_of c)) (sym same) (replay_status q lim _ book answer answers)
+      subst (λ (c : Command). IsOneOf answer.status (statuses_of c)) (sym same) (replay_status q lim _ book answer answers)
 
   due_complete : (command : Command) (input : List ℕ) (book : Book) (answer : Answer) → Due command input book answer → IsComplete command input answer.status
   due_complete command input book answer due = record {

@@ -1,11 +1,11 @@
 //! One command whose program is run by workers: it reads the input, answers it and writes the answer.
 ghost use Rattle.std.specs.Prelude.{◌≡◌, ◌≤◌, Some, IfOk, length};
 ghost use Rattle.command_line.specs.Words.{IsSized, workers_of};
-ghost use Rattle.twe_limits.specs.Language.{max_text_bytes};
+ghost use Rattle.twe_base.specs.Language.{max_text_bytes};
 ghost use Rattle.text_answers.specs.Answers.{Due};
 ghost use Rattle.text_answers.specs.Running.{limits_to_run};
 ghost use Rattle.text_answers.specs.Theorem.{IsNew};
-ghost use Rattle.text_streams.specs.Ends.{source, sink};
+ghost use Rattle.twe_io.specs.Ends.{source, sink};
 ghost use Rattle.twe_cli.specs.Answers.{Answers, Cause};
 ghost use Rattle.twe_cli.specs.Complete.{Completes};
 ghost use Rattle.twe_cli.specs.inner.Given.{IsDueForText};
@@ -19,9 +19,9 @@ use std::alloc::Global;
 use std::sync::Wait;
 use std::thread::Threads;
 use text_answers::{Answer, Book, Status, answer_run, limits_to_run, refuse};
+use twe_base::{Limits, Memory};
 use twe_frontend::{FrontFail, read_program, refused_or_accepted};
-use twe_io::{Memory, Sink, Source};
-use twe_limits::Limits;
+use twe_io::{Sink, Source};
 
 /// Carries out a command that asks for workers, as `twe_single` does one that asks for none. The workers run the program, each on a
 /// thread of its own if there are several, and run segments of different tasks at the same time. They pass the gate before each

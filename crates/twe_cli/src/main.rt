@@ -12,9 +12,8 @@ mod top;
 
 use std::process::ExitCode;
 use text_answers::Book;
-use text_streams::words_of;
 use top::twe;
-use twe_io::{StdSink, StdSource};
+use twe_io::{StdSink, StdSource, words_of};
 use twe_rounds::FreeGate;
 
 fn main(rt: HostRuntime) -> ExitCode {

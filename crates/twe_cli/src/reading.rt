@@ -2,15 +2,15 @@
 ghost use Rattle.std.specs.Prelude.{◌≡◌, IfOk, true};
 ghost use Rattle.command_line.specs.Words.{IsSized};
 ghost use Rattle.text_answers.specs.Input.{has_input};
-ghost use Rattle.text_streams.specs.Ends.{source};
+ghost use Rattle.twe_io.specs.Ends.{source};
 ghost use Rattle.twe_cli.specs.inner.Given.{IsInputOf};
 
 use command_line::Command;
-use load_laws::load_texts_are_accepted;
+use load_text::accepted::load_texts_are_accepted;
 use std::alloc::Global;
 use text_answers::{Answer, Status, has_input};
-use text_streams::read_text;
-use twe_io::{Bytes, Memory, ReadFail, Source};
+use twe_base::{Bytes, Memory};
+use twe_io::{ReadFail, Source, read_text};
 use twe_report::{read_fault_text, too_long_text};
 
 /// What the reading of an input came to.

@@ -2,7 +2,7 @@
 ghost use Rattle.std.specs.Prelude.{◌≡◌, Some, IfOk};
 ghost use Rattle.command_line.specs.Words.{IsSized, workers_of};
 ghost use Rattle.text_answers.specs.Theorem.{IsNew};
-ghost use Rattle.text_streams.specs.Ends.{source, sink};
+ghost use Rattle.twe_io.specs.Ends.{source, sink};
 ghost use Rattle.twe_cli.specs.Answers.{Answers, Cause};
 ghost use Rattle.twe_cli.specs.Complete.{Completes};
 
@@ -11,8 +11,9 @@ use crate::telling::tell;
 use command_line::Command;
 use std::alloc::Global;
 use text_answers::{Answer, Book, Status, answer_input};
+use twe_base::Memory;
 use twe_frontend::refused_or_accepted;
-use twe_io::{Memory, Sink, Source};
+use twe_io::{Sink, Source};
 
 /// Carries out a command that asks for no workers: reads the text of a program from the source, or makes that of the load generator;
 /// checks it; runs it or replays a journal on it if the command asks for that; and writes the answer. All of it happens on the

@@ -1,11 +1,11 @@
 //! The writing of an answer.
-ghost use Rattle.text_streams.specs.Answers.{TellsMade};
-ghost use Rattle.text_streams.specs.Ends.{sink};
+ghost use Rattle.twe_io.specs.Answers.{TellsMade};
+ghost use Rattle.twe_io.specs.Ends.{sink};
 ghost use Rattle.twe_cli.specs.inner.Writing.{unwritten};
 
 use text_answers::{Answer, Status};
-use text_streams::Unwritten;
-use twe_io::{Memory, Sink};
+use twe_base::Memory;
+use twe_io::{Sink, Unwritten};
 
 /// Writes an answer, out before err, and returns the status of the call: the answer's status, or `WriteFault` after a
 /// failed write, after which nothing more is written. If no answer could be made, nothing is written, and the status is
@@ -22,5 +22,5 @@ pub(crate) fn tell<O: Sink, E: Sink>(
         write_fault: Status::WriteFault,
         memory: Status::Memory,
     };
-    text_streams::tell(made, unwritten, out, err)
+    twe_io::tell(made, unwritten, out, err)
 }

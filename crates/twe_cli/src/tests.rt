@@ -1,4 +1,4 @@
-//! What no run of the program shows: ends that fail, and workers that are at work at once. The rest is in `tests/cases/`.
+//! What no run of the program shows: ends that fail, and workers that are at work at once. The rest is in `tests/twe/`.
 use crate::top::twe;
 use floor_crew::{FreeGate, Gate, MeetGate};
 use std::alloc::Global;
@@ -6,9 +6,8 @@ use std::sync::Wait;
 use std::test::Fail;
 use std::thread::Threads;
 use text_answers::Book;
-use twe_io::{
-    Bytes, Calls, MemSink, MemSource, Memory, PlainSink, PlainSource, Sink, Source, Word,
-};
+use twe_base::{Bytes, Calls, Memory, Word};
+use twe_io::{MemSink, MemSource, PlainSink, PlainSource, Sink, Source};
 
 const INCREMENT: &[u8] = b"region A;\nint x in A = 41;\ntask void main() writes A { x = x + 1; }\n";
 

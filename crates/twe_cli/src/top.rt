@@ -1,9 +1,9 @@
 //! The top call: the whole program, apart from where its bytes come from and go to.
 ghost use Rattle.std.specs.Prelude.{◌≡◌, Option, Some, IfOk};
-ghost use Rattle.text_streams.specs.Answers.{on_err};
+ghost use Rattle.twe_io.specs.Answers.{on_err};
 ghost use Rattle.twe_cli.specs.Answers.{Answers};
 ghost use Rattle.twe_cli.specs.Complete.{Completes};
-ghost use Rattle.text_streams.specs.Ends.{source, sink};
+ghost use Rattle.twe_io.specs.Ends.{source, sink};
 ghost use Rattle.twe_report.specs.Texts as texts;
 ghost use Rattle.text_answers.specs.Theorem.{IsNew};
 ghost use Rattle.command_line.specs.Words.{IsMeaning, IsSized, Means};
@@ -19,7 +19,8 @@ use std::alloc::Global;
 use std::sync::Wait;
 use std::thread::Threads;
 use text_answers::{Answer, Book, Status};
-use twe_io::{Memory, Sink, Source, Word};
+use twe_base::{Memory, Word};
+use twe_io::{Sink, Source};
 use twe_report::usage_text;
 
 /// Carries out the command that the words mean. If it asks for workers, they run the program on threads of their own and pass the gate

@@ -1,7 +1,7 @@
 -- Where a rule fails, one failure comes first: what can't be is that each failure comes after another.
 use Rattle.std.proofs.Common.{◌≡◌, ◌⊎◌, ◌<◌, ◌≤◌, ℕ, zero, suc, inl, inr, sym, ap, ◌∙◌, arith}
-use Rattle.twe_io.specs.declared.place.Place.{Place}
-use Rattle.first_failure.specs.Order.{NotAfter}
+use Rattle.twe_base.specs.declared.place.Place.{Place}
+use Rattle.twe_base.specs.Order.{NotAfter}
 
 same_place : (a b : Place) → a.line ≡ b.line → a.col ≡ b.col → a ≡ b
 same_place a b e f =

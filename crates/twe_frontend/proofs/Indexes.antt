@@ -13,7 +13,7 @@ use Rattle.twe_ast.specs.declared.path.PathElem.{PathElem}
 use Rattle.twe_lexer.specs.declared.token.Token.{Token}
 use Rattle.twe_parser.specs.Writes.{MorePaths, no_more_paths, more_paths, WritesClause, clause, MoreClauses, no_more_clauses, more_clauses, WritesEffects, pure, clauses, WritesDecl, decl, WritesItem, regions, cell, array, grid, method, task, deterministic_task, WritesItems, no_more_items, more_items}
 use Rattle.twe_parser.specs.WritesPath.{WritesCellElem, cell_name, cell_index, MoreCellElems, no_more_cell_elems, more_cell_elems, WritesCellPath, cell_root, cell_region, WritesElem, name, index, parameter, any_index, star, MoreElems, no_more_elems, more_elems, WritesPath, root, region}
-use Rattle.cell_limits.specs.GoesOver.{cells_of_item, cells_of}
+use Rattle.name_check.specs.cell_limits.GoesOver.{cells_of_item, cells_of}
 use Rattle.name_check.specs.Limits.{decls_of_item, paths_of}
 use Rattle.twe_names.specs.FromText.{IsSmall, IsSmallInCell}
 use Rattle.twe_frontend.proofs.Literals.{SmallIndexes}

@@ -4,7 +4,7 @@ use Rattle.std.specs.Prelude.{nat_lt, ◌==◌}
 use Rattle.std.proofs.lemmas.Bool.{cond-true, cond-false, cases_Bool}
 use Rattle.std.proofs.lemmas.Bool.Decides.{nat_tests}
 use Rattle.std.proofs.lemmas.List.Sums.{fold-append}
-use Rattle.twe_io.specs.declared.place.Place.{Place}
+use Rattle.twe_base.specs.declared.place.Place.{Place}
 use Rattle.twe_lexer.specs.declared.fixed.Fixed.TheVariants as fixed
 use Rattle.twe_lexer.specs.declared.token.Token.{Token}
 use Rattle.twe_lexer.specs.declared.token.TokenKind.{TokenKind}
@@ -17,7 +17,7 @@ use Rattle.twe_parser.specs.declared.fail.SRule.{SRule}
 use Rattle.twe_parser.specs.declared.fail.SRule.TheVariants.{S4}
 use Rattle.twe_parser.specs.declared.limits.Sofar.{Sofar}
 use Rattle.twe_parser.specs.Fails.{Fails, too_large}
-use Rattle.twe_parser.specs.Limits.{sofar_after, sofar_of, at_start, is_too_large}
+use Rattle.twe_parser.specs.Limits.{sofar_after, sofar_of, limits_at_start, is_too_large}
 use Rattle.twe_parser.proofs.Cuts.{no_lexeme}
 
 -- the text begins with the tokens up to any of them
@@ -117,7 +117,7 @@ small_here sofar (kinds.Fixed fixed.OpenBracket) (u ∷ us) h = small_literal so
 small_here sofar _ ts h = tt
 
 sofar_of-snoc : (before : List Token) (t : Token) → sofar_of (before ++ t ∷ []) ≡ sofar_after (sofar_of before) t.kind
-sofar_of-snoc before t = fold-append (λ (sofar : Sofar) (token : Token). sofar_after sofar token.kind) at_start before (t ∷ [])
+sofar_of-snoc before t = fold-append (λ (sofar : Sofar) (token : Token). sofar_after sofar token.kind) limits_at_start before (t ∷ [])
 
 small_from : (whole : List Token) → ((b : List Token) (t : Token) (a : List Token) → whole ≡ b ++ t ∷ a → is_too_large (sofar_of b) t.kind ≡ false) → (before rest : List Token) → whole ≡ before ++ rest → SmallIndexes rest
 small_from whole fine before [] e = tt

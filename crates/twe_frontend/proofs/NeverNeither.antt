@@ -1,7 +1,7 @@
 -- No text is without a refusal and without a program.
 use Rattle.std.proofs.Common.{◌≡◌, ℕ, List, [], ◌∷◌, ◌++◌, refl, sym, ap, ◌∙◌, subst}
 use Rattle.std.proofs.lemmas.List.{append_assoc, append-nil}
-use Rattle.twe_io.specs.declared.place.Place.{Place}
+use Rattle.twe_base.specs.declared.place.Place.{Place}
 use Rattle.twe_ast.specs.declared.item.Ast.{Ast}
 use Rattle.twe_lexer.specs.declared.token.Token.{Token}
 use Rattle.twe_lexer.specs.Places.{place_after}
@@ -25,7 +25,7 @@ use Rattle.twe_frontend.proofs.WholeCut.{IsCut, whole_cut}
 module _ (text : List ℕ) (unrefused : (refusal : Refusal) → ¬ IsRefusal text refusal) where
   -- no rule of the text fails
   keeps_text : (rule : SRule) (place : Place) → ¬ text_rules.Fails text rule place
-  keeps_text = no_first-none text_rules.rank (text_rules.Fails text)
+  keeps_text = no_first-none text_rules.rule_rank (text_rules.Fails text)
       (λ rule place fails first. unrefused _ (of_text rule place (record { fails = fails; first = first })))
 
   -- each beginning of its tokens is one of a program's
@@ -59,11 +59,11 @@ module _ (text : List ℕ) (unrefused : (refusal : Refusal) → ¬ IsRefusal tex
         none (record { items = tree.items; end = place_after text }, record { tokens = tokens; cut = begins; writes = writes; end = refl; keeps = keeps_text }))
 
   keeps_names : (tree : Ast) → IsTreeOf text tree → (rule : NRule) (place : Place) → ¬ name_check.FailsName tree rule place
-  keeps_names tree parsed = no_first-none name_check.number_of (name_check.FailsName tree)
+  keeps_names tree parsed = no_first-none name_check.name_rule_number (name_check.FailsName tree)
       (λ rule place fails first. unrefused _ (of_names tree rule place parsed (record { fails = fails; first = first })))
 
   keeps_effects : (p : Program) → IsMeaningOf text p → (rule : ERule) (place : Place) → ¬ effect_rules.FailsEffect p rule place
-  keeps_effects p meant = no_first-none effect_rules.number_of (effect_rules.FailsEffect p)
+  keeps_effects p meant = no_first-none effect_rules.effect_rule_number (effect_rules.FailsEffect p)
       (λ rule place fails first. unrefused _ (of_effects p rule place meant (record { fails = fails; first = first })))
 
   pub never_neither : ¬ ¬ ((p : Program) × Accepted text p)

@@ -1,6 +1,6 @@
 -- A text has one answer: its program, or its refusal.
 use Rattle.std.proofs.Common.{◌≡◌, ◌≤◌, ℕ, ◌⊎◌, inl, inr, List, [], ◌∷◌, slice_index_or, refl, sym, ap, ◌∙◌, subst}
-use Rattle.twe_io.specs.declared.place.Place.{Place}
+use Rattle.twe_base.specs.declared.place.Place.{Place}
 use Rattle.twe_ast.specs.declared.item.Ast.{Ast}
 use Rattle.twe_parser.specs.declared.fail.SRule.{SRule}
 use Rattle.twe_parser.specs.declared.fail.SRule.TheVariants.{S1, S2, S3, S4, S5, S6}
@@ -18,12 +18,12 @@ use Rattle.twe_frontend.specs.declared.refusal.RuleName.{RuleName}
 use Rattle.twe_frontend.specs.declared.refusal.RuleName.TheVariants.{Text, Name, Effect}
 use Rattle.twe_frontend.specs.Accepted.{IsTreeOf, IsMeaningOf, Accepted, IsRefusal, of_text, of_names, of_effects}
 use Rattle.twe_frontend.proofs.SameTree.{OneTree, same_tree}
-use Rattle.first_failure.proofs.Order.{one_first}
+use Rattle.twe_base.proofs.Order.{one_first}
 
 abbrev text_named : ℕ → SRule
 text_named n = slice_index_or (S1 ∷ S1 ∷ S2 ∷ S3 ∷ S4 ∷ S5 ∷ S6 ∷ []) n S1
 
-text_back : (r : SRule) → text_named (text_rules.rank r) ≡ r
+text_back : (r : SRule) → text_named (text_rules.rule_rank r) ≡ r
 text_back S1 = refl
 text_back S2 = refl
 text_back S3 = refl
@@ -34,7 +34,7 @@ text_back S6 = refl
 abbrev name_named : ℕ → NRule
 name_named n = slice_index_or (N1 ∷ N1 ∷ N2 ∷ N3 ∷ N4 ∷ N5 ∷ N6 ∷ N7 ∷ N8 ∷ N9 ∷ []) n N1
 
-name_back : (r : NRule) → name_named (name_check.number_of r) ≡ r
+name_back : (r : NRule) → name_named (name_check.name_rule_number r) ≡ r
 name_back N1 = refl
 name_back N2 = refl
 name_back N3 = refl
@@ -48,7 +48,7 @@ name_back N9 = refl
 abbrev effect_named : ℕ → ERule
 effect_named n = slice_index_or (E1 ∷ E1 ∷ E2 ∷ E3 ∷ E4 ∷ E5 ∷ E6 ∷ E7 ∷ E8 ∷ []) n E1
 
-effect_back : (r : ERule) → effect_named (effect_rules.number_of r) ≡ r
+effect_back : (r : ERule) → effect_named (effect_rules.effect_rule_number r) ≡ r
 effect_back E1 = refl
 effect_back E2 = refl
 effect_back E3 = refl
@@ -72,21 +72,21 @@ keeps_names one text p tree rule place meant parsed fails =
 
 pub one_refusal : OneTree → (text : List ℕ) (refusal other : Refusal) → IsRefusal text refusal → IsRefusal text other → refusal ≡ other
 one_refusal one text refusal other (of_text rule place first) (of_text rule2 place2 again) =
-    let same = one_first text_rules.rank text_named text_back rule rule2 place place2 (first.first rule2 place2 again.fails) (again.first rule place first.fails) in
+    let same = one_first text_rules.rule_rank text_named text_back rule rule2 place place2 (first.first rule2 place2 again.fails) (again.first rule place first.fails) in
     same_refusal (Text rule) (Text rule2) place place2 (ap Text same.0) same.1
 one_refusal one text refusal other (of_text rule place first) (of_names tree rule2 place2 parsed again) = absurd (parsed.keeps rule place first.fails)
 one_refusal one text refusal other (of_text rule place first) (of_effects p rule2 place2 meant again) = absurd (meant.parsed.keeps rule place first.fails)
 one_refusal one text refusal other (of_names tree rule place parsed first) (of_text rule2 place2 again) = absurd (parsed.keeps rule2 place2 again.fails)
 one_refusal one text refusal other (of_names tree rule place parsed first) (of_names tree2 rule2 place2 parsed2 again) =
-    let moved = subst (λ (t : Ast). name_check.IsFirstFailure t rule2 place2) (same_tree one text tree2 tree parsed2 parsed) again in
-    let same = one_first name_check.number_of name_named name_back rule rule2 place place2 (first.first rule2 place2 moved.fails) (moved.first rule place first.fails) in
+    let moved = subst (λ (t : Ast). name_check.IsFirstNameFailure t rule2 place2) (same_tree one text tree2 tree parsed2 parsed) again in
+    let same = one_first name_check.name_rule_number name_named name_back rule rule2 place place2 (first.first rule2 place2 moved.fails) (moved.first rule place first.fails) in
     same_refusal (Name rule) (Name rule2) place place2 (ap Name same.0) same.1
 one_refusal one text refusal other (of_names tree rule place parsed first) (of_effects p rule2 place2 meant again) = absurd (keeps_names one text p tree rule place meant parsed first.fails)
 one_refusal one text refusal other (of_effects p rule place meant first) (of_text rule2 place2 again) = absurd (meant.parsed.keeps rule2 place2 again.fails)
 one_refusal one text refusal other (of_effects p rule place meant first) (of_names tree rule2 place2 parsed again) = absurd (keeps_names one text p tree rule2 place2 meant parsed again.fails)
 one_refusal one text refusal other (of_effects p rule place meant first) (of_effects p2 rule2 place2 meant2 again) =
-    let moved = subst (λ (q : Program). effect_rules.IsFirstFailure q rule2 place2) (same_program one text p2 p meant2 meant) again in
-    let same = one_first effect_rules.number_of effect_named effect_back rule rule2 place place2 (first.first rule2 place2 moved.fails) (moved.first rule place first.fails) in
+    let moved = subst (λ (q : Program). effect_rules.IsFirstEffectFailure q rule2 place2) (same_program one text p2 p meant2 meant) again in
+    let same = one_first effect_rules.effect_rule_number effect_named effect_back rule rule2 place place2 (first.first rule2 place2 moved.fails) (moved.first rule place first.fails) in
     same_refusal (Effect rule) (Effect rule2) place place2 (ap Effect same.0) same.1
 
 pub not_refused : OneTree → (text : List ℕ) (p : Program) (refusal : Refusal) → Accepted text p → IsRefusal text refusal → ⊥

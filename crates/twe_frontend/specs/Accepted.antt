@@ -1,6 +1,6 @@
 -- The refusal of a text, and the program of a text that has none.
 use Rattle.std.specs.Prelude.{◌≡◌, List, [], ℕ}
-use Rattle.twe_io.specs.declared.place.Place.{Place}
+use Rattle.twe_base.specs.declared.place.Place.{Place}
 use Rattle.twe_ast.specs.declared.item.Ast.{Ast}
 use Rattle.twe_lexer.specs.declared.token.Token.{Token}
 use Rattle.twe_lexer.specs.Places.{place_after}
@@ -41,8 +41,10 @@ pub record Accepted (text : List ℕ) (p : Program) : Type 0 where
 -- one class the first failure in the text counts.
 pub data IsRefusal (text : List ℕ) : Refusal → Type 0 where
   of_text : (rule : SRule) (place : Place)
-      → text_rules.IsRefusal text rule place → IsRefusal text (record { rule = Text rule; place = place })
+      → text_rules.IsSyntaxFailure text rule place → IsRefusal text (record { rule = Text rule; place = place })
   of_names : (tree : Ast) (rule : NRule) (place : Place)
-      → IsTreeOf text tree → name_check.IsFirstFailure tree rule place → IsRefusal text (record { rule = Name rule; place = place })
+      → IsTreeOf text tree → name_check.IsFirstNameFailure tree rule place
+      → IsRefusal text (record { rule = Name rule; place = place })
   of_effects : (p : Program) (rule : ERule) (place : Place)
-      → IsMeaningOf text p → effect_rules.IsFirstFailure p rule place → IsRefusal text (record { rule = Effect rule; place = place })
+      → IsMeaningOf text p → effect_rules.IsFirstEffectFailure p rule place
+      → IsRefusal text (record { rule = Effect rule; place = place })

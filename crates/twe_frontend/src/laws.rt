@@ -24,7 +24,8 @@ pub fn one_refusal()
 /// no clause decides which of the two it is: that is what `read_program` does.
 pub fn refused_or_accepted()
     ensures never_both { (text : List ℕ) (p : Program) (refusal : Refusal) → Accepted text p → ¬ IsRefusal text refusal }
-    ensures never_neither { (text : List ℕ) → ((refusal : Refusal) → ¬ IsRefusal text refusal) → ¬ ¬ ((p : Program) × Accepted text p) }
+    ensures never_neither { (text : List ℕ) → ((refusal : Refusal) → ¬ IsRefusal text refusal)
+        → ¬ ¬ ((p : Program) × Accepted text p) }
 {
     one_tree();
 }

@@ -8,7 +8,7 @@ use effect_check::{CheckFail, check};
 use std::alloc::Global;
 use std::fmt;
 use twe_ast::Ast;
-use twe_io::Memory;
+use twe_base::Memory;
 use twe_names::{NameFail, resolve};
 use twe_parser::{ParseFail, parse};
 use twe_program::Prog;

@@ -2,7 +2,7 @@
 
 use effect_check::ERule;
 use name_check::NRule;
-use twe_io::Place;
+use twe_base::Place;
 use twe_parser::SRule;
 
 /// The name of a rule that a text can fail.

@@ -15,14 +15,14 @@ use Rattle.ast_printer.specs.Text.{bytes_of, gap_after, text_of}
 use Rattle.ast_printer.specs.PathTokens.{elem_tokens, elems_tokens, path_tokens}
 use Rattle.ast_printer.specs.ItemTokens.{paths_tokens, effects_tokens}
 use Rattle.ast_printer.proofs.Texts.{append_text}
-use Rattle.first_failure.proofs.Members.{all-front, all-back}
-use Rattle.pasting_laws.specs.Clauses.{name_at, texts_of, kind_of, elem_of, path_of, clause_of, reads_of, writes_of, clauses_of, IsWritable, CanBeWritten}
-use Rattle.twe_infer.specs.Order.{paths_of}
+use Rattle.twe_base.proofs.Members.{all-front, all-back}
+use Rattle.pasting_laws.specs.Clauses.{name_at, texts_of, clause_kind_of, elem_of, clause_path_of, clause_of, reads_of, writes_of, clauses_of, IsWritable, CanBeWritten}
+use Rattle.twe_infer.specs.Order.{summary_paths_of}
 use Rattle.twe_infer.specs.Texts.{in_brackets, element_text, more_elements, path_text, more_paths, paths_text, clauses_text, summary_text}
-use Rattle.twe_infer.specs.Pasting.{effect_on, in_line, is_blank, without_blanks}
+use Rattle.twe_infer.specs.Pasting.{effect_on, in_line, is_blank_byte, without_blanks}
 
 abbrev keeps : ℕ → Bool
-keeps code = not (is_blank code)
+keeps code = not (is_blank_byte code)
 
 parts : (one other : List ℕ) → without_blanks (one ++ other) ≡ without_blanks one ++ without_blanks other
 parts one other = filter-append keeps one other
@@ -50,7 +50,7 @@ module _ (regions : List (List ℕ)) (params : List written.Name) where
   abbrev texts : List (List ℕ)
   texts = texts_of params
 
-  elem-same : (e : Elem) → IsWritable e → without_blanks (element_text regions params e) ≡ without_blanks (text_of (elem_tokens (kind_of regions texts e)))
+  elem-same : (e : Elem) → IsWritable e → without_blanks (element_text regions params e) ≡ without_blanks (text_of (elem_tokens (clause_kind_of regions texts e)))
   elem-same (Name n) h = sym (one-word (kinds.Name (name_at regions n)) [] ∙ append-nil (without_blanks (name_at regions n)))
   elem-same (Index (pos i)) h = in-brackets (kinds.Literal i)
   elem-same (Index (negsuc i)) h = absurd h
@@ -62,35 +62,35 @@ module _ (regions : List (List ℕ)) (params : List written.Name) where
   more-same (e ∷ es) h =
       ap (λ (more : List ℕ). 58 ∷ more)
       (parts (element_text regions params e) (more_elements regions params es) ∙ (λ i. elem-same e h.0 i ++ more-same es h.1 i)
-      ∙ sym (both-words (elem_tokens (kind_of regions texts e)) (elems_tokens true (map (elem_of regions texts) es))))
+      ∙ sym (both-words (elem_tokens (clause_kind_of regions texts e)) (elems_tokens true (map (elem_of regions texts) es))))
 
   rooted : (es : List Elem) → AllByRecursion IsWritable es
       → without_blanks (codes "Root" ++ more_elements regions params es) ≡ without_blanks (text_of (kinds.Fixed fixed.Root ∷ elems_tokens true (map (elem_of regions texts) es)))
   rooted es h = ap (λ (more : List ℕ). 82 ∷ 111 ∷ 111 ∷ 116 ∷ more) (more-same es h)
 
   path-same : (write : Bool) (es : List Elem) → AllByRecursion IsWritable es
-      → without_blanks (path_text regions params es) ≡ without_blanks (text_of (path_tokens (path_of regions texts (effect_on write es))))
+      → without_blanks (path_text regions params es) ≡ without_blanks (text_of (path_tokens (clause_path_of regions texts (effect_on write es))))
   path-same write [] h = refl
   path-same write (Name n ∷ es) h =
       parts (element_text regions params (Name n)) (more_elements regions params es) ∙ (λ i. elem-same (Name n) h.0 i ++ more-same es h.1 i)
-      ∙ sym (both-words (elem_tokens (kind_of regions texts (Name n))) (elems_tokens true (map (elem_of regions texts) es)))
+      ∙ sym (both-words (elem_tokens (clause_kind_of regions texts (Name n))) (elems_tokens true (map (elem_of regions texts) es)))
   path-same write (Index i ∷ es) h = rooted (Index i ∷ es) h
   path-same write (Var k ∷ es) h = rooted (Var k ∷ es) h
   path-same write (AnyIndex ∷ es) h = rooted (AnyIndex ∷ es) h
 
   more_paths-same : (write : Bool) (paths : List (List Elem)) → AllByRecursion (λ (es : List Elem). AllByRecursion IsWritable es) paths
-      → without_blanks (more_paths regions params paths) ≡ without_blanks (text_of (paths_tokens true (map (path_of regions texts) (map (effect_on write) paths))))
+      → without_blanks (more_paths regions params paths) ≡ without_blanks (text_of (paths_tokens true (map (clause_path_of regions texts) (map (effect_on write) paths))))
   more_paths-same write [] h = refl
   more_paths-same write (es ∷ paths) h =
       ap (λ (more : List ℕ). 44 ∷ more)
       (parts (path_text regions params es) (more_paths regions params paths) ∙ (λ i. path-same write es h.0 i ++ more_paths-same write paths h.1 i)
-      ∙ sym (both-words (path_tokens (path_of regions texts (effect_on write es))) (paths_tokens true (map (path_of regions texts) (map (effect_on write) paths)))))
+      ∙ sym (both-words (path_tokens (clause_path_of regions texts (effect_on write es))) (paths_tokens true (map (clause_path_of regions texts) (map (effect_on write) paths)))))
 
   paths-same : (write : Bool) (es : List Elem) (paths : List (List Elem)) → AllByRecursion IsWritable es → AllByRecursion (λ (es : List Elem). AllByRecursion IsWritable es) paths
-      → without_blanks (paths_text regions params (es ∷ paths)) ≡ without_blanks (text_of (paths_tokens false (map (path_of regions texts) (map (effect_on write) (es ∷ paths)))))
+      → without_blanks (paths_text regions params (es ∷ paths)) ≡ without_blanks (text_of (paths_tokens false (map (clause_path_of regions texts) (map (effect_on write) (es ∷ paths)))))
   paths-same write es paths h k =
       parts (path_text regions params es) (more_paths regions params paths) ∙ (λ i. path-same write es h i ++ more_paths-same write paths k i)
-      ∙ sym (both-words (path_tokens (path_of regions texts (effect_on write es))) (paths_tokens true (map (path_of regions texts) (map (effect_on write) paths))))
+      ∙ sym (both-words (path_tokens (clause_path_of regions texts (effect_on write es))) (paths_tokens true (map (clause_path_of regions texts) (map (effect_on write) paths))))
 
   -- the clauses of these reads and these writes
   clauses-same : (reads writes : List (List Elem)) → AllByRecursion (λ (es : List Elem). AllByRecursion IsWritable es) reads → AllByRecursion (λ (es : List Elem). AllByRecursion IsWritable es) writes
@@ -98,14 +98,14 @@ module _ (regions : List (List ℕ)) (params : List written.Name) where
       ≡ without_blanks (text_of (effects_tokens (clause_of regions texts false (map (effect_on false) reads) ++ clause_of regions texts true (map (effect_on true) writes))))
   clauses-same [] [] h k = refl
   clauses-same (r ∷ reads) [] h k =
-      let tokens : List TokenKind = paths_tokens false (map (path_of regions texts) (map (effect_on false) (r ∷ reads))) in
+      let tokens : List TokenKind = paths_tokens false (map (clause_path_of regions texts) (map (effect_on false) (r ∷ reads))) in
       ap (λ (more : List ℕ). 114 ∷ 101 ∷ 97 ∷ 100 ∷ 115 ∷ more) (paths-same false r reads h.0 h.1 ∙ ap (λ (t : List TokenKind). without_blanks (text_of t)) (sym (append-nil tokens)))
   clauses-same [] (w ∷ writes) h k =
-      let tokens : List TokenKind = paths_tokens false (map (path_of regions texts) (map (effect_on true) (w ∷ writes))) in
+      let tokens : List TokenKind = paths_tokens false (map (clause_path_of regions texts) (map (effect_on true) (w ∷ writes))) in
       ap (λ (more : List ℕ). 119 ∷ 114 ∷ 105 ∷ 116 ∷ 101 ∷ 115 ∷ more) (paths-same true w writes k.0 k.1 ∙ ap (λ (t : List TokenKind). without_blanks (text_of t)) (sym (append-nil tokens)))
   clauses-same (r ∷ reads) (w ∷ writes) h k =
-      let read_tokens : List TokenKind = paths_tokens false (map (path_of regions texts) (map (effect_on false) (r ∷ reads))) in
-      let tokens : List TokenKind = paths_tokens false (map (path_of regions texts) (map (effect_on true) (w ∷ writes))) in
+      let read_tokens : List TokenKind = paths_tokens false (map (clause_path_of regions texts) (map (effect_on false) (r ∷ reads))) in
+      let tokens : List TokenKind = paths_tokens false (map (clause_path_of regions texts) (map (effect_on true) (w ∷ writes))) in
       let write_part : without_blanks (codes " writes " ++ paths_text regions params (w ∷ writes)) ≡ without_blanks (text_of (kinds.Fixed fixed.Writes ∷ (tokens ++ []))) =
       ap (λ (more : List ℕ). 119 ∷ 114 ∷ 105 ∷ 116 ∷ 101 ∷ 115 ∷ more) (paths-same true w writes k.0 k.1 ∙ ap (λ (t : List TokenKind). without_blanks (text_of t)) (sym (append-nil tokens))) in
       ap (λ (more : List ℕ). 114 ∷ 101 ∷ 97 ∷ 100 ∷ 115 ∷ more)
@@ -133,8 +133,8 @@ writable write (es ∷ paths) h = (h.0, writable write paths h.1)
 pub line-clauses : (regions : List (List ℕ)) (params : List written.Name) (summary : Summary) → CanBeWritten (in_line summary)
     → without_blanks (summary_text regions params summary) ≡ without_blanks (text_of (effects_tokens (clauses_of regions (texts_of params) (in_line summary))))
 line-clauses regions params summary can =
-    let reads = paths_of false summary.effects in
-    let writes = paths_of true summary.effects in
+    let reads = summary_paths_of false summary.effects in
+    let writes = summary_paths_of true summary.effects in
     let front = all-front (λ (effect : Effect). AllByRecursion IsWritable effect.path.elems) (map (effect_on false) reads) (map (effect_on true) writes) can.literals in
     let back = all-back (λ (effect : Effect). AllByRecursion IsWritable effect.path.elems) (map (effect_on false) reads) (map (effect_on true) writes) can.literals in
     clauses-same regions params reads writes (writable false reads front) (writable true writes back)

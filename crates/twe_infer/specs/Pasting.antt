@@ -3,7 +3,7 @@ use Rattle.std.specs.Prelude.{ℕ, Bool, true, false, not, ◌==◌, ◌||◌, L
 use Rattle.region_paths.specs.declared.elements.Elem.{Elem}
 use Rattle.effect_sets.specs.declared.effects.Effect.{Effect}
 use Rattle.effect_sets.specs.declared.effects.Summary.{Summary}
-use Rattle.twe_infer.specs.Order.{paths_of}
+use Rattle.twe_infer.specs.Order.{summary_paths_of}
 
 -- a read or a write of the path with these elements
 abbrev pub effect_on : Bool → List Elem → Effect
@@ -11,11 +11,15 @@ effect_on write elems = record { write = write; path = record { elems = elems; s
 
 -- the summary in the order of its line: what is only read, and then what is written, each in the order of the paths
 abbrev pub in_line : Summary → Summary
-in_line summary = record { effects = map (effect_on false) (paths_of false summary.effects) ++ map (effect_on true) (paths_of true summary.effects) }
+in_line summary = record {
+  effects = map (effect_on false) (summary_paths_of false summary.effects)
+      ++ map (effect_on true) (summary_paths_of true summary.effects);
+}
 
-abbrev pub is_blank : ℕ → Bool
-is_blank code = code == 32 || code == 10
+-- the byte is a space, or the end of a line
+abbrev pub is_blank_byte : ℕ → Bool
+is_blank_byte code = code == 32 || code == 10
 
 -- the text without its spaces and ends of lines
 abbrev pub without_blanks : List ℕ → List ℕ
-without_blanks text = filter (λ code. not (is_blank code)) text
+without_blanks text = filter (λ code. not (is_blank_byte code)) text

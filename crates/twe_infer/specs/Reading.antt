@@ -5,6 +5,6 @@ use Rattle.twe_frontend.specs.declared.read.FrontFail.TheVariants.{Refused, OutO
 use Rattle.twe_infer.specs.Meaning.{IsRefusedBefore}
 
 -- the cause of an error: the refusal of the text; nothing is said of want of memory
-abbrev pub HasCause : List ℕ → FrontFail → Type 0
-HasCause text (Refused refusal) = IsRefusedBefore text refusal
-HasCause text (OutOfMemory memory) = Unit {0}
+abbrev pub ReadingHasCause : List ℕ → FrontFail → Type 0
+ReadingHasCause text (Refused refusal) = IsRefusedBefore text refusal
+ReadingHasCause text (OutOfMemory memory) = Unit {0}

@@ -7,21 +7,23 @@ use Rattle.effect_sets.specs.declared.effects.Summary.{Summary}
 use Rattle.twe_ast.specs.declared.name.Name as written
 use Rattle.twe_ast.specs.declared.item.Item.{Item}
 use Rattle.twe_ast.specs.declared.item.Item.TheVariants.{Regions, Cell, Method, Task}
-use Rattle.twe_infer.specs.Order.{paths_of}
+use Rattle.twe_infer.specs.Order.{summary_paths_of}
 
 -- the name of this number; every one is there
-abbrev pub name_at : List (List ℕ) → ℕ → List ℕ
-name_at names number = slice_index_or names number []
+abbrev pub name_at_number : List (List ℕ) → ℕ → List ℕ
+name_at_number names number = slice_index_or names number []
 
+-- the name of the parameter of this number
 abbrev pub parameter_at : List written.Name → ℕ → List ℕ
-parameter_at params number = name_at (map (λ (name : written.Name). name.text) params) number
+parameter_at params number = name_at_number (map (λ (name : written.Name). name.text) params) number
 
+-- the text in brackets
 abbrev pub in_brackets : List ℕ → List ℕ
 in_brackets text = codes "[" ++ (text ++ codes "]")
 
 -- `D`, `[7]`, `[j]` or `[?]`
 abbrev pub element_text : List (List ℕ) → List written.Name → Elem → List ℕ
-element_text regions params (Name n) = name_at regions n
+element_text regions params (Name n) = name_at_number regions n
 element_text regions params (Index i) = in_brackets (signed_decimal i)
 element_text regions params (Var k) = in_brackets (parameter_at params k)
 element_text regions params AnyIndex = codes "[?]"
@@ -44,6 +46,7 @@ abbrev pub more_paths : List (List ℕ) → List written.Name → List (List Ele
 more_paths regions params [] = []
 more_paths regions params (path ∷ paths) = codes ", " ++ (path_text regions params path ++ more_paths regions params paths)
 
+-- the paths, with `, ` between them
 abbrev pub paths_text : List (List ℕ) → List written.Name → List (List Elem) → List ℕ
 paths_text regions params [] = []
 paths_text regions params (path ∷ paths) = path_text regions params path ++ more_paths regions params paths
@@ -56,25 +59,28 @@ clauses_text regions params [] (w ∷ writes) = codes "writes " ++ paths_text re
 clauses_text regions params (r ∷ reads) (w ∷ writes) =
     codes "reads " ++ (paths_text regions params (r ∷ reads) ++ (codes " writes " ++ paths_text regions params (w ∷ writes)))
 
+-- the clauses of a summary: what is only read and what is written, the paths of each in their order
 abbrev pub summary_text : List (List ℕ) → List written.Name → Summary → List ℕ
-summary_text regions params summary = clauses_text regions params (paths_of false summary.effects) (paths_of true summary.effects)
+summary_text regions params summary =
+    clauses_text regions params (summary_paths_of false summary.effects) (summary_paths_of true summary.effects)
 
 -- `get: reads D:[j]`
 abbrev pub line_of : List ℕ → List (List ℕ) → List written.Name → Summary → List ℕ
 line_of name regions params summary = name ++ (codes ": " ++ (summary_text regions params summary ++ 10 ∷ []))
 
 -- a line for each method, in the order of the declarations
-abbrev pub lines_of : List (List ℕ) → List Summary → List Item → List ℕ
-lines_of regions summaries [] = []
-lines_of regions summaries (Regions names ∷ items) = lines_of regions summaries items
-lines_of regions summaries (Cell cell ∷ items) = lines_of regions summaries items
-lines_of regions summaries (Task deterministic decl ∷ items) = lines_of regions summaries items
-lines_of regions [] (Method decl ∷ items) = lines_of regions [] items
-lines_of regions (summary ∷ summaries) (Method decl ∷ items) =
-    line_of decl.name.text regions decl.params summary ++ lines_of regions summaries items
+abbrev pub summary_lines_of : List (List ℕ) → List Summary → List Item → List ℕ
+summary_lines_of regions summaries [] = []
+summary_lines_of regions summaries (Regions names ∷ items) = summary_lines_of regions summaries items
+summary_lines_of regions summaries (Cell cell ∷ items) = summary_lines_of regions summaries items
+summary_lines_of regions summaries (Task deterministic decl ∷ items) = summary_lines_of regions summaries items
+summary_lines_of regions [] (Method decl ∷ items) = summary_lines_of regions [] items
+summary_lines_of regions (summary ∷ summaries) (Method decl ∷ items) =
+    line_of decl.name.text regions decl.params summary ++ summary_lines_of regions summaries items
 
-abbrev pub usage_text : List ℕ
-usage_text = codes "usage: twe_infer" ++ 10 ∷ []
+-- the usage line of `twe_infer`
+abbrev pub infer_usage_text : List ℕ
+infer_usage_text = codes "usage: twe_infer" ++ 10 ∷ []
 
 -- `too many effects: f`
 abbrev pub too_many_text : List ℕ → List ℕ

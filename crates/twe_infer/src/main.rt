@@ -12,9 +12,8 @@ mod text;
 mod top;
 
 use std::process::ExitCode;
-use text_streams::words_of;
 use top::infer_top;
-use twe_io::{StdSink, StdSource};
+use twe_io::{StdSink, StdSource, words_of};
 
 fn main(rt: HostRuntime) -> ExitCode {
     let alloc = rt.alloc();

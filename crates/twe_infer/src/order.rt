@@ -1,15 +1,15 @@
 //! The order in which paths are written.
 ghost use Rattle.std.specs.Prelude.{◌≡◌, ◌≤◌, length, IfOk};
-ghost use Rattle.twe_infer.specs.Order.{comes_before, element_before, is_same, kind_of, paths_of, place_in};
+ghost use Rattle.twe_infer.specs.Order.{comes_before, element_before, is_same, order_kind_of, summary_paths_of, place_in};
 
 use effect_sets::Summary;
 use region_paths::{Elem, Elems};
 use std::alloc::Global;
-use twe_io::Memory;
+use twe_base::Memory;
 
 /// The place of an element's kind in the order: names, literals, parameters, any index.
 fn kind(elem: Elem) -> u8
-    ensures { result ≡ kind_of elem }
+    ensures { result ≡ order_kind_of elem }
 {
     match elem {
         Elem::Name(_) => 0,
@@ -72,7 +72,7 @@ fn is_same(first: bool, second: bool) -> bool
 
 /// The paths of the effects that write, or of those that only read, in their order.
 pub(crate) fn paths_of(alloc: Global, summary: &Summary, write: bool) -> Result<Vec<Elems>, Memory>
-    ensures { IfOk result (λ paths. paths.items ≡ paths_of write summary.now.effects) }
+    ensures { IfOk result (λ paths. paths.items ≡ summary_paths_of write summary.now.effects) }
 {
     let mut paths = Vec::new(alloc);
     for effect in summary.effects.as_slice() {

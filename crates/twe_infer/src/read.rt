@@ -1,8 +1,8 @@
 //! From a text to its tree and its program. The rules on effects are not looked at.
 ghost use Rattle.std.specs.Prelude.{◌+◌, ◌<◌, ◌^◌, length, IfErr, IfOk, OnOk};
 ghost use Rattle.twe_frontend.specs.Accepted.{IsTreeOf};
-ghost use Rattle.twe_infer.specs.Meaning.{Means};
-ghost use Rattle.twe_infer.specs.Reading.{HasCause};
+ghost use Rattle.twe_infer.specs.Meaning.{TextMeans};
+ghost use Rattle.twe_infer.specs.Reading.{ReadingHasCause};
 
 use std::alloc::Global;
 use twe_ast::Ast;
@@ -24,7 +24,7 @@ pub(crate) struct Meaning {
 fn tree_of(alloc: Global, text: &[u8]) -> Result<Ast, FrontFail>
     ensures tree { IfOk result (IsTreeOf text.now) }
     ensures countable { OnOk result (length text.now + 1 < 2 ^ 32) }
-    ensures refused { IfErr result (HasCause text.now) }
+    ensures refused { IfErr result (ReadingHasCause text.now) }
 {
     match parse(alloc, text) {
         Ok(tree) => Ok(tree),
@@ -38,8 +38,8 @@ fn tree_of(alloc: Global, text: &[u8]) -> Result<Ast, FrontFail>
 
 /// The tree and the program of a text that keeps the rules of the text and those of names.
 pub(crate) fn read_meaning(alloc: Global, text: &[u8]) -> Result<Meaning, FrontFail>
-    ensures meaning { IfOk result (λ meaning. Means text.now meaning.tree meaning.program) }
-    ensures refused { IfErr result (HasCause text.now) }
+    ensures meaning { IfOk result (λ meaning. TextMeans text.now meaning.tree meaning.program) }
+    ensures refused { IfErr result (ReadingHasCause text.now) }
 {
     parsed_trees_are_from_texts();
     let tree = tree_of(alloc, text)?;

@@ -1,6 +1,6 @@
 //! The statuses that the program ends with.
 ghost use Rattle.std.specs.Prelude.{◌≡◌};
-ghost use Rattle.twe_infer.specs.Codes.{code_of};
+ghost use Rattle.twe_infer.specs.Codes.{infer_code_of};
 
 /// What a call of the program comes to.
 #[derive(Clone, Copy, Debug, PartialEq, Eq)]
@@ -26,7 +26,7 @@ pub enum InferStatus {
 impl InferStatus {
     /// The number that the process ends with.
     pub fn code(self) -> u8
-        ensures { result ≡ code_of self }
+        ensures { result ≡ infer_code_of self }
     {
         match self {
             InferStatus::Done => 0,

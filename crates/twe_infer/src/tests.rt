@@ -1,8 +1,9 @@
-//! What no run of the program shows: ends that fail. The rest is in `tests/infer_cases/`.
+//! What no run of the program shows: ends that fail. The rest is in `tests/twe_infer/`.
 use crate::top::infer_top;
 use std::alloc::Global;
 use std::test::Fail;
-use twe_io::{Bytes, Calls, MemSink, MemSource, Memory, Word};
+use twe_base::{Bytes, Calls, Memory, Word};
+use twe_io::{MemSink, MemSource};
 
 const TEXT: &[u8] = b"void f() pure { }\ntask void main() pure { }\n";
 

@@ -1,6 +1,6 @@
 //! The lines that are written.
 ghost use Rattle.std.specs.Prelude.{◌≡◌, ◌∷◌, [], ◌++◌, IfOk, OnOk};
-ghost use Rattle.twe_infer.specs.Texts.{clauses_text, element_text, in_brackets, line_of, lines_of, more_elements, more_paths, name_at, parameter_at, path_text, paths_text, summary_text};
+ghost use Rattle.twe_infer.specs.Texts.{clauses_text, element_text, in_brackets, line_of, summary_lines_of, more_elements, more_paths, name_at_number, parameter_at, path_text, paths_text, summary_text};
 ghost use Rattle.twe_infer.specs.Texts as texts;
 
 use crate::order::paths_of;
@@ -9,11 +9,11 @@ use itoa::Buffer;
 use region_paths::{Elem, Elems};
 use std::alloc::Global;
 use twe_ast::{Decl, Item, Name};
-use twe_io::{Bytes, Memory, Word};
+use twe_base::{Bytes, Memory, Word};
 
 /// Appends the name of this number.
 fn push_name(text: &mut Bytes, names: &[Word], number: u32) -> Result<(), Memory>
-    ensures { OnOk result (text.new ≡ text.old ++ name_at names.now number) }
+    ensures { OnOk result (text.new ≡ text.old ++ name_at_number names.now number) }
 {
     match names.get(number as usize) {
         None => Ok(()),
@@ -180,7 +180,7 @@ pub(crate) fn lines_of(
     summaries: &[Summary],
     items: &[Item],
 ) -> Result<Bytes, Memory>
-    ensures { IfOk result (λ text. text ≡ lines_of regions.now summaries.now items.now) }
+    ensures { IfOk result (λ text. text ≡ summary_lines_of regions.now summaries.now items.now) }
 {
     let mut text = Bytes::new(alloc);
     let mut at = 0;
@@ -197,7 +197,7 @@ pub(crate) fn lines_of(
 
 /// The usage line.
 pub(crate) fn usage_text(alloc: Global) -> Result<Bytes, Memory>
-    ensures { IfOk result (λ text. text ≡ texts.usage_text) }
+    ensures { IfOk result (λ text. text ≡ texts.infer_usage_text) }
 {
     Bytes::from_slice(alloc, b"usage: twe_infer\n")
 }

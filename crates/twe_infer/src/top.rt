@@ -1,8 +1,8 @@
 //! The top call: the whole program, apart from where its bytes come from and go to.
 ghost use Rattle.std.specs.Prelude.{IfOk};
-ghost use Rattle.twe_infer.specs.Answers.{Answers, Cause, Due};
-ghost use Rattle.text_streams.specs.Ends.{sink, source};
-ghost use Rattle.twe_infer.specs.Meaning.{Means};
+ghost use Rattle.twe_infer.specs.Answers.{AnswersInfer, InferCause, InferDue};
+ghost use Rattle.twe_io.specs.Ends.{sink, source};
+ghost use Rattle.twe_infer.specs.Meaning.{TextMeans};
 ghost use Rattle.twe_infer.specs.inner.Given.{AnswersRead};
 
 use crate::read::{Meaning, read_meaning};
@@ -10,13 +10,13 @@ use crate::status::InferStatus;
 use crate::text::{lines_of, too_many_text, usage_text};
 use effect_infer::{InferFail, infer};
 use std::alloc::Global;
-use text_streams::{Unwritten, read_text, tell};
+use twe_base::{Bytes, Memory, Word};
 use twe_frontend::FrontFail;
-use twe_io::{Bytes, Memory, ReadFail, Sink, Source, Word};
+use twe_io::{ReadFail, Sink, Source, Unwritten, read_text, tell};
 use twe_report::{read_fault_text, refusal_text, too_long_text};
 
 /// An answer of this program.
-type Answer = text_streams::Answer<InferStatus>;
+type Answer = twe_io::Answer<InferStatus>;
 
 /// Reads the text of a program from the source, and writes the least summary of each of its methods, a line for each.
 ///
@@ -29,7 +29,8 @@ pub fn infer_top<S: Source, O: Sink, E: Sink>(
     out: &mut O,
     err: &mut E,
 ) -> InferStatus
-    ensures { Answers (source S.left S.faults S.read_gives) (sink O.written O.faults O.write_gives) (sink E.written E.faults E.write_gives)
+    ensures { AnswersInfer (source S.left S.faults S.read_gives) (sink O.written O.faults O.write_gives)
+        (sink E.written E.faults E.write_gives)
         words.now src.old src.new out.old out.new err.old err.new result }
 {
     let made = answer(alloc, words, src);
@@ -42,7 +43,7 @@ pub fn infer_top<S: Source, O: Sink, E: Sink>(
 
 /// The answer to these words.
 fn answer<S: Source>(alloc: Global, words: &[Word], src: &mut S) -> Result<Answer, Memory>
-    ensures { IfOk result (Cause (source S.left S.faults S.read_gives) words.now src.old src.new) }
+    ensures { IfOk result (InferCause (source S.left S.faults S.read_gives) words.now src.old src.new) }
 {
     match words {
         [] => {
@@ -75,7 +76,7 @@ fn answer_read(alloc: Global, read: Result<Bytes, ReadFail>) -> Result<Answer, M
 
 /// The answer to a text.
 fn answer_text(alloc: Global, text: &[u8]) -> Result<Answer, Memory>
-    ensures { IfOk result (Due text.now) }
+    ensures { IfOk result (InferDue text.now) }
 {
     match read_meaning(alloc, text) {
         Ok(meaning) => answer_meaning(alloc, text, &meaning),
@@ -90,8 +91,8 @@ fn answer_text(alloc: Global, text: &[u8]) -> Result<Answer, Memory>
 
 /// The answer to a text with this meaning.
 fn answer_meaning(alloc: Global, text: &[u8], meaning: &Meaning) -> Result<Answer, Memory>
-    requires { Means text.now meaning.now.tree meaning.now.program }
-    ensures { IfOk result (Due text.now) }
+    requires { TextMeans text.now meaning.now.tree meaning.now.program }
+    ensures { IfOk result (InferDue text.now) }
 {
     let _ = text;
     let p = &meaning.program;

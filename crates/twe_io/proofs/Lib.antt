@@ -2,3 +2,5 @@ pub mod Progress
 pub mod TooLong
 pub mod MemReads
 pub mod MemWrites
+mod Read
+mod Written

@@ -5,7 +5,7 @@ use Rattle.std.proofs.Math.Seq.{take-add}
 use Rattle.std.proofs.lemmas.Bool.{cases_lt}
 use Rattle.twe_io.specs.Faults.{one_more}
 use Rattle.twe_io.specs.Memory.{MemWriting, WritesMem, IsFirstUse}
-use Rattle.twe_io.specs.Runs.{Writes, WritesWhole}
+use Rattle.twe_io.specs.Runs.{WriteCalls, WritesWhole}
 
 -- how many bytes the calls took together, after one call more
 count_step : (size taken calls step more room used : ℕ) → 1 ≤ step → size ≤ 2 ^ 64 - 1 → taken ≡ min size (calls * step)
@@ -77,9 +77,9 @@ module _ (first : MemWriting) (text : List ℕ) (stepping : 1 ≤ first.step) (s
             omega (arith, calls, never);
       }
 
-  pub took_of : {taken : ℕ} {now : MemWriting} → Writes WritesMem text first taken now → TookOf first text now taken
-  took_of Writes.none = TookOf-none
-  took_of (Writes.write {n} {before} {after} taken more writes less some step e) =
+  pub took_of : {taken : ℕ} {now : MemWriting} → WriteCalls WritesMem text first taken now → TookOf first text now taken
+  took_of WriteCalls.none = TookOf-none
+  took_of (WriteCalls.write {n} {before} {after} taken more writes less some step e) =
       subst (TookOf first text after) e (TookOf-more before after taken more (took_of writes) step)
 
 -- after the calls before the first that fails, these bytes are taken, and it fails where these are not all

@@ -6,7 +6,7 @@ use Rattle.std.proofs.lemmas.Slice.{take-put_mid_below}
 use Rattle.std.proofs.KnownBytes.{Appends-nil, Appends-trans, Consumes-nil, Consumes-trans}
 use Rattle.std.specs.Io.KnownBytes.{Appends, Consumes}
 use borrow.Rule.Slice.PartMut.{put_mid, post_of}
-use Rattle.twe_io.specs.Runs.{Reads, ReadsThen, Writes}
+use Rattle.twe_io.specs.Runs.{Reads, ReadsThen, WriteCalls}
 
 -- a buffer is filled with the bytes that a source gave since it was `first`
 pub record Filled {S : Type 0} (faults : S → ℕ) (left : S → Option (List ℕ)) (gives : S → ℕ → Option ℕ → S → Type 0)
@@ -22,7 +22,7 @@ pub record Sent {S : Type 0} (faults : S → ℕ) (written : S → Option (List 
   pub within : taken ≤ length text
   pub appended : Appends (written first) (written now) (take taken text)
   pub counts : faults first ≤ faults now
-  pub writes : Writes gives text first taken now
+  pub writes : WriteCalls gives text first taken now
 
 module _ {S : Type 0} (faults : S → ℕ) (written : S → Option (List ℕ)) (gives : S → List ℕ → Option ℕ → S → Type 0) where
   -- nothing is written yet
@@ -31,7 +31,7 @@ module _ {S : Type 0} (faults : S → ℕ) (written : S → Option (List ℕ)) (
     within = omega arith;
     appended = Appends-nil (written first);
     counts = le_refl _;
-    writes = Writes.none;
+    writes = WriteCalls.none;
   }
 
   -- one write more
@@ -45,7 +45,7 @@ module _ {S : Type 0} (faults : S → ℕ) (written : S → Option (List ℕ)) (
         (ap (λ (p : List ℕ). take taken text ++ take more p) e ∙ sym (take-add taken more text))
         (Appends-trans _ _ _ _ _ sent.appended appended);
     counts = omega (arith, sent.counts, counts);
-    writes = Writes.write taken more sent.writes less some (subst (λ (p : List ℕ). gives now p (Some more) next) e step) refl;
+    writes = WriteCalls.write taken more sent.writes less some (subst (λ (p : List ℕ). gives now p (Some more) next) e step) refl;
   }
 
 -- after a write to the rest of a buffer it is no shorter than its front and that part

@@ -1,10 +1,11 @@
 pub mod Faults
-pub mod Lending
 pub mod Told
 pub mod Runs
 pub mod Plain
 pub mod Named
 pub mod Memory
 pub mod Standard
-pub mod Stacks
 pub mod inner
+pub mod Ends
+pub mod Writing
+pub mod Answers

@@ -14,8 +14,8 @@ pub record MemReading : Type 0 where
   pub faults : ℕ
 
 -- the bytes left to read
-abbrev pub left_of : MemReading → List ℕ
-left_of source = drop source.at source.bytes
+abbrev pub mem_left_of : MemReading → List ℕ
+mem_left_of source = drop source.at source.bytes
 
 -- One read into a buffer of this size. A read that fails changes only the counts of calls and faults.
 abbrev pub ReadsMem : MemReading → ℕ → Option ℕ → MemReading → Type 0
@@ -24,7 +24,7 @@ ReadsMem before room None after =
     × (after ≡ record before { calls = one_more before.calls; faults = one_more before.faults })
 ReadsMem before room (Some n) after =
     (¬ NextIsNamed before.fails before.calls)
-    × (n ≡ min room (min before.step (length (left_of before))))
+    × (n ≡ min room (min before.step (length (mem_left_of before))))
     × (after ≡ record before { at = before.at + n; calls = one_more before.calls })
 
 -- A sink: the bytes written so far, and its size; how many bytes a call takes at most; how many calls were made, the

@@ -12,7 +12,8 @@ pub data Reads {S : Type 0} (gives : S → ℕ → Option ℕ → S → Type 0) 
       → gives before (room - taken) (Some more) after → taken + more ≡ n → Reads gives room first n after
 
 -- reads that gave n bytes, and then one more read with this answer
-pub record ReadsThen {S : Type 0} (gives : S → ℕ → Option ℕ → S → Type 0) (room : ℕ) (first : S) (n : ℕ) (answer : Option ℕ) (last : S) : Type 0 where
+pub record ReadsThen {S : Type 0} (gives : S → ℕ → Option ℕ → S → Type 0)
+    (room : ℕ) (first : S) (n : ℕ) (answer : Option ℕ) (last : S) : Type 0 where
   pub before : S
   pub less : n < room
   pub reads : Reads gives room first n before
@@ -26,15 +27,16 @@ ReadsWhole gives limit first (Err ReadFault) last = (n : ℕ) × ReadsThen gives
 ReadsWhole gives limit first (Err TooLong) last = Reads gives (limit + 1) first (limit + 1) last
 ReadsWhole gives limit first (Err (OutOfMemory memory)) last = last ≡ first
 
--- Writes of a text to a sink, all of which succeeded. Each is passed the text that is left, and together they took n
+-- WriteCalls of a text to a sink, all of which succeeded. Each is passed the text that is left, and together they took n
 -- bytes.
-pub data Writes {S : Type 0} (gives : S → List ℕ → Option ℕ → S → Type 0) (text : List ℕ) (first : S) : ℕ → S → Type 0 where
-  none : Writes gives text first 0 first
-  write : {n : ℕ} {before after : S} (taken more : ℕ) → Writes gives text first taken before → taken < length text → 0 < more
-      → gives before (drop taken text) (Some more) after → taken + more ≡ n → Writes gives text first n after
+pub data WriteCalls {S : Type 0} (gives : S → List ℕ → Option ℕ → S → Type 0) (text : List ℕ) (first : S) : ℕ → S → Type 0 where
+  none : WriteCalls gives text first 0 first
+  write : {n : ℕ} {before after : S} (taken more : ℕ) → WriteCalls gives text first taken before → taken < length text → 0 < more
+      → gives before (drop taken text) (Some more) after → taken + more ≡ n → WriteCalls gives text first n after
 
 -- The writes of `write_whole`: of the whole text, or up to a write that failed.
 abbrev pub WritesWhole : {S E : Type 0} → (S → List ℕ → Option ℕ → S → Type 0) → List ℕ → S → Result Unit E → S → Type 0
 WritesWhole {S} gives text first result last = MatchResult result
-    (λ _. Writes gives text first (length text) last)
-    (λ _. (taken : ℕ) × (before : S) × (taken < length text) × Writes gives text first taken before × gives before (drop taken text) None last)
+    (λ _. WriteCalls gives text first (length text) last)
+    (λ _. (taken : ℕ) × (before : S) × (taken < length text) × WriteCalls gives text first taken before
+    × gives before (drop taken text) None last)

@@ -7,8 +7,9 @@ pub record Counted : Type 0 where
   pub bytes : ℕ
   pub faults : ℕ
 
-abbrev pub counted : ℕ → ℕ → Counted
-counted bytes faults = record { bytes = bytes; faults = faults }
+-- these counts of bytes and of failed calls
+abbrev pub counts_of_calls : ℕ → ℕ → Counted
+counts_of_calls bytes faults = record { bytes = bytes; faults = faults }
 
 -- a count that is `more` higher, or stays at the largest value of 64 bits
 abbrev pub so_many_more : ℕ → ℕ → ℕ

@@ -7,9 +7,10 @@ ghost use Rattle.twe_io.specs.Named.{NextIsNamed};
 
 mod exact;
 
-use crate::{Bytes, Calls, Failed, Memory, Sink, Source};
+use crate::{Failed, Sink, Source};
 use std::alloc::Global;
 use std::marker::Model;
+use twe_base::{Bytes, Calls, Memory};
 
 /// A source of bytes in memory that gives at most `step` bytes a call, and fails in the calls listed in `fails`.
 #[derive(Debug, Drop)]
@@ -73,11 +74,11 @@ impl MemSource {
 
 impl Source for MemSource {
     ghost use Rattle.std.specs.Prelude.{Some};
-    ghost use Rattle.twe_io.specs.Memory.{left_of, ReadsMem};
+    ghost use Rattle.twe_io.specs.Memory.{mem_left_of, ReadsMem};
 
     ghost faults = { λ source. source.faults };
 
-    ghost left = { λ source. Some (left_of source) };
+    ghost left = { λ source. Some (mem_left_of source) };
 
     ghost read_gives = { ReadsMem };
 

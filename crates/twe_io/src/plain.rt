@@ -1,9 +1,10 @@
 //! The simplest source and sink, both in memory: the source never fails, and the sink fails only if it is full.
 ghost use Rattle.std.specs.Prelude.{◌≡◌, ◌+◌, [], Some, IfOk};
 
-use crate::{Bytes, Failed, Memory, Sink, Source};
+use crate::{Failed, Sink, Source};
 use std::alloc::Global;
 use std::marker::Model;
+use twe_base::{Bytes, Memory};
 
 /// A source of bytes in memory. It never fails. Contracts see its bytes, and how many of them were read.
 #[derive(Debug, Drop)]
@@ -34,11 +35,11 @@ impl PlainSource {
 
 impl Source for PlainSource {
     ghost use Rattle.std.specs.Prelude.{Some};
-    ghost use Rattle.twe_io.specs.Plain.{left_of, ReadsPlain};
+    ghost use Rattle.twe_io.specs.Plain.{plain_left_of, ReadsPlain};
 
     ghost faults = { λ _. 0 };
 
-    ghost left = { λ source. Some (left_of source) };
+    ghost left = { λ source. Some (plain_left_of source) };
 
     ghost read_gives = { ReadsPlain };
 

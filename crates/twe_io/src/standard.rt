@@ -34,10 +34,10 @@ impl<R: Read> Source for StdSource<R> {
     ghost left = { λ source. R.remaining source.stream };
 
     ghost use Rattle.std.specs.Prelude.{◌≡◌};
-    ghost use Rattle.twe_io.specs.Standard.{counted, counted_after};
+    ghost use Rattle.twe_io.specs.Standard.{counts_of_calls, counted_after};
 
     ghost read_gives = { λ before room answer after.
-        counted after.given after.faults ≡ counted_after (counted before.given before.faults) answer };
+        counts_of_calls after.given after.faults ≡ counted_after (counts_of_calls before.given before.faults) answer };
 
     fn read(&mut self, buffer: &mut [u8]) -> Result<usize, Failed> {
         match self.stream.read(buffer) {
@@ -83,10 +83,10 @@ impl<W: Write> Sink for StdSink<W> {
     ghost written = { λ sink. W.contents sink.stream };
 
     ghost use Rattle.std.specs.Prelude.{◌≡◌};
-    ghost use Rattle.twe_io.specs.Standard.{counted, counted_after};
+    ghost use Rattle.twe_io.specs.Standard.{counts_of_calls, counted_after};
 
     ghost write_gives = { λ before piece answer after.
-        counted after.taken after.faults ≡ counted_after (counted before.taken before.faults) answer };
+        counts_of_calls after.taken after.faults ≡ counted_after (counts_of_calls before.taken before.faults) answer };
 
     fn write(&mut self, piece: &[u8]) -> Result<usize, Failed> {
         match self.stream.write(piece) {

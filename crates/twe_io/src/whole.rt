@@ -7,8 +7,9 @@ ghost use Rattle.twe_io.specs.Runs.{ReadsWhole, WritesWhole};
 ghost use Rattle.twe_io.specs.inner.Filling.{FillsUp, BreaksOff, GivesLess};
 ghost use Rattle.twe_io.specs.declared.whole.ReadFail.TheVariants.{ReadFault, OutOfMemory};
 
-use crate::{Bytes, Failed, Memory, Sink, Source};
+use crate::{Failed, Sink, Source};
 use std::alloc::Global;
+use twe_base::{Bytes, Memory};
 
 /// Why a source was not read to its end.
 #[derive(Clone, Copy, Debug, PartialEq, Eq)]
@@ -79,9 +80,7 @@ pub fn read_all<S: Source>(alloc: Global, source: &mut S, limit: usize) -> Resul
 fn buffer_for(alloc: Global, limit: usize) -> Result<Vec<u8>, Memory>
     ensures { IfOk result (λ buffer. vec_len buffer ≡ limit + 1) }
 {
-    let Some(size) = limit.checked_add(1) else {
-        return Err(Memory::of_numbers());
-    };
+    let size = Memory::next_count(limit)?;
     Ok(vec![in alloc; 0; size]?)
 }
 

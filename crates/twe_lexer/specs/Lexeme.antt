@@ -16,9 +16,11 @@ is_blank code = (code == 9) || is_line_end code || (code == 13) || (code == byte
 abbrev pub is_allowed : ℕ → Bool
 is_allowed code = is_blank code || (nat_le (byte " ") code && nat_le code (byte "~"))
 
+-- a letter of ASCII, or an underscore
 abbrev pub is_letter : ℕ → Bool
 is_letter code = is_ascii_alphabetic code || (code == byte "_")
 
+-- a byte that may stand in a word after its first one: a letter or a digit
 abbrev pub is_word_byte : ℕ → Bool
 is_word_byte code = is_letter code || is_ascii_digit code
 
@@ -36,6 +38,7 @@ is_number (first ∷ others) = is_ascii_digit first && list_all is_ascii_digit o
 abbrev pub long_symbols : List (List ℕ)
 long_symbols = codes "==" ∷ codes "!=" ∷ codes "<=" ∷ codes ">=" ∷ codes "&&" ∷ codes "||" ∷ []
 
+-- the bytes are a symbol of two bytes
 abbrev pub is_long_symbol : List ℕ → Bool
 is_long_symbol bytes = list_any (bytes_eq bytes) long_symbols
 

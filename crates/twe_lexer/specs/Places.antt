@@ -2,7 +2,7 @@
 use Rattle.std.specs.Prelude.{◌≡◌, ℕ, ◌+◌, ◌<◌, ◌⊎◌, Bool, false, ◌&&◌, ◌||◌, not, List, [], ◌∷◌, ◌==◌, count_by}
 use Rattle.std.specs.Str.{byte}
 use Rattle.std.specs.List.{suffix_len}
-use Rattle.twe_io.specs.declared.place.Place.{Place}
+use Rattle.twe_base.specs.declared.place.Place.{Place}
 use Rattle.twe_lexer.specs.Lexeme.{is_line_end, is_blank}
 
 -- The place of the byte after this beginning of a text. Lines and columns are counted from 1.

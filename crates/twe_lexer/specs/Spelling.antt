@@ -3,6 +3,7 @@ use Rattle.std.specs.Prelude.{ℕ, List, [], ◌∷◌, Option, codes, bytes_eq,
 use Rattle.twe_lexer.specs.declared.fixed.Fixed.{Fixed}
 use Rattle.twe_lexer.specs.declared.fixed.Fixed.TheVariants as fixed
 
+-- how a keyword or a symbol is written in a text
 abbrev pub spelling : Fixed → List ℕ
 spelling fixed.Region = codes "region"
 spelling fixed.Int = codes "int"

@@ -9,7 +9,7 @@ use crate::extent::first_extent;
 use crate::token::TokenKind;
 use std::alloc::Global;
 use thiserror::Error;
-use twe_io::Memory;
+use twe_base::Memory;
 
 /// A lexeme.
 #[derive(Debug, Drop)]

@@ -2,7 +2,7 @@
 ghost use Rattle.std.specs.Prelude.{◌≡◌, ℕ, ◌+◌, ◌^◌, ◌<◌, List, [], ◌++◌, length};
 ghost use Rattle.twe_lexer.specs.Places.{place_after};
 
-use twe_io::Place;
+use twe_base::Place;
 
 /// The place of the first byte of every text.
 pub fn first_place() -> Place

@@ -7,7 +7,7 @@ use crate::bytes::{are_digits, are_word_bytes, is_letter};
 use crate::fixed::{Fixed, spelled};
 use crate::literal::literal_value;
 use std::alloc::Global;
-use twe_io::{Memory, Place, Word};
+use twe_base::{Memory, Place, Word};
 
 /// A token, and the place of its first byte.
 #[derive(Debug, Drop)]

@@ -1,52 +1,16 @@
-pub mod AfterStop
-pub mod AllDone
-pub mod AllJournals
-pub mod Almost
-pub mod Beginning
-pub mod Carried
-pub mod ChainsStay
-pub mod Counts
-pub mod DoneFirst
-pub mod DoneStays
-pub mod Ended
-pub mod Falls
-pub mod Filled
-pub mod GivenWork
-pub mod Halfway
-pub mod JoinedWeight
-pub mod Joining
-pub mod JournalCounts
-pub mod KeptCounts
-pub mod Later
-pub mod LaterStates
-pub mod LeftAlone
-pub mod Linked
-pub mod LinkedMoves
-pub mod LinksAgree
-pub mod ListEdits
-pub mod Listed
-pub mod ListedBars
-pub mod MadeTasks
-pub mod Members
-pub mod MoveCounts
-pub mod Movers
-pub mod Moving
-pub mod Once
-pub mod OneLowest
-pub mod OneSegment
-pub mod Ordered
-pub mod OtherRows
-pub mod OtherTasks
-pub mod Places
-pub mod ReachedStands
-pub mod Ready
-pub mod Replayed
-pub mod RowNumbers
-pub mod Settled
-pub mod SettlesNext
-pub mod Spending
-pub mod Standing
-pub mod StoppedNumbers
-pub mod Stopping
-pub mod TakenJoins
-pub mod Weight
+-- Lists of numbers and rows: members, places, and how many elements pass a test.
+pub mod lists
+-- What stands in each state that a run comes to: rows, links and counts, through the parts of a move.
+pub mod standing
+-- The links of waits and parents: they are those that the rows say, in order, and chains of waits stay.
+pub mod links
+-- The weight of a state, which each move lowers.
+pub mod weight
+-- How often each thing happens in a journal.
+pub mod counts
+-- What a move does to its own task and leaves of the others.
+pub mod tasks
+-- The list of the enabled tasks, and what holds an admission back.
+pub mod listing
+-- Replays and outcomes.
+pub mod replays

@@ -56,6 +56,7 @@ pub record ChangesNoResult (st after : State) : Type 0 where
   pub prints : after.prints ≡ st.prints
   pub asked : after.asked ≡ st.asked
 
+-- what a move of t changes of the three, by its kind: an admission nothing, and a run what the next segment of t does
 abbrev pub ResultsAfter : Program → State → State → Kind → ℕ → Type 0
 ResultsAfter p st after Admit t = ChangesNoResult st after
 ResultsAfter p st after Run t = (row : TaskRow) → IsRow st t row → ChangesAsSegment st after (next_segment p st row)

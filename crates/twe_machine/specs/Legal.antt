@@ -30,6 +30,7 @@ MayAdmit st t = HasStatus st t Made × ((s : ℕ) → s ≢ t → HasStatus st s
 abbrev pub MayRun : State → ℕ → Type 0
 MayRun st t = HasStatus st t Enabled × ((u : ℕ) → ¬ graph.WaitsFor st.links t u)
 
+-- t may be admitted, or may run, as the kind says
 abbrev pub MayTake : State → Kind → ℕ → Type 0
 MayTake st Admit t = MayAdmit st t
 MayTake st Run t = MayRun st t
@@ -53,4 +54,6 @@ Forbids st Run t (HeldBy s) = ⊥
 
 -- of each two enabled tasks that interfere, one yields to the other
 abbrev pub Isolated : State → Type 0
-Isolated st = (s t : ℕ) → s ≢ t → HasStatus st s Enabled → HasStatus st t Enabled → Interfere st s t → YieldsTo st.links s t ⊎ YieldsTo st.links t s
+Isolated st =
+    (s t : ℕ) → s ≢ t → HasStatus st s Enabled → HasStatus st t Enabled → Interfere st s t
+    → YieldsTo st.links s t ⊎ YieldsTo st.links t s

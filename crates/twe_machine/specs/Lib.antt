@@ -8,3 +8,4 @@ pub mod Replays
 pub mod Rows
 pub mod Runs
 pub mod inner
+pub mod segment_laws

@@ -2,7 +2,7 @@
 use Rattle.std.specs.Prelude.{◌≡◌, ◌<◌, ◌+◌, ℕ, List, Some, length, slice_get}
 use Rattle.std.specs.List.{Contains}
 use Rattle.seg_journal.specs.declared.moves.Move.{Move}
-use Rattle.twe_limits.specs.Limits.{Bounds}
+use Rattle.twe_base.specs.Limits.{Bounds}
 use Rattle.twe_program.specs.Program.{Program}
 use Rattle.twe_program.specs.WellFormed.{IsWellFormed}
 use Rattle.wait_graph.specs.Waiting.{WaitsFor}

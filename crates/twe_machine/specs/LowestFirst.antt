@@ -3,7 +3,7 @@
 use Rattle.std.specs.Prelude.{◌≡◌, ◌≢◌, ◌≤◌, List, [], ◌∷◌}
 use Rattle.seg_journal.specs.declared.journal.Entry.{Entry}
 use Rattle.seg_journal.specs.declared.moves.Move.{Move}
-use Rattle.twe_limits.specs.Limits.{Bounds}
+use Rattle.twe_base.specs.Limits.{Bounds}
 use Rattle.twe_program.specs.Program.{Program}
 use Rattle.twe_machine.specs.declared.ending.Outcome.{Outcome}
 use Rattle.twe_machine.specs.declared.ending.Outcome.TheVariants.{Unfinished}
@@ -21,6 +21,7 @@ pub record IsLowest (st : State) (mv : Move) : Type 0 where
 abbrev pub IsOver : State → Type 0
 IsOver st = (outcome : Outcome) → IsOutcome st outcome → outcome ≢ Unfinished
 
+-- these entries are the lowest-first ones from a state on, up to a state in which the run has ended
 abbrev pub LowestFirstFrom : Program → Bounds → State → List Entry → Type 0
 LowestFirstFrom p lim st [] = IsOver st
 LowestFirstFrom p lim st (entry ∷ entries) =

@@ -3,7 +3,7 @@ use Rattle.std.specs.Prelude.{◌≡◌, ◌+◌, ℕ, List, ◌∷◌, ◌++◌
 use Rattle.seg_journal.specs.declared.journal.Entry.{Entry}
 use Rattle.seg_journal.specs.declared.moves.Move.{Move}
 use Rattle.seg_journal.specs.Spelling.{move_of}
-use Rattle.twe_limits.specs.Limits.{Bounds}
+use Rattle.twe_base.specs.Limits.{Bounds}
 use Rattle.twe_program.specs.Program.{Program}
 use Rattle.twe_machine.specs.declared.legal.Why.{Why}
 use Rattle.twe_machine.specs.declared.replaying.ReplayFail.{ReplayFail}
@@ -32,6 +32,6 @@ pub record IsFirstIllegal (p : Program) (lim : Bounds) (moves : List Move) (numb
   pub forbids : Forbids (state_after p lim before) mv.kind mv.task why
 
 -- there was not enough memory
-abbrev pub IsOutOfMemory : ReplayFail → Type 0
-IsOutOfMemory (Illegal n why) = ⊥
-IsOutOfMemory (OutOfMemory memory) = Unit {0}
+abbrev pub ReplayIsOutOfMemory : ReplayFail → Type 0
+ReplayIsOutOfMemory (Illegal n why) = ⊥
+ReplayIsOutOfMemory (OutOfMemory memory) = Unit {0}

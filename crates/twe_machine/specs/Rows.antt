@@ -18,13 +18,14 @@ abbrev pub HasStatus : State → ℕ → TaskStatus → Type 0
 HasStatus st t status = (row : TaskRow) × IsRow st t row × (row.status ≡ status)
 
 -- the task that the next operation waits for, if it is a wait
-abbrev pub awaited : Next → Option ℕ
-awaited Go = None
-awaited (Get on into) = Some on
-awaited (Join on into) = Some on
-awaited (Closing on) = Some on
-awaited Ended = None
+abbrev pub row_awaited : Next → Option ℕ
+row_awaited Go = None
+row_awaited (Get on into) = Some on
+row_awaited (Join on into) = Some on
+row_awaited (Closing on) = Some on
+row_awaited Ended = None
 
+-- whether this is the status of a task that is done
 abbrev pub is_done_status : TaskStatus → Bool
 is_done_status Done = true
 is_done_status Made = false
@@ -37,7 +38,7 @@ is_done_row row = is_done_status row.status
 
 -- the links that a row says its task has
 abbrev pub link_of_row : TaskRow → Link
-link_of_row row = record { waits = awaited row.frame.next; parent = row.parent; joined = row.joined; done = is_done_row row }
+link_of_row row = record { waits = row_awaited row.frame.next; parent = row.parent; joined = row.joined; done = is_done_row row }
 
 -- the links of a state agree with its rows
 abbrev pub LinksAgree : State → Type 0

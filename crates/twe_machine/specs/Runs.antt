@@ -7,7 +7,7 @@ use Rattle.seg_journal.specs.declared.journal.Entry.{Entry}
 use Rattle.seg_journal.specs.declared.moves.Kind.{Kind}
 use Rattle.seg_journal.specs.declared.moves.Kind.TheVariants.{Admit, Run}
 use Rattle.seg_journal.specs.declared.moves.Move.{Move}
-use Rattle.twe_limits.specs.Limits.{Bounds}
+use Rattle.twe_base.specs.Limits.{Bounds}
 use Rattle.twe_program.specs.Program.{Program}
 use Rattle.twe_machine.specs.declared.ending.Outcome.{Outcome}
 use Rattle.twe_machine.specs.declared.ending.Outcome.TheVariants.{AllDone, Fault, Stuck, Unfinished}
@@ -27,7 +27,8 @@ replayed p lim st (entry ∷ entries) = replayed p lim (move_result p lim st ent
 abbrev pub LegalFrom : Program → Bounds → State → List Entry → Type 0
 LegalFrom p lim st [] = Unit {0}
 LegalFrom p lim st (entry ∷ entries) =
-    MayMove st entry.mv × ((move_result p lim st entry.mv).1 ≡ entry.end) × LegalFrom p lim (move_result p lim st entry.mv).0 entries
+    MayMove st entry.mv × ((move_result p lim st entry.mv).1 ≡ entry.end)
+    × LegalFrom p lim (move_result p lim st entry.mv).0 entries
 
 -- the journal is one of the program under these limits
 abbrev pub Legal : Program → Bounds → List Entry → Type 0
@@ -68,6 +69,7 @@ IsOutcome st AllDone = (st.first_fault ≡ None) × AllTasksDone st
 IsOutcome st Stuck = (st.first_fault ≡ None) × ¬ AllTasksDone st × ((mv : Move) → ¬ MayMove st mv)
 IsOutcome st Unfinished = (st.first_fault ≡ None) × ¬ AllTasksDone st × ((mv : Move) × MayMove st mv)
 
+-- whether a move with this end met a fault
 abbrev pub is_fault : End → Bool
 is_fault (ends.Fault kind place) = true
 is_fault _ = false
@@ -81,25 +83,30 @@ counted (entry ∷ entries) = entry ∷ (if is_fault entry.end then [] else coun
 abbrev pub AlwaysIsolated : Program → Bounds → List Entry → Type 0
 AlwaysIsolated p lim journal = (n : ℕ) → n ≤ length journal → Isolated (state_after p lim (take n journal))
 
+-- whether a move with this end made task t
 abbrev pub makes_task : ℕ → End → Bool
 makes_task t (Made child) = child == t
 makes_task t _ = false
 
+-- whether a move with this end finished its task
 abbrev pub is_done : End → Bool
 is_done (ends.Done value) = true
 is_done _ = false
 
+-- whether a move of this kind is an admission
 abbrev pub is_admission : Kind → Bool
 is_admission Admit = true
 is_admission Run = false
 
--- the entry made task t, admitted it, or finished it
+-- the entry made task t
 abbrev pub makes : ℕ → Entry → Bool
 makes t entry = makes_task t entry.end
 
+-- the entry admitted task t
 abbrev pub admits : ℕ → Entry → Bool
 admits t entry = is_admission entry.mv.kind && (entry.mv.task == t)
 
+-- the entry finished task t
 abbrev pub finishes : ℕ → Entry → Bool
 finishes t entry = is_done entry.end && (entry.mv.task == t)
 

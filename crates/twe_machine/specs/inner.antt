@@ -1,3 +1,4 @@
+pub mod Counting
 pub mod Settling
 pub mod Swaps
 pub mod UnderWay

@@ -4,6 +4,7 @@ ghost use Rattle.twe_machine.specs.declared.state.TaskStatus.TheVariants.{Made, 
 ghost use Rattle.twe_machine.specs.Legal.{Interfere, IsBar, MayAdmit};
 ghost use Rattle.wait_graph.specs.Waiting.{YieldsTo};
 ghost use Rattle.twe_machine.specs.Rows.{EffectsAreFilled, HasStatus};
+ghost use Rattle.twe_machine.specs.inner.Counting.{Meets};
 
 use crate::state::{State, TaskStatus};
 use effect_sets::summaries_interfere;
@@ -37,6 +38,14 @@ pub(crate) fn is_bar(st: &State, s: u32, t: u32) -> bool
     ensures yields { result ≡ false → s ≢ t → HasStatus st.now s Enabled → Interfere st.now s t → YieldsTo st.now.links s t }
 {
     s != t && is_enabled(st, s) && interfere(st, s, t) && !st.links.yields(s, t)
+}
+
+/// Whether `s` meets `t`: it is another task, it is enabled, and its effects interfere with those of `t`.
+pub(crate) fn meets(st: &State, s: u32, t: u32) -> bool
+    requires { EffectsAreFilled st.now }
+    ensures { IsTrue result ↔ Meets st.now s t }
+{
+    s != t && is_enabled(st, s) && interfere(st, s, t)
 }
 
 /// Whether a task was made and is enabled. It takes no memory.

@@ -3,16 +3,16 @@ ghost use Rattle.std.specs.Prelude.{◌≡◌, ◌<◌, ◌++◌, length, OnOk};
 ghost use Rattle.std.specs.Option.{ForSome};
 ghost use Rattle.twe_machine.specs.declared.state.TaskRow.{TaskRow};
 ghost use Rattle.twe_machine.specs.Moves.{frame_without_prints, going_row, state_after_storing};
-ghost use Rattle.twe_machine.specs.Rows.{IsRow, awaited};
+ghost use Rattle.twe_machine.specs.Rows.{IsRow, row_awaited};
 
 use crate::state::State;
 use seg_exec::{Frame, Next};
 use std::alloc::Global;
-use twe_io::{Ints, List, Memory};
+use twe_base::{Ints, List, Memory};
 
 /// The task that the next operation waits for, if it is a wait. It takes no memory.
 pub fn awaited(next: Next) -> Option<u32>
-    ensures { result ≡ awaited next }
+    ensures { result ≡ row_awaited next }
 {
     match next {
         Next::Go => None,
@@ -38,8 +38,9 @@ fn take_prints(alloc: Global, prints: &mut Ints, frame: &mut Frame) -> Result<()
 pub(crate) fn come_home(alloc: Global, st: &mut State, t: u32, frame: Frame) -> Result<(), Memory>
     requires there { t < length st.old.tasks }
     requires linked { length st.old.links ≡ length st.old.tasks }
-    requires above { ForSome (awaited frame.next) (λ on. (t < on) × (on < length st.old.tasks)) }
-    ensures state { OnOk result ((row : TaskRow) → IsRow st.old t row → st.new ≡ state_after_storing st.old t frame (going_row row frame)) }
+    requires above { ForSome (row_awaited frame.next) (λ on. (t < on) × (on < length st.old.tasks)) }
+    ensures state { OnOk result ((row : TaskRow)
+        → IsRow st.old t row → st.new ≡ state_after_storing st.old t frame (going_row row frame)) }
     ensures rows { OnOk result (length st.new.tasks ≡ length st.old.tasks) }
     ensures linked { OnOk result (length st.new.links ≡ length st.new.tasks) }
 {

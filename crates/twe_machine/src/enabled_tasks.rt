@@ -1,7 +1,7 @@
 //! The list of the enabled tasks of a run, and how a task comes on it and is taken off it.
 ghost use Rattle.std.specs.Prelude.{◌≡◌, ◌≢◌, ◌<◌, ◌-◌, ℕ, length, IfSome, OnOk, Some, slice_get, slice_set};
 ghost use Rattle.std.specs.List.{Contains};
-ghost use Rattle.twe_limits.specs.Limits.{Bounds};
+ghost use Rattle.twe_base.specs.Limits.{Bounds};
 ghost use Rattle.twe_program.specs.Program.{Program};
 ghost use Rattle.twe_machine.specs.declared.state.State.{State};
 ghost use Rattle.twe_machine.specs.Listings.{IsListing, IsPath};
@@ -9,7 +9,7 @@ ghost use Rattle.twe_machine.specs.Moves.{start_of};
 ghost use Rattle.twe_machine.specs.inner.Swaps.{IsSwap};
 
 use std::alloc::Global;
-use twe_io::{List, Memory};
+use twe_base::{List, Memory};
 
 /// The enabled tasks of a run, so that an admission needs no look at all tasks. `IsListing` says which state such a list
 /// belongs to.
@@ -51,7 +51,8 @@ impl EnabledTasks {
     pub(crate) fn push(&mut self, t: u32) -> Result<(), Memory>
         ensures added { OnOk result (Contains self.new.tasks t) }
         ensures kept { OnOk result ((s : ℕ) → Contains self.old.tasks s → Contains self.new.tasks s) }
-        ensures path { OnOk result ((st : State) → IsPath st self.old.tasks self.old.path → IsPath st self.new.tasks self.new.path) }
+        ensures path { OnOk result ((st : State)
+            → IsPath st self.old.tasks self.old.path → IsPath st self.new.tasks self.new.path) }
     {
         reach(&mut self.places, t)?;
         self.places.set(t as usize, self.tasks.len());

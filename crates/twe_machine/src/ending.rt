@@ -1,7 +1,7 @@
 //! The outcome of a run.
 
 use seg_journal::FaultKind;
-use twe_io::Place;
+use twe_base::Place;
 
 /// The outcome of a run in its present state.
 #[derive(Clone, Copy, Debug, PartialEq, Eq)]

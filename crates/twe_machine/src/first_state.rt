@@ -8,7 +8,7 @@ use crate::state::State;
 use seg_exec::{effects_at, entry_frame};
 use seg_journal::Limits;
 use std::alloc::Global;
-use twe_io::{Ints, List, Memory};
+use twe_base::{Ints, List, Memory};
 use twe_program::{CellDecl, Prog};
 use wait_graph::Links;
 

@@ -3,7 +3,7 @@
 ghost use Rattle.std.specs.Prelude.{◌≡◌, ◌≤◌, ◌+◌, ◌*◌, ℕ, ℤ, List, Some, count_by, length, true};
 ghost use Rattle.seg_journal.specs.declared.journal.Entry.{Entry};
 ghost use Rattle.seg_journal.specs.declared.moves.Move.{Move};
-ghost use Rattle.twe_limits.specs.Limits.{Bounds, IsWithin};
+ghost use Rattle.twe_base.specs.Limits.{Bounds, IsWithin};
 ghost use Rattle.wait_graph.specs.Link.{IsOrdered};
 ghost use Rattle.wait_graph.specs.Waiting.{WaitsOnUnlessDone};
 ghost use Rattle.twe_program.specs.Program.{Program};

@@ -4,6 +4,7 @@
 
 mod bars;
 mod coming_home;
+mod counted_waits;
 mod enabled_tasks;
 mod ending;
 mod first_state;
@@ -18,6 +19,7 @@ mod one_move;
 mod outcomes;
 mod replaying;
 mod running;
+pub mod segment_laws;
 mod settling;
 mod state;
 mod taken_joins;
@@ -35,12 +37,14 @@ pub use laws::{
 };
 pub use legal::{Why, may};
 pub use lowest_move::{lowest, lowest_from};
+pub use making::{note_child, set_future};
+pub use new_task::parent_of;
 pub use one_move::step;
 pub use outcomes::outcome;
 pub use replaying::{
     ReplayFail, moves_make_the_journal, one_first_illegal, replay, replay_journal,
 };
-pub use running::take_ready;
+pub use running::{awaited_value, take_ready};
 pub use seg_exec::{Frame, Next, OpenBody, Position, Stop};
 pub use settling::settle;
 pub use state::{FirstFault, State, TaskRow, TaskStatus};

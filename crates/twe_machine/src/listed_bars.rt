@@ -10,6 +10,7 @@ ghost use Rattle.twe_program.specs.WellFormed.{IsWellFormed};
 ghost use Rattle.wait_graph.specs.Waiting.{SpawnedBy, WaitsOn, YieldsTo};
 
 use crate::bars::is_bar;
+use crate::counted_waits::met_from;
 use crate::enabled_tasks::EnabledTasks;
 use crate::legal::{Why, may};
 use crate::state::{State, TaskStatus};
@@ -34,7 +35,7 @@ impl EnabledTasks {
             return Some(s);
         }
         let from = self.known(st, t);
-        match bar_from(st, self.tasks.as_slice(), from, t) {
+        match self.bar_past(st, from, t) {
             Some(s) => Some(s),
             None => None,
         }
@@ -79,6 +80,27 @@ impl EnabledTasks {
     {
         let s = *self.tasks.get(self.path)?;
         if bars(st, s, t) { Some(s) } else { None }
+    }
+
+    /// Some bar to `t` among the tasks from a place on, if there is one. It first looks at each of them once and follows the
+    /// waits from the lowest one that meets `t`. If that decides nothing, it follows the waits from each.
+    fn bar_past(&self, st: &State, from: usize, t: u32) -> Option<u32>
+        requires there { t < length st.now.tasks }
+        requires linked { length st.now.links ≡ length st.now.tasks }
+        requires filled { EffectsAreFilled st.now }
+        ensures some { IfSome result (λ s. IsBar st.now s t) }
+        ensures none { IfNone result ((i s : ℕ) → from ≤ i → slice_get self.now.tasks i ≡ Some s → s ≢ t
+            → HasStatus st.now s Enabled → Interfere st.now s t → YieldsTo st.now.links s t) }
+    {
+        let tasks = self.tasks.as_slice();
+        let met = met_from(st, tasks, from, t);
+        if self.all_wait(st, from, t, met.lowest, met.count) {
+            return None;
+        }
+        if bars(st, met.lowest, t) {
+            return Some(met.lowest);
+        }
+        bar_from(st, tasks, from, t)
     }
 
     /// How many of the first tasks are known to wait for `t`, which has no parent.

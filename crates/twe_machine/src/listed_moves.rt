@@ -11,7 +11,7 @@ use crate::bars::is_enabled;
 use crate::enabled_tasks::EnabledTasks;
 use crate::state::State;
 use seg_journal::{Kind, Move};
-use twe_io::Memory;
+use twe_base::Memory;
 
 impl EnabledTasks {
     /// Brings the list up to date after a legal move, before which there were so many tasks. It takes constant time, up to a
@@ -28,8 +28,10 @@ impl EnabledTasks {
 
     /// Adds the task of an admission, and takes the task of a segment off if it is over.
     fn note_mover(&mut self, st: &State, mv: Move) -> Result<(), Memory>
-        ensures kept { OnOk result ((s : ℕ) → HasStatus st.now s Enabled → Contains self.old.tasks s → Contains self.new.tasks s) }
-        ensures admitted { OnOk result (mv.kind ≡ Kind.Admit → HasStatus st.now mv.task Enabled → Contains self.new.tasks mv.task) }
+        ensures kept { OnOk result ((s : ℕ)
+            → HasStatus st.now s Enabled → Contains self.old.tasks s → Contains self.new.tasks s) }
+        ensures admitted { OnOk result (mv.kind ≡ Kind.Admit
+            → HasStatus st.now mv.task Enabled → Contains self.new.tasks mv.task) }
         ensures path { OnOk result ((HasStatus st.now mv.task Enabled → IsPath st.now self.old.tasks self.old.path)
             → IsPath st.now self.old.tasks (self.old.path - 1) → IsPath st.now self.new.tasks self.new.path) }
     {

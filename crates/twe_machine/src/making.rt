@@ -4,7 +4,7 @@ ghost use Rattle.std.specs.Option.{ForSome};
 ghost use Rattle.wait_graph.specs.Link.{new_link};
 ghost use Rattle.twe_machine.specs.declared.state.TaskRow.{TaskRow};
 ghost use Rattle.twe_machine.specs.Moves.{MaySettle, children_with, making_frame, new_row, state_after_make, stop_result};
-ghost use Rattle.twe_machine.specs.Rows.{IsRow, awaited};
+ghost use Rattle.twe_machine.specs.Rows.{IsRow, row_awaited};
 
 use crate::coming_home::come_home;
 use crate::new_task::{NewTask, new_row, parent_of};
@@ -13,7 +13,7 @@ use crate::task_end::{fail, without_rest};
 use seg_exec::{Children, Frame, Stop};
 use seg_journal::{End, FaultKind, Limits};
 use std::alloc::Global;
-use twe_io::{List, Memory, Place};
+use twe_base::{List, Memory, Place};
 
 /// How a task is made.
 #[derive(Clone, Copy)]
@@ -26,8 +26,8 @@ pub(crate) struct Asking {
     pub place: Place,
 }
 
-/// Lets a future stand for a task, if the frame has that future.
-fn set_future(futures: &mut List<Option<u32>>, future: u32, task: u32)
+/// Lets a future stand for a task, if the frame has that future. It takes no memory.
+pub fn set_future(futures: &mut List<Option<u32>>, future: u32, task: u32)
     ensures { futures.new ≡ slice_set futures.old future (Some task) }
 {
     let at = future as usize;
@@ -47,7 +47,7 @@ fn add_child(out: &mut Children, child: u32, spawned: bool)
 }
 
 /// Records a new task in the frame of its maker. It takes no memory.
-fn note(frame: &mut Frame, child: u32, future: u32, spawned: bool)
+pub fn note_child(frame: &mut Frame, child: u32, future: u32, spawned: bool)
     requires { spawned ≡ true → 0 < frame.old.out.room }
     ensures { frame.new ≡ making_frame future spawned child frame.old }
 {
@@ -87,7 +87,7 @@ fn make(
 ) -> Result<u32, Memory>
     requires there { t < length st.old.tasks }
     requires linked { length st.old.links ≡ length st.old.tasks }
-    requires above { ForSome (awaited frame.next) (λ on. (t < on) × (on < length st.old.tasks)) }
+    requires above { ForSome (row_awaited frame.next) (λ on. (t < on) × (on < length st.old.tasks)) }
     requires number { st.old.asked + 1 ≡ length st.old.tasks }
     requires room { length st.old.tasks < 2 ^ 32 - 1 }
     requires child_room { how.spawned ≡ true → 0 < frame.out.room }
@@ -98,7 +98,7 @@ fn make(
     let mut frame = frame;
     st.asked += 1;
     let child = st.asked;
-    note(&mut frame, child, how.future, how.spawned);
+    note_child(&mut frame, child, how.future, how.spawned);
     come_home(alloc, st, t, frame)?;
     add_task(alloc, lim, st, parent_of(t, how.spawned), task)?;
     Ok(child)
@@ -117,7 +117,8 @@ pub(crate) fn ask(
 ) -> Result<End, Memory>
     requires { MaySettle lim st.old t frame (Stop.Make task.frame task.args task.effects how.spawned how.future how.place) }
     ensures { IfOk result (λ end. (row : TaskRow) → IsRow st.old t row
-        → (st.new, end) ≡ stop_result lim st.old t row frame (Stop.Make task.frame task.args task.effects how.spawned how.future how.place)) }
+        → (st.new, end)
+        ≡ stop_result lim st.old t row frame (Stop.Make task.frame task.args task.effects how.spawned how.future how.place)) }
 {
     if st.asked + 1 < lim.tasks {
         let child = make(alloc, lim, st, t, frame, task, how)?;

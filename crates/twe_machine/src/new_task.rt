@@ -7,7 +7,7 @@ use effect_sets::Summary;
 use seg_exec::Frame;
 use seg_journal::Limits;
 use std::alloc::Global;
-use twe_io::{Ints, List};
+use twe_base::{Ints, List};
 
 /// The parts of a new task.
 #[derive(Drop)]
@@ -21,7 +21,7 @@ pub(crate) struct NewTask {
 }
 
 /// The spawn parent of a task that `t` makes.
-pub(crate) fn parent_of(t: u32, spawned: bool) -> Option<u32>
+pub fn parent_of(t: u32, spawned: bool) -> Option<u32>
     ensures { result ≡ parent_of t spawned }
 {
     if spawned { Some(t) } else { None }

@@ -8,7 +8,7 @@ use crate::running::run;
 use crate::state::{State, TaskStatus};
 use seg_journal::{End, Kind, Limits, Move};
 use std::alloc::Global;
-use twe_io::Memory;
+use twe_base::Memory;
 use twe_program::Prog;
 
 /// Takes a legal move in a reached state of the program under these limits, and returns the end of the move. After

@@ -3,12 +3,12 @@ ghost use Rattle.std.specs.Prelude.{◌≡◌, ◌<◌, ◌+◌, ◌^◌, ◌∷
 ghost use Rattle.seg_journal.specs.declared.journal.Entry.{Entry};
 ghost use Rattle.seg_journal.specs.declared.moves.Move.{Move};
 ghost use Rattle.seg_journal.specs.Spelling.{move_of};
-ghost use Rattle.twe_limits.specs.Limits.{Bounds};
+ghost use Rattle.twe_base.specs.Limits.{Bounds};
 ghost use Rattle.twe_program.specs.Program.{Program};
 ghost use Rattle.twe_machine.specs.declared.legal.Why.{Why};
 ghost use Rattle.twe_machine.specs.declared.replaying.ReplayFail.TheVariants.{Illegal, OutOfMemory};
 ghost use Rattle.twe_machine.specs.Legal.{Forbids};
-ghost use Rattle.twe_machine.specs.Replays.{AreLegal, IsFirstIllegal, IsOutOfMemory, IsReplay};
+ghost use Rattle.twe_machine.specs.Replays.{AreLegal, IsFirstIllegal, ReplayIsOutOfMemory, IsReplay};
 ghost use Rattle.twe_machine.specs.Runs.{Legal};
 ghost use Rattle.twe_machine.specs.inner.UnderWay.{IsUnderWay};
 
@@ -19,8 +19,7 @@ use crate::one_move::step;
 use crate::state::State;
 use seg_journal::{Entry, Journal, Move};
 use std::alloc::Global;
-use twe_io::Memory;
-use twe_limits::Limits;
+use twe_base::{Limits, Memory};
 use twe_program::Prog;
 
 /// Why a list of moves has no replay.
@@ -48,9 +47,9 @@ pub fn replay(alloc: Global, p: &Prog, lim: Limits, moves: &[Move]) -> Result<St
     ensures illegal { (n : ℕ) (why : Why) → IsErrOf result (Illegal n why) → IsFirstIllegal p.now lim moves.now n why }
 
     // Legal moves are replayed, and a first illegal move is named, unless memory runs out.
-    ensures only_legal { AreLegal p.now lim moves.now → MatchResult result (λ _. Unit {0}) IsOutOfMemory }
+    ensures only_legal { AreLegal p.now lim moves.now → MatchResult result (λ _. Unit {0}) ReplayIsOutOfMemory }
     ensures first_illegal { (n : ℕ) (why : Why) → IsFirstIllegal p.now lim moves.now n why
-        → MatchResult result (λ _. ⊥) (λ fail. (fail ≡ Illegal n why) ⊎ IsOutOfMemory fail) }
+        → MatchResult result (λ _. ⊥) (λ fail. (fail ≡ Illegal n why) ⊎ ReplayIsOutOfMemory fail) }
 {
     match replay_journal(alloc, p, lim, moves) {
         Ok((_, st)) => Ok(st),

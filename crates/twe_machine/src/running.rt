@@ -4,7 +4,7 @@ ghost use Rattle.twe_program.specs.Program.{cell_count};
 ghost use Rattle.twe_machine.specs.declared.state.TaskRow.{TaskRow};
 ghost use Rattle.twe_machine.specs.FramesOut.{no_frame, without_frame};
 ghost use Rattle.twe_machine.specs.Moves.{awaited_value, ran, ready_frame, value_of};
-ghost use Rattle.twe_machine.specs.Rows.{awaited};
+ghost use Rattle.twe_machine.specs.Rows.{row_awaited};
 ghost use Rattle.twe_machine.specs.inner.Settling.{SettlesAfter};
 
 use crate::coming_home::awaited;
@@ -14,7 +14,7 @@ use seg_exec::{Children, Frame, Next, run_segment_over_list};
 use seg_journal::{End, Limits};
 use std::alloc::Global;
 use std::mem;
-use twe_io::{Ints, List, Memory};
+use twe_base::{Ints, List, Memory};
 use twe_program::Prog;
 
 /// Runs a task from its present position, with the value that it has waited for, up to its next stop.
@@ -65,8 +65,8 @@ fn no_frame(alloc: Global) -> Frame
     }
 }
 
-/// The value of the awaited task, and 0 if there is none.
-fn awaited_value(rows: &List<TaskRow>, on: Option<u32>) -> i32
+/// The value of the awaited task, and 0 if there is none. It takes no memory.
+pub fn awaited_value(rows: &List<TaskRow>, on: Option<u32>) -> i32
     ensures { result ≡ awaited_value rows.now on }
 {
     match on {

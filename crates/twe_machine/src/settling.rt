@@ -3,7 +3,7 @@ ghost use Rattle.std.specs.Prelude.{◌≡◌, ◌<◌, length, IfOk, OnOk, slic
 ghost use Rattle.std.specs.Option.{ForSome};
 ghost use Rattle.twe_machine.specs.declared.state.TaskRow.{TaskRow};
 ghost use Rattle.twe_machine.specs.Moves.{MaySettle, going_row, state_after_storing, settling_result, stop_result};
-ghost use Rattle.twe_machine.specs.Rows.{IsRow, awaited};
+ghost use Rattle.twe_machine.specs.Rows.{IsRow, row_awaited};
 
 use crate::coming_home::come_home;
 use crate::making::{Asking, ask};
@@ -14,7 +14,7 @@ use crate::task_end::{fail, finish};
 use seg_exec::{Frame, Stop};
 use seg_journal::{End, Limits};
 use std::alloc::Global;
-use twe_io::Memory;
+use twe_base::Memory;
 
 /// Settles a segment of this task that left this frame and stopped in this way, and returns the end of the move. It
 /// marks the child as joined whose join the segment began with, stores the frame, adds a task that the segment makes,
@@ -80,8 +80,9 @@ fn stop_task(
 fn go_on(alloc: Global, st: &mut State, t: u32, frame: Frame, end: End) -> Result<End, Memory>
     requires there { t < length st.old.tasks }
     requires linked { length st.old.links ≡ length st.old.tasks }
-    requires above { ForSome (awaited frame.next) (λ on. (t < on) × (on < length st.old.tasks)) }
-    ensures state { OnOk result ((row : TaskRow) → IsRow st.old t row → st.new ≡ state_after_storing st.old t frame (going_row row frame)) }
+    requires above { ForSome (row_awaited frame.next) (λ on. (t < on) × (on < length st.old.tasks)) }
+    ensures state { OnOk result ((row : TaskRow)
+        → IsRow st.old t row → st.new ≡ state_after_storing st.old t frame (going_row row frame)) }
     ensures end { IfOk result (λ told. told ≡ end) }
 {
     come_home(alloc, st, t, frame)?;

@@ -3,7 +3,7 @@
 use effect_sets::Summary;
 use seg_exec::Frame;
 use seg_journal::FaultKind;
-use twe_io::{Ints, List, Place};
+use twe_base::{Ints, List, Place};
 use wait_graph::Links;
 
 /// The status of a task.

@@ -5,14 +5,14 @@ ghost use Rattle.seg_journal.specs.declared.journal.End.TheVariants as ends;
 ghost use Rattle.twe_machine.specs.declared.state.TaskRow.{TaskRow};
 ghost use Rattle.twe_machine.specs.declared.state.TaskStatus.TheVariants.{Done};
 ghost use Rattle.twe_machine.specs.Moves.{state_after_fault, state_after_finish, first_fault_of, stopped_frame};
-ghost use Rattle.twe_machine.specs.Rows.{IsRow, awaited};
+ghost use Rattle.twe_machine.specs.Rows.{IsRow, row_awaited};
 
 use crate::coming_home::come_home;
 use crate::state::{FirstFault, State, TaskRow, TaskStatus};
 use seg_exec::{Frame, Next};
 use seg_journal::{End, FaultKind};
 use std::alloc::Global;
-use twe_io::{List, Memory, Place};
+use twe_base::{List, Memory, Place};
 
 /// Ends a task with a value.
 pub(crate) fn finish(
@@ -24,7 +24,7 @@ pub(crate) fn finish(
 ) -> Result<End, Memory>
     requires there { t < length st.old.tasks }
     requires linked { length st.old.links ≡ length st.old.tasks }
-    requires above { ForSome (awaited frame.next) (λ on. (t < on) × (on < length st.old.tasks)) }
+    requires above { ForSome (row_awaited frame.next) (λ on. (t < on) × (on < length st.old.tasks)) }
     ensures state { OnOk result ((row : TaskRow) → IsRow st.old t row → st.new ≡ state_after_finish st.old t row frame value) }
     ensures end { IfOk result (λ end. end ≡ ends.Done value) }
 {
@@ -53,8 +53,9 @@ pub(crate) fn fail(
 ) -> Result<End, Memory>
     requires there { t < length st.old.tasks }
     requires linked { length st.old.links ≡ length st.old.tasks }
-    requires above { ForSome (awaited frame.next) (λ on. (t < on) × (on < length st.old.tasks)) }
-    ensures state { OnOk result ((row : TaskRow) → IsRow st.old t row → st.new ≡ state_after_fault st.old t row frame kind place) }
+    requires above { ForSome (row_awaited frame.next) (λ on. (t < on) × (on < length st.old.tasks)) }
+    ensures state { OnOk result ((row : TaskRow)
+        → IsRow st.old t row → st.new ≡ state_after_fault st.old t row frame kind place) }
     ensures end { IfOk result (λ end. end ≡ ends.Fault kind place) }
 {
     come_home(alloc, st, t, frame)?;

@@ -1,7 +1,7 @@
 -- What a body assigns comes after the parameters.
 use Rattle.std.proofs.Common.{◌≡◌, ◌≤◌, ℕ, ◌+◌, false, List, [], ◌∷◌, ◌++◌, Option, None, Some, arith}
 use Rattle.std.proofs.lemmas.Bool.{true≢false}
-use Rattle.twe_io.specs.declared.place.Place.{Place}
+use Rattle.twe_base.specs.declared.place.Place.{Place}
 use Rattle.twe_ast.specs.declared.item.ReturnType.{ReturnType}
 use Rattle.twe_ast.specs.declared.name.Name.{Name}
 use Rattle.twe_ast.specs.declared.stmt.LocalType.TheVariants as types
@@ -16,7 +16,7 @@ use Rattle.name_check.specs.declared.binding.Binding.TheVariants as bindings
 use Rattle.name_check.specs.declared.names.GlobalName.{GlobalName}
 use Rattle.name_check.specs.declared.scope.BodyScope.{BodyScope}
 use Rattle.name_check.specs.Names.{binding_of}
-use Rattle.name_check.specs.BodyScope.{counted, after, after_block, params_from}
+use Rattle.name_check.specs.BodyScope.{counted_binding, after, after_block, params_from}
 use Rattle.name_check.specs.Asks.{asks_of}
 use Rattle.name_check.specs.Sites.{sites_at, sites_in, sites_in_all, sites_in_arms}
 use Rattle.twe_names.specs.BodyMeaning.{expression_of, set_of, statement_of, statements_of, arms_of}
@@ -51,7 +51,7 @@ module _ (globals : List GlobalName) (returns : ReturnType) (n : ℕ) where
   after-free here (Set name value) free below = free
   after-free here (SetArray array index value) free below = free
   after-free here (SetGrid array row column value) free below = free
-  after-free here (If arms) free below = arms-hold (FreeFrom n) globals (counted here) arms free
+  after-free here (If arms) free below = arms-hold (FreeFrom n) globals (counted_binding here) arms free
   after-free here (While place condition body) free below = free
   after-free here (Return place value) free below = free
   after-free here (Print place value) free below = free
@@ -62,16 +62,16 @@ module _ (globals : List GlobalName) (returns : ReturnType) (n : ℕ) where
 
   mutual
     sets : (here : BodyScope) (s : Statement) → Free here → n ≤ here.vars → AllClean globals (sites_in globals returns here s) → SetsFrom n (statement_of globals here s)
-    sets here (Block body) free below clean = all-set (counted here) body free below clean
+    sets here (Block body) free below clean = all-set (counted_binding here) body free below clean
     sets here (Let is_final local_type name value) free below clean = tt
     sets here (Set name value) free below clean =
         set-from n here.points (binding_of globals here.locals name.text) (expression_of globals here.locals value) name.place clean.0 (binding_of-holds (FreeFrom n) globals here.locals name.text free)
     sets here (SetArray array index value) free below clean = tt
     sets here (SetGrid array row column value) free below clean = tt
-    sets here (If arms) free below clean = arms-set (counted here) arms free below clean
+    sets here (If arms) free below clean = arms-set (counted_binding here) arms free below clean
     sets here (While place condition body) free below clean =
-        all-set (counted here) body free below
-        (all-back (SiteClean globals) (sites_at here.locals returns (asks_of globals here.locals (Some types.Boolean) condition)) (sites_in_all globals returns (counted here) body) clean)
+        all-set (counted_binding here) body free below
+        (all-back (SiteClean globals) (sites_at here.locals returns (asks_of globals here.locals (Some types.Boolean) condition)) (sites_in_all globals returns (counted_binding here) body) clean)
     sets here (Return place value) free below clean = tt
     sets here (Print place value) free below clean = tt
     sets here (Call method args) free below clean = tt

@@ -2,7 +2,7 @@
 use Rattle.std.proofs.Common.{◌≡◌, ◌<◌, ◌≤◌, ℕ, ◌+◌, List, [], ◌∷◌, ◌++◌, Option, length, get_or, drop, refl, ap, sym, subst, ◌∙◌, add-one, suc, None, Some}
 use Rattle.std.proofs.Math.Seq.{drop-cons}
 use Rattle.std.proofs.lemmas.List.{drop_all}
-use Rattle.twe_io.specs.declared.place.Place.{Place}
+use Rattle.twe_base.specs.declared.place.Place.{Place}
 use Rattle.twe_ast.specs.Statement as ast
 use Rattle.twe_ast.specs.declared.stmt.Arm as written_arm
 use Rattle.twe_ast.specs.inner.StatementView as written

@@ -1,6 +1,6 @@
 -- The end of a body.
 use Rattle.std.proofs.Common.{◌≡◌, ◌<◌, ◌+◌, ◌^◌, List, [], ◌∷◌, refl, ap, ◌∙◌, arith}
-use Rattle.twe_io.specs.declared.place.Place.{Place}
+use Rattle.twe_base.specs.declared.place.Place.{Place}
 use Rattle.twe_ast.specs.declared.item.Decl.{Decl}
 use Rattle.twe_ast.specs.Statement.{Statement, Statements}
 use Rattle.twe_ast.specs.inner.StatementView.{statements_of}

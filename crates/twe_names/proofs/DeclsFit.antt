@@ -3,7 +3,7 @@ use Rattle.std.proofs.Common.{◌≡◌, ◌≤◌, ℕ, ◌+◌, Bool, true, fa
 use Rattle.std.specs.List.{AllByRecursion, flat_map}
 use Rattle.std.proofs.lemmas.List.{length-map}
 use Rattle.std.proofs.lemmas.Bool.{and_parts, false≢true}
-use Rattle.twe_limits.specs.Language.{max_effects, max_parameters, max_path_elements}
+use Rattle.twe_base.specs.Language.{max_effects, max_parameters, max_path_elements}
 use Rattle.twe_ast.specs.declared.item.Clause.{Clause}
 use Rattle.twe_ast.specs.declared.item.Decl.{Decl}
 use Rattle.twe_ast.specs.declared.name.Name.{Name}
@@ -14,13 +14,13 @@ use Rattle.twe_program.specs.Numbering.{Declared, futures_of_all}
 use Rattle.twe_program.specs.WellFormed.{IsNumbered, DeclFits, MethodFits}
 use Rattle.name_check.specs.declared.names.GlobalName.{GlobalName}
 use Rattle.name_check.specs.declared.scope.BodyScope.{BodyScope}
-use Rattle.name_check.specs.BodyScope.{counted, after, after_all, after_arms, after_block, params_from, params_of}
+use Rattle.name_check.specs.BodyScope.{counted_binding, after, after_all, after_arms, after_block, params_from, params_of}
 use Rattle.name_check.specs.Sites.{sites_at, sites_of_params, sites_in_all, sites_of_decl, at_body, asks_of_clause}
 use Rattle.name_check.specs.Limits.{paths_of}
 use Rattle.twe_names.specs.FromText.{makes_none, all_make_none, arms_make_none}
 use Rattle.twe_names.specs.PathMeaning.{effects_of_clause}
 use Rattle.twe_names.specs.BodyMeaning.{statements_of}
-use Rattle.twe_names.specs.Meaning.{returns_value, body_of, decl_of}
+use Rattle.twe_names.specs.Meaning.{returns_value, declared_body, decl_of}
 use Rattle.twe_names.proofs.Lists.{all-front, all-back}
 use Rattle.twe_names.proofs.Numbered.{numbered_all}
 use Rattle.twe_names.proofs.Clean.{SiteClean, AllClean, asks-clean}
@@ -53,13 +53,13 @@ module _ (globals : List GlobalName) where
 
   mutual
     made-none : (here : BodyScope) (s : Statement) → makes_none s ≡ true → (after globals here s).futures ≡ here.futures
-    made-none here (Block body) h = made-none_all (counted here) body h
+    made-none here (Block body) h = made-none_all (counted_binding here) body h
     made-none here (Let is_final local_type name value) h = refl
     made-none here (Set name value) h = refl
     made-none here (SetArray array index value) h = refl
     made-none here (SetGrid array row column value) h = refl
-    made-none here (If arms) h = made-none_arms (counted here) arms h
-    made-none here (While place condition body) h = made-none_all (counted here) body h
+    made-none here (If arms) h = made-none_arms (counted_binding here) arms h
+    made-none here (While place condition body) h = made-none_all (counted_binding here) body h
     made-none here (Return place value) h = refl
     made-none here (Print place value) h = refl
     made-none here (Call method args) h = refl
@@ -80,7 +80,7 @@ module _ (globals : List GlobalName) where
     made-none_arms here (otherwise body) h = made-none_all here body h
     made-none_arms here no_else h = refl
 
-  body-numbered : (decl : Decl) → IsNumbered (length decl.params) (body_of globals decl)
+  body-numbered : (decl : Decl) → IsNumbered (length decl.params) (declared_body globals decl)
   body-numbered decl =
       let n = numbered_all globals (at_body decl) decl.body in
       record {

@@ -1,6 +1,6 @@
 -- What an expression means fits, where what it asks for is there.
 use Rattle.std.proofs.Common.{◌≡◌, ℕ, ◌+◌, Bool, true, List, Option, None, Some, slice_get, refl, sym, ap, ◌∙◌, subst}
-use Rattle.twe_io.specs.declared.place.Place.{Place}
+use Rattle.twe_base.specs.declared.place.Place.{Place}
 use Rattle.twe_ast.specs.declared.item.ReturnType.{ReturnType}
 use Rattle.twe_ast.specs.declared.item.ReturnType.TheVariants as return_types
 use Rattle.twe_ast.specs.declared.stmt.LocalType.{LocalType}
@@ -21,7 +21,7 @@ use Rattle.name_check.specs.Names.{binding_of}
 use Rattle.name_check.specs.Types as names
 use Rattle.name_check.specs.Types.{left_need, right_need, type_of}
 use Rattle.name_check.specs.Asks.{need, asks_of, asks_inside, asks_of_all}
-use Rattle.twe_names.specs.BodyMeaning.{cells_number, method_number, value_of, expression_of, shape_of, arguments_of}
+use Rattle.twe_names.specs.BodyMeaning.{cells_number, method_number, value_meaning, expression_of, shape_of, arguments_of}
 use Rattle.twe_names.specs.Meaning.{returns_value}
 use Rattle.twe_names.proofs.Lists.{all-front, all-back}
 use Rattle.twe_names.proofs.Clean.{UseClean, AskClean, AsksClean}
@@ -43,7 +43,7 @@ module _ (p : Program) (vars : ℕ) (futures : List Declared) (int : Bool) where
   abbrev scope : Scope
   scope = scope_with p vars futures int
 
-  value-fits : (o : Option Binding) (place : Place) → UseClean name_use.Value o → SeenThere p vars futures o → ExpressionFits scope (value_of o place)
+  value-fits : (o : Option Binding) (place : Place) → UseClean name_use.Value o → SeenThere p vars futures o → ExpressionFits scope (value_meaning o place)
   value-fits None place h k = absurd h
   value-fits (Some (bindings.Local (local_kinds.Variable number type constant))) place h k = k
   value-fits (Some (bindings.Local (local_kinds.Future number spawned void))) place h k = absurd h
@@ -77,16 +77,16 @@ module _ (p : Program) (vars : ℕ) (futures : List Declared) (int : Bool) where
     there : (text : List ℕ) → SeenThere p vars futures (binding_of globals locals text)
     there text = binding_of-there p vars futures globals locals globals_there locals_there text
 
-    pub arguments-counted : (args : ast.Arguments) → count_of (arguments_of globals locals args) ≡ names.count_of args
+    pub arguments-counted : (args : ast.Arguments) → count_of (arguments_of globals locals args) ≡ names.argument_count args
     arguments-counted ast.no_more = refl
     arguments-counted (ast.argument first others) = ap (λ n. n + 1) (arguments-counted others)
 
-    pub call-taken : (method : List ℕ) (args : ast.Arguments) (valued : Bool) → UseClean (name_use.Method (names.count_of args) valued) (binding_of globals locals method)
+    pub call-taken : (method : List ℕ) (args : ast.Arguments) (valued : Bool) → UseClean (name_use.Method (names.argument_count args) valued) (binding_of globals locals method)
         → TakesArguments (slice_get p.methods (method_number (binding_of globals locals method))) (count_of (arguments_of globals locals args))
         × (valued ≡ true → ReturnsValue (slice_get p.methods (method_number (binding_of globals locals method))))
     call-taken method args valued h =
         let o = binding_of globals locals method in
-        let fit = call-fits (names.count_of args) valued o h (there method) in
+        let fit = call-fits (names.argument_count args) valued o h (there method) in
         (subst (TakesArguments (slice_get p.methods (method_number o))) (sym (arguments-counted args)) fit.0, fit.1)
 
     mutual

@@ -13,7 +13,7 @@ use Rattle.twe_program.specs.declared.program.CellDecl.{CellDecl}
 use Rattle.twe_program.specs.declared.program.Decl.{Decl}
 use Rattle.twe_program.specs.Program.{Program, size_of}
 use Rattle.twe_program.specs.Fitting.{HasShape, no_index, one_index, two_indexes, TakesIndexes}
-use Rattle.cell_limits.specs.GoesOver.{cells_of}
+use Rattle.name_check.specs.cell_limits.GoesOver.{cells_of}
 use Rattle.name_check.specs.declared.names.GlobalName.{GlobalName}
 use Rattle.name_check.specs.Names.{Before, at_start, indexes_of, regions_from, past, globals_from, globals_of}
 use Rattle.twe_names.specs.Meaning.{regions_of_item, dims_of, cell_of, cells_from, decl_of, methods_of_item, tasks_of_item, program_of}

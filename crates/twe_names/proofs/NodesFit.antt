@@ -4,7 +4,7 @@ use Rattle.std.specs.Prelude.{Contains}
 use Rattle.std.proofs.lemmas.Bool.{cases_lt}
 use Rattle.std.proofs.lemmas.List.{map-append, length-take-le, get_or-take}
 use Rattle.region_paths.specs.declared.elements.Elem.{Elem}
-use Rattle.twe_limits.specs.Language.{max_nodes}
+use Rattle.twe_base.specs.Language.{max_nodes}
 use Rattle.twe_ast.specs.declared.item.Ast.{Ast}
 use Rattle.twe_ast.specs.declared.item.CellDecl as written
 use Rattle.twe_ast.specs.declared.item.CellShape.{CellShape}
@@ -15,10 +15,10 @@ use Rattle.twe_ast.specs.declared.path.CellElemKind.TheVariants.{Name, Index}
 use Rattle.twe_program.specs.declared.program.CellDecl.{CellDecl}
 use Rattle.twe_program.specs.Program.{size_of}
 use Rattle.twe_program.specs.Nodes as program
-use Rattle.cell_limits.specs.Nodes as text
-use Rattle.cell_limits.specs.Nodes.{written_path, IsNode, of_console, of_cell, HasNodes}
-use Rattle.cell_limits.specs.GoesOver.{cells_of}
-use Rattle.cell_limits.proofs.Distinct.{Contains-here, Contains-later, choose}
+use Rattle.name_check.specs.cell_limits.Nodes as text
+use Rattle.name_check.specs.cell_limits.Nodes.{written_path, IsPathNode, of_console, of_cell, HasNodes}
+use Rattle.name_check.specs.cell_limits.GoesOver.{cells_of}
+use Rattle.name_check.proofs.cell_limits.Distinct.{Contains-here, Contains-later, choose}
 use Rattle.name_check.specs.declared.names.GlobalName.{GlobalName}
 use Rattle.name_check.specs.Names.{globals_of}
 use Rattle.twe_names.specs.PathMeaning.{elem_of_cell_kind, cell_path_of}
@@ -69,7 +69,7 @@ module _ (globals : List GlobalName) where
 
   -- what a declaration of the program declares is what one of the text declares
   declared-meaning : (at : List CellElemKind) (shape : CellShape) (declared : List Elem) → program.Declares (meaning at) (dims_of shape) declared
-      → (path : List CellElemKind) × text.Declares at shape path × (declared ≡ meaning path)
+      → (path : List CellElemKind) × text.DeclaresCells at shape path × (declared ≡ meaning path)
   declared-meaning at (shapes.Scalar initial) declared e = (at, refl, e)
   declared-meaning at (shapes.Array elements) declared (inl e) = (at, inl refl, e)
   declared-meaning at (shapes.Array elements) declared (inr (i, below, e)) = (
@@ -100,7 +100,7 @@ module _ (globals : List GlobalName) where
 
   -- so is each node
   node-of-cell : (cells : List written.CellDecl) (one : written.CellDecl) → Contains cells one → (path : List Elem)
-      → program.IsPrefixOfDeclared (cell_path_of globals one.path).elems (dims_of one.shape) path → (node : List CellElemKind) × IsNode cells node × (meaning node ≡ path)
+      → program.IsPrefixOfDeclared (cell_path_of globals one.path).elems (dims_of one.shape) path → (node : List CellElemKind) × IsPathNode cells node × (meaning node ≡ path)
   node-of-cell cells one there path (declared, is, (rest, e)) =
       let at = written_path one in
       let written_at : program.Declares (meaning at) (dims_of one.shape) declared =
@@ -109,14 +109,14 @@ module _ (globals : List GlobalName) where
       let front = front-meaning d.0 path rest (sym d.2 ∙ e) in
       (front.0, of_cell one d.0 front.1 there d.1 front.2, front.3)
 
-  node-of-console : (cells : List written.CellDecl) (path : List Elem) → program.BeginsWith program.console path → (node : List CellElemKind) × IsNode cells node × (meaning node ≡ path)
+  node-of-console : (cells : List written.CellDecl) (path : List Elem) → program.PathBeginsWith program.console path → (node : List CellElemKind) × IsPathNode cells node × (meaning node ≡ path)
   node-of-console cells path (rest, e) =
-      let front = front-meaning text.console path rest e in
+      let front = front-meaning text.console_name path rest e in
       (front.0, of_console front.1 front.2, front.3)
 
 module _ (ast : Ast) where
   node-meaning : (path : List Elem) → program.IsNodePath (program_of ast) path
-      → (node : List CellElemKind) × IsNode (cells_of ast.items) node × (meaning (globals_of ast) node ≡ path)
+      → (node : List CellElemKind) × IsPathNode (cells_of ast.items) node × (meaning (globals_of ast) node ≡ path)
   node-meaning path h =
       let globals = globals_of ast in
       let cells = cells_of ast.items in
@@ -130,7 +130,7 @@ module _ (ast : Ast) where
   -- if the text has few nodes, the program has few
   pub few-nodes : ¬ HasNodes (cells_of ast.items) (max_nodes + 1) → program.HasNodesAtMost (program_of ast) max_nodes
   few-nodes few nodes distinct each =
-      let chosen = choose (meaning (globals_of ast)) (IsNode (cells_of ast.items)) nodes distinct (λ path c. node-meaning path (each path c)) in
+      let chosen = choose (meaning (globals_of ast)) (IsPathNode (cells_of ast.items)) nodes distinct (λ path c. node-meaning path (each path c)) in
       ⊎_elim
       (λ (many : max_nodes < length nodes).
       absurd

@@ -3,7 +3,7 @@ use Rattle.std.proofs.Common.{◌≡◌, ℕ, suc, ◌+◌, Bool, List, [], ◌�
 use Rattle.twe_ast.specs.declared.stmt.LocalType.{LocalType}
 use Rattle.twe_ast.specs.declared.stmt.LocalType.TheVariants as types
 use Rattle.twe_ast.specs.Statement.{Statement, Block, Let, Set, SetArray, SetGrid, If, While, Return, Print, Call, Make, Wait, LetWait, Statements, end_of_block, statement, Arms, arm, otherwise, no_else}
-use Rattle.twe_io.specs.declared.place.Place.{Place}
+use Rattle.twe_base.specs.declared.place.Place.{Place}
 use Rattle.twe_program.specs.Expression.{Expression}
 use Rattle.twe_program.specs.Numbering.{CountUp, Declared, points_of, points_of_all, points_of_arms, locals_of, locals_of_all, locals_of_arms, futures_of, futures_of_all, futures_of_arms}
 use Rattle.name_check.specs.declared.names.GlobalName.{GlobalName}
@@ -12,7 +12,7 @@ use Rattle.name_check.specs.declared.binding.Local.TheVariants as local_kinds
 use Rattle.name_check.specs.declared.binding.Binding.{Binding}
 use Rattle.name_check.specs.declared.binding.Binding.TheVariants as bindings
 use Rattle.name_check.specs.Names.{binding_of}
-use Rattle.name_check.specs.BodyScope.{counted, leaving, with_variable, after, after_all, after_arms, after_block}
+use Rattle.name_check.specs.BodyScope.{counted_binding, leaving, with_variable, after, after_all, after_arms, after_block}
 use Rattle.twe_names.specs.BodyMeaning.{set_of, statement_of, statements_of, arms_of, expression_of}
 use Rattle.twe_names.proofs.Lists.{count_up-append}
 
@@ -67,7 +67,7 @@ numbered-none here = record {
 }
 
 -- one statement that declares nothing
-numbered-one : (here : BodyScope) → Numbered here (counted here) (here.points ∷ []) [] []
+numbered-one : (here : BodyScope) → Numbered here (counted_binding here) (here.points ∷ []) [] []
 numbered-one here = record {
   points_up = (refl, tt);
   points_end = refl;
@@ -88,16 +88,16 @@ numbered-leaving outside a b ps ls fs h = record {
 }
 
 -- the statement, and then what is inside it
-numbered-inside : (here to : BodyScope) (ps ls : List ℕ) (fs : List Declared) → Numbered (counted here) to ps ls fs → Numbered here to (here.points ∷ ps) ls fs
-numbered-inside here to ps ls fs h = numbered-join here (counted here) to (here.points ∷ []) ps [] ls [] fs (numbered-one here) h
+numbered-inside : (here to : BodyScope) (ps ls : List ℕ) (fs : List Declared) → Numbered (counted_binding here) to ps ls fs → Numbered here to (here.points ∷ ps) ls fs
+numbered-inside here to ps ls fs h = numbered-join here (counted_binding here) to (here.points ∷ []) ps [] ls [] fs (numbered-one here) h
 
 numbered-block : (here to : BodyScope) (ps ls : List ℕ) (fs : List Declared)
-    → Numbered (counted here) to ps ls fs → Numbered here (leaving (counted here) to) (here.points ∷ ps) ls fs
+    → Numbered (counted_binding here) to ps ls fs → Numbered here (leaving (counted_binding here) to) (here.points ∷ ps) ls fs
 numbered-block here to ps ls fs h =
-    numbered-inside here (leaving (counted here) to) ps ls fs (numbered-leaving (counted here) (counted here) to ps ls fs h)
+    numbered-inside here (leaving (counted_binding here) to) ps ls fs (numbered-leaving (counted_binding here) (counted_binding here) to ps ls fs h)
 
 numbered-variable : (here : BodyScope) (text : List ℕ) (type : LocalType) (constant : Bool)
-    → Numbered here (with_variable (counted here) text type constant) (here.points ∷ []) (here.vars ∷ []) []
+    → Numbered here (with_variable (counted_binding here) text type constant) (here.points ∷ []) (here.vars ∷ []) []
 numbered-variable here text type constant = record {
   points_up = (refl, tt);
   points_end = refl;
@@ -108,7 +108,7 @@ numbered-variable here text type constant = record {
 }
 
 numbered-set : (here : BodyScope) (o : Option Binding) (value : Expression) (place : Place)
-    → Numbered here (counted here) (points_of (set_of here.points o value place)) (locals_of (set_of here.points o value place)) (futures_of (set_of here.points o value place))
+    → Numbered here (counted_binding here) (points_of (set_of here.points o value place)) (locals_of (set_of here.points o value place)) (futures_of (set_of here.points o value place))
 numbered-set here None value place = numbered-one here
 numbered-set here (Some (bindings.Global global)) value place = numbered-one here
 numbered-set here (Some (bindings.Local (local_kinds.Variable number type constant))) value place = numbered-one here
@@ -119,19 +119,19 @@ module _ (globals : List GlobalName) where
     pub numbered : (here : BodyScope) (s : Statement)
         → Numbered here (after globals here s) (points_of (statement_of globals here s)) (locals_of (statement_of globals here s)) (futures_of (statement_of globals here s))
     numbered here (Block body) =
-        let inner = statements_of globals (counted here) body in
-        numbered-block here (after_all globals (counted here) body) (points_of_all inner) (locals_of_all inner) (futures_of_all inner) (numbered_all (counted here) body)
+        let inner = statements_of globals (counted_binding here) body in
+        numbered-block here (after_all globals (counted_binding here) body) (points_of_all inner) (locals_of_all inner) (futures_of_all inner) (numbered_all (counted_binding here) body)
     numbered here (Let is_final local_type name value) = numbered-variable here name.text local_type is_final
     numbered here (Set name value) =
         numbered-set here (binding_of globals here.locals name.text) (expression_of globals here.locals value) name.place
     numbered here (SetArray array index value) = numbered-one here
     numbered here (SetGrid array row column value) = numbered-one here
     numbered here (If arms) =
-        let inner = arms_of globals (counted here) arms in
-        numbered-inside here (after_arms globals (counted here) arms) (points_of_arms inner) (locals_of_arms inner) (futures_of_arms inner) (numbered_arms (counted here) arms)
+        let inner = arms_of globals (counted_binding here) arms in
+        numbered-inside here (after_arms globals (counted_binding here) arms) (points_of_arms inner) (locals_of_arms inner) (futures_of_arms inner) (numbered_arms (counted_binding here) arms)
     numbered here (While place condition body) =
-        let inner = statements_of globals (counted here) body in
-        numbered-block here (after_all globals (counted here) body) (points_of_all inner) (locals_of_all inner) (futures_of_all inner) (numbered_all (counted here) body)
+        let inner = statements_of globals (counted_binding here) body in
+        numbered-block here (after_all globals (counted_binding here) body) (points_of_all inner) (locals_of_all inner) (futures_of_all inner) (numbered_all (counted_binding here) body)
     numbered here (Return place value) = numbered-one here
     numbered here (Print place value) = numbered-one here
     numbered here (Call method args) = numbered-one here

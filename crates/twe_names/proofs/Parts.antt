@@ -6,9 +6,9 @@ use Rattle.twe_ast.specs.declared.item.Item.{Item}
 use Rattle.twe_program.specs.declared.program.CellDecl.{CellDecl}
 use Rattle.twe_program.specs.declared.program.Decl.{Decl}
 use Rattle.twe_program.specs.Program.{Program, cells_made}
-use Rattle.twe_limits.specs.Language.{max_cells}
+use Rattle.twe_base.specs.Language.{max_cells}
 use Rattle.twe_program.specs.WellFormed.{IsWellFormed}
-use Rattle.cell_limits.specs.GoesOver.{cells_of}
+use Rattle.name_check.specs.cell_limits.GoesOver.{cells_of}
 use Rattle.name_check.specs.declared.names.GlobalName.{GlobalName}
 use Rattle.name_check.specs.Names.{globals_of, binding_of}
 use Rattle.twe_names.specs.BodyMeaning.{task_number}

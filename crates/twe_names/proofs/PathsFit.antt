@@ -4,8 +4,8 @@ use Rattle.std.specs.List.{AllByRecursion, flat_map, list_any}
 use Rattle.std.proofs.lemmas.List.Concat.{flat_map-append}
 use Rattle.region_paths.specs.declared.elements.Elem.{Elem}
 use Rattle.effect_sets.specs.declared.effects.Effect.{Effect}
-use Rattle.twe_limits.specs.Language.{max_path_elements}
-use Rattle.twe_io.specs.declared.place.Place.{Place}
+use Rattle.twe_base.specs.Language.{max_path_elements}
+use Rattle.twe_base.specs.declared.place.Place.{Place}
 use Rattle.twe_ast.specs.declared.item.Clause.{Clause}
 use Rattle.twe_ast.specs.declared.item.ReturnType.{ReturnType}
 use Rattle.twe_ast.specs.declared.path.Path.{Path}
@@ -27,7 +27,7 @@ use Rattle.name_check.specs.declared.scope.LocalName.{LocalName}
 use Rattle.name_check.specs.Names.{first_local, global_of, either, binding_of_local, seen_as_global}
 use Rattle.name_check.specs.Sites.{asks_of_kind, asks_of_path, asks_of_clause, asks_of_cell_kind}
 use Rattle.name_check.specs.Limits.{is_star, is_star_kind}
-use Rattle.twe_names.specs.PathMeaning.{region_number, param_number, elem_of_kind, elems_of, before_star, after_star, path_of, effects_of_clause, elem_of_cell_kind}
+use Rattle.twe_names.specs.PathMeaning.{region_number, param_number, elem_of_kind, elems_of, before_star, after_star, path_meaning, effects_of_clause, elem_of_cell_kind}
 use Rattle.twe_names.proofs.Lists.{all-append, all-front, all-back}
 use Rattle.twe_names.proofs.Clean.{UseClean, AskClean, AsksClean}
 use Rattle.twe_names.proofs.There.{SeenThere, AllLocalsThere, GlobalsThere, chosen, global-there}
@@ -117,7 +117,7 @@ module _ (p : Program) (globals : List GlobalName) (globals_there : GlobalsThere
         (elem-fits elem.kind elem.place (all-front P one more h)) (elems-fit elems (all-back P one more h))
 
     path-fits : (path : Path) → length path.elems ≤ max_path_elements → AsksClean globals params returns (asks_of_path path)
-        → PathFits (length p.regions) count (path_of globals params path)
+        → PathFits (length p.regions) count (path_meaning globals params path)
     path-fits path short h =
         let P = ElementFits (length p.regions) count in
         let front = elems_of globals params (before_star path.elems) in
@@ -136,7 +136,7 @@ module _ (p : Program) (globals : List GlobalName) (globals_there : GlobalsThere
 
     paths-fit : (write : Bool) (paths : List Path) → AllByRecursion (λ (path : Path). length path.elems ≤ max_path_elements) paths
         → AsksClean globals params returns (flat_map asks_of_path paths)
-        → AllByRecursion EffectFits (map (λ (path : Path). record { write = write; path = path_of globals params path }) paths)
+        → AllByRecursion EffectFits (map (λ (path : Path). record { write = write; path = path_meaning globals params path }) paths)
     paths-fit write [] short h = tt
     paths-fit write (path ∷ paths) short h =
         let P = AskClean globals params returns in

@@ -9,7 +9,7 @@ use Rattle.twe_ast.specs.declared.item.Clause.{Clause}
 use Rattle.twe_ast.specs.declared.item.Decl.{Decl}
 use Rattle.twe_ast.specs.declared.item.Item.{Item}
 use Rattle.twe_ast.specs.declared.item.Item.TheVariants as items
-use Rattle.cell_limits.specs.GoesOver.{cells_of_item}
+use Rattle.name_check.specs.cell_limits.GoesOver.{cells_of_item}
 use Rattle.name_check.specs.Limits.{decls_of, decls_of_item}
 use Rattle.name_check.specs.Size.{size_of_decl, size_of_item}
 use Rattle.twe_names.specs.FromText.{IsFromText}

@@ -1,7 +1,7 @@
 -- What a statement means fits, where what it asks for is there.
 use Rattle.std.proofs.Common.{◌≡◌, ◌<◌, ◌≤◌, ℕ, Bool, true, false, List, [], ◌∷◌, ◌++◌, Option, None, Some, slice_get, refl, sym, ap, ◌∙◌, subst, arith}
 use Rattle.std.proofs.lemmas.Bool.{true≢false}
-use Rattle.twe_io.specs.declared.place.Place.{Place}
+use Rattle.twe_base.specs.declared.place.Place.{Place}
 use Rattle.twe_ast.specs.declared.item.ReturnType.{ReturnType}
 use Rattle.twe_ast.specs.declared.item.ReturnType.TheVariants as return_types
 use Rattle.twe_ast.specs.declared.stmt.LocalType.{LocalType}
@@ -21,7 +21,7 @@ use Rattle.name_check.specs.declared.names.GlobalName.{GlobalName}
 use Rattle.name_check.specs.declared.scope.LocalName.{LocalName}
 use Rattle.name_check.specs.declared.scope.BodyScope.{BodyScope}
 use Rattle.name_check.specs.Names.{binding_of}
-use Rattle.name_check.specs.BodyScope.{counted, is_void, after, after_all, after_arms, after_block}
+use Rattle.name_check.specs.BodyScope.{counted_binding, is_void, after, after_all, after_arms, after_block}
 use Rattle.name_check.specs.Types as names
 use Rattle.name_check.specs.Asks.{asks_of, place_of}
 use Rattle.name_check.specs.Asks as asks
@@ -126,7 +126,7 @@ module _ (p : Program) (vars : ℕ) (futures : List Declared) (int : Bool) where
           → Room vars futures here.futures (after globals here s).vars (futures_of (statement_of globals here s))
           → AllClean globals (sites_in globals returns here s)
           → StatementFits scope (statement_of globals here s) × LocalsThere (after globals here s)
-      statement-fits here (Block body) seen_there room clean = (statements-fit (counted here) body seen_there room clean, seen_there)
+      statement-fits here (Block body) seen_there room clean = (statements-fit (counted_binding here) body seen_there room clean, seen_there)
       statement-fits here (Let is_final local_type name value) seen_there room clean =
           let h = asked-at here (asks.declares name ∷ asks_of globals here.locals (Some local_type) value) clean in
           let below : here.vars < vars = omega (arith, room.vars_fit) in
@@ -166,14 +166,14 @@ module _ (p : Program) (vars : ℕ) (futures : List Declared) (int : Bool) where
             ),
             seen_there,
           )
-      statement-fits here (If arms) seen_there room clean = (arms-fit (counted here) arms seen_there room clean, arms-there (counted here) arms seen_there)
+      statement-fits here (If arms) seen_there room clean = (arms-fit (counted_binding here) arms seen_there room clean, arms-there (counted_binding here) arms seen_there)
       statement-fits here (While place condition body) seen_there room clean =
           let a = asks_of globals here.locals (Some types.Boolean) condition in
           let own = sites_at here.locals returns a in
-          let inner = sites_in_all globals returns (counted here) body in (
+          let inner = sites_in_all globals returns (counted_binding here) body in (
             (
               value-fits here seen_there condition (Some types.Boolean) (asked-at here a (all-front (SiteClean globals) own inner clean)),
-              statements-fit (counted here) body seen_there room (all-back (SiteClean globals) own inner clean),
+              statements-fit (counted_binding here) body seen_there room (all-back (SiteClean globals) own inner clean),
             ),
             seen_there,
           )
@@ -183,13 +183,13 @@ module _ (p : Program) (vars : ℕ) (futures : List Declared) (int : Bool) where
       statement-fits here (Print place value) seen_there room clean =
           (value-fits here seen_there value (Some types.Int) (asked-at here (asks_of globals here.locals (Some types.Int) value) clean), seen_there)
       statement-fits here (Call method args) seen_there room clean =
-          let h = asked-at here (asks.uses method (name_use.Method (names.count_of args) false) ∷ asks.asks_of_all globals here.locals args) clean in
+          let h = asked-at here (asks.uses method (name_use.Method (names.argument_count args) false) ∷ asks.asks_of_all globals here.locals args) clean in
           let taken = call-taken p vars futures int globals globals_there here.locals seen_there returns method.text args false h.0 in
           ((taken.0, arguments-fit p vars futures int globals globals_there here.locals seen_there returns args h.1), seen_there)
       statement-fits here (Make future task spawned args) seen_there room clean =
-          let h = asked-at here (asks.declares future ∷ asks.uses task (name_use.Task (names.count_of args)) ∷ asks.asks_of_all globals here.locals args) clean in
+          let h = asked-at here (asks.declares future ∷ asks.uses task (name_use.Task (names.argument_count args)) ∷ asks.asks_of_all globals here.locals args) clean in
           let o = binding_of globals here.locals task.text in
-          let fits = make-fits (names.count_of args) o h.1.0 (there here seen_there task.text) in
+          let fits = make-fits (names.argument_count args) o h.1.0 (there here seen_there task.text) in
           let one : Declared = record { future = here.futures; task = task_number o; spawned = spawned } in
           let found = room-future vars futures here.futures (after globals here (Make future task spawned args)).vars one room in (
             (

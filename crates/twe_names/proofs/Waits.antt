@@ -2,7 +2,7 @@
 -- the block.
 use Rattle.std.proofs.Common.{◌||◌, ℕ, ◌+◌, Bool, true, false, nat_eq, IsTrue, List, [], ◌∷◌, ◌++◌, Option, None, Some, refl}
 use Rattle.std.proofs.lemmas.Bool.{eq-eqb, or_left, or_right}
-use Rattle.twe_io.specs.declared.place.Place.{Place}
+use Rattle.twe_base.specs.declared.place.Place.{Place}
 use Rattle.twe_ast.specs.declared.item.ReturnType.{ReturnType}
 use Rattle.twe_ast.specs.declared.name.Name.{Name}
 use Rattle.twe_ast.specs.declared.stmt.LocalType.TheVariants as types
@@ -18,7 +18,7 @@ use Rattle.name_check.specs.declared.names.GlobalName.{GlobalName}
 use Rattle.name_check.specs.declared.scope.LocalName.{LocalName}
 use Rattle.name_check.specs.declared.scope.BodyScope.{BodyScope}
 use Rattle.name_check.specs.Names.{binding_of}
-use Rattle.name_check.specs.BodyScope.{counted, after, after_block, params_from}
+use Rattle.name_check.specs.BodyScope.{counted_binding, after, after_block, params_from}
 use Rattle.name_check.specs.Asks.{asks_of}
 use Rattle.name_check.specs.Sites.{sites_at, sites_in, sites_in_all, sites_in_arms}
 use Rattle.twe_names.specs.BodyMeaning.{future_number, expression_of, set_of, statement_of, statements_of, arms_of}
@@ -72,7 +72,7 @@ module _ (globals : List GlobalName) (returns : ReturnType) where
       set-made made here.points (binding_of globals here.locals name.text) (expression_of globals here.locals value) name.place here.locals known
   after-made made here (SetArray array index value) known = known
   after-made made here (SetGrid array row column value) known = known
-  after-made made here (If arms) known = arms-hold (IsMade made) globals (counted here) arms known
+  after-made made here (If arms) known = arms-hold (IsMade made) globals (counted_binding here) arms known
   after-made made here (While place condition body) known = known
   after-made made here (Return place value) known = known
   after-made made here (Print place value) known = known
@@ -87,16 +87,16 @@ module _ (globals : List GlobalName) (returns : ReturnType) where
   mutual
     follows : (made : ℕ → Bool) (here : BodyScope) (s : Statement) → Made made here → AllClean globals (sites_in globals returns here s)
         → WaitsFollow made (statement_of globals here s)
-    follows made here (Block body) known clean = all-follow made (counted here) body known clean
+    follows made here (Block body) known clean = all-follow made (counted_binding here) body known clean
     follows made here (Let is_final local_type name value) known clean = tt
     follows made here (Set name value) known clean =
         set-follows made here.points (binding_of globals here.locals name.text) (expression_of globals here.locals value) name.place
     follows made here (SetArray array index value) known clean = tt
     follows made here (SetGrid array row column value) known clean = tt
-    follows made here (If arms) known clean = arms-follow made (counted here) arms known clean
+    follows made here (If arms) known clean = arms-follow made (counted_binding here) arms known clean
     follows made here (While place condition body) known clean =
-        all-follow made (counted here) body known
-        (all-back (SiteClean globals) (sites_at here.locals returns (asks_of globals here.locals (Some types.Boolean) condition)) (sites_in_all globals returns (counted here) body) clean)
+        all-follow made (counted_binding here) body known
+        (all-back (SiteClean globals) (sites_at here.locals returns (asks_of globals here.locals (Some types.Boolean) condition)) (sites_in_all globals returns (counted_binding here) body) clean)
     follows made here (Return place value) known clean = tt
     follows made here (Print place value) known clean = tt
     follows made here (Call method args) known clean = tt

@@ -12,7 +12,7 @@ use Rattle.twe_ast.specs.declared.path.CellElem.{CellElem}
 use Rattle.twe_ast.specs.declared.path.CellElemKind.{CellElemKind}
 use Rattle.twe_ast.specs.declared.path.CellElemKind.TheVariants as cell_kinds
 use Rattle.twe_ast.specs.Statement.{Statement, Block, If, While, Make, Statements, end_of_block, statement, Arms, arm, otherwise, no_else}
-use Rattle.cell_limits.specs.GoesOver.{cells_of}
+use Rattle.name_check.specs.cell_limits.GoesOver.{cells_of}
 use Rattle.name_check.specs.Limits.{decls_of, paths_of}
 use Rattle.name_check.specs.Size.{IsCountable}
 
@@ -21,6 +21,7 @@ abbrev pub IsSmall : PathElemKind → Type 0
 IsSmall (elem_kinds.Index index) = index ≤ 2147483647
 IsSmall _ = Unit {0}
 
+-- the same for an index in the path of a cell
 abbrev pub IsSmallInCell : CellElemKind → Type 0
 IsSmallInCell (cell_kinds.Index index) = index ≤ 2147483647
 IsSmallInCell (cell_kinds.Name text) = Unit {0}
@@ -47,6 +48,8 @@ abbrev mutual
 -- makes a task.
 pub record IsFromText (ast : Ast) : Type 0 where
   pub countable : IsCountable ast
-  pub cell_indexes : (cell : CellDecl) → Contains (cells_of ast.items) cell → All (λ (elem : CellElem). IsSmallInCell elem.kind) cell.path.elems
-  pub indexes : (decl : Decl) (path : Path) → Contains (decls_of ast) decl → Contains (paths_of decl) path → All (λ (elem : PathElem). IsSmall elem.kind) path.elems
+  pub cell_indexes : (cell : CellDecl) → Contains (cells_of ast.items) cell
+      → All (λ (elem : CellElem). IsSmallInCell elem.kind) cell.path.elems
+  pub indexes : (decl : Decl) (path : Path) → Contains (decls_of ast) decl → Contains (paths_of decl) path
+      → All (λ (elem : PathElem). IsSmall elem.kind) path.elems
   pub methods : (decl : Decl) → Contains ast.items (items.Method decl) → all_make_none decl.body ≡ true

@@ -16,20 +16,21 @@ use Rattle.twe_program.specs.declared.program.Decl.{Decl}
 use Rattle.twe_program.specs.declared.program.Dims.{Dims}
 use Rattle.twe_program.specs.declared.program.Dims.TheVariants.{Scalar, Row, Grid}
 use Rattle.twe_program.specs.Program.{Program, size_of}
-use Rattle.cell_limits.specs.GoesOver.{cells_of}
+use Rattle.name_check.specs.cell_limits.GoesOver.{cells_of}
 use Rattle.name_check.specs.declared.names.GlobalName.{GlobalName}
 use Rattle.name_check.specs.Names.{globals_of, binding_of}
 use Rattle.name_check.specs.BodyScope.{after_all}
 use Rattle.name_check.specs.Sites.{at_body}
 use Rattle.name_check.specs.Ends.{close_of}
 use Rattle.twe_names.specs.BodyMeaning.{statements_of, task_number}
-use Rattle.twe_names.specs.PathMeaning.{summary_of, cell_path_of}
+use Rattle.twe_names.specs.PathMeaning.{summary_meaning, cell_path_of}
 
--- the names of the regions: `Console`, and then those that are declared
+-- the names of the regions that an item declares
 abbrev pub regions_of_item : Item → List (List ℕ)
 regions_of_item (items.Regions names) = map (λ (name : Name). name.text) names
 regions_of_item _ = []
 
+-- how many cells a declaration of this shape has: one, a row, or a grid of rows and columns
 abbrev pub dims_of : CellShape → Dims
 dims_of (shapes.Scalar initial) = Scalar
 dims_of (shapes.Array elements) = Row elements
@@ -51,19 +52,21 @@ cell_of globals first cell = record {
   place = cell.name.place;
 }
 
+-- the declarations of cells, before which `first` cells are declared
 abbrev pub cells_from : List GlobalName → ℕ → List written_cell.CellDecl → List CellDecl
 cells_from globals first [] = []
-cells_from globals first (cell ∷ cells) = cell_of globals first cell ∷ cells_from globals (first + size_of (dims_of cell.shape)) cells
+cells_from globals first (cell ∷ cells) =
+    cell_of globals first cell ∷ cells_from globals (first + size_of (dims_of cell.shape)) cells
 
+-- whether a declaration returns a value
 abbrev pub returns_value : ReturnType → Bool
 returns_value return_types.Int = true
 returns_value return_types.Void = false
 
 -- the body of a declaration, with what is counted at its end
-abbrev pub body_of : List GlobalName → written_decl.Decl → Body
-body_of globals decl =
-    let end = after_all globals (at_body decl) decl.body in
-    record {
+abbrev pub declared_body : List GlobalName → written_decl.Decl → Body
+declared_body globals decl =
+    let end = after_all globals (at_body decl) decl.body in record {
       block = statements_of globals (at_body decl) decl.body;
       vars = end.vars;
       futures = end.futures;
@@ -71,21 +74,24 @@ body_of globals decl =
       close = close_of decl.body;
     }
 
+-- the declaration of a method or a task, which may be deterministic
 abbrev pub decl_of : List GlobalName → Bool → written_decl.Decl → Decl
 decl_of globals deterministic decl = record {
   name = decl.name.text;
   params = length decl.params;
   int = returns_value decl.returns;
   deterministic = deterministic;
-  summary = summary_of globals decl;
-  body = body_of globals decl;
+  summary = summary_meaning globals decl;
+  body = declared_body globals decl;
   place = decl.name.place;
 }
 
+-- the method that an item is, if it is one; no method is deterministic
 abbrev pub methods_of_item : List GlobalName → Item → List Decl
 methods_of_item globals (items.Method decl) = decl_of globals false decl ∷ []
 methods_of_item globals _ = []
 
+-- the task that an item is, if it is one
 abbrev pub tasks_of_item : List GlobalName → Item → List Decl
 tasks_of_item globals (items.Task deterministic decl) = decl_of globals deterministic decl ∷ []
 tasks_of_item globals _ = []

@@ -31,6 +31,7 @@ abbrev pub region_number : Option Global → ℕ
 region_number (Some (global_kinds.Region number)) = number
 region_number _ = 0
 
+-- the number of a parameter, in the same way
 abbrev pub param_number : Option Local → ℕ
 param_number (Some (local_kinds.Variable number local_type constant)) = number
 param_number _ = 0
@@ -43,31 +44,36 @@ elem_of_kind globals params (elem_kinds.Variable name) = elems.Var (param_number
 elem_of_kind globals params elem_kinds.AnyIndex = elems.AnyIndex ∷ []
 elem_of_kind globals params elem_kinds.Star = []
 
+-- these elements of the path of an effect, without a `*` among them
 abbrev pub elems_of : List GlobalName → List LocalName → List PathElem → List Elem
 elems_of globals params elems = flat_map (λ (elem : PathElem). elem_of_kind globals params elem.kind) elems
 
--- the elements up to the first `*`, and those from there on
+-- the elements before the first `*`
 abbrev pub before_star : List PathElem → List PathElem
 before_star elems = take_while (λ elem. not (is_star elem)) elems
 
+-- the elements from the first `*` on
 abbrev pub after_star : List PathElem → List PathElem
 after_star elems = drop (length (before_star elems)) elems
 
 -- a path: the elements before its `*`, whether it has one, and the elements after it
-abbrev pub path_of : List GlobalName → List LocalName → Path → WrittenPath
-path_of globals params path = record {
+abbrev pub path_meaning : List GlobalName → List LocalName → Path → WrittenPath
+path_meaning globals params path = record {
   elems = elems_of globals params (before_star path.elems);
   star = list_any is_star path.elems;
   tail = elems_of globals params (after_star path.elems);
 }
 
+-- the effects of a clause: one for each of its paths
 abbrev pub effects_of_clause : List GlobalName → List LocalName → Clause → List Effect
-effects_of_clause globals params clause = map (λ (path : Path). record { write = clause.write; path = path_of globals params path }) clause.paths
+effects_of_clause globals params clause =
+    map (λ (path : Path). record { write = clause.write; path = path_meaning globals params path }) clause.paths
 
 -- the summary of a declaration: the effects of its clauses in order
-abbrev pub summary_of : List GlobalName → Decl → Summary
-summary_of globals decl = record { effects = flat_map (effects_of_clause globals (params_of decl)) decl.effects }
+abbrev pub summary_meaning : List GlobalName → Decl → Summary
+summary_meaning globals decl = record { effects = flat_map (effects_of_clause globals (params_of decl)) decl.effects }
 
+-- an element of the path of a cell
 abbrev pub elem_of_cell_kind : List GlobalName → CellElemKind → Elem
 elem_of_cell_kind globals (cell_kinds.Name text) = elems.Name (region_number (global_of globals text))
 elem_of_cell_kind globals (cell_kinds.Index index) = elems.Index (pos index)

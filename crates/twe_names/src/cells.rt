@@ -1,7 +1,7 @@
 //! The resolver, for declarations of cells.
 ghost use Rattle.std.specs.Prelude.{◌≡◌, ◌≤◌, All, IfOk};
-ghost use Rattle.twe_limits.specs.Language.{max_cells};
-ghost use Rattle.cell_limits.specs.GoesOver.{cells_of};
+ghost use Rattle.twe_base.specs.Language.{max_cells};
+ghost use Rattle.name_check.specs.cell_limits.GoesOver.{cells_of};
 ghost use Rattle.twe_program.specs.Program.{cells_made};
 ghost use Rattle.twe_names.specs.Meaning.{cell_of, cells_from, dims_of, initial_of};
 ghost use Rattle.twe_names.specs.inner.Numbers.{IsSmallCellPath, IsSmallItem};
@@ -10,7 +10,7 @@ use crate::paths::cell_path;
 use name_check::Globals;
 use std::alloc::Global;
 use twe_ast::{CellDecl as Written, CellShape, Item};
-use twe_io::{List, Memory};
+use twe_base::{List, Memory};
 use twe_program::{CellDecl, Dims};
 
 /// The number of cells that a declaration makes, and how they are indexed.

@@ -11,7 +11,7 @@ use crate::simple::waiting;
 use name_check::{BodyScope, Globals, look_up};
 use std::alloc::Global;
 use twe_ast::{LocalType, Stmt as Written, StmtKind as Kind};
-use twe_io::Memory;
+use twe_base::Memory;
 use twe_program::{Stmt, StmtKind};
 
 /// The meaning of a statement that declares a local or a future. Advances the scope past it.

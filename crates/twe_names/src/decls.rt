@@ -2,7 +2,7 @@
 ghost use Rattle.std.specs.Prelude.{◌≡◌, ◌++◌, All, IfOk, OnOk};
 ghost use Rattle.std.specs.List.{flat_map};
 ghost use Rattle.name_check.specs.Sites.{at_body};
-ghost use Rattle.twe_names.specs.Meaning.{body_of, decl_of, returns_value};
+ghost use Rattle.twe_names.specs.Meaning.{declared_body, decl_of, returns_value};
 ghost use Rattle.twe_names.specs.PathMeaning.{effects_of_clause};
 ghost use Rattle.twe_names.specs.inner.Numbers.{IsSmallClause, IsSmallDecl};
 
@@ -12,7 +12,7 @@ use effect_sets::{Effect, Effects, Summary};
 use name_check::{BodyScope, Globals, Locals};
 use std::alloc::Global;
 use twe_ast::{Clause, Decl as Written, ReturnType};
-use twe_io::Memory;
+use twe_base::Memory;
 use twe_program::{Body, Decl};
 
 /// Adds the effects of a clause.
@@ -63,7 +63,7 @@ fn body(
 ) -> Result<Body, Memory>
     requires start { start ≡ at_body written.now }
     requires small { IsSmallDecl written.now }
-    ensures { IfOk result (λ body. body ≡ body_of globals.now written.now) }
+    ensures { IfOk result (λ body. body ≡ declared_body globals.now written.now) }
 {
     let block = statements(&written.body, alloc, globals, &mut start)?;
     Ok(Body {

@@ -7,7 +7,7 @@ use crate::numbers::{cells_number, method_number, named_value};
 use name_check::{Globals, Locals, look_up};
 use std::alloc::Global;
 use twe_ast::{Args as WrittenArgs, Expr as Written, ExprKind as Kind};
-use twe_io::Memory;
+use twe_base::Memory;
 use twe_program::{Args, Expr};
 
 /// The meaning of an expression if these names are in scope.

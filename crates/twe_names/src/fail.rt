@@ -2,7 +2,7 @@
 
 use name_check::NRule;
 use thiserror::Error;
-use twe_io::{Memory, Place};
+use twe_base::{Memory, Place};
 
 /// Why a tree has no program.
 #[derive(Debug, Drop, Error)]

@@ -1,5 +1,5 @@
 //! The law of the meaning of a tree.
-ghost use Rattle.twe_io.specs.declared.place.Place.{Place};
+ghost use Rattle.twe_base.specs.declared.place.Place.{Place};
 ghost use Rattle.twe_ast.specs.declared.item.Ast.{Ast};
 ghost use Rattle.twe_program.specs.WellFormed.{IsWellFormed};
 ghost use Rattle.name_check.specs.declared.rule.NRule.{NRule};

@@ -3,7 +3,7 @@ ghost use Rattle.std.specs.Prelude.{◌≡◌, IfOk};
 ghost use Rattle.twe_program.specs.Expression.{ArrayElement, CallValue, GridElement, Negation, Negative, Truth};
 
 use std::alloc::Global;
-use twe_io::{Memory, Place};
+use twe_base::{Memory, Place};
 use twe_program::{Args, Expr, ExprKind};
 
 /// A truth value.

@@ -1,10 +1,10 @@
 //! The numbers of bindings. Each is 0 if a rule of names fails there.
 ghost use Rattle.std.specs.Prelude.{◌≡◌};
-ghost use Rattle.twe_names.specs.BodyMeaning.{cells_number, future_number, is_fixed, method_number, task_number, value_of};
+ghost use Rattle.twe_names.specs.BodyMeaning.{cells_number, future_number, is_fixed, method_number, task_number, value_meaning};
 
 use name_check::{Binding, Global, Local};
 use twe_ast::LocalType;
-use twe_io::Place;
+use twe_base::Place;
 use twe_program::{Expr, ExprKind};
 
 /// The number of a declaration of cells.
@@ -59,7 +59,7 @@ fn is_fixed(local_type: LocalType, constant: bool) -> bool
 
 /// The meaning of a name that is used as a value.
 pub fn named_value(binding: Option<Binding>, place: Place) -> Expr
-    ensures { result ≡ value_of binding place }
+    ensures { result ≡ value_meaning binding place }
 {
     match binding {
         Some(

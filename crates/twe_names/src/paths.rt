@@ -6,13 +6,13 @@ ghost use Rattle.name_check.specs.Limits.{is_star};
 ghost use Rattle.name_check.specs.Names.{first_local, global_of};
 ghost use Rattle.twe_names.specs.FromText.{IsSmall, IsSmallInCell};
 ghost use Rattle.twe_names.specs.inner.Numbers.{IsSmallCellPath, IsSmallPath};
-ghost use Rattle.twe_names.specs.PathMeaning.{before_star, cell_path_of, elem_of_cell_kind, elem_of_kind, elems_of, param_number, path_of, region_number};
+ghost use Rattle.twe_names.specs.PathMeaning.{before_star, cell_path_of, elem_of_cell_kind, elem_of_kind, elems_of, param_number, path_meaning, region_number};
 
 use name_check::{Global, Globals, Local, Locals};
 use region_paths::{Elem, Elems};
 use std::alloc;
 use twe_ast::{CellElem, CellElemKind, CellPath, Path, PathElem, PathElemKind};
-use twe_io::{Memory, Word};
+use twe_base::{Memory, Word};
 
 /// The number of a region.
 fn region(globals: &Globals, text: &Word) -> u32
@@ -102,7 +102,7 @@ pub fn effect_path(
     path: &Path,
 ) -> Result<region_paths::Path, Memory>
     requires { IsSmallPath path.now }
-    ensures { IfOk result (λ meant. meant ≡ path_of globals.now params.now path.now) }
+    ensures { IfOk result (λ meant. meant ≡ path_meaning globals.now params.now path.now) }
 {
     let written = path.elems.as_slice();
     let before = count_before_star(written);

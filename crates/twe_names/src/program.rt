@@ -14,7 +14,7 @@ use crate::numbers::task_number;
 use name_check::{Globals, Locals, look_up};
 use std::alloc::Global;
 use twe_ast::{Ast, Item};
-use twe_io::{List, Memory, Word};
+use twe_base::{List, Memory, Word};
 use twe_program::{Decl, Prog};
 
 /// Adds the regions that an item declares.

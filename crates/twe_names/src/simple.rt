@@ -10,7 +10,7 @@ use crate::numbers::{cells_number, future_number, method_number};
 use name_check::{Binding, BodyScope, Globals, Local, Locals, look_up};
 use std::alloc::Global;
 use twe_ast::{Expr as WrittenExpr, Name, Stmt as Written, StmtKind as Kind, WaitCall};
-use twe_io::{Memory, Place};
+use twe_base::{Memory, Place};
 use twe_program::{Expr, Stmt, StmtKind};
 
 /// The assignment of a value to the binding of a name.
@@ -42,8 +42,10 @@ fn array_assignment(
     index: &WrittenExpr,
     value: &WrittenExpr,
 ) -> Result<Stmt, Memory>
-    ensures { IfOk result (λ s. s ≡ SetArray scope.now.points (cells_number (binding_of globals.now scope.now.locals array.now.text))
-        (expression_of globals.now scope.now.locals index.now) (expression_of globals.now scope.now.locals value.now) array.now.place) }
+    ensures { IfOk result (λ s. s ≡ SetArray scope.now.points
+        (cells_number (binding_of globals.now scope.now.locals array.now.text))
+        (expression_of globals.now scope.now.locals index.now) (expression_of globals.now scope.now.locals value.now)
+        array.now.place) }
 {
     let kind = StmtKind::SetAt {
         array: cells_number(look_up(globals, &scope.locals, &array.text)),
@@ -68,7 +70,8 @@ fn grid_assignment(
     column: &WrittenExpr,
     value: &WrittenExpr,
 ) -> Result<Stmt, Memory>
-    ensures { IfOk result (λ s. s ≡ SetGrid scope.now.points (cells_number (binding_of globals.now scope.now.locals array.now.text))
+    ensures { IfOk result (λ s. s ≡ SetGrid scope.now.points
+        (cells_number (binding_of globals.now scope.now.locals array.now.text))
         (expression_of globals.now scope.now.locals row.now) (expression_of globals.now scope.now.locals column.now)
         (expression_of globals.now scope.now.locals value.now) array.now.place) }
 {
@@ -108,7 +111,9 @@ pub fn waiting(
     wait: &WaitCall,
     into: Option<u32>,
 ) -> Stmt
-    ensures { result ≡ Wait point (future_number (binding_of globals.now locals.now wait.now.future.text)) wait.now.join into wait.now.future.place }
+    ensures { result ≡ Wait point
+        (future_number (binding_of globals.now locals.now wait.now.future.text))
+        wait.now.join into wait.now.future.place }
 {
     let kind = StmtKind::Wait {
         future: future_number(look_up(globals, locals, &wait.future.text)),

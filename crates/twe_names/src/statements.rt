@@ -11,7 +11,7 @@ use crate::simple::simple_statement;
 use name_check::{BodyScope, Globals};
 use std::alloc::Global;
 use twe_ast::{Arms as WrittenArms, Block as WrittenBlock, Stmt as Written, StmtKind as Kind};
-use twe_io::Memory;
+use twe_base::Memory;
 use twe_program::{Arm, Arms, Block, Stmt, StmtKind};
 
 /// The meaning of a statement.

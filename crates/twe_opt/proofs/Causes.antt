@@ -1,7 +1,7 @@
 -- From what the parts of a call ensure to the cause of its answer.
 use Rattle.std.proofs.Common.{◌≡◌, ◌≤◌, ℕ, List, [], ◌∷◌, None, Some, Result, Ok, Err, IfOk, OnOk, refl, sym, subst}
 use Rattle.std.proofs.lemmas.Option.{none-some}
-use Rattle.twe_io.specs.declared.memory.Memory as out_of
+use Rattle.twe_base.specs.declared.memory.Memory as out_of
 use Rattle.twe_io.specs.declared.whole.ReadFail.{ReadFail}
 use Rattle.twe_io.specs.declared.whole.ReadFail.TheVariants as reads
 use Rattle.twe_frontend.specs.declared.refusal.Refusal.{Refusal}
@@ -9,12 +9,12 @@ use Rattle.twe_frontend.specs.Accepted.{IsRefusal}
 use Rattle.twe_report.specs.Texts.{refusal_text}
 use Rattle.command_line.specs.Options.{max_workers}
 use Rattle.command_line.proofs.Sizes.{in_range}
-use Rattle.text_streams.specs.Ends.{SourceTells, SinkTells, WasRead}
+use Rattle.twe_io.specs.Ends.{SourceTells, SinkTells, WasRead}
 use Rattle.text_answers.specs.Answer.{Answer}
 use Rattle.text_answers.specs.declared.book.Book.{Book}
 use Rattle.text_answers.specs.declared.status.Status.{Status}
 use Rattle.text_answers.specs.declared.status.Status.TheVariants.{Refused}
-use Rattle.text_streams.specs.Answers.{TellsMade, on_err}
+use Rattle.twe_io.specs.Answers.{TellsMade, on_err}
 use Rattle.text_answers.specs.Answers.{Due}
 use Rattle.text_answers.specs.Theorem.{HasRefusal}
 use Rattle.twe_opt.specs.Answers.{Answers, Cause, run_by}

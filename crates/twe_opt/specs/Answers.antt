@@ -4,8 +4,8 @@ use Rattle.twe_io.specs.declared.whole.ReadFail.TheVariants as reads
 use Rattle.twe_report.specs.Texts.{read_fault_text, too_long_text}
 use Rattle.command_line.specs.declared.command.Command.{Command}
 use Rattle.command_line.specs.declared.command.Command.TheVariants.{Run}
-use Rattle.text_streams.specs.Answers.{Tells, on_err}
-use Rattle.text_streams.specs.Ends.{SourceTells, SinkTells, WasRead}
+use Rattle.twe_io.specs.Answers.{Tells, on_err}
+use Rattle.twe_io.specs.Ends.{SourceTells, SinkTells, WasRead}
 use Rattle.text_answers.specs.Answer.{Answer}
 use Rattle.text_answers.specs.declared.book.Book.{Book}
 use Rattle.text_answers.specs.declared.status.Status.{Status}

@@ -8,9 +8,8 @@ mod words;
 
 use std::process::ExitCode;
 use text_answers::Book;
-use text_streams::words_of;
 use top::opt_top;
-use twe_io::{StdSink, StdSource};
+use twe_io::{StdSink, StdSource, words_of};
 
 fn main(rt: HostRuntime) -> ExitCode {
     let alloc = rt.alloc();

@@ -3,7 +3,7 @@ ghost use Rattle.std.specs.Prelude.{◌≡◌, IfOk};
 ghost use Rattle.twe_opt.specs.Words as words;
 
 use std::alloc::Global;
-use twe_io::{Bytes, Memory};
+use twe_base::{Bytes, Memory};
 
 /// The usage line.
 pub(crate) fn usage_text(alloc: Global) -> Result<Bytes, Memory>

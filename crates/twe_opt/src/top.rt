@@ -1,8 +1,8 @@
 //! The top call: the whole program, apart from where its bytes come from and go to.
 ghost use Rattle.std.specs.Prelude.{◌≡◌, ◌≤◌, IfOk};
 ghost use Rattle.command_line.specs.Options.{max_workers};
-ghost use Rattle.soundness_laws.specs.KeepsEffects.{KeepsEffects};
-ghost use Rattle.text_streams.specs.Ends.{sink, source};
+ghost use Rattle.isolation_laws.specs.soundness.KeepsEffects.{KeepsEffects};
+ghost use Rattle.twe_io.specs.Ends.{sink, source};
 ghost use Rattle.text_answers.specs.Answers.{Due};
 ghost use Rattle.text_answers.specs.Running.{IsDueForProgram};
 ghost use Rattle.text_answers.specs.Theorem.{IsNew};
@@ -17,10 +17,9 @@ use std::alloc::Global;
 use std::sync::Wait;
 use std::thread::Threads;
 use text_answers::{Answer, Book, Status, answer_run, refuse};
-use text_streams::{Unwritten, read_text, tell};
+use twe_base::{Bytes, Limits, Memory, Word};
 use twe_frontend::{FrontFail, read_program};
-use twe_io::{Bytes, Memory, ReadFail, Sink, Source, Word};
-use twe_limits::Limits;
+use twe_io::{ReadFail, Sink, Source, Unwritten, read_text, tell};
 use twe_program::Prog;
 use twe_report::{read_fault_text, too_long_text};
 

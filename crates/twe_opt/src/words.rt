@@ -5,7 +5,7 @@ ghost use Rattle.command_line.specs.Options.{max_workers};
 ghost use Rattle.twe_opt.specs.Words.{workers_asked};
 
 use command_line::number_between;
-use twe_io::Word;
+use twe_base::Word;
 
 /// The largest number of workers.
 const MAX_WORKERS: u64 = 64;

@@ -2,7 +2,7 @@
 use Rattle.std.proofs.Common.{◌≡◌, ℕ, ◌+◌, ◌≤◌, true, false, List, [], ◌∷◌, ◌++◌, refl, sym, ap, ◌∙◌, append_assoc, append-nil, arith}
 use Rattle.std.specs.Prelude.{if◌then◌else◌, negsuc}
 use Rattle.std.proofs.lemmas.Bool.{false≢true}
-use Rattle.twe_io.specs.declared.place.Place.{Place}
+use Rattle.twe_base.specs.declared.place.Place.{Place}
 use Rattle.twe_ast.specs.Expression.{Expression, expression, Shape, Literal, Negative, CallValue, Arguments, no_more, argument}
 use Rattle.twe_ast.specs.inner.ExpressionView.{arguments_of}
 use Rattle.twe_lexer.specs.declared.fixed.Fixed.TheVariants as fixed
@@ -16,7 +16,7 @@ use Rattle.twe_parser.specs.declared.symbol.Symbol.TheVariants.{Expand, Perform}
 use Rattle.twe_parser.specs.declared.value_stacks.ValueStacks.{ValueStacks}
 use Rattle.twe_ast.specs.Precedence.{level_of}
 use Rattle.twe_parser.specs.OperatorTokens.{operator}
-use Rattle.twe_parser.specs.Values.{value_of}
+use Rattle.twe_parser.specs.Values.{literal_value_of}
 use Rattle.twe_parser.specs.Written.{word, named}
 use Rattle.twe_parser.specs.WritesExpression.{is_smallest, WritesExpression, written, WritesShape, binary, negative, smallest, negation, literal, yes, no, variable, call, array, grid, parentheses, WritesArguments, no_arguments, arguments, MoreArguments, no_more_arguments, more_arguments}
 use Rattle.twe_parser.specs.inner.Actions.{performed}
@@ -72,7 +72,7 @@ minus : {shape : Shape} {first : Token} {others rest : List Token} → WritesSha
 minus (binary {op = op} le left right) other place low stack values taken = let small = level_small op in absurd (omega arith)
 minus {rest = rest} (literal {value = value} {place = inside}) other place low stack values taken =
     do_now (Expr actions.MinusLiteral) rest (Expand (nonterminals.Climb low) ∷ stack) _
-    ∙ ap (λ test. result_from rest (Expand (nonterminals.Climb low) ∷ stack) (with_expr (expression place (if test then Literal (negsuc 2147483647) else Negative (expression inside (Literal (value_of value))))) values)) other
+    ∙ ap (λ test. result_from rest (Expand (nonterminals.Climb low) ∷ stack) (with_expr (expression place (if test then Literal (negsuc 2147483647) else Negative (expression inside (Literal (literal_value_of value))))) values)) other
 minus {shape = s} {first = f} {others = o} {rest = r} (negative is operand) other place low stack values taken = negated s f o r place low stack values refl taken
 minus {shape = s} {first = f} {others = o} {rest = r} smallest other place low stack values taken = negated s f o r place low stack values refl taken
 minus {shape = s} {first = f} {others = o} {rest = r} (negation operand) other place low stack values taken = negated s f o r place low stack values refl taken

@@ -1,6 +1,6 @@
 -- Completeness: the machine takes the tokens of every program.
 use Rattle.std.proofs.Common.{◌≡◌, Bool, true, false, List, [], ◌∷◌, ◌++◌, Option, Some, refl, sym, ap, ◌∙◌, append_assoc, append-nil}
-use Rattle.twe_io.specs.declared.place.Place.{Place}
+use Rattle.twe_base.specs.declared.place.Place.{Place}
 use Rattle.twe_ast.specs.declared.item.CellShape.TheVariants as shapes
 use Rattle.twe_ast.specs.declared.item.Clause.{Clause}
 use Rattle.twe_ast.specs.declared.item.Initial.{Initial}
@@ -25,7 +25,7 @@ use Rattle.twe_parser.specs.Written.{word, named, number}
 use Rattle.twe_parser.specs.Writes.{MoreNames, no_more_names, more_names, WritesInitial, not_written, initial, negative_initial, MoreParams, no_more_params, more_params, WritesParams, no_params, params, WritesEffects, decl, WritesItem, regions, cell, array, grid, method, task, deterministic_task, WritesItems, no_more_items, more_items}
 use Rattle.twe_parser.specs.WritesStatement.{WritesStatements}
 use Rattle.twe_parser.specs.inner.Machine.{result_from}
-use Rattle.twe_io.specs.Stacks.{below}
+use Rattle.twe_base.specs.Stacks.{below}
 use Rattle.twe_parser.specs.inner.ValueStacks.{kept, no_values}
 use Rattle.twe_parser.proofs.CompletePaths.{cell_path_taken, effects_taken}
 use Rattle.twe_parser.proofs.CompleteStatements.{statements_taken}

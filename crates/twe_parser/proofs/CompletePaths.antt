@@ -1,6 +1,6 @@
 -- Completeness: the machine takes the tokens of every path and of all effects.
 use Rattle.std.proofs.Common.{◌≡◌, Bool, true, false, List, [], ◌∷◌, ◌++◌, Option, refl, sym, ap, ◌∙◌, append_assoc, append-nil}
-use Rattle.twe_io.specs.declared.place.Place.{Place}
+use Rattle.twe_base.specs.declared.place.Place.{Place}
 use Rattle.twe_ast.specs.declared.item.Clause.{Clause}
 use Rattle.twe_ast.specs.declared.path.CellElem.{CellElem}
 use Rattle.twe_ast.specs.declared.path.CellPath.{CellPath}
@@ -26,7 +26,7 @@ use Rattle.twe_parser.specs.WritesPath.{WritesCellElem, cell_name, cell_index, M
 use Rattle.twe_parser.specs.inner.Kinds.{is_write}
 use Rattle.twe_parser.specs.inner.Actions.{performed}
 use Rattle.twe_parser.specs.inner.Machine.{result_from}
-use Rattle.twe_io.specs.Stacks.{below}
+use Rattle.twe_base.specs.Stacks.{below}
 use Rattle.twe_parser.specs.inner.ValueStacks.{kept}
 use Rattle.twe_parser.proofs.Steps.{do_now}
 

@@ -1,7 +1,7 @@
 -- Completeness: the machine takes the tokens of every statement.
 use Rattle.std.proofs.Common.{◌≡◌, ℕ, Bool, true, false, List, [], ◌∷◌, ◌++◌, None, refl, sym, ap, ◌∙◌}
 use Rattle.std.proofs.lemmas.Bool.{false≢true, not-true}
-use Rattle.twe_io.specs.declared.place.Place.{Place}
+use Rattle.twe_base.specs.declared.place.Place.{Place}
 use Rattle.twe_ast.specs.declared.stmt.Arm.{Arm}
 use Rattle.twe_ast.specs.declared.stmt.LocalType.TheVariants.{Int, Boolean}
 use Rattle.twe_ast.specs.Expression.{Expression}
@@ -25,7 +25,7 @@ use Rattle.twe_parser.specs.WritesExpression.{WritesExpression}
 use Rattle.twe_parser.specs.WritesStatement.{wait, WritesStatement, block, let_local, let_final, set, set_array, set_grid, if_arms, while, return_nothing, return_value, print, call, make, wait_for, let_wait, final_wait, WritesStatements, closed, one_more, WritesArms, if_arm, MoreArms, no_more_arms, else_block, else_if}
 use Rattle.twe_parser.specs.inner.Machine.{result_from}
 use Rattle.twe_parser.specs.inner.Productions.{after_arm_production}
-use Rattle.twe_io.specs.Stacks.{below}
+use Rattle.twe_base.specs.Stacks.{below}
 use Rattle.twe_parser.specs.inner.Terminals.{terminal_of}
 use Rattle.twe_parser.specs.inner.ValueStacks.{kept, with_expr}
 use Rattle.twe_parser.proofs.CompleteExpressions.{full, all_args, arguments_again}

@@ -17,7 +17,7 @@ use Rattle.twe_ast.specs.declared.stmt.LocalType.TheVariants as locals
 use Rattle.twe_parser.specs.OperatorTokens.{operator}
 use Rattle.twe_parser.specs.WritesExpression.{WritesExpression, written, WritesShape, binary, negative, smallest, negation, literal, yes, no, variable, call, array, grid, parentheses}
 use Rattle.twe_parser.specs.inner.Productions.{followed, unary_production, args_production, return_value_production, int_value_production}
-use Rattle.twe_io.specs.Stacks.{below}
+use Rattle.twe_base.specs.Stacks.{below}
 use Rattle.twe_parser.specs.inner.Terminals.{terminal_of}
 
 -- what an expression can begin with

@@ -1,6 +1,6 @@
 -- Lists put in front of the statements of a block and of the arms of an `if`.
 use Rattle.std.proofs.Common.{◌≡◌, List, [], ◌∷◌, ◌++◌, None, Some, refl, ap}
-use Rattle.twe_io.specs.declared.place.Place.{Place}
+use Rattle.twe_base.specs.declared.place.Place.{Place}
 use Rattle.twe_ast.specs.declared.stmt.Arm.{Arm}
 use Rattle.twe_ast.specs.Expression.{Expression}
 use Rattle.twe_ast.specs.Statement.{Statement, Statements, end_of_block, statement, Arms, arm, otherwise, no_else}

@@ -1,6 +1,6 @@
 -- The meaning of each nonterminal: the tokens of some tree, or tokens that complete those of one.
 use Rattle.std.proofs.Common.{◌≡◌, ℕ, ◌+◌, ◌≤◌, ◌⊎◌, Bool, true, List, [], ◌∷◌, ◌++◌, Option, None, Some}
-use Rattle.twe_io.specs.declared.place.Place.{Place}
+use Rattle.twe_base.specs.declared.place.Place.{Place}
 use Rattle.twe_ast.specs.declared.item.Clause.{Clause}
 use Rattle.twe_ast.specs.declared.item.Decl.{Decl}
 use Rattle.twe_ast.specs.declared.item.Initial.{Initial}

@@ -9,7 +9,7 @@ use Rattle.std.proofs.lemmas.Bool.Decides.{nat_tests}
 use Rattle.std.proofs.lemmas.List.{append_assoc, append-nil, length-append, take-append-drop, take-append-le}
 use Rattle.std.proofs.lemmas.List.Folds.{list_all_at}
 use Rattle.std.proofs.lemmas.Slice.Eq.{bytes_eq-Decides}
-use Rattle.twe_io.specs.declared.place.Place.{Place}
+use Rattle.twe_base.specs.declared.place.Place.{Place}
 use Rattle.twe_lexer.specs.declared.token.Token.{Token}
 use Rattle.twe_lexer.specs.Front.{StopsAt}
 use Rattle.twe_lexer.specs.Lexeme.{is_allowed, is_letter, is_word_byte, is_word, is_number, long_symbols, IsLexeme, one_byte, long_symbol, word, number, line_comment, block_comment, unclosed_comment, IsFirstLexeme, IsUnclosedComment}
@@ -17,7 +17,7 @@ use Rattle.twe_lexer.specs.Places.{place_after, is_gap, Precedes}
 use Rattle.twe_lexer.specs.Tokens.{tokens_from}
 use Rattle.twe_parser.specs.declared.fail.SRule.{SRule}
 use Rattle.twe_parser.specs.declared.fail.SRule.TheVariants.{S1, S2, S3, S4, S5, S6}
-use Rattle.twe_parser.specs.Fails.{rank, ComesFirst}
+use Rattle.twe_parser.specs.Fails.{rule_rank, ComesFirst}
 use Rattle.twe_parser.specs.inner.Reading.{concat}
 use Rattle.twe_parser.proofs.Cuts.{no_lexeme, one_first, cut_split, precedes}
 use Rattle.twe_parser.proofs.Located.{FailsToken, token_of, Located, at_byte, at_token, at_end, at_comment, not_inside, first_unclosed}
@@ -92,7 +92,7 @@ bad_is_first bytes n lexeme token within bad = elim lexeme [
   | unclosed_comment comment ↦ absurd (false≢true (sym token ∙ ap is_gap comment.1))
 ]
 
-rank_positive : (rule : SRule) → 1 ≤ rank rule
+rank_positive : (rule : SRule) → 1 ≤ rule_rank rule
 rank_positive S1 = omega arith
 rank_positive S2 = omega arith
 rank_positive S3 = omega arith
@@ -121,7 +121,7 @@ module _ (text rest : List ℕ) (lexemes : List (List ℕ)) (split : text ≡ co
 
   -- a token at the front of the rest, at which no rule of a lower number fails
   pub token_first : (bytes beyond : List ℕ) → IsFirstLexeme bytes rest beyond → is_gap bytes ≡ false → list_all is_allowed bytes ≡ true → ¬ IsUnclosedComment bytes → (rule : SRule)
-      → ((other : SRule) → FailsToken other (tokens_from [] lexemes) (token_of (concat lexemes) bytes) → rank rule ≤ rank other)
+      → ((other : SRule) → FailsToken other (tokens_from [] lexemes) (token_of (concat lexemes) bytes) → rule_rank rule ≤ rule_rank other)
       → (other : SRule) (its : Place) → Located text rest lexemes other its → ComesFirst rule (place_after (concat lexemes)) other its
   token_first bytes beyond first token allowed closed rule lowest other its (at_byte front after code is bad) =
       let found = not_inside bytes beyond front after code allowed (sym first.split ∙ is) bad in

@@ -7,7 +7,7 @@ use Rattle.std.proofs.lemmas.Bool.Decides.{nat_tests}
 use Rattle.std.proofs.lemmas.List.{append_assoc, append-nil, length-append, take-append-drop}
 use Rattle.std.proofs.lemmas.List.Folds.{list_all-append}
 use Rattle.std.proofs.lemmas.List.Sums.{fold-append, count_by-le-length, suffix_len-le-length}
-use Rattle.twe_io.specs.declared.place.Place.{Place}
+use Rattle.twe_base.specs.declared.place.Place.{Place}
 use Rattle.twe_ast.specs.declared.item.Ast.{Ast}
 use Rattle.twe_ast.specs.declared.item.Item.{Item}
 use Rattle.twe_lexer.specs.declared.lexeme.Lexeme.{Lexeme}
@@ -24,8 +24,8 @@ use Rattle.twe_parser.specs.declared.fail.SRule.{SRule}
 use Rattle.twe_parser.specs.declared.fail.SRule.TheVariants.{S1, S2, S3, S4, S5, S6}
 use Rattle.twe_parser.specs.declared.limits.Sofar.{Sofar}
 use Rattle.twe_parser.specs.declared.parser.Parser.{Parser}
-use Rattle.twe_parser.specs.Fails.{Fails, byte, stray, unfinished, too_large, too_deep, unclosed, rank, ComesFirst, IsRefusal, Refuses}
-use Rattle.twe_parser.specs.Limits.{opens, closes, is_operator, ends_statement, sofar_after, sofar_of, at_start, is_too_large, is_too_deep}
+use Rattle.twe_parser.specs.Fails.{Fails, byte, stray, unfinished, too_large, too_deep, unclosed, rule_rank, ComesFirst, IsSyntaxFailure, Refuses}
+use Rattle.twe_parser.specs.Limits.{opens, closes, is_operator, ends_statement, sofar_after, sofar_of, limits_at_start, is_too_large, is_too_deep}
 use Rattle.twe_parser.specs.Viable.{IsProgram, IsViable}
 use Rattle.twe_parser.specs.Writes.{Writes, WritesItems}
 use Rattle.twe_parser.specs.inner.Fine.{fine}
@@ -43,7 +43,7 @@ no_token [] token others is = cc
 no_token (first ∷ before) token others is = cc
 
 -- nothing is read yet
-pub nothing_read : (text : List ℕ) (place : Place) (parser : Parser) → place ≡ place_after [] → ◌≡◌ {A = Machine} (parser.machine.stack, parser.machine.values) start → parser.sofar ≡ at_start → HasRead text place text parser
+pub nothing_read : (text : List ℕ) (place : Place) (parser : Parser) → place ≡ place_after [] → ◌≡◌ {A = Machine} (parser.machine.stack, parser.machine.values) start → parser.sofar ≡ limits_at_start → HasRead text place text parser
 nothing_read text place parser place_is machine sofar = record {
   lexemes = [];
   cut = refl;
@@ -64,7 +64,7 @@ concat_snoc : (lexemes : List (List ℕ)) (bytes : List ℕ) → concat (lexemes
 concat_snoc lexemes bytes = concat_append lexemes (bytes ∷ []) ∙ ap (λ more. concat lexemes ++ more) (append-nil bytes)
 
 sofar_snoc : (tokens : List Token) (token : Token) → sofar_of (tokens ++ token ∷ []) ≡ sofar_after (sofar_of tokens) token.kind
-sofar_snoc tokens token = fold-append (λ sofar t. sofar_after sofar t.kind) at_start tokens (token ∷ [])
+sofar_snoc tokens token = fold-append (λ sofar t. sofar_after sofar t.kind) limits_at_start tokens (token ∷ [])
 
 -- the places that are left can be counted
 pub lines_fit : (text : List ℕ) (place : Place) (rest : List ℕ) (parser : Parser) → HasRead text place rest parser → place.line + length rest ≤ length text + 1
@@ -221,7 +221,7 @@ module _ (text : List ℕ) (place : Place) (rest : List ℕ) (parser : Parser) (
 
   -- a rule fails at the token, and none of a lower number
   refusal_at : (kind : TokenKind) (rule : SRule) → lexeme.token ≡ Some kind → Fails text rule place
-      → ((other : SRule) → FailsToken other (tokens_from [] read.lexemes) (record { kind = kind; place = place }) → rank rule ≤ rank other) → IsRefusal text rule place
+      → ((other : SRule) → FailsToken other (tokens_from [] read.lexemes) (record { kind = kind; place = place }) → rule_rank rule ≤ rule_rank other) → IsSyntaxFailure text rule place
   refusal_at kind rule is fails lowest = record {
     fails = fails;
     first = λ other its found.
@@ -234,13 +234,13 @@ module _ (text : List ℕ) (place : Place) (rest : List ℕ) (parser : Parser) (
   viable_so kind machine is =
       viable (tokens_from [] read.lexemes ++ (record { kind = kind; place = place }) ∷ []) machine.0 machine.1 (token_more (tokens_from [] read.lexemes) parser.machine.stack parser.machine.values (record { kind = kind; place = place }) machine read.taken is)
 
-  token_by : (kind : TokenKind) (rule : SRule) → lexeme.token ≡ Some kind → RefusesBy rule (record { kind = kind; place = place }) parser → IsRefusal text rule place
+  token_by : (kind : TokenKind) (rule : SRule) → lexeme.token ≡ Some kind → RefusesBy rule (record { kind = kind; place = place }) parser → IsSyntaxFailure text rule place
   token_by kind S2 is none = refusal_at kind S2 is
       (stray (tokens_from [] read.lexemes) (record { kind = kind; place = place }) (drop lexeme.len rest) (begins_here kind is)
       (viable (tokens_from [] read.lexemes) parser.machine.stack parser.machine.values read.taken) (stray_token (tokens_from [] read.lexemes) parser.machine.stack parser.machine.values (record { kind = kind; place = place }) read.taken none))
       lowest
     where
-      lowest : (other : SRule) → FailsToken other (tokens_from [] read.lexemes) (record { kind = kind; place = place }) → 2 ≤ rank other
+      lowest : (other : SRule) → FailsToken other (tokens_from [] read.lexemes) (record { kind = kind; place = place }) → 2 ≤ rule_rank other
       lowest S2 fails = omega arith
       lowest S4 fails = omega arith
       lowest S5 fails = omega arith
@@ -249,7 +249,7 @@ module _ (text : List ℕ) (place : Place) (rest : List ℕ) (parser : Parser) (
       (too_large (tokens_from [] read.lexemes) (record { kind = kind; place = place }) (drop lexeme.len rest) (begins_here kind is) (ap (λ (s : Sofar). is_too_large s kind) (sym read.limits) ∙ large))
       lowest
     where
-      lowest : (other : SRule) → FailsToken other (tokens_from [] read.lexemes) (record { kind = kind; place = place }) → 4 ≤ rank other
+      lowest : (other : SRule) → FailsToken other (tokens_from [] read.lexemes) (record { kind = kind; place = place }) → 4 ≤ rule_rank other
       lowest S2 fails = absurd (fails.1 (viable_so kind taken.0 taken.1))
       lowest S4 fails = omega arith
       lowest S5 fails = omega arith
@@ -258,7 +258,7 @@ module _ (text : List ℕ) (place : Place) (rest : List ℕ) (parser : Parser) (
       (too_deep (tokens_from [] read.lexemes) (record { kind = kind; place = place }) (drop lexeme.len rest) (begins_here kind is) (ap (λ (s : Sofar). is_too_deep s kind) (sym read.limits) ∙ deep))
       lowest
     where
-      lowest : (other : SRule) → FailsToken other (tokens_from [] read.lexemes) (record { kind = kind; place = place }) → 5 ≤ rank other
+      lowest : (other : SRule) → FailsToken other (tokens_from [] read.lexemes) (record { kind = kind; place = place }) → 5 ≤ rule_rank other
       lowest S2 fails = absurd (fails.1 (viable_so kind taken.0 taken.1))
       lowest S4 fails = absurd (false≢true (sym (ap (λ (s : Sofar). is_too_large s kind) (sym read.limits) ∙ small) ∙ fails))
       lowest S5 fails = omega arith
@@ -266,25 +266,25 @@ module _ (text : List ℕ) (place : Place) (rest : List ℕ) (parser : Parser) (
   token_by kind _ is none = absurd none
 
   pub token_refused : (kind : TokenKind) (fail : ParseFail) → lexeme.token ≡ Some kind → RefusesToken fail (record { kind = kind; place = place }) parser → Refuses fail text
-  token_refused kind (fails.Syntax rule at) is (here, by) = subst (λ (p : Place). IsRefusal text rule p) (sym here) (token_by kind rule is by)
+  token_refused kind (fails.Syntax rule at) is (here, by) = subst (λ (p : Place). IsSyntaxFailure text rule p) (sym here) (token_by kind rule is by)
   token_refused kind (fails.OutOfMemory memory) is refuses = tt
 
 module _ (text : List ℕ) (place : Place) (rest : List ℕ) (parser : Parser) (read : HasRead text place rest parser) where
   whole_split : text ≡ concat read.lexemes ++ rest
   whole_split = cut_split read.lexemes text rest read.cut
 
-  front_by : (rule : SRule) (at : Place) → RefusesFront rule at rest place → IsRefusal text rule at
+  front_by : (rule : SRule) (at : Place) → RefusesFront rule at rest place → IsSyntaxFailure text rule at
   front_by S1 at (n, stops, at_is) =
       let code = get_or rest n 0 in
       let within : n < length rest = let both = ap length stops.first.split ∙ length-append stops.bytes stops.rest in let w = stops.within in omega arith in
       let cut : text ≡ (concat read.lexemes ++ take n rest) ++ (code ∷ drop (suc n) rest) =
       whole_split ∙ ap (λ r. concat read.lexemes ++ r) (sym (take-append-drop n rest) ∙ ap (λ r. take n rest ++ r) (drop-cons rest n 0 within)) ∙ sym (append_assoc (concat read.lexemes) (take n rest) (code ∷ drop (suc n) rest)) in
-      subst (λ (p : Place). IsRefusal text S1 p) (sym (at_is (concat read.lexemes) read.place_is)) (record {
+      subst (λ (p : Place). IsSyntaxFailure text S1 p) (sym (at_is (concat read.lexemes) read.place_is)) (record {
         fails = byte (concat read.lexemes ++ take n rest) (drop (suc n) rest) code cut stops.here;
         first = λ other its found. byte_first text rest read.lexemes whole_split n stops other its (located text place rest parser read other its found);
       })
   front_by S6 at (at_is, comment) =
-      subst (λ (p : Place). IsRefusal text S6 p) (sym (at_is ∙ read.place_is)) (record {
+      subst (λ (p : Place). IsSyntaxFailure text S6 p) (sym (at_is ∙ read.place_is)) (record {
         fails = unclosed (concat read.lexemes) rest (tokens_from [] read.lexemes) whole_split (record { lexemes = read.lexemes; cut = read.cut; same = refl }) comment;
         first = λ other its found. comment_first text rest read.lexemes whole_split comment other its (located text place rest parser read other its found);
       })
@@ -313,10 +313,10 @@ module _ (text : List ℕ) (end : Place) (parser : Parser) (read : HasRead text 
   only_at_end rule at (at_comment (one ∷ skipped) its (after, found, cut) comment) = absurd (no_lexeme (subst IsLexeme (empty_front one after (sym found.split)) found.lexeme))
 
   pub end_refused : (fail : ParseFail) → EndsEarly fail end parser → Refuses fail text
-  end_refused (fails.Syntax S3 place) (is, none) = subst (λ (p : Place). IsRefusal text S3 p) (sym (is ∙ end_is)) (record {
+  end_refused (fails.Syntax S3 place) (is, none) = subst (λ (p : Place). IsSyntaxFailure text S3 p) (sym (is ∙ end_is)) (record {
     fails = unfinished (tokens_from [] read.lexemes) (record { lexemes = read.lexemes; cut = read.cut; same = refl }) (viable (tokens_from [] read.lexemes) parser.machine.stack parser.machine.values read.taken)
         (not_whole (tokens_from [] read.lexemes) parser.machine.stack parser.machine.values read.taken none);
-    first = λ other its found. let only = only_at_end other its (located text end [] parser read other its found) in inr (sym only.1, subst (λ (r : SRule). 3 ≤ rank r) (sym only.0) (omega arith));
+    first = λ other its found. let only = only_at_end other its (located text end [] parser read other its found) in inr (sym only.1, subst (λ (r : SRule). 3 ≤ rule_rank r) (sym only.0) (omega arith));
   })
   end_refused (fails.Syntax _ place) early = absurd early
   end_refused (fails.OutOfMemory memory) early = tt

@@ -1,6 +1,6 @@
 -- Soundness of the productions of declarations.
 use Rattle.std.proofs.Common.{ℕ, Bool, true, false, List, [], ◌∷◌, None, refl, subst}
-use Rattle.twe_io.specs.declared.place.Place.{Place}
+use Rattle.twe_base.specs.declared.place.Place.{Place}
 use Rattle.twe_ast.specs.declared.item.Decl.{Decl}
 use Rattle.twe_ast.specs.declared.item.Item.{Item as Declaration}
 use Rattle.twe_ast.specs.declared.item.ReturnType.{ReturnType}

@@ -1,19 +1,21 @@
 -- The limits on the tokens of a text: how large a literal may be, how many brackets may be open, and how many operators
 -- a statement may have.
 use Rattle.std.specs.Prelude.{◌+◌, ◌-◌, Bool, true, false, ◌&&◌, ◌||◌, not, List, fold, ◌==◌, nat_le, nat_lt, if◌then◌else◌}
-use Rattle.twe_limits.specs.Language.{max_literal, max_open_brackets, max_operators}
+use Rattle.twe_base.specs.Language.{max_literal, max_open_brackets, max_operators}
 use Rattle.twe_lexer.specs.declared.fixed.Fixed.TheVariants as fixed
 use Rattle.twe_lexer.specs.declared.token.Token.{Token}
 use Rattle.twe_lexer.specs.declared.token.TokenKind.{TokenKind}
 use Rattle.twe_lexer.specs.declared.token.TokenKind.TheVariants as kinds
 use Rattle.twe_parser.specs.declared.limits.Sofar.{Sofar}
 
+-- an opening bracket: `{`, `(` or `[`
 abbrev pub opens : TokenKind → Bool
 opens (kinds.Fixed fixed.OpenBrace) = true
 opens (kinds.Fixed fixed.OpenParen) = true
 opens (kinds.Fixed fixed.OpenBracket) = true
 opens _ = false
 
+-- a closing bracket: `}`, `)` or `]`
 abbrev pub closes : TokenKind → Bool
 closes (kinds.Fixed fixed.CloseBrace) = true
 closes (kinds.Fixed fixed.CloseParen) = true
@@ -55,6 +57,7 @@ ends_operand (kinds.Fixed fixed.CloseParen) = true
 ends_operand (kinds.Fixed fixed.CloseBracket) = true
 ends_operand _ = false
 
+-- a `-`, with one operand or two
 abbrev pub is_minus : TokenKind → Bool
 is_minus (kinds.Fixed fixed.Minus) = true
 is_minus _ = false
@@ -63,18 +66,22 @@ is_minus _ = false
 -- count; whether the token can end an operand; and whether it is a `-` without an operand before it.
 abbrev pub sofar_after : Sofar → TokenKind → Sofar
 sofar_after sofar kind = record {
-  open_brackets = if opens kind then sofar.open_brackets + 1 else if closes kind then sofar.open_brackets - 1 else sofar.open_brackets;
-  operators = if ends_statement kind then 0 else if is_operator kind && nat_lt 0 sofar.open_brackets then sofar.operators + 1 else sofar.operators;
+  open_brackets =
+      if opens kind then sofar.open_brackets + 1 else if closes kind then sofar.open_brackets - 1 else sofar.open_brackets;
+  operators =
+      if ends_statement kind then 0
+      else if is_operator kind && nat_lt 0 sofar.open_brackets then sofar.operators + 1 else sofar.operators;
   operand_ended = ends_operand kind;
   unary_minus = is_minus kind && not sofar.operand_ended;
 }
 
-abbrev pub at_start : Sofar
-at_start = record { open_brackets = 0; operators = 0; operand_ended = false; unary_minus = false }
+-- the counts before the first token
+abbrev pub limits_at_start : Sofar
+limits_at_start = record { open_brackets = 0; operators = 0; operand_ended = false; unary_minus = false }
 
 -- the counts after these tokens
 abbrev pub sofar_of : List Token → Sofar
-sofar_of tokens = fold (λ sofar token. sofar_after sofar token.kind) at_start tokens
+sofar_of tokens = fold (λ sofar token. sofar_after sofar token.kind) limits_at_start tokens
 
 -- a literal above the largest one, unless it is the number after that directly after a unary minus
 abbrev pub is_too_large : Sofar → TokenKind → Bool
@@ -83,4 +90,6 @@ is_too_large sofar _ = false
 
 -- one open bracket too many, or one operator too many in a statement
 abbrev pub is_too_deep : Sofar → TokenKind → Bool
-is_too_deep sofar kind = (opens kind && nat_le max_open_brackets sofar.open_brackets) || (is_operator kind && nat_lt 0 sofar.open_brackets && nat_le max_operators sofar.operators)
+is_too_deep sofar kind =
+    (opens kind && nat_le max_open_brackets sofar.open_brackets)
+    || (is_operator kind && nat_lt 0 sofar.open_brackets && nat_le max_operators sofar.operators)

@@ -4,6 +4,7 @@ use Rattle.twe_ast.specs.declared.expr.BinOp.TheVariants as operators
 use Rattle.twe_lexer.specs.declared.fixed.Fixed.{Fixed}
 use Rattle.twe_lexer.specs.declared.fixed.Fixed.TheVariants as fixed
 
+-- the symbol that an operator is written with
 abbrev pub operator : BinOp → Fixed
 operator operators.Or = fixed.Or
 operator operators.And = fixed.And

@@ -1,7 +1,7 @@
 //! Why a text is not a program.
 
 use thiserror::Error;
-use twe_io::{Memory, Place};
+use twe_base::{Memory, Place};
 
 /// The rules of the text. The place of a failure is that of the byte, token or comment, or the end of the text for S3.
 #[derive(Clone, Copy, Debug, PartialEq, Eq)]

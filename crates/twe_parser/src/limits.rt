@@ -1,10 +1,10 @@
 //! The limits on the tokens of a text.
 ghost use Rattle.std.specs.Prelude.{◌≡◌, ◌≤◌, false};
-ghost use Rattle.twe_limits.specs.Language.{max_open_brackets, max_operators};
-ghost use Rattle.twe_parser.specs.Limits.{opens, closes, is_operator, ends_statement, ends_operand, is_minus, sofar_after, at_start, is_too_large, is_too_deep};
+ghost use Rattle.twe_base.specs.Language.{max_open_brackets, max_operators};
+ghost use Rattle.twe_parser.specs.Limits.{opens, closes, is_operator, ends_statement, ends_operand, is_minus, sofar_after, limits_at_start, is_too_large, is_too_deep};
 
+use twe_base::{MAX_LITERAL, MAX_OPEN_BRACKETS, MAX_OPERATORS};
 use twe_lexer::{Fixed, TokenKind};
-use twe_limits::{MAX_LITERAL, MAX_OPEN_BRACKETS, MAX_OPERATORS};
 
 /// The counts for the limits, after the tokens so far.
 #[derive(Clone, Copy, Debug, PartialEq, Eq)]
@@ -99,7 +99,7 @@ fn is_minus(kind: &TokenKind) -> bool
 impl Sofar {
     /// Before the first token.
     pub(crate) fn new() -> Self
-        ensures { result ≡ at_start }
+        ensures { result ≡ limits_at_start }
     {
         Sofar {
             open_brackets: 0,

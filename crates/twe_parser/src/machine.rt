@@ -9,7 +9,7 @@ use crate::symbols::Symbols;
 use crate::value_stacks::ValueStacks;
 use std::alloc::Global;
 use twe_ast::Item;
-use twe_io::{List, Memory, Stack};
+use twe_base::{List, Memory, Stack};
 use twe_lexer::Token;
 
 /// The state of the machine.

@@ -7,7 +7,7 @@ use crate::fail::{ParseFail, SRule};
 use crate::limits::Sofar;
 use crate::machine::Machine;
 use std::alloc::Global;
-use twe_io::{Memory, Place};
+use twe_base::{Memory, Place};
 use twe_lexer::{Lexeme, LexemeFail, Token, TokenKind, first_lexeme, place_past};
 
 /// The first lexeme of the rest of a text. `place` is where the rest begins.
@@ -43,15 +43,15 @@ pub(crate) struct Parser {
 
 impl Parser {
     ghost use Rattle.std.specs.Prelude.{◌≡◌, ◌≤◌, IfOk, IfErr};
-    ghost use Rattle.twe_limits.specs.Language.{max_open_brackets, max_operators};
+    ghost use Rattle.twe_base.specs.Language.{max_open_brackets, max_operators};
     ghost use Rattle.twe_parser.specs.inner.Machine.{start};
     ghost use Rattle.twe_parser.specs.inner.Taking.{Takes, RefusesToken};
-    ghost use Rattle.twe_parser.specs.Limits.{at_start};
+    ghost use Rattle.twe_parser.specs.Limits.{limits_at_start};
 
     /// Before the first token.
     pub(crate) fn new(alloc: Global) -> Result<Self, Memory>
         ensures machine { IfOk result (λ parser. (parser.machine.stack, parser.machine.values) ≡ start) }
-        ensures sofar { IfOk result (λ parser. parser.sofar ≡ at_start) }
+        ensures sofar { IfOk result (λ parser. parser.sofar ≡ limits_at_start) }
     {
         Ok(Parser {
             machine: Machine::new(alloc)?,

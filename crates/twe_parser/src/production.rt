@@ -54,7 +54,10 @@ pub(crate) fn marked(right_side: &[Symbol]) -> Option<Production>
 /// token.
 pub(crate) fn operand_then(more: &[Symbol]) -> Option<Production>
     requires { length more.now ≤ 10 }
-    ensures { result ≡ Some (record { mark = false; right_side = symbols.Expand nonterminals.Unary ∷ symbols.Expand (nonterminals.Climb 0) ∷ more.now }) }
+    ensures { result ≡ Some (record {
+      mark = false;
+      right_side = symbols.Expand nonterminals.Unary ∷ symbols.Expand (nonterminals.Climb 0) ∷ more.now;
+    }) }
 {
     let operand = Symbols::new(&[
         Symbol::Expand(Nonterminal::Unary),

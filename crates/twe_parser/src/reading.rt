@@ -1,7 +1,7 @@
 //! The reading of a whole text.
 ghost use Rattle.std.specs.Prelude.{◌≡◌, ◌+◌, ◌<◌, ◌^◌, [], length, IfOk, IfErr};
 ghost use Rattle.twe_parser.specs.Fails.{Refuses};
-ghost use Rattle.twe_parser.specs.Limits.{at_start};
+ghost use Rattle.twe_parser.specs.Limits.{limits_at_start};
 ghost use Rattle.twe_parser.specs.inner.Machine.{start};
 ghost use Rattle.twe_parser.specs.inner.Reading.{HasRead, EndsEarly, EndsWhole};
 
@@ -9,7 +9,7 @@ use crate::fail::{ParseFail, SRule};
 use crate::parser::{Parser, lexeme_at};
 use std::alloc::Global;
 use twe_ast::Ast;
-use twe_io::Place;
+use twe_base::Place;
 use twe_lexer::{first_place, place_past};
 
 impl Parser {
@@ -17,7 +17,7 @@ impl Parser {
     /// unspecified.
     pub(crate) fn read(&mut self, alloc: Global, text: &[u8]) -> Result<Place, ParseFail>
         requires machine { (self.old.machine.stack, self.old.machine.values) ≡ start }
-        requires sofar { self.old.sofar ≡ at_start }
+        requires sofar { self.old.sofar ≡ limits_at_start }
         requires short { length text.now + 1 < 2 ^ 32 }
         ensures read { IfOk result (λ end. HasRead text.now end [] self.new) }
         ensures refused { IfErr result (λ fail. Refuses fail text.now) }

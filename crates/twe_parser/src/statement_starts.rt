@@ -15,7 +15,10 @@ use twe_lexer::Fixed;
 
 /// A nonterminal for the rest of the statement, and the statements after it.
 pub(crate) fn statement_then(nonterminal: Nonterminal, in_task: bool) -> Option<Production>
-    ensures { result ≡ Some (record { mark = false; right_side = symbols.Expand nonterminal ∷ symbols.Expand (nonterminals.Statements in_task) ∷ [] }) }
+    ensures { result ≡ Some (record {
+      mark = false;
+      right_side = symbols.Expand nonterminal ∷ symbols.Expand (nonterminals.Statements in_task) ∷ [];
+    }) }
 {
     plain(&[
         Expand(nonterminal),

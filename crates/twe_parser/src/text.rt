@@ -1,6 +1,6 @@
 //! From the text of a program to its tree.
 ghost use Rattle.std.specs.Prelude.{◌≡◌, ◌+◌, ◌<◌, ◌^◌, ℕ, List, [], length, IfOk, IfErr};
-ghost use Rattle.twe_io.specs.declared.place.Place.{Place};
+ghost use Rattle.twe_base.specs.declared.place.Place.{Place};
 ghost use Rattle.twe_lexer.specs.declared.token.Token.{Token};
 ghost use Rattle.twe_lexer.specs.Places.{place_after};
 ghost use Rattle.twe_lexer.specs.Tokens.{BeginsWith};
@@ -12,7 +12,7 @@ use crate::fail::ParseFail;
 use crate::parser::Parser;
 use std::alloc::Global;
 use twe_ast::Ast;
-use twe_io::Memory;
+use twe_base::Memory;
 
 /// The tree of a text, or the first failure of a rule of the text in the order of its bytes. It takes time and memory
 /// linear in the length of the text. A text of 2^32 - 1 bytes or more is refused by `OutOfMemory`, since its places

@@ -8,7 +8,7 @@ ghost use Rattle.twe_parser.specs.inner.Actions.{performed};
 use crate::symbol::Action;
 use std::alloc::Global;
 use twe_ast::{Arm, Block, CellElem, Clause, Expr, ExprKind, Item, Name, Path, PathElem, Stmt};
-use twe_io::{List, Memory, Place, Stack, Word};
+use twe_base::{List, Memory, Place, Stack, Word};
 use twe_lexer::{Token, TokenKind};
 
 mod exprs;

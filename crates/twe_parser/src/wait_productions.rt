@@ -66,7 +66,8 @@ fn awaits(action: StmtAction) -> Option<Production>
     ensures { result ≡ Some (record {
       mark = false;
       right_side =
-          symbols.Token fixed.OpenParen ∷ symbols.Token fixed.CloseParen ∷ symbols.Token fixed.Semicolon ∷ symbols.Perform (actions.Stmt action) ∷ [];
+          symbols.Token fixed.OpenParen ∷ symbols.Token fixed.CloseParen ∷ symbols.Token fixed.Semicolon
+          ∷ symbols.Perform (actions.Stmt action) ∷ [];
     }) }
 {
     plain(&[
@@ -82,8 +83,8 @@ fn makes(action: StmtAction) -> Option<Production>
     ensures { result ≡ Some (record {
       mark = false;
       right_side =
-          symbols.Token fixed.OpenParen ∷ symbols.Perform (actions.Expr exprs.NewArgs) ∷ symbols.Expand nonterminals.Args ∷ symbols.Token fixed.Semicolon
-          ∷ symbols.Perform (actions.Stmt action) ∷ [];
+          symbols.Token fixed.OpenParen ∷ symbols.Perform (actions.Expr exprs.NewArgs) ∷ symbols.Expand nonterminals.Args
+          ∷ symbols.Token fixed.Semicolon ∷ symbols.Perform (actions.Stmt action) ∷ [];
     }) }
 {
     plain(&[

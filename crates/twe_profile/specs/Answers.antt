@@ -4,7 +4,7 @@ use Rattle.twe_io.specs.declared.whole.ReadFail.TheVariants as reads
 use Rattle.seg_journal.specs.declared.moves.Move.{Move}
 use Rattle.seg_journal.specs.Lines.{IsFirstBadLine}
 use Rattle.seg_journal.specs.Spelling.{Spells, head_lines}
-use Rattle.twe_limits.specs.Limits.{Bounds}
+use Rattle.twe_base.specs.Limits.{Bounds}
 use Rattle.twe_program.specs.Program.{Program}
 use Rattle.twe_frontend.specs.Accepted.{Accepted, IsRefusal}
 use Rattle.twe_frontend.specs.declared.refusal.Refusal.{Refusal}
@@ -13,13 +13,13 @@ use Rattle.twe_machine.specs.Replays.{IsFirstIllegal}
 use Rattle.twe_report.specs.Texts.{not_a_move_text, not_legal_text, refusal_text, read_fault_text, too_long_text}
 use Rattle.text_answers.specs.Answers.{default_limits, limits_with}
 use Rattle.text_answers.specs.Input.{journal_part, program_part}
-use Rattle.text_streams.specs.Ends.{SourceTells, SinkTells, WasRead}
-use Rattle.text_streams.specs.Answers.{Tells, on_err, on_out}
+use Rattle.twe_io.specs.Ends.{SourceTells, SinkTells, WasRead}
+use Rattle.twe_io.specs.Answers.{Tells, on_err, on_out}
 use Rattle.span_profile.specs.Profiles.{IsProfile}
-use Rattle.text_streams.specs.declared.answer.Answer.{Answer}
+use Rattle.twe_io.specs.declared.answer.Answer.{Answer}
 use Rattle.twe_profile.specs.declared.status.ProfileStatus.{ProfileStatus}
 use Rattle.twe_profile.specs.declared.status.ProfileStatus.TheVariants.{Done, Refused, Usage, ReadFault, WriteFault, Memory, TooLong, BadJournal}
-use Rattle.twe_profile.specs.Texts.{profile_text, usage_text}
+use Rattle.twe_profile.specs.Texts.{profile_text, profile_usage_text}
 
 -- The answer to a journal text on an accepted program. The limits are those of the journal's head, or the default ones.
 pub data AnswersJournal (p : Program) (text : List ℕ) : Answer ProfileStatus → Type 0 where
@@ -27,32 +27,46 @@ pub data AnswersJournal (p : Program) (text : List ℕ) : Answer ProfileStatus �
   not_a_move : (n : ℕ) → IsFirstBadLine text n → AnswersJournal p text (on_err BadJournal (not_a_move_text n))
   -- each line is one, and move n is the first that is not legal
   not_legal : (head : Option Bounds) (moves : List Move) (n : ℕ) (why : Why) → Spells text head moves
-      → IsFirstIllegal p (limits_with head default_limits) moves n why → AnswersJournal p text (on_err BadJournal (not_legal_text (length (head_lines head) + n)))
+      → IsFirstIllegal p (limits_with head default_limits) moves n why
+      → AnswersJournal p text (on_err BadJournal (not_legal_text (length (head_lines head) + n)))
   -- each move is legal, and their profile is written
   profiled : (head : Option Bounds) (moves : List Move) (work span : ℕ) (chain : List ℕ) → Spells text head moves
-      → IsProfile p (limits_with head default_limits) moves work span chain → AnswersJournal p text (on_out Done (profile_text work span chain))
+      → IsProfile p (limits_with head default_limits) moves work span chain
+      → AnswersJournal p text (on_out Done (profile_text work span chain))
 
 -- The answer to an input: the text of a program, and after the first line that is exactly `%%` the text of a journal.
-pub data Due (text : List ℕ) : Answer ProfileStatus → Type 0 where
+pub data ProfileDue (text : List ℕ) : Answer ProfileStatus → Type 0 where
   -- the text of the program is refused
-  refused : (r : Refusal) → IsRefusal (program_part text) r → Due text (on_err Refused (refusal_text r))
+  refused : (r : Refusal) → IsRefusal (program_part text) r → ProfileDue text (on_err Refused (refusal_text r))
   -- it is accepted, and this is the answer to the journal
-  accepted : {answer : Answer ProfileStatus} (p : Program) → Accepted (program_part text) p → AnswersJournal p (journal_part text) answer → Due text answer
+  accepted : {answer : Answer ProfileStatus} (p : Program)
+      → Accepted (program_part text) p
+      → AnswersJournal p (journal_part text) answer
+      → ProfileDue text answer
 
 -- Why the program gives an answer, before it writes anything.
-pub data Cause {S : Type 0} (tells : SourceTells S) (words : List (List ℕ)) (before after : S) : Answer ProfileStatus → Type 0 where
+pub data ProfileCause {S : Type 0} (tells : SourceTells S) (words : List (List ℕ))
+    (before after : S) : Answer ProfileStatus → Type 0 where
   -- there is a word, and nothing is read
-  usage : (first : List ℕ) (others : List (List ℕ)) → words ≡ first ∷ others → after ≡ before → Cause tells words before after (on_err Usage usage_text)
+  usage : (first : List ℕ) (others : List (List ℕ)) → words ≡ first ∷ others → after ≡ before
+      → ProfileCause tells words before after (on_err Usage profile_usage_text)
   -- a read failed
-  read_fault : words ≡ [] → WasRead tells before (Err reads.ReadFault) after → Cause tells words before after (on_err ReadFault read_fault_text)
+  read_fault : words ≡ [] → WasRead tells before (Err reads.ReadFault) after
+      → ProfileCause tells words before after (on_err ReadFault read_fault_text)
   -- the source has more bytes than a text may have
-  too_long : words ≡ [] → WasRead tells before (Err reads.TooLong) after → Cause tells words before after (on_err TooLong too_long_text)
+  too_long : words ≡ [] → WasRead tells before (Err reads.TooLong) after
+      → ProfileCause tells words before after (on_err TooLong too_long_text)
   -- the source gave a text, and this is the answer to it
-  text : {answer : Answer ProfileStatus} (bytes : List ℕ) → words ≡ [] → WasRead tells before (Ok bytes) after → Due bytes answer → Cause tells words before after answer
+  text : {answer : Answer ProfileStatus} (bytes : List ℕ) → words ≡ [] → WasRead tells before (Ok bytes) after
+      → ProfileDue bytes answer
+      → ProfileCause tells words before after answer
 
 -- What a call of the program comes to: an answer that has its cause is written; or memory runs out, and nothing is written.
-pub data Answers {S O E : Type 0} (src : SourceTells S) (out : SinkTells O) (err : SinkTells E) (words : List (List ℕ))
+pub data AnswersProfile {S O E : Type 0} (src : SourceTells S) (out : SinkTells O) (err : SinkTells E) (words : List (List ℕ))
     (src_from src_to : S) (out_from out_to : O) (err_from err_to : E) : ProfileStatus → Type 0 where
-  answered : {answer : Answer ProfileStatus} {status : ProfileStatus} → Cause src words src_from src_to answer → Tells WriteFault out err out_from out_to err_from err_to answer status
-      → Answers src out err words src_from src_to out_from out_to err_from err_to status
-  out_of_memory : out_to ≡ out_from → err_to ≡ err_from → Answers src out err words src_from src_to out_from out_to err_from err_to Memory
+  answered : {answer : Answer ProfileStatus} {status : ProfileStatus}
+      → ProfileCause src words src_from src_to answer
+      → Tells WriteFault out err out_from out_to err_from err_to answer status
+      → AnswersProfile src out err words src_from src_to out_from out_to err_from err_to status
+  out_of_memory : out_to ≡ out_from → err_to ≡ err_from
+      → AnswersProfile src out err words src_from src_to out_from out_to err_from err_to Memory

@@ -2,11 +2,13 @@
 use Rattle.std.specs.Prelude.{ℕ, List, [], ◌∷◌, ◌++◌, codes, decimal}
 use Rattle.std.specs.List.{flat_map}
 
-abbrev pub line : List ℕ → List ℕ
-line text = text ++ 10 ∷ []
+-- the text as a line
+abbrev pub profile_line : List ℕ → List ℕ
+profile_line text = text ++ 10 ∷ []
 
-abbrev pub usage_text : List ℕ
-usage_text = line (codes "usage: twe_profile")
+-- the usage line of `twe_profile`
+abbrev pub profile_usage_text : List ℕ
+profile_usage_text = profile_line (codes "usage: twe_profile")
 
 -- the numbers of entries, each after `, `
 abbrev pub more_entries : List ℕ → List ℕ
@@ -19,8 +21,10 @@ entries_text (entry ∷ entries) = (codes " " ++ decimal entry) ++ more_entries 
 
 -- a word and a number
 abbrev pub number_line : List ℕ → ℕ → List ℕ
-number_line word number = line (word ++ decimal number)
+number_line word number = profile_line (word ++ decimal number)
 
 -- `work 8`, `span 6`, `chain 0, 1, 2, 5`
 abbrev pub profile_text : ℕ → ℕ → List ℕ → List ℕ
-profile_text work span chain = (number_line (codes "work ") work ++ number_line (codes "span ") span) ++ line (codes "chain" ++ entries_text chain)
+profile_text work span chain =
+    (number_line (codes "work ") work ++ number_line (codes "span ") span)
+    ++ profile_line (codes "chain" ++ entries_text chain)

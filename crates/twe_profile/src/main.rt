@@ -1,6 +1,6 @@
-//! `twe_profile`: work and span of a run. It reads the text of a TWEJava program from standard input, and after a line `%%` the text of
-//! a journal. It writes how much the entries of the journal did, how much of that had to be one after another, and the heaviest
-//! chain of entries.
+//! `twe_profile`: work and span of a run. It reads the text of a TWEJava program from standard input, and after a line `%%` the
+//! text of a journal. It writes how much the entries of the journal did, how much of that had to be one after another, and the
+//! heaviest chain of entries.
 #![tactic(auto)]
 
 mod status;
@@ -8,9 +8,8 @@ mod text;
 mod top;
 
 use std::process::ExitCode;
-use text_streams::words_of;
 use top::profile_top;
-use twe_io::{StdSink, StdSource};
+use twe_io::{StdSink, StdSource, words_of};
 
 fn main(rt: HostRuntime) -> ExitCode {
     let alloc = rt.alloc();

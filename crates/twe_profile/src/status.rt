@@ -1,6 +1,6 @@
 //! The statuses that the program ends with.
 ghost use Rattle.std.specs.Prelude.{◌≡◌};
-ghost use Rattle.twe_profile.specs.Codes.{code_of};
+ghost use Rattle.twe_profile.specs.Codes.{profile_code_of};
 
 /// What a call of the program comes to.
 #[derive(Clone, Copy, Debug, PartialEq, Eq)]
@@ -26,7 +26,7 @@ pub enum ProfileStatus {
 impl ProfileStatus {
     /// The number that the process ends with.
     pub fn code(self) -> u8
-        ensures { result ≡ code_of self }
+        ensures { result ≡ profile_code_of self }
     {
         match self {
             ProfileStatus::Done => 0,

@@ -6,11 +6,11 @@ ghost use Rattle.twe_profile.specs.Texts as texts;
 use itoa::Buffer;
 use span_profile::Profile;
 use std::alloc::Global;
-use twe_io::{Bytes, Memory};
+use twe_base::{Bytes, Memory};
 
 /// The usage line.
 pub(crate) fn usage_text(alloc: Global) -> Result<Bytes, Memory>
-    ensures { IfOk result (λ text. text ≡ texts.usage_text) }
+    ensures { IfOk result (λ text. text ≡ texts.profile_usage_text) }
 {
     Bytes::from_slice(alloc, b"usage: twe_profile\n")
 }

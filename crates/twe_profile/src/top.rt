@@ -1,9 +1,9 @@
 //! The top call: the whole program, apart from where its bytes come from and go to.
 ghost use Rattle.std.specs.Prelude.{◌≡◌, ◌≤◌, ◌+◌, IfOk, length};
 ghost use Rattle.seg_journal.specs.Spelling.{head_lines};
-ghost use Rattle.twe_limits.specs.Language.{max_text_bytes};
-ghost use Rattle.text_streams.specs.Ends.{sink, source};
-ghost use Rattle.twe_profile.specs.Answers.{Answers, AnswersJournal, Cause, Due};
+ghost use Rattle.twe_base.specs.Language.{max_text_bytes};
+ghost use Rattle.twe_io.specs.Ends.{sink, source};
+ghost use Rattle.twe_profile.specs.Answers.{AnswersProfile, AnswersJournal, ProfileCause, ProfileDue};
 ghost use Rattle.twe_profile.specs.inner.Given.{AnswersFound, AnswersRead, IsShort};
 
 use crate::status::ProfileStatus;
@@ -12,18 +12,18 @@ use seg_journal::{JournalFail, JournalText, Limits, Move, read_journal};
 use span_profile::{ProfileFail, profile};
 use std::alloc::Global;
 use text_answers::cut_input;
-use text_streams::{Unwritten, read_text, tell};
+use twe_base::{Bytes, Memory, Word};
 use twe_frontend::{FrontFail, read_program};
-use twe_io::{Bytes, Memory, ReadFail, Sink, Source, Word};
+use twe_io::{ReadFail, Sink, Source, Unwritten, read_text, tell};
 use twe_program::Prog;
 use twe_report::{not_a_move_text, not_legal_text, read_fault_text, refusal_text, too_long_text};
 
 /// An answer of this program.
-type Answer = text_streams::Answer<ProfileStatus>;
+type Answer = twe_io::Answer<ProfileStatus>;
 
-/// Reads the text of a program from the source, and after the first line that is exactly `%%` the text of a journal. Writes the work
-/// and the span of the journal, and its heaviest chain. Without such a line the journal is empty. A journal may be unfinished or
-/// stuck, or end with a fault.
+/// Reads the text of a program from the source, and after the first line that is exactly `%%` the text of a journal. Writes the
+/// work and the span of the journal, and its heaviest chain. Without such a line the journal is empty. A journal may be
+/// unfinished or stuck, or end with a fault.
 ///
 /// `Answers` says what each status means and what is written with it. The program takes no words: if there is one, the answer
 /// is the usage line, and nothing is read from the source. After `Memory` nothing was written.
@@ -34,7 +34,8 @@ pub fn profile_top<S: Source, O: Sink, E: Sink>(
     out: &mut O,
     err: &mut E,
 ) -> ProfileStatus
-    ensures { Answers (source S.left S.faults S.read_gives) (sink O.written O.faults O.write_gives) (sink E.written E.faults E.write_gives)
+    ensures { AnswersProfile (source S.left S.faults S.read_gives) (sink O.written O.faults O.write_gives)
+        (sink E.written E.faults E.write_gives)
         words.now src.old src.new out.old out.new err.old err.new result }
 {
     let made = answer(alloc, words, src);
@@ -47,7 +48,7 @@ pub fn profile_top<S: Source, O: Sink, E: Sink>(
 
 /// The answer to these words.
 fn answer<S: Source>(alloc: Global, words: &[Word], src: &mut S) -> Result<Answer, Memory>
-    ensures { IfOk result (Cause (source S.left S.faults S.read_gives) words.now src.old src.new) }
+    ensures { IfOk result (ProfileCause (source S.left S.faults S.read_gives) words.now src.old src.new) }
 {
     match words {
         [] => {
@@ -82,7 +83,7 @@ fn answer_read(alloc: Global, read: Result<Bytes, ReadFail>) -> Result<Answer, M
 /// The answer to an input.
 fn answer_text(alloc: Global, text: &[u8]) -> Result<Answer, Memory>
     requires { length text.now ≤ max_text_bytes }
-    ensures { IfOk result (Due text.now) }
+    ensures { IfOk result (ProfileDue text.now) }
 {
     let (program, journal) = cut_input(text);
     match read_program(alloc, program) {

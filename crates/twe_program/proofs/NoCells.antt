@@ -3,7 +3,7 @@ use Rattle.std.proofs.Common.{◌≡◌, ◌⊎◌, ◌≤◌, ℕ, List, [], �
 use Rattle.region_paths.specs.declared.elements.Elem.{Elem}
 use Rattle.twe_program.specs.declared.program.CellDecl.{CellDecl}
 use Rattle.twe_program.specs.Program.{Program}
-use Rattle.twe_program.specs.Nodes.{console, BeginsWith, IsNodePath, HasNodesAtMost}
+use Rattle.twe_program.specs.Nodes.{console, PathBeginsWith, IsNodePath, HasNodesAtMost}
 
 of-console : (path rest : List Elem) → console ≡ path ++ rest → (path ≡ []) ⊎ (path ≡ console)
 of-console [] rest e = inl refl

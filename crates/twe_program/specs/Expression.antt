@@ -1,9 +1,10 @@
 -- An expression, as contracts see it: a tree.
 use Rattle.std.specs.Prelude.{ℕ, ℤ, Bool, List, [], ◌∷◌}
-use Rattle.twe_io.specs.declared.place.Place.{Place}
+use Rattle.twe_base.specs.declared.place.Place.{Place}
 use Rattle.twe_ast.specs.declared.expr.BinOp.{BinOp}
 
 mutual
+  -- the kinds of expression, each with its parts
   pub data Expression : Type 0 where
     -- an integer literal; `true` or `false`
     Literal : (value : ℤ) → Expression

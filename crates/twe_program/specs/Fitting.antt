@@ -40,21 +40,26 @@ abbrev pub ReturnsValue : Option Decl → Type 0
 ReturnsValue None = ⊥
 ReturnsValue (Some decl) = decl.int ≡ true
 
+-- how many arguments there are
 abbrev pub count_of : Arguments → ℕ
 count_of args.no_more = 0
 count_of (argument first others) = count_of others + 1
 
+-- Each variable of an expression exists. Each cell takes as many indexes as are written. Each method that is called takes
+-- as many arguments as are written, and returns a value.
 abbrev mutual
   pub ExpressionFits : Scope → Expression → Type 0
   ExpressionFits scope (Literal value) = Unit {0}
   ExpressionFits scope (Truth value) = Unit {0}
   ExpressionFits scope (Variable var fixed) = var < scope.vars
   ExpressionFits scope (CellValue cell place) = TakesIndexes (slice_get scope.cells cell) 0
-  ExpressionFits scope (ArrayElement array index place) = TakesIndexes (slice_get scope.cells array) 1 × ExpressionFits scope index
+  ExpressionFits scope (ArrayElement array index place) =
+      TakesIndexes (slice_get scope.cells array) 1 × ExpressionFits scope index
   ExpressionFits scope (GridElement array row column place) =
       TakesIndexes (slice_get scope.cells array) 2 × ExpressionFits scope row × ExpressionFits scope column
   ExpressionFits scope (CallValue method args place) =
-      TakesArguments (slice_get scope.methods method) (count_of args) × ReturnsValue (slice_get scope.methods method) × ArgumentsFit scope args
+      TakesArguments (slice_get scope.methods method) (count_of args) × ReturnsValue (slice_get scope.methods method)
+      × ArgumentsFit scope args
   ExpressionFits scope (Negative operand) = ExpressionFits scope operand
   ExpressionFits scope (Negation operand) = ExpressionFits scope operand
   ExpressionFits scope (Binary op left right place) = ExpressionFits scope left × ExpressionFits scope right
@@ -78,6 +83,8 @@ abbrev pub WaitFits : Scope → Option Declared → Bool → Option ℕ → Type
 WaitFits scope None join into = ⊥
 WaitFits scope (Some future) join into = (future.spawned ≡ join) × IntoFits scope future.task into
 
+-- The expressions of a statement fit, and so do the numbers of the variables, cells, methods, tasks and futures that it
+-- names. The value of a method that is called as a statement is not used, so the method may return none.
 abbrev mutual
   pub StatementFits : Scope → Statement → Type 0
   StatementFits scope (Block point body) = StatementsFit scope body
@@ -87,12 +94,14 @@ abbrev mutual
   StatementFits scope (SetArray point array index value place) =
       TakesIndexes (slice_get scope.cells array) 1 × ExpressionFits scope index × ExpressionFits scope value
   StatementFits scope (SetGrid point array row column value place) =
-      TakesIndexes (slice_get scope.cells array) 2 × ExpressionFits scope row × ExpressionFits scope column × ExpressionFits scope value
+      TakesIndexes (slice_get scope.cells array) 2 × ExpressionFits scope row × ExpressionFits scope column
+      × ExpressionFits scope value
   StatementFits scope (If point arms) = ArmsFit scope arms
   StatementFits scope (While point condition body place) = ExpressionFits scope condition × StatementsFit scope body
   StatementFits scope (Return point value) = ReturnFits scope value
   StatementFits scope (Print point value place) = ExpressionFits scope value
-  StatementFits scope (Call point method args place) = TakesArguments (slice_get scope.methods method) (count_of args) × ArgumentsFit scope args
+  StatementFits scope (Call point method args place) =
+      TakesArguments (slice_get scope.methods method) (count_of args) × ArgumentsFit scope args
   StatementFits scope (Make point future task args spawned future_place place) =
       TakesArguments (slice_get scope.tasks task) (count_of args) × ArgumentsFit scope args
   StatementFits scope (Wait point future join into place) = WaitFits scope (slice_get scope.futures future) join into

@@ -21,17 +21,18 @@ abbrev pub console : List Elem
 console = Name 0 ∷ []
 
 -- the path begins with these elements
-abbrev pub BeginsWith : List Elem → List Elem → Type 0
-BeginsWith path front = (rest : List Elem) × (path ≡ front ++ rest)
+abbrev pub PathBeginsWith : List Elem → List Elem → Type 0
+PathBeginsWith path front = (rest : List Elem) × (path ≡ front ++ rest)
 
 -- the path is a prefix of one that a cell at the first path declares
 abbrev pub IsPrefixOfDeclared : List Elem → Dims → List Elem → Type 0
-IsPrefixOfDeclared at dims path = (declared : List Elem) × Declares at dims declared × BeginsWith declared path
+IsPrefixOfDeclared at dims path = (declared : List Elem) × Declares at dims declared × PathBeginsWith declared path
 
 -- The tree of regions of a program has a node for each prefix of the path of `Console` and of a path that a cell
 -- declares. The empty path, that of the root, is such a prefix.
 abbrev pub IsNodePath : Program → List Elem → Type 0
-IsNodePath p path = BeginsWith console path ⊎ Any (λ (cell : CellDecl). IsPrefixOfDeclared cell.path.elems cell.dims path) p.cells
+IsNodePath p path = PathBeginsWith console path
+    ⊎ Any (λ (cell : CellDecl). IsPrefixOfDeclared cell.path.elems cell.dims path) p.cells
 
 -- the tree of regions has at most this many nodes: no list of different nodes is longer
 abbrev pub HasNodesAtMost : Program → ℕ → Type 0

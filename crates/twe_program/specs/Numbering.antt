@@ -86,7 +86,11 @@ abbrev mutual
   futures_of (Return point value) = []
   futures_of (Print point value place) = []
   futures_of (Call point method args place) = []
-  futures_of (Make point future task args spawned future_place place) = record { future = future; task = task; spawned = spawned } ∷ []
+  futures_of (Make point future task args spawned future_place place) = record {
+    future = future;
+    task = task;
+    spawned = spawned;
+  } ∷ []
   futures_of (Wait point future join into place) = []
 
   pub futures_of_all : Statements → List Declared

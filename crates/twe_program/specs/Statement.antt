@@ -1,10 +1,11 @@
 -- A statement, as contracts see it: a tree. `point` is the number of the point just before the statement. The point of
 -- a `while` is just before each test of its condition.
 use Rattle.std.specs.Prelude.{ℕ, Bool, Option, List, [], ◌∷◌}
-use Rattle.twe_io.specs.declared.place.Place.{Place}
+use Rattle.twe_base.specs.declared.place.Place.{Place}
 use Rattle.twe_program.specs.Expression.{Expression, Arguments}
 
 mutual
+  -- the kinds of statement, each with its parts
   pub data Statement : Type 0 where
     Block : (point : ℕ) (body : Statements) → Statement
     -- the declaration of a local with its value, and an assignment to a local

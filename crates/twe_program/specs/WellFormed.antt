@@ -1,7 +1,7 @@
 -- When a program is well formed: what the type of programs keeps.
 use Rattle.std.specs.Prelude.{◌≡◌, ◌<◌, ◌≤◌, ℕ, ◌+◌, false, length, map, Option, None, Some, slice_get, codes, if◌then◌else◌}
 use Rattle.std.specs.List.{AllByRecursion}
-use Rattle.twe_limits.specs.Language.{max_cells, max_nodes, max_path_elements, max_effects, max_parameters}
+use Rattle.twe_base.specs.Language.{max_cells, max_nodes, max_path_elements, max_effects, max_parameters}
 use Rattle.region_paths.specs.declared.elements.Elem.{Elem}
 use Rattle.region_paths.specs.declared.elements.Elem.TheVariants.{Name, Index, Var, AnyIndex}
 use Rattle.region_paths.specs.Written.{WrittenPath}

@@ -5,7 +5,7 @@ ghost use Rattle.twe_program.specs.Expression.{Literal, CellValue, Binary};
 use std::alloc::Global;
 use std::marker::Model;
 use twe_ast::BinOp;
-use twe_io::{Memory, Place};
+use twe_base::{Memory, Place};
 
 /// An expression.
 #[cycle(expr)]

@@ -4,7 +4,7 @@ use crate::stmt::Block;
 use effect_sets::Summary;
 use region_paths::Path;
 use std::marker::Model;
-use twe_io::{List, Place, Word};
+use twe_base::{List, Place, Word};
 
 /// How many cells a declaration makes, and how many indexes they take.
 #[derive(Clone, Copy, Debug, PartialEq, Eq)]
@@ -121,5 +121,11 @@ impl Model for Prog {
 
     ghost view = { λ p. record { regions = p.regions; cells = p.cells; methods = p.methods; tasks = p.tasks; main = p.main } };
 
-    ghost invariant = { λ p. IsWellFormed (record { regions = p.regions; cells = p.cells; methods = p.methods; tasks = p.tasks; main = p.main }) };
+    ghost invariant = { λ p. IsWellFormed (record {
+      regions = p.regions;
+      cells = p.cells;
+      methods = p.methods;
+      tasks = p.tasks;
+      main = p.main;
+    }) };
 }

@@ -2,7 +2,7 @@
 
 use crate::expr::{Args, Expr};
 use std::marker::Model;
-use twe_io::Place;
+use twe_base::Place;
 
 /// A statement.
 #[cycle(stmt)]

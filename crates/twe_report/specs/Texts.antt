@@ -2,11 +2,11 @@
 use Rattle.std.specs.Prelude.{count_by, true, false, ◌++◌, ◌+◌, ℕ, zero, suc, ℤ, Bool, List, [], ◌∷◌, length, map, codes, decimal, Option, None, Some, slice_get, if◌then◌else◌}
 use Rattle.std.specs.Fmt.{signed_decimal}
 use Rattle.std.specs.List.{flat_map}
-use Rattle.twe_io.specs.declared.place.Place.{Place}
+use Rattle.twe_base.specs.declared.place.Place.{Place}
 use Rattle.seg_journal.specs.declared.journal.Entry.{Entry}
-use Rattle.twe_limits.specs.declared.fault.FaultKind.{FaultKind}
-use Rattle.twe_limits.specs.declared.fault.FaultKind.TheVariants.{DivZero, Index, Fuel, Depth, TaskLimit}
-use Rattle.twe_limits.specs.Limits.{Bounds}
+use Rattle.twe_base.specs.declared.fault.FaultKind.{FaultKind}
+use Rattle.twe_base.specs.declared.fault.FaultKind.TheVariants.{DivZero, Index, Fuel, Depth, TaskLimit}
+use Rattle.twe_base.specs.Limits.{Bounds}
 use Rattle.seg_journal.specs.Spelling.{head_line, move_line, move_of}
 use Rattle.wait_graph.specs.declared.stuck.Edge.{Edge}
 use Rattle.twe_program.specs.declared.program.Dims.{Dims}
@@ -26,6 +26,7 @@ use Rattle.twe_machine.specs.declared.state.State.{State}
 use Rattle.twe_machine.specs.declared.state.TaskRow.{TaskRow}
 use Rattle.twe_machine.specs.Rows.{is_done_row}
 
+-- the text as a line
 abbrev pub line : List ℕ → List ℕ
 line text = text ++ 10 ∷ []
 
@@ -59,12 +60,14 @@ row_text cells cell (suc count) = codes "[" ++ (value_text cells cell ++ (more_v
 -- `rows` rows of `columns` cells from this number on, each after `, `
 abbrev pub more_rows : List ℤ → ℕ → ℕ → ℕ → List ℕ
 more_rows cells cell zero columns = []
-more_rows cells cell (suc rows) columns = codes ", " ++ (row_text cells cell columns ++ more_rows cells (cell + columns) rows columns)
+more_rows cells cell (suc rows) columns =
+    codes ", " ++ (row_text cells cell columns ++ more_rows cells (cell + columns) rows columns)
 
 -- `[[0, 0], [1, 10]]`, or `[]` if there are no rows
 abbrev pub grid_text : List ℤ → ℕ → ℕ → ℕ → List ℕ
 grid_text cells cell zero columns = codes "[]"
-grid_text cells cell (suc rows) columns = codes "[" ++ (row_text cells cell columns ++ (more_rows cells (cell + columns) rows columns ++ codes "]"))
+grid_text cells cell (suc rows) columns =
+    codes "[" ++ (row_text cells cell columns ++ (more_rows cells (cell + columns) rows columns ++ codes "]"))
 
 -- the values of a declaration whose first cell has this number
 abbrev pub values_text : List ℤ → ℕ → Dims → List ℕ
@@ -91,6 +94,7 @@ load_result_text n st =
     ++ (line (codes "tasks " ++ decimal (length st.tasks))
     ++ line (codes "s = " ++ value_text st.cells 0))
 
+-- the name of a rule of the text
 abbrev pub text_rule : SRule → List ℕ
 text_rule S1 = codes "S1"
 text_rule S2 = codes "S2"
@@ -99,6 +103,7 @@ text_rule S4 = codes "S4"
 text_rule S5 = codes "S5"
 text_rule S6 = codes "S6"
 
+-- the name of a rule of names
 abbrev pub name_rule : NRule → List ℕ
 name_rule N1 = codes "N1"
 name_rule N2 = codes "N2"
@@ -110,6 +115,7 @@ name_rule N7 = codes "N7"
 name_rule N8 = codes "N8"
 name_rule N9 = codes "N9"
 
+-- the name of a rule on effects
 abbrev pub effect_rule : ERule → List ℕ
 effect_rule E1 = codes "E1"
 effect_rule E2 = codes "E2"
@@ -120,6 +126,7 @@ effect_rule E6 = codes "E6"
 effect_rule E7 = codes "E7"
 effect_rule E8 = codes "E8"
 
+-- the name of a rule of any of the three kinds
 abbrev pub rule_text : RuleName → List ℕ
 rule_text (Text rule) = text_rule rule
 rule_text (Name rule) = name_rule rule
@@ -133,6 +140,7 @@ place_text place = decimal place.line ++ (codes ":" ++ decimal place.col)
 abbrev pub refusal_text : Refusal → List ℕ
 refusal_text refusal = line (codes "refused: " ++ (rule_text refusal.rule ++ (codes " at " ++ place_text refusal.place)))
 
+-- the name of a fault
 abbrev pub fault_name : FaultKind → List ℕ
 fault_name DivZero = codes "DivZero"
 fault_name Index = codes "Index"
@@ -145,6 +153,7 @@ abbrev pub fault_text : ℕ → FaultKind → Place → List ℕ
 fault_text task kind place =
     line (codes "fault: " ++ (fault_name kind ++ (codes " in task " ++ (decimal task ++ (codes " at " ++ place_text place)))))
 
+-- what stands between the two tasks of an edge
 abbrev pub edge_word : Bool → List ℕ
 edge_word held = if held then codes " held by " else codes " waits "
 
@@ -167,16 +176,18 @@ stuck_text edges = line (codes "stuck: " ++ edges_text edges)
 
 -- the lines of a journal after the other lines of a run: a line `%%`, the limits as a head, and a line for the move of each
 -- entry
-abbrev pub journal_part : Bounds → List Entry → List ℕ
-journal_part lim journal = line (codes "%%") ++ (head_line lim ++ flat_map move_line (map move_of journal))
+abbrev pub journal_part_text : Bounds → List Entry → List ℕ
+journal_part_text lim journal = line (codes "%%") ++ (head_line lim ++ flat_map move_line (map move_of journal))
 
--- `journal: line 2 is not a move`, and `journal: line 2 is not legal`
+-- `journal: line 2 is not `, and then what the line is not
 abbrev pub bad_line_text : ℕ → List ℕ → List ℕ
 bad_line_text n what = line (codes "journal: line " ++ (decimal n ++ (codes " is not " ++ what)))
 
+-- `journal: line 2 is not a move`
 abbrev pub not_a_move_text : ℕ → List ℕ
 not_a_move_text n = bad_line_text n (codes "a move")
 
+-- `journal: line 2 is not legal`
 abbrev pub not_legal_text : ℕ → List ℕ
 not_legal_text n = bad_line_text n (codes "legal")
 
@@ -187,16 +198,21 @@ is_undone row = if is_done_row row then false else true
 -- `unfinished: 1 of 2 tasks not done`
 abbrev pub unfinished_text : State → List ℕ
 unfinished_text st =
-    line (codes "unfinished: " ++ (decimal (count_by is_undone st.tasks) ++ (codes " of " ++ (decimal (length st.tasks) ++ codes " tasks not done"))))
+    line (codes "unfinished: " ++ (decimal (count_by is_undone st.tasks)
+    ++ (codes " of " ++ (decimal (length st.tasks) ++ codes " tasks not done"))))
 
+-- the usage line of `twe`
 abbrev pub usage_text : List ℕ
 usage_text = line (codes "usage: twe check | run [--workers k] [--fuel f] [--tasks t] [--journal] | replay [--fuel f] [--tasks t] | load N [--workers k]")
 
+-- `read fault`
 abbrev pub read_fault_text : List ℕ
 read_fault_text = line (codes "read fault")
 
+-- `input too long`
 abbrev pub too_long_text : List ℕ
 too_long_text = line (codes "input too long")
 
+-- `accepted`
 abbrev pub accepted_text : List ℕ
 accepted_text = line (codes "accepted")

@@ -7,9 +7,8 @@ use effect_check::ERule;
 use itoa::Buffer;
 use name_check::NRule;
 use std::alloc::Global;
+use twe_base::{Bytes, FaultKind, Memory, Place};
 use twe_frontend::{Refusal, RuleName};
-use twe_io::{Bytes, Memory, Place};
-use twe_limits::FaultKind;
 use twe_parser::SRule;
 
 /// The usage line.
@@ -18,7 +17,8 @@ pub fn usage_text(alloc: Global) -> Result<Bytes, Memory>
 {
     Bytes::from_slice(
         alloc,
-        b"usage: twe check | run [--workers k] [--fuel f] [--tasks t] [--journal] | replay [--fuel f] [--tasks t] | load N [--workers k]\n",
+        b"usage: twe check | run [--workers k] [--fuel f] [--tasks t] [--journal] | \
+replay [--fuel f] [--tasks t] | load N [--workers k]\n",
     )
 }
 

@@ -5,7 +5,7 @@ ghost use Rattle.twe_report.specs.Texts as texts;
 use crate::result::push_value;
 use itoa::Buffer;
 use std::alloc::Global;
-use twe_io::{Bytes, Memory};
+use twe_base::{Bytes, Memory};
 use twe_machine::State;
 
 /// The result of a run of the load generator's program for `n` cells: `n`, the number of tasks that were made, and the value of

@@ -6,7 +6,7 @@ ghost use Rattle.twe_report.specs.Texts as texts;
 
 use itoa::Buffer;
 use std::alloc::Global;
-use twe_io::{Bytes, Memory};
+use twe_base::{Bytes, Memory};
 use twe_machine::State;
 use twe_program::{CellDecl, Dims, Prog};
 

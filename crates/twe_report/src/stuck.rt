@@ -5,7 +5,7 @@ ghost use Rattle.twe_report.specs.Texts as texts;
 
 use itoa::Buffer;
 use std::alloc::Global;
-use twe_io::{Bytes, Memory};
+use twe_base::{Bytes, Memory};
 use wait_graph::{Cycle, Edge};
 
 /// The line of a stuck run, with the cycle of tasks that hold one another up, as

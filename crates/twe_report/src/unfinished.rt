@@ -5,7 +5,7 @@ ghost use Rattle.twe_report.specs.Texts as texts;
 
 use itoa::Buffer;
 use std::alloc::Global;
-use twe_io::{Bytes, Memory};
+use twe_base::{Bytes, Memory};
 use twe_machine::{State, TaskRow, TaskStatus};
 
 /// The line of a run that is unfinished in this state, as `unfinished: 1 of 2 tasks not done`.

@@ -13,10 +13,10 @@ use denote.Hole.{as_row}
 use Rattle.std.proofs.Crossing as heap
 use Rattle.std.proofs.option.Option.TheSendSync as option
 use Rattle.std.specs.contracts.option.Option as Option
-use Rattle.twe_io.proofs.list.List.TheSendSync as list
-use Rattle.twe_io.proofs.word.Word.TheSendSync as word
-use Rattle.twe_io.proofs.place.Place.TheSendSync as place
-use Rattle.twe_io.specs.contracts.place.Place as Place
+use Rattle.twe_base.proofs.list.List.TheSendSync as list
+use Rattle.twe_base.proofs.word.Word.TheSendSync as word
+use Rattle.twe_base.proofs.place.Place.TheSendSync as place
+use Rattle.twe_base.specs.contracts.place.Place as Place
 use Rattle.twe_ast.proofs.expr.BinOp.TheSendSync as operator
 use Rattle.twe_ast.specs.contracts.expr.BinOp as BinOp
 use Rattle.effect_sets.proofs.effects.Summary.TheSendSync as summary
@@ -31,10 +31,10 @@ use Rattle.twe_program.specs.contracts.program.Decl as Decl
 use Rattle.twe_program.specs.contracts.program.Prog as Prog
 use Rattle.std.proofs.alloc.Global.TheSendSync as global
 use Rattle.std.proofs.marker.PhantomData.TheSendSync as phantom
-use Rattle.twe_limits.proofs.limits.Limits.TheSendSync as limits
+use Rattle.twe_base.proofs.limits.Limits.TheSendSync as limits
 use Rattle.twe_rounds.specs.contracts.game.Game as Game
 use Rattle.twe_rounds.specs.contracts.game.Game.TheInside as inside
-use Rattle.twe_rounds.specs.declared.named.Named.{Ghosts}
+use Rattle.twe_rounds.specs.declared.named.RoundName.{Ghosts}
 
 truth : IsSync (as_row bool-field)
 truth = as_row_sync bool-field (plain_sync _ _ _ _ _)

@@ -1,8 +1,8 @@
 -- A quiet step that does not move finds that the run is over.
 use Rattle.std.proofs.Common.{◌≡◌, ℕ, List, Option, None, Some, true, sym, ap, ◌∙◌, subst, Result, Ok, Err, IfOk}
 use Rattle.seg_journal.specs.declared.journal.Entry.{Entry}
-use Rattle.twe_limits.specs.declared.fault.FaultKind.{FaultKind}
-use Rattle.twe_io.specs.declared.place.Place.{Place}
+use Rattle.twe_base.specs.declared.fault.FaultKind.{FaultKind}
+use Rattle.twe_base.specs.declared.place.Place.{Place}
 use Rattle.twe_machine.specs.declared.ending.Outcome.TheVariants as outcomes
 use Rattle.twe_machine.specs.declared.state.State.{State}
 use Rattle.twe_machine.specs.LowestFirst.{IsOver}

@@ -4,10 +4,10 @@ use crate::look::Look;
 use crate::waiting::Waiting;
 use seg_journal::End;
 use std::alloc::AllocError;
-use twe_io::Memory;
+use twe_base::Memory;
 
 /// A worker's way to the run. Other workers may come between any two calls.
-pub trait Access {
+pub trait RoundAccess {
     /// What may be done next for a task.
     fn look(&mut self, task: u32) -> Result<Look, Memory>;
 

@@ -5,7 +5,7 @@ use crate::own_deck::OwnDeck;
 use crate::worker::Worker;
 use std::alloc::Global;
 use steal_pool::{Deck, Decks, make_decks};
-use twe_io::Memory;
+use twe_base::Memory;
 use twe_machine::{State, TaskStatus};
 
 /// How many pushes a deck has room for beside the numbers that are dealt.

@@ -6,10 +6,10 @@
 use std::marker::Brand;
 
 /// What a round is about. Each round picks the three.
-pub trait Named {
+pub trait RoundName {
     ghost use Rattle.std.specs.Prelude.{List};
     ghost use Rattle.seg_journal.specs.declared.journal.Entry.{Entry};
-    ghost use Rattle.twe_limits.specs.Limits.{Bounds};
+    ghost use Rattle.twe_base.specs.Limits.{Bounds};
     ghost use Rattle.twe_program.specs.Program.{Program};
 
     /// The program that is run.
@@ -22,7 +22,7 @@ pub trait Named {
     ghost earlier: { List Entry };
 }
 
-impl Named for Brand {
+impl RoundName for Brand {
     ghost use Rattle.std.specs.Prelude.{[]};
     ghost use Rattle.twe_rounds.specs.Keeping.{no_program};
 

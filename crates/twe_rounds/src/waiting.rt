@@ -6,7 +6,7 @@
 use seg_journal::{End, Entry};
 use std::alloc::Global;
 use std::collections::BTreeMap;
-use twe_io::Memory;
+use twe_base::Memory;
 
 /// The tasks that a worker has to try again.
 #[derive(Drop)]

@@ -1,6 +1,6 @@
 //! A worker of a round. It takes numbers of tasks from the decks and makes the moves of those tasks.
 
-use crate::access::Access;
+use crate::access::RoundAccess;
 use crate::look::Look;
 use crate::own_deck::OwnDeck;
 use crate::waiting::Waiting;
@@ -11,7 +11,7 @@ use std::alloc::Global;
 use std::sync::Wait;
 use std::sync::atomic::{AtomicU64, Ordering};
 use std::time::Duration;
-use twe_io::Memory;
+use twe_base::Memory;
 
 /// How many microseconds a worker that finds nothing to do sleeps before it tries again, once it has yielded a few times.
 const NAP: u64 = 100;
@@ -61,7 +61,7 @@ impl Worker {
     }
 
     /// Works until no number is left to be dealt with.
-    pub fn work<R: Wait, A: Access, G: Gate>(
+    pub fn work<R: Wait, A: RoundAccess, G: Gate>(
         &mut self,
         rt: &R,
         access: &mut A,
@@ -98,7 +98,7 @@ impl Worker {
 
     /// Whether a task of the list may be tried again: one whose wait has ended, or any of them if nothing was left to be
     /// dealt with and a segment ran since the worker tried all of them.
-    fn finds_ready<A: Access>(&mut self, access: &mut A, left: u64) -> bool {
+    fn finds_ready<A: RoundAccess>(&mut self, access: &mut A, left: u64) -> bool {
         self.hear(access);
         if self.stopped {
             return false;
@@ -115,7 +115,7 @@ impl Worker {
     }
 
     /// Deals with a number, if there is one, and then with each task whose wait has ended.
-    fn serve<R: Wait, A: Access, G: Gate>(
+    fn serve<R: Wait, A: RoundAccess, G: Gate>(
         &mut self,
         rt: &R,
         access: &mut A,
@@ -136,14 +136,14 @@ impl Worker {
     }
 
     /// Hears which tasks have ended.
-    fn hear<A: Access>(&mut self, access: &mut A) {
+    fn hear<A: RoundAccess>(&mut self, access: &mut A) {
         if !self.stopped {
             self.stopped = access.tell(&mut self.waiting).is_err();
         }
     }
 
     /// Makes the moves of a task while one is legal. A task that waits or is held back comes on the worker's list.
-    fn follow<R: Wait, A: Access, G: Gate>(
+    fn follow<R: Wait, A: RoundAccess, G: Gate>(
         &mut self,
         rt: &R,
         access: &mut A,
@@ -163,7 +163,7 @@ impl Worker {
 
     /// Passes the gate and runs a segment of the task, if it is still legal then. A task that the segment makes is pushed,
     /// if a push is left.
-    fn segment<A: Access, G: Gate>(
+    fn segment<A: RoundAccess, G: Gate>(
         &mut self,
         access: &mut A,
         site: &Site<'_, G>,

@@ -3,7 +3,7 @@ use Rattle.std.proofs.Common.{◌≡◌, ℕ, suc, ◌+◌, ◌-◌, ◌≤◌, 
 use Rattle.wait_graph.specs.declared.tasks.Link.{Link}
 use Rattle.wait_graph.specs.declared.stuck.Edge.{Edge}
 use Rattle.wait_graph.specs.Link.{IsOrdered}
-use Rattle.wait_graph.specs.Walk.{walk, first_round, turned, lowest_place}
+use Rattle.wait_graph.specs.Walk.{walk, first_round, walk_turned, lowest_place}
 use Rattle.wait_graph.specs.inner.Again.{after, ComesAgain}
 use Rattle.wait_graph.specs.StuckCycle.{IsCycle, IsUndone, AllAreHeldUp, edge_from, next_of, lowest_undone, stuck_cycle}
 use Rattle.wait_graph.proofs.WalkLemmas.{drop-walk}
@@ -54,17 +54,17 @@ IsRoundOf-found next start m size tasks f =
     (found_parts next start m (n - m) (size - n) c))
 
 -- the edges of the turned round are the stuck cycle
-pub stuck_cycle-round : (links : List Link) (held : List (Option ℕ)) (m : ℕ) (round : List ℕ) → IsRoundOf (next_of links held) (lowest_undone links) m (length links) round → map (edge_from links held) (turned round) ≡ stuck_cycle links held
+pub stuck_cycle-round : (links : List Link) (held : List (Option ℕ)) (m : ℕ) (round : List ℕ) → IsRoundOf (next_of links held) (lowest_undone links) m (length links) round → map (edge_from links held) (walk_turned round) ≡ stuck_cycle links held
 unfolding stuck_cycle
-stuck_cycle-round links held m round r = ap (λ ts. map (edge_from links held) (turned ts)) (sym r.first)
+stuck_cycle-round links held m round r = ap (λ ts. map (edge_from links held) (walk_turned ts)) (sym r.first)
 
 -- and they make a cycle
-pub IsCycle-round : (links : List Link) (held : List (Option ℕ)) (start m size : ℕ) (round : List ℕ) → IsOrdered links → AllAreHeldUp links held → IsUndone links start → IsRoundOf (next_of links held) start m size round → IsCycle links held (map (edge_from links held) (turned round))
+pub IsCycle-round : (links : List Link) (held : List (Option ℕ)) (start m size : ℕ) (round : List ℕ) → IsOrdered links → AllAreHeldUp links held → IsUndone links start → IsRoundOf (next_of links held) start m size round → IsCycle links held (map (edge_from links held) (walk_turned round))
 IsCycle-round links held start m size round ordered alone undone r =
     let next = next_of links held in
     let t = after next m start in
     let b = lowest_place (walk next r.period t) in
     let turn = IsTurned-round next r.period t r.round in
     let there = IsUndone-after links held b t ordered alone (IsUndone-after links held m start ordered alone undone) in
-    subst (λ (es : List Edge). IsCycle links held es) (ap (map (edge_from links held)) (sym (ap turned r.walked ∙ turn.value)))
+    subst (λ (es : List Edge). IsCycle links held es) (ap (map (edge_from links held)) (sym (ap walk_turned r.walked ∙ turn.value)))
     (IsCycle-edges_of links held r.period (after next b t) ordered alone there turn.round turn.lowest)

@@ -6,7 +6,7 @@ use Rattle.std.proofs.lemmas.Bool.Decides.{nat_tests}
 use Rattle.std.proofs.lemmas.List.Elements.{All-from_get_or, All-cons, All-nil, All-weaker}
 use Rattle.std.proofs.lemmas.List.Folds.{list_all_at}
 use Rattle.std.proofs.lemmas.List.Sums.{position_or_len_is, passes_at_first, fails_before_first, list_all-from_AllPass, AllPass-from_list_all}
-use Rattle.wait_graph.specs.Walk.{walk, turned, lowest_place}
+use Rattle.wait_graph.specs.Walk.{walk, walk_turned, lowest_place}
 use Rattle.wait_graph.specs.inner.Again.{after}
 use Rattle.wait_graph.proofs.WalkLemmas.{after-add, walk-add, take-walk, drop-walk, length-walk, get_or-walk}
 use Rattle.wait_graph.proofs.RoundLemmas.{IsRound, IsRound-turned}
@@ -70,7 +70,7 @@ lowest_place-lowest xs h =
 
 -- a round that begins with its lowest number
 pub record IsTurned (next : ℕ → ℕ) (p t b : ℕ) : Type 0 where
-  pub value : turned (walk next p t) ≡ walk next p (after next b t)
+  pub value : walk_turned (walk next p t) ≡ walk next p (after next b t)
   pub round : IsRound next p (after next b t)
   pub lowest : (i : ℕ) → i < p → after next b t ≤ after next i (after next b t)
 

@@ -5,7 +5,7 @@ use Rattle.wait_graph.specs.declared.tasks.Link.{Link}
 use Rattle.wait_graph.specs.declared.stuck.Edge.{Edge}
 use Rattle.wait_graph.specs.Link.{link_of}
 use Rattle.wait_graph.specs.Waiting.{awaited, WaitsFor, WaitsForNobody}
-use Rattle.wait_graph.specs.Walk.{walk, first_round, turned}
+use Rattle.wait_graph.specs.Walk.{walk, first_round, walk_turned}
 
 -- the given holder of t, if it has one
 abbrev pub holder_of : List (Option ℕ) → ℕ → Option ℕ
@@ -44,7 +44,7 @@ lowest_undone links = unwrap_or (position (λ link. not link.done) links) 0
 -- The round that the walk ends in, beginning with its lowest task. The walk is followed for one step more than there
 -- are tasks, so it has come to some task again.
 abbrev pub cycle_tasks : List Link → List (Option ℕ) → List ℕ
-cycle_tasks links held = turned (first_round (walk (next_of links held) (suc (length links)) (lowest_undone links)))
+cycle_tasks links held = walk_turned (first_round (walk (next_of links held) (suc (length links)) (lowest_undone links)))
 
 -- the edges by which the walk leaves these tasks
 unfoldable pub stuck_cycle : List Link → List (Option ℕ) → List Edge

@@ -17,5 +17,5 @@ abbrev pub lowest_place : List ℕ → ℕ
 lowest_place ts = position_or_len (λ t. list_all (nat_le t) ts) ts
 
 -- a round that begins with its lowest number: the numbers before it are put after the rest
-abbrev pub turned : List ℕ → List ℕ
-turned ts = drop (lowest_place ts) ts ++ take (lowest_place ts) ts
+abbrev pub walk_turned : List ℕ → List ℕ
+walk_turned ts = drop (lowest_place ts) ts ++ take (lowest_place ts) ts

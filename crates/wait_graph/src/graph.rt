@@ -8,7 +8,7 @@ use crate::tasks::Link;
 use crate::{chains, walk};
 use std::alloc::Global;
 use std::marker::Model;
-use twe_io::Memory;
+use twe_base::Memory;
 
 /// The links between the tasks. The tasks are numbered from 0 in the order in which they were added. Contracts see it
 /// as the list of their links.

@@ -2,7 +2,7 @@
 ghost use Rattle.std.specs.Prelude.{◌≡◌, ℕ, ◌<◌, ◌≤◌, ◌++◌, not, length, map, vec_len, IfOk, OnOk};
 ghost use Rattle.std.specs.List.{All, position};
 ghost use Rattle.wait_graph.specs.Link.{IsOrdered};
-ghost use Rattle.wait_graph.specs.Walk.{walk, lowest_place, turned};
+ghost use Rattle.wait_graph.specs.Walk.{walk, lowest_place, walk_turned};
 ghost use Rattle.wait_graph.specs.inner.Again.{ComesAgain};
 ghost use Rattle.wait_graph.specs.StuckCycle.{IsCycle, IsUndone, AllAreHeldUp, edge_from, next_of, lowest_undone, stuck_cycle};
 
@@ -10,7 +10,7 @@ use crate::chains;
 use crate::stuck::Edge;
 use crate::tasks::Link;
 use std::alloc::Global;
-use twe_io::Memory;
+use twe_base::Memory;
 
 /// The edge by which the walk leaves `t`: to the task that it waits for, or to its holder if it waits for nobody.
 fn edge_from(links: &[Link], held: &[Option<u32>], t: u32) -> Edge
@@ -138,7 +138,7 @@ fn turned_edges(
     requires held_up { AllAreHeldUp links.now held.now }
     requires undone { All (IsUndone links.now) round.now }
     requires some { 0 < length round.now }
-    ensures { IfOk result (λ edges. edges.items ≡ map (edge_from links.now held.now) (turned round.now)) }
+    ensures { IfOk result (λ edges. edges.items ≡ map (edge_from links.now held.now) (walk_turned round.now)) }
 {
     let (before, rest) = round.split_at(lowest_place(round));
     let mut edges = Vec::with_capacity(alloc, round.len())?;

@@ -4,6 +4,7 @@ use Rattle.twe_ast.specs.Statement.{Statement, Block, Let, Set, SetArray, SetGri
 use Rattle.twe_lexer.specs.declared.token.TokenKind.{TokenKind}
 use Rattle.ast_printer.specs.StatementTokens.{statement_tokens}
 
+-- the printed tokens of a statement that contains no other statements; none for one that does
 abbrev pub simple_tokens : Statement → List TokenKind
 simple_tokens (Block body) = []
 simple_tokens (If arms) = []

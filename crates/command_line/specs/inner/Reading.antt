@@ -10,8 +10,8 @@ use Rattle.clap.specs.Matches.{found_of}
 use Rattle.clap.specs.declared.builder.action.ArgAction.{ArgAction}
 use Rattle.clap.specs.declared.builder.action.ArgAction.TheVariants.{SetTrue}
 use Rattle.clap.specs.declared.parser.matches.ArgMatches.{ArgMatches}
-use Rattle.twe_limits.specs.Language.{default_fuel, default_tasks}
-use Rattle.twe_limits.specs.Limits.{Bounds}
+use Rattle.twe_base.specs.Language.{default_fuel, default_tasks}
+use Rattle.twe_base.specs.Limits.{Bounds}
 use Rattle.command_line.specs.declared.command.Command.{Command}
 use Rattle.command_line.specs.declared.command.Command.TheVariants.{Check, Run, Replay, Load}
 use Rattle.command_line.specs.declared.command.WordsFail.{WordsFail}
@@ -29,16 +29,19 @@ id (of Tasks) = codes "tasks"
 id flag = codes "journal"
 id size = codes "N"
 
+-- the word of an item's argument after `--`; the size of a load has none
 abbrev pub long : Item → Option Text
 long (of setting) = Some (id (of setting))
 long flag = Some (id flag)
 long size = None
 
+-- what is done if an item's argument is given: the flag is set, and for the others it is left to `clap`
 abbrev pub action : Item → Option ArgAction
 action flag = Some SetTrue
 action (of setting) = None
 action size = None
 
+-- whether an item must be given: the size of a load must
 abbrev pub is_required : Item → Bool
 is_required size = true
 is_required (of setting) = false
@@ -50,7 +53,9 @@ argument item = record (new_rule (id item)) { long = long item; action = action 
 
 -- the command of `clap` with this name, which takes these items and has no help
 abbrev pub app_for : Text → List Item → App
-app_for name items = fold (λ app item. with_rule app (argument item)) (on_top (λ shape. record shape { disable_help_flag = true }) (new_app name)) items
+app_for name items =
+    fold (λ app item. with_rule app (argument item))
+    (on_top (λ shape. record shape { disable_help_flag = true }) (new_app name)) items
 
 -- the parse of the words came to this
 abbrev pub HasRows : App → List Text → Result ArgMatches WordsFail → Type 0
@@ -85,20 +90,27 @@ size_given rows = option_and_then size_in (first_of (id size) rows)
 abbrev pub limits_given : Option ℕ → Option ℕ → Bounds
 limits_given fuel tasks = record { fuel = unwrap_or fuel default_fuel; tasks = unwrap_or tasks default_tasks }
 
--- the command that the matches make
+-- the command that the matches of `check` make
 abbrev pub check_from : List Row → Option Command
 check_from rows = Some Check
 
+-- the command that the matches of `run` make, unless a number is not in its range
 abbrev pub run_from : List Row → Option Command
-run_from rows = option_and_then (λ workers. option_and_then (λ fuel. option_and_then (λ tasks. Some (Run (unwrap_or workers 0) (limits_given fuel tasks) (flag_given rows)))
+run_from rows =
+    option_and_then (λ workers. option_and_then (λ fuel. option_and_then
+    (λ tasks. Some (Run (unwrap_or workers 0) (limits_given fuel tasks) (flag_given rows)))
     (number_given Tasks rows)) (number_given Fuel rows)) (number_given Workers rows)
 
+-- the command that the matches of `replay` make, unless a number is not in its range
 abbrev pub replay_from : List Row → Option Command
 replay_from rows = option_and_then (λ fuel. option_and_then (λ tasks. Some (Replay (limits_given fuel tasks)))
     (number_given Tasks rows)) (number_given Fuel rows)
 
+-- the command that the matches of `load` make, unless a number is missing or not in its range
 abbrev pub load_from : List Row → Option Command
-load_from rows = option_and_then (λ workers. option_and_then (λ n. Some (Load (unwrap_or workers 0) n)) (size_given rows)) (number_given Workers rows)
+load_from rows =
+    option_and_then (λ workers. option_and_then (λ n. Some (Load (unwrap_or workers 0) n)) (size_given rows))
+    (number_given Workers rows)
 
 -- no step of the parse fails
 abbrev pub faultless : Kinds → Bool
@@ -107,12 +119,15 @@ faultless (kind ∷ kinds) = false
 
 -- the command that `clap` reads in the words: those of a command with this name, which takes these items
 abbrev pub parsed : Text → List Item → (List Row → Option Command) → List Text → Option Command
-parsed name items from words = if faultless (fault_of (app_for name items) words) then from (matches_of (app_for name items) words) else None
+parsed name items from words =
+    if faultless (fault_of (app_for name items) words) then from (matches_of (app_for name items) words)
+    else None
 
 -- a word is `--`
 abbrev pub has_end : List Text → Bool
 has_end words = list_any (λ word. bytes_eq word (codes "--")) words
 
+-- the command that `clap` reads in the words, of which this is the first
 abbrev pub named : Text → List Text → Option Command
 named name words =
     if bytes_eq name (codes "check") then parsed (codes "check") [] check_from words
@@ -121,9 +136,11 @@ named name words =
     else if bytes_eq name (codes "load") then parsed (codes "load") load_items load_from words
     else None
 
+-- the command that `clap` reads in the words by their first one
 abbrev pub first_named : List Text → Option Command
 first_named [] = None
 first_named (name ∷ words) = named name (name ∷ words)
 
+-- the command that is read in the words; with a word `--` there is none
 abbrev pub command_of : List Text → Option Command
 command_of words = if has_end words then None else first_named words

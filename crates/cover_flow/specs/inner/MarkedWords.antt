@@ -1,6 +1,6 @@
 -- The facts of 128 futures at each point of a body, by the turns of its loops.
 use Rattle.std.specs.Prelude.{ℕ, List, if◌then◌else◌, slice_index_or, slice_set, replicate}
-use Rattle.twe_io.specs.Stacks.{top, below}
+use Rattle.twe_base.specs.Stacks.{top, below}
 use Rattle.twe_program.specs.declared.program.Body.{Body}
 use Rattle.twe_program.specs.Statement.{Statement, Block, If, While, Return, Make, Wait, Statements, no_more, statement, Arms, arm, otherwise, no_else}
 use Rattle.cover_flow.specs.declared.facts.Facts.{Facts}
@@ -27,7 +27,8 @@ abbrev mutual
 
 -- the facts after a statement that has no others inside it, and is no return
 abbrev pub led_simple : ℕ → Statement → Facts → Facts
-led_simple first (Make point future task args spawned future_place place) facts = if spawned then put_out_words (mask_of first future) facts else facts
+led_simple first (Make point future task args spawned future_place place) facts =
+    if spawned then put_out_words (mask_of first future) facts else facts
 led_simple first (Wait point future join into place) facts = if join then taken_in_words (mask_of first future) facts else facts
 led_simple first s facts = facts
 
@@ -58,10 +59,13 @@ noted_words rows point facts = slice_set rows point (joined_words (slice_index_o
 -- what paths that come to the statement with these facts add at the points within it, and by returns at the end
 abbrev mutual
   pub marked_words : ℕ → ℕ → Statement → Facts → Turns → List Facts → List Facts
-  marked_words first end (Block point body) facts turns rows = marked_words_all first end body facts turns (noted_words rows point facts)
-  marked_words first end (If point arms) facts turns rows = marked_words_one first end arms facts turns (noted_words rows point facts)
+  marked_words first end (Block point body) facts turns rows =
+      marked_words_all first end body facts turns (noted_words rows point facts)
+  marked_words first end (If point arms) facts turns rows =
+      marked_words_one first end arms facts turns (noted_words rows point facts)
   marked_words first end (While point condition body place) facts turns rows =
-      marked_words_all first end body (entered (top turns unchanged) facts) (below turns) (noted_words rows point (entered (top turns unchanged) facts))
+      marked_words_all first end body (entered (top turns unchanged) facts) (below turns)
+      (noted_words rows point (entered (top turns unchanged) facts))
   marked_words first end (Return point value) facts turns rows = noted_words (noted_words rows point facts) end facts
   marked_words first end s facts turns rows = noted_words rows (point_of s) facts
 
@@ -79,7 +83,8 @@ abbrev mutual
 -- the rows with the facts at each point of a body
 abbrev pub filled_words : List Facts → Turns → Body → ℕ → List Facts
 filled_words rows turns body first =
-    noted_words (marked_words_all first (end_of body) body.block start_words turns rows) (end_of body) (led_all first body.block start_words turns)
+    noted_words (marked_words_all first (end_of body) body.block start_words turns rows)
+    (end_of body) (led_all first body.block start_words turns)
 
 -- the facts at each point of a body
 abbrev pub rows_of : Body → ℕ → List Facts

@@ -6,6 +6,7 @@ use Rattle.effect_sets.specs.declared.effects.Effect.{Effect}
 use Rattle.effect_check.specs.declared.futures.Spawn.{Spawn}
 use Rattle.effect_check.specs.declared.marks.Marks.{Marks}
 
+-- a word with all of its 128 bits
 abbrev pub all_bits : ℕ
 all_bits = 340282366920938463463374607431768211455
 
@@ -19,6 +20,8 @@ abbrev pub index_bits : (ℕ → ℕ) → Option Elem → ℕ
 index_bits g (Some (Index i)) = 2 ^ (g (unsigned_abs i) % 128)
 index_bits g _ = all_bits
 
+-- The marks of an effect, of the first two elements of its path: of each the bit for a number modulo 128, and the bit for
+-- its quotient by 128. An element of another kind, or none, has all bits.
 abbrev pub marks_of : Effect → Marks
 marks_of effect = record {
   near = name_bits (λ n. n) (slice_get effect.path.elems 0);
@@ -27,6 +30,7 @@ marks_of effect = record {
   far_index = index_bits (λ i. i / 128) (slice_get effect.path.elems 1);
 }
 
+-- no bit at all
 abbrev pub no_marks : Marks
 no_marks = record { near = 0; far = 0; index = 0; far_index = 0 }
 
@@ -36,6 +40,7 @@ meet a b =
     not (bit_and a.near b.near == 0)
     && (not (bit_and a.far b.far == 0) && (not (bit_and a.index b.index == 0) && not (bit_and a.far_index b.far_index == 0)))
 
+-- the bits of either
 abbrev pub joined_marks : Marks → Marks → Marks
 joined_marks a b = record {
   near = bit_or a.near b.near;
@@ -50,6 +55,8 @@ marks_over only_writes marks [] = marks
 marks_over only_writes marks (effect ∷ effects) =
     marks_over only_writes (if effect.write || not only_writes then joined_marks marks (marks_of effect) else marks) effects
 
+-- these marks and those of the effects of the spawned tasks, or of those among them that write
 abbrev pub marks_of_all : Bool → Marks → List Spawn → Marks
 marks_of_all only_writes marks [] = marks
-marks_of_all only_writes marks (spawn ∷ spawns) = marks_of_all only_writes (marks_over only_writes marks spawn.effects.effects) spawns
+marks_of_all only_writes marks (spawn ∷ spawns) =
+    marks_of_all only_writes (marks_over only_writes marks spawn.effects.effects) spawns

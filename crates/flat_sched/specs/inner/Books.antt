@@ -121,7 +121,8 @@ pub record Freed (st : State) (t : ℕ) (b after : Books) : Type 0 where
   pub ready : (x : ℕ) → IsReady b.ready x → IsReady after.ready x
   pub held : (u x : ℕ) → (u ≢ t) ⊎ HasStatus st t Enabled → IsListed b.held u x → IsListed after.held u x
   pub freed : (x : ℕ) → ¬ HasStatus st t Enabled → IsListed b.held t x → IsReady after.ready x
-  pub members : (u x : ℕ) → (u ≢ t) ⊎ HasStatus st t Enabled → IsMember b.groups u x → IsMember after.groups u x ⊎ IsReady after.ready x
+  pub members : (u x : ℕ) → (u ≢ t) ⊎ HasStatus st t Enabled → IsMember b.groups u x
+      → IsMember after.groups u x ⊎ IsReady after.ready x
   pub passed : AreGroups st b.groups → (x : ℕ) → ¬ HasStatus st t Enabled → IsMember b.groups t x → HasStatus st x Made
       → IsReady after.ready x ⊎ IsBehind (IsReady after.ready) st after x
   pub groups : AreGroups st b.groups → AreGroups st after.groups
@@ -137,9 +138,10 @@ pub record Noted (st : State) (mv : Move) (before : ℕ) (b after : Books) : Typ
   pub held : (u x : ℕ) → (u ≢ mv.task) ⊎ HasStatus st mv.task Enabled → IsListed b.held u x → IsListed after.held u x
   pub woken : (x : ℕ) → IsDone st.links mv.task → IsListed b.waiters mv.task x → IsReady after.ready x
   pub freed : (x : ℕ) → ¬ HasStatus st mv.task Enabled → IsListed b.held mv.task x → IsReady after.ready x
-  pub members : (u x : ℕ) → (u ≢ mv.task) ⊎ HasStatus st mv.task Enabled → IsMember b.groups u x → IsMember after.groups u x ⊎ IsReady after.ready x
-  pub passed : AreGroups st b.groups → (x : ℕ) → ¬ HasStatus st mv.task Enabled → IsMember b.groups mv.task x → HasStatus st x Made
-      → IsReady after.ready x ⊎ IsBehind (IsReady after.ready) st after x
+  pub members : (u x : ℕ) → (u ≢ mv.task) ⊎ HasStatus st mv.task Enabled → IsMember b.groups u x
+      → IsMember after.groups u x ⊎ IsReady after.ready x
+  pub passed : AreGroups st b.groups → (x : ℕ) → ¬ HasStatus st mv.task Enabled → IsMember b.groups mv.task x
+      → HasStatus st x Made → IsReady after.ready x ⊎ IsBehind (IsReady after.ready) st after x
   pub groups : AreGroups st b.groups → AreGroups st after.groups
   pub waiting : (u : ℕ) → ¬ IsDone st.links mv.task → WaitsFor st.links mv.task u → IsListed after.waiters u mv.task
   pub end : ℕ

@@ -14,8 +14,8 @@ abbrev pub WritesPath : ConcretePath → Effect → Type 0
 WritesPath c e = IsTrue e.write × InSet e.path c
 
 -- an effect of the task writes the concrete path
-abbrev pub Writes : State → ℕ → ConcretePath → Type 0
-Writes st t c = (row : TaskRow) × IsRow st t row × Any (WritesPath c) row.effects.effects
+abbrev pub MayWriteAt : State → ℕ → ConcretePath → Type 0
+MayWriteAt st t c = (row : TaskRow) × IsRow st t row × Any (WritesPath c) row.effects.effects
 
 -- the effect has no variable, and writes the concrete path
 abbrev pub IsKey : ConcretePath → Effect → Type 0
@@ -25,7 +25,7 @@ IsKey c key = IsTrue (filled key.path) × WritesPath c key
 pub record AreAlike (st : State) (g : Group) : Type 0 where
   pub path : ConcretePath
   pub key : IsKey path g.key
-  pub members : (t : ℕ) → IsReady g.members t → Writes st t path
+  pub members : (t : ℕ) → IsReady g.members t → MayWriteAt st t path
 
 -- this is the group of u
 abbrev pub HasGroup : List (Option Group) → ℕ → Group → Type 0
@@ -47,10 +47,11 @@ HasNone groups u = (g : Group) → ¬ HasGroup groups u g
 abbrev pub HasOnly : List (Option Group) → ℕ → Group → Type 0
 HasOnly groups u g = (h : Group) → HasGroup groups u h → h ≡ g
 
--- each of the groups is there, and each but that of one task
+-- each of the groups is still there
 abbrev pub AreKept : List (Option Group) → List (Option Group) → Type 0
 AreKept groups after = (u : ℕ) (g : Group) → HasGroup groups u g → HasGroup after u g
 
+-- each of the groups is still there, but perhaps that of the task `at`
 abbrev pub OthersAreKept : ℕ → List (Option Group) → List (Option Group) → Type 0
 OthersAreKept at groups after = (u : ℕ) (g : Group) → u ≢ at → HasGroup groups u g → HasGroup after u g
 

@@ -4,9 +4,9 @@ use Rattle.region_paths.specs.declared.elements.Elem.{Elem}
 use Rattle.prefix_tree.specs.Nodes.{IsNode, IsTreeOfPaths}
 use Rattle.seg_journal.specs.declared.journal.Entry.{Entry}
 use Rattle.seg_journal.specs.declared.moves.Move.{Move}
-use Rattle.twe_limits.specs.Limits.{Bounds}
-use Rattle.twe_limits.specs.declared.fault.FaultKind.{FaultKind}
-use Rattle.twe_io.specs.declared.place.Place.{Place}
+use Rattle.twe_base.specs.Limits.{Bounds}
+use Rattle.twe_base.specs.declared.fault.FaultKind.{FaultKind}
+use Rattle.twe_base.specs.declared.place.Place.{Place}
 use Rattle.twe_program.specs.Nodes.{IsNodePath}
 use Rattle.twe_program.specs.Program.{Program}
 use Rattle.twe_machine.specs.declared.ending.Outcome.TheVariants as outcomes
@@ -24,9 +24,9 @@ journal_of None = None
 journal_of (Some run) = Some run.rest.journal
 
 -- the run of a crew is one of its program under its limits
-abbrev pub IsKept : Program → Bounds → Option RunAtRest → Type 0
-IsKept p lim None = Unit {0}
-IsKept p lim (Some run) = IsSound p lim run
+abbrev pub RunIsKept : Program → Bounds → Option RunAtRest → Type 0
+RunIsKept p lim None = Unit {0}
+RunIsKept p lim (Some run) = IsSound p lim run
 
 -- the nodes are those of the program's tree
 pub record IsShapeOf (p : Program) (nodes : List (List Elem)) : Type 0 where

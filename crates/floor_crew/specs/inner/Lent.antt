@@ -1,8 +1,8 @@
 -- The stands of a round, which were split off from the main one.
 use Rattle.std.specs.Prelude.{◌≡◌, ℕ, List, []}
 use Rattle.atomic_table.specs.Seated.{TableId}
-use Rattle.journal_merge.specs.declared.numbered.NumberedEntry.{NumberedEntry}
-use Rattle.journal_merge.specs.Merging.{all_of}
+use Rattle.seg_journal.specs.declared.numbered.NumberedEntry.{NumberedEntry}
+use Rattle.seg_journal.specs.Merging.{all_of}
 use Rattle.floor_table.specs.declared.view.SeatKind.TheVariants.{Main, Other}
 use Rattle.floor_table.specs.Holds.{HasGivenAll}
 use Rattle.task_floor.specs.Stands.{TreeStand}

@@ -5,16 +5,16 @@ use Rattle.region_paths.specs.Filled.{filled}
 use Rattle.region_paths.proofs.Outside.{within-inside}
 use Rattle.effect_sets.specs.declared.effects.Effect.{Effect}
 use Rattle.effect_sets.specs.Covers.{EffectWithin}
-use Rattle.twe_limits.specs.Limits.{Bounds}
+use Rattle.twe_base.specs.Limits.{Bounds}
 use Rattle.twe_program.specs.Program.{Program}
 use Rattle.twe_program.specs.WellFormed.{IsWellFormed}
 use Rattle.effect_check.proofs.Members.{contains-in, list_all-in}
-use Rattle.soundness_laws.specs.KeepsEffects.{KeepsEffects}
+use Rattle.isolation_laws.specs.soundness.KeepsEffects.{KeepsEffects}
 use Rattle.twe_machine.specs.declared.state.State.{State}
 use Rattle.twe_machine.specs.declared.state.TaskRow.{TaskRow}
 use Rattle.twe_machine.specs.Runs.{IsReached}
-use Rattle.twe_machine.proofs.Filled.{reached_filled}
-use Rattle.twe_machine.proofs.ReachedStands.{reached_stands}
+use Rattle.twe_machine.proofs.tasks.Filled.{reached_filled}
+use Rattle.twe_machine.proofs.standing.ReachedStands.{reached_stands}
 use Rattle.isolation_laws.specs.Admission.{ChildrenInside, EffectInside}
 use Rattle.isolation_laws.proofs.effects.Interference.{any-in, in-any}
 use Rattle.isolation_laws.proofs.journals.Journals.{reached_within}

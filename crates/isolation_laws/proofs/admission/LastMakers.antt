@@ -3,10 +3,10 @@
 use Rattle.std.proofs.Common.{◌≡◌, ◌≢◌, ◌+◌, ◌==◌, ℕ, ℤ, Bool, true, false, cond, List, [], ◌∷◌, Option, None, Some, inl, inr, refl, sym, ap, ◌∙◌, subst, nat_lt, eq-eqb, eqb-true}
 use Rattle.std.specs.Prelude.{filter, option_and_then, slice_get, slice_set}
 use Rattle.std.specs.List.{last_or}
-use Rattle.twe_io.specs.declared.place.Place.{Place}
+use Rattle.twe_base.specs.declared.place.Place.{Place}
 use Rattle.effect_sets.specs.declared.effects.Summary.{Summary}
-use Rattle.twe_limits.specs.declared.fault.FaultKind.TheVariants.{TaskLimit}
-use Rattle.twe_limits.specs.Limits.{Bounds}
+use Rattle.twe_base.specs.declared.fault.FaultKind.TheVariants.{TaskLimit}
+use Rattle.twe_base.specs.Limits.{Bounds}
 use Rattle.seg_journal.specs.declared.journal.End.{End}
 use Rattle.seg_journal.specs.declared.journal.End.TheVariants as ends
 use Rattle.seg_journal.specs.declared.journal.Entry.{Entry}
@@ -18,21 +18,21 @@ use Rattle.seg_exec.specs.declared.frame.Frame.{Frame}
 use Rattle.seg_exec.specs.declared.stop.Stop.{Stop}
 use Rattle.seg_exec.specs.declared.stop.Stop.TheVariants as stops
 use Rattle.seg_exec.specs.Segment.{Stopped, segment}
-use Rattle.segment_laws.specs.Keeps.{NextAfter}
-use Rattle.segment_laws.proofs.SegmentKept.{segment_keeps}
+use Rattle.twe_machine.specs.segment_laws.Keeps.{NextAfter}
+use Rattle.twe_machine.proofs.segment_laws.SegmentKept.{segment_keeps}
 use Rattle.wait_graph.specs.declared.tasks.Link.{Link}
 use Rattle.wait_graph.specs.Link.{link_of}
 use Rattle.twe_machine.specs.declared.state.State.{State}
 use Rattle.twe_machine.specs.declared.state.TaskRow.{TaskRow}
 use Rattle.twe_machine.specs.Legal.{MayTake}
 use Rattle.twe_machine.specs.Moves.{going_row, joined_child, joined_row, making_frame, move_result, new_row, parent_of, ran, ready_frame, result_by_kind, start_of, state_after_asking, state_after_fault, state_after_join, state_after_make, stop_result, stopped_frame}
-use Rattle.twe_machine.specs.Rows.{IsRow, awaited}
+use Rattle.twe_machine.specs.Rows.{IsRow, row_awaited}
 use Rattle.twe_machine.specs.Runs.{Legal, LegalFrom, replayed, state_after}
-use Rattle.twe_machine.proofs.Halfway.{halfway}
-use Rattle.twe_machine.proofs.OtherRows.{row_after}
-use Rattle.twe_machine.proofs.Places.{put_before, set_same}
-use Rattle.twe_machine.proofs.ReachedStands.{run_stands, start_stands, taken_stands}
-use Rattle.twe_machine.proofs.Standing.{Stands}
+use Rattle.twe_machine.proofs.standing.Halfway.{halfway}
+use Rattle.twe_machine.proofs.tasks.OtherRows.{row_after}
+use Rattle.twe_machine.proofs.lists.Places.{put_before, set_same}
+use Rattle.twe_machine.proofs.standing.ReachedStands.{run_stands, start_stands, taken_stands}
+use Rattle.twe_machine.proofs.standing.Standing.{Stands}
 use Rattle.isolation_laws.specs.Admission.{LastMakersAreFree, task_made}
 use Rattle.isolation_laws.proofs.rows.LinksOfRows.{link_there}
 
@@ -40,7 +40,7 @@ use Rattle.isolation_laws.proofs.rows.LinksOfRows.{link_there}
 pub record IsFree (st : State) (t : ℕ) : Type 0 where
   pub row : TaskRow
   pub there : IsRow st t row
-  pub free : awaited row.frame.next ≡ None
+  pub free : row_awaited row.frame.next ≡ None
 
 -- the end of a move that has made this task
 end_that_made : (end : End) (number : ℕ) → task_made end ≡ Some number → end ≡ ends.Made number
@@ -54,7 +54,7 @@ end_that_made (ends.Fault kind place) number made = absurd (cc (made))
 -- The task that makes a task.
 
 module _ (lim : Bounds) (st : State) (t : ℕ) (row : TaskRow) (here : IsRow st t row) (frame : Frame) where
-  free_by : (number : ℕ) (b : Bool) (child : Frame) (args : List ℤ) (effects : Summary) (spawned : Bool) (future : ℕ) (place : Place) → awaited frame.next ≡ None
+  free_by : (number : ℕ) (b : Bool) (child : Frame) (args : List ℤ) (effects : Summary) (spawned : Bool) (future : ℕ) (place : Place) → row_awaited frame.next ≡ None
       → (cond {A = State × End} b (state_after_make lim st t row frame future spawned child args effects, ends.Made (st.asked + 1))
       (state_after_fault (state_after_asking st) t row (stopped_frame frame) TaskLimit place, ends.Fault TaskLimit place)).1 ≡ ends.Made number
       → IsFree (cond {A = State × End} b (state_after_make lim st t row frame future spawned child args effects, ends.Made (st.asked + 1))
@@ -70,7 +70,7 @@ module _ (lim : Bounds) (st : State) (t : ℕ) (row : TaskRow) (here : IsRow st 
 
   stop_free : (number : ℕ) (stop : Stop) → NextAfter stop frame → (stop_result lim st t row frame stop).1 ≡ ends.Made number → IsFree (stop_result lim st t row frame stop).0 t
   stop_free number (stops.Make child args effects spawned future place) next made =
-      free_by number (nat_lt (st.asked + 1) lim.tasks) child args effects spawned future place (ap awaited next) made
+      free_by number (nat_lt (st.asked + 1) lim.tasks) child args effects spawned future place (ap row_awaited next) made
   stop_free number (stops.Waits on) next made = absurd (cc (made))
   stop_free number (stops.Joins on) next made = absurd (cc (made))
   stop_free number (stops.Done value) next made = absurd (cc (made))

@@ -2,7 +2,7 @@
 -- that is not admitted yet is alone.
 use Rattle.std.proofs.Common.{◌≡◌, ◌⊎◌, ℕ, List, [], Contains, Option, None, Some, inl, inr, refl, sym, ap, ◌∙◌, subst}
 use Rattle.std.specs.Prelude.{slice_get}
-use Rattle.twe_limits.specs.Limits.{Bounds}
+use Rattle.twe_base.specs.Limits.{Bounds}
 use Rattle.twe_program.specs.Program.{Program}
 use Rattle.twe_program.specs.WellFormed.{IsWellFormed}
 use Rattle.wait_graph.specs.declared.tasks.Link.{Link}
@@ -12,12 +12,12 @@ use Rattle.twe_machine.specs.declared.state.State.{State}
 use Rattle.twe_machine.specs.declared.state.TaskRow.{TaskRow}
 use Rattle.twe_machine.specs.declared.state.TaskStatus.{TaskStatus}
 use Rattle.twe_machine.specs.declared.state.TaskStatus.TheVariants.{Made, Enabled, Done, Faulted}
-use Rattle.twe_machine.specs.Rows.{HasStatus, IsRow, awaited}
+use Rattle.twe_machine.specs.Rows.{HasStatus, IsRow, row_awaited}
 use Rattle.twe_machine.specs.Runs.{IsReached}
-use Rattle.twe_machine.proofs.Members.{contains_in}
-use Rattle.twe_machine.proofs.Places.{below_there}
-use Rattle.twe_machine.proofs.ReachedStands.{reached_stands}
-use Rattle.twe_machine.proofs.Standing.{IsChild, IsOver, Stands}
+use Rattle.twe_machine.proofs.lists.Members.{contains_in}
+use Rattle.twe_machine.proofs.lists.Places.{below_there}
+use Rattle.twe_machine.proofs.standing.ReachedStands.{reached_stands}
+use Rattle.twe_machine.proofs.standing.Standing.{IsChild, IsOver, Stands}
 use Rattle.isolation_laws.specs.Admission.{MadeTasksAreAlone, ParentsAreEnabledOrFaulted, WaitersAreEnabled}
 use Rattle.isolation_laws.proofs.journals.Invariant.{done_alone, parents_there}
 use Rattle.isolation_laws.proofs.rows.LinksOfRows.{link_not_there, link_there, spawned_row}
@@ -25,13 +25,13 @@ use Rattle.isolation_laws.proofs.rows.LinksOfRows.{link_not_there, link_there, s
 module _ (p : Program) (lim : Bounds) (st : State) (stands : Stands p lim st) where
   -- A task that waits.
 
-  ended_waits : (t u : ℕ) (row : TaskRow) → IsRow st t row → IsOver row.status → ¬ (awaited row.frame.next ≡ Some u)
-  ended_waits t u row is over waits = let none : awaited row.frame.next ≡ None = ap awaited ((stands.rows t row is).over over) in cc (none, waits)
+  ended_waits : (t u : ℕ) (row : TaskRow) → IsRow st t row → IsOver row.status → ¬ (row_awaited row.frame.next ≡ Some u)
+  ended_waits t u row is over waits = let none : row_awaited row.frame.next ≡ None = ap row_awaited ((stands.rows t row is).over over) in cc (none, waits)
 
-  made_waits : (t : ℕ) (row : TaskRow) → IsRow st t row → row.status ≡ Made → awaited row.frame.next ≡ None
-  made_waits t row is made = ap (λ (r : TaskRow). awaited r.frame.next) ((stands.rows t row is).made made)
+  made_waits : (t : ℕ) (row : TaskRow) → IsRow st t row → row.status ≡ Made → row_awaited row.frame.next ≡ None
+  made_waits t row is made = ap (λ (r : TaskRow). row_awaited r.frame.next) ((stands.rows t row is).made made)
 
-  waiter_by : (t u : ℕ) (row : TaskRow) (status : TaskStatus) → IsRow st t row → row.status ≡ status → awaited row.frame.next ≡ Some u → status ≡ Enabled
+  waiter_by : (t u : ℕ) (row : TaskRow) (status : TaskStatus) → IsRow st t row → row.status ≡ status → row_awaited row.frame.next ≡ Some u → status ≡ Enabled
   waiter_by t u row Made is has waits = let none = made_waits t row is has in absurd (cc (none, waits))
   waiter_by t u row Enabled is has waits = refl
   waiter_by t u row Done is has waits = absurd (ended_waits t u row is (subst IsOver (sym has) tt) waits)

@@ -6,13 +6,13 @@ use Rattle.region_paths.specs.declared.elements.Elem.{Elem}
 use Rattle.region_paths.specs.declared.elements.Elem.TheVariants.{Name, Index}
 use Rattle.region_paths.specs.Concrete.{ConcreteElem, ConcretePath, each_stands, elem_stands, number, region}
 use Rattle.effect_sets.specs.declared.effects.Effect.{Effect}
-use Rattle.effect_sets.specs.Access.{Access, CoversAccess}
+use Rattle.effect_sets.specs.Access.{PathAccess, CoversAccess}
 
 abbrev pub exactly : ConcreteElem → Elem
 exactly (region n) = Name n
 exactly (number z) = Index z
 
-abbrev pub exact : Access → Effect
+abbrev pub exact : PathAccess → Effect
 exact a = record { write = a.write; path = record { elems = map exactly a.path; star = false; tail = [] } }
 
 stands_itself : (c : ConcreteElem) → elem_stands (exactly c) c ≡ true
@@ -37,9 +37,9 @@ each_only (c ∷ path) (d ∷ other) h =
     let parts = and_parts _ _ h in
     ap₂ (λ (x : ConcreteElem) (xs : ConcretePath). x ∷ xs) (stands_only c d parts.0) (each_only path other parts.1)
 
-pub exact_covers : (a : Access) → CoversAccess (exact a) a
+pub exact_covers : (a : PathAccess) → CoversAccess (exact a) a
 exact_covers a = (λ w. w, each_itself a.path)
 
 -- each access that it covers has the same path, and writes only if that access writes
-pub exact_only : (a b : Access) → CoversAccess (exact a) b → b.path ≡ a.path
+pub exact_only : (a b : PathAccess) → CoversAccess (exact a) b → b.path ≡ a.path
 exact_only a b covered = each_only a.path b.path covered.1

@@ -16,7 +16,7 @@ use Rattle.twe_program.specs.declared.program.Decl.{Decl}
 use Rattle.seg_exec.specs.Entry.{effects_of}
 use Rattle.effect_check.specs.Acts.{filled_summary}
 use Rattle.effect_check.proofs.Members.{IsIn}
-use Rattle.soundness_laws.proofs.Declared.{in-map, map-in}
+use Rattle.isolation_laws.proofs.soundness.Declared.{in-map, map-in}
 use Rattle.isolation_laws.proofs.effects.LoosenedPaths.{loose, apart-loose}
 use Rattle.isolation_laws.proofs.effects.Interference.{interferes_both, some-meet}
 

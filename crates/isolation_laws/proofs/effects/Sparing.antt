@@ -9,7 +9,7 @@ use Rattle.region_paths.specs.Concrete.{InSet}
 use Rattle.region_paths.specs.Filled.{Valuation, fill, fill_elem}
 use Rattle.region_paths.specs.Written.{WrittenPath}
 use Rattle.effect_sets.specs.declared.effects.Effect.{Effect}
-use Rattle.effect_sets.specs.Access.{Access, AccessInterferes, AccessInterferesWithSome, CoversAccess}
+use Rattle.effect_sets.specs.Access.{PathAccess, AccessInterferes, AccessInterferesWithSome, CoversAccess}
 use Rattle.effect_sets.specs.Filled.{effect_under, fill_effect}
 use Rattle.effect_sets.specs.Interference.{one_writes, statically_interferes}
 use Rattle.effect_sets.proofs.Accesses.{apart-under, covered-alone}
@@ -18,18 +18,18 @@ use Rattle.twe_program.specs.declared.program.Decl.{Decl}
 use Rattle.seg_exec.specs.Entry.{effects_of}
 use Rattle.effect_check.specs.Acts.{filled_summary}
 use Rattle.effect_check.proofs.Members.{IsIn}
-use Rattle.soundness_laws.proofs.Declared.{in-map, map-in}
+use Rattle.isolation_laws.proofs.soundness.Declared.{in-map, map-in}
 use Rattle.isolation_laws.proofs.effects.Instances.{AllStandAs, loose_stands}
 use Rattle.isolation_laws.proofs.effects.Interference.{any-in, in-any, interferes_more}
 use Rattle.isolation_laws.proofs.effects.LoosenedPaths.{apart-loose, loose}
 
 -- the access interferes with none of the effects
-abbrev pub Spares : List Effect → Access → Type 0
+abbrev pub Spares : List Effect → PathAccess → Type 0
 Spares es a = ¬ AccessInterferesWithSome a es
 
 -- each access that the effect covers spares these effects, whatever values its variables have
 abbrev pub EffectSpares : List Effect → Effect → Type 0
-EffectSpares es e = (v : Valuation) (a : Access) → CoversAccess (effect_under v e) a → Spares es a
+EffectSpares es e = (v : Valuation) (a : PathAccess) → CoversAccess (effect_under v e) a → Spares es a
 
 writes_more : (a b c : Bool) → (a ≡ true → b ≡ true) → (a || c) ≡ true → (b || c) ≡ true
 writes_more true b c more h = ap (λ (x : Bool). x || c) (more refl)
@@ -37,7 +37,7 @@ writes_more false true c more h = refl
 writes_more false false c more h = h
 
 -- an access that does no more than another spares them if the other does
-pub spares_less : (es : List Effect) (a b : Access) → (IsTrue a.write → IsTrue b.write) → a.path ≡ b.path → Spares es b → Spares es a
+pub spares_less : (es : List Effect) (a b : PathAccess) → (IsTrue a.write → IsTrue b.write) → a.path ≡ b.path → Spares es b → Spares es a
 spares_less es a b less same spares some =
     let found = any-in (λ (e : Effect). AccessInterferes a e) es some in
     let e = found.0 in

@@ -4,7 +4,7 @@ use Rattle.std.proofs.Common.{◌≡◌, ◌≢◌, ◌⊎◌, ◌<◌, ◌==◌
 use Rattle.std.specs.Prelude.{slice_get, slice_set}
 use Rattle.std.proofs.lemmas.Bool.{and_from, cases_Bool}
 use Rattle.std.proofs.lemmas.Option.{slice_get_within}
-use Rattle.twe_io.specs.declared.place.Place.{Place}
+use Rattle.twe_base.specs.declared.place.Place.{Place}
 use Rattle.effect_sets.specs.declared.effects.Summary.{Summary}
 use Rattle.effect_sets.specs.Interference.{SomeInterfere}
 use Rattle.twe_program.specs.declared.program.Decl.{Decl}
@@ -23,18 +23,18 @@ use Rattle.seg_exec.specs.Meaning.{body_of}
 use Rattle.seg_exec.specs.Segment.{segment}
 use Rattle.effect_check.specs.Acts.{acts_in_all, make}
 use Rattle.effect_check.proofs.Members.{IsIn, in-cases, in-contains}
-use Rattle.soundness_laws.specs.KeepsEffects.{KeepsEffects}
-use Rattle.soundness_laws.proofs.Sound.{got-in}
-use Rattle.segment_laws.specs.Left.{left_of}
-use Rattle.segment_laws.specs.Operations.{ComesToMake}
-use Rattle.segment_laws.specs.Ready.{IsDeclaredAs, IsReady, MakesDeclared, futures_at}
-use Rattle.segment_laws.proofs.BeingReady.{ready_declared, ready_given}
-use Rattle.segment_laws.proofs.Following.{makes_follow}
+use Rattle.isolation_laws.specs.soundness.KeepsEffects.{KeepsEffects}
+use Rattle.isolation_laws.proofs.soundness.Sound.{got-in}
+use Rattle.twe_machine.specs.segment_laws.Left.{left_of}
+use Rattle.twe_machine.specs.segment_laws.Operations.{ComesToMake}
+use Rattle.twe_machine.specs.segment_laws.Ready.{IsDeclaredAs, IsReady, MakesDeclared, futures_at}
+use Rattle.twe_machine.proofs.segment_laws.BeingReady.{ready_declared, ready_given}
+use Rattle.twe_machine.proofs.segment_laws.Following.{makes_follow}
 use Rattle.twe_machine.specs.declared.state.State.{State}
 use Rattle.twe_machine.specs.declared.state.TaskRow.{TaskRow}
 use Rattle.twe_machine.specs.Moves.{making_frame, out_with}
 use Rattle.twe_machine.specs.Rows.{IsRow}
-use Rattle.soundness_laws.proofs.Given.{given_decl}
+use Rattle.isolation_laws.proofs.soundness.Given.{given_decl}
 use Rattle.isolation_laws.proofs.frames.AfterSegment.{after, after_decl, after_futures, after_out, child_later, reached_at, still_out_at}
 use Rattle.isolation_laws.proofs.frames.Frames.{ChildOut, OnPath, given_futures, still_out}
 use Rattle.isolation_laws.proofs.rows.ListElements.{get_set_other, get_set_within}

@@ -11,13 +11,13 @@ use Rattle.seg_exec.specs.Giving.{given, without}
 use Rattle.seg_exec.specs.Meaning.{body_of}
 use Rattle.seg_exec.specs.Segment.{segment}
 use Rattle.effect_check.proofs.Members.{IsIn}
-use Rattle.segment_laws.specs.Keeps.{SegmentKeeps}
-use Rattle.segment_laws.specs.Left.{left_of}
-use Rattle.segment_laws.specs.Passes.{Passes}
-use Rattle.segment_laws.proofs.Following.{given_left}
-use Rattle.segment_laws.proofs.SegmentKept.{segment_keeps}
+use Rattle.twe_machine.specs.segment_laws.Keeps.{SegmentKeeps}
+use Rattle.twe_machine.specs.segment_laws.Left.{left_of}
+use Rattle.twe_machine.specs.segment_laws.Passes.{Passes}
+use Rattle.twe_machine.proofs.segment_laws.Following.{given_left}
+use Rattle.twe_machine.proofs.segment_laws.SegmentKept.{segment_keeps}
 use Rattle.twe_machine.specs.declared.state.State.{State}
-use Rattle.soundness_laws.proofs.Given.{given_decl}
+use Rattle.isolation_laws.proofs.soundness.Given.{given_decl}
 use Rattle.isolation_laws.proofs.frames.Frames.{ChildOut, OnPath, given_futures, given_out, still_out}
 use Rattle.isolation_laws.proofs.paths.FuturesOut.{Reached, out-quiet, reached_more}
 

@@ -13,9 +13,9 @@ use Rattle.seg_exec.specs.Giving.{given, without}
 use Rattle.seg_exec.specs.Meaning.{body_of}
 use Rattle.seg_exec.specs.Segment.{task_of}
 use Rattle.effect_check.proofs.Members.{IsIn}
-use Rattle.segment_laws.specs.Left.{left_of}
-use Rattle.segment_laws.specs.Operations.{ComesToWait}
-use Rattle.segment_laws.proofs.Following.{gets_follow, joins_follow}
+use Rattle.twe_machine.specs.segment_laws.Left.{left_of}
+use Rattle.twe_machine.specs.segment_laws.Operations.{ComesToWait}
+use Rattle.twe_machine.proofs.segment_laws.Following.{gets_follow, joins_follow}
 use Rattle.twe_machine.specs.declared.state.State.{State}
 use Rattle.twe_machine.specs.declared.state.TaskRow.{TaskRow}
 use Rattle.twe_machine.specs.Rows.{IsRow}

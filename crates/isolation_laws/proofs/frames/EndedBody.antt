@@ -1,6 +1,6 @@
 -- If a body has ended, a segment reaches no task operation.
 use Rattle.std.proofs.Common.{◌≡◌, ℕ, ℤ, zero, suc, Bool, List, [], Option, ap, subst, None}
-use Rattle.twe_io.specs.declared.place.Place.{Place}
+use Rattle.twe_base.specs.declared.place.Place.{Place}
 use Rattle.effect_sets.specs.declared.effects.Summary.{Summary}
 use Rattle.twe_program.specs.Program.{Program}
 use Rattle.twe_program.specs.Statement.{Statement, Statements, no_more, statement}
@@ -11,9 +11,9 @@ use Rattle.seg_exec.specs.declared.frame.Next.TheVariants.{Get, Join}
 use Rattle.seg_exec.specs.declared.stop.Stop.TheVariants as ends
 use Rattle.seg_exec.specs.Giving.{given}
 use Rattle.seg_exec.specs.Segment.{segment}
-use Rattle.segment_laws.specs.Left.{body_left, left_of}
-use Rattle.segment_laws.specs.Passes.{Passes}
-use Rattle.segment_laws.proofs.Following.{gets_follow, joins_follow, makes_follow}
+use Rattle.twe_machine.specs.segment_laws.Left.{body_left, left_of}
+use Rattle.twe_machine.specs.segment_laws.Passes.{Passes}
+use Rattle.twe_machine.proofs.segment_laws.Following.{gets_follow, joins_follow, makes_follow}
 use Rattle.isolation_laws.proofs.frames.AfterSegment.{after}
 use Rattle.isolation_laws.proofs.frames.Frames.{given_none}
 

@@ -2,7 +2,7 @@
 -- connects the rules on effects, which are about control paths, to tasks that run.
 use Rattle.std.proofs.Common.{◌≡◌, ℕ, ℤ, true, IsTrue, List, Option, Some, refl, None}
 use Rattle.std.specs.Prelude.{slice_get}
-use Rattle.twe_io.specs.declared.place.Place.{Place}
+use Rattle.twe_base.specs.declared.place.Place.{Place}
 use Rattle.effect_sets.specs.declared.effects.Summary.{Summary}
 use Rattle.twe_program.specs.Expression.{Arguments}
 use Rattle.twe_program.specs.Program.{Program}
@@ -17,9 +17,9 @@ use Rattle.seg_exec.specs.Meaning.{body_of}
 use Rattle.seg_exec.specs.Giving.{body_with, given, given_by, without}
 use Rattle.effect_check.specs.Acts.{acts_in_all, make}
 use Rattle.effect_check.proofs.Members.{IsIn}
-use Rattle.segment_laws.specs.Left.{left_of}
-use Rattle.segment_laws.specs.Operations.{AllMayHave}
-use Rattle.segment_laws.specs.Ready.{IsDeclaredAs, futures_at}
+use Rattle.twe_machine.specs.segment_laws.Left.{left_of}
+use Rattle.twe_machine.specs.segment_laws.Operations.{AllMayHave}
+use Rattle.twe_machine.specs.segment_laws.Ready.{IsDeclaredAs, futures_at}
 use Rattle.twe_machine.specs.declared.state.State.{State}
 use Rattle.twe_machine.specs.declared.state.TaskRow.{TaskRow}
 use Rattle.twe_machine.specs.Rows.{IsRow}

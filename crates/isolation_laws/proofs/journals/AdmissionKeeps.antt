@@ -3,7 +3,7 @@ use Rattle.std.proofs.Common.{◌≡◌, ◌≢◌, ◌⊎◌, ℕ, ℤ, List, S
 use Rattle.std.proofs.lemmas.Bool.{cases_eq}
 use Rattle.twe_program.specs.Program.{Program}
 use Rattle.seg_exec.specs.declared.frame.Frame.{Frame}
-use Rattle.soundness_laws.specs.RunsWith.{RunsWith}
+use Rattle.isolation_laws.specs.soundness.RunsWith.{RunsWith}
 use Rattle.wait_graph.specs.Waiting.{YieldsTo}
 use Rattle.twe_machine.specs.declared.state.State.{State}
 use Rattle.twe_machine.specs.declared.state.TaskRow.{TaskRow}

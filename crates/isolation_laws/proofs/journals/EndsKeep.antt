@@ -1,17 +1,17 @@
 -- A segment that ends without making a task keeps the invariant.
 use Rattle.std.proofs.Common.{◌≡◌, ℕ, ℤ, List, Option, None, Some, refl}
-use Rattle.twe_io.specs.declared.place.Place.{Place}
-use Rattle.twe_limits.specs.declared.fault.FaultKind.{FaultKind}
+use Rattle.twe_base.specs.declared.place.Place.{Place}
+use Rattle.twe_base.specs.declared.fault.FaultKind.{FaultKind}
 use Rattle.twe_program.specs.Program.{Program}
 use Rattle.seg_exec.specs.declared.frame.Frame.{Frame}
-use Rattle.soundness_laws.specs.RunsWith.{RunsWith}
+use Rattle.isolation_laws.specs.soundness.RunsWith.{RunsWith}
 use Rattle.wait_graph.specs.Link.{with_done}
 use Rattle.wait_graph.specs.Waiting.{IsDone, SpawnedBy, WaitsForNobody}
 use Rattle.twe_machine.specs.declared.state.State.{State}
 use Rattle.twe_machine.specs.declared.state.TaskRow.{TaskRow}
 use Rattle.twe_machine.specs.declared.state.TaskStatus.TheVariants.{Done, Enabled, Faulted}
 use Rattle.twe_machine.specs.Moves.{state_after_asking, done_row, frame_without_prints, state_after_fault, faulted_row, state_after_finish, going_row, state_after_storing, state_after_join, stopped_frame}
-use Rattle.twe_machine.specs.Rows.{IsRow, LinksAgree, awaited}
+use Rattle.twe_machine.specs.Rows.{IsRow, LinksAgree, row_awaited}
 use Rattle.isolation_laws.proofs.rows.RowsLater.{Became, Continues}
 use Rattle.isolation_laws.proofs.frames.Frames.{OnPath}
 use Rattle.isolation_laws.proofs.rows.FramePutBack.{continues_home, isolated_finished, isolated_home}
@@ -70,7 +70,7 @@ module _ (p : Program) (st : State) (kept : Kept p st) (agree : LinksAgree st) (
       record { runs = k.runs; within = k.within; siblings = k.siblings; paths = k.paths; isolated = k.isolated }
 
   -- it is done
-  pub kept_finished : (value : ℤ) → frame.body ≡ None → awaited frame.next ≡ None
+  pub kept_finished : (value : ℤ) → frame.body ≡ None → row_awaited frame.next ≡ None
       → ((x : ℕ) → ¬ SpawnedBy (with_done (state_after_storing (state_after_join st o) t frame (done_row row frame value)).links t) x t)
       → Kept p (state_after_finish (state_after_join st o) t row frame value)
   kept_finished value none no_wait alone =

@@ -1,21 +1,21 @@
 -- The invariant of a run of an accepted program, beside the machine's own invariant, and what follows from the two.
 use Rattle.std.proofs.Common.{◌≡◌, ◌<◌, ℕ, List, length, Contains, Option, None, Some, refl, sym, subst, arith}
 use Rattle.std.proofs.lemmas.Option.{slice_get_within}
-use Rattle.twe_limits.specs.Limits.{Bounds}
+use Rattle.twe_base.specs.Limits.{Bounds}
 use Rattle.twe_program.specs.declared.program.Decl.{Decl}
 use Rattle.twe_program.specs.Fitting.{TakesArguments}
 use Rattle.twe_program.specs.Program.{Program}
 use Rattle.seg_exec.specs.declared.frame.Next.{Next}
 use Rattle.seg_exec.specs.declared.frame.Next.TheVariants.{Go, Get, Join, Closing, Ended}
 use Rattle.effect_check.proofs.Members.{IsIn, in-contains}
-use Rattle.soundness_laws.specs.RunsWith.{RunsWith}
+use Rattle.isolation_laws.specs.soundness.RunsWith.{RunsWith}
 use Rattle.wait_graph.specs.Waiting.{SpawnedBy}
 use Rattle.twe_machine.specs.declared.state.State.{State}
 use Rattle.twe_machine.specs.declared.state.TaskRow.{TaskRow}
 use Rattle.twe_machine.specs.declared.state.TaskStatus.TheVariants.{Done}
 use Rattle.twe_machine.specs.Legal.{Isolated}
 use Rattle.twe_machine.specs.Rows.{IsRow}
-use Rattle.twe_machine.proofs.Standing.{IsChild, Stands}
+use Rattle.twe_machine.proofs.standing.Standing.{IsChild, Stands}
 use Rattle.isolation_laws.specs.Within.{SpawnedWithin}
 use Rattle.isolation_laws.proofs.rows.AddedTask.{ParentsAreThere}
 use Rattle.isolation_laws.proofs.frames.AfterSegment.{in_without}

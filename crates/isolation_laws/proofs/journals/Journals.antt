@@ -5,15 +5,15 @@ use Rattle.std.specs.Prelude.{slice_get}
 use Rattle.seg_journal.specs.declared.journal.Entry.{Entry}
 use Rattle.seg_journal.specs.declared.moves.Kind.{Kind}
 use Rattle.seg_journal.specs.declared.moves.Kind.TheVariants.{Admit, Run}
-use Rattle.twe_limits.specs.Limits.{Bounds}
+use Rattle.twe_base.specs.Limits.{Bounds}
 use Rattle.twe_program.specs.declared.program.Decl.{Decl}
 use Rattle.twe_program.specs.Fitting.{TakesArguments}
 use Rattle.twe_program.specs.Program.{Program}
 use Rattle.twe_program.specs.WellFormed.{IsMain, IsWellFormed}
 use Rattle.seg_exec.specs.Entry.{effects_at, entry_frame}
-use Rattle.soundness_laws.specs.KeepsEffects.{KeepsEffects}
-use Rattle.soundness_laws.specs.RunsWith.{RunsWith}
-use Rattle.soundness_laws.proofs.Segments.{entry_runs}
+use Rattle.isolation_laws.specs.soundness.KeepsEffects.{KeepsEffects}
+use Rattle.isolation_laws.specs.soundness.RunsWith.{RunsWith}
+use Rattle.isolation_laws.proofs.soundness.Segments.{entry_runs}
 use Rattle.twe_machine.specs.declared.state.State.{State}
 use Rattle.twe_machine.specs.declared.state.TaskRow.{TaskRow}
 use Rattle.twe_machine.specs.declared.state.TaskStatus.TheVariants.{Enabled, Made}
@@ -21,8 +21,8 @@ use Rattle.twe_machine.specs.Legal.{MayTake}
 use Rattle.twe_machine.specs.Moves.{admitted, move_result, new_row, ran, start_of, result_by_kind}
 use Rattle.twe_machine.specs.Rows.{HasStatus, IsRow}
 use Rattle.twe_machine.specs.Runs.{AlwaysIsolated, IsReached, Legal, LegalFrom, replayed, state_after}
-use Rattle.twe_machine.proofs.ReachedStands.{reached_stands, start_stands, taken_stands}
-use Rattle.twe_machine.proofs.Standing.{Stands}
+use Rattle.twe_machine.proofs.standing.ReachedStands.{reached_stands, start_stands, taken_stands}
+use Rattle.twe_machine.proofs.standing.Standing.{Stands}
 use Rattle.isolation_laws.specs.Rows.{ChildrenApart}
 use Rattle.isolation_laws.specs.Within.{AlwaysWithin, SpawnedWithin}
 use Rattle.isolation_laws.proofs.journals.AdmissionKeeps.{admission_kept}

@@ -3,8 +3,8 @@ use Rattle.std.proofs.Common.{◌≡◌, ℕ, ℤ, Bool, true, false, List, [], 
 use Rattle.std.proofs.lemmas.Bool.{cases_Bool}
 use Rattle.std.proofs.lemmas.List.{length-map}
 use Rattle.std.proofs.lemmas.Option.{slice_get_within}
-use Rattle.twe_io.specs.declared.place.Place.{Place}
-use Rattle.twe_limits.specs.Limits.{Bounds}
+use Rattle.twe_base.specs.declared.place.Place.{Place}
+use Rattle.twe_base.specs.Limits.{Bounds}
 use Rattle.effect_sets.specs.declared.effects.Summary.{Summary}
 use Rattle.effect_sets.specs.Covers.{EffectWithin}
 use Rattle.effect_sets.specs.Interference.{SomeInterfere}
@@ -16,16 +16,16 @@ use Rattle.seg_exec.specs.Giving.{given}
 use Rattle.wait_graph.specs.declared.tasks.Link.{Link}
 use Rattle.wait_graph.specs.Waiting.{IsDone, WaitsForNobody}
 use Rattle.effect_check.proofs.Members.{IsIn, contains-in, in-cases}
-use Rattle.soundness_laws.specs.KeepsEffects.{KeepsEffects}
-use Rattle.soundness_laws.proofs.Given.{given_decl, given_runs}
-use Rattle.soundness_laws.proofs.Segments.{segment_spawns}
+use Rattle.isolation_laws.specs.soundness.KeepsEffects.{KeepsEffects}
+use Rattle.isolation_laws.proofs.soundness.Given.{given_decl, given_runs}
+use Rattle.isolation_laws.proofs.soundness.Segments.{segment_spawns}
 use Rattle.twe_machine.specs.declared.state.State.{State}
 use Rattle.twe_machine.specs.declared.state.TaskRow.{TaskRow}
 use Rattle.twe_machine.specs.declared.state.TaskStatus.TheVariants.{Enabled}
 use Rattle.twe_machine.specs.Legal.{Isolated}
 use Rattle.twe_machine.specs.Moves.{going_row, state_after_join, new_row, out_with, parent_of, status_at_start}
-use Rattle.twe_machine.specs.Rows.{HasStatus, IsRow, LinksAgree, awaited, link_of_row}
-use Rattle.twe_machine.proofs.Standing.{Stands}
+use Rattle.twe_machine.specs.Rows.{HasStatus, IsRow, LinksAgree, row_awaited, link_of_row}
+use Rattle.twe_machine.proofs.standing.Standing.{Stands}
 use Rattle.isolation_laws.specs.Within.{EffectsWithin, SpawnedWithin}
 use Rattle.isolation_laws.proofs.rows.AddedTask.{ParentsAreThere, agree_before, before_length, isolated_made, siblings_made, with_row, within_made}
 use Rattle.isolation_laws.proofs.frames.AfterSegment.{after, after_out}
@@ -83,7 +83,7 @@ module _ (p : Program) (wf : IsWellFormed p) (keeps : KeepsEffects p) (lim : Bou
   nobody_mid : WaitsForNobody between.links t
   nobody_mid =
       nobody_home st o t row is_t stands.links childless done nobody frame (going_row row frame)
-      (ap awaited (goes_on p wf keeps lim st kept o t row is_t value cells child args effects spawned future place stop number))
+      (ap row_awaited (goes_on p wf keeps lim st kept o t row is_t value cells child args effects spawned future place stop number))
 
   -- the effects of a spawned task lie within those of its maker
   inside : spawned ≡ true → EffectsWithin added (going_row row frame)

@@ -1,8 +1,8 @@
 -- After a segment that makes a task, each frame is on a control path.
 use Rattle.std.proofs.Common.{◌≡◌, ℕ, ℤ, Bool, List, [], length, Option, Some, inl, inr, sym, ap, ◌∙◌, subst, arith, None}
 use Rattle.std.specs.Prelude.{slice_get}
-use Rattle.twe_io.specs.declared.place.Place.{Place}
-use Rattle.twe_limits.specs.Limits.{Bounds}
+use Rattle.twe_base.specs.declared.place.Place.{Place}
+use Rattle.twe_base.specs.Limits.{Bounds}
 use Rattle.effect_sets.specs.declared.effects.Summary.{Summary}
 use Rattle.twe_program.specs.declared.program.Decl.{Decl}
 use Rattle.twe_program.specs.Program.{Program}
@@ -12,15 +12,15 @@ use Rattle.seg_exec.specs.Entry.{entry_frame}
 use Rattle.seg_exec.specs.Giving.{given}
 use Rattle.seg_exec.specs.Meaning.{body_of}
 use Rattle.effect_check.proofs.Members.{IsIn}
-use Rattle.soundness_laws.specs.KeepsEffects.{KeepsEffects}
-use Rattle.segment_laws.specs.Keeps.{NextAfter}
-use Rattle.segment_laws.proofs.Following.{makes_follow}
-use Rattle.segment_laws.proofs.SegmentKept.{segment_keeps}
+use Rattle.isolation_laws.specs.soundness.KeepsEffects.{KeepsEffects}
+use Rattle.twe_machine.specs.segment_laws.Keeps.{NextAfter}
+use Rattle.twe_machine.proofs.segment_laws.Following.{makes_follow}
+use Rattle.twe_machine.proofs.segment_laws.SegmentKept.{segment_keeps}
 use Rattle.twe_machine.specs.declared.state.State.{State}
 use Rattle.twe_machine.specs.declared.state.TaskRow.{TaskRow}
 use Rattle.twe_machine.specs.Moves.{going_row, new_row, parent_of}
 use Rattle.twe_machine.specs.Rows.{IsRow}
-use Rattle.twe_machine.proofs.Standing.{Stands}
+use Rattle.twe_machine.proofs.standing.Standing.{Stands}
 use Rattle.isolation_laws.proofs.rows.AddedTask.{before_length, row_added, with_row}
 use Rattle.isolation_laws.proofs.frames.AfterSegment.{after}
 use Rattle.isolation_laws.proofs.rows.RowsLater.{Continues}

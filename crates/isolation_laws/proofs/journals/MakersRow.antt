@@ -1,8 +1,8 @@
 -- The maker's row and the new row after a segment that makes a task.
 use Rattle.std.proofs.Common.{◌≡◌, ℕ, ℤ, Bool, List, length, Option, None, Some, inl, inr, refl, sym, ◌∙◌, subst}
 use Rattle.std.specs.Prelude.{slice_get}
-use Rattle.twe_io.specs.declared.place.Place.{Place}
-use Rattle.twe_limits.specs.Limits.{Bounds}
+use Rattle.twe_base.specs.declared.place.Place.{Place}
+use Rattle.twe_base.specs.Limits.{Bounds}
 use Rattle.effect_sets.specs.declared.effects.Summary.{Summary}
 use Rattle.twe_program.specs.Program.{Program}
 use Rattle.twe_program.specs.WellFormed.{IsWellFormed}
@@ -12,12 +12,12 @@ use Rattle.seg_exec.specs.declared.stop.Stop.{Stop}
 use Rattle.seg_exec.specs.declared.stop.Stop.TheVariants as ends
 use Rattle.seg_exec.specs.Giving.{given}
 use Rattle.seg_exec.specs.Segment.{segment}
-use Rattle.soundness_laws.specs.KeepsEffects.{KeepsEffects}
-use Rattle.soundness_laws.specs.RunsWith.{RunsWith}
-use Rattle.soundness_laws.proofs.Given.{given_runs}
-use Rattle.soundness_laws.proofs.Segments.{segment_later, segment_makes}
-use Rattle.segment_laws.specs.Keeps.{NextAfter}
-use Rattle.segment_laws.proofs.SegmentKept.{segment_keeps}
+use Rattle.isolation_laws.specs.soundness.KeepsEffects.{KeepsEffects}
+use Rattle.isolation_laws.specs.soundness.RunsWith.{RunsWith}
+use Rattle.isolation_laws.proofs.soundness.Given.{given_runs}
+use Rattle.isolation_laws.proofs.soundness.Segments.{segment_later, segment_makes}
+use Rattle.twe_machine.specs.segment_laws.Keeps.{NextAfter}
+use Rattle.twe_machine.proofs.segment_laws.SegmentKept.{segment_keeps}
 use Rattle.twe_machine.specs.declared.state.State.{State}
 use Rattle.twe_machine.specs.declared.state.TaskRow.{TaskRow}
 use Rattle.twe_machine.specs.Moves.{frame_without_prints, going_row, state_after_storing, state_after_join, joined_rows, making_frame, new_row, parent_of}

@@ -3,7 +3,7 @@ use Rattle.std.proofs.Common.{◌≡◌, ℕ, ℤ, List, Option, inl, inr, sym, 
 use Rattle.effect_sets.specs.declared.effects.Summary.{Summary}
 use Rattle.twe_program.specs.Program.{Program}
 use Rattle.seg_exec.specs.declared.frame.Frame.{Frame}
-use Rattle.soundness_laws.specs.RunsWith.{RunsWith}
+use Rattle.isolation_laws.specs.soundness.RunsWith.{RunsWith}
 use Rattle.twe_machine.specs.declared.state.State.{State}
 use Rattle.twe_machine.specs.declared.state.TaskRow.{TaskRow}
 use Rattle.twe_machine.specs.Legal.{Isolated}

@@ -2,11 +2,11 @@
 use Rattle.std.proofs.Common.{◌≡◌, ◌<◌, ◌+◌, ℕ, ℤ, Bool, true, false, List, length, Option, None, Some, inl, inr, nat_lt, refl, sym, ap, ◌∙◌, subst, arith, if◌then◌else◌}
 use Rattle.std.proofs.lemmas.Bool.{ltb-true}
 use Rattle.std.proofs.lemmas.Option.{slice_get_within}
-use Rattle.twe_io.specs.declared.place.Place.{Place}
+use Rattle.twe_base.specs.declared.place.Place.{Place}
 use Rattle.seg_journal.specs.declared.journal.End.{End}
 use Rattle.seg_journal.specs.declared.journal.End.TheVariants as moves_end
-use Rattle.twe_limits.specs.declared.fault.FaultKind.TheVariants.{TaskLimit}
-use Rattle.twe_limits.specs.Limits.{Bounds}
+use Rattle.twe_base.specs.declared.fault.FaultKind.TheVariants.{TaskLimit}
+use Rattle.twe_base.specs.Limits.{Bounds}
 use Rattle.effect_sets.specs.declared.effects.Summary.{Summary}
 use Rattle.twe_program.specs.Program.{Program}
 use Rattle.twe_program.specs.WellFormed.{IsWellFormed}
@@ -18,12 +18,12 @@ use Rattle.seg_exec.specs.declared.stop.Stop.TheVariants as ends
 use Rattle.seg_exec.specs.Giving.{without}
 use Rattle.seg_exec.specs.Segment.{segment}
 use Rattle.effect_check.proofs.Members.{IsIn, in-contains}
-use Rattle.soundness_laws.specs.KeepsEffects.{KeepsEffects}
-use Rattle.soundness_laws.specs.RunsWith.{RunsWith}
-use Rattle.soundness_laws.proofs.Given.{given_runs}
-use Rattle.soundness_laws.proofs.Segments.{segment_later}
-use Rattle.segment_laws.specs.Keeps.{NextAfter, SegmentKeeps}
-use Rattle.segment_laws.proofs.SegmentKept.{segment_keeps}
+use Rattle.isolation_laws.specs.soundness.KeepsEffects.{KeepsEffects}
+use Rattle.isolation_laws.specs.soundness.RunsWith.{RunsWith}
+use Rattle.isolation_laws.proofs.soundness.Given.{given_runs}
+use Rattle.isolation_laws.proofs.soundness.Segments.{segment_later}
+use Rattle.twe_machine.specs.segment_laws.Keeps.{NextAfter, SegmentKeeps}
+use Rattle.twe_machine.proofs.segment_laws.SegmentKept.{segment_keeps}
 use Rattle.wait_graph.specs.Link.{link_of}
 use Rattle.wait_graph.specs.Waiting.{IsDone}
 use Rattle.twe_machine.specs.declared.state.State.{State}
@@ -31,9 +31,9 @@ use Rattle.twe_machine.specs.declared.state.TaskRow.{TaskRow}
 use Rattle.twe_machine.specs.declared.state.TaskStatus.TheVariants.{Enabled}
 use Rattle.twe_machine.specs.Legal.{MayRun}
 use Rattle.twe_machine.specs.Moves.{awaited_value, done_row, state_after_fault, state_after_asking, going_row, state_after_make, state_after_storing, state_after_join, joined_child, making_frame, ready_frame, stop_result, stopped_frame}
-use Rattle.twe_machine.specs.Rows.{IsRow, awaited}
-use Rattle.twe_machine.proofs.Members.{EachOnce, contains_in, without_once, without_other}
-use Rattle.twe_machine.proofs.Standing.{Stands}
+use Rattle.twe_machine.specs.Rows.{IsRow, row_awaited}
+use Rattle.twe_machine.proofs.lists.Members.{EachOnce, contains_in, without_once, without_other}
+use Rattle.twe_machine.proofs.standing.Standing.{Stands}
 use Rattle.isolation_laws.proofs.frames.AfterSegment.{after, after_out}
 use Rattle.isolation_laws.proofs.rows.RowsLater.{Continues}
 use Rattle.isolation_laws.proofs.journals.EndsKeep.{kept_faulted, kept_finished, kept_going, kept_limited}
@@ -81,7 +81,7 @@ asked_joined st (Some child) = refl
 module _ (p : Program) (wf : IsWellFormed p) (keeps : KeepsEffects p) (lim : Bounds) (old : State) (old_stands : Stands p lim old) (old_kept : Kept p old)
     (t : ℕ) (row : TaskRow) (is_t : IsRow old t row) (may : MayRun old t) where
   abbrev value : ℤ
-  value = awaited_value old.tasks (awaited row.frame.next)
+  value = awaited_value old.tasks (row_awaited row.frame.next)
 
   abbrev frame : Frame
   frame = after p row.frame value old.cells
@@ -152,7 +152,7 @@ module _ (p : Program) (wf : IsWellFormed p) (keeps : KeepsEffects p) (lim : Bou
       → Kept p (stop_result lim (state_after_join st o) t row frame (ends.Done value_of)).0
   is_done value_of is later =
       let next = next_is (ends.Done value_of) is in
-      kept_finished p st kept stands.links (done_childless p lim st stands) o done t row is_t may.1 frame runs value_of next.1 (ap awaited next.0)
+      kept_finished p st kept stands.links (done_childless p lim st stands) o done t row is_t may.1 frame runs value_of next.1 (ap row_awaited next.0)
       (done_alone p lim (stop_result lim (state_after_join st o) t row frame (ends.Done value_of)).0 later t (done_row row frame value_of) (set_row (done_row row frame value_of) frame) refl)
 
   module _ (child : Frame) (args : List ℤ) (effects : Summary) (spawned : Bool) (future : ℕ) (place : Place) (is : stop ≡ ends.Make child args effects spawned future place) where

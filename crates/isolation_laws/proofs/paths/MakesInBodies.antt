@@ -1,6 +1,6 @@
 -- A statement that makes a task and is reached by a control path is one of the body.
 use Rattle.std.proofs.Common.{ℕ, Bool, [], inl, inr, refl, subst}
-use Rattle.twe_io.specs.declared.place.Place.{Place}
+use Rattle.twe_base.specs.declared.place.Place.{Place}
 use Rattle.twe_program.specs.Expression.{Arguments}
 use Rattle.twe_program.specs.Program.{Program}
 use Rattle.twe_program.specs.Statement.{Make, Statements, statement, Arms, arm, otherwise, no_else}

@@ -1,7 +1,7 @@
 -- What is found in the rest of a body is found in the body.
 use Rattle.std.proofs.Common.{◌⊎◌, ℕ, zero, suc, List, inl, inr, subst}
 use Rattle.twe_program.specs.Expression.{Expression}
-use Rattle.twe_io.specs.declared.place.Place.{Place}
+use Rattle.twe_base.specs.declared.place.Place.{Place}
 use Rattle.twe_program.specs.Statement.{Statement, Block, If, While, Return, Statements, no_more, statement, Arms}
 use Rattle.cover_flow.specs.ControlPath.{Path}
 use Rattle.cover_flow.specs.Steps.{IsBranch, Steps, StepsFar, StepsOn, followed_by}

@@ -2,7 +2,7 @@
 -- effects of a spawned task interfere with those of no task whose future may be out at the spawn.
 use Rattle.std.proofs.Common.{ℕ, ℤ, true, false, IsTrue, List, [], ◌∷◌, Contains, inl, sym}
 use Rattle.std.specs.Prelude.{slice_get}
-use Rattle.twe_io.specs.declared.place.Place.{Place}
+use Rattle.twe_base.specs.declared.place.Place.{Place}
 use Rattle.effect_sets.specs.declared.effects.Effect.{Effect}
 use Rattle.effect_sets.specs.Interference.{SomeInterfere, statically_interferes}
 use Rattle.twe_program.specs.declared.program.Decl.{Decl}
@@ -14,14 +14,14 @@ use Rattle.seg_exec.specs.Entry.{effects_at}
 use Rattle.effect_check.specs.declared.rule.ERule.TheVariants.{E3, E5}
 use Rattle.effect_check.specs.Acts.{acts_in_all, filled_summary, is_deterministic, make}
 use Rattle.effect_check.specs.FailsEffect.{spawned, spawned_again}
-use Rattle.effect_check.specs.Standing.{element_of, elements_of}
+use Rattle.effect_check.specs.Standing.{element_of_index, elements_of}
 use Rattle.effect_check.proofs.Members.{IsIn, in-contains}
-use Rattle.soundness_laws.specs.KeepsEffects.{KeepsEffects}
-use Rattle.segment_laws.specs.Operations.{AllMayHave, MayHave}
+use Rattle.isolation_laws.specs.soundness.KeepsEffects.{KeepsEffects}
+use Rattle.twe_machine.specs.segment_laws.Operations.{AllMayHave, MayHave}
 use Rattle.isolation_laws.proofs.effects.Instances.{AllStandAs, StandsAs, instances_apart}
 
 -- a written argument may stand for each value that it may have
-stands_as : (e : Expression) (value : ℤ) → MayHave e value → StandsAs (element_of e) value
+stands_as : (e : Expression) (value : ℤ) → MayHave e value → StandsAs (element_of_index e) value
 stands_as (Literal literal) value may = sym may
 stands_as (Truth truth) value may = tt
 stands_as (Variable var true) value may = tt

@@ -13,7 +13,7 @@ use Rattle.twe_machine.specs.declared.state.TaskRow.{TaskRow}
 use Rattle.twe_machine.specs.declared.state.TaskStatus.TheVariants.{Done, Enabled}
 use Rattle.twe_machine.specs.Legal.{Isolated}
 use Rattle.twe_machine.specs.Moves.{state_after_storing, state_after_join}
-use Rattle.twe_machine.specs.Rows.{HasStatus, IsRow, LinksAgree, awaited}
+use Rattle.twe_machine.specs.Rows.{HasStatus, IsRow, LinksAgree, row_awaited}
 use Rattle.isolation_laws.proofs.rows.RowsLater.{Became, Continues, EnabledBefore, isolated_later}
 use Rattle.isolation_laws.proofs.rows.ListElements.{get_set}
 use Rattle.isolation_laws.proofs.rows.JoinedChild.{DoneAreChildless, Untouched, untouches_joined, nobody_joined, yields_joined}
@@ -50,7 +50,7 @@ module _ (st : State) (o : Option ℕ) (t : ℕ) (row : TaskRow) (is_t : IsRow s
   module _ (agree : LinksAgree st) (childless : DoneAreChildless st.links) (done : (child : ℕ) → o ≡ Some child → IsDone st.links child) (nobody : WaitsForNobody st.links t) where
     pub yields_home : (frame : Frame) (new : TaskRow) (s c : ℕ) → HasStatus st c Enabled → YieldsTo st.links s c → YieldsTo (state_after_storing (state_after_join st o) t frame new).links s c
     yields_home frame new s c may yields =
-        YieldsTo-with_wait (state_after_join st o).links t s c (awaited frame.next) (nobody_joined st o t nobody) (yields_joined st o agree childless done s c may yields)
+        YieldsTo-with_wait (state_after_join st o).links t s c (row_awaited frame.next) (nobody_joined st o t nobody) (yields_joined st o agree childless done s c may yields)
 
     pub isolated_home : (frame : Frame) (new : TaskRow) → Became row new → (new.status ≡ Enabled → row.status ≡ Enabled) → Isolated st → Isolated (state_after_storing (state_after_join st o) t frame new)
     isolated_home frame new became before isolated =
@@ -59,12 +59,12 @@ module _ (st : State) (o : Option ℕ) (t : ℕ) (row : TaskRow) (is_t : IsRow s
         (λ s c may_s may_c yields. yields_home frame new s c (enabled c may_c) yields) isolated
 
     -- t waits for nobody if its frame has no wait
-    pub nobody_home : (frame : Frame) (new : TaskRow) → awaited frame.next ≡ None → WaitsForNobody (state_after_storing (state_after_join st o) t frame new).links t
+    pub nobody_home : (frame : Frame) (new : TaskRow) → row_awaited frame.next ≡ None → WaitsForNobody (state_after_storing (state_after_join st o) t frame new).links t
     nobody_home frame new none =
         subst (λ (on : Option ℕ). WaitsForNobody (with_wait (state_after_join st o).links t on) t) (sym none) (nobody_without (state_after_join st o).links t (nobody_joined st o t nobody))
 
     -- t is done and has no unjoined child
-    module _ (frame : Frame) (new : TaskRow) (became : Became row new) (is_done : new.status ≡ Done) (none : awaited frame.next ≡ None)
+    module _ (frame : Frame) (new : TaskRow) (became : Became row new) (is_done : new.status ≡ Done) (none : row_awaited frame.next ≡ None)
         (alone : (x : ℕ) → ¬ SpawnedBy (with_done (state_after_storing (state_after_join st o) t frame new).links t) x t) where
       -- each enabled task is another one, and no descendant of t
       other_than : (c : ℕ) → HasStatus (state_after_storing (state_after_join st o) t frame new) c Enabled → c ≢ t

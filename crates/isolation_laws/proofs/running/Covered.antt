@@ -3,7 +3,7 @@
 use Rattle.std.proofs.Common.{◌≡◌, ◌≢◌, ℕ, ℤ, List, length, Contains, Option, Some, sym, ap, ◌∙◌, subst}
 use Rattle.std.specs.Prelude.{slice_get}
 use Rattle.seg_journal.specs.declared.journal.Entry.{Entry}
-use Rattle.twe_limits.specs.Limits.{Bounds}
+use Rattle.twe_base.specs.Limits.{Bounds}
 use Rattle.effect_sets.specs.declared.effects.Summary.{Summary}
 use Rattle.effect_sets.specs.Access.{SomeCoversAccess}
 use Rattle.twe_program.specs.declared.program.Decl.{Decl}
@@ -17,12 +17,12 @@ use Rattle.seg_exec.specs.Giving.{without}
 use Rattle.seg_exec.specs.Meaning.{body_of}
 use Rattle.seg_exec.specs.Segment.{segment}
 use Rattle.effect_check.proofs.Members.{IsIn, all-in, contains-in, in-contains}
-use Rattle.soundness_laws.specs.DeclaredNow.{access_of}
-use Rattle.soundness_laws.specs.KeepsEffects.{KeepsEffects}
-use Rattle.soundness_laws.proofs.Given.{given_decl, given_runs}
-use Rattle.soundness_laws.proofs.Segments.{segment_declared}
-use Rattle.segment_laws.specs.Left.{left_of}
-use Rattle.segment_laws.proofs.Following.{given_left}
+use Rattle.isolation_laws.specs.soundness.DeclaredNow.{access_of}
+use Rattle.isolation_laws.specs.soundness.KeepsEffects.{KeepsEffects}
+use Rattle.isolation_laws.proofs.soundness.Given.{given_decl, given_runs}
+use Rattle.isolation_laws.proofs.soundness.Segments.{segment_declared}
+use Rattle.twe_machine.specs.segment_laws.Left.{left_of}
+use Rattle.twe_machine.proofs.segment_laws.Following.{given_left}
 use Rattle.wait_graph.specs.declared.tasks.Link.{Link}
 use Rattle.wait_graph.specs.Waiting.{SpawnedBy}
 use Rattle.wait_graph.proofs.WaitingLemmas.{WaitsForNobody-waits}
@@ -30,11 +30,11 @@ use Rattle.twe_machine.specs.declared.state.State.{State}
 use Rattle.twe_machine.specs.declared.state.TaskRow.{TaskRow}
 use Rattle.twe_machine.specs.Legal.{MayRun}
 use Rattle.twe_machine.specs.Moves.{awaited_value, ready_frame}
-use Rattle.twe_machine.specs.Rows.{IsRow, awaited}
+use Rattle.twe_machine.specs.Rows.{IsRow, row_awaited}
 use Rattle.twe_machine.specs.Runs.{IsReached, Legal}
-use Rattle.twe_machine.proofs.Members.{contains_in, in_contains, in_without}
-use Rattle.twe_machine.proofs.ReachedStands.{reached_stands}
-use Rattle.twe_machine.proofs.Standing.{IsChild, Stands}
+use Rattle.twe_machine.proofs.lists.Members.{contains_in, in_contains, in_without}
+use Rattle.twe_machine.proofs.standing.ReachedStands.{reached_stands}
+use Rattle.twe_machine.proofs.standing.Standing.{IsChild, Stands}
 use Rattle.isolation_laws.specs.Conflicts.{AccessesAreCovered, AlwaysCovered, Makes}
 use Rattle.isolation_laws.specs.CoveredNow.{WillJoin, child_to_join}
 use Rattle.isolation_laws.specs.Rows.{RowsKeepToDeclarations}
@@ -60,7 +60,7 @@ still_other (Closing on) u out other h = others_in u on out (λ e. other (ap (λ
 still_other Ended u out other h = h
 
 -- the child to be joined is waited for
-joins_waited : (next : Next) (u : ℕ) → child_to_join next ≡ Some u → awaited next ≡ Some u
+joins_waited : (next : Next) (u : ℕ) → child_to_join next ≡ Some u → row_awaited next ≡ Some u
 joins_waited Go u e = absurd (cc)
 joins_waited (Get on into) u e = absurd (cc)
 joins_waited (Join on into) u e = e
@@ -78,7 +78,7 @@ module _ (p : Program) (wf : IsWellFormed p) (keeps : KeepsEffects p) (lim : Bou
       → SomeCoversAccess row.effects.effects (access_of p access)
   declared s row is cells access here =
       let known = stands.rows s row is in
-      let value = awaited_value st.tasks (awaited row.frame.next) in
+      let value = awaited_value st.tasks (row_awaited row.frame.next) in
       let runs = given_runs p row.args row.frame (kept.runs s row is) value in
       let decl : (ready_frame st.tasks row.frame).decl ≡ row.decl = given_decl row.frame value ∙ known.decl in
       let same : effects_at p (ready_frame st.tasks row.frame).decl row.args ≡ row.effects = ap (λ (n : ℕ). effects_at p n row.args) decl ∙ sym known.effects in
@@ -101,7 +101,7 @@ module _ (p : Program) (wf : IsWellFormed p) (keeps : KeepsEffects p) (lim : Bou
   pub spared : (t c : ℕ) (row child : TaskRow) → IsRow st t row → IsRow st c child → MayRun st t → SpawnedBy st.links c t → ¬ WillJoin st row c
       → (cells : List ℤ) (access : Access) → Makes p st row cells access → Spares child.effects.effects (access_of p access)
   spared t c row child is is_c may by other cells access here =
-      let value = awaited_value st.tasks (awaited row.frame.next) in
+      let value = awaited_value st.tasks (row_awaited row.frame.next) in
       let decl = taker (slice_get p.tasks row.frame.decl) (length row.args) (kept.runs t row is).count in
       let es = child.effects.effects in
       let all = segment_spares p wf keeps es decl.0 (ready_frame st.tasks row.frame) cells (λ some.

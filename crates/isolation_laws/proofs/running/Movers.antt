@@ -1,9 +1,9 @@
 -- No accesses of two tasks that may run conflict. If one of them descends from the other, this one's accesses spare the
 -- effects of the child that it descends from; else the effects of the two do not interfere.
 use Rattle.std.proofs.Common.{◌≡◌, ◌≢◌, ◌||◌, ℕ, ℤ, Bool, true, false, List, inl, inr, refl, sym, subst}
-use Rattle.twe_limits.specs.Limits.{Bounds}
+use Rattle.twe_base.specs.Limits.{Bounds}
 use Rattle.effect_sets.specs.declared.effects.Effect.{Effect}
-use Rattle.effect_sets.specs.Access.{Access as PathAccess, AccessInterferes, Conflict, CoversAccess}
+use Rattle.effect_sets.specs.Access.{PathAccess as PathAccess, AccessInterferes, Conflict, CoversAccess}
 use Rattle.effect_sets.specs.Covers.{EffectWithin}
 use Rattle.effect_sets.specs.Interference.{SomeInterfere}
 use Rattle.effect_sets.proofs.Accesses.{access-conflicts, lists-apart, within-covers}
@@ -11,8 +11,8 @@ use Rattle.twe_program.specs.Program.{Program}
 use Rattle.twe_program.specs.WellFormed.{IsWellFormed}
 use Rattle.seg_exec.specs.Access.{Access}
 use Rattle.effect_check.proofs.Members.{in-contains}
-use Rattle.soundness_laws.specs.DeclaredNow.{access_of}
-use Rattle.soundness_laws.specs.KeepsEffects.{KeepsEffects}
+use Rattle.isolation_laws.specs.soundness.DeclaredNow.{access_of}
+use Rattle.isolation_laws.specs.soundness.KeepsEffects.{KeepsEffects}
 use Rattle.wait_graph.specs.Waiting.{DescendsFrom, IsDone}
 use Rattle.wait_graph.proofs.ChainLemmas.{Chain-arrives}
 use Rattle.wait_graph.proofs.WaitingLemmas.{YieldsTo-alone}
@@ -21,8 +21,8 @@ use Rattle.twe_machine.specs.declared.state.TaskRow.{TaskRow}
 use Rattle.twe_machine.specs.Legal.{MayRun}
 use Rattle.twe_machine.specs.Rows.{IsRow}
 use Rattle.twe_machine.specs.Runs.{IsReached}
-use Rattle.twe_machine.proofs.ReachedStands.{reached_stands}
-use Rattle.twe_machine.proofs.Standing.{Stands}
+use Rattle.twe_machine.proofs.standing.ReachedStands.{reached_stands}
+use Rattle.twe_machine.proofs.standing.Standing.{Stands}
 use Rattle.isolation_laws.specs.Conflicts.{Makes, MoversApart}
 use Rattle.isolation_laws.proofs.running.Covered.{declared, spared}
 use Rattle.isolation_laws.proofs.rows.Descents.{last_step, within_along}

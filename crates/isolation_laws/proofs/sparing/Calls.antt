@@ -3,15 +3,15 @@ use Rattle.std.proofs.Common.{◌≡◌, ◌+◌, ℕ, zero, suc, ℤ, Bool, tru
 use Rattle.std.specs.Prelude.{nat_le, slice_get}
 use Rattle.std.specs.List.{AllByRecursion}
 use Rattle.std.proofs.Math.Seq.{take-append_seam}
-use Rattle.twe_io.specs.declared.place.Place.{Place}
+use Rattle.twe_base.specs.declared.place.Place.{Place}
 use Rattle.region_paths.specs.declared.elements.Elem.{Elem}
 use Rattle.region_paths.specs.Arguments.{ArgumentsStand, literals}
 use Rattle.effect_sets.specs.declared.effects.Effect.{Effect}
-use Rattle.effect_sets.specs.Access.{Access as PathAccess, CoversAccess, SomeCoversAccess}
+use Rattle.effect_sets.specs.Access.{PathAccess as PathAccess, CoversAccess, SomeCoversAccess}
 use Rattle.effect_sets.specs.Filled.{effect_under, fill_effect, fill_summary}
 use Rattle.effect_sets.proofs.Accesses.{within-covers}
 use Rattle.effect_sets.proofs.Filling.{fill_effect-within}
-use Rattle.twe_limits.specs.Language.{max_active_calls}
+use Rattle.twe_base.specs.Language.{max_active_calls}
 use Rattle.twe_program.specs.declared.program.Decl.{Decl}
 use Rattle.twe_program.specs.Fitting.{TakesArguments}
 use Rattle.twe_program.specs.Program.{Program}
@@ -22,11 +22,11 @@ use Rattle.seg_exec.specs.Meaning.{Below, called, entered, given_back, vars_at_s
 use Rattle.seg_exec.specs.Store.{Store, Given, gives, faults, Flow, goes, returns, fails, stops, then_give, unit_of, unit_taken}
 use Rattle.effect_check.specs.Acts.{filled_summary}
 use Rattle.effect_check.proofs.Members.{IsIn, all-in, in-cases, in-left, in-right}
-use Rattle.soundness_laws.specs.DeclaredNow.{access_of}
-use Rattle.soundness_laws.specs.KeepsEffects.{KeepsEffects}
-use Rattle.soundness_laws.proofs.Declared.{in-map, map-in, values_now, within_itself}
-use Rattle.soundness_laws.proofs.Expressions.{AnyValue, BelowKeeps, DeclaredIn, Each, FlowKeeps, Kept}
-use Rattle.soundness_laws.proofs.Sound.{Fine, method_sound}
+use Rattle.isolation_laws.specs.soundness.DeclaredNow.{access_of}
+use Rattle.isolation_laws.specs.soundness.KeepsEffects.{KeepsEffects}
+use Rattle.isolation_laws.proofs.soundness.Declared.{in-map, map-in, values_now, within_itself}
+use Rattle.isolation_laws.proofs.soundness.Expressions.{AnyValue, BelowKeeps, DeclaredIn, Each, FlowKeeps, Kept}
+use Rattle.isolation_laws.proofs.soundness.Sound.{Fine, method_sound}
 use Rattle.isolation_laws.proofs.effects.ExactEffects.{exact, exact_covers, exact_only}
 use Rattle.isolation_laws.proofs.effects.Interference.{any-in, in-any}
 use Rattle.isolation_laws.proofs.effects.Sparing.{EffectSpares, Spares, spares_less}

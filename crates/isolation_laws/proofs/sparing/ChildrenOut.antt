@@ -21,9 +21,9 @@ use Rattle.effect_check.specs.Covered.{CoveredAt}
 use Rattle.effect_check.specs.FailsEffect.{access, called}
 use Rattle.effect_check.specs.Standing.{elements_of}
 use Rattle.effect_check.proofs.Members.{IsIn, all-in, in-contains, in-left}
-use Rattle.soundness_laws.specs.KeepsEffects.{KeepsEffects}
-use Rattle.soundness_laws.proofs.Sound.{got-in, task_sound}
-use Rattle.segment_laws.specs.Passes.{Quietly}
+use Rattle.isolation_laws.specs.soundness.KeepsEffects.{KeepsEffects}
+use Rattle.isolation_laws.proofs.soundness.Sound.{got-in, task_sound}
+use Rattle.twe_machine.specs.segment_laws.Passes.{Quietly}
 use Rattle.isolation_laws.proofs.sparing.Calls.{all_from_in}
 use Rattle.isolation_laws.proofs.paths.FineRests.{ActSpares, AllSpare, Fine, fit_far}
 use Rattle.isolation_laws.proofs.frames.Frames.{ChildOut}

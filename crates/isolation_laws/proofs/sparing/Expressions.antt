@@ -3,7 +3,7 @@ use Rattle.std.proofs.Common.{◌≡◌, ℕ, ℤ, Bool, true, false, List, [], 
 use Rattle.std.specs.Prelude.{slice_get}
 use Rattle.std.proofs.lemmas.Bool.{and_from}
 use Rattle.std.proofs.lemmas.Bool.Decides.{Decides-int_eq}
-use Rattle.twe_io.specs.declared.place.Place.{Place}
+use Rattle.twe_base.specs.declared.place.Place.{Place}
 use Rattle.region_paths.specs.Concrete.{ConcretePath, InSet}
 use Rattle.region_paths.specs.Filled.{Valuation, under}
 use Rattle.region_paths.specs.Written.{WrittenPath}
@@ -22,13 +22,13 @@ use Rattle.seg_exec.specs.Meaning.{Below, element_read, right_given, value_of, v
 use Rattle.seg_exec.specs.Store.{Store, Given}
 use Rattle.effect_check.specs.declared.act.Act.{Act}
 use Rattle.effect_check.specs.Acts.{acts_of, acts_of_all}
-use Rattle.effect_check.specs.Standing.{element_of, elements_of, path_at}
+use Rattle.effect_check.specs.Standing.{element_of_index, elements_of, path_at}
 use Rattle.effect_check.proofs.Members.{all-back, all-front}
-use Rattle.soundness_laws.specs.CellPaths.{path_of_cell}
-use Rattle.soundness_laws.specs.KeepsEffects.{KeepsEffects}
-use Rattle.soundness_laws.proofs.CellPaths.{AtSome, cell_touched, element_touched, grid_element_touched}
-use Rattle.soundness_laws.proofs.Declared.{values_now}
-use Rattle.soundness_laws.proofs.Expressions.{AnyValue, BelowKeeps, StandFor, StandsFor}
+use Rattle.isolation_laws.specs.soundness.CellPaths.{path_of_cell}
+use Rattle.isolation_laws.specs.soundness.KeepsEffects.{KeepsEffects}
+use Rattle.isolation_laws.proofs.soundness.CellPaths.{AtSome, cell_touched, element_touched, grid_element_touched}
+use Rattle.isolation_laws.proofs.soundness.Declared.{values_now}
+use Rattle.isolation_laws.proofs.soundness.Expressions.{AnyValue, BelowKeeps, StandFor, StandsFor}
 use Rattle.isolation_laws.proofs.sparing.Calls.{EachSpares, GivenSpares, called_spares, give_spares}
 use Rattle.isolation_laws.proofs.paths.FineRests.{ActSpares, AllSpare}
 use Rattle.isolation_laws.proofs.effects.Sparing.{EffectSpares, Spares}
@@ -79,14 +79,14 @@ module _ (p : Program) (wf : IsWellFormed p) (effects : KeepsEffects p) (below :
         (same, (path_spares es now false (path_at p cell []) _ spare.0 (cell_touched p wf now cell (slice_get p.cells cell) refl fits), each), refl)
     value_spares point (ArrayElement array index place) spare fits s same each =
         give_spares p es vars (StandsFor vars index) AnyValue (value_of below p index s) _ (value_spares point index spare.1 fits.1 s same each)
-        (λ i s1 same1 each1 stand. element_spares (path_at p array (element_of index ∷ [])) spare.0 (element_number p array i)
-        (element_touched p wf now array (element_of index) i (slice_get p.cells array) refl stand) place s1 same1 each1)
+        (λ i s1 same1 each1 stand. element_spares (path_at p array (element_of_index index ∷ [])) spare.0 (element_number p array i)
+        (element_touched p wf now array (element_of_index index) i (slice_get p.cells array) refl stand) place s1 same1 each1)
     value_spares point (GridElement array row column place) spare fits s same each =
         give_spares p es vars (StandsFor vars row) AnyValue (value_of below p row s) _ (value_spares point row (spare_front es (acts_of p point row) (acts_of p point column) spare.1) fits.1 s same each)
         (λ i s1 same1 each1 first.
         give_spares p es vars (StandsFor vars column) AnyValue (value_of below p column s1) _ (value_spares point column (spare_back es (acts_of p point row) (acts_of p point column) spare.1) fits.2 s1 same1 each1)
-        (λ j s2 same2 each2 second. element_spares (path_at p array (element_of row ∷ element_of column ∷ [])) spare.0 (grid_element_number p array i j)
-        (grid_element_touched p wf now array (element_of row) (element_of column) i j (slice_get p.cells array) refl first second) place s2 same2 each2))
+        (λ j s2 same2 each2 second. element_spares (path_at p array (element_of_index row ∷ element_of_index column ∷ [])) spare.0 (grid_element_number p array i j)
+        (grid_element_touched p wf now array (element_of_index row) (element_of_index column) i j (slice_get p.cells array) refl first second) place s2 same2 each2))
     value_spares point (CallValue method given place) spare fits s same each =
         give_spares p es vars (StandFor vars given) AnyValue (values_of below p given s) _ (values_spare point given spare.1 fits.2 s same each)
         (λ values s1 same1 each1 stand. called_spares p wf effects below keeps es method (elements_of given) values vars stand.0

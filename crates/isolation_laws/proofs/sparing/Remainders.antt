@@ -14,14 +14,14 @@ use Rattle.seg_exec.specs.Meaning.{Below, body_of, done_within}
 use Rattle.seg_exec.specs.Remaining.{after_first, block_at, block_of, last_of_first, resumed, turned_again}
 use Rattle.seg_exec.specs.Segment.{flow_of, segment, stopped_by, store_at}
 use Rattle.seg_exec.specs.Store.{Store, Flow, goes, returns, fails, stops}
-use Rattle.soundness_laws.specs.KeepsEffects.{KeepsEffects}
-use Rattle.soundness_laws.proofs.Expressions.{BelowKeeps}
-use Rattle.soundness_laws.proofs.Sound.{method_sound}
-use Rattle.soundness_laws.proofs.Statements.{within_keeps}
-use Rattle.segment_laws.specs.Left.{again, body_left, left_in, left_of}
-use Rattle.segment_laws.proofs.Leading.{BelowLeads, left_after}
-use Rattle.segment_laws.proofs.LeftLeading.{inside_leads, resumed_leads, within_leads}
-use Rattle.segment_laws.proofs.Quiet.{followed_assoc, followed_none}
+use Rattle.isolation_laws.specs.soundness.KeepsEffects.{KeepsEffects}
+use Rattle.isolation_laws.proofs.soundness.Expressions.{BelowKeeps}
+use Rattle.isolation_laws.proofs.soundness.Sound.{method_sound}
+use Rattle.isolation_laws.proofs.soundness.Statements.{within_keeps}
+use Rattle.twe_machine.specs.segment_laws.Left.{again, body_left, left_in, left_of}
+use Rattle.twe_machine.proofs.segment_laws.Leading.{BelowLeads, left_after}
+use Rattle.twe_machine.proofs.segment_laws.LeftLeading.{inside_leads, resumed_leads, within_leads}
+use Rattle.twe_machine.proofs.segment_laws.Quiet.{followed_assoc, followed_none}
 use Rattle.isolation_laws.proofs.sparing.Calls.{EachSpares}
 use Rattle.isolation_laws.proofs.sparing.Statements.{BelowSpares, FlowSpares, IsFine, all_spare, done_spares, go_further, go_stopped}
 

@@ -1,7 +1,7 @@
 -- Statements spare the effects of a task if they are fine for them.
 use Rattle.std.proofs.Common.{◌≡◌, ◌+◌, ℕ, ℤ, Bool, true, false, List, [], ◌∷◌, ◌++◌, Option, None, Some, inl, inr, refl, sym, subst}
 use Rattle.std.specs.Prelude.{slice_get}
-use Rattle.twe_io.specs.declared.place.Place.{Place}
+use Rattle.twe_base.specs.declared.place.Place.{Place}
 use Rattle.region_paths.specs.Concrete.{InSet, region}
 use Rattle.region_paths.specs.Filled.{under}
 use Rattle.region_paths.specs.Written.{WrittenPath}
@@ -19,14 +19,14 @@ use Rattle.seg_exec.specs.Cells.{element_number, grid_element_number}
 use Rattle.seg_exec.specs.Meaning.{Below, called, chosen, done_all, done_arms, done_by, element_written, stopped_at, turned, value_of, values_of}
 use Rattle.seg_exec.specs.Store.{Store, Given, gives, faults, Flow, goes, returns, fails, stops, then_do, then_go, unit_taken}
 use Rattle.effect_check.specs.Acts.{acts_of, acts_of_all}
-use Rattle.effect_check.specs.Standing.{console, element_of, elements_of, path_at}
-use Rattle.soundness_laws.specs.CellPaths.{path_of_cell}
-use Rattle.soundness_laws.specs.KeepsEffects.{KeepsEffects}
-use Rattle.soundness_laws.proofs.CellPaths.{AtSome, cell_touched, element_touched, grid_element_touched}
-use Rattle.soundness_laws.proofs.Declared.{values_now}
-use Rattle.soundness_laws.proofs.Expressions.{AnyValue, BelowKeeps, StandFor, StandsFor}
-use Rattle.segment_laws.proofs.Leading.{BelowLeads, FlowLeads, left_after, statement_leads}
-use Rattle.segment_laws.proofs.Quiet.{leads_silently}
+use Rattle.effect_check.specs.Standing.{console_element, element_of_index, elements_of, path_at}
+use Rattle.isolation_laws.specs.soundness.CellPaths.{path_of_cell}
+use Rattle.isolation_laws.specs.soundness.KeepsEffects.{KeepsEffects}
+use Rattle.isolation_laws.proofs.soundness.CellPaths.{AtSome, cell_touched, element_touched, grid_element_touched}
+use Rattle.isolation_laws.proofs.soundness.Declared.{values_now}
+use Rattle.isolation_laws.proofs.soundness.Expressions.{AnyValue, BelowKeeps, StandFor, StandsFor}
+use Rattle.twe_machine.proofs.segment_laws.Leading.{BelowLeads, FlowLeads, left_after, statement_leads}
+use Rattle.twe_machine.proofs.segment_laws.Quiet.{leads_silently}
 use Rattle.isolation_laws.proofs.sparing.Calls.{EachSpares, GivenSpares, called_spares, unit_spares}
 use Rattle.isolation_laws.proofs.sparing.Expressions.{path_spares, spare_back, spare_front, value_spares, values_spare}
 use Rattle.isolation_laws.proofs.paths.FineRests.{AllSpare, Fine, fine_later, fine_own}
@@ -131,8 +131,8 @@ module _ (p : Program) (wf : IsWellFormed p) (effects : KeepsEffects p) (below :
         valued s.vars point index (spare_front es (acts_of p point index) (acts_of p point value) own.1) fine.fits.0.1 s refl each _
         (λ i s1 same1 each1 stand.
         valued s.vars point value (spare_back es (acts_of p point index) (acts_of p point value) own.1) fine.fits.0.2 s1 same1 each1 _
-        (λ v s2 same2 each2 q. element_set s.vars (path_at p array (element_of index ∷ [])) own.0 (element_number p array i)
-        (element_touched p wf (values_now s.vars) array (element_of index) i (slice_get p.cells array) refl stand) v place s2 each2))
+        (λ v s2 same2 each2 q. element_set s.vars (path_at p array (element_of_index index ∷ [])) own.0 (element_number p array i)
+        (element_touched p wf (values_now s.vars) array (element_of_index index) i (slice_get p.cells array) refl stand) v place s2 each2))
     done_spares (SetGrid point array row column value place) others fine s each =
         let own = fine_own p (scope_of p decl) es (SetGrid point array row column value place) others fine in
         let rest = spare_back es (acts_of p point row) (acts_of p point column ++ acts_of p point value) own.1 in
@@ -141,8 +141,8 @@ module _ (p : Program) (wf : IsWellFormed p) (effects : KeepsEffects p) (below :
         valued s.vars point column (spare_front es (acts_of p point column) (acts_of p point value) rest) fine.fits.0.2 s1 same1 each1 _
         (λ j s2 same2 each2 second.
         valued s.vars point value (spare_back es (acts_of p point column) (acts_of p point value) rest) fine.fits.0.3 s2 same2 each2 _
-        (λ v s3 same3 each3 q. element_set s.vars (path_at p array (element_of row ∷ element_of column ∷ [])) own.0 (grid_element_number p array i j)
-        (grid_element_touched p wf (values_now s.vars) array (element_of row) (element_of column) i j (slice_get p.cells array) refl first second) v place s3 each3)))
+        (λ v s3 same3 each3 q. element_set s.vars (path_at p array (element_of_index row ∷ element_of_index column ∷ [])) own.0 (grid_element_number p array i j)
+        (grid_element_touched p wf (values_now s.vars) array (element_of_index row) (element_of_index column) i j (slice_get p.cells array) refl first second) v place s3 each3)))
     done_spares (If point arms) others fine s each =
         arms_spare 0 point arms arms (λ taken is. is) others fine (fine_own p (scope_of p decl) es (If point arms) others fine) fine.fits.0 s each
     done_spares (While point condition body place) others fine s each =
@@ -160,7 +160,7 @@ module _ (p : Program) (wf : IsWellFormed p) (effects : KeepsEffects p) (below :
         let own = fine_own p (scope_of p decl) es (Print point value place) others fine in
         valued s.vars point value own.1 fine.fits.0 s refl each _
         (λ v s1 same1 each1 q. taken s.vars place s1 same1 each1 _
-        (λ unit s2 same2 each2. (path_spares es (values_now s.vars) true console (region 0 ∷ []) own.0 refl, each2)))
+        (λ unit s2 same2 each2. (path_spares es (values_now s.vars) true console_element (region 0 ∷ []) own.0 refl, each2)))
     done_spares (Call point method given place) others fine s each =
         let own = fine_own p (scope_of p decl) es (Call point method given place) others fine in
         all_valued s.vars point given own.1 fine.fits.0.1 s refl each _

@@ -6,6 +6,7 @@ use Rattle.name_check.specs.declared.binding.Global.TheVariants as global_kinds
 use Rattle.name_check.specs.declared.declared.Counts.{Counts}
 use Rattle.name_check.specs.Names.{Before}
 
+-- the numbers of 32 bits as numbers
 abbrev pub before_of : Counts → Before
 before_of counts = record { regions = counts.regions; cells = counts.cells; methods = counts.methods; tasks = counts.tasks }
 
@@ -16,9 +17,10 @@ pub record HaveRoom (before : Before) (more : ℕ) : Type 0 where
   pub methods : before.methods + more < 2 ^ 32
   pub tasks : before.tasks + more < 2 ^ 32
 
--- the bindings of a method and of a task
+-- the binding of a method with this number
 abbrev pub method_of : Decl → ℕ → Global
 method_of decl number = global_kinds.Method number (length decl.params) decl.returns
 
+-- the binding of a task with this number
 abbrev pub task_of : Decl → ℕ → Global
 task_of decl number = global_kinds.Task number (length decl.params) decl.returns

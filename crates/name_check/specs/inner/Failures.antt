@@ -1,6 +1,6 @@
 -- The failures at the places at which a text needs something, and the first of them.
 use Rattle.std.specs.Prelude.{◌==◌, Bool, true, false, not, List, [], ◌∷◌, ◌++◌, Option, None, Some, is_some}
-use Rattle.twe_io.specs.declared.place.Place.{Place}
+use Rattle.twe_base.specs.declared.place.Place.{Place}
 use Rattle.twe_ast.specs.declared.item.ReturnType.{ReturnType}
 use Rattle.twe_ast.specs.declared.item.ReturnType.TheVariants as return_types
 use Rattle.twe_ast.specs.declared.stmt.LocalType.{LocalType}
@@ -19,7 +19,7 @@ use Rattle.name_check.specs.Types.{same_type, type_of}
 use Rattle.name_check.specs.Asks.{Ask, uses, needs, declares, returns_value, returns_nothing, place_of}
 use Rattle.name_check.specs.Sites.{Site}
 use Rattle.name_check.specs.FailsName.{binding_as, fits}
-use Rattle.first_failure.specs.First.{failure_if}
+use Rattle.twe_base.specs.First.{failure_if}
 use Rattle.name_check.specs.inner.First.{first_from}
 
 -- a value is needed of a method or a task that returns nothing
@@ -65,10 +65,13 @@ failures_here globals locals (declares name) = failure_if (is_some (binding_of g
 failures_here globals locals (returns_value place) = []
 failures_here globals locals (returns_nothing place) = []
 
+-- the first of the failure so far, if there is one, and all failures of these needs
 abbrev pub first_of_asks : List GlobalName → List LocalName → Option NameFailure → List Ask → Option NameFailure
 first_of_asks globals locals first [] = first
-first_of_asks globals locals first (ask ∷ asks) = first_of_asks globals locals (first_from first (failures_here globals locals ask)) asks
+first_of_asks globals locals first (ask ∷ asks) =
+    first_of_asks globals locals (first_from first (failures_here globals locals ask)) asks
 
+-- the declaration returns nothing
 abbrev pub is_void : ReturnType → Bool
 is_void return_types.Void = true
 is_void return_types.Int = false
@@ -81,9 +84,11 @@ failures_by globals locals returns (declares name) = failures_here globals local
 failures_by globals locals returns (returns_value place) = failure_if (is_void returns) N3 place
 failures_by globals locals returns (returns_nothing place) = failure_if (not (is_void returns)) N3 place
 
+-- the failures of what is needed at a site
 abbrev pub failures_at : List GlobalName → Site → List NameFailure
 failures_at globals site = failures_by globals site.locals site.returns site.ask
 
+-- the first of the failure so far, if there is one, and all failures at these sites
 abbrev pub first_of_sites : List GlobalName → Option NameFailure → List Site → Option NameFailure
 first_of_sites globals first [] = first
 first_of_sites globals first (site ∷ sites) = first_of_sites globals (first_from first (failures_at globals site)) sites

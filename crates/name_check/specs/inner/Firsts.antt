@@ -4,7 +4,8 @@ use Rattle.std.specs.BTreeMap.{BTreeMap, get_by_text}
 
 -- The map has each name of the list with its first place there, and no other name.
 abbrev pub AreFirsts : {A : Type 0} {Entry : Type 0} → (Entry → List ℕ) → List Entry → BTreeMap (String A) ℕ → Type 0
-AreFirsts text_of entries firsts = (text : List ℕ) → get_by_text firsts text ≡ position (λ entry. bytes_eq text (text_of entry)) entries
+AreFirsts text_of entries firsts =
+    (text : List ℕ) → get_by_text firsts text ≡ position (λ entry. bytes_eq text (text_of entry)) entries
 
 -- both maps have the same names with the same places
 abbrev pub HaveSameFirsts : {A : Type 0} → BTreeMap (String A) ℕ → BTreeMap (String A) ℕ → Type 0
@@ -24,8 +25,10 @@ first_without None is_here place = None
 
 -- a name is added at this place, after the others
 abbrev pub AddsFirst : {A : Type 0} → List ℕ → ℕ → BTreeMap (String A) ℕ → BTreeMap (String A) ℕ → Type 0
-AddsFirst text place old new = (other : List ℕ) → get_by_text new other ≡ first_with (get_by_text old other) (bytes_eq other text) place
+AddsFirst text place old new =
+    (other : List ℕ) → get_by_text new other ≡ first_with (get_by_text old other) (bytes_eq other text) place
 
 -- the name at this place is removed
 abbrev pub DropsFirst : {A : Type 0} → List ℕ → ℕ → BTreeMap (String A) ℕ → BTreeMap (String A) ℕ → Type 0
-DropsFirst text place old new = (other : List ℕ) → get_by_text new other ≡ first_without (get_by_text old other) (bytes_eq other text) place
+DropsFirst text place old new =
+    (other : List ℕ) → get_by_text new other ≡ first_without (get_by_text old other) (bytes_eq other text) place

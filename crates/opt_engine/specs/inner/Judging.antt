@@ -6,28 +6,31 @@ use Rattle.twe_machine.specs.declared.state.State.{State}
 use Rattle.twe_machine.specs.declared.state.TaskStatus.TheVariants.{Made}
 use Rattle.twe_machine.specs.Legal.{Forbids}
 use Rattle.twe_machine.specs.Rows.{HasStatus}
-use Rattle.twe_limits.specs.Limits.{Bounds}
+use Rattle.twe_base.specs.Limits.{Bounds}
 use Rattle.twe_program.specs.Program.{Program}
 use Rattle.opt_engine.specs.declared.core_run.CoreRun.{CoreRun}
-use Rattle.opt_engine.specs.declared.touch.Touch.{Touch}
+use Rattle.opt_engine.specs.declared.touch.CellValue.{CellValue}
 use Rattle.opt_engine.specs.declared.drafts.Drafted.{Drafted}
 use Rattle.opt_engine.specs.declared.judging.Change.{Change}
 use Rattle.opt_engine.specs.declared.judging.Finding.{Finding}
 use Rattle.opt_engine.specs.declared.judging.Finding.TheVariants as findings
 use Rattle.opt_engine.specs.Drafts.{Fits, IsNext}
-use Rattle.opt_engine.specs.Taking.{Steps}
+use Rattle.opt_engine.specs.Taking.{TakingSteps}
 use Rattle.opt_engine.specs.Verdicts.{IsFirstChange, IsFree}
 
 -- the cell of this read has another value now
-pub record HasChanged (cells : List ℤ) (read : Touch) (change : Change) : Type 0 where
+pub record HasChanged (cells : List ℤ) (read : CellValue) (change : Change) : Type 0 where
   pub cell : change.cell ≡ read.cell
   pub was : change.read ≡ read.value
   pub is_now : slice_get cells change.cell ≡ Some change.now
   pub differs : change.now ≢ change.read
 
-abbrev pub IsChange : List ℤ → List Touch → Change → Type 0
+-- this change is that of the first of the reads whose cell has another value now
+abbrev pub IsChange : List ℤ → List CellValue → Change → Type 0
 IsChange cells reads change = IsFirstChange cells reads change.cell change.read change.now
 
+-- what is found is true of the draft: it fits and its task is free; it isn't of the segment that its task runs next; its
+-- task is held; or a cell that it has read has another value now
 abbrev pub Finds : State → Drafted → Finding → Type 0
 Finds st d findings.Fits = Fits st d × IsFree st d.task
 Finds st d findings.Passed = ¬ IsNext st d
@@ -36,4 +39,6 @@ Finds st d (findings.Changed change) = IsNext st d × IsFree st d.task × IsChan
 
 -- the admission of a task that waits for it was taken; otherwise the run is as before
 abbrev pub Admits : Program → Bounds → CoreRun → ℕ → CoreRun → Type 0
-Admits p lim old t new = (HasStatus old.state t Made × Steps p lim old (record { kind = Admit; task = t }) new) ⊎ (¬ HasStatus old.state t Made × (new ≡ old))
+Admits p lim old t new =
+    (HasStatus old.state t Made × TakingSteps p lim old (record { kind = Admit; task = t }) new)
+    ⊎ (¬ HasStatus old.state t Made × (new ≡ old))

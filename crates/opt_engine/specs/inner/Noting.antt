@@ -1,7 +1,7 @@
 -- Notes of accesses, and cells that keep them.
 use Rattle.std.specs.Prelude.{◌≡◌, ◌<◌, ℕ, ℤ, List, [], ◌∷◌, ◌++◌, length, replicate, Option, None, Some, slice_get, slice_set}
 use Rattle.seg_exec.specs.Access.{Access, Reads, Writes, Prints, value_in}
-use Rattle.opt_engine.specs.declared.touch.Touch.{Touch}
+use Rattle.opt_engine.specs.declared.touch.CellValue.{CellValue}
 use Rattle.opt_engine.specs.declared.notes.Mark.{Mark}
 use Rattle.opt_engine.specs.declared.notes.Mark.TheVariants as marks
 use Rattle.opt_engine.specs.declared.notes.Notes.{Notes}
@@ -11,11 +11,19 @@ use Rattle.opt_engine.specs.declared.touching.Touching.{Touching}
 abbrev pub no_notes : ℕ → Notes
 no_notes cells = record { marks = replicate cells marks.Untouched; reads = []; written = [] }
 
+-- the notes after the first access of a cell, which was a read of this value
 abbrev pub first_read_noted : ℕ → ℤ → Notes → Notes
-first_read_noted cell value notes = record notes { marks = slice_set notes.marks cell marks.Read; reads = notes.reads ++ record { cell = cell; value = value } ∷ [] }
+first_read_noted cell value notes = record notes {
+  marks = slice_set notes.marks cell marks.Read;
+  reads = notes.reads ++ record { cell = cell; value = value } ∷ [];
+}
 
+-- the notes after the first write of a cell
 abbrev pub first_write_noted : ℕ → Notes → Notes
-first_write_noted cell notes = record notes { marks = slice_set notes.marks cell marks.Written; written = notes.written ++ cell ∷ [] }
+first_write_noted cell notes = record notes {
+  marks = slice_set notes.marks cell marks.Written;
+  written = notes.written ++ cell ∷ [];
+}
 
 -- the notes after a read, by the mark of the cell
 abbrev pub read_by_mark : Option Mark → ℕ → ℤ → Notes → Notes
@@ -24,6 +32,7 @@ read_by_mark (Some marks.Untouched) cell value notes = first_read_noted cell val
 read_by_mark (Some marks.Read) cell value notes = notes
 read_by_mark (Some marks.Written) cell value notes = notes
 
+-- the notes after a read of a cell that gave this value
 abbrev pub read_noted : ℕ → ℤ → Notes → Notes
 read_noted cell value notes = read_by_mark (slice_get notes.marks cell) cell value notes
 
@@ -34,6 +43,7 @@ write_by_mark (Some marks.Untouched) cell notes = first_write_noted cell notes
 write_by_mark (Some marks.Read) cell notes = first_write_noted cell notes
 write_by_mark (Some marks.Written) cell notes = notes
 
+-- the notes after a write of a cell
 abbrev pub write_noted : ℕ → Notes → Notes
 write_noted cell notes = write_by_mark (slice_get notes.marks cell) cell notes
 
@@ -49,9 +59,10 @@ abbrev pub fresh : List ℤ → Touching
 fresh cells = record { cells = cells; notes = no_notes (length cells); missing = None }
 
 -- a cell with its value
-abbrev pub value_at : List ℤ → ℕ → Touch
+abbrev pub value_at : List ℤ → ℕ → CellValue
 value_at cells cell = record { cell = cell; value = value_in (slice_get cells cell) }
 
+-- the value of each of the cells is known
 abbrev pub touch_knows : Touching → ℕ → Option ℤ
 touch_knows touching cell = slice_get touching.cells cell
 
@@ -67,5 +78,6 @@ TouchFollows old (Reads cell value) new =
     (new.cells ≡ old.cells) × (value_in (slice_get old.cells cell) ≡ value)
     × (new.missing ≡ None → (old.missing ≡ None) × (new.notes ≡ read_noted cell value old.notes))
 TouchFollows old (Writes cell value) new =
-    (new.cells ≡ slice_set old.cells cell value) × (new.missing ≡ None → (old.missing ≡ None) × (new.notes ≡ write_noted cell old.notes))
+    (new.cells ≡ slice_set old.cells cell value)
+    × (new.missing ≡ None → (old.missing ≡ None) × (new.notes ≡ write_noted cell old.notes))
 TouchFollows old (Prints value) new = new ≡ old

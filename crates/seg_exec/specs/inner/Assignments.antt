@@ -1,7 +1,7 @@
 -- Assignments that are carried out at once, whatever else is to be done.
 use Rattle.std.specs.Prelude.{◌≡◌, ℕ, ℤ, List, ◌∷◌, Option, None, Some}
-use Rattle.twe_io.specs.declared.place.Place.{Place}
-use Rattle.twe_limits.specs.declared.fault.FaultKind.TheVariants.{Index}
+use Rattle.twe_base.specs.declared.place.Place.{Place}
+use Rattle.twe_base.specs.declared.fault.FaultKind.TheVariants.{Index}
 use Rattle.twe_program.specs.Program.{Program}
 use Rattle.twe_program.specs.Expression.{Expression}
 use Rattle.twe_program.specs.Statement.{Statement}
@@ -11,21 +11,25 @@ use Rattle.seg_exec.specs.Access.{HasWritten, Ways}
 use Rattle.seg_exec.specs.inner.Continuations.{Continuation, Evaluate, Execute, GiveVar, GiveCell, GiveElement}
 use Rattle.seg_exec.specs.inner.Strides.{Ends, Goes, MayGo, fault_ending, stand}
 
--- frames on top of the others: a statement, or the parts of an assignment
+-- on top of the other frames: a statement is to be executed
 abbrev pub executing : Statement → List Continuation → List Continuation
 executing s work = Execute s ∷ work
 
+-- on top of the other frames: the value of an expression is to be given to a variable
 abbrev pub to_variable : Expression → ℕ → List Continuation → List Continuation
 to_variable value var work = Evaluate value ∷ (GiveVar var ∷ work)
 
+-- on top of the other frames: the value of an expression is to be given to a cell
 abbrev pub to_cell : Expression → ℕ → List Continuation → List Continuation
 to_cell value cell work = Evaluate value ∷ (GiveCell cell ∷ work)
 
+-- on top of the other frames: the value of an expression is to be given to the element at an index
 abbrev pub to_element : Expression → Expression → ℕ → Place → List Continuation → List Continuation
 to_element index value array place work = Evaluate index ∷ (Evaluate value ∷ (GiveElement array place ∷ work))
 
 -- a run that the implementation allows came to these frames
-pub record MayDo {C : Type 0} (p : Program) (ways : Ways C) (tasks : List Continuation → List Continuation) (vars : List ℤ) (cells : C) : Type 0 where
+pub record MayDo {C : Type 0} (p : Program) (ways : Ways C)
+    (tasks : List Continuation → List Continuation) (vars : List ℤ) (cells : C) : Type 0 where
   pub work : List Continuation
   pub operands : List ℤ
   pub fuel : ℕ
@@ -34,13 +38,15 @@ pub record MayDo {C : Type 0} (p : Program) (ways : Ways C) (tasks : List Contin
   pub may : MayGo p ways (stand (tasks work) operands vars fuel calls cells prints)
 
 -- these frames are done, or they meet a fault, whatever else is to be done; or they are left, and nothing has changed
-abbrev pub Does : {C : Type 0} → Program → Ways C → (List Continuation → List Continuation) → List ℤ → C → Carried → List ℤ → C → Type 0
+abbrev pub Does : {C : Type 0} → Program → Ways C
+    → (List Continuation → List Continuation) → List ℤ → C → Carried → List ℤ → C → Type 0
 Does p ways tasks vars old Done vars' new =
     (work : List Continuation) (operands : List ℤ) (fuel calls : ℕ) (prints : List ℤ)
     → Goes p ways (stand (tasks work) operands vars fuel calls old prints) (stand work operands vars' fuel calls new prints)
 Does p ways tasks vars old (Faulted fault) vars' new =
     (work : List Continuation) (operands : List ℤ) (fuel calls : ℕ) (prints : List ℤ)
-    → Ends p ways (stand (tasks work) operands vars fuel calls old prints) (fault_ending fault) (stand work operands vars' fuel calls new prints)
+    → Ends p ways (stand (tasks work) operands vars fuel calls old prints) (fault_ending fault)
+    (stand work operands vars' fuel calls new prints)
 Does p ways tasks vars old Left vars' new = (vars' ≡ vars) × (new ≡ old)
 
 -- the implementation allows the write of an element, if there is such an element

@@ -1,6 +1,6 @@
 -- Continuation frames, and the state of the evaluator.
 use Rattle.std.specs.Prelude.{ℕ, ℤ, pos, List, ◌∷◌, slice_get}
-use Rattle.twe_io.specs.declared.place.Place.{Place}
+use Rattle.twe_base.specs.declared.place.Place.{Place}
 use Rattle.twe_ast.specs.declared.expr.BinOp.{BinOp}
 use Rattle.twe_program.specs.Expression.{Expression, Arguments}
 use Rattle.twe_program.specs.Statement.{Statement, Statements, Arms}
@@ -8,8 +8,8 @@ use Rattle.seg_exec.specs.declared.frame.Position.{Position}
 use Rattle.seg_exec.specs.declared.operation.Operation.{Operation}
 use Rattle.seg_exec.specs.declared.continuation.Goal.{Goal}
 use Rattle.seg_exec.specs.Access.{value_in}
-use Rattle.twe_io.specs.Stacks as stacks
-use Rattle.twe_io.specs.Stacks.{below}
+use Rattle.twe_base.specs.Stacks as stacks
+use Rattle.twe_base.specs.Stacks.{below}
 
 -- a continuation frame: one thing that is still to be done
 pub data Continuation : Type 0 where
@@ -60,13 +60,15 @@ pub record Config : Type 0 where
 abbrev pub top : List ℤ → ℤ
 top values = stacks.top values (pos 0)
 
--- a continuation frame pushed, an operand pushed, an operand popped
+-- one thing more is to be done, before the others
 abbrev pub to_do : Continuation → Config → Config
 to_do task c = record c { work = task ∷ c.work }
 
+-- a value is pushed onto the operand stack
 abbrev pub with_operand : ℤ → Config → Config
 with_operand value c = record c { operands = value ∷ c.operands }
 
+-- the latest value is popped from the operand stack
 abbrev pub without_operand : Config → Config
 without_operand c = record c { operands = below c.operands }
 

@@ -5,5 +5,6 @@ use Rattle.seg_exec.specs.declared.operation.Operation.{Operation}
 use Rattle.seg_exec.specs.declared.request.Ending.{Ending}
 use Rattle.seg_exec.specs.declared.request.Ending.TheVariants.{Suspended}
 
+-- the run is suspended at this operation; the positions of the open blocks say what remains of the body
 abbrev pub suspended_at : Operation → List Position → Ending
 suspended_at operation positions = Suspended (record { operation = operation; positions = positions })

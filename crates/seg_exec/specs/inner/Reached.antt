@@ -34,6 +34,7 @@ MayRequest ways cells (Write cell value) = ways.may_write cells cell
 MayRequest ways cells (Print value) = Unit {0}
 MayRequest ways cells (End ending) = Unit {0}
 
+-- the implementation allows what the next step requests
 abbrev pub MayStep : {C : Type 0} → Program → Ways C → Standing C → Type 0
 MayStep p ways s = MayRequest ways s.cells (step_of p s.config).0
 
@@ -41,7 +42,8 @@ MayStep p ways s = MayRequest ways s.cells (step_of p s.config).0
 abbrev pub Served : {C : Type 0} → Ways C → Request → Standing C → Option Ending → Standing C → Type 0
 Served ways Nothing old ending new = (ending ≡ None) × (new ≡ old)
 Served ways (Read cell) old ending new =
-    (value : ℤ) × (ending ≡ None) × (new.config ≡ with_operand value old.config) × HasRead ways old.cells cell value new.cells × (new.prints ≡ old.prints)
+    (value : ℤ) × (ending ≡ None) × (new.config ≡ with_operand value old.config)
+    × HasRead ways old.cells cell value new.cells × (new.prints ≡ old.prints)
 Served ways (Write cell value) old ending new =
     (ending ≡ None) × (new.config ≡ old.config) × HasWritten ways old.cells cell value new.cells × (new.prints ≡ old.prints)
 Served ways (Print value) old ending new = (ending ≡ None) × (new ≡ record old { prints = old.prints ++ value ∷ [] })
@@ -49,7 +51,8 @@ Served ways (End last) old ending new = (ending ≡ Some last) × (new ≡ old)
 
 -- one step
 abbrev pub Advances : {C : Type 0} → Program → Ways C → Standing C → Option Ending → Standing C → Type 0
-Advances p ways old ending new = Served ways (step_of p old.config).0 (record old { config = (step_of p old.config).1 }) ending new
+Advances p ways old ending new =
+    Served ways (step_of p old.config).0 (record old { config = (step_of p old.config).1 }) ending new
 
 -- whether a cell was read or written
 abbrev pub is_accessed : ℕ → List Access → Bool
@@ -76,12 +79,16 @@ pub record Reaches {C : Type 0} (p : Program) (ways : Ways C) (old new : Standin
   pub comes : (cells : List ℤ) → Agrees cells accesses → Comes p (over old.config cells []) (over new.config cells accesses)
 
 -- over each list of cells the evaluator ends, and the implementation allows all its accesses
-abbrev pub MayRun : {C : Type 0} → Program → Ways C → Standing C → Type 0
-MayRun p ways s = (cells : List ℤ) → (n : ℕ) × (ending : Ending) × (end : Store) × (run p n (over s.config cells []) ≡ Over ending end) × MayAll ways s.cells end.accesses
+abbrev pub MayGoOn : {C : Type 0} → Program → Ways C → Standing C → Type 0
+MayGoOn p ways s =
+    (cells : List ℤ) → (n : ℕ) × (ending : Ending) × (end : Store)
+    × (run p n (over s.config cells []) ≡ Over ending end) × MayAll ways s.cells end.accesses
 
 -- all steps, up to the end
-pub record Finishes {C : Type 0} (p : Program) (ways : Ways C) (old : Standing C) (ending : Ending) (new : Standing C) : Type 0 where
+pub record Finishes {C : Type 0} (p : Program) (ways : Ways C)
+    (old : Standing C) (ending : Ending) (new : Standing C) : Type 0 where
   pub accesses : List Access
   pub follows : Follows ways.rule old.cells accesses new.cells
   pub prints : new.prints ≡ old.prints ++ printed accesses
-  pub ends : (cells : List ℤ) → Agrees cells accesses → (n : ℕ) × (run p n (over old.config cells []) ≡ Over ending (store_of (over new.config cells accesses)))
+  pub ends : (cells : List ℤ) → Agrees cells accesses
+      → (n : ℕ) × (run p n (over old.config cells []) ≡ Over ending (store_of (over new.config cells accesses)))

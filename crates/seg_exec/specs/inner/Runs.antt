@@ -20,6 +20,7 @@ pub data Outcome : Type 0 where
   Over : (ending : Ending) (store : Store) → Outcome
   Unfinished : Outcome
 
+-- the store at a moment: the continuation and the operands are left out
 abbrev pub store_of : Moment → Store
 store_of m = record { cells = m.cells; vars = m.config.vars; fuel = m.config.fuel; calls = m.config.calls; accesses = m.accesses }
 
@@ -37,10 +38,12 @@ served next Nothing m = next m
 served next (Read cell) m =
     let value = value_in (slice_get m.cells cell) in
     next (record m { config = with_operand value m.config; accesses = Reads cell value ∷ m.accesses })
-served next (Write cell value) m = next (record m { cells = slice_set m.cells cell value; accesses = Writes cell value ∷ m.accesses })
+served next (Write cell value) m =
+    next (record m { cells = slice_set m.cells cell value; accesses = Writes cell value ∷ m.accesses })
 served next (Print value) m = next (record m { accesses = Prints value ∷ m.accesses })
 served next (End ending) m = Over ending (store_of m)
 
+-- the request of a step is served, and the run continues with `next` from the step's configuration
 abbrev pub stepped : (Moment → Outcome) → Step → Moment → Outcome
 stepped next step m = served next step.0 (record m { config = step.1 })
 

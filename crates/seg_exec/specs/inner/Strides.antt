@@ -1,7 +1,7 @@
 -- Several steps of the evaluator at once, over any implementation of cells.
 use Rattle.std.specs.Prelude.{◌≡◌, ◌<◌, ◌≤◌, ℕ, ℤ, List, ◌∷◌, Option, None, Some, Result, Ok, Err}
-use Rattle.twe_io.specs.declared.place.Place.{Place}
-use Rattle.twe_limits.specs.declared.fault.FaultKind.TheVariants.{DivZero, Index}
+use Rattle.twe_base.specs.declared.place.Place.{Place}
+use Rattle.twe_base.specs.declared.fault.FaultKind.TheVariants.{DivZero, Index}
 use Rattle.twe_program.specs.Program.{Program}
 use Rattle.twe_program.specs.Expression.{Expression}
 use Rattle.seg_exec.specs.declared.request.Ending.{Ending}
@@ -9,7 +9,7 @@ use Rattle.seg_exec.specs.declared.request.Ending.TheVariants.{Faulted}
 use Rattle.seg_exec.specs.declared.value.Fault.{Fault}
 use Rattle.seg_exec.specs.Access.{HasRead, Ways}
 use Rattle.seg_exec.specs.inner.Continuations.{Continuation, Evaluate, to_do}
-use Rattle.seg_exec.specs.inner.Reached.{Finishes, MayRun, Reaches, Standing}
+use Rattle.seg_exec.specs.inner.Reached.{Finishes, MayGoOn, Reaches, Standing}
 use Rattle.seg_exec.specs.inner.Sizes.{size_of_work}
 
 -- some steps: whatever run led to the first standing leads to the second. They take fuel or leave less work.
@@ -36,7 +36,7 @@ Carries p ways old (Some ending) new = Ends p ways old ending new
 -- a run that the implementation allows came here
 pub record MayGo {C : Type 0} (p : Program) (ways : Ways C) (now : Standing C) : Type 0 where
   pub start : Standing C
-  pub may : MayRun p ways start
+  pub may : MayGoOn p ways start
   pub came : Reaches p ways start now
 
 -- with one thing more to be done
@@ -56,9 +56,12 @@ abbrev pub fault_ending : Fault → Ending
 fault_ending fault = Faulted fault.kind fault.place
 
 -- a value comes onto the operand stack, or a fault is met
-abbrev pub Gives : {C : Type 0} → Program → Ways C → Standing C → List Continuation → List ℤ → List ℤ → ℕ → ℕ → List ℤ → Result ℤ Fault → C → Type 0
-Gives p ways old work operands vars fuel calls prints (Ok value) new = Goes p ways old (stand work (value ∷ operands) vars fuel calls new prints)
-Gives p ways old work operands vars fuel calls prints (Err fault) new = Ends p ways old (fault_ending fault) (stand work operands vars fuel calls new prints)
+abbrev pub Gives : {C : Type 0} → Program → Ways C → Standing C
+    → List Continuation → List ℤ → List ℤ → ℕ → ℕ → List ℤ → Result ℤ Fault → C → Type 0
+Gives p ways old work operands vars fuel calls prints (Ok value) new =
+    Goes p ways old (stand work (value ∷ operands) vars fuel calls new prints)
+Gives p ways old work operands vars fuel calls prints (Err fault) new =
+    Ends p ways old (fault_ending fault) (stand work operands vars fuel calls new prints)
 
 -- an expression has a value or meets a fault, whatever else is to be done
 abbrev pub EvaluatesTo : {C : Type 0} → Program → Ways C → Expression → List ℤ → C → Result ℤ Fault → C → Type 0

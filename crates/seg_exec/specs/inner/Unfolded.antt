@@ -19,19 +19,22 @@ abbrev pub unfolded : Statements → List Position → List Continuation → Lis
 unfolded stmts [] work = work
 unfolded stmts (position ∷ inner) work =
     let stmt = last_of_first position.after stmts in
-    unfolded (block_of (block_at inner) stmt) inner (again_of inner stmt (Rest position.block position.after (after_first position.after stmts) ∷ work))
+    unfolded (block_of (block_at inner) stmt) inner
+    (again_of inner stmt (Rest position.block position.after (after_first position.after stmts) ∷ work))
 
 -- the same in a configuration
 abbrev pub again_in : List Position → Option Statement → Config → Config
 again_in inner stmt c = record c { work = again_of inner stmt c.work }
 
+-- the frames for the open blocks of these statements are pushed onto the continuation
 abbrev pub with_unfolded : Statements → List Position → Config → Config
 with_unfolded stmts positions c = record c { work = unfolded stmts positions c.work }
 
 -- the evaluator at what remains of an open body of a frame
 abbrev pub body_config : Program → Frame → OpenBody → Config
 body_config p frame body =
-    with_unfolded (body_of (slice_get p.tasks frame.decl)) body.open_blocks (record { work = []; operands = []; vars = body.vars; fuel = frame.fuel; calls = 0 })
+    with_unfolded (body_of (slice_get p.tasks frame.decl)) body.open_blocks
+    (record { work = []; operands = []; vars = body.vars; fuel = frame.fuel; calls = 0 })
 
 -- the evaluator at what remains of a frame, if the frame is not at its end
 abbrev pub config_at : Program → Frame → Option OpenBody → Option Config

@@ -10,6 +10,7 @@ use Rattle.seg_exec.specs.declared.continuation.ValueUse.TheVariants as uses
 use Rattle.seg_exec.specs.declared.machine.Machine.{Machine}
 use Rattle.seg_exec.specs.inner.Continuations.{Continuation, Evaluate, Execute, Rest, Choose, Chosen, Turn, Gather, Take, Negate, Invert, Right, Apply, ReadElement, ReadGridElement, GiveVar, GiveCell, GiveElement, GiveGridElement, PrintValue, Discard, Unwind, Suspend, Leave, Config}
 
+-- the continuation frame that uses a value
 abbrev pub use_of : ValueUse → Continuation
 use_of (uses.Chosen block next body arms last) = Chosen block next body.now (arms_of (drop next arms.now) last.now)
 use_of (uses.Turn again body place) = Turn again.now body.now place
@@ -27,6 +28,7 @@ use_of (uses.PrintValue place) = PrintValue place
 use_of uses.Discard = Discard
 use_of uses.Unwind = Unwind
 
+-- the continuation frame that a frame of the evaluator stands for
 abbrev pub continuation_of : Held → Continuation
 continuation_of (held.Evaluate e) = Evaluate e.now
 continuation_of (held.Execute s) = Execute s.now
@@ -38,9 +40,11 @@ continuation_of (held.Take g) = Take g.value.taken (arguments_of g.value.args.no
 continuation_of (held.Suspend s) = Suspend s.operation s.positions
 continuation_of (held.Leave vars) = Leave vars
 
+-- the same for all frames
 abbrev pub continuations_of : List Held → List Continuation
 continuations_of [] = []
 continuations_of (work ∷ others) = continuation_of work ∷ continuations_of others
 
+-- the state of a machine as a configuration
 abbrev pub config_of : Machine → Config
 config_of m = record { work = continuations_of m.work; operands = m.operands; vars = m.vars; fuel = m.fuel; calls = m.calls }

@@ -9,14 +9,15 @@ use Rattle.region_paths.specs.Concrete.{ConcreteElem, ConcretePath, region, numb
 use Rattle.twe_program.specs.declared.program.CellDecl.{CellDecl}
 use Rattle.twe_program.specs.declared.program.Dims.{Dims}
 use Rattle.twe_program.specs.Program.{Program, cell_count}
-use Rattle.soundness_laws.specs.CellPaths.{concrete, indexes_at, path_of_cell}
+use Rattle.isolation_laws.specs.soundness.CellPaths.{concrete, indexes_at, path_of_cell}
 use Rattle.span_profile.specs.declared.places.Places.{Places}
 
--- the parts of a concrete path
+-- the part that stands for an element of a concrete path
 abbrev pub part_of : ConcreteElem → Part
 part_of (region n) = Name n
 part_of (number z) = Index z
 
+-- the parts of a concrete path
 abbrev pub parts_of : ConcretePath → List Part
 parts_of path = map part_of path
 
@@ -34,10 +35,11 @@ pub record KeepsNumbers (old new : List (List Part)) : Type 0 where
 abbrev pub parts_at : Dims → ℕ → List Part
 parts_at dims place = parts_of (indexes_at dims place)
 
--- the paths of the first cells of a declaration
+-- the parts of the path in which a declaration of cells lies
 abbrev pub decl_parts : CellDecl → List Part
 decl_parts decl = map (λ (e : Elem). part_of (concrete e)) decl.path.elems
 
+-- the paths of the first cells of a declaration, of which there are so many
 abbrev pub decl_paths : CellDecl → ℕ → List (List Part)
 decl_paths decl zero = []
 decl_paths decl (suc n) = decl_paths decl n ++ (decl_parts decl ++ parts_at decl.dims n) ∷ []
@@ -48,13 +50,15 @@ Numbered nodes numbers paths = AllZip (IsNumber nodes) numbers paths
 
 -- the numbers are more by those of these paths
 abbrev pub AreNumbered : List (List Part) → List ℕ → List (List Part) → List ℕ → List (List Part) → Type 0
-AreNumbered old_nodes old nodes new paths = (before : List (List Part)) → Numbered old_nodes old before → Numbered nodes new (before ++ paths)
+AreNumbered old_nodes old nodes new paths =
+    (before : List (List Part)) → Numbered old_nodes old before → Numbered nodes new (before ++ paths)
 
--- the number of a cell, and 0 if there is no such cell
+-- a number that was looked up, and 0 if none was found
 abbrev pub number_found : Option ℕ → ℕ
 number_found None = 0
 number_found (Some n) = n
 
+-- the number of a cell's path, and 0 if there is no such cell
 abbrev pub place_of : Places → ℕ → ℕ
 place_of places cell = number_found (slice_get places.cells cell)
 

@@ -7,15 +7,19 @@ pub record NumberSet : Type 0 where
   pub size : ℕ
   pub items : List ℕ
 
+-- the empty set of numbers below this size
 abbrev pub no_cells : ℕ → NumberSet
 no_cells size = record { size = size; items = [] }
 
+-- whether the number is one of these
 abbrev pub is_in : List ℕ → ℕ → Bool
 is_in items n = list_any (λ item. item == n) items
 
+-- the set with this number
 abbrev pub with_cell : ℕ → NumberSet → NumberSet
 with_cell n set = if is_in set.items n then set else record set { items = set.items ++ n ∷ [] }
 
+-- an entry of a table, and false beyond the table's end
 abbrev pub has_found : Option Bool → Bool
 has_found None = false
 has_found (Some has) = has

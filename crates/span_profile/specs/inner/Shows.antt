@@ -1,10 +1,10 @@
 -- When a node of the heaviest chain shows what an entry did.
 use Rattle.std.specs.Prelude.{◌≡◌, ◌↔◌, ◌⊎◌, ℕ, Bool, true, false, List, Some, IsTrue}
 use Rattle.std.specs.List.{Contains}
-use Rattle.effect_sets.specs.Access.{Access as PathAccess}
-use Rattle.heaviest_chain.specs.Nodes.{Node}
-use Rattle.heaviest_chain.specs.declared.key.Key.{Key}
-use Rattle.heaviest_chain.specs.declared.key.Key.TheVariants.{Task, Value, Write, Access}
+use Rattle.effect_sets.specs.Access.{PathAccess as PathAccess}
+use Rattle.span_profile.specs.heaviest_chain.Nodes.{Node}
+use Rattle.span_profile.specs.declared.heaviest_chain.key.Key.{Key}
+use Rattle.span_profile.specs.declared.heaviest_chain.key.Key.TheVariants.{Task, Value, Write, Access}
 use Rattle.prefix_tree.specs.declared.part.Part.{Part}
 use Rattle.span_profile.specs.Strands.{Strand}
 use Rattle.span_profile.specs.inner.Numbering.{IsNumber, parts_of}

@@ -2,12 +2,12 @@
 use Rattle.std.specs.Prelude.{◌≡◌, Bool, List}
 use Rattle.std.specs.List.{AllZip, list_any}
 use Rattle.seg_journal.specs.declared.journal.Entry.{Entry}
-use Rattle.twe_limits.specs.Limits.{Bounds}
+use Rattle.twe_base.specs.Limits.{Bounds}
 use Rattle.twe_program.specs.Program.{Program, cell_count}
 use Rattle.twe_machine.specs.Listings.{IsListing}
 use Rattle.twe_machine.specs.Runs.{IsRun, counted, is_fault}
-use Rattle.heaviest_chain.specs.Built.{Holds}
-use Rattle.heaviest_chain.specs.Nodes.{Node}
+use Rattle.span_profile.specs.heaviest_chain.Built.{FrontHolds}
+use Rattle.span_profile.specs.heaviest_chain.Nodes.{Node}
 use Rattle.span_profile.specs.declared.profiling.Tracked.{Tracked}
 use Rattle.span_profile.specs.Strands.{strands}
 use Rattle.span_profile.specs.inner.Numbering.{ArePlaces}
@@ -28,5 +28,5 @@ pub record IsTracked (p : Program) (lim : Bounds) (run : Tracked) : Type 0 where
   pub reads : run.watched.reads ≡ no_cells (cell_count p)
   pub writes : run.watched.writes ≡ no_cells (cell_count p)
   pub nodes : List Node
-  pub holds : Holds nodes run.chains
+  pub holds : FrontHolds nodes run.chains
   pub shows : AllZip (Shows places.nodes) nodes (strands p lim (counted run.journal))

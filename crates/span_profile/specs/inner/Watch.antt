@@ -4,6 +4,7 @@ use Rattle.seg_exec.specs.Access.{Access, Reads, Writes, Prints, value_in}
 use Rattle.span_profile.specs.declared.watched.Watched.{Watched}
 use Rattle.span_profile.specs.inner.Sets.{NumberSet, with_cell}
 
+-- the value of the cell, if there is one
 abbrev pub watch_knows : Watched → ℕ → Option ℤ
 watch_knows w cell = slice_get w.values cell
 
@@ -15,17 +16,20 @@ pub record MayTouch (w : Watched) (cell : ℕ) : Type 0 where
 
 -- a read adds the cell to those that were read, a write gives it its value and adds it to those that were written
 abbrev pub WatchFollows : Watched → Access → Watched → Type 0
-WatchFollows old (Reads cell value) new = (new ≡ record old { reads = with_cell cell old.reads }) × (value_in (slice_get old.values cell) ≡ value)
-WatchFollows old (Writes cell value) new = new ≡ record old { values = slice_set old.values cell value; writes = with_cell cell old.writes }
+WatchFollows old (Reads cell value) new =
+    (new ≡ record old { reads = with_cell cell old.reads }) × (value_in (slice_get old.values cell) ≡ value)
+WatchFollows old (Writes cell value) new =
+    new ≡ record old { values = slice_set old.values cell value; writes = with_cell cell old.writes }
 WatchFollows old (Prints value) new = new ≡ old
 
--- the sets after accesses, of which the latest is the first
+-- the set, with what these accesses read; the latest access is the first
 abbrev pub read_by : List Access → NumberSet → NumberSet
 read_by [] set = set
 read_by (Reads cell value ∷ earlier) set = with_cell cell (read_by earlier set)
 read_by (Writes cell value ∷ earlier) set = read_by earlier set
 read_by (Prints value ∷ earlier) set = read_by earlier set
 
+-- the set, with what these accesses wrote
 abbrev pub written_by : List Access → NumberSet → NumberSet
 written_by [] set = set
 written_by (Reads cell value ∷ earlier) set = written_by earlier set

@@ -1,14 +1,14 @@
 -- Between an entry that makes a task and the turn of that task.
 use Rattle.std.specs.Prelude.{◌≡◌, ◌≢◌, ◌<◌, ℕ, Option, None, Some, option_map}
 use Rattle.std.specs.Option.{ForSome}
-use Rattle.twe_limits.specs.Limits.{Bounds}
+use Rattle.twe_base.specs.Limits.{Bounds}
 use Rattle.twe_machine.specs.declared.state.TaskRow.{TaskRow}
 use Rattle.floor_rule.specs.declared.view.TaskSlot.{TaskSlot}
 use Rattle.floor_rule.specs.Rows.{slot_of}
-use Rattle.floor_steps.specs.inner.Bringing.{IsNew}
-use Rattle.admission_core.specs.States.{IsAmong, Record}
-use Rattle.tree_table.specs.FloorSeats.{HasTaskSlots}
-use Rattle.tree_table.specs.Seats.{TreeSeat}
+use Rattle.task_floor.specs.steps.inner.Bringing.{IsNew}
+use Rattle.admission_laws.specs.admission_core.States.{IsAmong, Record}
+use Rattle.floor_table.specs.nodes.FloorSeats.{HasTaskSlots}
+use Rattle.floor_table.specs.nodes.Seats.{TreeSeat}
 use Rattle.task_floor.specs.Committing.{with_first}
 
 -- the seat after an entry, with the first turn of the task that it made, if it made one
@@ -17,7 +17,8 @@ tree_seat_with drawn child None = drawn
 tree_seat_with drawn child (Some row) = with_first drawn child row
 
 -- The seat may keep or give the first turn of the task that an entry made, if it made one: this is what its slot will hold.
-pub record MayBringBeside (lim : Bounds) (me : TreeSeat) (child : ℕ) (slot : Option TaskSlot) (drawn : TreeSeat) (row : Option TaskRow) : Type 0 where
+pub record MayBringBeside (lim : Bounds) (me : TreeSeat) (child : ℕ) (slot : Option TaskSlot) (drawn : TreeSeat)
+    (row : Option TaskRow) : Type 0 where
   pub is : me ≡ tree_seat_with drawn child row
   pub slots : HasTaskSlots lim.tasks drawn.1
   pub closed : drawn.0.floor.segment ≡ None

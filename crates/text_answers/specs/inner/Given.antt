@@ -1,6 +1,6 @@
 -- The answers to an accepted program and to a run, apart from how they came about.
 use Rattle.std.specs.Prelude.{◌≡◌, ℕ, Bool, List}
-use Rattle.twe_limits.specs.Limits.{Bounds}
+use Rattle.twe_base.specs.Limits.{Bounds}
 use Rattle.twe_program.specs.Program.{Program}
 use Rattle.twe_frontend.specs.Accepted.{Accepted}
 use Rattle.twe_machine.specs.declared.ending.Outcome.{Outcome}

@@ -2,62 +2,17 @@
 use Rattle.std.specs.Prelude.{◌≡◌, ℕ, zero, suc, pos, refl}
 use Rattle.std.proofs.Common.{ap}
 use Rattle.std.specs.Coded.{Coded}
-use Rattle.twe_io.specs.inner.Codec.{Codec, coded_of, codec_ℤ, codec_bool, codec_place, number_in, first_in, second_in}
-use Rattle.twe_ast.specs.declared.expr.BinOp.{BinOp}
-use Rattle.twe_ast.specs.declared.expr.BinOp.TheVariants.{Or, And, Equal, NotEqual, Less, LessEqual, Greater, GreaterEqual, Add, Sub, Mul, Div, Rem}
+use Rattle.twe_base.specs.inner.Codec.{Codec, coded_of, codec_ℤ, codec_bool, codec_place, number_in, first_in, second_in}
 use Rattle.twe_ast.specs.Expression.{Expression, expression, Shape, Literal, Truth, Variable, ArrayElement, GridElement, CallValue, Negative, Negation, Binary, Arguments, no_more, argument}
 use Rattle.twe_ast.specs.inner.NameCode.{codec_name}
+use Rattle.twe_ast.specs.inner.OperatorCode.{number_of, operator, operator_again}
 use base.Stored.{Gv, gnil, gnum, gcons}
-
-abbrev number_of : BinOp → ℕ
-number_of Or = 0
-number_of And = 1
-number_of Equal = 2
-number_of NotEqual = 3
-number_of Less = 4
-number_of LessEqual = 5
-number_of Greater = 6
-number_of GreaterEqual = 7
-number_of Add = 8
-number_of Sub = 9
-number_of Mul = 10
-number_of Div = 11
-number_of Rem = 12
-
-abbrev operator : ℕ → BinOp
-operator zero = Or
-operator (suc zero) = And
-operator (suc (suc zero)) = Equal
-operator (suc (suc (suc zero))) = NotEqual
-operator (suc (suc (suc (suc zero)))) = Less
-operator (suc (suc (suc (suc (suc zero))))) = LessEqual
-operator (suc (suc (suc (suc (suc (suc zero)))))) = Greater
-operator (suc (suc (suc (suc (suc (suc (suc zero))))))) = GreaterEqual
-operator (suc (suc (suc (suc (suc (suc (suc (suc zero)))))))) = Add
-operator (suc (suc (suc (suc (suc (suc (suc (suc (suc zero))))))))) = Sub
-operator (suc (suc (suc (suc (suc (suc (suc (suc (suc (suc zero)))))))))) = Mul
-operator (suc (suc (suc (suc (suc (suc (suc (suc (suc (suc (suc zero))))))))))) = Div
-operator (suc (suc (suc (suc (suc (suc (suc (suc (suc (suc (suc (suc n)))))))))))) = Rem
-
-pub operator_again : (op : BinOp) → operator (number_of op) ≡ op
-operator_again Or = refl
-operator_again And = refl
-operator_again Equal = refl
-operator_again NotEqual = refl
-operator_again Less = refl
-operator_again LessEqual = refl
-operator_again Greater = refl
-operator_again GreaterEqual = refl
-operator_again Add = refl
-operator_again Sub = refl
-operator_again Mul = refl
-operator_again Div = refl
-operator_again Rem = refl
 
 -- a tag, the plain parts, and two parts that are expressions
 abbrev node : ℕ → Gv → Gv → Gv → Gv
 node tag plain a b = gcons (gnum tag) (gcons plain (gcons a b))
 
+-- what is stored for an expression, for its shape and for arguments
 abbrev mutual
   encode : Expression → Gv
   encode (expression place shape) = gcons (codec_place.encode place) (encode_shape shape)
@@ -71,7 +26,8 @@ abbrev mutual
   encode_shape (CallValue method args) = node 5 (codec_name.encode method) (encode_all args) gnil
   encode_shape (Negative operand) = node 6 gnil (encode operand) gnil
   encode_shape (Negation operand) = node 7 gnil (encode operand) gnil
-  encode_shape (Binary op left right place) = node 8 (gcons (gnum (number_of op)) (codec_place.encode place)) (encode left) (encode right)
+  encode_shape (Binary op left right place) =
+      node 8 (gcons (gnum (number_of op)) (codec_place.encode place)) (encode left) (encode right)
 
   encode_all : Arguments → Gv
   encode_all no_more = gnil
@@ -87,8 +43,10 @@ made_of (suc (suc (suc (suc zero)))) plain a b args = GridElement (codec_name.de
 made_of (suc (suc (suc (suc (suc zero))))) plain a b args = CallValue (codec_name.decode plain) args
 made_of (suc (suc (suc (suc (suc (suc zero)))))) plain a b args = Negative a
 made_of (suc (suc (suc (suc (suc (suc (suc zero))))))) plain a b args = Negation a
-made_of (suc (suc (suc (suc (suc (suc (suc (suc n)))))))) plain a b args = Binary (operator (number_in (first_in plain))) a b (codec_place.decode (second_in plain))
+made_of (suc (suc (suc (suc (suc (suc (suc (suc n)))))))) plain a b args =
+    Binary (operator (number_in (first_in plain))) a b (codec_place.decode (second_in plain))
 
+-- the expression, the shape and the arguments that are read back from what is stored
 abbrev mutual
   decode : Gv → Expression
   decode gnil = expression (codec_place.decode gnil) (Literal (pos 0))
@@ -104,6 +62,7 @@ abbrev mutual
   decode_all (gnum n) = no_more
   decode_all (gcons first others) = argument (decode first) (decode_all others)
 
+-- decoding gives back what was encoded
 mutual
   pub again : (e : Expression) → decode (encode e) ≡ e
   again (expression place shape) = λ i. expression place (shape_again shape i)
@@ -123,14 +82,18 @@ mutual
   all_again no_more = refl
   all_again (argument first others) = λ i. argument (again first i) (all_again others i)
 
+-- how an expression is stored and read back
 abbrev pub codec_expression : Codec Expression
 codec_expression = record { encode = encode; decode = decode; again = again }
 
+-- how arguments are stored and read back
 abbrev pub codec_arguments : Codec Arguments
 codec_arguments = record { encode = encode_all; decode = decode_all; again = all_again }
 
+-- different expressions are stored differently
 abbrev pub expression_code : Coded Expression
 expression_code = coded_of codec_expression
 
+-- different lists of arguments are stored differently
 abbrev pub arguments_code : Coded Arguments
 arguments_code = coded_of codec_arguments

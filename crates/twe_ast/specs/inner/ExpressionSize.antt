@@ -2,6 +2,7 @@
 use Rattle.std.specs.Prelude.{ℕ, ◌+◌, max}
 use Rattle.twe_ast.specs.Expression.{Expression, expression, Shape, Literal, Truth, Variable, ArrayElement, GridElement, CallValue, Negative, Negation, Binary, Arguments, no_more, argument}
 
+-- one more than the depth of the deepest part, and 0 without parts; a list of arguments is a part
 abbrev mutual
   pub depth : Expression → ℕ
   depth (expression place shape) = depth_of_shape shape

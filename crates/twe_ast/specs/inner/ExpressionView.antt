@@ -4,10 +4,12 @@ use Rattle.twe_ast.specs.Expression.{Expression, Shape, Literal, Truth, Variable
 use Rattle.twe_ast.specs.declared.expr.ExprKind.{ExprKind}
 use Rattle.twe_ast.specs.declared.expr.ExprKind.TheVariants as kinds
 
+-- these expressions, as arguments
 abbrev pub arguments_of : List Expression → Arguments
 arguments_of [] = no_more
 arguments_of (first ∷ others) = argument first (arguments_of others)
 
+-- the shape that a kind of expression in memory is seen as
 abbrev pub shape_of : ExprKind → Shape
 shape_of (kinds.Lit value) = Literal value
 shape_of (kinds.Truth value) = Truth value

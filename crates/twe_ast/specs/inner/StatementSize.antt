@@ -2,6 +2,7 @@
 use Rattle.std.specs.Prelude.{ℕ, ◌+◌, max}
 use Rattle.twe_ast.specs.Statement.{Statement, Block, Let, Set, SetArray, SetGrid, If, While, Return, Print, Call, Make, Wait, LetWait, Statements, end_of_block, statement, Arms, arm, otherwise, no_else}
 
+-- one more than the depth of the deepest part, and 0 without parts; blocks and arms are parts, expressions are not
 abbrev mutual
   pub depth : Statement → ℕ
   depth (Block body) = depth_of_all body + 1

@@ -1,8 +1,8 @@
 -- What is known of the answer on the way to it.
 use Rattle.std.specs.Prelude.{◌≡◌, ◌≤◌, ℕ, List, Some, length}
-use Rattle.twe_limits.specs.Language.{max_text_bytes}
+use Rattle.twe_base.specs.Language.{max_text_bytes}
 use Rattle.command_line.specs.declared.command.Command.{Command}
-use Rattle.text_streams.specs.Ends.{SourceTells}
+use Rattle.twe_io.specs.Ends.{SourceTells}
 use Rattle.text_answers.specs.Answer.{Answer}
 use Rattle.text_answers.specs.declared.book.Book.{Book}
 use Rattle.text_answers.specs.Answers.{Due}

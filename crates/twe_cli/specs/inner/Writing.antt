@@ -1,5 +1,5 @@
 -- The statuses of a call whose answer was not written, or not whole.
-use Rattle.text_streams.specs.declared.answer.Unwritten.{Unwritten}
+use Rattle.twe_io.specs.declared.answer.Unwritten.{Unwritten}
 use Rattle.text_answers.specs.declared.status.Status.{Status}
 use Rattle.text_answers.specs.declared.status.Status.TheVariants.{WriteFault, Memory}
 

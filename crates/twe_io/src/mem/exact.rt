@@ -1,22 +1,23 @@
 //! The exact effect of a whole read and a whole write on the ends in memory, by the numbers of the calls that fail.
 ghost use Rattle.std.specs.Prelude.{◌≡◌, ◌↔◌, ◌<◌, ◌≤◌, ◌+◌, ◌-◌, ◌*◌, ℕ, ◌++◌, length, take, min, IfOk, OnOk, OnErr, IsErr, IsErrOf};
 ghost use Rattle.twe_io.specs.Named.{NamedBetween};
-ghost use Rattle.twe_io.specs.Memory.{left_of, ReadsMem, WritesMem, IsFirstUse};
+ghost use Rattle.twe_io.specs.Memory.{mem_left_of, ReadsMem, WritesMem, IsFirstUse};
 ghost use Rattle.twe_io.specs.Runs.{ReadsWhole, WritesWhole};
 
 use super::{MemSink, MemSource};
-use crate::{Bytes, ReadFail, WriteFault};
+use crate::{ReadFail, WriteFault};
 use std::alloc::Global;
+use twe_base::Bytes;
 
 impl MemSource {
     /// [`crate::read_all`] of this source. It returns `ReadFault` exactly if one of the calls that it made is listed to
     /// fail.
     pub fn read_all(&mut self, alloc: Global, limit: usize) -> Result<Bytes, ReadFail>
-        ensures whole { IfOk result (λ text. text ≡ left_of self.old) }
+        ensures whole { IfOk result (λ text. text ≡ mem_left_of self.old) }
         ensures short { IfOk result (λ text. length text ≤ limit) }
         ensures fault { IsErrOf result ReadFail.ReadFault ↔ NamedBetween self.old.fails self.old.calls self.new.calls }
         ensures too_long { IsErrOf result ReadFail.TooLong
-            ↔ (length (left_of self.old) ≡ length (left_of self.new) + (limit + 1)) }
+            ↔ (length (mem_left_of self.old) ≡ length (mem_left_of self.new) + (limit + 1)) }
         // The sequence of reads, each as `ReadsMem` describes it. It determines the source afterwards.
         ensures reads { ReadsWhole ReadsMem limit self.old result self.new }
     {

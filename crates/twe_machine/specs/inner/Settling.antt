@@ -1,6 +1,6 @@
 -- A segment that runs while its frame is out of its row.
 use Rattle.std.specs.Prelude.{ℕ}
-use Rattle.twe_limits.specs.Limits.{Bounds}
+use Rattle.twe_base.specs.Limits.{Bounds}
 use Rattle.twe_program.specs.Program.{Program}
 use Rattle.seg_exec.specs.Segment.{segment}
 use Rattle.twe_machine.specs.declared.state.State.{State}
@@ -11,4 +11,5 @@ use Rattle.twe_machine.specs.Rows.{IsRow}
 -- the frame that the next segment of t leaves may be settled
 abbrev pub SettlesAfter : Program → Bounds → State → ℕ → Type 0
 SettlesAfter p lim st t =
-    (row : TaskRow) → IsRow st t row → let after = segment p (ready_frame st.tasks row.frame) st.cells in MaySettle lim st t after.frame after.stop
+    (row : TaskRow) → IsRow st t row
+    → let after = segment p (ready_frame st.tasks row.frame) st.cells in MaySettle lim st t after.frame after.stop

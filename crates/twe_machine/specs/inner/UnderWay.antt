@@ -1,5 +1,5 @@
 -- A replay under way.
-use Rattle.twe_limits.specs.Limits.{Bounds}
+use Rattle.twe_base.specs.Limits.{Bounds}
 use Rattle.twe_program.specs.Program.{Program}
 use Rattle.twe_machine.specs.declared.replaying.Replaying.{Replaying}
 use Rattle.twe_machine.specs.Listings.{IsListing}

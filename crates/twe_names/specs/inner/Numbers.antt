@@ -11,12 +11,15 @@ use Rattle.twe_ast.specs.declared.path.CellPath.{CellPath}
 use Rattle.name_check.specs.Size.{size_of_decl}
 use Rattle.twe_names.specs.FromText.{IsSmall, IsSmallInCell}
 
+-- each index in the path of an effect fits
 abbrev pub IsSmallPath : Path → Type 0
 IsSmallPath path = All (λ (elem : PathElem). IsSmall elem.kind) path.elems
 
+-- each index in the paths of a clause fits
 abbrev pub IsSmallClause : Clause → Type 0
 IsSmallClause clause = All IsSmallPath clause.paths
 
+-- each index in the path of a cell fits
 abbrev pub IsSmallCellPath : CellPath → Type 0
 IsSmallCellPath path = All (λ (elem : CellElem). IsSmallInCell elem.kind) path.elems
 
@@ -25,6 +28,7 @@ pub record IsSmallDecl (decl : Decl) : Type 0 where
   pub indexes : All IsSmallClause decl.effects
   pub size : size_of_decl decl < 2 ^ 32
 
+-- the same for an item; regions have no indexes, and of a cell only the indexes count
 abbrev pub IsSmallItem : Item → Type 0
 IsSmallItem (items.Regions names) = Unit {0}
 IsSmallItem (items.Cell cell) = IsSmallCellPath cell.path

@@ -9,8 +9,8 @@ use Rattle.text_answers.specs.declared.status.Status.{Status}
 use Rattle.text_answers.specs.declared.status.Status.TheVariants.{ReadFault, WriteFault, TooLong, Memory}
 use Rattle.text_answers.specs.Answers.{Due}
 use Rattle.text_answers.specs.Theorem.{IsNew}
-use Rattle.text_streams.specs.Answers.{on_err}
-use Rattle.text_streams.specs.declared.answer.Unwritten.{Unwritten}
+use Rattle.twe_io.specs.Answers.{on_err}
+use Rattle.twe_io.specs.declared.answer.Unwritten.{Unwritten}
 use Rattle.twe_opt.specs.Answers.{run_by}
 
 abbrev pub AnswersRead : ℕ → Result (List ℕ) ReadFail → Book → Answer → Type 0

@@ -6,6 +6,7 @@ use Rattle.twe_parser.specs.inner.ExprActions.{perform_expr}
 use Rattle.twe_parser.specs.inner.ItemActions.{perform_item}
 use Rattle.twe_parser.specs.inner.StmtActions.{perform_stmt}
 
+-- the stacks of semantic values after an action
 abbrev pub performed : Action → ValueStacks → ValueStacks
 performed Nothing values = values
 performed (Expr action) values = perform_expr action values

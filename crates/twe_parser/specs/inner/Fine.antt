@@ -42,6 +42,7 @@ calm (symbols.Expand (nonterminals.AfterArm x) ∷ stack) = calm stack
 calm (symbols.Expand (nonterminals.Climb x) ∷ stack) = calm stack
 calm (symbols.Expand _ ∷ stack) = true
 
+-- no symbols follow
 abbrev pub is_last : List Symbol → Bool
 is_last [] = true
 is_last (symbol ∷ stack) = false
@@ -58,6 +59,7 @@ need (nonterminals.AfterArm x) stack = calm stack
 need (nonterminals.ElseBody x) stack = calm stack
 need _ stack = true
 
+-- each nonterminal on the stack meets its condition on the symbols below it
 abbrev pub fine : List Symbol → Bool
 fine [] = true
 fine (symbols.Name ∷ stack) = fine stack

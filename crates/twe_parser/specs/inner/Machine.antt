@@ -12,6 +12,7 @@ use Rattle.twe_parser.specs.inner.Productions.{production_of, epsilon_action}
 use Rattle.twe_parser.specs.inner.Terminals.{terminal_of, meets}
 use Rattle.twe_parser.specs.inner.ValueStacks.{kept, no_values}
 
+-- the symbols that are expected, the next one first, and the semantic values
 abbrev pub Machine : Type 0
 Machine = List Symbol × ValueStacks
 
@@ -26,18 +27,22 @@ expected false token stack values = None
 
 -- The machine after a token, or `None` if no program goes on with it. `left_out` is the continuation after the empty
 -- production.
-abbrev pub by_production : Option Production → Option Action → Token → List Symbol → ValueStacks → (ValueStacks → Option Machine) → Option Machine
-by_production (Some production) skip token stack values left_out = Some (production.right_side ++ stack, kept token production.mark values)
+abbrev pub by_production : Option Production → Option Action → Token → List Symbol → ValueStacks
+    → (ValueStacks → Option Machine) → Option Machine
+by_production (Some production) skip token stack values left_out =
+    Some (production.right_side ++ stack, kept token production.mark values)
 by_production None (Some action) token stack values left_out = left_out (performed action values)
 by_production None None token stack values left_out = None
 
+-- the machine after a token, or `None` if the token is not expected
 abbrev pub after : Token → List Symbol → ValueStacks → Option Machine
 after token [] values = None
 after token (symbols.Name ∷ stack) values = expected (meets symbols.Name (terminal_of token.kind)) token stack values
 after token (symbols.Literal ∷ stack) values = expected (meets symbols.Literal (terminal_of token.kind)) token stack values
 after token (symbols.Token f ∷ stack) values = expected (meets (symbols.Token f) (terminal_of token.kind)) token stack values
 after token (symbols.Expand nonterminal ∷ stack) values =
-    by_production (production_of nonterminal (terminal_of token.kind)) (epsilon_action nonterminal) token stack values (λ left. after token stack left)
+    by_production (production_of nonterminal (terminal_of token.kind)) (epsilon_action nonterminal) token stack values
+    (λ left. after token stack left)
 after token (symbols.Perform action ∷ stack) values = after token stack (performed action values)
 
 -- the semantic values at the end of the text, if the program is whole
@@ -53,4 +58,5 @@ finished (symbols.Perform action ∷ stack) values = finished stack (performed a
 -- the semantic values after these tokens, if they complete the program
 abbrev pub result_from : List Token → List Symbol → ValueStacks → Option ValueStacks
 result_from [] stack values = finished stack values
-result_from (token ∷ tokens) stack values = option_and_then (λ machine. result_from tokens machine.0 machine.1) (after token stack values)
+result_from (token ∷ tokens) stack values =
+    option_and_then (λ machine. result_from tokens machine.0 machine.1) (after token stack values)

@@ -6,6 +6,7 @@ use Rattle.twe_lexer.specs.declared.fixed.Fixed.TheVariants as fixed
 use Rattle.twe_parser.specs.declared.symbol.Terminal.{Terminal}
 use Rattle.twe_parser.specs.declared.symbol.Terminal.TheVariants as next
 
+-- the operator that the terminal is between two operands, if it is one
 abbrev pub operator_of : Terminal → Option BinOp
 operator_of (next.Fixed fixed.Or) = Some operators.Or
 operator_of (next.Fixed fixed.And) = Some operators.And

@@ -1,8 +1,8 @@
 -- The state of the parser after a part of a text.
 use Rattle.std.specs.Prelude.{◌≡◌, ℕ, ◌≤◌, true, false, List, [], ◌∷◌, ◌++◌, Some, None}
 use Rattle.std.specs.List.{AllByRecursion, list_all}
-use Rattle.twe_limits.specs.Language.{max_open_brackets, max_operators}
-use Rattle.twe_io.specs.declared.place.Place.{Place}
+use Rattle.twe_base.specs.Language.{max_open_brackets, max_operators}
+use Rattle.twe_base.specs.declared.place.Place.{Place}
 use Rattle.twe_ast.specs.declared.item.Ast.{Ast}
 use Rattle.twe_lexer.specs.declared.token.Token.{Token}
 use Rattle.twe_lexer.specs.Lexeme.{is_allowed, IsUnclosedComment}
@@ -48,6 +48,7 @@ abbrev pub EndsBy : SRule → Place → Place → Parser → Type 0
 EndsBy S3 place end parser = (place ≡ end) × (finished parser.machine.stack parser.machine.values ≡ None)
 EndsBy _ place end parser = ⊥
 
+-- a refusal at the end of the text: by S3 there, or for want of memory
 abbrev pub EndsEarly : ParseFail → Place → Parser → Type 0
 EndsEarly (fails.Syntax rule place) end parser = EndsBy rule place end parser
 EndsEarly (fails.OutOfMemory memory) end parser = Unit {0}

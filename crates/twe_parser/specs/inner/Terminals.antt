@@ -9,12 +9,14 @@ use Rattle.twe_parser.specs.declared.symbol.Symbol.TheVariants as symbols
 use Rattle.twe_parser.specs.declared.symbol.Terminal.{Terminal}
 use Rattle.twe_parser.specs.declared.symbol.Terminal.TheVariants as next
 
+-- the terminal that a token is: a name or a literal without its text or value
 abbrev pub terminal_of : TokenKind → Terminal
 terminal_of (kinds.Name text) = next.Name
 terminal_of (kinds.Literal value) = next.Literal
 terminal_of (kinds.Fixed f) = next.Fixed f
 terminal_of kinds.Stray = next.Stray
 
+-- the same keyword or symbol: one with the same spelling
 abbrev pub same_fixed : Fixed → Fixed → Bool
 same_fixed f g = bytes_eq (spelling f) (spelling g)
 

@@ -1,23 +1,27 @@
 -- The stacks of semantic values: the dummy values for an empty stack, which never occur, and the effect of a token.
 use Rattle.std.specs.Prelude.{[], ◌∷◌, ◌++◌, pos, Bool, if◌then◌else◌}
-use Rattle.twe_io.specs.declared.place.Place.{Place}
+use Rattle.twe_base.specs.declared.place.Place.{Place}
 use Rattle.twe_ast.specs.declared.name.Name.{Name}
 use Rattle.twe_ast.specs.Expression.{Expression, expression, Literal}
 use Rattle.twe_ast.specs.Statement.{Statement, Statements, end_of_block}
 use Rattle.twe_lexer.specs.declared.token.Token.{Token}
 use Rattle.twe_lexer.specs.declared.token.TokenKind.TheVariants as kinds
 use Rattle.twe_parser.specs.declared.value_stacks.ValueStacks.{ValueStacks}
-use Rattle.twe_io.specs.Stacks.{top, below}
+use Rattle.twe_base.specs.Stacks.{top, below}
 
+-- the value of an empty stack of places
 abbrev pub nowhere : Place
 nowhere = record { line = 0; col = 0 }
 
+-- the value of an empty stack of expressions
 abbrev pub nothing : Expression
 nothing = expression nowhere (Literal (pos 0))
 
+-- the value of an empty stack of names
 abbrev pub nameless : Name
 nameless = record { text = []; place = nowhere }
 
+-- the value of an empty stack of blocks
 abbrev pub no_block : Statements
 no_block = end_of_block nowhere
 
@@ -51,7 +55,9 @@ kept_value token values = elim token.kind [
 
 -- the stacks after a token, whose place is pushed if `mark` is set
 abbrev pub kept : Token → Bool → ValueStacks → ValueStacks
-kept token mark values = let valued = kept_value token values in record valued { places = if mark then token.place ∷ values.places else values.places }
+kept token mark values = let valued = kept_value token values in record valued {
+  places = if mark then token.place ∷ values.places else values.places;
+}
 
 -- one more expression
 abbrev pub with_expr : Expression → ValueStacks → ValueStacks

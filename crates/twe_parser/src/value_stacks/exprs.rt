@@ -4,19 +4,18 @@ ghost use Rattle.twe_ast.specs.Expression.{Shape, expression};
 ghost use Rattle.twe_ast.specs.inner.ExpressionView.{shape_of};
 ghost use Rattle.twe_parser.specs.declared.symbol.ExprAction.TheVariants as actions;
 ghost use Rattle.twe_parser.specs.inner.ExprActions.{perform_expr, after_minus};
-ghost use Rattle.twe_parser.specs.Values.{value_of};
+ghost use Rattle.twe_parser.specs.Values.{literal_value_of};
 ghost use Rattle.twe_parser.specs.inner.ValueStacks.{with_expr};
 
 use crate::symbol::ExprAction;
 use crate::value_stacks::{ValueStacks, nameless, nothing, nowhere};
 use std::alloc::Global;
 use twe_ast::{Args, BinOp, Expr, ExprKind};
-use twe_io::{List, Memory, Place};
-use twe_limits::MAX_LITERAL;
+use twe_base::{List, MAX_LITERAL, Memory, Place};
 
 /// The value of a literal without a sign, or -2147483648 if it is too large.
 pub(crate) fn value_of(number: u32) -> i32
-    ensures { result ≡ value_of number }
+    ensures { result ≡ literal_value_of number }
 {
     i32::try_from(number).unwrap_or(i32::MIN)
 }

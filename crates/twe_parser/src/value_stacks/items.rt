@@ -3,7 +3,7 @@ ghost use Rattle.std.specs.Prelude.{◌≡◌, OnOk};
 ghost use Rattle.twe_parser.specs.declared.symbol.ItemAction.TheVariants as actions;
 ghost use Rattle.twe_parser.specs.inner.ItemActions.{perform_item, with_item, with_cell, with_elem, with_cell_elem, shape_from, left_from, initial_of, decl_from, without_decl};
 ghost use Rattle.twe_parser.specs.Values.{negative_of};
-ghost use Rattle.twe_io.specs.Stacks.{top, below};
+ghost use Rattle.twe_base.specs.Stacks.{top, below};
 ghost use Rattle.twe_parser.specs.inner.ValueStacks.{nowhere};
 
 use crate::symbol::{Access, CellKind, ItemAction};
@@ -15,8 +15,7 @@ use twe_ast::{
     CellDecl, CellElem, CellElemKind, CellPath, CellShape, Clause, Decl, Initial, Item, Path,
     PathElem, PathElemKind, ReturnType,
 };
-use twe_io::{List, Memory};
-use twe_limits::MAX_LITERAL;
+use twe_base::{List, MAX_LITERAL, Memory};
 
 /// The value of a literal after `-`, or -2147483648 if it is too large.
 fn negative_of(number: u32) -> i32

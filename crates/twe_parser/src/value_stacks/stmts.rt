@@ -9,7 +9,7 @@ use crate::symbol::{StmtAction, WaitKind};
 use crate::value_stacks::{ValueStacks, nameless, no_block, nothing, nowhere};
 use std::alloc::Global;
 use twe_ast::{Args, Arm, Arms, Block, LocalType, Stmt, StmtKind, WaitCall};
-use twe_io::{List, Memory};
+use twe_base::{List, Memory};
 
 impl ValueStacks {
     /// Performs a semantic action that makes a statement.

@@ -4,18 +4,19 @@ use Rattle.twe_io.specs.declared.whole.ReadFail.{ReadFail}
 use Rattle.twe_io.specs.declared.whole.ReadFail.TheVariants as reads
 use Rattle.seg_journal.specs.declared.text.JournalText.{JournalText}
 use Rattle.seg_journal.specs.Spelling.{Spells}
-use Rattle.twe_limits.specs.Language.{max_text_bytes}
+use Rattle.twe_base.specs.Language.{max_text_bytes}
 use Rattle.twe_program.specs.Program.{Program}
 use Rattle.twe_report.specs.Texts.{read_fault_text, too_long_text}
-use Rattle.text_streams.specs.declared.answer.Answer.{Answer}
-use Rattle.text_streams.specs.declared.answer.Unwritten.{Unwritten}
+use Rattle.twe_io.specs.declared.answer.Answer.{Answer}
+use Rattle.twe_io.specs.declared.answer.Unwritten.{Unwritten}
 use Rattle.twe_profile.specs.declared.status.ProfileStatus.{ProfileStatus}
 use Rattle.twe_profile.specs.declared.status.ProfileStatus.TheVariants.{ReadFault, WriteFault, TooLong, Memory}
-use Rattle.text_streams.specs.Answers.{on_err}
-use Rattle.twe_profile.specs.Answers.{AnswersJournal, Due}
+use Rattle.twe_io.specs.Answers.{on_err}
+use Rattle.twe_profile.specs.Answers.{AnswersJournal, ProfileDue}
 
+-- the answer that a reading of the source leads to; none if memory ran out
 abbrev pub AnswersRead : Result (List ℕ) ReadFail → Answer ProfileStatus → Type 0
-AnswersRead (Ok text) answer = Due text answer
+AnswersRead (Ok text) answer = ProfileDue text answer
 AnswersRead (Err reads.ReadFault) answer = answer ≡ on_err ReadFault read_fault_text
 AnswersRead (Err reads.TooLong) answer = answer ≡ on_err TooLong too_long_text
 AnswersRead (Err (reads.OutOfMemory memory)) answer = ⊥

@@ -2,6 +2,7 @@
 use Rattle.std.specs.Prelude.{ℕ, ◌+◌, max}
 use Rattle.twe_program.specs.Expression.{Expression, Literal, Truth, Variable, CellValue, ArrayElement, GridElement, CallValue, Negative, Negation, Binary, Arguments, no_more, argument}
 
+-- one more than the depth of the deepest part, and 0 without parts; a list of arguments is a part
 abbrev mutual
   pub depth : Expression → ℕ
   depth (Literal value) = 0

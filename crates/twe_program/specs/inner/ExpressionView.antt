@@ -4,6 +4,7 @@ use Rattle.twe_program.specs.Expression.{Expression, Literal, Truth, Variable, C
 use Rattle.twe_program.specs.declared.expr.ExprKind.{ExprKind}
 use Rattle.twe_program.specs.declared.expr.ExprKind.TheVariants as kinds
 
+-- the expression that a kind of expression in memory is seen as
 abbrev pub expression_of : ExprKind → Expression
 expression_of (kinds.Lit value) = Literal value
 expression_of (kinds.Truth value) = Truth value

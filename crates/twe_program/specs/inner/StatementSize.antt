@@ -2,6 +2,7 @@
 use Rattle.std.specs.Prelude.{ℕ, ◌+◌, max}
 use Rattle.twe_program.specs.Statement.{Statement, Block, Let, Set, SetCell, SetArray, SetGrid, If, While, Return, Print, Call, Make, Wait, Statements, no_more, statement, Arms, arm, otherwise, no_else}
 
+-- one more than the depth of the deepest part, and 0 without parts; blocks and arms are parts, expressions are not
 abbrev mutual
   pub depth : Statement → ℕ
   depth (Block point body) = depth_of_all body + 1

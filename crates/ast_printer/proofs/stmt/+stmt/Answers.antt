@@ -1,5 +1,5 @@
 use Rattle.std.proofs.Common.{◌≡◌, List, [], ◌∷◌, ◌++◌, refl, ap, ◌∙◌}
-use Rattle.twe_io.specs.declared.place.Place.{Place}
+use Rattle.twe_base.specs.declared.place.Place.{Place}
 use Rattle.twe_ast.specs.Statement.{Statement}
 use Rattle.twe_ast.specs.inner.StatementView.{statements_of}
 use Rattle.ast_printer.specs.Text.{text_of}

@@ -1,7 +1,7 @@
 use Rattle.std.proofs.Common.{◌≡◌, List, sym, subst}
 use Rattle.std.proofs.lemmas.Result.{on_ok_weaker}
 use Rattle.effect_infer.specs.declared.found.Found.{Found}
-use Rattle.effect_infer.specs.Covered.{Grows, IsCovered}
+use Rattle.effect_infer.specs.Covered.{SummaryGrows, IsCovered}
 use Rattle.effect_infer.proofs.Growth.{grows-same, grows-push}
 use Rattle.effect_infer.proofs.add.add.Goals as goal
 
@@ -13,5 +13,5 @@ returns-then-is_covered_at c =
 -- it is added
 pub returns : goal.returns
 returns c =
-    on_ok_weaker c.push.result (λ is. subst (λ (all : List Found). Grows c.args.all.now all (λ f. f ≡ c.args.found)) (sym is) (grows-push c.args.all.now c.args.found))
+    on_ok_weaker c.push.result (λ is. subst (λ (all : List Found). SummaryGrows c.args.all.now all (λ f. f ≡ c.args.found)) (sym is) (grows-push c.args.all.now c.args.found))
     c.push.ensures.ok

@@ -1,9 +1,9 @@
 use Rattle.std.proofs.Common.{◌≡◌, ◌<◌, ◌+◌, List, ℕ, true, length, refl, sym, ap, ◌∙◌, subst, arith}
 use Rattle.std.specs.List.{Contains}
-use Rattle.method_needs.specs.declared.need.Need.{Need}
+use Rattle.effect_infer.specs.declared.needs.need.Need.{Need}
 use Rattle.effect_infer.specs.declared.found.Found.{Found}
 use Rattle.effect_infer.specs.Rows.{row, with_item}
-use Rattle.effect_infer.specs.Kept.{Keeps, is_wanted, rank}
+use Rattle.effect_infer.specs.Kept.{KeepsNeeds, is_wanted, method_rank}
 use Rattle.effect_infer.proofs.Keeping.{DoneUpTo, rank-start, rank-other, rank-unwanted, rank-wanted, rank-end}
 use Rattle.effect_infer.proofs.keep.keep_rank.Goals.{then-method-len+then-rank-this+then-is_wanted+in_ok-need+in_ok-push_to, else-method-len, else-method-len-via-then-method-len+then-rank-this+else-is_wanted, else-method-len-via-then-method-len+else-rank-this, else-method-len-via-else-method-len}
 use Rattle.effect_infer.proofs.keep.keep_rank.Goals as goal
@@ -25,10 +25,10 @@ loop-found-preserved c =
     let k = c.loop-found.invariant in
     let long : length table ≡ methods = k.long in
     let count : c.len.result ≡ length table = c.len.ensures in
-    let P : List (List Need) → Type 0 = λ t. Keeps methods all t (DoneUpTo methods all this (i + 1)) in
+    let P : List (List Need) → Type 0 = λ t. KeepsNeeds methods all t (DoneUpTo methods all this (i + 1)) in
     elim c.if-method-len.branch [
       | then-method-len+then-rank-this+then-is_wanted+in_ok-need+in_ok-push_to w ↦
-          let same : rank f.need ≡ this = sym w.rank.ensures.rank ∙ w.if-rank-this.true in
+          let same : method_rank f.need ≡ this = sym w.rank.ensures.rank ∙ w.if-rank-this.true in
           let wanted : is_wanted (row table f.method) f.need ≡ true = sym w.is_wanted.ensures ∙ w.if-is_wanted.true in
           let made : w.push_to.new.lists ≡ with_item table f.method f.need = w.in_ok-push_to.ensures ∙ ap (λ (n : Need). with_item table f.method n) w.in_ok-need.ensures in
           subst P (sym (w.table-is ∙ made))

@@ -2,7 +2,7 @@ use Rattle.std.proofs.Common.{◌≡◌, ◌≤◌, inl, inr, sym, subst, arith}
 use Rattle.std.specs.List.{Contains}
 use Rattle.std.proofs.lemmas.List.{take_all}
 use Rattle.effect_infer.specs.declared.found.Found.{Found}
-use Rattle.effect_infer.specs.Kept.{rank}
+use Rattle.effect_infer.specs.Kept.{method_rank}
 use Rattle.effect_infer.proofs.Growth.{taken-cases}
 use Rattle.effect_infer.proofs.keep.top_rank.Goals as goal
 
@@ -16,8 +16,8 @@ loop-found-preserved c =
       top = λ need there. elim (taken-cases c.args.all.now c.loop-found.found-index c.found-item.result need c.loop-found-test.true (sym c.found-item.is) there) [
         | inl before ↦ let below = c.loop-found.invariant.top need before in omega (arith, below, first)
         | inr e ↦
-            let last : rank c.found-item.result.need ≤ c.higher-top.result = omega (arith, here, second) in
-            subst (λ (f : Found). rank f.need ≤ c.higher-top.result) e last
+            let last : method_rank c.found-item.result.need ≤ c.higher-top.result = omega (arith, here, second) in
+            subst (λ (f : Found). method_rank f.need ≤ c.higher-top.result) e last
       ];
       small = c.higher-top.ensures.small c.loop-found.invariant.small c.rank.ensures.small;
     }

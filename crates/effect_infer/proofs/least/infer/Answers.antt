@@ -1,9 +1,9 @@
 use Rattle.std.proofs.Common.{◌≡◌, List, map, sym, subst}
 use Rattle.std.proofs.lemmas.Result.{IfOk-weaker, IfErr-weaker}
 use Rattle.effect_sets.specs.declared.effects.Summary.{Summary}
-use Rattle.method_needs.specs.Choices.{NoMethodFails, NoRuleFails, with_summaries}
+use Rattle.effect_infer.specs.needs.Choices.{NoMethodFails, NoRuleFails, with_summaries}
 use Rattle.effect_infer.specs.Table.{AreFew, IsFirstLong}
-use Rattle.effect_infer.specs.Inferred.{summary_of, AreLeast, AreCoveredByAll, HasCause}
+use Rattle.effect_infer.specs.Inferred.{summary_of, AreLeast, AreCoveredByAll, InferHasCause}
 use Rattle.effect_infer.proofs.Results.{are-least, accepted, stays, covered-by-all, too-many, made-few}
 use Rattle.effect_infer.proofs.least.infer.Goals as goal
 
@@ -28,4 +28,4 @@ returns-clause-covered c =
 
 pub returns-clause-refused : goal.returns-clause-refused
 returns-clause-refused c =
-    IfErr-weaker c.summaries.result (IsFirstLong c.in_ok-table.table) (HasCause c.args.p.now) (too-many c.args.p.now c.in_ok-table.table c.in_ok-table.ensures.widest) c.summaries.ensures.many
+    IfErr-weaker c.summaries.result (IsFirstLong c.in_ok-table.table) (InferHasCause c.args.p.now) (too-many c.args.p.now c.in_ok-table.table c.in_ok-table.ensures.widest) c.summaries.ensures.many

@@ -1,10 +1,10 @@
 use Rattle.std.proofs.Common.{◌≡◌, List, inl, sym, ap, ◌∙◌, subst}
 use Rattle.std.proofs.lemmas.Result.{on_ok_weaker}
 use Rattle.region_paths.specs.declared.elements.Elem.{Elem}
-use Rattle.method_needs.specs.declared.need.Need.{Need}
-use Rattle.method_needs.specs.Needs.{settled, filled_need}
+use Rattle.effect_infer.specs.declared.needs.need.Need.{Need}
+use Rattle.effect_infer.specs.needs.Needs.{settled, filled_need}
 use Rattle.effect_infer.specs.declared.found.Found.{Found}
-use Rattle.effect_infer.specs.Covered.{Grows, IsHanded}
+use Rattle.effect_infer.specs.Covered.{SummaryGrows, IsHanded}
 use Rattle.effect_infer.proofs.Growth.{grows-none, grows-as}
 use Rattle.effect_infer.proofs.spread.hand_on.Goals as goal
 

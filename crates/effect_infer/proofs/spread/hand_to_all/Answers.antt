@@ -1,7 +1,7 @@
 use Rattle.std.proofs.Common.{◌≡◌, ◌+◌, List, ℕ, get_or, take, refl, sym, ap, ◌∙◌, subst, arith}
 use Rattle.std.proofs.lemmas.List.{take_all, get_or_default}
 use Rattle.effect_infer.specs.declared.found.Found.{Found}
-use Rattle.effect_infer.specs.Covered.{Grows, IsHandedBy}
+use Rattle.effect_infer.specs.Covered.{SummaryGrows, IsHandedBy}
 use Rattle.effect_infer.proofs.Growth.{grows-none, none-taken, places-more, places-skip}
 use Rattle.effect_infer.proofs.spread.hand_to_all.Goals.{in-Some+in_ok-hand_on, in_default}
 use Rattle.effect_infer.proofs.spread.hand_to_all.Goals as goal
@@ -20,7 +20,7 @@ loop-place-preserved c =
     let i = c.loop-place.place-index in
     let place : ℕ = get_or places i 0 in
     let is : get_or places i place ≡ place = get_or_default places i place 0 c.loop-place-test.true in
-    let P : List Found → Type 0 = λ all. Grows c.args.all.now all (IsHandedBy calls (take (i + 1) places) method need) in
+    let P : List Found → Type 0 = λ all. SummaryGrows c.args.all.now all (IsHandedBy calls (take (i + 1) places) method need) in
     elim c.match-get.branch [
       | in-Some+in_ok-hand_on w ↦
           subst P (sym w.all-is)
@@ -33,5 +33,5 @@ loop-place-preserved c =
 
 pub returns : goal.returns
 returns c =
-    subst (λ xs. Grows c.args.all.now c.loop-place.all (IsHandedBy c.args.calls.now xs c.args.method c.args.need.now)) (take_all c.loop-place.place-index c.args.places.now c.loop-place-test.false)
+    subst (λ xs. SummaryGrows c.args.all.now c.loop-place.all (IsHandedBy c.args.calls.now xs c.args.method c.args.need.now)) (take_all c.loop-place.place-index c.args.places.now c.loop-place-test.false)
     c.loop-place.invariant

@@ -1,10 +1,10 @@
 use Rattle.std.proofs.Common.{◌≡◌, ◌+◌, List, ℕ, Some, length, sym, ap, ◌∙◌, subst, arith}
 use Rattle.std.specs.Prelude.{slice_get}
-use Rattle.method_needs.specs.declared.need.Need.{Need}
+use Rattle.effect_infer.specs.declared.needs.need.Need.{Need}
 use Rattle.effect_infer.specs.declared.found.Found.{Found}
 use Rattle.effect_infer.specs.declared.found.CallSite.{CallSite}
 use Rattle.effect_infer.specs.Rows.{row, ListsCalls}
-use Rattle.effect_infer.specs.Covered.{Grows, IsHandedBy}
+use Rattle.effect_infer.specs.Covered.{SummaryGrows, IsHandedBy}
 use Rattle.effect_infer.proofs.Finding.{SpreadsTo, spread-start, spread-more, spread-end, get-none}
 use Rattle.effect_infer.proofs.spread.spread.Goals as goal
 
@@ -21,4 +21,4 @@ loop-at-preserved c =
     let found = c.in-Some.found.now in
     spread-more c.args.methods c.args.calls.now c.in_ok-callers.callers c.args.all.now c.loop-at.all c.hand_to_callers.new.all c.loop-at.at found
     (subst (λ (calls : List CallSite). ListsCalls c.args.methods calls c.in_ok-callers.callers) c.as_slice.ensures c.in_ok-callers.ensures) c.loop-at.invariant (sym c.in-Some.ensures)
-    (subst (λ (n : Need). Grows c.loop-at.all c.hand_to_callers.new.all (IsHandedBy c.args.calls.now (row c.in_ok-callers.callers found.method) found.method n)) c.in_ok-need.ensures c.in_ok-hand_to_callers.ensures)
+    (subst (λ (n : Need). SummaryGrows c.loop-at.all c.hand_to_callers.new.all (IsHandedBy c.args.calls.now (row c.in_ok-callers.callers found.method) found.method n)) c.in_ok-need.ensures c.in_ok-hand_to_callers.ensures)

@@ -1,5 +1,5 @@
 use Rattle.std.proofs.Common.{◌≡◌, ◌<◌, ◌≤◌, ◌++◌, ℕ, length, drop, map}
-use Rattle.twe_limits.specs.Language.{max_effects}
+use Rattle.twe_base.specs.Language.{max_effects}
 use Rattle.effect_infer.specs.Rows.{row}
 use Rattle.effect_infer.specs.Inferred.{summary_of}
 use Rattle.effect_infer.proofs.summary.summaries.Given as goal

@@ -1,5 +1,5 @@
 use Rattle.std.proofs.Common.{◌≡◌, ◌++◌, drop, map}
-use Rattle.method_needs.specs.Needs.{effect_of}
+use Rattle.effect_infer.specs.needs.Needs.{effect_of}
 use Rattle.effect_infer.proofs.summary.summary.Given as goal
 
 -- the effects so far and those of what is left are those of all

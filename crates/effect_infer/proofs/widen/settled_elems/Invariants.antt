@@ -1,5 +1,5 @@
 use Rattle.std.proofs.Common.{◌≡◌, ◌++◌, drop, map}
-use Rattle.method_needs.specs.Needs.{settled_elem}
+use Rattle.effect_infer.specs.needs.Needs.{settled_elem}
 use Rattle.effect_infer.proofs.widen.settled_elems.Given as goal
 
 -- the elements so far and those of what is left are those of all

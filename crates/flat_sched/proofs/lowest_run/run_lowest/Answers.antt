@@ -6,7 +6,7 @@ use Rattle.twe_machine.specs.declared.ending.Outcome.TheVariants.{Unfinished}
 use Rattle.twe_machine.specs.LowestFirst.{IsLowest, IsOver}
 use Rattle.flat_sched.specs.inner.Books.{Keeps}
 use Rattle.flat_sched.specs.inner.Lists.{IsReady}
-use Rattle.twe_limits.specs.Limits.{Bounds, IsWithin}
+use Rattle.twe_base.specs.Limits.{Bounds, IsWithin}
 use Rattle.twe_program.specs.WellFormed.{IsWellFormed}
 use Rattle.twe_machine.specs.declared.state.State.{State}
 use Rattle.twe_machine.specs.Moves.{move_result}

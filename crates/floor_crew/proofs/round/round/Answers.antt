@@ -1,10 +1,10 @@
 use Rattle.std.proofs.Common.{◌≡◌, ◌++◌, ◌∷◌, [], List, sym, ap, subst, ◌∙◌}
 use Rattle.std.proofs.lemmas.Result.{IfOk-weaker}
 use mathlib.Core.List.{IsPrefix}
-use Rattle.journal_merge.specs.declared.numbered.NumberedEntry.{NumberedEntry}
-use Rattle.floor_steps.specs.declared.rest.Rest.{Rest}
-use Rattle.floor_steps.specs.Resting.{IsRestOf}
-use Rattle.floor_steps.specs.Waking.{log_of}
+use Rattle.seg_journal.specs.declared.numbered.NumberedEntry.{NumberedEntry}
+use Rattle.task_floor.specs.declared.steps.rest.Rest.{Rest}
+use Rattle.task_floor.specs.steps.Resting.{IsRestOf}
+use Rattle.task_floor.specs.steps.Waking.{log_of}
 use Rattle.floor_crew.proofs.FirstEntries.{rest_begins}
 use Rattle.floor_crew.proofs.round.round.Goals as goal
 

@@ -1,6 +1,6 @@
 use Rattle.std.proofs.Common.{◌≡◌, ◌+◌, ◌++◌, ◌∷◌, [], List, Option, length, ap, sym, subst, ◌∙◌, length-append}
 use mathlib.Core.List.{IsPrefix}
-use Rattle.journal_merge.specs.declared.numbered.NumberedEntry.{NumberedEntry}
+use Rattle.seg_journal.specs.declared.numbered.NumberedEntry.{NumberedEntry}
 use Rattle.task_floor.specs.Stands.{TreeStand}
 use Rattle.twe_rounds.proofs.Beginnings.{prefix_more}
 use Rattle.floor_crew.proofs.MainStand.{joined_main, joined_parts}

@@ -1,5 +1,5 @@
 use Rattle.twe_machine.specs.Runs.{state_after}
-use Rattle.journal_merge.specs.Merging.{journal_of}
+use Rattle.seg_journal.specs.Merging.{journal_of}
 use Rattle.floor_rule.proofs.QuietLemmas.{shows}
 use Rattle.floor_rule.proofs.laws.quiet_floors_show_the_state.Goals as goal
 

@@ -1,7 +1,7 @@
 use Rattle.std.proofs.Common.{◌∙◌}
 use Rattle.task_floor.proofs.GoingOn.{looked_phase}
 use Rattle.task_floor.proofs.ServedBeside.{holds_taken}
-use Rattle.tree_serve.proofs.Serving.{looked_held}
+use Rattle.tree_admit.proofs.serving.Serving.{looked_held}
 use Rattle.library_tests.proofs.admitting.bar_of.Goals as goal
 
 -- the worker has the task in hand, and has found that it waits for its admission

@@ -1,7 +1,7 @@
 use Rattle.std.proofs.Common.{Ok, [], ap, refl}
 use Rattle.tree_admit.specs.declared.admitting.Admittance.{Admittance}
 use Rattle.task_floor.proofs.ServedBeside.{idle_given_beside, may_give_held_beside}
-use Rattle.tree_serve.proofs.Serving.{held_tried, is_made}
+use Rattle.tree_admit.proofs.serving.Serving.{held_tried, is_made}
 use Rattle.library_tests.proofs.admitting.bar_of_taken.Goals as goal
 
 -- the worker has nothing in hand once it has given the turn

@@ -1,5 +1,5 @@
 use Rattle.std.proofs.Common.{◌≡◌, ◌+◌, ◌≤◌, List, take, drop, arith, sym, ap, ◌∙◌, subst}
-use Rattle.twe_io.specs.declared.place.Place.{Place}
+use Rattle.twe_base.specs.declared.place.Place.{Place}
 use Rattle.twe_ast.specs.Statement.{Statement, Statements, Arms}
 use Rattle.twe_ast.specs.declared.stmt.Arm.{Arm}
 use Rattle.twe_ast.specs.inner.StatementView.{statements_of, arms_of, last_of}

@@ -1,6 +1,6 @@
 -- The first of all failures is that of the rules.
 use Rattle.std.proofs.Common.{◌∙◌, subst}
-use Rattle.cell_limits.specs.FirstOver.{IsFirstOver}
+use Rattle.name_check.specs.cell_limits.FirstOver.{IsFirstOver}
 use Rattle.name_check.proofs.Gathered.{first_but_nodes_is}
 use Rattle.name_check.proofs.FirstOfText.{IsFirst, first_of_text}
 use Rattle.name_check.proofs.whole.check_names.Goals as goal

@@ -13,16 +13,16 @@ use Rattle.opt_crew.proofs.sharing.together.Goals as goal
 -- the workers share the program, a word and the run under its lock
 pub for_each_mut-requires-sync-F : goal.for_each_mut-requires-sync-F
 for_each_mut-requires-sync-F g c κs within =
-    param_sync 2 _ (arg_sync _ no _ (tuple_sync _ _ (shr_sync _ _ (Shared.the_row (record { mir = named 7; lft = κs.1.1.1.1.1.1.1.0 }) (param 1 g.row.R) (param 0 g.row.N) g.N.Named)
-    (recorded_sync (Shared.the_field (record { mir = named 7; lft = κs.1.1.1.1.1.1.1.0 }) (param 1 g.row.R) (param 0 g.row.N) g.N.Named).row _ _
-    (Shared.the_type (record { mir = named 7; lft = κs.1.1.1.1.1.1.1.0 }) (param 1 g.row.R) (param 0 g.row.N) g.N.Named).to_one
-    (struct_sync (shape (Shared.the_type (record { mir = named 7; lft = κs.1.1.1.1.1.1.1.0 }) (param 1 g.row.R) (param 0 g.row.N) g.N.Named)) (
+    param_sync 2 _ (arg_sync _ no _ (tuple_sync _ _ (shr_sync _ _ (Shared.the_row (record { mir = named 7; lft = κs.1.1.1.1.1.1.1.0 }) (param 1 g.row.R) (param 0 g.row.N) g.N.RoundName)
+    (recorded_sync (Shared.the_field (record { mir = named 7; lft = κs.1.1.1.1.1.1.1.0 }) (param 1 g.row.R) (param 0 g.row.N) g.N.RoundName).row _ _
+    (Shared.the_type (record { mir = named 7; lft = κs.1.1.1.1.1.1.1.0 }) (param 1 g.row.R) (param 0 g.row.N) g.N.RoundName).to_one
+    (struct_sync (shape (Shared.the_type (record { mir = named 7; lft = κs.1.1.1.1.1.1.1.0 }) (param 1 g.row.R) (param 0 g.row.N) g.N.RoundName)) (
       shr_sync _ _ _ (param_sync 1 _ c.type_bounds.sync-R),
       (
         shr_sync _ _ _ word.the_sync,
         (
-          shr_sync _ _ _ (game_sync _ (param 0 g.row.N) g.N.Named),
-          (shr_sync _ _ _ (mutex.the_sync _ (core.the_send (param 0 g.row.N) g.N.Named)), tt),
+          shr_sync _ _ _ (game_sync _ (param 0 g.row.N) g.N.RoundName),
+          (shr_sync _ _ _ (mutex.the_sync _ (core.the_send (param 0 g.row.N) g.N.RoundName)), tt),
         ),
       ),
     ))))))

@@ -1,8 +1,8 @@
 use Rattle.std.proofs.Common.{◌<◌, List, length, sym, ap, ◌∙◌, subst}
 use Rattle.std.specs.List.{All}
-use Rattle.twe_limits.specs.Limits.{Bounds, IsWithin}
+use Rattle.twe_base.specs.Limits.{Bounds, IsWithin}
 use Rattle.twe_program.specs.WellFormed.{IsWellFormed}
-use Rattle.opt_engine.specs.declared.touch.Touch.{Touch}
+use Rattle.opt_engine.specs.declared.touch.CellValue.{CellValue}
 use Rattle.opt_engine.specs.Touches.{with_writes}
 use Rattle.opt_engine.proofs.Committed.{fits_moves, fits_settles, reached_by, steps_is, writes_there}
 use Rattle.opt_engine.proofs.committing.enter.Goals as goal
@@ -11,7 +11,7 @@ use Rattle.opt_engine.proofs.committing.enter.Goals as goal
 pub make_writes-requires : goal.make_writes-requires
 make_writes-requires c =
     let run = c.args.run.now in
-    subst (λ (l : List Touch). All (λ (w : Touch). w.cell < length run.state.cells) l) (sym c.as_slice.ensures)
+    subst (λ (l : List CellValue). All (λ (w : CellValue). w.cell < length run.state.cells) l) (sym c.as_slice.ensures)
     (writes_there c.args.p.now c.args.lim run.state c.args.d (subst IsWellFormed c.p.view_is c.p.invariant) (reached_by c.args.p.now c.args.lim run c.requires.run) c.requires.drafted)
 
 -- the segment of the draft may be settled

@@ -3,12 +3,12 @@ use Rattle.std.specs.List.{All}
 use Rattle.std.specs.Prelude.{pos}
 use Rattle.std.proofs.lemmas.List.{take_all}
 use Rattle.std.proofs.lemmas.List.Elements.{All-more}
-use Rattle.opt_engine.specs.declared.touch.Touch.{Touch}
+use Rattle.opt_engine.specs.declared.touch.CellValue.{CellValue}
 use Rattle.opt_engine.specs.Drafts.{StandsIn}
 use Rattle.opt_engine.proofs.Changes.{change_found}
 use Rattle.opt_engine.proofs.judging.first_change.Goals as goal
 
-abbrev none : Touch
+abbrev none : CellValue
 none = record { cell = 0; value = pos 0 }
 
 pub returns-in-Some : goal.returns-in-Some
@@ -21,4 +21,4 @@ loop-read-preserved c = All-more (StandsIn c.args.cells.now) c.args.reads.now c.
 
 pub returns : goal.returns
 returns c =
-    subst (λ (l : List Touch). All (StandsIn c.args.cells.now) l) (take_all c.loop-read.read-index c.args.reads.now c.loop-read-test.false) c.loop-read.invariant
+    subst (λ (l : List CellValue). All (StandsIn c.args.cells.now) l) (take_all c.loop-read.read-index c.args.reads.now c.loop-read-test.false) c.loop-read.invariant

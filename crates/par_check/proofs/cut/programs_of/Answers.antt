@@ -1,7 +1,7 @@
 use Rattle.std.proofs.Common.{◌≡◌, ◌≤◌, ◌++◌, ℕ, List, [], ◌∷◌, length, refl, sym, ap, ◌∙◌, subst, arith}
 use Rattle.std.proofs.lemmas.List.Elements.{All-push}
 use Rattle.std.specs.List.{All}
-use Rattle.twe_limits.specs.Language.{max_text_bytes}
+use Rattle.twe_base.specs.Language.{max_text_bytes}
 use Rattle.par_check.proofs.Cutting.{last-program, less-left, one-program-more}
 use Rattle.par_check.proofs.cut.programs_of.Goals as goal
 

@@ -1,5 +1,5 @@
 use Rattle.std.proofs.Common.{◌≡◌, ◌≤◌, ◌++◌, length, All}
-use Rattle.twe_limits.specs.Language.{max_text_bytes}
+use Rattle.twe_base.specs.Language.{max_text_bytes}
 use Rattle.par_check.specs.Batch.{programs_of}
 use Rattle.par_check.proofs.cut.programs_of.Given as goal
 

@@ -1,7 +1,7 @@
 use Rattle.std.proofs.Common.{◌≡◌, ◌++◌, List, map, ap, ◌∙◌, subst}
 use Rattle.prefix_tree.specs.declared.part.Part.{Part}
 use Rattle.region_paths.specs.declared.elements.Elem.{Elem}
-use Rattle.soundness_laws.specs.CellPaths.{concrete}
+use Rattle.isolation_laws.specs.soundness.CellPaths.{concrete}
 use Rattle.span_profile.specs.inner.Numbering.{IsNumber, decl_parts, part_of, parts_at}
 use Rattle.span_profile.proofs.Numbers.{keeps_grown, keeps_later, more_numbered, none_numbered, number_kept}
 use Rattle.span_profile.proofs.places.add_cells.Goals as goal

@@ -1,5 +1,5 @@
 use Rattle.std.proofs.Common.{◌≡◌, map, take}
-use Rattle.soundness_laws.specs.CellPaths.{concrete}
+use Rattle.isolation_laws.specs.soundness.CellPaths.{concrete}
 use Rattle.span_profile.specs.inner.Numbering.{part_of}
 use Rattle.span_profile.proofs.places.parts.Given as goal
 

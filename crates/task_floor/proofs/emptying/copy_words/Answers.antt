@@ -1,6 +1,6 @@
 use Rattle.std.proofs.Common.{arith, ◌∙◌}
 use Rattle.core.specs.Mem.Slots.{slots_items}
-use Rattle.floor_steps.proofs.Taken.{copied_more}
+use Rattle.task_floor.proofs.steps.Taken.{copied_more}
 use Rattle.task_floor.proofs.emptying.copy_words.Goals as goal
 
 pub loop-i-preserved : goal.loop-i-preserved

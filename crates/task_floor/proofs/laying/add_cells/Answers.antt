@@ -2,9 +2,9 @@ use Rattle.std.proofs.Common.{◌≡◌, ◌++◌, ℤ, pos, List, [], ◌∷◌
 use Rattle.std.proofs.lemmas.Int.{to_z-of_z}
 use mir.Val.{SFits}
 use Rattle.floor_table.specs.Layout.{value_of_word}
-use Rattle.floor_steps.specs.inner.Laying.{AreWordsOf}
-use Rattle.floor_steps.proofs.Laid.{one_word_more}
-use Rattle.floor_steps.proofs.Taken.{take_or}
+use Rattle.task_floor.specs.steps.inner.Laying.{AreWordsOf}
+use Rattle.task_floor.proofs.steps.Laid.{one_word_more}
+use Rattle.task_floor.proofs.steps.Taken.{take_or}
 use Rattle.task_floor.proofs.laying.add_cells.Goals as goal
 
 pub loop-value-preserved : goal.loop-value-preserved

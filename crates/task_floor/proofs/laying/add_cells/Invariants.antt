@@ -1,5 +1,5 @@
 use Rattle.std.proofs.Common.{◌≡◌, ◌++◌, ℕ, List, take}
-use Rattle.floor_steps.specs.inner.Laying.{AreWordsOf}
+use Rattle.task_floor.specs.steps.inner.Laying.{AreWordsOf}
 use Rattle.task_floor.proofs.laying.add_cells.Given as goal
 
 abbrev pub invariant-loop-value : goal.invariant-loop-value

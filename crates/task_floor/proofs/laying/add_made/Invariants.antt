@@ -1,5 +1,5 @@
 use Rattle.std.proofs.Common.{◌≡◌, ◌++◌, drop}
-use Rattle.floor_steps.specs.inner.Laying.{made_words}
+use Rattle.task_floor.specs.steps.inner.Laying.{made_words}
 use Rattle.task_floor.proofs.laying.add_made.Given as goal
 
 abbrev pub invariant-loop-row : goal.invariant-loop-row

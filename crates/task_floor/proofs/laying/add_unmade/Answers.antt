@@ -1,4 +1,4 @@
-use Rattle.floor_steps.proofs.Laid.{unmade_more}
+use Rattle.task_floor.proofs.steps.Laid.{unmade_more}
 use Rattle.task_floor.proofs.laying.add_unmade.Goals as goal
 
 pub loop-i-preserved : goal.loop-i-preserved

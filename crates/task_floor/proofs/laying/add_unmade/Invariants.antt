@@ -1,5 +1,5 @@
 use Rattle.std.proofs.Common.{◌≡◌, ◌-◌, ◌++◌}
-use Rattle.floor_steps.specs.inner.Laying.{unmade_words}
+use Rattle.task_floor.specs.steps.inner.Laying.{unmade_words}
 use Rattle.task_floor.proofs.laying.add_unmade.Given as goal
 
 abbrev pub invariant-loop-i : goal.invariant-loop-i

@@ -1,5 +1,5 @@
 use Rattle.std.proofs.Common.{◌≡◌, ◌≤◌, ◌++◌, drop, length, map}
-use Rattle.floor_steps.specs.inner.Laying.{held_slot}
+use Rattle.task_floor.specs.steps.inner.Laying.{held_slot}
 use Rattle.task_floor.proofs.laying.fill_slots.Given as goal
 
 -- the rows that are left go into the slots before those that are full

@@ -1,6 +1,6 @@
 use Rattle.std.proofs.Common.{arith, ap, ◌∙◌, length}
 use Rattle.wait_graph.specs.declared.tasks.Link.{Link}
-use Rattle.floor_steps.proofs.Readings.{fresh_count, link_there}
+use Rattle.task_floor.proofs.steps.Readings.{fresh_count, link_there}
 use Rattle.task_floor.proofs.linking.fresh_links.Goals as goal
 
 pub add-requires-clause-parent_there : goal.add-requires-clause-parent_there

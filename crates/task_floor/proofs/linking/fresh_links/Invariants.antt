@@ -1,5 +1,5 @@
 use Rattle.std.proofs.Common.{◌≡◌, map, take}
-use Rattle.floor_steps.specs.inner.Reading.{fresh_link}
+use Rattle.task_floor.specs.steps.inner.Reading.{fresh_link}
 use Rattle.task_floor.proofs.linking.fresh_links.Given as goal
 
 abbrev pub invariant-loop-row : goal.invariant-loop-row

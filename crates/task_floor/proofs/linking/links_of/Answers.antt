@@ -4,8 +4,8 @@ use Rattle.std.proofs.lemmas.List.{length-map}
 use Rattle.wait_graph.specs.declared.tasks.Link.{Link}
 use Rattle.wait_graph.specs.Link.{link_of}
 use Rattle.twe_machine.specs.Rows.{link_of_row}
-use Rattle.floor_steps.specs.inner.Reading.{links_to}
-use Rattle.floor_steps.proofs.Readings.{fresh_here, item_there, link_there, links_all, links_count, set_here}
+use Rattle.task_floor.specs.steps.inner.Reading.{links_to}
+use Rattle.task_floor.proofs.steps.Readings.{fresh_here, item_there, link_there, links_all, links_count, set_here}
 use Rattle.task_floor.proofs.linking.links_of.Goals as goal
 
 pub set_link-requires-clause-there : goal.set_link-requires-clause-there

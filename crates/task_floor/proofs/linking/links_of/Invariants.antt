@@ -1,5 +1,5 @@
 use Rattle.std.proofs.Common.{◌≡◌}
-use Rattle.floor_steps.specs.inner.Reading.{links_to}
+use Rattle.task_floor.specs.steps.inner.Reading.{links_to}
 use Rattle.task_floor.proofs.linking.links_of.Given as goal
 
 abbrev pub invariant-loop-t : goal.invariant-loop-t

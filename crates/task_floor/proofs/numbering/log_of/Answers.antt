@@ -1,6 +1,6 @@
 use Rattle.std.proofs.Common.{◌≡◌, ◌++◌, [], ◌∷◌, sym, ap, ◌∙◌}
-use Rattle.floor_steps.specs.Waking.{with_prints}
-use Rattle.floor_steps.proofs.Logs.{prints_last}
+use Rattle.task_floor.specs.steps.Waking.{with_prints}
+use Rattle.task_floor.proofs.steps.Logs.{prints_last}
 use Rattle.task_floor.proofs.numbering.log_of.Goals as goal
 
 pub returns : goal.returns

@@ -1,5 +1,5 @@
 use Rattle.std.proofs.Common.{◌≡◌, ◌++◌, drop}
-use Rattle.floor_steps.specs.Waking.{numbered_from}
+use Rattle.task_floor.specs.steps.Waking.{numbered_from}
 use Rattle.task_floor.proofs.numbering.numbered.Given as goal
 
 -- the entries that are left get the numbers that follow

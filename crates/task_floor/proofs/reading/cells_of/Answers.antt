@@ -5,7 +5,7 @@ use mathlib.Core.Option as core
 use mir.Val.{SFits}
 use Rattle.floor_table.specs.Layout.{number_at, value_of_word}
 use Rattle.floor_table.proofs.Elements.{word_at}
-use Rattle.floor_steps.proofs.Readings.{cells_step}
+use Rattle.task_floor.proofs.steps.Readings.{cells_step}
 use Rattle.task_floor.proofs.reading.cells_of.Goals as goal
 
 pub value_of-requires : goal.value_of-requires

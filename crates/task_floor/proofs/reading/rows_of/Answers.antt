@@ -4,9 +4,9 @@ use Rattle.floor_rule.specs.declared.view.TaskSlot.{TaskSlot}
 use Rattle.floor_rule.specs.Shown.{is_unjoined}
 use Rattle.floor_table.specs.Layout.{phase_of_word, phase_word_at}
 use Rattle.floor_table.proofs.Elements.{word_at}
-use Rattle.floor_steps.specs.inner.Reading.{held_in, row_in}
-use Rattle.floor_steps.proofs.Readings.{rows_step}
-use Rattle.floor_steps.proofs.Taken.{drop_set}
+use Rattle.task_floor.specs.steps.inner.Reading.{held_in, row_in}
+use Rattle.task_floor.proofs.steps.Readings.{rows_step}
+use Rattle.task_floor.proofs.steps.Taken.{drop_set}
 use Rattle.task_floor.proofs.reading.rows_of.Goals as goal
 
 pub loop-t-preserved : goal.loop-t-preserved

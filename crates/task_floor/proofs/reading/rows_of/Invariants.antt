@@ -1,5 +1,5 @@
 use Rattle.std.proofs.Common.{◌≡◌, ◌++◌, drop, length}
-use Rattle.floor_steps.specs.inner.Reading.{held_in, rows_from}
+use Rattle.task_floor.specs.steps.inner.Reading.{held_in, rows_from}
 use Rattle.task_floor.proofs.reading.rows_of.Given as goal
 
 -- the slots that are left lead to the same rows

@@ -1,6 +1,6 @@
 use Rattle.std.proofs.Common.{List, take, sym, subst}
 use Rattle.effect_sets.specs.declared.effects.Effect.{Effect}
-use Rattle.floor_steps.proofs.Taken.{take_item}
+use Rattle.task_floor.proofs.steps.Taken.{take_item}
 use Rattle.task_floor.specs.inner.Recording.{AreRecordsOf}
 use Rattle.task_floor.proofs.Gathered.{effect_added}
 use Rattle.task_floor.proofs.recording.add_effects.Goals as goal

@@ -1,4 +1,4 @@
-use Rattle.node_rule.specs.Starts.{AreOfEnabled}
+use Rattle.floor_rule.specs.nodes.Starts.{AreOfEnabled}
 use Rattle.task_floor.proofs.Gathered.{first_tasks}
 use Rattle.task_floor.proofs.recording.records_of.Given as goal
 

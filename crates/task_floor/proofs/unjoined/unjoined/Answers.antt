@@ -1,9 +1,9 @@
 use Rattle.std.proofs.Common.{◌||◌, Bool, List, [], ◌∷◌, Option, take, sym, ap, ◌∙◌, arith}
 use Rattle.floor_rule.specs.declared.view.TaskSlot.{TaskSlot}
 use Rattle.floor_rule.specs.Shown.{is_unjoined}
-use Rattle.floor_steps.specs.inner.Reading.{held_in}
-use Rattle.floor_steps.proofs.Readings.{unjoined_more}
-use Rattle.floor_steps.proofs.Taken.{take_item}
+use Rattle.task_floor.specs.steps.inner.Reading.{held_in}
+use Rattle.task_floor.proofs.steps.Readings.{unjoined_more}
+use Rattle.task_floor.proofs.steps.Taken.{take_item}
 use Rattle.task_floor.proofs.unjoined.unjoined.Goals as goal
 
 pub loop-slot-preserved : goal.loop-slot-preserved

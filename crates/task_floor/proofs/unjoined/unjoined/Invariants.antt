@@ -1,7 +1,7 @@
 use Rattle.std.proofs.Common.{◌≡◌, ◌<◌, ℕ, false, length, take}
 use Rattle.std.specs.Prelude.{slice_index_or}
 use Rattle.floor_rule.specs.Shown.{is_unjoined}
-use Rattle.floor_steps.specs.inner.Reading.{held_in}
+use Rattle.task_floor.specs.steps.inner.Reading.{held_in}
 use Rattle.task_floor.proofs.unjoined.unjoined.Given as goal
 
 abbrev pub invariant-loop-slot : goal.invariant-loop-slot

@@ -1,5 +1,5 @@
 use Rattle.std.proofs.Common.{◌≤◌, ◌∙◌, ℕ, List, length, ap, refl, sym, subst}
-use Rattle.twe_limits.specs.Language.{max_text_bytes}
+use Rattle.twe_base.specs.Language.{max_text_bytes}
 use Rattle.command_line.specs.declared.command.Command.{Command}
 use Rattle.command_line.specs.declared.command.Command.TheVariants.{Load}
 use Rattle.command_line.specs.Words.{IsSized}

@@ -4,7 +4,7 @@ use Rattle.twe_program.specs.Program.{Program}
 use Rattle.twe_machine.specs.declared.state.State.{State}
 use Rattle.twe_machine.specs.Runs.{state_after}
 use Rattle.twe_report.specs.Texts.{cell_line, line, prints_text, result_text}
-use Rattle.determinism_results.specs.Main.{HaveSameResult}
+use Rattle.determinism_laws.specs.results.Main.{HaveSameResult}
 use Rattle.text_answers.proofs.laws.deterministic_mains_have_one_result_text.Goals as goal
 
 -- the text is one of the cells, the printed numbers and the number of tasks alone

@@ -1,6 +1,6 @@
 use Rattle.std.proofs.Common.{◌∙◌, List, sym, ap, subst}
 use Rattle.seg_journal.specs.declared.journal.Entry.{Entry}
-use Rattle.twe_limits.specs.Limits.{Bounds}
+use Rattle.twe_base.specs.Limits.{Bounds}
 use Rattle.twe_machine.specs.Runs.{state_after}
 use Rattle.text_answers.specs.Answers.{default_limits}
 use Rattle.text_answers.specs.inner.Given.{IsAnswerOfRun}

@@ -1,6 +1,6 @@
 -- What was placed before the obstacle was taken out again.
 use Rattle.std.proofs.Common.{subst}
-use Rattle.tree_table.specs.declared.slot.ErrandKind.TheVariants.{Admission}
+use Rattle.floor_table.specs.declared.nodes.slot.ErrandKind.TheVariants.{Admission}
 use Rattle.tree_admit.specs.declared.bars.Bar.{Bar}
 use Rattle.tree_admit.specs.declared.placing.Obstacle.{Obstacle}
 use Rattle.tree_admit.specs.Attempts.{IsObstacle, WasBarredFor}
@@ -13,6 +13,7 @@ returns-in-Ok-clause-admitted g c = λ same. placed_all g.N.Planted.nodes c.args
 pub returns-in-InTheWay-clause-held : goal.returns-in-InTheWay-clause-held
 returns-in-InTheWay-clause-held g c =
     let nodes = g.N.Planted.nodes in
+    let lim = g.N.Named.lim in
     let t = c.args.task in
     let effects = c.args.effects.now in
     let before = c.args.stand.now.me in
@@ -20,11 +21,11 @@ returns-in-InTheWay-clause-held g c =
     let after = c.take_out_first.new.stand.me in
     let stopped = c.in-Err.ensures.stopped in
     let out = c.take_out_first.ensures.out in
-    let met = subst (λ (o : Obstacle). IsObstacle Admission middle.0 t effects o) c.in-InTheWay.is stopped.by in
+    let met = subst (λ (o : Obstacle). IsObstacle lim Admission before.0 middle.0 t effects o) c.in-InTheWay.is stopped.by in
     λ bar same. (
       backed_out nodes t effects c.in-Err.stopped.placed before middle after c.requires.may.none stopped.placed out,
-      subst (λ (b : Bar). WasBarredFor after.0 t effects b) (held_by c.in-InTheWay.bar bar same)
-          (barred_still nodes t effects middle after c.in-InTheWay.bar out.keeps met.1),
+      subst (λ (b : Bar). WasBarredFor lim before.0 after.0 t effects b) (held_by c.in-InTheWay.bar bar same)
+          (barred_still nodes t effects lim before middle after c.in-InTheWay.bar out.keeps met.1),
     )
 
 pub returns-in-InTheWay-clause-keeps : goal.returns-in-InTheWay-clause-keeps

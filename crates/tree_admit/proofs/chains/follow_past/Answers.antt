@@ -1,7 +1,9 @@
 -- Each step of the chain goes to a task with a higher number, to which the first one and those that were passed over are led.
-use Rattle.std.proofs.Common.{◌≤◌, ℕ, subst, ◌∙◌, inr, arith}
-use Rattle.admission_core.specs.States.{IsAmong}
-use Rattle.tree_admit.proofs.Following.{followed_trans, follows_only, led_further}
+use Rattle.std.proofs.Common.{◌≤◌, ℕ, [], refl, subst, ◌∙◌, inl, inr, arith}
+use Rattle.admission_laws.specs.admission_core.States.{IsAmong}
+use Rattle.floor_table.specs.nodes.Chains.{starts}
+use Rattle.tree_admit.proofs.Following.{followed_refl, followed_trans, follows_only, led_further}
+use Rattle.tree_admit.proofs.Chained.{chain_ended, chain_longer}
 use Rattle.tree_admit.proofs.Learning.{led_kept}
 use Rattle.tree_admit.proofs.PassedOver.{arrived_pass, walked_on}
 use Rattle.tree_admit.proofs.chains.follow_past.Goals as goal
@@ -9,7 +11,21 @@ use Rattle.tree_admit.proofs.chains.follow_past.Goals as goal
 pub returns-in_default-clause-end : goal.returns-in_default-clause-end
 returns-in_default-clause-end g c =
     let only = follows_only g.N.Named.lim c.loop-at.stand.me c.loop-at.at c.status.result c.status.new.stand.me c.status.ensures.found in
-    led_kept c.loop-at.stand.me.0 c.status.new.stand.me.0 c.args.from c.loop-at.at only.learned c.loop-at.invariant.led
+    (led_kept c.loop-at.stand.me.0 c.status.new.stand.me.0 c.args.from c.loop-at.at only.learned c.loop-at.invariant.led, c.loop-at.invariant.other)
+
+pub returns-in_default-clause-followed : goal.returns-in_default-clause-followed
+returns-in_default-clause-followed g c low =
+    let chain = c.loop-at.invariant.chain low in
+    chain_ended g.N.Named.lim c.args.stand.now.me.0.looks c.loop-at.stand.me c.status.new.stand.me c.args.from c.loop-at.at c.status.result chain.0 chain.1 chain.2 c.status.ensures.found
+    (λ u is. c.in_default.not-Waits u is)
+
+pub returns-clause-end : goal.returns-clause-end
+returns-clause-end g c = (c.loop-at.invariant.led, c.loop-at.invariant.other)
+
+pub returns-clause-followed : goal.returns-clause-followed
+returns-clause-followed g c low =
+    let here = (c.loop-at.invariant.chain low).3 in
+    absurd (omega (arith, here, c.requires.tasks, c.loop-at-test.false))
 
 pub returns-in_default-clause-only : goal.returns-in_default-clause-only
 returns-in_default-clause-only g c =
@@ -50,6 +66,10 @@ loop-at-preserved g c =
     let on = c.in-Waits.on in
     let after = c.status.new.stand.me in
     record {
+      chain = λ low.
+          let chain = c.loop-at.invariant.chain low in
+          chain_longer lim c.args.stand.now.me.0.looks before after c.args.from at on chain.0 chain.1 chain.2 c.in-Waits.ensures.found;
+      other = c.if-on-to.false;
       led = inr (led_further lim before c.args.from at on after c.loop-at.invariant.led c.in-Waits.ensures.found);
       fewer = omega (arith, c.pass_over-rest.ensures.fewer, c.loop-at.invariant.fewer);
       passed = walked_on lim before at on after c.args.to c.args.effect.now c.args.content.now c.pass_over-rest.result c.loop-at.rest c.args.left
@@ -59,3 +79,15 @@ loop-at-preserved g c =
       here = c.status.ensures.same.0 ∙ c.loop-at.invariant.here;
       id = c.status.ensures.same.1 ∙ c.loop-at.invariant.id;
     }
+
+pub loop-at-init : goal.loop-at-init
+loop-at-init g c = record {
+  chain = λ low. ([], refl, starts, low);
+  other = c.requires.other;
+  led = inl refl;
+  fewer = omega arith;
+  passed = λ k r first last at. absurd (omega (arith, first, last));
+  only = followed_refl c.args.stand.now.me;
+  here = refl;
+  id = refl;
+}

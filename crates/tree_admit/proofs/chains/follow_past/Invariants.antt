@@ -1,6 +1,8 @@
--- The stand has only followed waits, and they led from the first task to the one that was reached. The records that were passed
+-- The stand has only followed waits, as its looks say, and they led from the first task to the one that was reached. The records that were passed
 -- over pass, or their tasks lead to that one too.
-use Rattle.std.proofs.Common.{◌≡◌, ◌≤◌, ◌-◌}
+use Rattle.std.proofs.Common.{◌≡◌, ◌≢◌, ◌≤◌, ◌<◌, ◌-◌, ◌++◌, List}
+use Rattle.floor_table.specs.declared.nodes.view.Look.{Look}
+use Rattle.floor_table.specs.nodes.Chains.{CameTo}
 use Rattle.tree_admit.specs.Bars.{IsLedTo}
 use Rattle.tree_admit.specs.Going.{HasOnlyFollowed}
 use Rattle.tree_admit.specs.Passing.{EachBetween}
@@ -9,6 +11,9 @@ use Rattle.tree_admit.proofs.chains.follow_past.Given as goal
 
 abbrev pub invariant-loop-at : goal.invariant-loop-at
 invariant-loop-at g l = record {
+  chain : l.from < g.N.Named.lim.tasks
+      → (looks : List Look) × (l.stand.me.0.looks ≡ looks ++ l.fn.stand.me.0.looks) × CameTo l.from l.at looks × (l.at < g.N.Named.lim.tasks);
+  other : l.at ≢ l.to;
   led : IsLedTo l.stand.me.0 l.from l.at;
   fewer : l.rest ≤ l.left;
   passed : EachBetween (PassesOrLeads l.stand.me.0 l.to l.effect l.at) l.content l.rest l.left;

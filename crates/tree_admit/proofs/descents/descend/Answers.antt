@@ -2,9 +2,9 @@
 use Rattle.std.proofs.Common.{List, None, subst, ◌∙◌}
 use Rattle.region_paths.specs.declared.elements.Elem.{Elem}
 use Rattle.prefix_tree.specs.Nodes.{IsParent, IsTreeOfPaths}
-use Rattle.admission_core.specs.States.{IsAbove}
-use Rattle.admission_core.proofs.TreeLemmas.{root_above}
-use Rattle.tree_ways.proofs.WayLemmas.{room_shrinks}
+use Rattle.admission_laws.specs.admission_core.States.{IsAbove}
+use Rattle.admission_laws.proofs.admission_core.TreeLemmas.{root_above}
+use Rattle.tree_admit.proofs.ways.WayLemmas.{room_shrinks}
 use Rattle.tree_admit.specs.Errands.{errand_at}
 use Rattle.tree_admit.proofs.Descending.{descent_goes, descent_left, descent_stops}
 use Rattle.tree_admit.proofs.Entering.{may_enter}
@@ -60,7 +60,7 @@ returns-in-Err-clause-barred g c =
     let barred = c.in-Err.ensures.barred in (
       descent_left lim start c.requires.outside c.args.errand e n content me has c.loop-node-test.true final gave,
       barred.0,
-      barred_after lim start.0 start.1 (errand_at c.args.errand e n) n content me has c.args.errand.task e c.in-Err.bar None final barred.1 barred.2 gave,
+      barred_after lim start.0 start.1 (errand_at c.args.errand e n) n content me has c.loop-node.stand.me c.args.errand.task e c.in-Err.bar None final (c.requires.outside.none n) c.loop-node.invariant.has.learned.looks barred.1 barred.2 gave,
     )
 
 pub step_down-content-requires-clause-may : goal.step_down-content-requires-clause-may

@@ -1,8 +1,8 @@
 -- The stand holds one node above the place, alone.
 use Rattle.std.proofs.Common.{◌≡◌}
-use Rattle.admission_core.specs.States.{IsAbove}
-use Rattle.tree_table.specs.Seats.{HasOwn}
-use Rattle.tree_ways.specs.Ways.{room_below}
+use Rattle.admission_laws.specs.admission_core.States.{IsAbove}
+use Rattle.floor_table.specs.nodes.Seats.{HasOwn}
+use Rattle.tree_admit.specs.ways.Ways.{room_below}
 use Rattle.tree_admit.specs.Errands.{errand_at}
 use Rattle.tree_admit.specs.Going.{HasNode}
 use Rattle.tree_admit.proofs.descents.descend.Given as goal

@@ -43,7 +43,7 @@ returns-in-Err-clause-barred g c = λ earlier rest may.
     let barred = c.in-Err.ensures.barred in (
       gave_left lim earlier rest a errand.place content me has None final (may.outside.none errand.place) gave,
       barred.0,
-      barred_after lim earlier rest a errand.place content me has errand.task e c.in-Err.bar None final barred.1 barred.2 gave,
+      barred_after lim earlier rest a errand.place content me has c.args.stand.now.me errand.task e c.in-Err.bar None final (may.outside.none errand.place) may.has.learned.looks barred.1 barred.2 gave,
     )
 
 pub returns-then-goes_below-clause-ready : goal.returns-then-goes_below-clause-ready

@@ -1,7 +1,7 @@
 -- The record is put in front of the content, and then marked.
 use Rattle.std.proofs.Common.{◌≡◌, List, ◌∷◌, None, refl, sym, ap, subst, ◌∙◌}
-use Rattle.admission_core.specs.States.{Record}
-use Rattle.node_rule.specs.LockSteps.{stopped}
+use Rattle.admission_laws.specs.admission_core.States.{Record}
+use Rattle.floor_rule.specs.nodes.LockSteps.{stopped}
 use Rattle.tree_admit.specs.Errands.{record_of, with_placed}
 use Rattle.tree_admit.specs.Going.{HasNode}
 use Rattle.tree_admit.proofs.Putting.{at_place, marked_has, may_mark, place_stops, stopped_stops, was_found, was_missed}

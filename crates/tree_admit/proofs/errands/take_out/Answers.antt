@@ -1,7 +1,7 @@
 -- The record is taken out of the content, and then marked; or it is marked as not there.
 use Rattle.std.proofs.Common.{List, None, refl, sym, subst}
-use Rattle.admission_core.specs.States.{Record}
-use Rattle.node_rule.specs.LockSteps.{stopped}
+use Rattle.admission_laws.specs.admission_core.States.{Record}
+use Rattle.floor_rule.specs.nodes.LockSteps.{stopped}
 use Rattle.tree_admit.specs.Errands.{record_of, with_clear, with_removed}
 use Rattle.tree_admit.specs.Going.{HasNode}
 use Rattle.tree_admit.proofs.Putting.{at_place, found_clear, may_find_clear, may_unmark, place_stops, stopped_stops, unmarked_has, was_found, was_missed}

@@ -1,9 +1,9 @@
 -- The content is that of the node that was locked.
 use Rattle.std.proofs.Common.{ℕ, subst}
 use mathlib.Core.Option.{some}
-use Rattle.admission_core.specs.States.{Activity}
-use Rattle.tree_table.specs.declared.slot.TreeSlot.TheVariants as kinds
-use Rattle.tree_table.specs.Seats.{MayLock, TookNode, TreeSeat}
+use Rattle.admission_laws.specs.admission_core.States.{Activity}
+use Rattle.floor_table.specs.declared.nodes.slot.TreeSlot.TheVariants as kinds
+use Rattle.floor_table.specs.nodes.Seats.{MayLock, TookNode, TreeSeat}
 use Rattle.tree_admit.proofs.Taking.{took_content, took_locked, took_own}
 use Rattle.tree_admit.proofs.locking.lock_root.Goals as goal
 

@@ -1,7 +1,7 @@
 -- Each errand adds a record, or meets an obstacle and leaves the records as they are.
 use Rattle.std.proofs.Common.{◌≡◌, ◌∙◌, ℕ, length, subst, arith}
 use Rattle.tree_admit.specs.Attempts.{HasPlacedFirst}
-use Rattle.tree_admit.proofs.Attempts.{placed_more, placed_still}
+use Rattle.tree_admit.proofs.Attempts.{met_since, placed_more, placed_still}
 use Rattle.tree_admit.proofs.placing.place_all.Goals as goal
 
 pub returns-in-Err-clause-stopped : goal.returns-in-Err-clause-stopped
@@ -11,7 +11,8 @@ returns-in-Err-clause-stopped g c =
       within = c.loop-number-test.true;
       placed = placed_still g.N.Planted.nodes c.args.task c.args.effects.now c.loop-number.number c.args.stand.now.me c.loop-number.stand.me c.place_effect.new.stand.me
           c.loop-number.invariant.placed met.0;
-      by = met.1;
+      by = met_since g.N.Planted.nodes c.args.task c.args.effects.now g.N.Named.lim c.args.kind c.args.stand.now.me c.loop-number.stand.me c.place_effect.new.stand.me c.in-Err.by
+          c.loop-number.invariant.placed.keeps met.1;
     }
 
 pub loop-number-preserved : goal.loop-number-preserved

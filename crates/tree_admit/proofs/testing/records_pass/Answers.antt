@@ -1,16 +1,24 @@
 -- Records that pass go on to pass while the stand learns of waits.
 use Rattle.std.proofs.Common.{◌-◌, length, sym, ◌∙◌, arith}
-use Rattle.admission_core.specs.States.{Record}
-use Rattle.node_rule.specs.LockSteps.{IsKnownToPass}
+use Rattle.admission_laws.specs.admission_core.States.{Record}
+use Rattle.floor_rule.specs.nodes.LockSteps.{IsKnownToPass}
 use Rattle.tree_admit.proofs.Between.{at_is_among, both_between, each_among, one_before, this_record}
 use Rattle.tree_admit.proofs.Following.{followed_trans}
+use Rattle.tree_admit.proofs.Learning.{bar_since}
 use Rattle.tree_admit.proofs.PassedOver.{all_pass_kept}
 use Rattle.tree_admit.proofs.testing.records_pass.Goals as goal
 
 pub returns-in-Err-clause-barred : goal.returns-in-Err-clause-barred
 returns-in-Err-clause-barred g c =
-    let r = c.in-Some.r.now in
-    (c.in-Err.ensures.barred.0, (r, at_is_among c.args.content.now (c.loop-left.left - 1) r (sym c.in-Some.ensures), c.in-Err.ensures.barred.1))
+    let r = c.in-Some.r.now in (
+      c.in-Err.ensures.barred.0,
+      (
+        r,
+        at_is_among c.args.content.now (c.loop-left.left - 1) r (sym c.in-Some.ensures),
+        bar_since g.N.Named.lim c.args.task c.args.effect.now c.args.stand.now.me.0 c.loop-left.stand.me.0 c.record_passes.new.stand.me.0 r c.in-Err.bar
+            c.loop-left.invariant.only.learned.looks c.in-Err.ensures.barred.1,
+      ),
+    )
 
 pub returns-in-Err-clause-only : goal.returns-in-Err-clause-only
 returns-in-Err-clause-only g c =

@@ -1,6 +1,6 @@
 -- The records from here on pass, and the stand has only followed waits.
 use Rattle.std.proofs.Common.{◌≡◌, length}
-use Rattle.node_rule.specs.LockSteps.{IsKnownToPass}
+use Rattle.floor_rule.specs.nodes.LockSteps.{IsKnownToPass}
 use Rattle.tree_admit.specs.Going.{HasOnlyFollowed}
 use Rattle.tree_admit.specs.Passing.{EachBetween}
 use Rattle.tree_admit.proofs.testing.records_pass.Given as goal

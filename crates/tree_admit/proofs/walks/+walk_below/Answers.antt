@@ -3,11 +3,11 @@ use Rattle.std.proofs.Common.{◌≡◌, List, ◌∷◌, length, get_or, Some, 
 use Rattle.std.proofs.lemmas.List.Elements.{Contains-get_or}
 use Rattle.region_paths.specs.declared.elements.Elem.{Elem}
 use Rattle.prefix_tree.specs.Nodes.{IsParent, IsTreeOfPaths}
-use Rattle.tree_ways.proofs.WayLemmas.{room_shrinks}
-use Rattle.tree_table.specs.Seats.{TreeSeat, left_to_give}
+use Rattle.tree_admit.proofs.ways.WayLemmas.{room_shrinks}
+use Rattle.floor_table.specs.nodes.Seats.{TreeSeat, left_to_give}
 use Rattle.tree_admit.specs.Descents.{walking}
 use Rattle.tree_admit.specs.Going.{HasOnlyLearned}
-use Rattle.tree_admit.proofs.Learning.{barred_kept, learned_refl, learned_trans, live_kept, worker_kept}
+use Rattle.tree_admit.proofs.Learning.{barred_kept, barred_since, learned_all, learned_refl, learned_trans, live_kept, worker_kept}
 use Rattle.tree_admit.proofs.Stepping.{barred_after, in_hand}
 use Rattle.tree_admit.proofs.Steps.{locked_has, unlocked_learned}
 use Rattle.tree_admit.proofs.Wandering.{AreChildren, at_child, back_at_node, back_has, back_left, back_stops, giving, looked_has, looked_left, looked_stops, may_leave_child, may_lock_child, may_walk_child, none_walked, one_more, whole_walk}
@@ -46,7 +46,7 @@ returns-in-Err-clause-barred g t c = λ earlier rest stack done may.
     let gave = c.back_out.ensures.gave next rest (looked_stops nodes tree lim earlier rest errand e n stack done content start may me only) hand in
     let barred = c.in-Err.ensures.barred in (
       looked_left nodes tree lim earlier rest errand e n stack done content start may me only final gave,
-      barred_after lim earlier rest (walking errand e (n ∷ stack) done) n content me (looked_has nodes tree lim earlier rest errand e n stack done content start may me only) errand.task e c.in-Err.bar next final barred.1 barred.2 gave,
+      barred_after lim earlier rest (walking errand e (n ∷ stack) done) n content me (looked_has nodes tree lim earlier rest errand e n stack done content start may me only) start errand.task e c.in-Err.bar next final may.none may.has.learned.looks barred.1 barred.2 gave,
     )
 
 pub loop-at-init : goal.loop-at-init
@@ -257,8 +257,11 @@ returns-in-Err-walk_below-clause-barred g t c = λ earlier rest stack done may.
     let final = c.back_out-in-Err-walk_below.new.stand.me in
     let next = left_to_give (walking errand e (n ∷ stack) done) stack in
     let gave = c.back_out-in-Err-walk_below.ensures.gave next rest (back_stops nodes tree lim earlier rest errand e n stack done content start may children each rising at within me part below after locked then left) (in_hand lim earlier rest (giving nodes tree lim earlier rest errand e n stack done content start may children each rising at within me part below after locked then left) n content then (back_has nodes tree lim earlier rest errand e n stack done content start may children each rising at within me part below after locked then left)) in
-    let learned : HasOnlyLearned then.0 final.0 = subst (λ (w : TreeSeat). HasOnlyLearned then.0 w.0) (sym gave) (unlocked_learned then.0 then.0 n next (learned_refl then.0)) in
-    (back_left nodes tree lim earlier rest errand e n stack done content start may children each rising at within me part below after locked then left final gave, barred_kept then.0 final.0 errand.task e c.in-Err-walk_below.bar learned barred.1)
+    let learned : HasOnlyLearned then.0 final.0 = subst (λ (w : TreeSeat). HasOnlyLearned then.0 w.0) (sym gave) (unlocked_learned then.0 then.0 n next (learned_refl then.0)) in (
+      back_left nodes tree lim earlier rest errand e n stack done content start may children each rising at within me part below after locked then left final gave,
+      barred_since lim errand.task e earlier me.0 final.0 c.in-Err-walk_below.bar part.has.learned.kept part.has.learned.looks
+          (barred_kept lim errand.task e me.0 then.0 final.0 c.in-Err-walk_below.bar (learned_all then.0 final.0 learned) barred.1),
+    )
 
 pub loop-at-preserved : goal.loop-at-preserved
 loop-at-preserved g t c =

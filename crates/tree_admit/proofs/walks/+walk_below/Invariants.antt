@@ -1,8 +1,8 @@
 -- The stand has walked below the first children, and holds the node as before.
 use Rattle.std.proofs.Common.{◌≡◌, ℕ, List}
-use Rattle.tree_table.specs.declared.slot.TreeSlot.{TreeSlot}
-use Rattle.tree_table.specs.declared.view.TreeView.{TreeView}
-use Rattle.tree_ways.specs.Ways.{room_below}
+use Rattle.floor_table.specs.declared.nodes.slot.TreeSlot.{TreeSlot}
+use Rattle.floor_table.specs.declared.nodes.view.TreeView.{TreeView}
+use Rattle.tree_admit.specs.ways.Ways.{room_below}
 use Rattle.tree_admit.specs.Descents.{MayWalkBelow}
 use Rattle.tree_admit.specs.Going.{HasOnlyLearned}
 use Rattle.tree_admit.proofs.Wandering.{HasWalkedPart}

@@ -1,8 +1,8 @@
 use Rattle.std.proofs.Common.{sym, ap, ◌∙◌, refl, subst}
-use Rattle.text_streams.specs.Ends.{source}
+use Rattle.twe_io.specs.Ends.{source}
 use Rattle.twe_batch.specs.declared.status.BatchStatus.TheVariants.{Usage}
-use Rattle.text_streams.specs.Answers.{on_err}
-use Rattle.twe_batch.specs.Answers.{Cause}
+use Rattle.twe_io.specs.Answers.{on_err}
+use Rattle.twe_batch.specs.Answers.{BatchCause}
 use Rattle.twe_batch.proofs.Causes.{cause_read, short_read}
 use Rattle.twe_batch.proofs.top.answer.Goals as goal
 
@@ -21,5 +21,5 @@ answer_read-requires g c =
 pub returns-in_ok-usage_text-in-None : goal.returns-in_ok-usage_text-in-None
 returns-in_ok-usage_text-in-None g c =
     let src = source g.S.Source.left g.S.Source.faults g.S.Source.read_gives in
-    subst (Cause src c.args.words.now c.args.src.now c.args.src.now) (sym (c.on_err.ensures ∙ ap (on_err Usage) c.in_ok-usage_text-in-None.ensures))
-    (Cause.usage c.in-None.ensures refl)
+    subst (BatchCause src c.args.words.now c.args.src.now c.args.src.now) (sym (c.on_err.ensures ∙ ap (on_err Usage) c.in_ok-usage_text-in-None.ensures))
+    (BatchCause.usage c.in-None.ensures refl)

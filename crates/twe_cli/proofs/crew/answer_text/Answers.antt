@@ -3,7 +3,7 @@ use Rattle.twe_frontend.specs.declared.read.FrontFail.TheVariants.{Refused}
 use Rattle.twe_frontend.specs.declared.refusal.Refusal.{Refusal}
 use Rattle.twe_report.specs.Texts.{refusal_text}
 use Rattle.text_answers.specs.declared.status.Status.TheVariants as statuses
-use Rattle.text_streams.specs.Answers.{on_err}
+use Rattle.twe_io.specs.Answers.{on_err}
 use Rattle.text_answers.specs.Theorem.{HasRefusal}
 use Rattle.text_answers.proofs.Dues.{refused_as}
 use Rattle.twe_cli.proofs.Causes.{due_refused}

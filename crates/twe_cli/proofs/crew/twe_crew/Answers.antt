@@ -1,4 +1,4 @@
-use Rattle.text_streams.specs.Ends.{source, sink}
+use Rattle.twe_io.specs.Ends.{source, sink}
 use Rattle.twe_cli.proofs.Causes.{answers_made}
 use Rattle.twe_cli.proofs.Completeness.{complete}
 use Rattle.twe_cli.proofs.crew.twe_crew.Goals as goal

@@ -1,6 +1,6 @@
 use Rattle.std.proofs.Common.{◌≡◌, ◌∙◌, false, sym}
 use Rattle.text_answers.specs.Input.{has_input}
-use Rattle.text_streams.specs.Ends.{source}
+use Rattle.twe_io.specs.Ends.{source}
 use Rattle.twe_cli.proofs.Causes.{input_of_load}
 use Rattle.twe_cli.proofs.reading.input_of.Goals as goal
 

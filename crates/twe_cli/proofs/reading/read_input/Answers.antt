@@ -1,6 +1,6 @@
 use Rattle.std.proofs.Common.{Err, subst}
 use Rattle.twe_io.specs.declared.whole.ReadFail.{ReadFail}
-use Rattle.text_streams.specs.Ends.{WasRead, source}
+use Rattle.twe_io.specs.Ends.{WasRead, source}
 use Rattle.twe_cli.proofs.Causes.{input_was_read, read_fault, too_long}
 use Rattle.twe_cli.proofs.reading.read_input.Goals as goal
 

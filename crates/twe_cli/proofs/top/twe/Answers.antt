@@ -3,7 +3,7 @@ use Rattle.command_line.specs.Words.{IsReading}
 use Rattle.command_line.specs.declared.command.WordsFail.{WordsFail}
 use Rattle.command_line.proofs.Sizes.{means_sized}
 use Rattle.twe_cli.specs.Answers.{Answers}
-use Rattle.text_streams.specs.Ends.{source, sink}
+use Rattle.twe_io.specs.Ends.{source, sink}
 use Rattle.twe_cli.proofs.Causes.{answers_made, cause_usage}
 use Rattle.twe_cli.proofs.Completeness.{completes_as, memory_completes}
 use Rattle.twe_cli.proofs.top.twe.Goals as goal

@@ -1,5 +1,5 @@
 use Rattle.std.proofs.Common.{subst}
-use Rattle.twe_names.specs.Resolves.{HasCause}
+use Rattle.twe_names.specs.Resolves.{ResolveHasCause}
 use Rattle.twe_names.specs.declared.fail.NameFail.{NameFail}
 use Rattle.twe_frontend.specs.Accepted.{of_names}
 use Rattle.twe_frontend.proofs.FromText.{is_from_text}
@@ -15,4 +15,4 @@ resolve-requires c =
 pub returns-in-Err-Names-clause-refused : goal.returns-in-Err-Names-clause-refused
 returns-in-Err-Names-clause-refused c =
     of_names c.in_ok-tree.tree c.in-Err-Names.rule c.in-Err-Names.place c.in_ok-tree.ensures.tree
-    (subst (λ (fail : NameFail). HasCause c.in_ok-tree.tree fail) c.in-Err-Names.field-0-is c.in-Err-Names.ensures.refused)
+    (subst (λ (fail : NameFail). ResolveHasCause c.in_ok-tree.tree fail) c.in-Err-Names.field-0-is c.in-Err-Names.ensures.refused)

@@ -1,4 +1,4 @@
-use Rattle.text_streams.specs.Ends.{source, sink}
+use Rattle.twe_io.specs.Ends.{source, sink}
 use Rattle.twe_infer.proofs.Causes.{answers_made}
 use Rattle.twe_infer.proofs.top.infer_top.Goals as goal
 

@@ -1,4 +1,4 @@
-use Rattle.twe_machine.proofs.LeftAlone.{moves_leave_alone}
+use Rattle.twe_machine.proofs.tasks.LeftAlone.{moves_leave_alone}
 use Rattle.twe_machine.proofs.laws.a_move_leaves_the_rest_alone.Goals as goal
 
 pub returns : goal.returns

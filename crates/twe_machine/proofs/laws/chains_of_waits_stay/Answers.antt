@@ -1,5 +1,5 @@
-use Rattle.twe_machine.proofs.ChainsStay.{chain_stays, chain_stays_on}
-use Rattle.twe_machine.proofs.ReachedStands.{reached_stands}
+use Rattle.twe_machine.proofs.links.ChainsStay.{chain_stays, chain_stays_on}
+use Rattle.twe_machine.proofs.standing.ReachedStands.{reached_stands}
 use Rattle.twe_machine.proofs.laws.chains_of_waits_stay.Goals as goal
 
 pub returns-clause-a_move : goal.returns-clause-a_move

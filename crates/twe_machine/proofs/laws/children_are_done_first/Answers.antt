@@ -1,4 +1,4 @@
-use Rattle.twe_machine.proofs.DoneFirst.{joined_done, children_joined}
+use Rattle.twe_machine.proofs.tasks.DoneFirst.{joined_done, children_joined}
 use Rattle.twe_machine.proofs.laws.children_are_done_first.Goals as goal
 
 pub returns : goal.returns

@@ -1,4 +1,4 @@
-use Rattle.twe_machine.proofs.DoneStays.{value_stays, value_stays_on}
+use Rattle.twe_machine.proofs.tasks.DoneStays.{value_stays, value_stays_on}
 use Rattle.twe_machine.proofs.laws.done_tasks_stay_done.Goals as goal
 
 pub returns-clause-a_move : goal.returns-clause-a_move

@@ -1,6 +1,6 @@
 use Rattle.twe_machine.specs.Runs.{state_after}
-use Rattle.twe_machine.proofs.AllJournals.{journal_counts}
-use Rattle.twe_machine.proofs.Once.{at_most_once, first_never_made, never_admitted, once}
+use Rattle.twe_machine.proofs.counts.AllJournals.{journal_counts}
+use Rattle.twe_machine.proofs.counts.Once.{at_most_once, first_never_made, never_admitted, once}
 use Rattle.twe_machine.proofs.laws.each_thing_happens_once.Goals as goal
 
 pub returns-clause-at_most_once : goal.returns-clause-at_most_once

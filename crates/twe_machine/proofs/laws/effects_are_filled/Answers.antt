@@ -1,4 +1,4 @@
-use Rattle.twe_machine.proofs.Filled.{reached_filled}
+use Rattle.twe_machine.proofs.tasks.Filled.{reached_filled}
 use Rattle.twe_machine.proofs.laws.effects_are_filled.Goals as goal
 
 pub returns : goal.returns

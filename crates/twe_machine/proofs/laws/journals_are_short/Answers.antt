@@ -1,4 +1,4 @@
-use Rattle.twe_machine.proofs.AllJournals.{journal_length}
+use Rattle.twe_machine.proofs.counts.AllJournals.{journal_length}
 use Rattle.twe_machine.proofs.laws.journals_are_short.Goals as goal
 
 pub returns : goal.returns

@@ -1,4 +1,4 @@
-use Rattle.twe_machine.proofs.LinksAgree.{reached_linked}
+use Rattle.twe_machine.proofs.links.LinksAgree.{reached_linked}
 use Rattle.twe_machine.proofs.laws.links_agree.Goals as goal
 
 pub returns : goal.returns

@@ -1,5 +1,5 @@
 use Rattle.twe_machine.specs.Moves.{start_of}
-use Rattle.twe_machine.proofs.OneLowest.{one_from}
+use Rattle.twe_machine.proofs.replays.OneLowest.{one_from}
 use Rattle.twe_machine.proofs.laws.one_lowest_first.Goals as goal
 
 pub returns : goal.returns

@@ -1,5 +1,5 @@
 use Rattle.twe_machine.specs.Moves.{start_of}
-use Rattle.twe_machine.proofs.Replayed.{one_from}
+use Rattle.twe_machine.proofs.replays.Replayed.{one_from}
 use Rattle.twe_machine.proofs.replaying.moves_make_the_journal.Goals as goal
 
 pub returns : goal.returns

@@ -1,4 +1,4 @@
-use Rattle.twe_machine.proofs.Replayed.{never_both, one_first}
+use Rattle.twe_machine.proofs.replays.Replayed.{never_both, one_first}
 use Rattle.twe_machine.proofs.replaying.one_first_illegal.Goals as goal
 
 pub returns : goal.returns

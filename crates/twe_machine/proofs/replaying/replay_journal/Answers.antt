@@ -4,7 +4,7 @@ use Rattle.seg_journal.specs.Spelling.{move_of}
 use Rattle.twe_machine.specs.declared.state.State.{State}
 use Rattle.twe_machine.specs.Listings.{IsListing}
 use Rattle.twe_machine.specs.Runs.{IsRun}
-use Rattle.twe_machine.proofs.Replayed.{first_at, passed_on}
+use Rattle.twe_machine.proofs.replays.Replayed.{first_at, passed_on}
 use Rattle.twe_machine.proofs.replaying.replay_journal.Goals as goal
 
 -- no move was taken yet

@@ -1,6 +1,6 @@
 use Rattle.std.proofs.Common.{◌≡◌, ◌≤◌, ◌+◌, ◌++◌, drop}
-use Rattle.twe_limits.specs.Language.{max_cells}
-use Rattle.cell_limits.specs.GoesOver.{cells_of}
+use Rattle.twe_base.specs.Language.{max_cells}
+use Rattle.name_check.specs.cell_limits.GoesOver.{cells_of}
 use Rattle.twe_program.specs.Program.{cells_made}
 use Rattle.twe_names.specs.Meaning.{cells_from}
 use Rattle.twe_names.proofs.cells.cells.Given as goal

@@ -1,9 +1,9 @@
 use Rattle.std.proofs.Common.{◌≡◌, ◌≤◌, ◌<◌, ℕ, List, [], ◌∷◌, length, refl, sym, ap, ◌∙◌, subst, arith}
 use Rattle.std.proofs.lemmas.List.{nil_from_length}
 use Rattle.twe_profile.specs.declared.status.ProfileStatus.TheVariants.{Usage}
-use Rattle.text_streams.specs.Answers.{on_err}
-use Rattle.twe_profile.specs.Answers.{Cause}
-use Rattle.text_streams.specs.Ends.{source}
+use Rattle.twe_io.specs.Answers.{on_err}
+use Rattle.twe_profile.specs.Answers.{ProfileCause}
+use Rattle.twe_io.specs.Ends.{source}
 use Rattle.twe_profile.proofs.Causes.{cause_read, short_read}
 use Rattle.twe_profile.proofs.top.answer.Goals as goal
 
@@ -25,8 +25,8 @@ pub returns-in_ok-usage_text-in-len1-up : goal.returns-in_ok-usage_text-in-len1-
 returns-in_ok-usage_text-in-len1-up g c =
     let src = source g.S.Source.left g.S.Source.faults g.S.Source.read_gives in
     let word = first-word c.args.words.now c.in-len1-up.len_at_least in
-    subst (Cause src c.args.words.now c.args.src.now c.args.src.now) (sym (c.on_err.ensures ∙ ap (on_err Usage) c.in_ok-usage_text-in-len1-up.ensures))
-    (Cause.usage word.0 word.1 word.2 refl)
+    subst (ProfileCause src c.args.words.now c.args.src.now c.args.src.now) (sym (c.on_err.ensures ∙ ap (on_err Usage) c.in_ok-usage_text-in-len1-up.ensures))
+    (ProfileCause.usage word.0 word.1 word.2 refl)
 
 -- what was read is short enough
 pub answer_read-requires : goal.answer_read-requires

@@ -1,11 +1,11 @@
 use Rattle.std.proofs.Common.{◌≡◌, ◌≤◌, ◌+◌, ℕ, length, Err, sym, ap, ◌∙◌, subst}
 use Rattle.std.specs.Prelude.{unwrap_or}
-use Rattle.heaviest_chain.specs.declared.chains.Heaviest.{Heaviest}
+use Rattle.span_profile.specs.declared.heaviest_chain.chains.Heaviest.{Heaviest}
 use Rattle.seg_journal.specs.Spelling.{head_lines}
-use Rattle.twe_limits.specs.Limits.{Bounds}
+use Rattle.twe_base.specs.Limits.{Bounds}
 use Rattle.text_answers.proofs.Replays.{illegal_within}
 use Rattle.twe_profile.specs.declared.status.ProfileStatus.TheVariants.{Done, BadJournal}
-use Rattle.text_streams.specs.Answers.{on_err, on_out}
+use Rattle.twe_io.specs.Answers.{on_err, on_out}
 use Rattle.twe_profile.specs.Texts.{profile_text}
 use Rattle.twe_profile.proofs.Causes.{found_illegal, found_profiled}
 use Rattle.twe_profile.proofs.top.answer_found.Goals as goal

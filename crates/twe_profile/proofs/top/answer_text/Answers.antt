@@ -5,8 +5,8 @@ use Rattle.twe_frontend.specs.declared.read.FrontFail.{FrontFail}
 use Rattle.twe_frontend.specs.declared.refusal.Refusal.{Refusal}
 use Rattle.twe_report.specs.Texts.{refusal_text}
 use Rattle.twe_profile.specs.declared.status.ProfileStatus.TheVariants.{Refused}
-use Rattle.text_streams.specs.Answers.{on_err}
-use Rattle.twe_profile.specs.Answers.{Due}
+use Rattle.twe_io.specs.Answers.{on_err}
+use Rattle.twe_profile.specs.Answers.{ProfileDue}
 use Rattle.twe_profile.proofs.Causes.{due_accepted}
 use Rattle.twe_profile.proofs.top.answer_text.Goals as goal
 
@@ -21,5 +21,5 @@ pub returns-in_ok-refusal_text-in-Err-Refused : goal.returns-in_ok-refusal_text-
 returns-in_ok-refusal_text-in-Err-Refused c =
     let program = c.cut_input.result.0.now in
     let cause = subst (λ (fail : FrontFail). HasCause program fail) c.in-Err-Refused.field-0-is c.in-Err-Refused.ensures.refused in
-    subst (Due c.args.text.now) (sym (c.on_err.ensures ∙ (ap (on_err Refused) c.in_ok-refusal_text-in-Err-Refused.ensures ∙ ap (λ (r : Refusal). on_err Refused (refusal_text r)) c.in-Err-Refused.refusal-is)))
-    (Due.refused c.in-Err-Refused.refusal (subst (λ (l : List ℕ). IsRefusal l c.in-Err-Refused.refusal) c.cut_input.ensures.program cause))
+    subst (ProfileDue c.args.text.now) (sym (c.on_err.ensures ∙ (ap (on_err Refused) c.in_ok-refusal_text-in-Err-Refused.ensures ∙ ap (λ (r : Refusal). on_err Refused (refusal_text r)) c.in-Err-Refused.refusal-is)))
+    (ProfileDue.refused c.in-Err-Refused.refusal (subst (λ (l : List ℕ). IsRefusal l c.in-Err-Refused.refusal) c.cut_input.ensures.program cause))

@@ -1,4 +1,4 @@
-use Rattle.text_streams.specs.Ends.{source, sink}
+use Rattle.twe_io.specs.Ends.{source, sink}
 use Rattle.twe_profile.proofs.Causes.{answers_made}
 use Rattle.twe_profile.proofs.top.profile_top.Goals as goal
 

@@ -1,5 +1,5 @@
 use Rattle.std.proofs.Common.{◌≡◌, sym, ap, ◌∙◌, subst}
-use Rattle.soundness_laws.specs.KeepsEffects.{KeepsEffects}
+use Rattle.isolation_laws.specs.soundness.KeepsEffects.{KeepsEffects}
 use Rattle.twe_program.specs.Program.{Program}
 use Rattle.twe_rounds.specs.Crews.{CrewRun}
 use Rattle.floor_crew.specs.inner.GoingOn.{IsSound}

@@ -6,5 +6,5 @@ use Rattle.opt_engine.proofs.draft_core.Core.commit.Goals as goal
 pub returns-clause-ok : goal.returns-clause-ok
 returns-clause-ok g c =
     let core = c.self.inside in
-    answer_kept c.args.p.now g.N.Named.prog core.lim g.N.Named.lim g.N.Named.earlier c.args.self.now core.run c.in_ok-run.run' c.in_ok-after.after c.args.d c.in_ok-after.verdict
+    answer_kept c.args.p.now g.N.RoundName.prog core.lim g.N.RoundName.lim g.N.RoundName.earlier c.args.self.now core.run c.in_ok-run.run' c.in_ok-after.after c.args.d c.in_ok-after.verdict
     c.requires.named c.self.invariant.0 (sym c.take.ensures.value ∙ c.in_ok-run.ensures.ok_part) c.self.view_is c.self.invariant.1 c.in_ok-after.ensures.judges

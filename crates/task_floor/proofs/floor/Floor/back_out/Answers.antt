@@ -1,12 +1,12 @@
 use Rattle.std.proofs.Common.{ℕ, arith, sym, subst}
 use mathlib.Core.Option.{none}
 use Rattle.atomic_table.specs.Table.{Allows, step}
-use Rattle.tree_table.specs.Holds.{TreeKeeps}
-use Rattle.tree_table.specs.Layout.{free_lock, lock_place, tree_slot_count}
-use Rattle.tree_table.specs.Plays.{StopsAt}
-use Rattle.tree_table.specs.Seats.{MayStop}
-use Rattle.tree_table.specs.declared.view.TreeView.{TreeView}
-use Rattle.tree_table.proofs.Calls.{stop_at}
+use Rattle.floor_table.specs.nodes.Holds.{TreeKeeps}
+use Rattle.floor_table.specs.nodes.Layout.{free_lock, lock_place, tree_slot_count}
+use Rattle.floor_table.specs.nodes.Plays.{SeatStopsAt}
+use Rattle.floor_table.specs.nodes.Seats.{MayStop}
+use Rattle.floor_table.specs.declared.nodes.view.TreeView.{TreeView}
+use Rattle.floor_table.proofs.nodes.Calls.{stop_at}
 use Rattle.task_floor.proofs.Givings.{gave_from, has_content, same_view}
 use Rattle.task_floor.proofs.floor.Floor.back_out.Goals as goal
 
@@ -34,7 +34,7 @@ store-requires g c =
     let given = c.give_content.ensures.given may.1 may.3.slot in
     let view = same_view lim me mid n c.args.content may.1 given in
     let P : ℕ → ℕ → Type 0 =
-    λ word slots. Allows (TreeKeeps nodes p lim) slots id mid word (λ k. free_lock) (λ k. StopsAt p lim (step slots word free_lock 0 none) mid free_lock) in
+    λ word slots. Allows (TreeKeeps nodes p lim) slots id mid word (λ k. free_lock) (λ k. SeatStopsAt p lim (step slots word free_lock 0 none) mid free_lock) in
     let allowed : P (lock_place p lim n) (tree_slot_count nodes lim) =
     stop_at nodes p lim id n mid.0 mid.1 may.1 may.0 (subst (λ (v : TreeView). MayStop v n may.0) (sym view) may.2)
     (has_content lim me mid n c.args.content may.1 may.3 given) in

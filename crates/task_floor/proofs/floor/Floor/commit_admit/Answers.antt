@@ -1,8 +1,8 @@
 use Rattle.std.proofs.Common.{ℕ, ℤ, List, ap, ◌∙◌}
 use Rattle.seg_journal.specs.declared.journal.End.TheVariants.{Admitted}
 use Rattle.seg_journal.specs.declared.moves.Kind.TheVariants.{Admit}
-use Rattle.journal_merge.specs.declared.numbered.NumberedEntry.{NumberedEntry}
-use Rattle.floor_steps.specs.Committing.{with_entry}
+use Rattle.seg_journal.specs.declared.numbered.NumberedEntry.{NumberedEntry}
+use Rattle.task_floor.specs.steps.Committing.{with_entry}
 use Rattle.task_floor.proofs.floor.Floor.commit_admit.Goals as goal
 
 pub draw_admission-clock-requires-clause-may : goal.draw_admission-clock-requires-clause-may

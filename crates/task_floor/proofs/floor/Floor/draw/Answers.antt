@@ -3,10 +3,10 @@ use Rattle.std.specs.Prelude.{◌^◌}
 use Rattle.atomic_table.specs.Table.{Allows}
 use Rattle.floor_table.specs.Layout.{clock_place}
 use Rattle.floor_table.specs.Tells.{clock_step}
-use Rattle.tree_table.specs.EntrySeats.{DrewTreeEntry}
-use Rattle.tree_table.specs.Holds.{TreeKeeps}
-use Rattle.tree_table.specs.Layout.{tree_slot_count}
-use Rattle.tree_table.proofs.Entries.{draw_tree_entry}
+use Rattle.floor_table.specs.nodes.EntrySeats.{DrewTreeEntry}
+use Rattle.floor_table.specs.nodes.Holds.{TreeKeeps}
+use Rattle.floor_table.specs.nodes.Layout.{tree_slot_count}
+use Rattle.floor_table.proofs.nodes.Entries.{draw_tree_entry}
 use Rattle.task_floor.proofs.floor.Floor.draw.Goals as goal
 
 pub fetch_add-requires : goal.fetch_add-requires

@@ -2,10 +2,10 @@ use Rattle.std.proofs.Common.{ℕ, ◌+◌, ◌%◌, arith, sym, subst}
 use Rattle.std.specs.Prelude.{◌^◌}
 use Rattle.atomic_table.specs.Table.{Allows}
 use Rattle.floor_table.specs.Layout.{clock_place}
-use Rattle.tree_table.specs.EntrySeats.{DrewAdmission}
-use Rattle.tree_table.specs.Holds.{TreeKeeps}
-use Rattle.tree_table.specs.Layout.{tree_slot_count}
-use Rattle.tree_table.proofs.Admissions.{draw_admission}
+use Rattle.floor_table.specs.nodes.EntrySeats.{DrewAdmission}
+use Rattle.floor_table.specs.nodes.Holds.{TreeKeeps}
+use Rattle.floor_table.specs.nodes.Layout.{tree_slot_count}
+use Rattle.floor_table.proofs.nodes.Admissions.{draw_admission}
 use Rattle.task_floor.proofs.floor.Floor.draw_admission.Goals as goal
 
 pub fetch_add-requires : goal.fetch_add-requires

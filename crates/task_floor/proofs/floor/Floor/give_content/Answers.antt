@@ -1,4 +1,4 @@
-use Rattle.tree_table.specs.declared.slot.TreeSlot.TheVariants as kinds
+use Rattle.floor_table.specs.declared.nodes.slot.TreeSlot.TheVariants as kinds
 use Rattle.task_floor.specs.Contents.{nothing}
 use Rattle.task_floor.proofs.Givings.{exchanged, out_is}
 use Rattle.task_floor.proofs.floor.Floor.give_content.Goals as goal

@@ -1,5 +1,5 @@
 use Rattle.std.proofs.Common.{arith}
-use Rattle.tree_table.proofs.Joins.{join_tree}
+use Rattle.floor_table.proofs.nodes.Joins.{join_tree}
 use Rattle.task_floor.proofs.floor.Floor.join.Goals as goal
 
 pub join_seat-requires : goal.join_seat-requires

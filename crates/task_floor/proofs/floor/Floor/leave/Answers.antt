@@ -1,12 +1,12 @@
 use Rattle.std.proofs.Common.{ℕ, arith, sym, subst, Some}
 use mathlib.Core.Option.{none}
 use Rattle.atomic_table.specs.Table.{Allows, step}
-use Rattle.tree_table.specs.Holds.{TreeKeeps}
-use Rattle.tree_table.specs.Layout.{free_lock, lock_place, tree_slot_count}
-use Rattle.tree_table.specs.Plays.{GoesOn}
-use Rattle.tree_table.specs.Seats.{MayGoOn}
-use Rattle.tree_table.specs.declared.view.TreeView.{TreeView}
-use Rattle.tree_table.proofs.Calls.{go_on}
+use Rattle.floor_table.specs.nodes.Holds.{TreeKeeps}
+use Rattle.floor_table.specs.nodes.Layout.{free_lock, lock_place, tree_slot_count}
+use Rattle.floor_table.specs.nodes.Plays.{SeatGoesOn}
+use Rattle.floor_table.specs.nodes.Seats.{MayGoOn}
+use Rattle.floor_table.specs.declared.nodes.view.TreeView.{TreeView}
+use Rattle.floor_table.proofs.nodes.Calls.{go_on}
 use Rattle.task_floor.proofs.Givings.{gave_from, has_content, same_view}
 use Rattle.task_floor.proofs.floor.Floor.leave.Goals as goal
 
@@ -35,7 +35,7 @@ store-requires g c =
     let view = same_view lim me mid n c.args.content may.1 given in
     let P : ℕ → ℕ → Type 0 =
     λ word slots. Allows (TreeKeeps nodes p lim) slots id mid word (λ k. free_lock)
-    (λ k. GoesOn nodes p lim (step slots word free_lock 0 none) mid free_lock) in
+    (λ k. SeatGoesOn nodes p lim (step slots word free_lock 0 none) mid free_lock) in
     let allowed : P (lock_place p lim n) (tree_slot_count nodes lim) =
     go_on nodes p lim id n mid.0 mid.1 may.1 may.0 (subst (λ (v : TreeView). MayGoOn nodes v n may.0) (sym view) may.2)
     (has_content lim me mid n c.args.content may.1 may.3 given) in

@@ -6,10 +6,10 @@ use Rattle.floor_rule.specs.declared.view.Touch.TheVariants.{Read}
 use Rattle.floor_table.specs.Layout.{cell_place}
 use Rattle.floor_table.specs.Plays.{LoadsCell}
 use Rattle.floor_table.specs.Tells.{IsLastTouch, Seat, with_touch}
-use Rattle.tree_table.specs.FloorSeats.{LoadsTreeCell, floor_seat}
-use Rattle.tree_table.specs.Holds.{TreeKeeps}
-use Rattle.tree_table.specs.Layout.{tree_slot_count}
-use Rattle.tree_table.proofs.FloorCalls.{load_cell}
+use Rattle.floor_table.specs.nodes.FloorSeats.{LoadsTreeCell, floor_seat}
+use Rattle.floor_table.specs.nodes.Holds.{TreeKeeps}
+use Rattle.floor_table.specs.nodes.Layout.{tree_slot_count}
+use Rattle.floor_table.proofs.nodes.FloorCalls.{load_cell}
 use Rattle.task_floor.proofs.Told.{stays, told}
 use Rattle.task_floor.proofs.floor.Floor.load.Goals as goal
 

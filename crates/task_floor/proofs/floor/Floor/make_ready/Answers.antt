@@ -1,9 +1,10 @@
 use Rattle.std.proofs.Common.{◌∙◌, inl, inr, sym}
 use Rattle.floor_table.specs.Layout.{word_of_phase}
-use Rattle.floor_steps.proofs.InHand.{may_run}
-use Rattle.tree_table.specs.FloorSeats.{floor_seat}
+use Rattle.task_floor.proofs.steps.InHand.{may_run}
+use Rattle.floor_table.specs.nodes.FloorSeats.{floor_seat}
 use Rattle.task_floor.proofs.GoingOn.{looked_above, looked_enough, looked_in_hand, looked_moves, looked_phase, same_enough, then_moves, was_in_hand}
-use Rattle.task_floor.proofs.Valuing.{look_live, look_slots, look_worker}
+use Rattle.task_floor.proofs.Looking.{has_looked}
+use Rattle.task_floor.proofs.Valuing.{look_live, look_slots, look_worker, not_had_since}
 use Rattle.task_floor.proofs.floor.Floor.make_ready.Goals as goal
 
 pub resume-requires-clause-live : goal.resume-requires-clause-live
@@ -116,3 +117,8 @@ returns-in-Faulted-clause-enough g c turn hand =
 
 pub returns-in-Faulted-clause-moves : goal.returns-in-Faulted-clause-moves
 returns-in-Faulted-clause-moves g c = looked_moves g.N.Planted.nodes g.N.Named.lim c.args.stand.now.me c.status.new.stand.me c.args.task c.status.result c.status.ensures.found
+
+pub returns-in-Waits-clause-waits : goal.returns-in-Waits-clause-waits
+returns-in-Waits-clause-waits g c on is =
+    not_had_since c.args.stand.now.me.0.looks c.status.new.stand.me.0.looks c.resume.new.stand.me.0.looks on
+    (has_looked g.N.Named.lim c.args.stand.now.me c.status.new.stand.me c.args.task (word_of_phase c.status.result) c.status.ensures.found).looks (c.resume.ensures.waits on is)

@@ -1,4 +1,4 @@
-use Rattle.floor_steps.proofs.LeavingTurns.{enabled_is}
+use Rattle.task_floor.proofs.steps.LeavingTurns.{enabled_is}
 use Rattle.task_floor.proofs.floor.Floor.park.Goals as goal
 
 pub leave_with_phase-requires-clause-may : goal.leave_with_phase-requires-clause-may

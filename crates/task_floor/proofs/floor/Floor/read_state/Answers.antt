@@ -6,9 +6,9 @@ use Rattle.twe_machine.specs.declared.state.TaskRow.{TaskRow}
 use Rattle.twe_machine.specs.Rows.{link_of_row}
 use Rattle.twe_machine.specs.Runs.{IsReached, state_after}
 use Rattle.floor_rule.proofs.FirstFaults.{first_fault_is}
-use Rattle.floor_table.specs.Layout.{asked_of_clock, cells_from, number_at}
+use Rattle.floor_table.specs.Layout.{asked_of_clock, cell_words_from, number_at}
 use Rattle.floor_table.proofs.Elements.{word_at}
-use Rattle.floor_steps.proofs.Readings.{rows_ordered, state_is, tasks_are}
+use Rattle.task_floor.proofs.steps.Readings.{rows_ordered, state_is, tasks_are}
 use Rattle.task_floor.proofs.floor.Floor.read_state.Goals as goal
 
 pub cells_of-requires-clause-small : goal.cells_of-requires-clause-small
@@ -50,7 +50,7 @@ returns g c =
     c.asked_of-asked.ensures.value ∙ ap (λ (l : List ℕ). asked_of_clock (slice_index l 0)) read ∙ (sym (ap (λ (o : core.Option ℕ). asked_of_clock (number_at o)) (word_at words 0 (omega (arith, many)))) ∙ rest.asked) in
     state_is p lim well (state_after p lim journal) reached words slots c.requires.shows rest c.in_ok-values.values c.in_ok-tasks.tasks c.in_ok-links.links c.args.prints
     c.asked_of-asked.result c.first_fault_in.result
-    (c.in_ok-values.ensures ∙ (ap (λ (l : List ℕ). cells_from l 8 c.args.cells) read ∙ (ap (cells_from words 8) c.requires.cells ∙ rest.cells)))
+    (c.in_ok-values.ensures ∙ (ap (λ (l : List ℕ). cell_words_from l 8 c.args.cells) read ∙ (ap (cell_words_from words 8) c.requires.cells ∙ rest.cells)))
     tasks
     (c.in_ok-links.ensures ∙ ap (λ (l : List TaskRow). map link_of_row l) c.as_slice.ensures)
     c.requires.prints

@@ -1,7 +1,7 @@
 use Rattle.std.proofs.Common.{◌≡◌, sym, ap, ◌∙◌}
 use Rattle.twe_machine.specs.declared.state.State.{State}
 use Rattle.twe_machine.specs.Runs.{state_after}
-use Rattle.floor_steps.proofs.Rested.{journal_shown, parts_numbered}
+use Rattle.task_floor.proofs.steps.Rested.{journal_shown, parts_numbered}
 use Rattle.task_floor.proofs.floor.Floor.rest.Goals as goal
 
 pub merge-requires : goal.merge-requires

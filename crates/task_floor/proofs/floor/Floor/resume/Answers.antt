@@ -1,7 +1,7 @@
-use Rattle.floor_steps.proofs.InHand.{may_store_running}
-use Rattle.tree_table.specs.FloorSeats.{floor_seat}
+use Rattle.task_floor.proofs.steps.InHand.{may_store_running}
+use Rattle.floor_table.specs.nodes.FloorSeats.{floor_seat}
 use Rattle.task_floor.proofs.GoingOn.{enough_now, moves_now, same_enough, still_in_hand}
-use Rattle.task_floor.proofs.Valuing.{more_live, more_slots}
+use Rattle.task_floor.proofs.Valuing.{more_live, more_slots, waits_for}
 use Rattle.task_floor.proofs.floor.Floor.resume.Goals as goal
 
 pub set_phase-requires-clause-live : goal.set_phase-requires-clause-live
@@ -51,3 +51,6 @@ returns-clause-enough g c turn hand =
     let may = may_store_running (floor_seat b) (floor_seat b) t c.args.on _ turn c.args.frame.now still waits known in
     enough_now nodes a b t c.args.on turn c.args.frame.now c.requires.on.1 hand waits more lim after _ known (more_slots lim a b c.args.on more c.requires.slots) c.set_phase.ensures.stays (c.set_phase.ensures.stored turn may)
     (same_enough nodes a t first.0 turn c.args.frame.now first.1 hand first.2)
+
+pub returns-in-None-clause-waits : goal.returns-in-None-clause-waits
+returns-in-None-clause-waits g c on is = waits_for c.args.stand.now.me.0.looks c.value_of.new.stand.me.0.looks c.args.on on is c.in-None.ensures.none

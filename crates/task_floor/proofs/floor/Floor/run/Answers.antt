@@ -2,8 +2,8 @@ use Rattle.std.proofs.Common.{◌≡◌, sym, subst}
 use Rattle.twe_program.specs.Program.{Program}
 use Rattle.twe_program.specs.WellFormed.{IsWellFormed}
 use Rattle.seg_exec.specs.Segment.{CarriesOut, MayCarryOut}
-use Rattle.floor_steps.specs.Segments.{HasRun}
-use Rattle.tree_table.specs.FloorSeats.{floor_seat}
+use Rattle.task_floor.specs.steps.Segments.{HasRunSegment}
+use Rattle.floor_table.specs.nodes.FloorSeats.{floor_seat}
 use Rattle.task_floor.specs.Segments.{StandFollows}
 use Rattle.task_floor.specs.Stands.{StaysInTree, TreeStand}
 use Rattle.task_floor.proofs.Carrying.{carried_stays, carried_there, has_run_tree, may_carry_tree}
@@ -31,10 +31,10 @@ returns-clause-ran g c t turn may =
     let carried : CarriesOut p (StandFollows lim) c.args.frame.now c.segment-segment.result c.in_ok-stop.stop c.run_segment.new.frame c.run_segment.new.cells = c.in_ok-stop.ensures.segment in
     let from : CarriesOut p (StandFollows lim) c.args.frame.now old c.in_ok-stop.stop c.run_segment.new.frame c.run_segment.new.cells =
     subst (λ (s : TreeStand). CarriesOut p (StandFollows lim) c.args.frame.now s c.in_ok-stop.stop c.run_segment.new.frame c.run_segment.new.cells) c.segment-segment.ensures carried in
-    let ran : HasRun p (floor_seat old.me) (floor_seat c.run_segment.new.cells.me) t turn c.run_segment.new.frame c.in_ok-stop.stop =
+    let ran : HasRunSegment p (floor_seat old.me) (floor_seat c.run_segment.new.cells.me) t turn c.run_segment.new.frame c.in_ok-stop.stop =
     has_run_tree p lim old c.run_segment.new.cells c.args.frame.now c.run_segment.new.frame c.in_ok-stop.stop from t turn may in
-    subst (λ (q : Program). HasRun q (floor_seat old.me) (floor_seat new.me) t turn c.run_segment.new.frame c.in_ok-stop.stop) c.requires.named
-    (subst (λ (s : TreeStand). HasRun p (floor_seat old.me) (floor_seat s.me) t turn c.run_segment.new.frame c.in_ok-stop.stop) (sym c.into_stand.ensures) ran)
+    subst (λ (q : Program). HasRunSegment q (floor_seat old.me) (floor_seat new.me) t turn c.run_segment.new.frame c.in_ok-stop.stop) c.requires.named
+    (subst (λ (s : TreeStand). HasRunSegment p (floor_seat old.me) (floor_seat s.me) t turn c.run_segment.new.frame c.in_ok-stop.stop) (sym c.into_stand.ensures) ran)
 
 pub returns-clause-stays : goal.returns-clause-stays
 returns-clause-stays g c =

@@ -4,10 +4,10 @@ use Rattle.atomic_table.specs.Table.{Allows, step}
 use Rattle.floor_table.specs.Layout.{phase_place, word_of_phase}
 use Rattle.floor_table.specs.Plays.{StoresPhase}
 use Rattle.floor_table.specs.Tells.{Seat}
-use Rattle.tree_table.specs.FloorSeats.{StoresTreePhase, floor_seat}
-use Rattle.tree_table.specs.Holds.{TreeKeeps}
-use Rattle.tree_table.specs.Layout.{tree_slot_count}
-use Rattle.tree_table.proofs.PhaseCalls.{store_phase}
+use Rattle.floor_table.specs.nodes.FloorSeats.{StoresTreePhase, floor_seat}
+use Rattle.floor_table.specs.nodes.Holds.{TreeKeeps}
+use Rattle.floor_table.specs.nodes.Layout.{tree_slot_count}
+use Rattle.floor_table.proofs.nodes.PhaseCalls.{store_phase}
 use Rattle.task_floor.proofs.Told.{stays, told}
 use Rattle.task_floor.proofs.floor.Floor.set_phase.Goals as goal
 

@@ -2,10 +2,10 @@ use Rattle.std.proofs.Common.{ℕ, arith, sym, subst}
 use mathlib.Core.Option.{none}
 use Rattle.atomic_table.specs.Table.{Allows, step}
 use Rattle.floor_table.specs.Layout.{phase_place}
-use Rattle.tree_table.specs.Follows.{FollowedPhase, Follows}
-use Rattle.tree_table.specs.Holds.{TreeKeeps}
-use Rattle.tree_table.specs.Layout.{tree_slot_count}
-use Rattle.tree_table.proofs.Following.{follow}
+use Rattle.floor_table.specs.nodes.Follows.{FollowedPhase, FollowsWait}
+use Rattle.floor_table.specs.nodes.Holds.{TreeKeeps}
+use Rattle.floor_table.specs.nodes.Layout.{tree_slot_count}
+use Rattle.floor_table.proofs.nodes.Following.{follow}
 use Rattle.task_floor.proofs.floor.Floor.status.Goals as goal
 
 pub load-word-requires : goal.load-word-requires
@@ -21,7 +21,7 @@ load-word-requires g c =
     let here = c.requires.here in
     let same = c.self.view_is in
     let count = tree_slot_count nodes lim in
-    let P : ℕ → ℕ → Type 0 = λ word slots. Allows (TreeKeeps nodes p lim) slots id me word (λ n. n) (Follows p lim (step slots word 0 0 none) me) in
+    let P : ℕ → ℕ → Type 0 = λ word slots. Allows (TreeKeeps nodes p lim) slots id me word (λ n. n) (FollowsWait p lim (step slots word 0 0 none) me) in
     let allowed : P (phase_place p c.args.task) count = follow nodes p lim id c.args.task me.0 me.1 c.requires.live below in
     let at_word : P c.phase_place-place.result count = subst (λ (w : ℕ). P w count) (sym place) allowed in
     (cc (here, same), omega (arith, words, place, below), subst (P c.phase_place-place.result) (sym c.self.invariant.4) at_word)

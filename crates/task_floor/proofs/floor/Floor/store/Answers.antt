@@ -5,10 +5,10 @@ use Rattle.atomic_table.specs.Table.{Allows, step}
 use Rattle.floor_table.specs.Layout.{cell_place}
 use Rattle.floor_table.specs.Plays.{StoresCell}
 use Rattle.floor_table.specs.Tells.{Seat}
-use Rattle.tree_table.specs.FloorSeats.{StoresTreeCell, floor_seat}
-use Rattle.tree_table.specs.Holds.{TreeKeeps}
-use Rattle.tree_table.specs.Layout.{tree_slot_count}
-use Rattle.tree_table.proofs.FloorCalls.{store_cell}
+use Rattle.floor_table.specs.nodes.FloorSeats.{StoresTreeCell, floor_seat}
+use Rattle.floor_table.specs.nodes.Holds.{TreeKeeps}
+use Rattle.floor_table.specs.nodes.Layout.{tree_slot_count}
+use Rattle.floor_table.proofs.nodes.FloorCalls.{store_cell}
 use Rattle.task_floor.proofs.Told.{stays, told}
 use Rattle.task_floor.proofs.floor.Floor.store.Goals as goal
 

@@ -6,11 +6,13 @@ use Rattle.atomic_table.specs.Table.{Allows, step}
 use Rattle.floor_rule.proofs.Puts.{none_some, some_one}
 use Rattle.floor_rule.specs.Rows.{slot_of}
 use Rattle.floor_table.specs.Layout.{free_word, taken_word, turn_place}
-use Rattle.tree_table.specs.declared.slot.TreeSlot.TheVariants as kinds
-use Rattle.tree_table.specs.Holds.{TreeKeeps}
-use Rattle.tree_table.specs.Layout.{tree_slot_count}
-use Rattle.tree_table.specs.TurnSeats.{TookTreeTurn, TriesTreeTurn}
-use Rattle.tree_table.proofs.Takes.{try_tree_turn}
+use Rattle.floor_table.specs.declared.nodes.slot.TreeSlot.TheVariants as kinds
+use Rattle.floor_table.specs.nodes.Holds.{TreeKeeps}
+use Rattle.floor_table.specs.nodes.Layout.{tree_slot_count}
+use Rattle.floor_table.specs.declared.nodes.view.Look.TheVariants.{AtTurn}
+use Rattle.floor_table.specs.nodes.Looks.{looked_seat}
+use Rattle.floor_table.specs.nodes.TurnSeats.{TookTreeTurn, TriesTreeTurn}
+use Rattle.floor_table.proofs.nodes.Takes.{try_tree_turn}
 use Rattle.task_floor.proofs.Taking.{has_taken_task, held_is, home_is, out_first, took_of}
 use Rattle.task_floor.proofs.floor.Floor.take_turn.Goals as goal
 
@@ -42,7 +44,7 @@ returns-then-found-ne0-clause-busy g c =
     let after = c.compare_exchange-found.new.seat.me in
     let found = c.compare_exchange-found.result in
     ⊎_elim (λ (took : (found ≡ free_word) × TookTreeTurn nodes me c.args.task after). absurd (c.if-found-ne0.true took.0))
-    (λ (missed : (found ≢ free_word) × (after ≡ me)). record { found = found; busy = missed.0; named = c.found_busy.ensures; seat = missed.1 })
+    (λ (missed : (found ≢ free_word) × (after ≡ looked_seat me (AtTurn c.args.task found))). record { found = found; busy = missed.0; named = c.found_busy.ensures; seat = missed.1 })
     (c.compare_exchange-found.ensures.2 c.args.task c.turn_place-place.ensures)
 
 pub exchange-home-requires : goal.exchange-home-requires

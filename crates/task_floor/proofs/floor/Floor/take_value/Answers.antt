@@ -2,9 +2,11 @@ use Rattle.std.proofs.Common.{◌≡◌, sym, ap, subst, ◌∙◌, w32, to_z, o
 use Rattle.std.proofs.lemmas.Int.{to_z-of_z}
 use Rattle.floor_rule.specs.declared.view.Phase.{Phase}
 use Rattle.floor_table.specs.Layout.{phase_of_word, word_of_phase}
-use Rattle.floor_steps.specs.Resuming.{KnowsValue}
-use Rattle.tree_table.specs.FloorSeats.{floor_seat}
-use Rattle.task_floor.proofs.Valuing.{gave_more_beside, live_looked, live_taken, may_give_looked, slots_looked, value_known}
+use Rattle.task_floor.specs.steps.Resuming.{KnowsValue}
+use Rattle.floor_table.specs.nodes.FloorSeats.{floor_seat}
+use Rattle.floor_table.proofs.Steps.{phase_again}
+use Rattle.task_floor.proofs.Looking.{busy_more}
+use Rattle.task_floor.proofs.Valuing.{busy_not_had, gave_more_beside, live_looked, live_taken, may_give_looked, slots_looked, value_known, value_not_had}
 use Rattle.task_floor.proofs.floor.Floor.take_value.Goals as goal
 
 pub status-phase-requires-clause-live : goal.status-phase-requires-clause-live
@@ -56,8 +58,8 @@ returns-in-Done-clause-more g c =
     let back = may_give_looked nodes a mid c.args.task c.in-Ok.slot took lim after found c.status-phase.ensures.found c.requires.closed c.requires.idle in
     gave_more_beside nodes a mid c.args.task c.in-Ok.slot took lim after found c.status-phase.ensures.found c.give_turn.new.stand.me (c.give_turn.ensures.gave took.floor.turn a.1 back)
 
-pub returns-in_default-phase : goal.returns-in_default-phase
-returns-in_default-phase g c =
+pub returns-in_default : goal.returns-in_default
+returns-in_default g c =
     let nodes = g.N.Planted.nodes in
     let lim = g.N.Named.lim in
     let a = c.args.stand.now.me in
@@ -68,9 +70,17 @@ returns-in_default-phase g c =
     let back = may_give_looked nodes a mid c.args.task c.in-Ok.slot took lim after found c.status-phase.ensures.found c.requires.closed c.requires.idle in
     record {
       value = tt;
+      none = value_not_had nodes a mid c.args.task c.in-Ok.slot took lim after found c.status-phase.ensures.found c.give_turn.new.stand.me (c.give_turn.ensures.gave took.floor.turn a.1 back)
+          (λ done. c.in_default.not-Done (sym (phase_again c.status-phase.result) ∙ done));
       more = gave_more_beside nodes a mid c.args.task c.in-Ok.slot took lim after found c.status-phase.ensures.found c.give_turn.new.stand.me (c.give_turn.ensures.gave took.floor.turn a.1 back);
       same = (
         c.give_turn.ensures.same.0 ∙ (c.status-phase.ensures.same.0 ∙ c.in-Ok.ensures.same.0),
         c.give_turn.ensures.same.1 ∙ (c.status-phase.ensures.same.1 ∙ c.in-Ok.ensures.same.1),
       );
     }
+
+pub returns-in-Err-clause-none : goal.returns-in-Err-clause-none
+returns-in-Err-clause-none g c = busy_not_had c.args.stand.now.me c.take_turn.new.stand.me c.args.task _ c.in-Err.ensures.busy
+
+pub returns-in-Err-clause-more : goal.returns-in-Err-clause-more
+returns-in-Err-clause-more g c = busy_more c.args.stand.now.me c.take_turn.new.stand.me c.args.task _ c.in-Err.ensures.busy

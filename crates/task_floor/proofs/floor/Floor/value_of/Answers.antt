@@ -1,6 +1,8 @@
+use Rattle.std.proofs.Common.{None, Some, refl, sym, ◌∙◌}
 use Rattle.floor_table.specs.Layout.{word_of_phase}
-use Rattle.task_floor.proofs.Looking.{looked_more}
-use Rattle.task_floor.proofs.Valuing.{look_closed, look_idle, look_live, look_slots, looked_then_more}
+use Rattle.floor_table.proofs.Steps.{phase_again}
+use Rattle.task_floor.proofs.Looking.{has_looked, looked_more}
+use Rattle.task_floor.proofs.Valuing.{look_closed, look_idle, look_live, look_not_had, look_slots, looked_then_more, none_had_since}
 use Rattle.task_floor.proofs.floor.Floor.value_of.Goals as goal
 
 pub take_value-requires-clause-live : goal.take_value-requires-clause-live
@@ -21,3 +23,13 @@ returns-in-Done-clause-more g c =
 
 pub returns-in_default-clause-more : goal.returns-in_default-clause-more
 returns-in_default-clause-more g c = looked_more g.N.Named.lim c.args.stand.now.me c.status.new.stand.me c.args.task c.args.task (word_of_phase c.status.result) c.status.ensures.found
+
+pub returns-in-Done-clause-none : goal.returns-in-Done-clause-none
+returns-in-Done-clause-none g c =
+    none_had_since c.args.stand.now.me.0.looks c.status.new.stand.me.0.looks c.take_value.new.stand.me.0.looks c.args.task c.take_value.result
+    (has_looked g.N.Named.lim c.args.stand.now.me c.status.new.stand.me c.args.task (word_of_phase c.status.result) c.status.ensures.found).looks c.take_value.ensures.none
+
+pub returns-in_default-clause-none : goal.returns-in_default-clause-none
+returns-in_default-clause-none g c =
+    look_not_had g.N.Named.lim c.args.stand.now.me c.status.new.stand.me c.args.task (word_of_phase c.status.result) c.status.ensures.found
+    (λ done. c.in_default.not-Done (sym (phase_again c.status.result) ∙ done))

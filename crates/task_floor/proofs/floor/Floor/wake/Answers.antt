@@ -1,12 +1,13 @@
-use Rattle.std.proofs.Common.{◌++◌, ℕ, List, length, replicate, ◌∙◌, ap, subst, arith}
+use Rattle.std.proofs.Common.{◌++◌, ℕ, List, length, replicate, ◌∙◌, ap, subst, sym, arith}
 use Rattle.region_paths.specs.declared.elements.Elem.{Elem}
 use Rattle.prefix_tree.specs.Nodes.{IsTreeOfPaths}
 use Rattle.seg_journal.specs.declared.journal.Entry.{Entry}
-use Rattle.twe_limits.specs.Limits.{Bounds, IsWithin}
-use Rattle.admission_core.specs.States.{IsAmong, Record}
-use Rattle.node_rule.specs.Starts.{AreOfEnabled}
-use Rattle.floor_steps.specs.Waking.{log_of}
-use Rattle.floor_steps.proofs.Woken.{cells_many, clock_few, shows_run, tasks_few}
+use Rattle.twe_base.specs.Limits.{Bounds, IsWithin}
+use Rattle.admission_laws.specs.admission_core.States.{IsAmong, Record}
+use Rattle.floor_rule.specs.nodes.Fitting.{IsDistinct}
+use Rattle.floor_rule.specs.nodes.Starts.{AreOfEnabled}
+use Rattle.task_floor.specs.steps.Waking.{log_of}
+use Rattle.task_floor.proofs.steps.Woken.{cells_many, clock_few, shows_run, tasks_few}
 use Rattle.task_floor.specs.inner.Recording.{HoldRecords}
 use Rattle.task_floor.proofs.Planted.{records_within, shows_planted}
 use Rattle.task_floor.proofs.floor.Floor.wake.Goals as goal
@@ -18,8 +19,11 @@ records_of-requires g c =
     let most = within.tasks_most in
     omega (arith, few, most)
 
-pub contents_of-requires : goal.contents_of-requires
-contents_of-requires g c r among =
+pub contents_of-requires-clause-once : goal.contents_of-requires-clause-once
+contents_of-requires-clause-once g c = subst IsDistinct (sym c.as_slice.ensures) c.in_ok-records.ensures.once
+
+pub contents_of-requires-clause-within : goal.contents_of-requires-clause-within
+contents_of-requires-clause-within g c r among =
     let here = subst (IsAmong r) c.as_slice.ensures among in
     let low = records_within c.args.shape.now c.args.rest.state c.in_ok-records.records c.in_ok-records.ensures r here in
     let many = c.nodes-nodes.ensures.count in

@@ -3,8 +3,8 @@ use Rattle.std.proofs.lemmas.Int.{to_z-of_z}
 use Rattle.seg_exec.specs.Access.{HasWritten}
 use Rattle.floor_rule.specs.declared.view.Touch.TheVariants.{Write}
 use Rattle.floor_table.specs.Tells.{IsLatest, WroteCell}
-use Rattle.floor_steps.proofs.Touching.{may_write_value}
-use Rattle.tree_table.specs.FloorSeats.{floor_seat}
+use Rattle.task_floor.proofs.steps.Touching.{may_write_value}
+use Rattle.floor_table.specs.nodes.FloorSeats.{floor_seat}
 use Rattle.task_floor.specs.Segments.{MayWriteCell}
 use Rattle.task_floor.specs.Stands.{TreeStand}
 use Rattle.task_floor.proofs.Touching.{has_written, stored_touch, touch_live, tree_ways}

@@ -1,15 +1,9 @@
-use Rattle.std.proofs.Common.{◌≡◌, ◌≢◌, ◌≤◌, ℕ, List, Some, subst}
-use Rattle.std.specs.Prelude.{slice_get}
 use Rattle.std.proofs.lemmas.Option.{slice_get_within}
-use Rattle.wait_graph.specs.Waiting.{YieldsTo}
-use Rattle.twe_machine.specs.declared.state.TaskStatus.TheVariants.{Enabled}
-use Rattle.twe_machine.specs.Legal.{Interfere}
-use Rattle.twe_machine.specs.Rows.{HasStatus}
-use Rattle.twe_machine.proofs.Filled.{reached_filled}
-use Rattle.twe_machine.proofs.ListedBars.{admits}
-use Rattle.twe_machine.proofs.MadeTasks.{made_row, orphan_by}
-use Rattle.twe_machine.proofs.ReachedStands.{reached_stands}
-use Rattle.twe_machine.proofs.SettlesNext.{as_many_links}
+use Rattle.twe_machine.proofs.tasks.Filled.{reached_filled}
+use Rattle.twe_machine.proofs.listing.ListedBars.{admits}
+use Rattle.twe_machine.proofs.tasks.MadeTasks.{made_row, orphan_by}
+use Rattle.twe_machine.proofs.standing.ReachedStands.{reached_stands}
+use Rattle.twe_machine.proofs.standing.SettlesNext.{as_many_links}
 use Rattle.twe_machine.proofs.enabled_tasks.EnabledTasks.bar.Goals as goal
 
 pub is_pure-requires : goal.is_pure-requires
@@ -42,22 +36,19 @@ known-from-requires-clause-orphan c =
     let r = c.requires.reachable in
     orphan_by c.args.st.now c.args.t (made_row r.0 r.2.0 c.args.st.now c.args.t (reached_stands r.0 r.2.0 c.args.st.now r.1 r.2.1) c.requires.made).1
 
-pub bar_from-requires-clause-there : goal.bar_from-requires-clause-there
-bar_from-requires-clause-there c = slice_get_within c.args.st.now.tasks c.args.t c.requires.made.0 c.requires.made.1
+pub bar_past-requires-clause-there : goal.bar_past-requires-clause-there
+bar_past-requires-clause-there c = slice_get_within c.args.st.now.tasks c.args.t c.requires.made.0 c.requires.made.1
 
-pub bar_from-requires-clause-linked : goal.bar_from-requires-clause-linked
-bar_from-requires-clause-linked c =
+pub bar_past-requires-clause-linked : goal.bar_past-requires-clause-linked
+bar_past-requires-clause-linked c =
     let r = c.requires.reachable in as_many_links r.0 r.2.0 c.args.st.now (reached_stands r.0 r.2.0 c.args.st.now r.1 r.2.1)
 
-pub bar_from-requires-clause-filled : goal.bar_from-requires-clause-filled
-bar_from-requires-clause-filled c = let r = c.requires.reachable in reached_filled r.0 r.2.0 c.args.st.now r.1 r.2.1
+pub bar_past-requires-clause-filled : goal.bar_past-requires-clause-filled
+bar_past-requires-clause-filled c = let r = c.requires.reachable in reached_filled r.0 r.2.0 c.args.st.now r.1 r.2.1
 
 -- no enabled task is a bar
 pub returns-in-None-clause-none : goal.returns-in-None-clause-none
 returns-in-None-clause-none c =
     let st = c.args.st.now in
     let t = c.args.t in
-    admits st c.args.self.now.tasks c.known-from.result t c.known-from.ensures
-    (subst (λ (xs : List ℕ). (i s : ℕ) → c.known-from.result ≤ i → slice_get xs i ≡ Some s → s ≢ t → HasStatus st s Enabled → Interfere st s t → YieldsTo st.links s t)
-    c.as_slice.ensures c.in-None.ensures.none)
-    c.requires.listing.all c.requires.made
+    admits st c.args.self.now.tasks c.known-from.result t c.known-from.ensures c.in-None.ensures.none c.requires.listing.all c.requires.made

@@ -1,6 +1,6 @@
 use Rattle.std.proofs.Common.{◌+◌, ℕ, sym, subst}
 use Rattle.twe_machine.specs.Listings.{IsPath}
-use Rattle.twe_machine.proofs.ListEdits.{path_extended, swap_keeps}
+use Rattle.twe_machine.proofs.lists.ListEdits.{path_extended, swap_keeps}
 use Rattle.twe_machine.proofs.enabled_tasks.EnabledTasks.extend.Goals as goal
 
 -- one task more is on the path

@@ -1,7 +1,7 @@
 use Rattle.std.proofs.Common.{◌<◌, ℕ, List, get_or, length, subst}
 use Rattle.std.proofs.lemmas.Option.{slice_get-get_or}
 use Rattle.wait_graph.specs.Waiting.{WaitsOn}
-use Rattle.twe_machine.proofs.ListedBars.{path_leads}
+use Rattle.twe_machine.proofs.listing.ListedBars.{path_leads}
 use Rattle.twe_machine.proofs.enabled_tasks.EnabledTasks.known.Goals as goal
 
 -- the tasks of the path wait for its last one, and so for the task

@@ -1,5 +1,5 @@
 use Rattle.std.proofs.Common.{arith}
-use Rattle.twe_machine.proofs.MadeTasks.{none_enabled}
+use Rattle.twe_machine.proofs.tasks.MadeTasks.{none_enabled}
 use Rattle.twe_machine.proofs.enabled_tasks.EnabledTasks.new.Goals as goal
 
 -- at the start no task is enabled

@@ -1,4 +1,4 @@
-use Rattle.twe_machine.proofs.Listed.{is_listing, was_linked, was_path}
+use Rattle.twe_machine.proofs.listing.Listed.{is_listing, was_linked, was_path}
 use Rattle.twe_machine.proofs.enabled_tasks.EnabledTasks.note.Goals as goal
 
 pub extend-requires : goal.extend-requires

@@ -1,4 +1,4 @@
-use Rattle.twe_machine.proofs.ListEdits.{path_pushed}
+use Rattle.twe_machine.proofs.lists.ListEdits.{path_pushed}
 use Rattle.twe_machine.proofs.enabled_tasks.EnabledTasks.push.Goals as goal
 
 -- the path stays

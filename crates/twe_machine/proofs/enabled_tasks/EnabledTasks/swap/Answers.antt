@@ -1,6 +1,6 @@
 use Rattle.std.proofs.Common.{List, ℕ, ap, ◌∙◌, get_or}
 use Rattle.std.specs.Prelude.{slice_set}
-use Rattle.twe_machine.proofs.ListEdits.{swapped}
+use Rattle.twe_machine.proofs.lists.ListEdits.{swapped}
 use Rattle.twe_machine.proofs.enabled_tasks.EnabledTasks.swap.Goals as goal
 
 pub returns-clause-swapped : goal.returns-clause-swapped

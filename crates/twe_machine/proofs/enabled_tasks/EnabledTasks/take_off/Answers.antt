@@ -1,7 +1,7 @@
 use Rattle.std.proofs.Common.{◌-◌, ℕ, List, sym, subst, arith}
 use Rattle.std.specs.List.{Contains}
 use Rattle.std.proofs.lemmas.Option.{slice_get_within}
-use Rattle.twe_machine.proofs.ListEdits.{cut_keeps, path_taken}
+use Rattle.twe_machine.proofs.lists.ListEdits.{cut_keeps, path_taken}
 use Rattle.twe_machine.proofs.enabled_tasks.EnabledTasks.take_off.Goals as goal
 
 -- the task comes to the end of the list, which is cut off

@@ -6,8 +6,8 @@ use Rattle.twe_machine.specs.declared.state.State.{State}
 use Rattle.twe_machine.specs.Legal.{MayMove}
 use Rattle.twe_machine.specs.Moves.{move_result}
 use Rattle.twe_machine.specs.Runs.{IsRun, entry_of}
-use Rattle.twe_machine.proofs.Listed.{was_listed}
-use Rattle.twe_machine.proofs.Replayed.{run_more}
+use Rattle.twe_machine.proofs.listing.Listed.{was_listed}
+use Rattle.twe_machine.proofs.replays.Replayed.{run_more}
 use Rattle.twe_machine.proofs.replaying.Replaying.take_move.Goals as goal
 
 pub step-requires-clause-reached : goal.step-requires-clause-reached

@@ -1,0 +1,53 @@
+-- What an activity that has been past a node holds or has finished.
+use Rattle.std.proofs.Common.{ℕ, ◌<◌, List, [], ◌∷◌, length, refl, ◌⊎◌, inl, inr}
+use Rattle.region_paths.specs.declared.elements.Elem.{Elem}
+use Rattle.prefix_tree.specs.Nodes.{IsTreeOfPaths}
+use Rattle.admission_laws.specs.admission_core.Tasks.{Tasks}
+use Rattle.admission_laws.specs.admission_core.States.{IsAmong, IsAbove, ActivityIsOver, Purpose, Stage, Descends, Steps, Walks, Leaves, held, finished}
+use Rattle.admission_laws.specs.admission_core.Events.{MayBegin}
+use Rattle.admission_laws.proofs.admission_core.TreeLemmas.{above_antisym, over_above, above_over}
+use Rattle.admission_laws.proofs.admission_core.StackLemmas.{stack_has}
+use Rattle.admission_laws.proofs.admission_core.Invariant.{IsOnWay, IsPast, IsMine}
+
+-- x lies at or below a finished node
+abbrev pub IsUnderFinished : List (List Elem) → Stage → ℕ → Type 0
+IsUnderFinished nodes stage x = (f : ℕ) × IsAmong f (finished stage) × IsAbove nodes f x
+
+pub past_mine : (nodes : List (List Elem)) (ts : Tasks) (w : ℕ) (purpose : Purpose) (stage : Stage) (x : ℕ) → IsMine ts w purpose stage → IsPast nodes stage x → MayBegin ts w purpose
+past_mine nodes ts w purpose (Descends n) x mine past = mine
+past_mine nodes ts w purpose (Steps n c) x mine past = mine
+past_mine nodes ts w purpose (Walks stack done) x mine past = mine
+past_mine nodes ts w purpose (Leaves ns) x mine past = absurd past
+
+-- it holds a node below x, or x lies under a finished node
+pub past_holds : (nodes : List (List Elem)) (stage : Stage) (x : ℕ) → IsPast nodes stage x → ((last : ℕ) × IsAmong last (held stage) × ActivityIsOver nodes x last) ⊎ IsUnderFinished nodes stage x
+past_holds nodes (Descends n) x past = inl (n, inl refl, past)
+past_holds nodes (Steps n c) x past = inl (c, inl refl, past)
+past_holds nodes (Walks [] done) x past = absurd past
+past_holds nodes (Walks (n ∷ stack) done) x (inl over) = inl (n, inl refl, over)
+past_holds nodes (Walks (n ∷ stack) done) x (inr low) = inr low
+past_holds nodes (Leaves ns) x past = absurd past
+
+module _ (nodes : List (List Elem)) (tree : IsTreeOfPaths nodes) where
+  -- what lies above x has been passed too, or x lies under a finished node
+  pub past_higher : (stage : Stage) (x y : ℕ) → IsAbove nodes y x → IsPast nodes stage x → IsPast nodes stage y ⊎ IsUnderFinished nodes stage x
+  past_higher (Descends n) x y above past = inl (above_over nodes tree y x n above past)
+  past_higher (Steps n c) x y above past = inl (above_over nodes tree y x c above past)
+  past_higher (Walks [] done) x y above past = absurd past
+  past_higher (Walks (n ∷ stack) done) x y above (inl over) = inl (inl (above_over nodes tree y x n above over))
+  past_higher (Walks (n ∷ stack) done) x y above (inr low) = inr low
+  past_higher (Leaves ns) x y above past = absurd past
+
+  beyond : (place x n : ℕ) → IsAbove nodes place x → ActivityIsOver nodes x n → IsAbove nodes n place → ⊥
+  beyond place x n low over way =
+      let whole = over_above nodes tree x n place over way in
+      whole.other (above_antisym nodes tree x place whole.above low)
+
+  -- of what it has been past, it holds what lies at or below its place, or that lies under a finished node
+  pub past_place : (place : ℕ) (stage : Stage) (x : ℕ) → place < length nodes → IsOnWay nodes place stage → IsAbove nodes place x → IsPast nodes stage x → IsAmong x (held stage) ⊎ IsUnderFinished nodes stage x
+  past_place place (Descends n) x there way low past = absurd (beyond place x n low past way.above)
+  past_place place (Steps n c) x there way low past = absurd (beyond place x c low past way.1)
+  past_place place (Walks [] done) x there way low past = absurd past
+  past_place place (Walks (n ∷ stack) done) x there way low (inl over) = inl (stack_has nodes tree place there n stack x way low over.above)
+  past_place place (Walks (n ∷ stack) done) x there way low (inr under) = inr under
+  past_place place (Leaves ns) x there way low past = absurd past

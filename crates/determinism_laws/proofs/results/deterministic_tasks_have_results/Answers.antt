@@ -1,0 +1,5 @@
+use Rattle.determinism_laws.proofs.results.Results.{tasks_have_results}
+use Rattle.determinism_laws.proofs.results.deterministic_tasks_have_results.Goals as goal
+
+pub returns : goal.returns
+returns c = tasks_have_results

@@ -1,0 +1,5 @@
+use Rattle.determinism_laws.proofs.theorem.Elided.{deterministic_tasks_as_run}
+use Rattle.determinism_laws.proofs.theorem.deterministic_tasks_elide_as_run.Goals as goal
+
+pub returns : goal.returns
+returns c = deterministic_tasks_as_run

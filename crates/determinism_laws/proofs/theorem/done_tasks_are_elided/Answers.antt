@@ -1,0 +1,5 @@
+use Rattle.determinism_laws.proofs.theorem.Elided.{done_tasks_elided}
+use Rattle.determinism_laws.proofs.theorem.done_tasks_are_elided.Goals as goal
+
+pub returns : goal.returns
+returns c = done_tasks_elided

@@ -1,0 +1,5 @@
+use Rattle.determinism_laws.proofs.theorem.Played.{executions_played}
+use Rattle.determinism_laws.proofs.theorem.executions_are_played.Goals as goal
+
+pub returns : goal.returns
+returns c = executions_played

@@ -1,5 +1,0 @@
-use Rattle.floor_steps.proofs.CommittedEntries.{status_is}
-use Rattle.floor_steps.proofs.laws.an_end_says_the_status.Goals as goal
-
-pub returns : goal.returns
-returns c lim asked row frame stop enabled = status_is lim asked row frame stop enabled

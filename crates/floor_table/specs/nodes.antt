@@ -1,0 +1,15 @@
+pub mod Layout
+pub mod TreeOf
+pub mod Holds
+pub mod Seats
+pub mod Plays
+pub mod Without
+pub mod RecordSeats
+pub mod Looks
+pub mod Follows
+pub mod FloorSeats
+pub mod TurnSeats
+pub mod EntrySeats
+pub mod Chains
+pub mod Shown
+pub mod inner

@@ -1,0 +1,42 @@
+-- Where the words and slots of a floor with nodes lie in its table, and what the words of nodes mean.
+use Rattle.std.specs.Prelude.{◌+◌, ℕ, zero, suc, List, length}
+use mathlib.Core.Option.{Option, none, some}
+use Rattle.region_paths.specs.declared.elements.Elem.{Elem}
+use Rattle.twe_base.specs.Limits.{Bounds}
+use Rattle.twe_program.specs.Program.{Program}
+use Rattle.floor_table.specs.Layout.{word_count}
+use Rattle.floor_rule.specs.nodes.Trees.{LockWord, Unlocked, Locked}
+
+-- The words of the floor come first, as in a table of the floor. For each node its lock word follows.
+abbrev pub lock_place : Program → Bounds → ℕ → ℕ
+lock_place p lim n = word_count p lim + n
+
+-- how many words there are: those of the floor, and one lock word for each node
+abbrev pub tree_word_count : List (List Elem) → Program → Bounds → ℕ
+tree_word_count nodes p lim = word_count p lim + length nodes
+
+-- the slots of the tasks come first, and then for each node the slot of its content
+abbrev pub content_place : Bounds → ℕ → ℕ
+content_place lim n = lim.tasks + n
+
+-- how many slots there are: one for each task that may be made, and one for each node
+abbrev pub tree_slot_count : List (List Elem) → Bounds → ℕ
+tree_slot_count nodes lim = lim.tasks + length nodes
+
+-- the lock word of a node that nobody has locked, and of one that this worker has locked
+abbrev pub free_lock : ℕ
+free_lock = 0
+
+-- the lock word of a node that this worker has locked
+abbrev pub taken_lock : ℕ → ℕ
+taken_lock worker = suc worker
+
+-- what a lock word says
+abbrev pub lock_of_word : ℕ → LockWord
+lock_of_word zero = Unlocked
+lock_of_word (suc worker) = Locked worker
+
+-- beyond the words of the table there is no node that could be locked
+abbrev pub lock_at : Option ℕ → LockWord
+lock_at none = Unlocked
+lock_at (some n) = lock_of_word n

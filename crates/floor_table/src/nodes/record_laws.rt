@@ -1,0 +1,53 @@
+//! The steps on records. Each is a store to the lock word of a node that the seat has locked, and leaves the word as it was.
+ghost use Rattle.std.specs.Prelude.{◌≡◌, ℕ, List, Some};
+ghost use Rattle.atomic_table.specs.Table.{Allows, step};
+ghost use mathlib.Core.Option.{none};
+ghost use Rattle.region_paths.specs.declared.elements.Elem.{Elem};
+ghost use Rattle.twe_base.specs.Limits.{Bounds};
+ghost use Rattle.twe_program.specs.Program.{Program};
+ghost use Rattle.admission_laws.specs.admission_core.States.{Activity, Record};
+ghost use Rattle.floor_rule.specs.nodes.FactSteps.{FindsClear};
+ghost use Rattle.floor_rule.specs.nodes.RecordSteps.{IsWithout};
+ghost use Rattle.floor_table.specs.declared.nodes.slot.TreeSlot.{TreeSlot};
+ghost use Rattle.floor_table.specs.declared.nodes.view.TreeView.{TreeView};
+ghost use Rattle.floor_table.specs.nodes.Holds.{TreeKeeps};
+ghost use Rattle.floor_table.specs.nodes.Layout.{lock_place, taken_lock, tree_slot_count};
+ghost use Rattle.floor_table.specs.nodes.RecordSeats.{MarksClear, MarksPlaced, MarksRemoved, MayMark, MayUnmark, record_about};
+ghost use Rattle.floor_table.specs.nodes.Seats.{tree_seen, turns_seen};
+ghost use Rattle.floor_table.specs.nodes.Without.{without_record};
+
+/// A seat at its place may mark the record that it went for as placed.
+pub fn a_record_may_be_marked_placed()
+    ensures { (nodes : List (List Elem)) (p : Program) (lim : Bounds) (id : ℕ) (v : TreeView) (mine : List (ℕ × TreeSlot))
+        (a : Activity) (content : List Record) → MayMark nodes v a content
+        → Allows (TreeKeeps nodes p lim) (tree_slot_count nodes lim) id (v, mine) (lock_place p lim a.place)
+        (λ x. taken_lock v.floor.worker)
+        (λ x. MarksPlaced nodes p lim
+        (step (tree_slot_count nodes lim) (lock_place p lim a.place) (taken_lock v.floor.worker) 0 none)
+        (v, mine) (taken_lock v.floor.worker)) }
+{}
+
+/// A seat at its place may mark the record that it went for as removed. It knows from then on that the record does not stand.
+pub fn a_record_may_be_marked_removed()
+    ensures { (nodes : List (List Elem)) (p : Program) (lim : Bounds) (id : ℕ) (v : TreeView) (mine : List (ℕ × TreeSlot))
+        (a : Activity) (content : List Record) → MayUnmark v a content
+        → Allows (TreeKeeps nodes p lim) (tree_slot_count nodes lim) id (v, mine) (lock_place p lim a.place)
+        (λ x. taken_lock v.floor.worker)
+        (λ x. MarksRemoved p lim (step (tree_slot_count nodes lim) (lock_place p lim a.place) (taken_lock v.floor.worker) 0 none)
+        (v, mine) (taken_lock v.floor.worker)) }
+{}
+
+/// A seat that has locked its place and does not find the record there that it went for may keep in mind that it does not stand.
+pub fn a_node_may_be_marked_clear()
+    ensures { (nodes : List (List Elem)) (p : Program) (lim : Bounds) (id : ℕ) (v : TreeView) (mine : List (ℕ × TreeSlot))
+        (a : Activity) → v.activity ≡ Some a → FindsClear (turns_seen v) (tree_seen v) 0 (record_about a)
+        → Allows (TreeKeeps nodes p lim) (tree_slot_count nodes lim) id (v, mine) (lock_place p lim a.place)
+        (λ x. taken_lock v.floor.worker)
+        (λ x. MarksClear p lim (step (tree_slot_count nodes lim) (lock_place p lim a.place) (taken_lock v.floor.worker) 0 none)
+        (v, mine) (taken_lock v.floor.worker)) }
+{}
+
+/// What `without` leaves of a list are the other records.
+pub fn the_others_are_left()
+    ensures { (r : Record) (l : List Record) → IsWithout r l (without_record r l) }
+{}

@@ -1,4 +1,0 @@
-pub mod Built
-pub mod Chains
-pub mod Nodes
-pub mod inner

@@ -1,2 +1,0 @@
--- Lists of entries in the slots of their numbers.
-pub mod Slots

@@ -1,6 +1,0 @@
-use Rattle.std.proofs.Common.{◌≡◌, ◌+◌, length, drop}
-use Rattle.journal_merge.specs.Merging.{all_of}
-use Rattle.journal_merge.proofs.merging.empty_slots.Given as goal
-
-abbrev pub invariant-loop-part : goal.invariant-loop-part
-invariant-loop-part l = length l.slots + length (all_of (drop l.part-index l.parts)) ≡ length (all_of l.parts)

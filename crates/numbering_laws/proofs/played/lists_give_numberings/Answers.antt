@@ -1,5 +1,0 @@
-use Rattle.numbering_laws.proofs.Listed.{few_below, listed_apart, listed_at}
-use Rattle.numbering_laws.proofs.played.lists_give_numberings.Goals as goal
-
-pub returns : goal.returns
-returns c = record { apart = listed_apart; at = listed_at; few = few_below }

@@ -1,5 +1,0 @@
-use Rattle.opt_crew.proofs.crew.round_of_one.Given as goal
-
--- the round is about the program and the limits, and the journal with the first move
-abbrev pub ghosts-alone : goal.ghosts-alone
-ghosts-alone g a = record { prog = a.p.now; lim = a.lim; earlier = a.run.journal }

@@ -1,0 +1,131 @@
+-- From the answer of a call whose status is 0 to the run theorem.
+use Rattle.std.proofs.Common.{◌≡◌, ◌≤◌, ℕ, ℤ, Bool, true, false, List, [], length, Option, Some, Ok, refl, sym, ap, ◌∙◌, subst, arith}
+use Rattle.seg_journal.specs.declared.journal.Entry.{Entry}
+use Rattle.twe_base.specs.Language.{max_text_bytes}
+use Rattle.twe_base.specs.Limits.{Bounds}
+use Rattle.twe_program.specs.Program.{Program}
+use Rattle.twe_program.specs.WellFormed.{IsWellFormed}
+use Rattle.twe_frontend.specs.Accepted.{Accepted}
+use Rattle.twe_machine.specs.declared.ending.Outcome.{Outcome}
+use Rattle.twe_machine.specs.declared.ending.Outcome.TheVariants as outcomes
+use Rattle.twe_machine.specs.declared.state.State.{State}
+use Rattle.twe_machine.specs.Runs.{AllTasksDone, Legal, state_after}
+use Rattle.isolation_laws.specs.soundness.KeepsEffects.{KeepsEffects}
+use Rattle.isolation_laws.specs.Within.{AlwaysWithin}
+use Rattle.command_line.specs.declared.command.Command.TheVariants.{Run}
+use Rattle.twe_report.specs.Texts.{result_text}
+use Rattle.twe_io.specs.Answers.{Tells, on_out}
+use Rattle.twe_io.specs.Ends.{SinkTells, SourceTells, Took, WasRead}
+use Rattle.twe_io.specs.Runs.{WriteCalls}
+use Rattle.text_answers.specs.Answer.{Answer}
+use Rattle.text_answers.specs.Answers.{AnswersRun, Due, with_journal}
+use Rattle.text_answers.specs.Theorem.{HasRun}
+use Rattle.text_answers.specs.declared.book.Book.{Book}
+use Rattle.text_answers.specs.declared.status.Status.{Status}
+use Rattle.text_answers.specs.declared.status.Status.TheVariants.{Done, Fault, Stuck, Unfinished, WriteFault}
+use Rattle.run_theorem.specs.Journals.{AlwaysApart, AlwaysDeclared, EachTaskOnce}
+use Rattle.run_theorem.specs.Theorem.{RunTheorem, output_of_run}
+
+-- a run whose status is 0 has finished all tasks, and its answer has the result
+done_answer : (p : Program) (last : State) (prints : List ℤ) (outcome : Outcome) (plain : Answer) → AnswersRun p last prints outcome plain → plain.status ≡ Done
+    → (outcome ≡ outcomes.AllDone) × (plain ≡ on_out Done (result_text p last))
+done_answer p last prints outcomes.AllDone plain is done = (refl, is)
+done_answer p last prints (outcomes.Fault task kind place) plain is done =
+    let other : Fault ≡ Done = sym (ap (λ (a : Answer). a.status) is) ∙ done in absurd (cc (other))
+done_answer p last prints outcomes.Stuck plain is done =
+    let other : Stuck ≡ Done = sym (ap (λ (a : Answer). a.status) is.3) ∙ done in absurd (cc (other))
+done_answer p last prints outcomes.Unfinished plain is done =
+    let other : Unfinished ≡ Done = sym (ap (λ (a : Answer). a.status) is) ∙ done in absurd (cc (other))
+
+-- the book and the answer of a run whose status is 0
+pub record DoneRun (workers : ℕ) (lim : Bounds) (asked : Bool) (text : List ℕ) (book : Book) (answer : Answer) : Type 0 where
+  pub program : Program
+  pub accepted : Accepted text program
+  pub has : HasRun program lim workers outcomes.AllDone book
+  pub same : answer ≡ with_journal asked lim book.journal (on_out Done (result_text program (state_after program lim book.journal)))
+
+pub done_run : (workers : ℕ) (lim : Bounds) (asked : Bool) (text : List ℕ) (book : Book) (answer : Answer) → Due (Run workers lim asked) text book answer → answer.status ≡ Done
+    → DoneRun workers lim asked text book answer
+done_run workers lim asked text book answer (Due.refused r is has) done = absurd (cc (done))
+done_run workers lim asked text book answer (Due.accepted p command is has) done = absurd (cc (command))
+done_run workers lim asked text book answer (Due.loaded crew n p outcome plain command is has answers) done = absurd (cc (command))
+done_run workers lim asked text book answer (Due.replayed used p command is answers) done = absurd (cc (command))
+done_run workers lim asked text book answer (Due.ran crew used flag p outcome plain command is has answers) done =
+    let crews : crew ≡ workers = cc (command) in
+    let limits : used ≡ lim = cc (command) in
+    let flags : flag ≡ asked = cc (command) in
+    let ended = done_answer p (state_after p used book.journal) _ outcome plain answers done in
+    let whole = with_journal flag used book.journal plain in
+    let run : DoneRun crew used flag text book whole = record {
+      program = p;
+      accepted = is;
+      has = subst (λ (o : Outcome). HasRun p used crew o book) ended.0 has;
+      same = ap (with_journal flag used book.journal) ended.1;
+    } in
+    subst (λ (k : ℕ). DoneRun k lim asked text book whole) crews
+    (subst (λ (l : Bounds). DoneRun crew l asked text book whole) limits
+    (subst (λ (b : Bool). DoneRun crew used b text book whole) flags run))
+
+-- what it writes
+result_out : (asked : Bool) (p : Program) (lim : Bounds) (journal : List Entry)
+    → (with_journal asked lim journal (on_out Done (result_text p (state_after p lim journal)))).out ≡ output_of_run asked p lim journal
+result_out true p lim journal = refl
+result_out false p lim journal = refl
+
+-- an empty text takes no write
+wrote_none : {K : Type 0} {gives : K → List ℕ → Option ℕ → K → Type 0} {text : List ℕ} {first last : K} {n : ℕ} → WriteCalls gives text first n last → n ≡ 0 → last ≡ first
+wrote_none WriteCalls.none empty = refl
+wrote_none (WriteCalls.write {n} {before} {after} taken more writes less some step e) empty = absurd (omega (arith, some, e, empty))
+
+module _ (well_formed : (text : List ℕ) (p : Program) → length text ≤ max_text_bytes → Accepted text p → IsWellFormed p)
+    (within : (p : Program) → IsWellFormed p → KeepsEffects p → (lim : Bounds) (journal : List Entry) → Legal p lim journal → AlwaysWithin p lim journal)
+    (declared : (p : Program) → IsWellFormed p → KeepsEffects p → (lim : Bounds) (journal : List Entry) → Legal p lim journal → AlwaysDeclared p lim journal)
+    (apart : (p : Program) → IsWellFormed p → KeepsEffects p → (lim : Bounds) (journal : List Entry) → Legal p lim journal → AlwaysApart p lim journal)
+    (once : (p : Program) (lim : Bounds) (journal : List Entry) → IsWellFormed p → Legal p lim journal → AllTasksDone (state_after p lim journal)
+    → EachTaskOnce journal (state_after p lim journal))
+    {S O E : Type 0} (src : SourceTells S) (out : SinkTells O) (err : SinkTells E) (workers : ℕ) (lim : Bounds) (asked : Bool)
+    (src_from src_to : S) (out_from out_to : O) (err_from err_to : E) (book : Book) where
+  abbrev Theorem : Type 0
+  Theorem = RunTheorem src out workers lim asked src_from src_to out_from out_to err_from err_to book
+
+  of_run : (text : List ℕ) (answer : Answer) → WasRead src src_from (Ok text) src_to → DoneRun workers lim asked text book answer
+      → Took out answer.out out_from out_to → Took err answer.err err_from err_to → Theorem
+  of_run text answer was run took errs =
+      let p = run.program in
+      let has = run.has.has in
+      let well = well_formed text p was.told.2 run.accepted in
+      let keeps = run.accepted.keeps in
+      let text_out : answer.out ≡ output_of_run asked p lim book.journal =
+      ap (λ (a : Answer). a.out) run.same ∙ result_out asked p lim book.journal in
+      let none : answer.err ≡ [] = ap (λ (a : Answer). a.err) run.same in
+      record {
+        text = text;
+        read = was;
+        program = p;
+        accepted = run.accepted;
+        well_formed = well;
+        kept = has.program;
+        legal = has.legal;
+        no_fault = has.ended.0;
+        all_done = has.ended.1;
+        outcome = has.told;
+        once = once p lim book.journal well has.legal has.ended.1;
+        isolated = has.isolated;
+        declared = declared p well keeps lim book.journal has.legal;
+        within = within p well keeps lim book.journal has.legal;
+        covered = has.covered;
+        apart = apart p well keeps lim book.journal has.legal;
+        deterministic = has.deterministic;
+        of_main = λ flag. has.of_main flag has.ended.1;
+        lowest = run.has.lowest;
+        output = subst (λ (bytes : List ℕ). Took out bytes out_from out_to) text_out took;
+        no_error = wrote_none errs.writes (ap (λ (bytes : List ℕ). length bytes) none);
+      }
+
+  pub of_told : (text : List ℕ) (answer : Answer) (status : Status) → WasRead src src_from (Ok text) src_to
+      → Due (Run workers lim asked) text book answer → Tells WriteFault out err out_from out_to err_from err_to answer status
+      → status ≡ Done → Theorem
+  of_told text answer status was due (Tells.told took errs) done =
+      of_run text answer was (done_run workers lim asked text book answer due done) took errs
+  of_told text answer status was due (Tells.out_broke_off a b) done = absurd (cc (done))
+  of_told text answer status was due (Tells.err_broke_off a b) done = absurd (cc (done))

@@ -1,0 +1,4 @@
+-- How often each task was enabled.
+pub mod Enablings
+-- What leads from the answer of a call to the run theorem.
+pub mod Headline

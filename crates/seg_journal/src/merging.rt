@@ -1,0 +1,82 @@
+//! Merging the parts of a journal.
+ghost use Rattle.std.specs.Prelude.{◌≡◌, ◌<◌, ◌+◌, List, length, IfOk, OnOk, Contains};
+ghost use Rattle.seg_journal.specs.declared.numbered.NumberedEntry.{NumberedEntry};
+ghost use Rattle.seg_journal.specs.Merging.{AreNumbered, IsMergeOf, all_of, journal_of, prints_of};
+ghost use Rattle.seg_journal.specs.inner.Placing.{placed, present};
+
+use crate::Journal;
+use crate::numbered::{JournalPart, NumberedEntry};
+use std::alloc::Global;
+use twe_base::{Ints, List, Memory};
+
+/// Merges the parts of a journal: its entries in the order of their numbers, and the numbers that they printed, in the same
+/// order. The numbers over all parts have to be 0, 1 and so on, each once. Parts without entries give an empty journal.
+pub fn merge(alloc: Global, parts: &[JournalPart]) -> Result<(Journal, Ints), Memory>
+    requires { AreNumbered parts.now }
+    ensures { IfOk result (λ merged. (log : List NumberedEntry) × IsMergeOf parts.now log
+        × (merged.0 ≡ journal_of log) × (merged.1 ≡ prints_of log)) }
+{
+    let mut slots = empty_slots(alloc, parts)?;
+    for part in parts {
+        place(alloc, &mut slots, part)?;
+    }
+    collect(alloc, slots.as_slice())
+}
+
+/// A slot for each entry.
+fn empty_slots(alloc: Global, parts: &[JournalPart]) -> Result<List<Option<NumberedEntry>>, Memory>
+    ensures { IfOk result (λ slots. length slots ≡ length (all_of parts.now)) }
+{
+    let mut slots = List::new(alloc);
+    for part in parts {
+        add_slots(&mut slots, part.len())?;
+    }
+    Ok(slots)
+}
+
+/// Adds this many slots.
+fn add_slots(slots: &mut List<Option<NumberedEntry>>, count: usize) -> Result<(), Memory>
+    ensures { OnOk result (length slots.new ≡ length slots.old + count) }
+{
+    for i in 0..count {
+        slots.push(None)?;
+    }
+    Ok(())
+}
+
+/// Puts a copy of each entry into the slot of its number.
+fn place(
+    alloc: Global,
+    slots: &mut List<Option<NumberedEntry>>,
+    part: &JournalPart,
+) -> Result<(), Memory>
+    requires { (e : NumberedEntry) → Contains part.now e → e.number < length slots.old }
+    ensures placed { OnOk result (slots.new ≡ placed slots.old part.now) }
+    ensures size { OnOk result (length slots.new ≡ length slots.old) }
+{
+    for e in part.as_slice() {
+        let copy = NumberedEntry {
+            number: e.number,
+            entry: e.entry,
+            prints: e.prints.copy(alloc)?,
+        };
+        slots.set(e.number as usize, Some(copy));
+    }
+    Ok(())
+}
+
+/// The journal of the entries in the slots, and the numbers that they printed.
+fn collect(alloc: Global, slots: &[Option<NumberedEntry>]) -> Result<(Journal, Ints), Memory>
+    ensures journal { IfOk result (λ merged. merged.0 ≡ journal_of (present slots.now)) }
+    ensures prints { IfOk result (λ merged. merged.1 ≡ prints_of (present slots.now)) }
+{
+    let mut journal = Journal::new(alloc);
+    let mut prints = Ints::new(alloc);
+    for slot in slots {
+        if let Some(e) = slot {
+            journal.push(e.entry)?;
+            prints.push_all(e.prints.as_slice())?;
+        }
+    }
+    Ok((journal, prints))
+}

@@ -1,0 +1,7 @@
+pub mod Adding
+pub mod Back
+pub mod FrontLemmas
+pub mod Givers
+pub mod HighestChain
+pub mod Tops
+pub mod Walk

@@ -1,0 +1,31 @@
+use Rattle.std.proofs.Common.{◌<◌, List, None, Some, length, sym, subst}
+use Rattle.span_profile.specs.declared.heaviest_chain.top.Best.{Best}
+use Rattle.span_profile.specs.heaviest_chain.BestChains.{BestChains}
+use Rattle.span_profile.specs.heaviest_chain.Built.{FrontHolds}
+use Rattle.span_profile.specs.heaviest_chain.Chains.{IsHeaviest}
+use Rattle.span_profile.specs.heaviest_chain.Nodes.{SharesKey, weight_of}
+use Rattle.span_profile.specs.heaviest_chain.inner.Fronts.{givers_in}
+use Rattle.span_profile.specs.heaviest_chain.inner.Tops.{IsHighest, IsTopOf}
+use Rattle.span_profile.proofs.heaviest_chain.Back.{previous_lower}
+use Rattle.span_profile.proofs.heaviest_chain.HighestChain.{heaviest_followed, heaviest_of_none}
+use Rattle.span_profile.proofs.heaviest_chain.chains.Chains.heaviest.Goals as goal
+
+pub chain_to-requires-clause-lower : goal.chain_to-requires-clause-lower
+chain_to-requires-clause-lower c =
+    let chains : BestChains = record { work = c.self.inside.work; bests = c.self.inside.bests; givers = givers_in c.self.inside.fronts } in
+    previous_lower c.requires.0 chains (subst (FrontHolds c.requires.0) (sym c.self.view_is) c.requires.1)
+
+-- without nodes
+pub returns-in-None : goal.returns-in-None
+returns-in-None c = λ nodes h.
+    let chains : BestChains = record { work = c.self.inside.work; bests = c.self.inside.bests; givers = givers_in c.self.inside.fronts } in
+    let none = subst (λ (bests : List Best). IsHighest bests None) c.as_slice.ensures c.in-None.ensures in
+    subst (IsHeaviest SharesKey weight_of nodes chains.work 0) (sym c.new.ensures) (heaviest_of_none nodes chains (subst (FrontHolds nodes) (sym c.self.view_is) h) none)
+
+-- and from the highest node back
+pub returns : goal.returns
+returns c = λ nodes h.
+    let chains : BestChains = record { work = c.self.inside.work; bests = c.self.inside.bests; givers = givers_in c.self.inside.fronts } in
+    let top = c.in-Some.top in
+    let is : IsTopOf chains.bests (λ node. node < length chains.bests) top = subst (λ (bests : List Best). IsHighest bests (Some top)) c.as_slice.ensures c.in-Some.ensures in
+    heaviest_followed nodes chains (subst (FrontHolds nodes) (sym c.self.view_is) h) top is c.in_ok-chain_to-in-Some.field-0 c.in_ok-chain_to-in-Some.ensures

@@ -1,0 +1,253 @@
+-- What was read from the words and slots of a quiet floor is the state that they show.
+use Rattle.std.proofs.Common.{◌≡◌, ◌+◌, ◌*◌, ◌++◌, ◌||◌, ◌<◌, ◌≤◌, ℕ, zero, suc, ℤ, Bool, true, false, not, if◌then◌else◌, List, [], ◌∷◌, length, map, take, drop, get_or, Option, None, Some, refl, sym, ap, subst, ◌∙◌, append_assoc, arith}
+use Rattle.std.specs.Prelude.{slice_get, slice_set}
+use mathlib.Core.Option as core
+use mathlib.Core.Option.{some-injective, some-ne-none}
+use lib.ListN.{get_elem?}
+use Rattle.std.proofs.lemmas.List.{length-map}
+use Rattle.std.proofs.lemmas.Option.{slice_get-get_or}
+use Rattle.twe_machine.proofs.links.Ordered.{reached_ordered}
+use Rattle.twe_machine.proofs.lists.Places.{map_index}
+use Rattle.twe_machine.proofs.standing.ReachedStands.{reached_stands}
+use Rattle.wait_graph.specs.declared.tasks.Link.{Link}
+use Rattle.wait_graph.specs.Link.{IsOrdered, link_of, new_link, with_done, with_joined, with_wait}
+use Rattle.twe_base.specs.Limits.{Bounds, IsWithin}
+use Rattle.twe_program.specs.Program.{Program, cell_count}
+use Rattle.twe_program.specs.WellFormed.{IsWellFormed}
+use Rattle.twe_machine.specs.declared.state.FirstFault.{FirstFault}
+use Rattle.twe_machine.specs.declared.state.State.{State}
+use Rattle.twe_machine.specs.declared.state.TaskRow.{TaskRow}
+use Rattle.twe_machine.specs.Rows.{IsRow, link_of_row}
+use Rattle.twe_machine.specs.Runs.{IsReached}
+use Rattle.floor_rule.specs.declared.view.Phase.{Phase}
+use Rattle.floor_rule.specs.declared.view.TaskSlot.{TaskSlot}
+use Rattle.floor_rule.specs.Rows.{slot_of}
+use Rattle.floor_rule.specs.Shown.{has_child, is_joined, is_unjoined, row_by}
+use Rattle.floor_rule.proofs.Puts.{none_some, some_one}
+use Rattle.floor_rule.proofs.ShownRows.{row_shown}
+use Rattle.floor_table.specs.Holds.{ShowsEnd}
+use Rattle.floor_table.specs.Layout.{cell_words_from, number_at, phase_word_at, value_of_word}
+use Rattle.floor_table.specs.Shown.{ShowsRest}
+use Rattle.task_floor.specs.steps.inner.Reading.{fresh_link, held_in, joined_unless, links_to, row_in, rows_from}
+use Rattle.task_floor.proofs.steps.Taken.{drop_one}
+
+-- Cells.
+
+pub cells_more : (words : List ℕ) (place n : ℕ) → cell_words_from words place (n + 1) ≡ cell_words_from words place n ++ value_of_word (number_at (get_elem? words (place + n))) ∷ []
+cells_more words place n = ap (cell_words_from words place) next ∙ by place n
+  where
+    next : n + 1 ≡ suc n
+    next = omega arith
+
+    by : (from count : ℕ) → cell_words_from words from (suc count) ≡ cell_words_from words from count ++ value_of_word (number_at (get_elem? words (from + count))) ∷ []
+    by from zero = ap (λ (i : ℕ). value_of_word (number_at (get_elem? words i)) ∷ []) (omega arith)
+    by from (suc count) =
+        let place_is : (from + 1) + count ≡ from + suc count = omega arith in
+        ap (λ (l : List ℤ). value_of_word (number_at (get_elem? words from)) ∷ l)
+        (by (from + 1) count ∙ ap (λ (i : ℕ). cell_words_from words (from + 1) count ++ value_of_word (number_at (get_elem? words i)) ∷ []) place_is)
+
+pub cells_step : (words : List ℕ) (n : ℕ) (cells new : List ℤ) (value : ℤ) → cells ≡ cell_words_from words 8 n → new ≡ cells ++ value ∷ [] → value ≡ value_of_word (number_at (get_elem? words (8 + n)))
+    → new ≡ cell_words_from words 8 (n + 1)
+cells_step words n cells new value before is value_is =
+    is ∙ (ap (λ (l : List ℤ). l ++ value ∷ []) before ∙ (ap (λ (x : ℤ). cell_words_from words 8 n ++ x ∷ []) value_is ∙ sym (cells_more words 8 n)))
+
+-- Marks.
+
+or_assoc : (a b c : Bool) → (a || b) || c ≡ a || (b || c)
+or_assoc true b c = refl
+or_assoc false b c = refl
+
+pub unjoined_more : (c : ℕ) (slots : List (Option TaskSlot)) (slot : Option TaskSlot) → is_unjoined c (held_in (slots ++ slot ∷ [])) ≡ is_unjoined c (held_in slots) || is_unjoined c (held_in (slot ∷ []))
+unjoined_more c [] slot = refl
+unjoined_more c (None ∷ slots) slot = unjoined_more c slots slot
+unjoined_more c (Some s ∷ slots) slot =
+    ap (λ (b : Bool). has_child c s || b) (unjoined_more c slots slot)
+    ∙ sym (or_assoc (has_child c s) (is_unjoined c (held_in slots)) (is_unjoined c (held_in (slot ∷ []))))
+
+-- Slots.
+
+-- the slots are those of these tasks, and then empty
+pub record AreSlotsOf (rows : List TaskRow) (slots : List (Option TaskSlot)) : Type 0 where
+  pub made : (t : ℕ) (row : TaskRow) → slice_get rows t ≡ Some row → get_elem? slots t ≡ core.some (Some (slot_of row))
+  pub unmade : (t : ℕ) → length rows ≤ t → t < length slots → get_elem? slots t ≡ core.some None
+
+slots_later : (row : TaskRow) (rows : List TaskRow) (slot : Option TaskSlot) (slots : List (Option TaskSlot)) → AreSlotsOf (row ∷ rows) (slot ∷ slots) → AreSlotsOf rows slots
+slots_later row rows slot slots are = record {
+  made = λ t r there. are.made (suc t) r there;
+  unmade = λ t past below. are.unmade (suc t) (omega (arith, past)) (omega (arith, below));
+}
+
+empty_later : (slot : Option TaskSlot) (slots : List (Option TaskSlot)) → AreSlotsOf [] (slot ∷ slots) → AreSlotsOf [] slots
+empty_later slot slots are = record {
+  made = λ t r there. absurd (none_some there);
+  unmade = λ t past below. are.unmade (suc t) (omega arith) (omega (arith, below));
+}
+
+pub held_is : (rows : List TaskRow) (slots : List (Option TaskSlot)) → AreSlotsOf rows slots → held_in slots ≡ map slot_of rows
+held_is [] [] are = refl
+held_is (row ∷ rows) [] are = absurd (some-ne-none (Some (slot_of row)) (sym (are.made 0 row refl)))
+held_is [] (None ∷ slots) are = held_is [] slots (empty_later None slots are)
+held_is [] (Some slot ∷ slots) are = absurd (none_some (sym (some-injective (Some slot) None (are.unmade 0 (omega arith) (omega arith)))))
+held_is (row ∷ rows) (None ∷ slots) are = absurd (none_some (some-injective None (Some (slot_of row)) (are.made 0 row refl)))
+held_is (row ∷ rows) (Some slot ∷ slots) are =
+    let first : slot ≡ slot_of row = some_one (some-injective (Some slot) (Some (slot_of row)) (are.made 0 row refl)) in
+    let rest = held_is rows slots (slots_later row rows (Some slot) slots are) in
+    λ i. first i ∷ rest i
+
+-- the words and `all` say the rows of these tasks, which are numbered from k on
+pub record SayRows (words : List ℕ) (first : ℕ) (all : List TaskSlot) (k : ℕ) (rows : List TaskRow) : Type 0 where
+  pub are : (t n : ℕ) (row : TaskRow) → n ≡ k + t → slice_get rows t ≡ Some row → row ≡ row_by (slot_of row) (phase_word_at (get_elem? words (first + 2 * n + 1))) (is_joined n row.parent all)
+
+-- who is joined, in two forms
+joined_same : (c : ℕ) (parent : Option ℕ) (all : List TaskSlot) → joined_unless parent (is_unjoined c all) ≡ is_joined c parent all
+joined_same c None all = refl
+joined_same c (Some q) all = by (is_unjoined c all)
+  where
+    by : (b : Bool) → not b ≡ (if b then false else true)
+    by true = refl
+    by false = refl
+
+pub rows_are : (words : List ℕ) (first : ℕ) (all : List TaskSlot) (k : ℕ) (rows : List TaskRow) (slots : List (Option TaskSlot)) → AreSlotsOf rows slots → SayRows words first all k rows
+    → rows_from words first all k slots ≡ rows
+rows_are words first all k [] [] are say = refl
+rows_are words first all k (row ∷ rows) [] are say = absurd (some-ne-none (Some (slot_of row)) (sym (are.made 0 row refl)))
+rows_are words first all k [] (None ∷ slots) are say =
+    rows_are words first all (k + 1) [] slots (empty_later None slots are) (record { are = λ t n r is there. absurd (none_some there) })
+rows_are words first all k [] (Some slot ∷ slots) are say = absurd (none_some (sym (some-injective (Some slot) None (are.unmade 0 (omega arith) (omega arith)))))
+rows_are words first all k (row ∷ rows) (None ∷ slots) are say = absurd (none_some (some-injective None (Some (slot_of row)) (are.made 0 row refl)))
+rows_are words first all k (row ∷ rows) (Some slot ∷ slots) are say =
+    let phase : Phase = phase_word_at (get_elem? words (first + 2 * k + 1)) in
+    let same : slot ≡ slot_of row = some_one (some-injective (Some slot) (Some (slot_of row)) (are.made 0 row refl)) in
+    let here : row_by slot phase (joined_unless slot.parent (is_unjoined k all)) ≡ row =
+    ap (row_by slot phase) (joined_same k slot.parent all) ∙ (ap (λ (s : TaskSlot). row_by s phase (is_joined k s.parent all)) same ∙ sym (say.are 0 k row (omega arith) refl)) in
+    let rest =
+    rows_are words first all (k + 1) rows slots (slots_later row rows (Some slot) slots are) (record { are = λ t n r is there. say.are (suc t) n r (omega (arith, is)) there }) in
+    λ i. here i ∷ rest i
+
+-- the row of one task more
+pub rows_step : (words : List ℕ) (first : ℕ) (all : List TaskSlot) (t : ℕ) (slots after : List (Option TaskSlot)) (slot : Option TaskSlot) (phase : Phase) (mark : Bool) (rows new target : List TaskRow)
+    → slice_get slots t ≡ Some slot → drop (t + 1) after ≡ drop (t + 1) slots → phase ≡ phase_word_at (get_elem? words (first + 2 * t + 1)) → mark ≡ is_unjoined t all
+    → new ≡ rows ++ row_in slot phase mark → rows ++ rows_from words first all t (drop t slots) ≡ target → new ++ rows_from words first all (t + 1) (drop (t + 1) after) ≡ target
+rows_step words first all t slots after slot phase mark rows new target at same phase_is mark_is is before =
+    let behind : List TaskRow = rows_from words first all (t + 1) (drop (t + 1) slots) in
+    ap (λ (l : List (Option TaskSlot)). new ++ rows_from words first all (t + 1) l) same
+    ∙ (ap (λ (l : List TaskRow). l ++ behind) is
+    ∙ (append_assoc rows (row_in slot phase mark) behind
+    ∙ (ap (λ (ph : Phase). rows ++ (row_in slot ph mark ++ behind)) phase_is
+    ∙ (ap (λ (b : Bool). rows ++ (row_in slot (phase_word_at (get_elem? words (first + 2 * t + 1))) b ++ behind)) mark_is
+    ∙ (ap (λ (l : List (Option TaskSlot)). rows ++ rows_from words first all t l) (sym (drop_one slots t slot at)) ∙ before)))))
+
+-- Links.
+
+-- the row that a loop has come to
+pub item_there : (rows : List TaskRow) (t : ℕ) (row : TaskRow) → t < length rows → row ≡ get_or rows t row → slice_get rows t ≡ Some row
+item_there rows t row below is = slice_get-get_or rows t row below ∙ ap Some (sym is)
+
+pub link_there : (rows : List TaskRow) (t : ℕ) (row : TaskRow) → t < length rows → row ≡ get_or rows t row → link_of (map link_of_row rows) t ≡ link_of_row row
+link_there rows t row below is = map_index link_of_row rows t row (new_link None) (item_there rows t row below is)
+
+pub fresh_count : (rows : List TaskRow) (n : ℕ) → n < length rows → length (map fresh_link (take n rows)) ≡ n
+fresh_count rows n below = length-map (take n rows) fresh_link ∙ by rows n below
+  where
+    by : (l : List TaskRow) (k : ℕ) → k < length l → length (take k l) ≡ k
+    by [] k low = absurd (omega (arith, low))
+    by (r ∷ l) zero low = refl
+    by (r ∷ l) (suc k) low = ap suc (by l k (omega (arith, low)))
+
+pub links_count : (t : ℕ) (rows : List TaskRow) → length (links_to t rows) ≡ length rows
+links_count zero rows = length-map rows fresh_link
+links_count (suc t) [] = refl
+links_count (suc t) (row ∷ rows) = ap suc (links_count t rows)
+
+pub fresh_here : (t : ℕ) (rows : List TaskRow) (row : TaskRow) → slice_get rows t ≡ Some row → link_of (links_to t rows) t ≡ new_link row.parent
+fresh_here zero [] row is = absurd (none_some is)
+fresh_here zero (r ∷ rows) row is = ap fresh_link (some_one is)
+fresh_here (suc t) [] row is = absurd (none_some is)
+fresh_here (suc t) (r ∷ rows) row is = fresh_here t rows row is
+
+pub set_here : (t : ℕ) (rows : List TaskRow) (row : TaskRow) → slice_get rows t ≡ Some row → slice_set (links_to t rows) t (link_of_row row) ≡ links_to (suc t) rows
+set_here zero [] row is = absurd (none_some is)
+set_here zero (r ∷ rows) row is = ap (λ (x : TaskRow). link_of_row x ∷ map fresh_link rows) (sym (some_one is))
+set_here (suc t) [] row is = absurd (none_some is)
+set_here (suc t) (r ∷ rows) row is = ap (λ (l : List Link). link_of_row r ∷ l) (set_here t rows row is)
+
+pub links_all : (n : ℕ) (rows : List TaskRow) → length rows ≤ n → links_to n rows ≡ map link_of_row rows
+links_all zero [] past = refl
+links_all zero (row ∷ rows) past = absurd (omega (arith, past))
+links_all (suc n) [] past = refl
+links_all (suc n) (row ∷ rows) past = ap (λ (l : List Link). link_of_row row ∷ l) (links_all n rows (omega (arith, past)))
+
+link_set : (links : List Link) (t : ℕ) (x : Link) → t < length links → link_of (slice_set links t x) t ≡ x
+link_set [] t x below = absurd (omega (arith, below))
+link_set (l ∷ links) zero x below = refl
+link_set (l ∷ links) (suc t) x below = link_set links t x (omega (arith, below))
+
+set_twice : (links : List Link) (t : ℕ) (x y : Link) → slice_set (slice_set links t x) t y ≡ slice_set links t y
+set_twice [] t x y = refl
+set_twice (l ∷ links) zero x y = refl
+set_twice (l ∷ links) (suc t) x y = ap (λ (ls : List Link). l ∷ ls) (set_twice links t x y)
+
+-- the waits and the marks of task t are set, one after another
+module _ (links : List Link) (t : ℕ) (below : t < length links) (parent on : Option ℕ) (fresh : link_of links t ≡ new_link parent) where
+  abbrev link_with : Bool → Bool → Link
+  link_with joined done = record { waits = on; parent = parent; joined = joined; done = done }
+
+  waiting : with_wait links t on ≡ slice_set links t (link_with false false)
+  waiting = ap (λ (l : Link). slice_set links t (record l { waits = on })) fresh
+
+  marked : (x : Link) → with_joined (slice_set links t x) t ≡ slice_set links t (record x { joined = true })
+  marked x = ap (λ (l : Link). slice_set (slice_set links t x) t (record l { joined = true })) (link_set links t x below) ∙ set_twice links t x (record x { joined = true })
+
+  finished : (x : Link) → with_done (slice_set links t x) t ≡ slice_set links t (record x { done = true })
+  finished x = ap (λ (l : Link). slice_set (slice_set links t x) t (record l { done = true })) (link_set links t x below) ∙ set_twice links t x (record x { done = true })
+
+  joined_set : (joined : Bool) (after : List Link) → after ≡ (if joined then with_joined (with_wait links t on) t else with_wait links t on) → after ≡ slice_set links t (link_with joined false)
+  joined_set true after is = is ∙ (ap (λ (ls : List Link). with_joined ls t) waiting ∙ marked (link_with false false))
+  joined_set false after is = is ∙ waiting
+
+  pub all_set : (joined done : Bool) (after last : List Link) → after ≡ (if joined then with_joined (with_wait links t on) t else with_wait links t on)
+      → last ≡ (if done then with_done after t else after) → last ≡ slice_set links t (link_with joined done)
+  all_set joined true after last is last_is = last_is ∙ (ap (λ (ls : List Link). with_done ls t) (joined_set joined after is) ∙ finished (link_with joined false))
+  all_set joined false after last is last_is = last_is ∙ joined_set joined after is
+
+-- The state.
+module _ (p : Program) (lim : Bounds) (well : IsWellFormed p) (st : State) (reached : IsReached p lim st) (words : List ℕ) (slots : List (Option TaskSlot)) (shows : ShowsEnd p st words slots)
+    (rest : ShowsRest p lim st words slots) where
+  are_slots : AreSlotsOf st.tasks slots
+  are_slots = record {
+    made = shows.slots_are;
+    unmade = λ t past below. let count = rest.slot_count in rest.unmade t past (omega (arith, count, below));
+  }
+
+  pub held_all : held_in slots ≡ map slot_of st.tasks
+  held_all = held_is st.tasks slots are_slots
+
+  say_rows : SayRows words (16 + cell_count p) (map slot_of st.tasks) 0 st.tasks
+  say_rows = record {
+    are = λ t n row is there.
+        let here : IsRow st n row = subst (λ (k : ℕ). IsRow st k row) (omega (arith, is)) there in
+        row_shown p lim well st reached n row here
+        ∙ ap (λ (phase : Phase). row_by (slot_of row) phase (is_joined n row.parent (map slot_of st.tasks))) (sym (rest.phases n row here));
+  }
+
+  pub tasks_read : rows_from words (16 + cell_count p) (held_in slots) 0 slots ≡ st.tasks
+  tasks_read =
+      ap (λ (all : List TaskSlot). rows_from words (16 + cell_count p) all 0 slots) held_all
+      ∙ rows_are words (16 + cell_count p) (map slot_of st.tasks) 0 st.tasks slots are_slots say_rows
+
+  pub tasks_are : (read : List ℕ) (first : ℕ) (tasks : List TaskRow) → read ≡ words → first ≡ 16 + cell_count p → tasks ≡ rows_from read first (held_in slots) 0 slots → tasks ≡ st.tasks
+  tasks_are read first tasks same first_is is =
+      is
+      ∙ (ap (λ (l : List ℕ). rows_from l first (held_in slots) 0 slots) same
+      ∙ (ap (λ (n : ℕ). rows_from words n (held_in slots) 0 slots) first_is ∙ tasks_read))
+
+  pub rows_ordered : IsWithin lim.fuel lim.tasks → (rows : List TaskRow) → rows ≡ st.tasks → IsOrdered (map link_of_row rows)
+  rows_ordered within rows same =
+      subst IsOrdered ((reached_stands p lim st well reached).links ∙ ap (map link_of_row) (sym same)) (reached_ordered p lim st well within reached)
+
+  pub state_is : (cells : List ℤ) (rows : List TaskRow) (links : List Link) (prints : List ℤ) (asked : ℕ) (fault : Option FirstFault) → cells ≡ st.cells → rows ≡ st.tasks
+      → links ≡ map link_of_row rows → prints ≡ st.prints → asked ≡ st.asked → fault ≡ st.first_fault
+      → record { cells = cells; tasks = rows; links = links; prints = prints; asked = asked; first_fault = fault } ≡ st
+  state_is cells rows links prints asked fault cells_are rows_same links_are prints_are asked_is fault_is =
+      let links_same : links ≡ st.links = links_are ∙ (ap (map link_of_row) rows_same ∙ sym (reached_stands p lim st well reached).links) in
+      λ i. record { cells = cells_are i; tasks = rows_same i; links = links_same i; prints = prints_are i; asked = asked_is i; first_fault = fault_is i }

@@ -1,6 +1,0 @@
-use Rattle.tree_table.proofs.Admissions.{draw_admission}
-use Rattle.tree_table.specs.Layout.{tree_slot_count}
-use Rattle.tree_table.proofs.entry_laws.an_admission_may_be_drawn.Goals as goal
-
-pub returns : goal.returns
-returns c nodes p lim id t v mine turn = draw_admission nodes p lim (tree_slot_count nodes lim) id t v mine turn

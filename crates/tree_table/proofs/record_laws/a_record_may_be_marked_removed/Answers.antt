@@ -1,5 +1,0 @@
-use Rattle.tree_table.proofs.MarkCalls.{mark_removed}
-use Rattle.tree_table.proofs.record_laws.a_record_may_be_marked_removed.Goals as goal
-
-pub returns : goal.returns
-returns c = mark_removed

@@ -1,2 +1,0 @@
-pub mod Language
-pub mod Limits

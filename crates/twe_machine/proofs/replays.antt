@@ -1,0 +1,3 @@
+pub mod AllDone
+pub mod OneLowest
+pub mod Replayed

@@ -1,0 +1,14 @@
+pub mod Standing
+pub mod Later
+pub mod Counts
+pub mod Joining
+pub mod Carried
+pub mod Almost
+pub mod Halfway
+pub mod Beginning
+pub mod AfterStop
+pub mod Moving
+pub mod Stopping
+pub mod SettlesNext
+pub mod ReachedStands
+pub mod LaterStates

@@ -1,0 +1,12 @@
+pub mod Movers
+pub mod OtherRows
+pub mod OtherTasks
+pub mod LeftAlone
+pub mod MadeTasks
+pub mod DoneFirst
+pub mod DoneStays
+pub mod Filled
+pub mod Ready
+pub mod Ended
+pub mod Settled
+pub mod OneSegment

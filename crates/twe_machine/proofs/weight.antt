@@ -1,0 +1,5 @@
+pub mod Weight
+pub mod Spending
+pub mod GivenWork
+pub mod JoinedWeight
+pub mod Falls
