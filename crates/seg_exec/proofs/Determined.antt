@@ -4,21 +4,21 @@ use Rattle.std.specs.Prelude.{pos, slice_get, slice_set}
 use Rattle.twe_program.specs.Program.{Program}
 use Rattle.seg_exec.specs.declared.frame.Frame.{Frame}
 use Rattle.seg_exec.specs.declared.frame.OpenBody.{OpenBody}
-use Rattle.seg_exec.specs.declared.request.Request.{Request}
-use Rattle.seg_exec.specs.declared.request.Request.TheVariants.{Nothing, Read, Write, Print, End}
-use Rattle.seg_exec.specs.declared.request.Ending.{Ending}
-use Rattle.seg_exec.specs.declared.request.Ending.TheVariants.{Returned, Faulted}
-use Rattle.seg_exec.specs.inner.Endings.{suspended_at}
+use Rattle.seg_exec.specs.declared.steps.request.Request.{Request}
+use Rattle.seg_exec.specs.declared.steps.request.Request.TheVariants.{Nothing, Read, Write, Print, End}
+use Rattle.seg_exec.specs.declared.steps.request.Ending.{Ending}
+use Rattle.seg_exec.specs.declared.steps.request.Ending.TheVariants.{Returned, Faulted}
+use Rattle.seg_exec.specs.inner.steps.Endings.{suspended_at}
 use Rattle.seg_exec.specs.Access.{Access, Reads, Agrees, after, value_in}
 use Rattle.seg_exec.specs.Segment.{AgreesWithItself, Stopped, flow_of, segment, stopped_by}
 use Rattle.seg_exec.specs.Store.{Store, Flow, goes, returns, fails, stops}
-use Rattle.seg_exec.specs.inner.Runs.{Moment, Over, run, served, store_of}
-use Rattle.seg_exec.specs.inner.Reached.{over}
-use Rattle.seg_exec.specs.inner.Steps.{step_of}
-use Rattle.seg_exec.specs.inner.Continuations.{with_operand}
-use Rattle.seg_exec.specs.inner.Unfolded.{body_config}
+use Rattle.seg_exec.specs.inner.steps.Runs.{Moment, Over, run, served, store_of}
+use Rattle.seg_exec.specs.inner.steps.Reached.{over}
+use Rattle.seg_exec.specs.inner.steps.Steps.{step_of}
+use Rattle.seg_exec.specs.inner.steps.Continuations.{with_operand}
+use Rattle.seg_exec.specs.inner.steps.Unfolded.{body_config}
 use Rattle.seg_exec.proofs.Segments.{flow_so, left, segment_so}
-use Rattle.seg_exec.proofs.Whole.{outcome_of}
+use Rattle.seg_exec.proofs.steps.Whole.{outcome_of}
 
 module _ (p : Program) (cells : List ℤ) where
   -- a run that begins over a list agrees with it, and ends with what its accesses make of it

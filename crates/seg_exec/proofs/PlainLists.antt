@@ -7,7 +7,7 @@ use Rattle.seg_exec.specs.declared.stop.Stop.{Stop}
 use Rattle.seg_exec.specs.Access.{Access, Reads, Writes, Prints, Agrees, Follows, after, value_in}
 use Rattle.seg_exec.specs.Plain.{ListFollows}
 use Rattle.seg_exec.specs.Segment.{Stopped, CarriesOut, IsSegment}
-use Rattle.seg_exec.proofs.Witnesses.{after_length}
+use Rattle.seg_exec.proofs.steps.Witnesses.{after_length}
 
 -- a list that follows accesses agrees with them, and is what they leave
 list_follows : (old : List ℤ) (accesses : List Access) (new : List ℤ) → Follows ListFollows old accesses new → Agrees old accesses × (new ≡ after old accesses)

@@ -6,8 +6,8 @@ use Rattle.twe_program.specs.Statement.{Statement, Statements, no_more, statemen
 use Rattle.twe_program.specs.inner.StatementView.{arms_of}
 use Rattle.seg_exec.specs.declared.frame.Position.{Position}
 use Rattle.seg_exec.specs.Remaining.{after_first, block_at, block_of, branch_of, last_of_first}
-use Rattle.seg_exec.specs.inner.Continuations.{Config, Rest, to_do}
-use Rattle.seg_exec.specs.inner.Unfolded.{again_in, with_unfolded}
+use Rattle.seg_exec.specs.inner.steps.Continuations.{Config, Rest, to_do}
+use Rattle.seg_exec.specs.inner.steps.Unfolded.{again_in, with_unfolded}
 
 last_is_suc : (n : ℕ) (stmts : List Statement) → last_of_first (suc n) (statements_of stmts) ≡ slice_get stmts n
 last_is_suc n [] = refl

@@ -6,8 +6,8 @@ use Rattle.seg_exec.specs.declared.operation.Operation.{Operation}
 use Rattle.seg_exec.specs.declared.operation.Operation.TheVariants as operations
 use Rattle.seg_exec.specs.declared.stop.Stop.{Stop}
 use Rattle.seg_exec.specs.Segment.{HasRoomToSpawn, closing_stop, flow_of, operation_room, operation_stop, room_to_spawn, segment, stopped_by}
-use Rattle.seg_exec.specs.declared.request.Ending.{Ending}
-use Rattle.seg_exec.specs.declared.request.Ending.TheVariants.{Returned, Faulted, Suspended}
+use Rattle.seg_exec.specs.declared.steps.request.Ending.{Ending}
+use Rattle.seg_exec.specs.declared.steps.request.Ending.TheVariants.{Returned, Faulted, Suspended}
 use Rattle.seg_exec.specs.inner.Finished.{finished}
 use Rattle.seg_exec.specs.Store.{Flow, goes, returns, fails, stops}
 

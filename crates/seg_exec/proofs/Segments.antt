@@ -4,24 +4,24 @@ use Rattle.std.specs.Prelude.{slice_get}
 use Rattle.twe_program.specs.Program.{Program}
 use Rattle.seg_exec.specs.declared.frame.OpenBody.{OpenBody}
 use Rattle.seg_exec.specs.declared.frame.Frame.{Frame}
-use Rattle.seg_exec.specs.declared.machine.Machine.{Machine}
+use Rattle.seg_exec.specs.declared.steps.machine.Machine.{Machine}
 use Rattle.seg_exec.specs.declared.stop.Stop.{Stop}
-use Rattle.seg_exec.specs.declared.request.Ending.{Ending}
-use Rattle.seg_exec.specs.declared.request.Ending.TheVariants.{Returned, Faulted}
-use Rattle.seg_exec.specs.inner.Endings.{suspended_at}
+use Rattle.seg_exec.specs.declared.steps.request.Ending.{Ending}
+use Rattle.seg_exec.specs.declared.steps.request.Ending.TheVariants.{Returned, Faulted}
+use Rattle.seg_exec.specs.inner.steps.Endings.{suspended_at}
 use Rattle.seg_exec.specs.Access.{MayAll, Ways, after, printed}
 use Rattle.seg_exec.specs.Meaning.{body_of, done_within}
 use Rattle.seg_exec.specs.Remaining.{resumed}
 use Rattle.seg_exec.specs.Segment.{Stopped, stopped_by, store_at, flow_of, CarriesOut, MayCarryOut}
 use Rattle.seg_exec.specs.Store.{Store, Flow, goes, returns, fails, stops}
 use Rattle.seg_exec.specs.inner.Finished.{finished}
-use Rattle.seg_exec.specs.inner.Reached.{Finishes, MayGoOn, over, standing}
-use Rattle.seg_exec.specs.inner.Runs.{Moment, Over, moment, run, store_of}
-use Rattle.seg_exec.specs.inner.Continuations.{Config}
-use Rattle.seg_exec.specs.inner.Unfolded.{config_at, unfolded}
-use Rattle.seg_exec.specs.inner.Views.{config_of}
-use Rattle.seg_exec.proofs.Simulation.{within_meets}
-use Rattle.seg_exec.proofs.Whole.{IsOver, ends_so, once, outcome_of, resumed_meets}
+use Rattle.seg_exec.specs.inner.steps.Reached.{Finishes, MayGoOn, over, standing}
+use Rattle.seg_exec.specs.inner.steps.Runs.{Moment, Over, moment, run, store_of}
+use Rattle.seg_exec.specs.inner.steps.Continuations.{Config}
+use Rattle.seg_exec.specs.inner.steps.Unfolded.{config_at, unfolded}
+use Rattle.seg_exec.specs.inner.steps.Views.{config_of}
+use Rattle.seg_exec.proofs.steps.Simulation.{within_meets}
+use Rattle.seg_exec.proofs.steps.Whole.{IsOver, ends_so, once, outcome_of, resumed_meets}
 
 module _ (p : Program) where
   is_over : (f : Flow) → IsOver p (outcome_of p f)

@@ -1,12 +1,3 @@
-pub mod Assignments
-pub mod Continuations
-pub mod Endings
 pub mod Finished
-pub mod Plainly
-pub mod Reached
-pub mod Runs
-pub mod Sizes
-pub mod Steps
-pub mod Strides
-pub mod Unfolded
-pub mod Views
+pub mod steps
+pub mod strides

@@ -3,7 +3,7 @@ ghost use Rattle.std.specs.Prelude.{◌≡◌, IfOk, map, option_copied};
 ghost use Rattle.region_paths.specs.declared.elements.Elem.TheVariants.{Index};
 ghost use Rattle.seg_exec.specs.Entry.{effects_at, entry_body, entry_frame, frame_of, future_count_of};
 
-use crate::call::vars_at_start;
+use crate::body::vars_at_start;
 use crate::children::Children;
 use crate::frame::{Frame, Next, OpenBody, Position};
 use effect_sets::{Effects, Summary};

@@ -1,44 +1,25 @@
 //! Segments: what a task executes from where it stands up to its next task operation or its end.
 //!
 //! `specs/` defines the meaning of a segment by cases on the text of a body. The evaluator is proved to have this meaning
-//! over any implementation of `Cells`. It keeps its continuation on a stack of its own, and recurses only over expressions
-//! that call no method, so that no program makes it recurse deeply. The crate does not say what a stop does to the state of
-//! a run.
+//! over any implementation of `Cells`. In `steps` it is a machine with a stack of its own, which goes in small steps. In
+//! `strides` it makes several steps at once. It recurses only over expressions that call no method, so that no program makes
+//! it recurse deeply. The crate does not say what a stop does to the state of a run.
 #![tactic(auto)]
 
 mod arithmetic;
-mod assign;
-mod begin;
-mod call;
+mod body;
 mod cells;
 mod children;
-mod choose;
-mod continuation;
 mod elements;
 mod entry;
-mod evaluate;
-mod execute;
 mod frame;
-mod gather;
 mod give;
-mod held;
 mod laws;
-mod machine;
-mod operate;
 mod operation;
-mod perform;
-mod plain;
-mod pushdown;
-mod request;
-mod resume;
-mod run;
 mod segment;
-mod step;
-mod stepping;
+mod steps;
 mod stop;
-mod unfold;
-mod value;
-mod values;
+mod strides;
 
 pub use cells::Cells;
 pub use children::Children;

@@ -5,8 +5,8 @@ use Rattle.seg_exec.specs.declared.frame.Frame.{Frame}
 use Rattle.seg_exec.specs.declared.frame.Next.TheVariants.{Ended}
 use Rattle.seg_exec.specs.declared.stop.Stop.{Stop}
 use Rattle.seg_exec.specs.declared.stop.Stop.TheVariants.{Fault}
-use Rattle.seg_exec.specs.declared.request.Ending.{Ending}
-use Rattle.seg_exec.specs.declared.request.Ending.TheVariants.{Returned, Faulted, Suspended}
+use Rattle.seg_exec.specs.declared.steps.request.Ending.{Ending}
+use Rattle.seg_exec.specs.declared.steps.request.Ending.TheVariants.{Returned, Faulted, Suspended}
 use Rattle.seg_exec.specs.Segment.{closing, closing_stop, operation_next, operation_out, operation_stop}
 
 -- the frame whose body ended with this value: it joins its unjoined children next, or it is done

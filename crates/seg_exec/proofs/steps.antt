@@ -1,0 +1,12 @@
+-- What the small steps of the machine come to.
+
+-- The machine does what the meaning says, and so it does from what remains of a body.
+pub mod Simulation
+pub mod Whole
+-- A bound above the fuel is never met.
+pub mod Bounds
+-- Steps over cells of any kind.
+pub mod Witnesses
+pub mod Reaching
+-- Each step takes a unit of fuel or leaves less work.
+pub mod Falling

@@ -1,0 +1,72 @@
+-- The statements of a block one after another.
+use Rattle.std.proofs.Common.{◌≡◌, ℕ, suc, ℤ, ◌+◌, ◌<◌, List, [], ◌∷◌, drop, length, get_or, sym, ap, ◌∙◌, subst, arith}
+use Rattle.std.proofs.Math.Seq.{drop-cons}
+use Rattle.twe_program.specs.Program.{Program}
+use Rattle.twe_program.specs.Statement.{Statement, statements_of}
+use Rattle.seg_exec.specs.declared.strides.assign.Carried.TheVariants.{Done, Faulted}
+use Rattle.seg_exec.specs.declared.strides.value.Fault.{Fault}
+use Rattle.seg_exec.specs.Access.{Ways}
+use Rattle.seg_exec.specs.inner.strides.Assignments.{Does, MayDo, executing}
+use Rattle.seg_exec.specs.inner.steps.Continuations.{Config, Execute, Rest, to_do}
+use Rattle.seg_exec.specs.inner.steps.Reached.{Standing}
+use Rattle.seg_exec.specs.inner.steps.Steps.{rested}
+use Rattle.seg_exec.specs.inner.strides.Strides.{Ends, Goes, MayGo, Nears, doing, fault_ending}
+use Rattle.seg_exec.proofs.strides.Performing.{placed}
+use Rattle.seg_exec.proofs.strides.Strides.{ends_alike, may_then, silent, then_ends, then_goes}
+
+-- before a statement of a block
+abbrev pub rest_at : {C : Type 0} → ℕ → ℕ → List Statement → Standing C → Standing C
+rest_at block at stmts s = doing (Rest block at (statements_of (drop at stmts))) s
+
+-- the variables after an assignment
+abbrev pub with_vars : List ℤ → Config → Config
+with_vars vars c = record c { vars = vars }
+
+-- an element of a list, before those after it
+pub next_is : {A : Type 0} → (items : List A) (at : ℕ) (item : A) → at < length items → item ≡ get_or items at item → drop at items ≡ item ∷ drop (at + 1) items
+next_is {A = A} items at item within is =
+    let same : suc at ≡ at + 1 = omega arith in
+    drop-cons items at item within ∙ ap (λ (x : A). x ∷ drop (suc at) items) (sym is) ∙ ap (λ (n : ℕ). item ∷ drop n items) same
+
+module _ {C : Type 0} (p : Program) (ways : Ways C) (block at : ℕ) (stmts : List Statement) where
+  -- no statement is left
+  pub none_left : (config : Config) (cells : C) (prints : List ℤ) → drop at stmts ≡ []
+      → Goes p ways (rest_at block at stmts (placed config cells prints)) (placed config cells prints)
+  none_left config cells prints is =
+      silent p ways (rest_at block at stmts (placed config cells prints)) config (ap (λ (l : List Statement). rested block at (statements_of l) config) is)
+
+  module _ (s : Statement) (is : drop at stmts ≡ s ∷ drop (at + 1) stmts) where
+    pub first : (config : Config) (cells : C) (prints : List ℤ)
+        → Goes p ways (rest_at block at stmts (placed config cells prints)) (doing (Execute s) (rest_at block (at + 1) stmts (placed config cells prints)))
+    first config cells prints =
+        silent p ways (rest_at block at stmts (placed config cells prints)) (to_do (Execute s) (to_do (Rest block (at + 1) (statements_of (drop (at + 1) stmts))) config))
+        (ap (λ (l : List Statement). rested block at (statements_of l) config) is)
+
+    pub may_first : (config : Config) (cells : C) (prints : List ℤ) → MayGo p ways (rest_at block at stmts (placed config cells prints)) → MayDo p ways (executing s) config.vars cells
+    may_first config cells prints may = record {
+      work = Rest block (at + 1) (statements_of (drop (at + 1) stmts)) ∷ config.work;
+      operands = config.operands;
+      fuel = config.fuel;
+      calls = config.calls;
+      prints = prints;
+      may = may_then p ways _ _ may (first config cells prints);
+    }
+
+    pub done_first : (config : Config) (vars : List ℤ) (old new : C) (prints : List ℤ) → Does p ways (executing s) config.vars old Done vars new
+        → Goes p ways (rest_at block at stmts (placed config old prints)) (rest_at block (at + 1) stmts (placed (with_vars vars config) new prints))
+    done_first config vars old new prints h =
+        then_goes p ways _ _ _ (first config old prints) (h (Rest block (at + 1) (statements_of (drop (at + 1) stmts)) ∷ config.work) config.operands config.fuel config.calls prints)
+
+    pub faulted_first : (config : Config) (vars : List ℤ) (old new : C) (prints : List ℤ) (fault : Fault) → Does p ways (executing s) config.vars old (Faulted fault) vars new
+        → Ends p ways (rest_at block at stmts (placed config old prints)) (fault_ending fault) (placed (with_vars vars config) new prints)
+    faulted_first config vars old new prints fault h =
+        let below = Rest block (at + 1) (statements_of (drop (at + 1) stmts)) in
+        ends_alike p ways _ (fault_ending fault) (below ∷ config.work) config.work config.operands config.operands vars config.fuel config.calls new prints
+        (then_ends p ways _ _ _ _ (first config old prints) (h (below ∷ config.work) config.operands config.fuel config.calls prints))
+
+  -- nothing has changed
+  pub left_first : (from : Standing C) (config : Config) (vars : List ℤ) (old new : C) (prints : List ℤ) → (vars ≡ config.vars) × (new ≡ old)
+      → Nears p ways from (rest_at block at stmts (placed config old prints)) → Nears p ways from (rest_at block at stmts (placed (with_vars vars config) new prints))
+  left_first from config vars old new prints same h =
+      subst (λ (vs : List ℤ). Nears p ways from (rest_at block at stmts (placed (with_vars vs config) new prints))) (sym same.0)
+      (subst (λ (c : C). Nears p ways from (rest_at block at stmts (placed config c prints))) (sym same.1) h)

@@ -1,0 +1,33 @@
+use Rattle.std.proofs.Common.{[], ap, sym, ◌∙◌}
+use Rattle.twe_program.specs.Expression.{Expression}
+use Rattle.twe_program.specs.inner.ExpressionView.{expression_of}
+use Rattle.seg_exec.specs.declared.steps.continuation.Goal.TheVariants.{Enter}
+use Rattle.seg_exec.specs.Access.{ways_of}
+use Rattle.seg_exec.specs.inner.steps.Continuations.{Evaluate, Gather, to_do}
+use Rattle.seg_exec.specs.inner.steps.Reached.{standing}
+use Rattle.seg_exec.specs.inner.steps.Steps.{evaluated}
+use Rattle.seg_exec.specs.inner.steps.Views.{config_of}
+use Rattle.seg_exec.proofs.strides.Performing.{carries_silent, carries_step, may_request, may_silent}
+use Rattle.seg_exec.proofs.Segments.{if_ok_map}
+use Rattle.seg_exec.proofs.strides.evaluate.begin_one.Goals as goal
+
+pub call-requires : goal.call-requires
+call-requires g c =
+    may_silent c.args.p.now (ways_of g.C.Cells.known g.C.Cells.may_read g.C.Cells.may_write g.C.Cells.rule) (Evaluate c.args.expr.now) (config_of c.args.machine.now) (to_do (Gather [] c.in-Call.args (Enter c.in-Call.method c.in-Call.place)) (config_of c.args.machine.now)) c.args.cells.now c.args.prints.now
+    (ap (λ (e : Expression). evaluated c.args.p.now e (config_of c.args.machine.now)) (sym c.expr.view_is ∙ ap expression_of c.in-Call.is)) c.requires
+
+pub returns-in-Call : goal.returns-in-Call
+returns-in-Call g c =
+    if_ok_map c.call.result (λ ending rest. carries_silent c.args.p.now (ways_of g.C.Cells.known g.C.Cells.may_read g.C.Cells.may_write g.C.Cells.rule) (Evaluate c.args.expr.now) (config_of c.args.machine.now) (to_do (Gather [] c.in-Call.args (Enter c.in-Call.method c.in-Call.place)) (config_of c.args.machine.now)) c.args.cells.now c.args.prints.now ending
+    (standing c.call.new.machine c.call.new.cells c.call.new.prints)
+    (ap (λ (e : Expression). evaluated c.args.p.now e (config_of c.args.machine.now)) (sym c.expr.view_is ∙ ap expression_of c.in-Call.is)) rest) c.call.ensures
+
+pub serve-requires : goal.serve-requires
+serve-requires g c =
+    may_request c.args.p.now (ways_of g.C.Cells.known g.C.Cells.may_read g.C.Cells.may_write g.C.Cells.rule) (Evaluate c.args.expr.now) (config_of c.args.machine.now) (config_of c.evaluate.new.self) c.args.cells.now c.args.prints.now
+    c.in_ok-request-in_default.request c.in_ok-request-in_default.ensures c.requires
+
+pub returns-in_ok-request-in_default : goal.returns-in_ok-request-in_default
+returns-in_ok-request-in_default g c =
+    if_ok_map c.serve.result (λ ending served. carries_step c.args.p.now (ways_of g.C.Cells.known g.C.Cells.may_read g.C.Cells.may_write g.C.Cells.rule) (Evaluate c.args.expr.now) (config_of c.args.machine.now) (config_of c.evaluate.new.self) c.args.cells.now c.args.prints.now
+    c.in_ok-request-in_default.request ending (standing c.serve.new.machine c.serve.new.cells c.serve.new.prints) c.in_ok-request-in_default.ensures served) c.serve.ensures

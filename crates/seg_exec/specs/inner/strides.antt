@@ -1,0 +1,3 @@
+pub mod Assignments
+pub mod Plainly
+pub mod Strides

@@ -1,0 +1,59 @@
+-- Assignments that are carried out at once, whatever else is to be done.
+use Rattle.std.specs.Prelude.{◌≡◌, ℕ, ℤ, List, ◌∷◌, Option, None, Some}
+use Rattle.twe_base.specs.declared.place.Place.{Place}
+use Rattle.twe_base.specs.declared.fault.FaultKind.TheVariants.{Index}
+use Rattle.twe_program.specs.Program.{Program}
+use Rattle.twe_program.specs.Expression.{Expression}
+use Rattle.twe_program.specs.Statement.{Statement}
+use Rattle.seg_exec.specs.declared.strides.assign.Carried.{Carried}
+use Rattle.seg_exec.specs.declared.strides.assign.Carried.TheVariants.{Done, Faulted, Left}
+use Rattle.seg_exec.specs.Access.{HasWritten, Ways}
+use Rattle.seg_exec.specs.inner.steps.Continuations.{Continuation, Evaluate, Execute, GiveVar, GiveCell, GiveElement}
+use Rattle.seg_exec.specs.inner.strides.Strides.{Ends, Goes, MayGo, fault_ending, stand}
+
+-- on top of the other frames: a statement is to be executed
+abbrev pub executing : Statement → List Continuation → List Continuation
+executing s work = Execute s ∷ work
+
+-- on top of the other frames: the value of an expression is to be given to a variable
+abbrev pub to_variable : Expression → ℕ → List Continuation → List Continuation
+to_variable value var work = Evaluate value ∷ (GiveVar var ∷ work)
+
+-- on top of the other frames: the value of an expression is to be given to a cell
+abbrev pub to_cell : Expression → ℕ → List Continuation → List Continuation
+to_cell value cell work = Evaluate value ∷ (GiveCell cell ∷ work)
+
+-- on top of the other frames: the value of an expression is to be given to the element at an index
+abbrev pub to_element : Expression → Expression → ℕ → Place → List Continuation → List Continuation
+to_element index value array place work = Evaluate index ∷ (Evaluate value ∷ (GiveElement array place ∷ work))
+
+-- a run that the implementation allows came to these frames
+pub record MayDo {C : Type 0} (p : Program) (ways : Ways C)
+    (tasks : List Continuation → List Continuation) (vars : List ℤ) (cells : C) : Type 0 where
+  pub work : List Continuation
+  pub operands : List ℤ
+  pub fuel : ℕ
+  pub calls : ℕ
+  pub prints : List ℤ
+  pub may : MayGo p ways (stand (tasks work) operands vars fuel calls cells prints)
+
+-- these frames are done, or they meet a fault, whatever else is to be done; or they are left, and nothing has changed
+abbrev pub Does : {C : Type 0} → Program → Ways C
+    → (List Continuation → List Continuation) → List ℤ → C → Carried → List ℤ → C → Type 0
+Does p ways tasks vars old Done vars' new =
+    (work : List Continuation) (operands : List ℤ) (fuel calls : ℕ) (prints : List ℤ)
+    → Goes p ways (stand (tasks work) operands vars fuel calls old prints) (stand work operands vars' fuel calls new prints)
+Does p ways tasks vars old (Faulted fault) vars' new =
+    (work : List Continuation) (operands : List ℤ) (fuel calls : ℕ) (prints : List ℤ)
+    → Ends p ways (stand (tasks work) operands vars fuel calls old prints) (fault_ending fault)
+    (stand work operands vars' fuel calls new prints)
+Does p ways tasks vars old Left vars' new = (vars' ≡ vars) × (new ≡ old)
+
+-- the implementation allows the write of an element, if there is such an element
+abbrev pub MayWriteAt : {C : Type 0} → Ways C → C → Option ℕ → Type 0
+MayWriteAt ways cells cell = (k : ℕ) → cell ≡ Some k → ways.may_write cells k
+
+-- the write of an element; a fault if there is no such element
+abbrev pub WritesAt : {C : Type 0} → Ways C → Option ℕ → ℤ → Place → C → Carried → C → Type 0
+WritesAt ways None value place old result new = (result ≡ Faulted (record { kind = Index; place = place })) × (new ≡ old)
+WritesAt ways (Some cell) value place old result new = (result ≡ Done) × HasWritten ways old cell value new

@@ -1,0 +1,204 @@
+//! How blocks, arms and loops continue, and how a body is left.
+ghost use Rattle.std.specs.Prelude.{◌≡◌, IfOk, drop, pos};
+ghost use Rattle.twe_program.specs.Statement.{statements_of};
+ghost use Rattle.twe_program.specs.inner.StatementView.{arms_of};
+ghost use Rattle.seg_exec.specs.inner.steps.Steps.{back_with, chosen_next, choosing, on, rested, returned, suspended, turned_next, unwound};
+ghost use Rattle.seg_exec.specs.inner.steps.Views.{config_of, continuations_of};
+
+use crate::arithmetic::is_true;
+use crate::steps::continuation::{Continuation, Recovered, ValueUse};
+use crate::steps::held::Held;
+use crate::steps::machine::{Machine, fault};
+use crate::steps::request::{Ending, Request};
+use twe_base::{FaultKind, Ints, Memory, Place};
+use twe_program::{Arm, Block, Stmt};
+
+impl<'a> Machine<'a> {
+    /// Schedules the statements of a block from the one at `at` on.
+    pub(crate) fn rest(
+        &mut self,
+        block: usize,
+        at: usize,
+        stmts: &'a [Stmt],
+    ) -> Result<Request, Memory>
+        ensures { IfOk result (λ request. (request, config_of self.new) ≡
+            rested block at (statements_of (drop at stmts.now)) (config_of self.old)) }
+    {
+        if at < stmts.len() {
+            self.push(Continuation::Rest {
+                block,
+                at: at + 1,
+                stmts,
+            })?;
+            self.push(Continuation::Execute(&stmts[at]))?;
+        }
+        Ok(Request::Nothing)
+    }
+
+    /// Schedules the arms of an `if` from the one numbered `block` on.
+    #[inline(always)]
+    pub(crate) fn choose(
+        &mut self,
+        block: usize,
+        arms: &'a [Arm],
+        last: &'a Option<Block>,
+    ) -> Result<Request, Memory>
+        ensures { IfOk result (λ request. (request, config_of self.new) ≡
+            choosing block (arms_of (drop block arms.now) last.now) (config_of self.old)) }
+    {
+        if block < arms.len() {
+            let arm = &arms[block];
+            self.push(Continuation::UseValue(ValueUse::Chosen {
+                block,
+                next: block + 1,
+                body: &arm.body,
+                arms,
+                last,
+            }))?;
+            self.push(Continuation::Evaluate(&arm.condition))?;
+        } else if let Some(body) = last {
+            self.push(Continuation::Rest {
+                block,
+                at: 0,
+                stmts: body.stmts.as_slice(),
+            })?;
+        }
+        Ok(Request::Nothing)
+    }
+
+    /// Schedules the body of an arm if its condition is true, and the arms after it otherwise.
+    #[inline(always)]
+    pub(crate) fn chosen(
+        &mut self,
+        block: usize,
+        next: usize,
+        body: &'a Block,
+        arms: &'a [Arm],
+        last: &'a Option<Block>,
+    ) -> Result<Request, Memory>
+        ensures { IfOk result (λ request. (request, config_of self.new) ≡
+            chosen_next block next body.now (arms_of (drop next arms.now) last.now) (config_of self.old)) }
+    {
+        if is_true(self.pop_operand()) {
+            self.push(Continuation::Rest {
+                block,
+                at: 0,
+                stmts: body.stmts.as_slice(),
+            })?;
+        } else {
+            self.push(Continuation::Choose {
+                block: next,
+                arms,
+                last,
+            })?;
+        }
+        Ok(Request::Nothing)
+    }
+
+    /// Schedules a turn of a loop if its condition is true. A turn takes a unit of fuel; it is a fault if none is left.
+    #[inline(always)]
+    pub(crate) fn turn(
+        &mut self,
+        again: &'a Stmt,
+        body: &'a Block,
+        place: Place,
+    ) -> Result<Request, Memory>
+        ensures { IfOk result (λ request. (request, config_of self.new) ≡
+            turned_next again.now body.now place (config_of self.old)) }
+    {
+        if is_true(self.pop_operand()) {
+            if self.fuel == 0 {
+                return Ok(fault(FaultKind::Fuel, place));
+            }
+            self.fuel -= 1;
+            self.push(Continuation::Execute(again))?;
+            self.push(Continuation::Rest {
+                block: 0,
+                at: 0,
+                stmts: body.stmts.as_slice(),
+            })?;
+        }
+        Ok(Request::Nothing)
+    }
+
+    /// Returns to the caller of a method, whose variables are `vars`, with a value.
+    #[inline(always)]
+    pub(crate) fn back(&mut self, value: i32, vars: Ints) -> Result<(), Memory>
+        ensures { IfOk result (λ _. config_of self.new ≡ back_with value vars (config_of self.old)) }
+    {
+        self.push_operand(value)?;
+        self.vars = vars;
+        self.calls = self.calls.saturating_sub(1);
+        Ok(())
+    }
+
+    /// Returns from a method at the end of its body, with 0.
+    #[inline(always)]
+    pub(crate) fn leave(&mut self, vars: Ints) -> Result<Request, Memory>
+        ensures { IfOk result (λ request. (request, config_of self.new) ≡ on (back_with (pos 0) vars (config_of self.old))) }
+    {
+        self.back(0, vars)?;
+        Ok(Request::Nothing)
+    }
+
+    /// Unwinds the continuation up to the caller of the active method, or to its end, and returns the latest value.
+    pub(crate) fn unwind(&mut self) -> Result<Request, Memory>
+        ensures { IfOk result (λ request. (request, config_of self.new) ≡
+            unwound (continuations_of self.old.work) (config_of self.old)) }
+    {
+        let Some(work) = self.work.pop() else {
+            return Ok(Request::End(Ending::Returned(self.pop_operand())));
+        };
+        match work.recovered() {
+            Recovered::Caller(vars) => {
+                let value = self.pop_operand();
+                self.back(value, vars)?;
+            }
+            Recovered::Block(_) => self.push(Continuation::UseValue(ValueUse::Unwind))?,
+            Recovered::Nothing => self.push(Continuation::UseValue(ValueUse::Unwind))?,
+        }
+        Ok(Request::Nothing)
+    }
+
+    /// Returns the latest value to the caller of the active method, or from the whole body, at once.
+    #[inline(always)]
+    pub(crate) fn give_back(&mut self) -> Result<Request, Memory>
+        ensures { IfOk result (λ request. (request, config_of self.new) ≡
+            returned (continuations_of self.old.work) (config_of self.old)) }
+    {
+        'frames: loop {
+            let Some(work) = self.work.pop() else {
+                return Ok(Request::End(Ending::Returned(self.pop_operand())));
+            };
+            match work.recovered() {
+                Recovered::Caller(vars) => {
+                    let value = self.pop_operand();
+                    self.back(value, vars)?;
+                    return Ok(Request::Nothing);
+                }
+                Recovered::Block(_) => {}
+                Recovered::Nothing => {}
+            }
+        }
+    }
+
+    /// Unwinds the continuation up to its end and collects the positions of the open blocks, then ends with the operation.
+    pub(crate) fn suspend_on(&mut self, suspension: Held) -> Result<Request, Memory>
+        ensures { IfOk result (λ request. (request, config_of self.new) ≡
+            suspended suspension.operation suspension.positions (continuations_of self.old.work) (config_of self.old)) }
+    {
+        let Some(work) = self.work.pop() else {
+            return Ok(Request::End(Ending::Suspended(suspension)));
+        };
+        match work.recovered() {
+            Recovered::Caller(vars) => self.back(0, vars)?,
+            Recovered::Block(position) => {
+                let mut suspension = suspension;
+                suspension.close(position)?;
+                self.push(Continuation::Suspend(suspension))?;
+            }
+            Recovered::Nothing => self.push(Continuation::Suspend(suspension))?,
+        }
+        Ok(Request::Nothing)
+    }
+}

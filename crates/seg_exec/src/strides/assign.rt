@@ -1,0 +1,141 @@
+//! Assignments whose expressions call no method, carried out at once.
+ghost use Rattle.std.specs.Prelude.{◌≡◌, slice_set};
+ghost use Rattle.seg_exec.specs.Access.{ways_of};
+ghost use Rattle.seg_exec.specs.inner.strides.Assignments.{Does, MayDo, MayWriteAt, WritesAt, executing, to_cell, to_element, to_variable};
+
+use crate::cells::Cells;
+use crate::elements::{cell_number, element_number};
+use crate::strides::plain::is_plain;
+use crate::strides::value::{Fault, value_of};
+use twe_base::{FaultKind, Ints, Place};
+use twe_program::{Expr, Prog, Stmt, StmtKind};
+
+/// What became of a statement.
+#[derive(Clone, Copy, Debug)]
+pub(crate) enum Carried {
+    /// It is done.
+    Done,
+    /// It met a fault.
+    Faulted(Fault),
+    /// It was left alone, and nothing changed.
+    Left,
+}
+
+/// Assigns a value to a variable, if there is such a variable.
+fn put_var(vars: &mut Ints, var: u32, value: i32)
+    ensures { vars.new ≡ slice_set vars.old var value }
+{
+    let at = var as usize;
+    if at < vars.len() {
+        vars.set(at, value);
+    }
+}
+
+/// Evaluates an expression and assigns its value to a variable.
+#[inline(always)]
+fn set_var<C: Cells>(var: u32, value: &Expr, p: &Prog, vars: &mut Ints, cells: &mut C) -> Carried
+    requires { MayDo p.now (ways_of C.known C.may_read C.may_write C.rule) (to_variable value.now var) vars.old cells.old }
+    ensures { Does p.now (ways_of C.known C.may_read C.may_write C.rule)
+        (to_variable value.now var) vars.old cells.old result vars.new cells.new }
+{
+    if !is_plain(value) {
+        return Carried::Left;
+    }
+    match value_of(value, p, vars.as_slice(), cells) {
+        Err(fault) => Carried::Faulted(fault),
+        Ok(value) => {
+            put_var(vars, var, value);
+            Carried::Done
+        }
+    }
+}
+
+/// Evaluates an expression and assigns its value to a cell.
+#[inline(always)]
+fn set_cell<C: Cells>(cell: u32, value: &Expr, p: &Prog, vars: &mut Ints, cells: &mut C) -> Carried
+    requires { MayDo p.now (ways_of C.known C.may_read C.may_write C.rule) (to_cell value.now cell) vars.old cells.old }
+    ensures { Does p.now (ways_of C.known C.may_read C.may_write C.rule)
+        (to_cell value.now cell) vars.old cells.old result vars.new cells.new }
+{
+    if !is_plain(value) {
+        return Carried::Left;
+    }
+    match value_of(value, p, vars.as_slice(), cells) {
+        Err(fault) => Carried::Faulted(fault),
+        Ok(value) => {
+            cells.set(cell_number(p, cell), value);
+            Carried::Done
+        }
+    }
+}
+
+/// Writes an element. It is a fault if there is no such element.
+#[inline(always)]
+fn write<C: Cells>(cells: &mut C, cell: Option<u32>, value: i32, place: Place) -> Carried
+    requires { MayWriteAt (ways_of C.known C.may_read C.may_write C.rule) cells.old cell }
+    ensures { WritesAt (ways_of C.known C.may_read C.may_write C.rule) cell value place cells.old result cells.new }
+{
+    match cell {
+        None => Carried::Faulted(Fault {
+            kind: FaultKind::Index,
+            place,
+        }),
+        Some(cell) => {
+            cells.set(cell, value);
+            Carried::Done
+        }
+    }
+}
+
+/// Evaluates an index and an expression and assigns the value to an element of an array.
+#[inline(always)]
+fn set_element<C: Cells>(
+    array: u32,
+    index: &Expr,
+    value: &Expr,
+    place: Place,
+    p: &Prog,
+    vars: &mut Ints,
+    cells: &mut C,
+) -> Carried
+    requires { MayDo p.now (ways_of C.known C.may_read C.may_write C.rule)
+        (to_element index.now value.now array place) vars.old cells.old }
+    ensures { Does p.now (ways_of C.known C.may_read C.may_write C.rule)
+        (to_element index.now value.now array place) vars.old cells.old result vars.new cells.new }
+{
+    if !is_plain(index) {
+        return Carried::Left;
+    }
+    if !is_plain(value) {
+        return Carried::Left;
+    }
+    match value_of(index, p, vars.as_slice(), cells) {
+        Err(fault) => Carried::Faulted(fault),
+        Ok(index) => match value_of(value, p, vars.as_slice(), cells) {
+            Err(fault) => Carried::Faulted(fault),
+            Ok(value) => write(cells, element_number(p, array, index), value, place),
+        },
+    }
+}
+
+/// Executes an assignment to a variable, a cell or an element of an array, if its expressions call no method.
+#[inline(always)]
+pub(crate) fn assign<C: Cells>(stmt: &Stmt, p: &Prog, vars: &mut Ints, cells: &mut C) -> Carried
+    requires { MayDo p.now (ways_of C.known C.may_read C.may_write C.rule) (executing stmt.now) vars.old cells.old }
+    ensures { Does p.now (ways_of C.known C.may_read C.may_write C.rule)
+        (executing stmt.now) vars.old cells.old result vars.new cells.new }
+{
+    match &stmt.kind {
+        StmtKind::Let { var, value } => set_var(*var, value, p, vars, cells),
+        StmtKind::Set { var, value } => set_var(*var, value, p, vars, cells),
+        StmtKind::SetCell { cell, value, .. } => set_cell(*cell, value, p, vars, cells),
+        StmtKind::SetAt {
+            array,
+            index,
+            second: None,
+            value,
+            place,
+        } => set_element(*array, index, value, *place, p, vars, cells),
+        _ => Carried::Left,
+    }
+}

@@ -1,0 +1,110 @@
+//! The arguments of a call that call no method, evaluated at once.
+ghost use Rattle.std.specs.Prelude.{◌≡◌, true, [], Some, IfOk, IfSome, slice_get};
+ghost use Rattle.twe_program.specs.Expression.{arguments_of};
+ghost use Rattle.seg_exec.specs.declared.steps.continuation.Goal.TheVariants.{Enter};
+ghost use Rattle.seg_exec.specs.inner.steps.Continuations.{Gather};
+ghost use Rattle.seg_exec.specs.inner.strides.Plainly.{is_plain};
+ghost use Rattle.seg_exec.specs.inner.strides.Strides.{MayStride, Strides};
+
+use crate::cells::Cells;
+use crate::steps::continuation::Goal;
+use crate::steps::machine::Machine;
+use crate::steps::request::Ending;
+use crate::strides::plain::is_plain;
+use crate::strides::serve::serve;
+use crate::strides::value::value_of;
+use std::alloc::Global;
+use twe_base::{Ints, Memory, Place};
+use twe_program::{Args, Expr, Prog};
+
+/// The argument of this number, if there is one and it calls no method.
+fn plain_argument(args: &[Expr], at: usize) -> Option<&Expr>
+    ensures { IfSome result (λ arg. (slice_get args.now at ≡ Some arg.now) × (is_plain arg.now ≡ true)) }
+{
+    match args.get(at) {
+        None => None,
+        Some(arg) => if is_plain(arg) { Some(arg) } else { None },
+    }
+}
+
+/// Makes the next step: evaluates an argument that calls a method, or does what the arguments are for.
+#[inline(always)]
+fn gather_next<'a, C: Cells>(
+    alloc: Global,
+    p: &'a Prog,
+    machine: &mut Machine<'a>,
+    cells: &mut C,
+    prints: &mut Ints,
+    taken: Ints,
+    args: &'a [Expr],
+    goal: Goal,
+) -> Result<Option<Ending>, Memory>
+    requires { MayStride p.now C.known C.may_read C.may_write C.rule (Gather taken (arguments_of args.now) goal)
+        machine.old cells.old prints.old }
+    ensures { IfOk result (Strides p.now C.known C.may_read C.may_write C.rule (Gather taken (arguments_of args.now) goal)
+        machine.old cells.old prints.old machine.new cells.new prints.new) }
+{
+    let request = machine.gather_next(alloc, p, taken, args, goal)?;
+    serve(machine, cells, prints, request)
+}
+
+/// Evaluates the arguments up to the first that calls a method, and then makes the next step.
+#[inline(always)]
+pub(crate) fn gather<'a, C: Cells>(
+    alloc: Global,
+    p: &'a Prog,
+    machine: &mut Machine<'a>,
+    cells: &mut C,
+    prints: &mut Ints,
+    taken: Ints,
+    args: &'a [Expr],
+    goal: Goal,
+) -> Result<Option<Ending>, Memory>
+    requires { MayStride p.now C.known C.may_read C.may_write C.rule (Gather taken (arguments_of args.now) goal)
+        machine.old cells.old prints.old }
+    ensures { IfOk result (Strides p.now C.known C.may_read C.may_write C.rule (Gather taken (arguments_of args.now) goal)
+        machine.old cells.old prints.old machine.new cells.new prints.new) }
+{
+    let mut values = taken;
+    let mut next = 0;
+    while let Some(arg) = plain_argument(args, next) {
+        match value_of(arg, p, machine.vars.as_slice(), cells) {
+            Err(fault) => return Ok(Some(fault.ending())),
+            Ok(value) => values.push(value)?,
+        }
+        next += 1;
+    }
+    let args = &args[next..];
+    gather_next(alloc, p, machine, cells, prints, values, args, goal)
+}
+
+/// Evaluates the arguments of a call as far as they call no method; if all have values, enters the method.
+#[inline(always)]
+pub(crate) fn call<'a, C: Cells>(
+    alloc: Global,
+    p: &'a Prog,
+    machine: &mut Machine<'a>,
+    cells: &mut C,
+    prints: &mut Ints,
+    method: u32,
+    args: &'a Args,
+    place: Place,
+) -> Result<Option<Ending>, Memory>
+    requires { MayStride p.now C.known C.may_read C.may_write C.rule (Gather [] args.now (Enter method place))
+        machine.old cells.old prints.old }
+    ensures { IfOk result (Strides p.now C.known C.may_read C.may_write C.rule (Gather [] args.now (Enter method place))
+        machine.old cells.old prints.old machine.new cells.new prints.new) }
+{
+    let taken = Ints::with_capacity(alloc, args.items.len())?;
+    let goal = Goal::Enter { method, place };
+    gather(
+        alloc,
+        p,
+        machine,
+        cells,
+        prints,
+        taken,
+        args.items.as_slice(),
+        goal,
+    )
+}

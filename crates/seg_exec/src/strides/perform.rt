@@ -1,0 +1,164 @@
+//! What a continuation frame is for, done in one step or in several.
+ghost use Rattle.std.specs.Prelude.{◌<◌, IfOk, drop, length};
+ghost use Rattle.twe_program.specs.Statement.{statements_of};
+ghost use Rattle.seg_exec.specs.inner.steps.Continuations.{Execute, Rest};
+ghost use Rattle.seg_exec.specs.inner.strides.Strides.{MayStride, Strides};
+ghost use Rattle.seg_exec.specs.inner.steps.Views.{continuation_of};
+
+use crate::cells::Cells;
+use crate::steps::continuation::{Continuation, Gathering, ValueUse};
+use crate::steps::machine::Machine;
+use crate::steps::request::Ending;
+use crate::strides::assign::{Carried, assign};
+use crate::strides::choose::{choose, choose_first};
+use crate::strides::evaluate::{evaluate, evaluate_then, right_of};
+use crate::strides::gather::gather;
+use crate::strides::serve::{serve, step, use_value};
+use std::alloc::Global;
+use twe_base::{Ints, Memory};
+use twe_program::{Prog, Stmt, StmtKind};
+
+/// Executes a statement as far as its expressions call no method.
+#[inline(always)]
+fn execute<'a, C: Cells>(
+    alloc: Global,
+    p: &'a Prog,
+    machine: &mut Machine<'a>,
+    cells: &mut C,
+    prints: &mut Ints,
+    stmt: &'a Stmt,
+) -> Result<Option<Ending>, Memory>
+    requires { MayStride p.now C.known C.may_read C.may_write C.rule (Execute stmt.now) machine.old cells.old prints.old }
+    ensures { IfOk result (Strides p.now C.known C.may_read C.may_write C.rule (Execute stmt.now) machine.old cells.old prints.old
+        machine.new cells.new prints.new) }
+{
+    match &stmt.kind {
+        StmtKind::Let { var, value } => {
+            let then = ValueUse::GiveVar(*var);
+            evaluate_then(alloc, p, machine, cells, prints, value, &then)
+        }
+        StmtKind::Set { var, value } => {
+            let then = ValueUse::GiveVar(*var);
+            evaluate_then(alloc, p, machine, cells, prints, value, &then)
+        }
+        StmtKind::SetCell { cell, value, .. } => {
+            let then = ValueUse::GiveCell(*cell);
+            evaluate_then(alloc, p, machine, cells, prints, value, &then)
+        }
+        StmtKind::While {
+            condition,
+            body,
+            place,
+        } => {
+            let then = ValueUse::Turn {
+                again: stmt,
+                body,
+                place: *place,
+            };
+            evaluate_then(alloc, p, machine, cells, prints, condition, &then)
+        }
+        StmtKind::If(arms) => choose_first(alloc, p, machine, cells, prints, arms),
+        StmtKind::Return(Some(value)) => {
+            evaluate_then(alloc, p, machine, cells, prints, value, &ValueUse::Unwind)
+        }
+        StmtKind::Print { value, place } => {
+            let then = ValueUse::PrintValue(*place);
+            evaluate_then(alloc, p, machine, cells, prints, value, &then)
+        }
+        _ => {
+            let request = machine.execute(alloc, stmt)?;
+            serve(machine, cells, prints, request)
+        }
+    }
+}
+
+/// Executes the next statement of a block as far as its expressions call no method.
+#[inline(always)]
+fn begin_statement<'a, C: Cells>(
+    alloc: Global,
+    p: &'a Prog,
+    machine: &mut Machine<'a>,
+    cells: &mut C,
+    prints: &mut Ints,
+    block: usize,
+    at: usize,
+    stmts: &'a [Stmt],
+) -> Result<Option<Ending>, Memory>
+    requires within { at < length stmts.now }
+    requires may { MayStride p.now C.known C.may_read C.may_write C.rule (Rest block at (statements_of (drop at stmts.now)))
+        machine.old cells.old prints.old }
+    ensures { IfOk result (Strides p.now C.known C.may_read C.may_write C.rule (Rest block at (statements_of (drop at stmts.now)))
+        machine.old cells.old prints.old machine.new cells.new prints.new) }
+{
+    machine.push(Continuation::Rest {
+        block,
+        at: at + 1,
+        stmts,
+    })?;
+    execute(alloc, p, machine, cells, prints, &stmts[at])
+}
+
+/// Executes the statements of a block from the one at `at` on: assignments at once, up to the first other statement.
+#[inline(always)]
+fn go_on<'a, C: Cells>(
+    alloc: Global,
+    p: &'a Prog,
+    machine: &mut Machine<'a>,
+    cells: &mut C,
+    prints: &mut Ints,
+    block: usize,
+    at: usize,
+    stmts: &'a [Stmt],
+) -> Result<Option<Ending>, Memory>
+    requires { MayStride p.now C.known C.may_read C.may_write C.rule (Rest block at (statements_of (drop at stmts.now)))
+        machine.old cells.old prints.old }
+    ensures { IfOk result (Strides p.now C.known C.may_read C.may_write C.rule (Rest block at (statements_of (drop at stmts.now)))
+        machine.old cells.old prints.old machine.new cells.new prints.new) }
+{
+    let mut next = at;
+    while next < stmts.len() {
+        match assign(&stmts[next], p, &mut machine.vars, cells) {
+            Carried::Done => next += 1,
+            Carried::Faulted(fault) => return Ok(Some(fault.ending())),
+            Carried::Left => {
+                return begin_statement(alloc, p, machine, cells, prints, block, next, stmts);
+            }
+        }
+    }
+    Ok(None)
+}
+
+/// Does what a continuation frame is for, in one step or in several. Returns the ending if the last of them is the end.
+#[inline(always)]
+pub(crate) fn perform<'a, C: Cells>(
+    alloc: Global,
+    p: &'a Prog,
+    machine: &mut Machine<'a>,
+    cells: &mut C,
+    prints: &mut Ints,
+    work: Continuation<'a>,
+) -> Result<Option<Ending>, Memory>
+    requires { MayStride p.now C.known C.may_read C.may_write C.rule (continuation_of work) machine.old cells.old prints.old }
+    ensures { IfOk result (Strides p.now C.known C.may_read C.may_write C.rule (continuation_of work.entry)
+        machine.old cells.old prints.old machine.new cells.new prints.new) }
+{
+    match work {
+        Continuation::Evaluate(expr) => evaluate(alloc, p, machine, cells, prints, expr),
+        Continuation::Execute(stmt) => execute(alloc, p, machine, cells, prints, stmt),
+        Continuation::Rest { block, at, stmts } => {
+            go_on(alloc, p, machine, cells, prints, block, at, stmts)
+        }
+        Continuation::Choose { block, arms, last } => {
+            choose(alloc, p, machine, cells, prints, block, arms, last)
+        }
+        Continuation::UseValue(ValueUse::Right { op, right, place }) => {
+            right_of(alloc, p, machine, cells, prints, op, right, place)
+        }
+        Continuation::UseValue(then) => use_value(p, machine, cells, prints, &then),
+        Continuation::Gather(gathering) => {
+            let Gathering { taken, args, goal } = Box::into_inner(gathering);
+            gather(alloc, p, machine, cells, prints, taken, args, goal)
+        }
+        work => step(alloc, p, machine, cells, prints, work),
+    }
+}

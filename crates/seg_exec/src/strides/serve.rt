@@ -1,0 +1,110 @@
+//! What a step requests, served. One step, and the steps that use the latest value.
+ghost use Rattle.std.specs.Prelude.{IfOk};
+ghost use Rattle.seg_exec.specs.inner.steps.Continuations.{Unwind};
+ghost use Rattle.seg_exec.specs.inner.steps.Reached.{MayRequest, Served, standing};
+ghost use Rattle.seg_exec.specs.inner.steps.Views.{continuation_of, use_of};
+ghost use Rattle.seg_exec.specs.inner.strides.Strides.{MayStride, Strides};
+ghost use Rattle.seg_exec.specs.Access.{ways_of};
+
+use crate::cells::Cells;
+use crate::steps::continuation::{Continuation, ValueUse};
+use crate::steps::machine::Machine;
+use crate::steps::request::{Ending, Request};
+use std::alloc::Global;
+use twe_base::{Ints, Memory};
+use twe_program::Prog;
+
+/// Serves what a step requests. Returns the ending if the step is the last.
+#[inline(always)]
+pub(crate) fn serve<C: Cells>(
+    machine: &mut Machine<'_>,
+    cells: &mut C,
+    prints: &mut Ints,
+    request: Request,
+) -> Result<Option<Ending>, Memory>
+    requires { MayRequest (ways_of C.known C.may_read C.may_write C.rule) cells.old request }
+    ensures { IfOk result (λ ending. Served (ways_of C.known C.may_read C.may_write C.rule)
+        request (standing machine.old cells.old prints.old) ending (standing machine.new cells.new prints.new)) }
+{
+    match request {
+        Request::Nothing => {}
+        Request::Read(cell) => {
+            let value = cells.get(cell);
+            machine.push_operand(value)?;
+        }
+        Request::Write(cell, value) => cells.set(cell, value),
+        Request::Print(value) => prints.push(value)?,
+        Request::End(ending) => return Ok(Some(ending)),
+    }
+    Ok(None)
+}
+
+/// Makes the one step that a continuation frame is for. Returns the ending if the step is the last.
+pub(crate) fn step<'a, C: Cells>(
+    alloc: Global,
+    p: &'a Prog,
+    machine: &mut Machine<'a>,
+    cells: &mut C,
+    prints: &mut Ints,
+    work: Continuation<'a>,
+) -> Result<Option<Ending>, Memory>
+    requires { MayStride p.now C.known C.may_read C.may_write C.rule (continuation_of work) machine.old cells.old prints.old }
+    ensures { IfOk result (Strides p.now C.known C.may_read C.may_write C.rule (continuation_of work.entry)
+        machine.old cells.old prints.old machine.new cells.new prints.new) }
+{
+    let request = machine.act(alloc, p, work)?;
+    serve(machine, cells, prints, request)
+}
+
+/// Returns the latest value from the active body.
+#[inline(always)]
+pub(crate) fn leave<'a, C: Cells>(
+    p: &'a Prog,
+    machine: &mut Machine<'a>,
+    cells: &mut C,
+    prints: &mut Ints,
+) -> Result<Option<Ending>, Memory>
+    requires { MayStride p.now C.known C.may_read C.may_write C.rule Unwind machine.old cells.old prints.old }
+    ensures { IfOk result (Strides p.now C.known C.may_read C.may_write C.rule Unwind machine.old cells.old prints.old
+        machine.new cells.new prints.new) }
+{
+    let _program = p;
+    let request = machine.give_back()?;
+    serve(machine, cells, prints, request)
+}
+
+/// Makes the one step that uses the latest value.
+#[inline(always)]
+fn use_now<'a, C: Cells>(
+    p: &'a Prog,
+    machine: &mut Machine<'a>,
+    cells: &mut C,
+    prints: &mut Ints,
+    then: &ValueUse<'a>,
+) -> Result<Option<Ending>, Memory>
+    requires { MayStride p.now C.known C.may_read C.may_write C.rule (use_of then.now) machine.old cells.old prints.old }
+    ensures { IfOk result (Strides p.now C.known C.may_read C.may_write C.rule (use_of then.now) machine.old cells.old prints.old
+        machine.new cells.new prints.new) }
+{
+    let request = machine.use_value(p, then)?;
+    serve(machine, cells, prints, request)
+}
+
+/// Uses the latest value.
+#[inline(always)]
+pub(crate) fn use_value<'a, C: Cells>(
+    p: &'a Prog,
+    machine: &mut Machine<'a>,
+    cells: &mut C,
+    prints: &mut Ints,
+    then: &ValueUse<'a>,
+) -> Result<Option<Ending>, Memory>
+    requires { MayStride p.now C.known C.may_read C.may_write C.rule (use_of then.now) machine.old cells.old prints.old }
+    ensures { IfOk result (Strides p.now C.known C.may_read C.may_write C.rule (use_of then.now) machine.old cells.old prints.old
+        machine.new cells.new prints.new) }
+{
+    match then {
+        ValueUse::Unwind => leave(p, machine, cells, prints),
+        then => use_now(p, machine, cells, prints, then),
+    }
+}

@@ -1,0 +1,135 @@
+//! The value of an expression that calls no method, by recursion over the expression.
+ghost use Rattle.std.specs.Prelude.{◌≡◌, true, slice_get};
+ghost use Rattle.seg_exec.specs.Access.{value_in, ways_of};
+ghost use Rattle.seg_exec.specs.Arithmetic.{operated};
+ghost use Rattle.seg_exec.specs.inner.strides.Plainly.{is_plain};
+ghost use Rattle.seg_exec.specs.inner.strides.Strides.{EvaluatesTo, MayEvaluate, MayReadAt, ReadsAt, fault_ending, quotient_or};
+
+use crate::arithmetic::{decide, invert, is_true, negate, number_of, operate};
+use crate::cells::Cells;
+use crate::elements::{cell_number, element_number, grid_element_number};
+use crate::steps::request::Ending;
+use twe_base::{FaultKind, Place};
+use twe_program::{BinOp, Expr, ExprKind, Prog};
+
+/// A fault and its place in the text.
+#[derive(Clone, Copy, Debug)]
+pub(crate) struct Fault {
+    /// The kind of fault.
+    pub(crate) kind: FaultKind,
+    /// Its place.
+    pub(crate) place: Place,
+}
+
+impl Fault {
+    /// The end of a run with this fault.
+    pub(crate) fn ending(self) -> Ending
+        ensures { result ≡ fault_ending self }
+    {
+        Ending::Faulted {
+            kind: self.kind,
+            place: self.place,
+        }
+    }
+}
+
+/// The value of a variable; 0 if there is no such variable.
+#[inline(always)]
+fn var_in(vars: &[i32], var: u32) -> i32
+    ensures { result ≡ value_in (slice_get vars.now var) }
+{
+    match vars.get(var as usize) {
+        None => 0,
+        Some(value) => *value,
+    }
+}
+
+/// Reads an element. It is a fault if there is no such element.
+#[inline(always)]
+fn read<C: Cells>(cells: &mut C, cell: Option<u32>, place: Place) -> Result<i32, Fault>
+    requires { MayReadAt (ways_of C.known C.may_read C.may_write C.rule) cells.old cell }
+    ensures { ReadsAt (ways_of C.known C.may_read C.may_write C.rule) cell place cells.old result cells.new }
+{
+    match cell {
+        None => Err(Fault {
+            kind: FaultKind::Index,
+            place,
+        }),
+        Some(cell) => Ok(cells.get(cell)),
+    }
+}
+
+/// Applies an operator to its operands. It is a fault if the operator divides by zero.
+fn apply(op: BinOp, left: i32, right: i32, place: Place) -> Result<i32, Fault>
+    ensures { result ≡ quotient_or (operated op left right) place }
+{
+    match operate(op, left, right) {
+        None => Err(Fault {
+            kind: FaultKind::DivZero,
+            place,
+        }),
+        Some(value) => Ok(value),
+    }
+}
+
+/// Evaluates an expression that calls no method. The recursion is as deep as the expression.
+pub(crate) fn value_of<C: Cells>(
+    expr: &Expr,
+    p: &Prog,
+    vars: &[i32],
+    cells: &mut C,
+) -> Result<i32, Fault>
+    requires plain { is_plain expr.now ≡ true }
+    requires may { MayEvaluate p.now (ways_of C.known C.may_read C.may_write C.rule) expr.now vars.now cells.old }
+    ensures { EvaluatesTo p.now (ways_of C.known C.may_read C.may_write C.rule) expr.now vars.now cells.old result cells.new }
+{
+    match &expr.kind {
+        ExprKind::Lit(value) => Ok(*value),
+        ExprKind::Truth(value) => Ok(number_of(*value)),
+        ExprKind::Var { var, .. } => Ok(var_in(vars, *var)),
+        ExprKind::Cell { cell, .. } => Ok(cells.get(cell_number(p, *cell))),
+        ExprKind::At {
+            array,
+            index,
+            second: None,
+            place,
+        } => {
+            let index = value_of(index, p, vars, cells)?;
+            read(cells, element_number(p, *array, index), *place)
+        }
+        ExprKind::At {
+            array,
+            index,
+            second: Some(column),
+            place,
+        } => {
+            let row = value_of(index, p, vars, cells)?;
+            let column = value_of(column, p, vars, cells)?;
+            read(cells, grid_element_number(p, *array, row, column), *place)
+        }
+        ExprKind::Call { .. } => Ok(0),
+        ExprKind::Neg(operand) => {
+            let value = value_of(operand, p, vars, cells)?;
+            Ok(negate(value))
+        }
+        ExprKind::Not(operand) => {
+            let value = value_of(operand, p, vars, cells)?;
+            Ok(invert(value))
+        }
+        ExprKind::Bin {
+            op,
+            left,
+            right,
+            place,
+        } => {
+            let left = value_of(left, p, vars, cells)?;
+            match decide(*op, is_true(left)) {
+                Some(value) => Ok(value),
+                None => {
+                    let right = value_of(right, p, vars, cells)?;
+                    apply(*op, left, right, *place)
+                }
+            }
+        }
+    }
+}
