@@ -1,7 +1,7 @@
 //! Whether one written path is inside another.
 ghost use Rattle.std.specs.Prelude.{◌≡◌, ◌↔◌, IsTrue, reverse, zip};
 ghost use Rattle.std.specs.List.{list_all};
-ghost use Rattle.region_paths.specs.Inside.{inside, within, starts_within, ends_within, inside_ends};
+ghost use Rattle.region_paths.specs.Inside.{each_within, inside, within, starts_within, ends_within, inside_ends};
 ghost use Rattle.region_paths.specs.Filled.{filled};
 ghost use Rattle.region_paths.specs.Sets.{SetWithin};
 
@@ -48,6 +48,14 @@ fn front_is_within(inner: &[Elem], outer: &[Elem]) -> bool
     inner.len() >= outer.len() && front_pairs_are_within(inner, outer)
 }
 
+/// Whether the lists are equally long, and each element of `inner` is within the one at its position in `outer`: whether
+/// the path of the elements `inner` is inside that of the elements `outer`.
+pub fn elements_are_within(inner: &[Elem], outer: &[Elem]) -> bool
+    ensures { result ≡ each_within inner.now outer.now }
+{
+    inner.len() == outer.len() && front_is_within(inner, outer)
+}
+
 /// Whether `inner` is at least as long as `outer`, and its last elements are within those of `outer`.
 #[tactic(auto, using(crate::proofs::Pairs::by_pairs))]
 fn end_is_within(inner: &[Elem], outer: &[Elem]) -> bool
@@ -74,7 +82,7 @@ fn is_inside(inner: &Path, outer: &Path) -> bool
     let front = outer.elems().as_slice();
     let back = outer.tail().as_slice();
     match (outer.star(), inner.star()) {
-        (false, false) => elems.len() == front.len() && front_is_within(elems, front),
+        (false, false) => elements_are_within(elems, front),
         (false, true) => false,
         (true, false) => ends_are_within(elems, front, back),
         (true, true) => {

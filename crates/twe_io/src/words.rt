@@ -6,8 +6,9 @@ use std::io::ErrorKind;
 use std::rt::Env;
 use twe_base::{Memory, Word};
 
-/// The words after the program's name. Each counts: if one of them is no text, a single empty word stands for all of them,
-/// which no program takes. No clause says what they are, since nothing but the process knows it.
+/// The words after the program's name. If one of them isn't UTF-8, or the name isn't, then a single empty word stands for
+/// all of them, which no program takes: so each call is a usage fault where the program has such a name. No clause says what
+/// the words are, since nothing but the process knows it.
 pub fn words_of<R: Env + AllocGlobal>(rt: &R) -> Result<Vec<Word>, Memory> {
     let mut words = Vec::new(rt.alloc());
     match env::args(rt) {
