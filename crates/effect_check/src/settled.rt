@@ -36,11 +36,10 @@ pub fn report_effect(
     requires { HasMarks futures.now }
     ensures { first.new ≡ first_from first.old (failure_if (not (free futures.now point effect.now)) rule place) }
 {
-    if is_settled(*first, place) {
-        return;
+    if !is_settled(*first, place) {
+        let free = is_free(futures, point, effect);
+        report_if(first, !free, rule, place);
     }
-    let free = is_free(futures, point, effect);
-    report_if(first, !free, rule, place);
 }
 
 /// The same for several effects: it reports the rule if one of them is not free.
@@ -56,9 +55,8 @@ pub fn report_effects(
     requires { HasMarks futures.now }
     ensures { first.new ≡ first_from first.old (failure_if (not (all_free futures.now point effects.now)) rule place) }
 {
-    if is_settled(*first, place) {
-        return;
+    if !is_settled(*first, place) {
+        let free = are_free(futures, point, effects);
+        report_if(first, !free, rule, place);
     }
-    let free = are_free(futures, point, effects);
-    report_if(first, !free, rule, place);
 }
