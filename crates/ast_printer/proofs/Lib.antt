@@ -1,4 +1,5 @@
 pub mod Texts
+pub mod Listed
 pub mod Supply
 pub mod PlacedExpression
 pub mod AgainExpression

@@ -1,1 +1,2 @@
 pub mod SimpleTokens
+pub mod Listed

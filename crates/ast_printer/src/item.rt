@@ -8,6 +8,7 @@ ghost use Rattle.ast_printer.specs.Text.{text_of};
 ghost use Rattle.ast_printer.specs.ItemTokens.{cell_tokens, clause_tokens, clauses_tokens, decl_tokens, effects_tokens, initial_tokens, item_tokens, items_tokens, names_tokens, params_tokens, paths_tokens, size_tokens, start_tokens};
 ghost use Rattle.twe_parser.specs.Writes.{clause_word, return_word};
 
+use crate::list::{Piece, push_list};
 use crate::path::{push_bracketed, push_cell_path, push_path};
 use crate::stmt::push_block;
 use crate::token::{push_fixed, push_name, push_number, push_when};
@@ -32,17 +33,32 @@ fn return_word(returns: ReturnType) -> Fixed
     }
 }
 
+impl Piece for Name {
+    ghost use Rattle.std.specs.Prelude.{[], ◌∷◌};
+    ghost use Rattle.twe_lexer.specs.declared.token.TokenKind.TheVariants as kinds;
+
+    ghost tokens = { λ name. kinds.Name name.text ∷ [] };
+
+    fn write(&self, text: &mut Bytes) -> Result<(), Memory> {
+        push_name(text, self)
+    }
+}
+
+impl Piece for Path {
+    ghost use Rattle.ast_printer.specs.PathTokens.{path_tokens};
+
+    ghost tokens = { path_tokens };
+
+    fn write(&self, text: &mut Bytes) -> Result<(), Memory> {
+        push_path(text, self)
+    }
+}
+
 /// Writes names, with `,` between them.
 fn push_names(text: &mut Bytes, names: &[Name]) -> Result<(), Memory>
     ensures { OnOk result (text.new ≡ text.old ++ text_of (names_tokens false names.now)) }
 {
-    let mut later = false;
-    for name in names {
-        push_when(text, later, Fixed::Comma)?;
-        push_name(text, name)?;
-        later = true;
-    }
-    Ok(())
+    push_list(text, names, Fixed::Comma, false)
 }
 
 /// Writes the sizes of an array or a grid, and nothing for a single cell.
@@ -124,13 +140,7 @@ fn push_more_params(text: &mut Bytes, params: &[Name]) -> Result<(), Memory>
 fn push_paths(text: &mut Bytes, paths: &[Path]) -> Result<(), Memory>
     ensures { OnOk result (text.new ≡ text.old ++ text_of (paths_tokens false paths.now)) }
 {
-    let mut later = false;
-    for path in paths {
-        push_when(text, later, Fixed::Comma)?;
-        push_path(text, path)?;
-        later = true;
-    }
-    Ok(())
+    push_list(text, paths, Fixed::Comma, false)
 }
 
 /// Writes a clause of effects.

@@ -7,6 +7,7 @@
 mod expr;
 mod item;
 mod laws;
+mod list;
 mod operator;
 mod path;
 mod print;

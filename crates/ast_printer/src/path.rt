@@ -6,6 +6,7 @@ ghost use Rattle.twe_lexer.specs.declared.token.TokenKind.TheVariants as kinds;
 ghost use Rattle.ast_printer.specs.Text.{text_of};
 ghost use Rattle.ast_printer.specs.PathTokens.{bracketed, cell_elem_tokens, cell_elems_tokens, cell_needs_root, cell_path_tokens, elem_tokens, elems_tokens, needs_root, path_tokens};
 
+use crate::list::{Piece, push_list};
 use crate::token::{push_fixed, push_name, push_number, push_text, push_when};
 use twe_ast::{CellElem, CellElemKind, CellPath, Path, PathElem, PathElemKind};
 use twe_base::{Bytes, Memory};
@@ -41,39 +42,6 @@ fn push_elem(text: &mut Bytes, kind: &PathElemKind) -> Result<(), Memory>
     }
 }
 
-/// Whether a path of these elements is printed with `Root`.
-fn needs_root(elems: &[PathElem]) -> bool
-    ensures { result ≡ needs_root elems.now }
-{
-    match elems.first() {
-        None => true,
-        Some(first) => !matches!(&first.kind, PathElemKind::Name(_)),
-    }
-}
-
-/// Writes a path in a clause of effects.
-pub(crate) fn push_path(text: &mut Bytes, path: &Path) -> Result<(), Memory>
-    ensures { OnOk result (text.new ≡ text.old ++ text_of (path_tokens path.now)) }
-{
-    let elems = path.elems.as_slice();
-    let rooted = needs_root(elems);
-    push_when(text, rooted, Fixed::Root)?;
-    push_elems(text, elems, rooted)
-}
-
-/// Writes elements of a path. `later` is whether something comes before them in the path.
-fn push_elems(text: &mut Bytes, elems: &[PathElem], rooted: bool) -> Result<(), Memory>
-    ensures { OnOk result (text.new ≡ text.old ++ text_of (elems_tokens rooted elems.now)) }
-{
-    let mut later = rooted;
-    for elem in elems {
-        push_when(text, later, Fixed::Colon)?;
-        push_elem(text, &elem.kind)?;
-        later = true;
-    }
-    Ok(())
-}
-
 /// Writes an element of the path of a cell.
 fn push_cell_elem(text: &mut Bytes, kind: &CellElemKind) -> Result<(), Memory>
     ensures { OnOk result (text.new ≡ text.old ++ text_of (cell_elem_tokens kind.now)) }
@@ -81,6 +49,36 @@ fn push_cell_elem(text: &mut Bytes, kind: &CellElemKind) -> Result<(), Memory>
     match kind {
         CellElemKind::Name(name) => push_text(text, name.as_bytes()),
         CellElemKind::Index(index) => push_bracketed(text, *index),
+    }
+}
+
+impl Piece for PathElem {
+    ghost use Rattle.ast_printer.specs.PathTokens.{elem_tokens};
+
+    ghost tokens = { λ elem. elem_tokens elem.kind };
+
+    fn write(&self, text: &mut Bytes) -> Result<(), Memory> {
+        push_elem(text, &self.kind)
+    }
+}
+
+impl Piece for CellElem {
+    ghost use Rattle.ast_printer.specs.PathTokens.{cell_elem_tokens};
+
+    ghost tokens = { λ elem. cell_elem_tokens elem.kind };
+
+    fn write(&self, text: &mut Bytes) -> Result<(), Memory> {
+        push_cell_elem(text, &self.kind)
+    }
+}
+
+/// Whether a path of these elements is printed with `Root`.
+fn needs_root(elems: &[PathElem]) -> bool
+    ensures { result ≡ needs_root elems.now }
+{
+    match elems.first() {
+        None => true,
+        Some(first) => !matches!(&first.kind, PathElemKind::Name(_)),
     }
 }
 
@@ -94,6 +92,30 @@ fn cell_needs_root(elems: &[CellElem]) -> bool
     }
 }
 
+/// Writes elements of a path. `rooted` is whether something comes before them in the path.
+fn push_elems(text: &mut Bytes, elems: &[PathElem], rooted: bool) -> Result<(), Memory>
+    ensures { OnOk result (text.new ≡ text.old ++ text_of (elems_tokens rooted elems.now)) }
+{
+    push_list(text, elems, Fixed::Colon, rooted)
+}
+
+/// Writes elements of the path of a cell. `rooted` is whether something comes before them in the path.
+fn push_cell_elems(text: &mut Bytes, elems: &[CellElem], rooted: bool) -> Result<(), Memory>
+    ensures { OnOk result (text.new ≡ text.old ++ text_of (cell_elems_tokens rooted elems.now)) }
+{
+    push_list(text, elems, Fixed::Colon, rooted)
+}
+
+/// Writes a path in a clause of effects.
+pub(crate) fn push_path(text: &mut Bytes, path: &Path) -> Result<(), Memory>
+    ensures { OnOk result (text.new ≡ text.old ++ text_of (path_tokens path.now)) }
+{
+    let elems = path.elems.as_slice();
+    let rooted = needs_root(elems);
+    push_when(text, rooted, Fixed::Root)?;
+    push_elems(text, elems, rooted)
+}
+
 /// Writes the path of a cell.
 pub(crate) fn push_cell_path(text: &mut Bytes, path: &CellPath) -> Result<(), Memory>
     ensures { OnOk result (text.new ≡ text.old ++ text_of (cell_path_tokens path.now)) }
@@ -102,17 +124,4 @@ pub(crate) fn push_cell_path(text: &mut Bytes, path: &CellPath) -> Result<(), Me
     let rooted = cell_needs_root(elems);
     push_when(text, rooted, Fixed::Root)?;
     push_cell_elems(text, elems, rooted)
-}
-
-/// Writes elements of the path of a cell. `later` is whether something comes before them in the path.
-fn push_cell_elems(text: &mut Bytes, elems: &[CellElem], rooted: bool) -> Result<(), Memory>
-    ensures { OnOk result (text.new ≡ text.old ++ text_of (cell_elems_tokens rooted elems.now)) }
-{
-    let mut later = rooted;
-    for elem in elems {
-        push_when(text, later, Fixed::Colon)?;
-        push_cell_elem(text, &elem.kind)?;
-        later = true;
-    }
-    Ok(())
 }

@@ -5,7 +5,9 @@ ghost use Rattle.effect_check.specs.Acts.{acts_in, acts_in_all, acts_in_one, act
 ghost use Rattle.effect_check.specs.inner.Parts.{simple_acts, store_acts};
 
 use crate::act::{Act, ActKind, Acts, add_touch};
-use crate::collect::{add_args, add_call, add_expr, cell_path, deterministic, element, filled};
+use crate::collect::{
+    accessed_path, add_args, add_call, add_expr, deterministic, element_of_index, filled,
+};
 use region_paths::{Elem, Elems, Path};
 use std::alloc::Global;
 use twe_base::{Memory, Place};
@@ -95,7 +97,7 @@ fn add_store(stmt: &Stmt, acts: &mut Acts, alloc: Global, p: &Prog) -> Result<()
     let point = stmt.point;
     match &stmt.kind {
         StmtKind::SetCell { cell, value, place } => {
-            let path = cell_path(alloc, p, *cell, &[])?;
+            let path = accessed_path(alloc, p, *cell, &[])?;
             add_touch(acts, point, true, path, *place)?;
             add_expr(value, acts, alloc, p, point)
         }
@@ -106,7 +108,7 @@ fn add_store(stmt: &Stmt, acts: &mut Acts, alloc: Global, p: &Prog) -> Result<()
             value,
             place,
         } => {
-            let path = cell_path(alloc, p, *array, &[element(index)])?;
+            let path = accessed_path(alloc, p, *array, &[element_of_index(index)])?;
             add_touch(acts, point, true, path, *place)?;
             add_expr(index, acts, alloc, p, point)?;
             add_expr(value, acts, alloc, p, point)
@@ -118,7 +120,12 @@ fn add_store(stmt: &Stmt, acts: &mut Acts, alloc: Global, p: &Prog) -> Result<()
             value,
             place,
         } => {
-            let path = cell_path(alloc, p, *array, &[element(index), element(second)])?;
+            let path = accessed_path(
+                alloc,
+                p,
+                *array,
+                &[element_of_index(index), element_of_index(second)],
+            )?;
             add_touch(acts, point, true, path, *place)?;
             add_expr(index, acts, alloc, p, point)?;
             add_expr(second, acts, alloc, p, point)?;

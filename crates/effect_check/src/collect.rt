@@ -8,11 +8,11 @@ use effect_sets::{Effects, Summary};
 use region_paths::{Elem, Elems, Path};
 use std::alloc::Global;
 use twe_base::{Memory, Place};
-use twe_program::{Args, Decl, Expr, ExprKind, Prog};
+use twe_program::{Args, CellDecl, Decl, Expr, ExprKind, Prog};
 
 /// An index or an argument as the rules see it: a literal, a parameter and a `final int` local as itself, and everything
 /// else as any index.
-pub fn element(expr: &Expr) -> Elem
+pub fn element_of_index(expr: &Expr) -> Elem
     ensures { result ≡ element_of_index expr.now }
 {
     match &expr.kind {
@@ -23,32 +23,46 @@ pub fn element(expr: &Expr) -> Elem
 }
 
 /// The arguments as the rules see them.
-fn elements(alloc: Global, args: &Args) -> Result<Elems, Memory>
+pub fn elements_of(alloc: Global, args: &Args) -> Result<Elems, Memory>
     ensures { IfOk result (λ elems. elems ≡ elements_of args.now) }
 {
     let mut elems = Elems::new(alloc);
     for arg in args.items.as_slice() {
-        elems.push(element(arg))?;
+        elems.push(element_of_index(arg))?;
     }
     Ok(elems)
 }
 
 /// The path of a declaration of cells.
-fn declared_elements(alloc: Global, p: &Prog, cell: u32) -> Result<Elems, Memory>
-    ensures { IfOk result (λ elems. elems ≡ elements_from (slice_get p.now.cells cell)) }
+fn declared_elements(alloc: Global, cells: &[CellDecl], cell: u32) -> Result<Elems, Memory>
+    ensures { IfOk result (λ elems. elems ≡ elements_from (slice_get cells.now cell)) }
 {
-    match p.cells.get(cell as usize) {
+    match cells.get(cell as usize) {
         None => Ok(Elems::new(alloc)),
         Some(cell) => cell.path.elems().copy(alloc),
     }
 }
 
+/// The elements of the path of a cell, or of the element of an array or a grid at these indexes. There are none before the
+/// indexes if no cell has this number.
+pub fn accessed_elements(
+    alloc: Global,
+    cells: &[CellDecl],
+    cell: u32,
+    indexes: &[Elem],
+) -> Result<Elems, Memory>
+    ensures { IfOk result (λ elems. elems ≡ elements_from (slice_get cells.now cell) ++ indexes.now) }
+{
+    let mut elems = declared_elements(alloc, cells, cell)?;
+    elems.push_all(indexes)?;
+    Ok(elems)
+}
+
 /// The path of a cell, or of the element of an array or a grid at these indexes.
-pub fn cell_path(alloc: Global, p: &Prog, cell: u32, indexes: &[Elem]) -> Result<Path, Memory>
+pub fn accessed_path(alloc: Global, p: &Prog, cell: u32, indexes: &[Elem]) -> Result<Path, Memory>
     ensures { IfOk result (λ path. path ≡ path_at p.now cell indexes.now) }
 {
-    let mut elems = declared_elements(alloc, p, cell)?;
-    elems.push_all(indexes)?;
+    let elems = accessed_elements(alloc, p.cells.as_slice(), cell, indexes)?;
     Ok(Path::new(elems, false, Elems::new(alloc)))
 }
 
@@ -61,7 +75,7 @@ pub fn filled(alloc: Global, decls: &[Decl], number: u32, args: &Args) -> Result
             effects: Effects::new(alloc),
         }),
         Some(decl) => {
-            let args = elements(alloc, args)?;
+            let args = elements_of(alloc, args)?;
             decl.summary.fill(alloc, args.as_slice())
         }
     }
@@ -108,7 +122,7 @@ pub fn add_expr(
     match &expr.kind {
         ExprKind::Lit(_) | ExprKind::Truth(_) | ExprKind::Var { .. } => Ok(()),
         ExprKind::Cell { cell, place } => {
-            let path = cell_path(alloc, p, *cell, &[])?;
+            let path = accessed_path(alloc, p, *cell, &[])?;
             add_touch(acts, point, false, path, *place)
         }
         ExprKind::At {
@@ -117,7 +131,7 @@ pub fn add_expr(
             second: None,
             place,
         } => {
-            let path = cell_path(alloc, p, *array, &[element(index)])?;
+            let path = accessed_path(alloc, p, *array, &[element_of_index(index)])?;
             add_touch(acts, point, false, path, *place)?;
             add_expr(index, acts, alloc, p, point)
         }
@@ -127,7 +141,12 @@ pub fn add_expr(
             second: Some(second),
             place,
         } => {
-            let path = cell_path(alloc, p, *array, &[element(index), element(second)])?;
+            let path = accessed_path(
+                alloc,
+                p,
+                *array,
+                &[element_of_index(index), element_of_index(second)],
+            )?;
             add_touch(acts, point, false, path, *place)?;
             add_expr(index, acts, alloc, p, point)?;
             add_expr(second, acts, alloc, p, point)

@@ -15,5 +15,6 @@ mod rule;
 mod settled;
 mod whole;
 
+pub use collect::{accessed_elements, element_of_index, elements_of};
 pub use rule::{CheckFail, ERule};
 pub use whole::check;

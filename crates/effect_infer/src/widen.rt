@@ -1,57 +1,19 @@
 //! Whether one need covers another, and needs as other methods say them.
-ghost use Rattle.std.specs.Prelude.{◌≡◌, IfOk, map, zip};
-ghost use Rattle.std.specs.List.{list_all};
+ghost use Rattle.std.specs.Prelude.{◌≡◌, IfOk, map};
 ghost use Rattle.region_paths.specs.Filled.{fill_elem};
-ghost use Rattle.region_paths.specs.Inside.{each_within, starts_within, within};
 ghost use Rattle.effect_sets.specs.Covers.{effect_covers};
 ghost use Rattle.effect_infer.specs.needs.Needs.{effect_of, filled_need, settled, settled_elem};
 
 use crate::needs::Need;
-use region_paths::{Elem, Elems};
+use region_paths::{Elem, Elems, elements_are_within};
 use std::alloc::Global;
 use twe_base::Memory;
-
-/// Whether an element is within another: the two are equal, or the inner is any kind of index and the outer `AnyIndex`.
-fn is_within(inner: Elem, outer: Elem) -> bool
-    ensures { result ≡ within inner outer }
-{
-    match (inner, outer) {
-        (Elem::Name(n), Elem::Name(m)) => n == m,
-        (Elem::Index(i), Elem::Index(j)) => i == j,
-        (Elem::Var(k), Elem::Var(l)) => k == l,
-        (Elem::Name(_), Elem::AnyIndex) => false,
-        (_, Elem::AnyIndex) => true,
-        _ => false,
-    }
-}
-
-/// Whether each element of `inner` is within the one at its position in `outer`, up to the length of the shorter list.
-fn pairs_are_within(inner: &[Elem], outer: &[Elem]) -> bool
-    ensures { result ≡ list_all (λ pair. within pair.0 pair.1) (zip inner.now outer.now) }
-{
-    inner.iter().zip(outer).all(|(i, o)| is_within(*i, *o))
-}
-
-/// Whether `inner` is at least as long as `outer`, and its first elements are within those of `outer`.
-#[tactic(auto, using(region_paths::proofs::Pairs::by_pairs))]
-fn front_is_within(inner: &[Elem], outer: &[Elem]) -> bool
-    ensures { result ≡ starts_within inner.now outer.now }
-{
-    inner.len() >= outer.len() && pairs_are_within(inner, outer)
-}
-
-/// Whether the lists are equally long, and each element of `inner` is within the one at its position in `outer`.
-fn are_within(inner: &[Elem], outer: &[Elem]) -> bool
-    ensures { result ≡ each_within inner.now outer.now }
-{
-    inner.len() == outer.len() && front_is_within(inner, outer)
-}
 
 /// Whether a need covers another: its path includes the other's, and it writes if the other does.
 pub(crate) fn widens(wide: &Need, need: &Need) -> bool
     ensures { result ≡ effect_covers (effect_of wide.now) (effect_of need.now) }
 {
-    are_within(need.elems.as_slice(), wide.elems.as_slice()) && (!need.write || wide.write)
+    elements_are_within(need.elems.as_slice(), wide.elems.as_slice()) && (!need.write || wide.write)
 }
 
 /// An element as a method says it: a variable that is none of its parameters becomes any index.

@@ -1,4 +1,6 @@
 //! The rules of names in the statements of a body.
+#![tactic(auto, using(crate::proofs::Bodies::body_steps))]
+
 ghost use Rattle.std.specs.Prelude.{◌≡◌, OnOk};
 ghost use Rattle.name_check.specs.BodyScope.{after, after_arms, after_block};
 ghost use Rattle.name_check.specs.Size.{statements_in, statements_in_all, statements_in_arms};
@@ -17,7 +19,6 @@ use twe_base::{Failure, Memory};
 
 /// Checks a statement with all of its parts, and advances the scope past it.
 #[cycle(body)]
-#[tactic(auto, using(crate::proofs::Bodies::body_steps))]
 fn check_stmt(
     stmt: &Stmt,
     alloc: Global,
@@ -59,7 +60,6 @@ fn check_stmt(
 
 /// Checks the statements of a block. What they declare is out of scope after it.
 #[cycle(body)]
-#[tactic(auto, using(crate::proofs::Bodies::body_steps))]
 pub fn check_block(
     block: &Block,
     alloc: Global,
@@ -83,7 +83,6 @@ pub fn check_block(
 
 /// The same for the arms of an `if`.
 #[cycle(body)]
-#[tactic(auto, using(crate::proofs::Bodies::body_steps))]
 fn check_arms(
     arms: &Arms,
     alloc: Global,

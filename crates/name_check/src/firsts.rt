@@ -7,8 +7,8 @@ use std::alloc::Global;
 use std::collections::BTreeMap;
 use twe_base::{Memory, Word};
 
-/// The first place of a name, if it is there. It takes no memory.
-pub fn first_place(firsts: &BTreeMap<String, u32>, text: &Word) -> Option<usize>
+/// The index at which the list has a name first, if it has it. It takes no memory.
+pub fn index_of_first(firsts: &BTreeMap<String, u32>, text: &Word) -> Option<usize>
     ensures { result ≡ get_by_text firsts.now text.now }
 {
     match firsts.get(text.as_str()) {
@@ -27,7 +27,7 @@ pub fn add_first(
     ensures ok { OnOk result (AddsFirst text.now place firsts.old firsts.new) }
     ensures err { OnErr result (HaveSameFirsts firsts.old firsts.new) }
 {
-    if first_place(firsts, text).is_some() {
+    if index_of_first(firsts, text).is_some() {
         return Ok(());
     }
     let key = text.copy(alloc)?.into_string();
@@ -39,7 +39,7 @@ pub fn add_first(
 pub fn drop_first(firsts: &mut BTreeMap<String, u32>, text: &Word, place: usize)
     ensures { DropsFirst text.now place firsts.old firsts.new }
 {
-    if first_place(firsts, text) == Some(place) {
+    if index_of_first(firsts, text) == Some(place) {
         let _ = firsts.remove(text.as_str());
     }
 }

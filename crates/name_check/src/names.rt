@@ -7,7 +7,7 @@ ghost use Rattle.name_check.specs.inner.Whole.{again_failures, is_again};
 ghost use Rattle.name_check.specs.Names.{global_of};
 
 use crate::binding::Global;
-use crate::firsts::{add_first, first_place};
+use crate::firsts::{add_first, index_of_first};
 use crate::rule::NRule;
 use std::alloc;
 use std::collections::BTreeMap;
@@ -88,7 +88,7 @@ impl Globals {
         if text.as_str() == "Console" {
             return Some(Global::Region(0));
         }
-        match first_place(&self.firsts, text) {
+        match index_of_first(&self.firsts, text) {
             None => None,
             Some(place) => Some(self.entries[place].global),
         }
@@ -99,7 +99,7 @@ impl Globals {
         requires { count ≤ length self.now }
         ensures { result ≡ list_any (λ (entry : Entry). bytes_eq text.now entry.text) (take count self.now) }
     {
-        match first_place(&self.firsts, text) {
+        match index_of_first(&self.firsts, text) {
             Some(place) => place < count,
             None => false,
         }

@@ -4,7 +4,7 @@ ghost use Rattle.name_check.specs.Names.{first_local};
 ghost use Rattle.name_check.specs.inner.Parameters.{parameter};
 
 use crate::binding::Local;
-use crate::firsts::{add_first, drop_first, first_place};
+use crate::firsts::{add_first, drop_first, index_of_first};
 use std::alloc::Global;
 use std::collections::BTreeMap;
 use std::marker::Model;
@@ -114,7 +114,7 @@ impl Locals {
     pub fn local(&self, text: &Word) -> Option<Local>
         ensures { result ≡ first_local text.now self.now }
     {
-        match first_place(&self.firsts, text) {
+        match index_of_first(&self.firsts, text) {
             None => None,
             Some(place) => Some(self.entries[place].local),
         }

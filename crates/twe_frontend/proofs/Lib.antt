@@ -9,3 +9,4 @@ mod FromText
 mod WholeCut
 mod FirstExists
 mod NeverNeither
+mod TreeCauses

@@ -11,5 +11,5 @@ mod refusal;
 
 pub use from_text::parsed_trees_are_from_texts;
 pub use laws::{one_program, one_refusal, refused_or_accepted};
-pub use read::{FrontFail, read_program};
+pub use read::{FrontFail, read_program, read_tree};
 pub use refusal::{Refusal, RuleName};

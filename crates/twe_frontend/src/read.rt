@@ -1,7 +1,7 @@
 //! From a text to its program.
 ghost use Rattle.std.specs.Prelude.{◌+◌, ◌<◌, ◌^◌, length, IfOk, IfErr, OnOk};
 ghost use Rattle.twe_frontend.specs.Accepted.{Accepted, IsMeaningOf, IsTreeOf};
-ghost use Rattle.twe_frontend.specs.Reads.{HasCause};
+ghost use Rattle.twe_frontend.specs.Reads.{HasCause, TreeHasCause};
 
 use crate::refusal::{Refusal, RuleName};
 use effect_check::{CheckFail, check};
@@ -48,11 +48,12 @@ impl From<Memory> for FrontFail {
     }
 }
 
-/// The tree of a text that keeps the rules of the text. If it is Ok, the text has less than 2^32 - 1 bytes.
-fn tree_of(alloc: Global, text: &[u8]) -> Result<Ast, FrontFail>
+/// The tree of a text that keeps the rules of the text, or else the first failure of one. If it is Ok, the text has less
+/// than 2^32 - 1 bytes. `OutOfMemory` is also returned for a longer text, whose places can't be counted.
+pub fn read_tree(alloc: Global, text: &[u8]) -> Result<Ast, FrontFail>
     ensures tree { IfOk result (IsTreeOf text.now) }
     ensures countable { OnOk result (length text.now + 1 < 2 ^ 32) }
-    ensures refused { IfErr result (HasCause text.now) }
+    ensures refused { IfErr result (TreeHasCause text.now) }
 {
     match parse(alloc, text) {
         Ok(tree) => Ok(tree),
@@ -65,11 +66,12 @@ fn tree_of(alloc: Global, text: &[u8]) -> Result<Ast, FrontFail>
 }
 
 /// The meaning of a text that keeps the rules of the text and those of names.
+#[tactic(auto, using(crate::proofs::TreeCauses::refuses_text))]
 fn meaning_of(alloc: Global, text: &[u8]) -> Result<Prog, FrontFail>
     ensures meaning { IfOk result (IsMeaningOf text.now) }
     ensures refused { IfErr result (HasCause text.now) }
 {
-    let tree = tree_of(alloc, text)?;
+    let tree = read_tree(alloc, text)?;
     match resolve(alloc, &tree) {
         Ok(p) => Ok(p),
         Err(NameFail::Names { rule, place }) => Err(FrontFail::Refused(Refusal {

@@ -7,3 +7,4 @@ pub mod OneLine
 pub mod Ordering
 pub mod SameEffects
 pub mod SameTree
+mod TreeCauses

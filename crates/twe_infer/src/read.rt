@@ -1,14 +1,12 @@
 //! From a text to its tree and its program. The rules on effects are not looked at.
-ghost use Rattle.std.specs.Prelude.{◌+◌, ◌<◌, ◌^◌, length, IfErr, IfOk, OnOk};
-ghost use Rattle.twe_frontend.specs.Accepted.{IsTreeOf};
+ghost use Rattle.std.specs.Prelude.{IfErr, IfOk};
 ghost use Rattle.twe_infer.specs.Meaning.{TextMeans};
 ghost use Rattle.twe_infer.specs.Reading.{ReadingHasCause};
 
 use std::alloc::Global;
 use twe_ast::Ast;
-use twe_frontend::{FrontFail, Refusal, RuleName, parsed_trees_are_from_texts};
+use twe_frontend::{FrontFail, Refusal, RuleName, parsed_trees_are_from_texts, read_tree};
 use twe_names::{NameFail, resolve};
-use twe_parser::{ParseFail, parse};
 use twe_program::Prog;
 
 /// The tree of a text, and the program that it means.
@@ -20,29 +18,14 @@ pub(crate) struct Meaning {
     pub program: Prog,
 }
 
-/// The tree of a text that keeps the rules of the text. If it is Ok, the text has less than 2^32 - 1 bytes.
-fn tree_of(alloc: Global, text: &[u8]) -> Result<Ast, FrontFail>
-    ensures tree { IfOk result (IsTreeOf text.now) }
-    ensures countable { OnOk result (length text.now + 1 < 2 ^ 32) }
-    ensures refused { IfErr result (ReadingHasCause text.now) }
-{
-    match parse(alloc, text) {
-        Ok(tree) => Ok(tree),
-        Err(ParseFail::Syntax { rule, place }) => Err(FrontFail::Refused(Refusal {
-            rule: RuleName::Text(rule),
-            place,
-        })),
-        Err(ParseFail::OutOfMemory(memory)) => Err(FrontFail::OutOfMemory(memory)),
-    }
-}
-
 /// The tree and the program of a text that keeps the rules of the text and those of names.
+#[tactic(auto, using(crate::proofs::TreeCauses::refuses_reading))]
 pub(crate) fn read_meaning(alloc: Global, text: &[u8]) -> Result<Meaning, FrontFail>
     ensures meaning { IfOk result (λ meaning. TextMeans text.now meaning.tree meaning.program) }
     ensures refused { IfErr result (ReadingHasCause text.now) }
 {
     parsed_trees_are_from_texts();
-    let tree = tree_of(alloc, text)?;
+    let tree = read_tree(alloc, text)?;
     match resolve(alloc, &tree) {
         Ok(program) => Ok(Meaning { tree, program }),
         Err(NameFail::Names { rule, place }) => Err(FrontFail::Refused(Refusal {

@@ -3,8 +3,9 @@ ghost use Rattle.std.specs.Prelude.{◌≡◌, ◌∷◌, [], ◌++◌, IfOk, On
 ghost use Rattle.effect_infer.specs.needs.Steps.{print, steps_in, steps_in_all, steps_in_one, steps_of_value};
 ghost use Rattle.effect_infer.specs.needs.inner.Parts.{simple_steps, store_steps};
 
-use crate::needs::collect::{add_args, add_call, add_expr, cell_path, element};
+use crate::needs::collect::{add_args, add_call, add_expr};
 use crate::needs::need::{Steps, add_touch};
+use effect_check::{accessed_elements, element_of_index};
 use region_paths::{Elem, Elems};
 use std::alloc::Global;
 use twe_base::Memory;
@@ -44,8 +45,8 @@ fn add_store(
 {
     match &stmt.kind {
         StmtKind::SetCell { cell, value, .. } => {
-            let path = cell_path(alloc, cells, *cell, &[])?;
-            add_touch(steps, true, path)?;
+            let elems = accessed_elements(alloc, cells, *cell, &[])?;
+            add_touch(steps, true, elems)?;
             add_expr(value, steps, alloc, cells)
         }
         StmtKind::SetAt {
@@ -55,8 +56,8 @@ fn add_store(
             value,
             ..
         } => {
-            let path = cell_path(alloc, cells, *array, &[element(index)])?;
-            add_touch(steps, true, path)?;
+            let elems = accessed_elements(alloc, cells, *array, &[element_of_index(index)])?;
+            add_touch(steps, true, elems)?;
             add_expr(index, steps, alloc, cells)?;
             add_expr(value, steps, alloc, cells)
         }
@@ -67,8 +68,13 @@ fn add_store(
             value,
             ..
         } => {
-            let path = cell_path(alloc, cells, *array, &[element(index), element(second)])?;
-            add_touch(steps, true, path)?;
+            let elems = accessed_elements(
+                alloc,
+                cells,
+                *array,
+                &[element_of_index(index), element_of_index(second)],
+            )?;
+            add_touch(steps, true, elems)?;
             add_expr(index, steps, alloc, cells)?;
             add_expr(second, steps, alloc, cells)?;
             add_expr(value, steps, alloc, cells)

@@ -1,7 +1,7 @@
 use Rattle.std.proofs.Common.{◌≡◌, ◌++◌, drop}
 use Rattle.twe_program.specs.Expression.{arguments_of}
 use Rattle.effect_check.specs.Standing.{elements_of}
-use Rattle.effect_check.proofs.collect.elements.Given as goal
+use Rattle.effect_check.proofs.collect.elements_of.Given as goal
 
 -- the elements so far and those of what is left are those of all
 abbrev pub invariant-loop-arg : goal.invariant-loop-arg

@@ -1,11 +1,9 @@
 use Rattle.std.proofs.Common.{subst}
 use Rattle.twe_parser.specs.Fails.{Refuses}
 use Rattle.twe_parser.specs.declared.fail.ParseFail.{ParseFail}
-use Rattle.twe_frontend.specs.Accepted.{of_text}
-use Rattle.twe_frontend.proofs.read.tree_of.Goals as goal
+use Rattle.twe_frontend.proofs.read.read_tree.Goals as goal
 
 -- the parser's refusal
 pub returns-in-Err-Syntax-clause-refused : goal.returns-in-Err-Syntax-clause-refused
 returns-in-Err-Syntax-clause-refused c =
-    of_text c.in-Err-Syntax.rule c.in-Err-Syntax.place
-    (subst (λ (fail : ParseFail). Refuses fail c.args.text.now) c.in-Err-Syntax.field-0-is c.in-Err-Syntax.ensures.refused)
+    subst (λ (fail : ParseFail). Refuses fail c.args.text.now) c.in-Err-Syntax.field-0-is c.in-Err-Syntax.ensures.refused

@@ -1,0 +1,21 @@
+-- The failure of a rule of the text is the refusal of the text.
+use Rattle.std.proofs.Common.{ℕ, List}
+use Rattle.twe_base.specs.declared.place.Place.{Place}
+use Rattle.twe_frontend.specs.declared.read.FrontFail.{FrontFail}
+use Rattle.twe_frontend.specs.declared.read.FrontFail.TheVariants.{Refused, OutOfMemory}
+use Rattle.twe_frontend.specs.declared.refusal.RuleName.{RuleName}
+use Rattle.twe_frontend.specs.declared.refusal.RuleName.TheVariants.{Text, Name, Effect}
+use Rattle.twe_frontend.specs.Accepted.{IsRefusal, of_text}
+use Rattle.twe_frontend.specs.Reads.{HasCause, IsTextFailure, TreeHasCause}
+
+text_refusal : (text : List ℕ) (rule : RuleName) (place : Place) → IsTextFailure text rule place → IsRefusal text (record { rule = rule; place = place })
+text_refusal text (Text rule) place fails = of_text rule place fails
+text_refusal text (Name rule) place none = absurd none
+text_refusal text (Effect rule) place none = absurd none
+
+pub tree_cause : (text : List ℕ) (fail : FrontFail) → TreeHasCause text fail → HasCause text fail
+tree_cause text (Refused refusal) fails = text_refusal text refusal.rule refusal.place fails
+tree_cause text (OutOfMemory memory) given = given
+
+-- the cause of an error where the tree is read is one where the program is read
+pub ruleset refuses_text = (tree_cause)
