@@ -7,7 +7,7 @@ use Rattle.std.proofs.lemmas.Bool.{cases_eq}
 use Rattle.effect_sets.specs.Access.{Conflict}
 use Rattle.effect_check.proofs.Members.{IsIn, contains-in, in-contains, in-list_any, list_any-in}
 use Rattle.twe_program.specs.Program.{Program}
-use Rattle.seg_exec.specs.Access.{Access, Prints, Reads, Writes, after}
+use Rattle.seg_exec.specs.Access.{Access, Agrees, Prints, Reads, Writes, after, value_in}
 use Rattle.isolation_laws.specs.soundness.CellPaths.{path_of_cell}
 use Rattle.isolation_laws.specs.soundness.DeclaredNow.{access_of}
 use Rattle.twe_machine.proofs.lists.Places.{set_other}
@@ -51,6 +51,24 @@ unwritten (Writes cell value ∷ earlier) xs c e =
     let differ : c ≢ cell = λ same. let yes = eq-eqb cell c (sym same) in cc (yes, parts.0) in
     set_other (after xs earlier) cell c value differ ∙ unwritten earlier xs c parts.1
 unwritten (Prints value ∷ earlier) xs c e = unwritten earlier xs c e
+
+-- So two lists of cells that are the same wherever the accesses go both agree with these, or neither does.
+first_true : (a b : Bool) → a ≡ true → (a || b) ≡ true
+first_true true b e = refl
+first_true false b e = absurd (cc (e))
+
+second_true : (a b : Bool) → b ≡ true → (a || b) ≡ true
+second_true true b e = refl
+second_true false b e = e
+
+pub agrees_alike : (xs ys : List ℤ) (accesses : List Access) → ((c : ℕ) → list_any (is_access_of c) accesses ≡ true → slice_get ys c ≡ slice_get xs c) → Agrees xs accesses → Agrees ys accesses
+agrees_alike xs ys [] same agrees = tt
+agrees_alike xs ys (Reads cell value ∷ earlier) same agrees = (
+  agrees_alike xs ys earlier (λ c e. same c (second_true (cell == c) (list_any (is_access_of c) earlier) e)) agrees.0,
+  ap value_in (after_alike earlier ys xs cell (same cell (first_true (cell == cell) (list_any (is_access_of cell) earlier) (eq-eqb cell cell refl)))) ∙ agrees.1,
+)
+agrees_alike xs ys (Writes cell value ∷ earlier) same agrees = agrees_alike xs ys earlier (λ c e. same c (second_true (cell == c) (list_any (is_access_of c) earlier) e)) agrees
+agrees_alike xs ys (Prints value ∷ earlier) same agrees = agrees_alike xs ys earlier (λ c e. same c e) agrees
 
 -- so the value of a cell is what the segments that write it make of it
 skip_or_write : (s : SegmentAccesses) (segments : List SegmentAccesses) (xs ys : List ℤ) (c : ℕ) (b : Bool) → writes c s ≡ b → slice_get xs c ≡ slice_get ys c

@@ -4,7 +4,7 @@ pub mod WaitsStand
 pub mod Renumbered
 -- renumbered frames between their segments
 pub mod BetweenSegments
--- segments over cells that are the same where they are accessed
+-- segments over cells that have the values that they read
 pub mod Alike
 -- unjoined children, and the values that are kept for them
 pub mod KeptValues

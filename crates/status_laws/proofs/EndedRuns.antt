@@ -24,7 +24,7 @@ use Rattle.determinism_laws.proofs.results.MainResult.{main_has_its_result, main
 use Rattle.status_laws.proofs.NeverStuck.{all_done_or_moves}
 
 -- if all tasks are done, no move is legal
-no_move : (st : State) → AllTasksDone st → (mv : Move) → ¬ MayMove st mv
+pub no_move : (st : State) → AllTasksDone st → (mv : Move) → ¬ MayMove st mv
 no_move st all mv may =
     let row = below_there st.tasks mv.task (mover_there st mv.kind mv.task may) in
     mover_undone st mv.kind mv.task may (row.0, row.1, all mv.task row.0 row.1)

@@ -1,7 +1,7 @@
 -- The next segment of a task that may run stays the same while other tasks move: the accesses of two segments that may come
 -- next do not conflict, so neither writes what the other reads.
-use Rattle.std.proofs.Common.{◌≡◌, ◌≢◌, ◌==◌, ◌||◌, ◌++◌, ℕ, zero, suc, ℤ, Bool, true, false, List, [], ◌∷◌, Option, None, Some, refl, sym, ap, ◌∙◌, subst, eq-eqb, eqb-true, inl, inr}
-use Rattle.std.specs.Prelude.{slice_get, slice_set}
+use Rattle.std.proofs.Common.{◌≡◌, ◌≢◌, ◌++◌, ℕ, ℤ, Bool, true, false, List, [], ◌∷◌, Option, None, Some, refl, sym, ap, ◌∙◌, subst, eqb-true, inl, inr}
+use Rattle.std.specs.Prelude.{slice_get}
 use Rattle.std.specs.List.{list_any}
 use Rattle.std.proofs.lemmas.Bool.{cases_Bool}
 use Rattle.std.proofs.lemmas.Option.{slice_get_within}
@@ -17,7 +17,7 @@ use Rattle.wait_graph.specs.Waiting.{WaitsFor}
 use Rattle.twe_program.specs.Program.{Program}
 use Rattle.twe_program.specs.WellFormed.{IsWellFormed}
 use Rattle.seg_exec.specs.declared.frame.Frame.{Frame}
-use Rattle.seg_exec.specs.Access.{Access, Agrees, Prints, Reads, Writes, after, value_in}
+use Rattle.seg_exec.specs.Access.{Access, Prints, Reads, Writes, after}
 use Rattle.seg_exec.specs.Giving.{given}
 use Rattle.seg_exec.specs.Segment.{Stopped, segment}
 use Rattle.seg_exec.proofs.Determined.{segment_agrees, segment_determined}
@@ -42,53 +42,11 @@ use Rattle.twe_machine.proofs.replays.Replayed.{run_more}
 use Rattle.twe_machine.proofs.standing.ReachedStands.{reached_stands}
 use Rattle.twe_machine.proofs.standing.Standing.{Stands}
 use Rattle.determinism_laws.specs.Orders.{is_access_of, is_write_of}
-use Rattle.determinism_laws.proofs.SameValues.{unwritten}
+use Rattle.determinism_laws.proofs.SameValues.{agrees_alike, unwritten}
 use Rattle.status_laws.specs.Independence.{KeepsNextSegment}
 
--- Lists of cells that have the same value at a place have it there after the same accesses, too.
-
-set_alike : (xs ys : List ℤ) (cell k : ℕ) (value : ℤ) → slice_get xs k ≡ slice_get ys k → slice_get (slice_set xs cell value) k ≡ slice_get (slice_set ys cell value) k
-set_alike [] [] cell k value e = e
-set_alike [] (y ∷ ys) zero zero value e = absurd (cc (e))
-set_alike [] (y ∷ ys) zero (suc k) value e = e
-set_alike [] (y ∷ ys) (suc cell) zero value e = e
-set_alike [] (y ∷ ys) (suc cell) (suc k) value e = set_alike [] ys cell k value e
-set_alike (x ∷ xs) [] zero zero value e = absurd (cc (e))
-set_alike (x ∷ xs) [] zero (suc k) value e = e
-set_alike (x ∷ xs) [] (suc cell) zero value e = e
-set_alike (x ∷ xs) [] (suc cell) (suc k) value e = set_alike xs [] cell k value e
-set_alike (x ∷ xs) (y ∷ ys) zero zero value e = refl
-set_alike (x ∷ xs) (y ∷ ys) zero (suc k) value e = e
-set_alike (x ∷ xs) (y ∷ ys) (suc cell) zero value e = e
-set_alike (x ∷ xs) (y ∷ ys) (suc cell) (suc k) value e = set_alike xs ys cell k value e
-
-first_true : (a b : Bool) → a ≡ true → (a || b) ≡ true
-first_true true b e = refl
-first_true false b e = absurd (cc (e))
-
-second_true : (a b : Bool) → b ≡ true → (a || b) ≡ true
-second_true true b e = refl
-second_true false b e = e
-
-module _ (cells others : List ℤ) where
-  after_alike : (accesses : List Access) (k : ℕ) → slice_get others k ≡ slice_get cells k → slice_get (after others accesses) k ≡ slice_get (after cells accesses) k
-  after_alike [] k e = e
-  after_alike (Reads cell value ∷ earlier) k e = after_alike earlier k e
-  after_alike (Writes cell value ∷ earlier) k e = set_alike (after others earlier) (after cells earlier) cell k value (after_alike earlier k e)
-  after_alike (Prints value ∷ earlier) k e = after_alike earlier k e
-
-  -- so if they agree wherever the accesses go, both agree with these or neither does
-  agrees_too : (accesses : List Access) → ((c : ℕ) → list_any (is_access_of c) accesses ≡ true → slice_get others c ≡ slice_get cells c) → Agrees cells accesses → Agrees others accesses
-  agrees_too [] same agrees = tt
-  agrees_too (Reads cell value ∷ earlier) same agrees = (
-    agrees_too earlier (λ c e. same c (second_true (cell == c) (list_any (is_access_of c) earlier) e)) agrees.0,
-    ap value_in (after_alike earlier cell (same cell (first_true (cell == cell) (list_any (is_access_of cell) earlier) (eq-eqb cell cell refl)))) ∙ agrees.1,
-  )
-  agrees_too (Writes cell value ∷ earlier) same agrees = agrees_too earlier (λ c e. same c (second_true (cell == c) (list_any (is_access_of c) earlier) e)) agrees
-  agrees_too (Prints value ∷ earlier) same agrees = agrees_too earlier (λ c e. same c e) agrees
-
 -- a write of a cell and an access of it conflict
-conflict_at : (p : Program) (c : ℕ) (x y : Access) → is_write_of c x ≡ true → is_access_of c y ≡ true → Conflict (access_of p x) (access_of p y)
+pub conflict_at : (p : Program) (c : ℕ) (x y : Access) → is_write_of c x ≡ true → is_access_of c y ≡ true → Conflict (access_of p x) (access_of p y)
 conflict_at p c (Reads one value) y write access = absurd (cc (write))
 conflict_at p c (Prints value) y write access = absurd (cc (write))
 conflict_at p c (Writes one value) (Prints other) write access = absurd (cc (access))
@@ -188,7 +146,7 @@ module _ (p : Program) (wf : IsWellFormed p) (keeps : KeepsEffects p) (lim : Bou
 
   same_segment : next_segment p new row ≡ record left { cells = after new.cells left.accesses }
   same_segment =
-      let agrees = agrees_too st.cells new.cells left.accesses same_cell (segment_agrees p frame st.cells).agrees in
+      let agrees = agrees_alike st.cells new.cells left.accesses same_cell (segment_agrees p frame st.cells).agrees in
       ap (λ (f : Frame). segment p f new.cells) same_frame ∙ segment_determined p frame st.cells new.cells agrees
 
   keeps_next : KeepsNextSegment p st new s row

@@ -40,7 +40,7 @@ use Rattle.status_laws.specs.Endings.{CanFinish}
 use Rattle.status_laws.proofs.KeptSegments.{keeps_next_segment}
 
 -- whether a segment with this stop ends in a fault, if so many tasks were asked for before
-abbrev ends_in_fault : Bounds → ℕ → Stop → Bool
+abbrev pub ends_in_fault : Bounds → ℕ → Stop → Bool
 ends_in_fault lim asked (stops.Make child args effects spawned future place) = not (nat_lt (asked + 1) lim.tasks)
 ends_in_fault lim asked (stops.Waits on) = false
 ends_in_fault lim asked (stops.Joins on) = false
@@ -97,7 +97,7 @@ first_stays earlier t (ends.Joins on) = refl
 first_stays earlier t (ends.Done value) = refl
 
 module _ (p : Program) (wf : IsWellFormed p) (keeps : KeepsEffects p) (lim : Bounds) where
-  reached_more : (st : State) (mv : Move) → IsReached p lim st → MayMove st mv → IsReached p lim (move_result p lim st mv).0
+  pub reached_more : (st : State) (mv : Move) → IsReached p lim st → MayMove st mv → IsReached p lim (move_result p lim st mv).0
   reached_more st mv reached may =
       let run = run_more p lim reached.journal st mv (record { legal = reached.legal; same = reached.same }) may in
       record { journal = reached.journal ++ entry_of p lim st mv ∷ []; legal = run.legal; same = run.same }
@@ -118,7 +118,7 @@ module _ (p : Program) (wf : IsWellFormed p) (keeps : KeepsEffects p) (lim : Bou
           omega (arith, same)
 
   -- the end of a segment
-  run_ends : (st : State) (s : ℕ) (row : TaskRow) (mv : Move) → IsRow st s row → mv.kind ≡ Run → mv.task ≡ s
+  pub run_ends : (st : State) (s : ℕ) (row : TaskRow) (mv : Move) → IsRow st s row → mv.kind ≡ Run → mv.task ≡ s
       → is_fault (move_result p lim st mv).1 ≡ ends_in_fault lim st.asked (next_segment p st row).stop
   run_ends st s row mv here kind task =
       let left = next_segment p st row in
@@ -130,7 +130,7 @@ module _ (p : Program) (wf : IsWellFormed p) (keeps : KeepsEffects p) (lim : Bou
       ∙ (stop_ends lim (state_after_join later child) s row left.frame left.stop ∙ ap (λ (n : ℕ). ends_in_fault lim n left.stop) (asked_joined later child))
 
   -- a run with a fault does not end with all tasks done
-  stays_faulty : (entries : List Entry) (st : State) (first : FirstFault) → IsReached p lim st → LegalFrom p lim st entries → st.first_fault ≡ Some first
+  pub stays_faulty : (entries : List Entry) (st : State) (first : FirstFault) → IsReached p lim st → LegalFrom p lim st entries → st.first_fault ≡ Some first
       → ¬ AllTasksDone (replayed p lim st entries)
   stays_faulty [] st first reached legal fault all =
       let has = (reached_stands p lim st wf reached).fault first fault in

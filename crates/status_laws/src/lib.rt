@@ -6,6 +6,7 @@
 
 mod endings;
 mod executions;
+mod finishing;
 mod independence;
 
 pub use endings::{
@@ -15,5 +16,8 @@ pub use endings::{
 pub use executions::{
     deterministic_executions_never_stray, results_count_the_tasks_below,
     sequential_executions_of_main_are_runs,
+};
+pub use finishing::{
+    ended_runs_end_as_the_execution, moves_keep_runs_able_to_finish, runs_finish_if_one_does,
 };
 pub use independence::{other_moves_keep_the_next_segment, whole_runs_were_never_near_a_fault};

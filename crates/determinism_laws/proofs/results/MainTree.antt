@@ -1,5 +1,5 @@
 -- If main is deterministic, all tasks are deterministic, and each but main was spawned. So each segment is below main.
-use Rattle.std.proofs.Common.{◌≡◌, ◌⊎◌, ◌≤◌, ◌<◌, ℕ, zero, suc, Bool, true, IsTrue, List, length, Option, None, Some, inl, inr, refl, sym, ap, ◌∙◌, subst, arith, take_all}
+use Rattle.std.proofs.Common.{◌≡◌, ◌⊎◌, ◌≤◌, ℕ, zero, suc, Bool, IsTrue, List, length, Option, None, Some, inl, inr, refl, sym, ap, ◌∙◌, subst, arith, take_all}
 use Rattle.std.specs.Prelude.{slice_get, take}
 use Rattle.std.proofs.lemmas.Option.{slice_get_within}
 use Rattle.effect_check.specs.Acts.{is_deterministic}

@@ -7,7 +7,7 @@ use Rattle.twe_base.specs.Limits.{Bounds}
 use Rattle.twe_program.specs.Program.{Program}
 use Rattle.seg_exec.specs.declared.frame.Frame.{Frame}
 use Rattle.seg_exec.specs.declared.stop.Stop.TheVariants.{Make, Joins, Done}
-use Rattle.seg_exec.specs.Access.{Access, after}
+use Rattle.seg_exec.specs.Access.{Access, Agrees, after}
 use Rattle.seg_exec.specs.Giving.{given}
 use Rattle.seg_exec.specs.Segment.{segment}
 use Rattle.twe_machine.specs.Moves.{frame_without_prints, making_frame}
@@ -15,7 +15,6 @@ use Rattle.seq_elide.specs.declared.progress.Progress.{Progress}
 use Rattle.seq_elide.specs.Elision.{elided, first_frame, is_child, kept_value}
 use Rattle.seq_elide.specs.Elision as elision
 use Rattle.determinism_laws.specs.numbering.Renumbering.{Numbering}
-use Rattle.determinism_laws.specs.numbering.SameAccesses.{SameWhereAccessed}
 
 -- a segment that was run: the frame that it began with, and the cells
 pub record PlayedStep : Type 0 where
@@ -65,11 +64,11 @@ abbrev pub played_prints : Program → List PlayedStep → List ℤ
 played_prints p [] = []
 played_prints p (step ∷ others) = step_prints p step ++ played_prints p others
 
--- executed so, each step finds the values that it found, in each cell that it accesses
+-- executed so, each step finds the values that it found, wherever it reads
 abbrev pub FindTheSame : Program → List PlayedStep → List ℤ → Type 0
 FindTheSame p [] cells = Unit {0}
 FindTheSame p (step ∷ others) cells =
-    SameWhereAccessed (step_accesses p step) step.cells cells × FindTheSame p others (after cells (step_accesses p step))
+    Agrees cells (step_accesses p step) × FindTheSame p others (after cells (step_accesses p step))
 
 -- the new numbers tell all tasks apart
 abbrev pub IsInjective : Numbering → Type 0

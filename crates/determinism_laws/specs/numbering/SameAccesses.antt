@@ -1,19 +1,10 @@
--- Segments of frames that are the same but for numbers, over cells that are the same where they are accessed.
-use Rattle.std.specs.Prelude.{◌≡◌, ℤ, List, [], ◌∷◌, slice_get}
+-- Segments of frames that are the same but for numbers, over cells that have the values that are read.
+use Rattle.std.specs.Prelude.{◌≡◌, ℤ, List}
 use Rattle.twe_program.specs.Program.{Program}
 use Rattle.seg_exec.specs.declared.frame.Frame.{Frame}
-use Rattle.seg_exec.specs.Access.{Access, Reads, Writes, Prints, after}
+use Rattle.seg_exec.specs.Access.{after}
 use Rattle.seg_exec.specs.Segment.{segment}
 use Rattle.determinism_laws.specs.numbering.Renumbering.{Numbering, SameButNumbers, stop_renumbered}
-
--- the two lists have the same value in each cell that is accessed
-abbrev pub SameWhereAccessed : List Access → List ℤ → List ℤ → Type 0
-SameWhereAccessed [] cells others = Unit {0}
-SameWhereAccessed (Reads cell value ∷ earlier) cells others =
-    (slice_get others cell ≡ slice_get cells cell) × SameWhereAccessed earlier cells others
-SameWhereAccessed (Writes cell value ∷ earlier) cells others =
-    (slice_get others cell ≡ slice_get cells cell) × SameWhereAccessed earlier cells others
-SameWhereAccessed (Prints value ∷ earlier) cells others = SameWhereAccessed earlier cells others
 
 -- The segment of `frame` over `others` does what that of `other` over `cells` does: it makes the same accesses, and leaves a
 -- frame and a stop that are the same but for the numbers.

@@ -1,5 +1,5 @@
 -- The result of a run whose `main` is deterministic.
-use Rattle.std.specs.Prelude.{◌≡◌, ℕ, ℤ, IsTrue, List, [], length, slice_get}
+use Rattle.std.specs.Prelude.{◌≡◌, ℤ, IsTrue, List, [], length, slice_get}
 use Rattle.effect_check.specs.Acts.{is_deterministic}
 use Rattle.seg_journal.specs.declared.journal.Entry.{Entry}
 use Rattle.twe_base.specs.Limits.{Bounds}

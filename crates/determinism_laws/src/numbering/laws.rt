@@ -6,12 +6,13 @@ ghost use Rattle.twe_program.specs.Program.{Program};
 ghost use Rattle.seg_exec.specs.declared.frame.Frame.{Frame};
 ghost use Rattle.seg_exec.specs.declared.stop.Stop.{Stop};
 ghost use Rattle.seg_exec.specs.declared.stop.Stop.TheVariants.{Done, Joins, Make};
+ghost use Rattle.seg_exec.specs.Access.{Agrees};
 ghost use Rattle.seg_exec.specs.Entry.{entry_frame};
 ghost use Rattle.seg_exec.specs.Giving.{given};
 ghost use Rattle.seg_exec.specs.Segment.{segment};
 ghost use Rattle.twe_machine.specs.segment_laws.Ready.{IsReady};
 ghost use Rattle.twe_machine.specs.Moves.{frame_without_prints, making_frame};
-ghost use Rattle.determinism_laws.specs.numbering.SameAccesses.{DoesTheSame, SameWhereAccessed};
+ghost use Rattle.determinism_laws.specs.numbering.SameAccesses.{DoesTheSame};
 ghost use Rattle.determinism_laws.specs.numbering.Renumbering.{SameNumbersIn, Numbering, SameButNumbers, TellsApart, stop_renumbered, stopped_renumbered};
 
 /// A segment does the same whatever the numbers of the tasks are. Of two frames that are the same but for these numbers,
@@ -39,14 +40,14 @@ pub fn frames_keep_their_numbers()
         → SameButNumbers to frame other → SameButNumbers renumber frame other }
 {}
 
-/// A segment does the same whatever the numbers of the tasks and the cells that it does not access are. Of two frames that
-/// are the same but for the numbers, take the segments over two lists of cells that have the same values where the second
-/// one accesses them. They make the same accesses, and leave frames and stops that are the same but for the numbers. A stop
-/// is renumbered to the end of the task, to a join or to a make only if it is one.
+/// A segment does the same whatever the numbers of the tasks and the cells that it does not read are. Take two frames that
+/// are the same but for the numbers, the segment of the second over some cells, and other cells with the values that it
+/// reads. Over these the segment of the first makes the same accesses, and leaves a frame and a stop that are the same but
+/// for the numbers. A stop is renumbered to the end of the task, to a join or to a make only if it is one.
 pub fn segments_do_the_same_on_what_they_read()
     ensures segment { (p : Program) (to : Numbering) (frame other : Frame) (cells others : List ℤ) → IsReady p frame
         → SameButNumbers to frame other
-        → SameWhereAccessed (segment p other cells).accesses cells others → DoesTheSame p to frame other cells others }
+        → Agrees others (segment p other cells).accesses → DoesTheSame p to frame other cells others }
     ensures done { (to : Numbering) (stop : Stop) (value : ℤ) → stop_renumbered to stop ≡ Done value → stop ≡ Done value }
     ensures joins { (to : Numbering) (stop : Stop) (on : ℕ) → stop_renumbered to stop ≡ Joins on
         → (child : ℕ) × (stop ≡ Joins child) × (to child ≡ on) }
