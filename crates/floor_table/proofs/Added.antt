@@ -1,5 +1,5 @@
 -- Lists that grow at their front.
-use Rattle.std.proofs.Common.{◌≡◌, ◌⊎◌, ◌++◌, ℕ, List, [], ◌∷◌, refl, sym, ap, ◌∙◌, inl, inr, append_assoc}
+use Rattle.std.proofs.Common.{◌≡◌, ◌++◌, List, [], ◌∷◌, refl, sym, ap, ◌∙◌, inl, inr, append_assoc}
 use Rattle.floor_table.specs.Added.{HasGrown, IsAdded}
 use Rattle.admission_laws.specs.admission_core.States.{IsAmong}
 

@@ -15,6 +15,7 @@ pub mod Seats
 pub mod Clock
 pub mod Entries
 -- Starts and ends.
+pub mod Alone
 pub mod Starts
 pub mod Ends
 pub mod Rests

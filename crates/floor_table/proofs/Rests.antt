@@ -1,7 +1,6 @@
 -- A table that is closed at a quiet point shows the rest of the state too, and its last seat's entries are numbered.
 use Rattle.std.proofs.Common.{◌≡◌, ◌<◌, ◌≤◌, ℕ, zero, suc, List, [], ◌∷◌, length, Option, None, Some, refl, sym, ap, subst, ◌∙◌, arith}
-use Rattle.std.specs.Prelude.{slice_get, count_by, Contains}
-use Rattle.std.proofs.lemmas.List.{append-nil}
+use Rattle.std.specs.Prelude.{count_by, Contains}
 use Rattle.std.proofs.lemmas.Option.{slice_get_within}
 use mathlib.Core.Option as core
 use lib.ListN.{get_elem?}
@@ -12,41 +11,21 @@ use Rattle.twe_machine.specs.declared.state.State.{State}
 use Rattle.twe_machine.specs.Runs.{state_after}
 use Rattle.seg_journal.specs.declared.numbered.NumberedEntry.{NumberedEntry}
 use Rattle.seg_journal.specs.Merging.{AreNumbered, IsMergeOf, all_of, has_number, journal_of}
-use Rattle.seg_journal.proofs.Slots.{in_contains, occurs}
 use Rattle.floor_rule.specs.declared.view.TaskSlot.{TaskSlot}
 use Rattle.floor_rule.specs.Fitting.{HomeFits}
 use Rattle.floor_rule.specs.Floors.{Floor, Home, Away, Empty, Holds}
 use Rattle.floor_rule.specs.Steps.{IsQuiet, ShowsState}
-use Rattle.admission_laws.specs.admission_core.States.{IsAmong}
-use Rattle.floor_rule.proofs.Puts.{none_some, some_one}
+use Rattle.floor_rule.proofs.Puts.{none_some}
 use Rattle.floor_table.specs.declared.view.SeatKind.TheVariants.{Main}
 use Rattle.floor_table.specs.declared.view.View.{View}
 use Rattle.floor_table.specs.FloorOf.{Table, floor_of, home_at}
 use Rattle.floor_table.specs.Holds.{Ended, HasGivenAll, TableKeeps}
 use Rattle.floor_table.specs.Layout.{asked_of_clock, cell_words_from, clock_place, number_at, phase_place, phase_word_at}
 use Rattle.floor_table.specs.Shown.{EndedQuiet, ShowsRest}
-use Rattle.floor_table.proofs.Ends.{closed_ends, contains_among, merged, once, quiet, showing, size, within}
+use Rattle.floor_table.proofs.Alone.{merged, numbered, one_merge}
+use Rattle.floor_table.proofs.Ends.{closed_ends, quiet, showing}
 
--- Parts have one merge.
-
-same_entries : (a b : List NumberedEntry) → length a ≡ length b → ((n : ℕ) → n < length a → slice_get a n ≡ slice_get b n) → a ≡ b
-same_entries [] [] size same = refl
-same_entries [] (y ∷ b) size same = absurd (omega (arith, size))
-same_entries (x ∷ a) [] size same = absurd (omega (arith, size))
-same_entries (x ∷ a) (y ∷ b) size same =
-    let first : x ≡ y = some_one (same 0 (omega arith)) in
-    let rest : a ≡ b = same_entries a b (omega (arith, size)) (λ n below. same (suc n) (omega (arith, below))) in
-    λ k. first k ∷ rest k
-
-pub one_merge : (parts : List (List NumberedEntry)) (a b : List NumberedEntry) → AreNumbered parts → IsMergeOf parts a → IsMergeOf parts b → a ≡ b
-one_merge parts a b numbered one two =
-    let size_a = one.size in
-    same_entries a b (one.size ∙ sym two.size) (λ n below.
-    let e = occurs (all_of parts) n (numbered.once n (omega (arith, below, size_a))) in
-    let has = in_contains (all_of parts) e.0 e.1 in
-    subst (λ (k : ℕ). slice_get a k ≡ slice_get b k) e.2 (one.entries e.0 has ∙ sym (two.entries e.0 has)))
-
--- entries that are shared out to parts in another way
+-- Entries that are shared out to parts in another way.
 pub numbered_same : (parts others : List (List NumberedEntry)) → all_of parts ≡ all_of others → AreNumbered others → AreNumbered parts
 numbered_same parts others same numbered =
     let count = ap length same in
@@ -88,19 +67,6 @@ module _ (p : Program) (lim : Bounds) (s : Table) (kept : TableKeeps p lim s) (i
   shown : ShowsState st f
   shown = showing p lim s kept id v at main none given
 
-  numbered : AreNumbered (v.part ∷ [])
-  numbered =
-      let all : all_of (v.part ∷ []) ≡ v.part = append-nil v.part in
-      let count = ap length all in
-      let long = size p lim s kept id v at main none given in
-      record {
-        within = λ e has.
-            let among : IsAmong e v.part = contains_among v.part e (subst (λ (l : List NumberedEntry). Contains l e) all has) in
-            let below = within p lim s kept id v at main none given e among in
-            omega (arith, below, count, long);
-        once = λ n below. ap (count_by (has_number n)) all ∙ once p lim s kept id v at main none given n (omega (arith, below, count, long));
-      }
-
   -- before a task is made its slot is empty
   empty_by : (t : ℕ) → length st.tasks ≤ t → (home : Home) → HomeFits st f.held t home → home ≡ Empty
   empty_by t past Away by = absurd (none_some (sym (is_quiet.no_turns by.seat t) ∙ by.has))
@@ -128,12 +94,12 @@ module _ (p : Program) (lim : Bounds) (s : Table) (kept : TableKeeps p lim s) (i
 
     quietly : Ended p lim v words slots → EndedQuiet p lim v words slots
     quietly ended =
-        let one : kept.log ≡ ended.log = one_merge (v.part ∷ []) kept.log ended.log numbered (merged p lim s kept id v at main none given) ended.merge in
+        let one : kept.log ≡ ended.log = one_merge (v.part ∷ []) kept.log ended.log (numbered p lim s kept id v at main none) (merged p lim s kept id v at main none) ended.merge in
         record {
           well = kept.well;
           within = kept.within;
           ended = ended;
-          numbered = numbered;
+          numbered = numbered p lim s kept id v at main none;
           rest = subst (λ (l : List NumberedEntry). ShowsRest p lim (state_after p lim (journal_of l)) words slots) one rest_shown;
         }
 

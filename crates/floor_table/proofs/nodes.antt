@@ -23,6 +23,8 @@ pub mod Marks
 -- The steps in the form in which the calls of the table ask for them.
 pub mod Calls
 pub mod MarkCalls
+-- What the only seat finds.
+pub mod Alone
 -- Loading a phase word.
 pub mod Following
 -- Steps of the floor.

@@ -2,6 +2,7 @@ pub mod Added
 pub mod Layout
 pub mod FloorOf
 pub mod Holds
+pub mod Alone
 pub mod Tells
 pub mod Plays
 pub mod Shown

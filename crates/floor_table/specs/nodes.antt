@@ -6,6 +6,7 @@ pub mod Plays
 pub mod Without
 pub mod RecordSeats
 pub mod Looks
+pub mod Alone
 pub mod Follows
 pub mod FloorSeats
 pub mod TurnSeats

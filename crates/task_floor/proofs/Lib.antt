@@ -23,6 +23,7 @@ pub mod Forgetting
 pub mod Looking
 pub mod Valuing
 pub mod GoingOn
+pub mod Alone
 -- Entries, and the tasks that they make.
 pub mod Bringing
 pub mod DrawnBeside

@@ -172,7 +172,7 @@ module _ (nodes : List (List Elem)) (a b : TreeSeat) (t : ℕ) (slot : TaskSlot)
 
 -- the same after a look alone
 module _ (lim : Bounds) (a b : TreeSeat) (t found : ℕ) (looks : FollowedPhase lim a t found b) where
-  looked_rest : KnowsMore (floor_seat a) (floor_seat b)
+  pub looked_rest : KnowsMore (floor_seat a) (floor_seat b)
   looked_rest = found_more lim (floor_seat a) (floor_seat b) t found (found_floor lim a b t found looks)
 
   pub look_live : a.0.floor.kind ≢ Spent → b.0.floor.kind ≢ Spent

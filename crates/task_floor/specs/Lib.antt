@@ -1,3 +1,4 @@
+pub mod Alone
 pub mod Stands
 pub mod Segments
 pub mod Contents

@@ -4,6 +4,7 @@ ghost use Rattle.floor_rule.specs.declared.view.HeldTurn.{HeldTurn};
 ghost use Rattle.floor_table.specs.declared.view.SeatKind.TheVariants.{Spent};
 ghost use Rattle.floor_table.specs.Layout.{word_of_phase};
 ghost use Rattle.floor_table.specs.Tells.{MayStore, StoredPhase};
+ghost use Rattle.floor_table.specs.nodes.Alone.{LearnsAlone};
 ghost use Rattle.floor_table.specs.nodes.FloorSeats.{HasTaskSlots, floor_seat};
 ghost use Rattle.floor_table.specs.nodes.Follows.{FollowedPhase};
 ghost use Rattle.task_floor.specs.Stands.{StaysInTree};
@@ -17,12 +18,14 @@ use floor_table::nodes::{FollowWait, Planted, StoreTreePhase};
 impl<N: Named + Planted> Floor<N> {
     /// What the phase word of a task says. A stand that finds `Done` knows the task's value from then on. One that finds that the
     /// task waits knows for whom, also of each task that it knew to wait for this one. A stand that has the task's turn finds the
-    /// phase that it knows. A task waits for one with a higher number.
+    /// phase that it knows. A task waits for one with a higher number. If the stand is the only one, it finds the phase that the
+    /// last entry of a made task has left, unless it has the task's turn.
     pub fn status(&self, stand: &mut Stand, task: u32) -> Phase
         requires here { stand.old.table_id ≡ self.now }
         requires live { stand.old.me.0.floor.kind ≢ Spent }
         requires task { task < N.lim.tasks }
         ensures found { FollowedPhase N.lim stand.old.me task (word_of_phase result) stand.new.me }
+        ensures alone { LearnsAlone N.prog N.lim stand.old.me.0 task (word_of_phase result) }
         ensures same { (stand.new.table_id ≡ stand.old.table_id) × (stand.new.id ≡ stand.old.id) }
     {
         let place = self.phase_place(task);

@@ -7,6 +7,7 @@ ghost use Rattle.floor_table.specs.declared.view.SeatKind.TheVariants.{Spent};
 ghost use Rattle.task_floor.specs.declared.steps.readiness.Readiness.TheVariants as readiness;
 ghost use Rattle.task_floor.specs.steps.Resuming.{HasInHand, IsReadiness, KnowsValue};
 ghost use Rattle.floor_table.specs.nodes.FloorSeats.{HasTaskSlots, floor_seat};
+ghost use Rattle.task_floor.specs.Alone.{IsUndoneIfAlone};
 ghost use Rattle.task_floor.specs.Resuming.{KnowsEnough, KnowsMoreBeside, MovesOnBeside, WasNotDone};
 
 use crate::floor::{Floor, Stand};
@@ -25,8 +26,8 @@ fn value_in(slot: &TaskSlot) -> i32
 
 impl<N: Named + Planted> Floor<N> {
     /// The value of a task. `None` if its phase word does not say that it is done, or if another worker has its turn just then:
-    /// the stand has found that. Otherwise the stand knows the task to be done with this value from then on. The stand holds no
-    /// node and does nothing in the tree.
+    /// the stand has found that; the only stand finds the value of each done task. Otherwise the stand knows the task to be done
+    /// with this value from then on. The stand holds no node and does nothing in the tree.
     pub fn value_of(&self, stand: &mut Stand, worker: u32, task: u32) -> Option<i32>
         requires here { stand.old.table_id ≡ self.now }
         requires live { stand.old.me.0.floor.kind ≢ Spent }
@@ -37,6 +38,7 @@ impl<N: Named + Planted> Floor<N> {
         requires idle { stand.old.me.0.activity ≡ None }
         ensures value { IfSome result (λ value. KnowsValue (floor_seat stand.new.me) task value) }
         ensures none { IfNone result (WasNotDone stand.old.me.0.looks stand.new.me.0.looks task) }
+        ensures alone { IfNone result (IsUndoneIfAlone N.prog N.lim stand.old.me.0.floor task) }
         ensures more { KnowsMoreBeside stand.old.me stand.new.me task }
         ensures same { (stand.new.table_id ≡ stand.old.table_id) × (stand.new.id ≡ stand.old.id) }
     {
@@ -57,6 +59,7 @@ impl<N: Named + Planted> Floor<N> {
         requires idle { stand.old.me.0.activity ≡ None }
         ensures value { IfSome result (λ value. KnowsValue (floor_seat stand.new.me) task value) }
         ensures none { IfNone result (WasNotDone stand.old.me.0.looks stand.new.me.0.looks task) }
+        ensures alone { IfNone result (IsUndoneIfAlone N.prog N.lim stand.old.me.0.floor task) }
         ensures more { KnowsMoreBeside stand.old.me stand.new.me task }
         ensures same { (stand.new.table_id ≡ stand.old.table_id) × (stand.new.id ≡ stand.old.id) }
     {
@@ -74,8 +77,8 @@ impl<N: Named + Planted> Floor<N> {
     }
 
     /// Looks whether the next segment of a task in hand may run, and makes it ready. If the task waits for one that is done, its
-    /// frame takes the awaited value, and its phase word says `Running` from then on. The stand holds no node and does nothing in
-    /// the tree. What it knows of the nodes is enough to give the turn, as before.
+    /// frame takes the awaited value, and its phase word says `Running` from then on. The only stand finds each such task ready. The
+    /// stand holds no node and does nothing in the tree. What it knows of the nodes is enough to give the turn, as before.
     pub fn make_ready(
         &self,
         stand: &mut Stand,
@@ -96,6 +99,8 @@ impl<N: Named + Planted> Floor<N> {
             → KnowsEnough N.nodes stand.new.me.0 task turn.row }
         ensures waits { (on : ℕ) → result ≡ readiness.Waits on
             → WasNotDone stand.old.me.0.looks stand.new.me.0.looks on }
+        ensures alone { (on : ℕ) → result ≡ readiness.Waits on → IsUndoneIfAlone N.prog N.lim stand.old.me.0.floor on }
+        ensures above { (on : ℕ) → result ≡ readiness.Waits on → task < on }
         ensures moves { MovesOnBeside stand.old.me stand.new.me task }
         ensures same { (stand.new.table_id ≡ stand.old.table_id) × (stand.new.id ≡ stand.old.id) }
     {
@@ -134,6 +139,8 @@ impl<N: Named + Planted> Floor<N> {
             → KnowsEnough N.nodes stand.new.me.0 task turn.row }
         ensures waits { (on : ℕ) → result ≡ readiness.Waits on
             → WasNotDone stand.old.me.0.looks stand.new.me.0.looks on }
+        ensures alone { (on : ℕ) → result ≡ readiness.Waits on → IsUndoneIfAlone N.prog N.lim stand.old.me.0.floor on }
+        ensures above { (on : ℕ) → result ≡ readiness.Waits on → task < on }
         ensures moves { MovesOnBeside stand.old.me stand.new.me task }
         ensures same { (stand.new.table_id ≡ stand.old.table_id) × (stand.new.id ≡ stand.old.id) }
     {

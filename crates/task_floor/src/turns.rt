@@ -1,5 +1,5 @@
 //! The turns of tasks.
-ghost use Rattle.std.specs.Prelude.{◌≡◌, ◌≢◌, ◌<◌, ℕ, List, Option, IfOk, IfErr};
+ghost use Rattle.std.specs.Prelude.{◌≡◌, ◌≢◌, ◌<◌, ℕ, List, Option, IfOk, IfErr, OnErr};
 ghost use Rattle.floor_rule.specs.declared.view.HeldTurn.{HeldTurn};
 ghost use Rattle.floor_rule.specs.declared.view.TaskSlot.{TaskSlot};
 ghost use Rattle.floor_table.specs.declared.view.SeatKind.TheVariants.{Spent};
@@ -8,6 +8,7 @@ ghost use Rattle.floor_table.specs.declared.nodes.slot.TreeSlot as slots;
 ghost use Rattle.floor_table.specs.declared.nodes.slot.TreeSlot.TheVariants.{Task};
 ghost use Rattle.floor_table.specs.nodes.FloorSeats.{HasTaskSlots};
 ghost use Rattle.floor_table.specs.nodes.TurnSeats.{GaveTreeTurn};
+ghost use Rattle.task_floor.specs.Alone.{IsNewIfAlone};
 ghost use Rattle.task_floor.specs.Turns.{FoundBusy, HasTakenTask, MayGiveTask};
 
 use crate::floor::{Floor, Stand};
@@ -40,7 +41,8 @@ pub(crate) fn task_in(slot: TreeSlot) -> Option<TaskSlot>
 impl<N: Named + Planted> Floor<N> {
     /// Takes the turn of a task for this worker, whose stand it is, and what lies in the task's slot. Unless the task is enabled,
     /// the stand knows then that no record of it stands. `Busy` if the turn word was not free; then the stand knows what it found
-    /// there, and is as it was otherwise. The stand holds no node.
+    /// there, and is as it was otherwise. If the stand is the only one, it finds no turn of a made task busy but those that it has.
+    /// The stand holds no node.
     pub fn take_turn(&self, stand: &mut Stand, worker: u32, task: u32) -> Result<TaskSlot, Busy>
         requires here { stand.old.table_id ≡ self.now }
         requires live { stand.old.me.0.floor.kind ≢ Spent }
@@ -49,6 +51,7 @@ impl<N: Named + Planted> Floor<N> {
         requires worker { worker ≡ stand.old.me.0.floor.worker }
         ensures taken { IfOk result (λ slot. HasTakenTask N.nodes stand.old.me stand.new.me task slot) }
         ensures busy { IfErr result (λ busy. FoundBusy stand.old.me stand.new.me task busy.holder) }
+        ensures alone { OnErr result (IsNewIfAlone N.prog N.lim stand.old.me.0.floor task) }
         ensures same { (stand.new.table_id ≡ stand.old.table_id) × (stand.new.id ≡ stand.old.id) }
     {
         let place = self.turn_place(task);

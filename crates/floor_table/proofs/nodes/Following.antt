@@ -39,11 +39,13 @@ use Rattle.floor_rule.proofs.nodes.TurnEvents.{floor_same}
 use Rattle.floor_table.specs.declared.nodes.slot.TreeSlot.{TreeSlot}
 use Rattle.floor_table.specs.declared.nodes.view.Look.TheVariants.{AtPhase}
 use Rattle.floor_table.specs.declared.nodes.view.TreeView.{TreeView}
+use Rattle.floor_table.specs.nodes.Alone.{LearnsAlone}
 use Rattle.floor_table.specs.nodes.Follows.{FollowedPhase, FollowsWait, Learns, done_view, followed, led_on, waits_view}
 use Rattle.floor_table.specs.nodes.Holds.{TreeKeeps}
 use Rattle.floor_table.specs.nodes.Layout.{tree_slot_count}
 use Rattle.floor_table.specs.nodes.Looks.{looked_view}
 use Rattle.floor_table.specs.nodes.TreeOf.{TreeTable, activity_at, clear_at, floor_part, floor_shown, floor_view, fresh_at, kept_at, placed_at, removed_at, tree_of, waits_at}
+use Rattle.floor_table.proofs.nodes.Alone.{learns_alone}
 use Rattle.floor_table.proofs.nodes.Calls.{told}
 use Rattle.floor_table.proofs.nodes.Elements.{elements_kept, elements_put, map_put, map_set, take_there}
 use Rattle.floor_table.proofs.nodes.Seen.{waits_id}
@@ -262,17 +264,17 @@ module _ (nodes : List (List Elem)) (p : Program) (lim : Bounds) (s : TreeTable)
   learned mine Faulted is = (after_look, nothing_learned, refl)
 
   pub follow_step : (mine : List (ℕ × TreeSlot)) → found < 18446744073709551616
-      → (w : TreeView) × (a : Act TreeSlot) × Valid s.homes mine a × TreeKeeps nodes p lim (stepped s (phase_place p u) found id mine w a) × FollowedPhase lim (v, mine) u found (w, carried_after mine a)
+      → (w : TreeView) × (a : Act TreeSlot) × Valid s.homes mine a × TreeKeeps nodes p lim (stepped s (phase_place p u) found id mine w a) × (FollowedPhase lim (v, mine) u found (w, carried_after mine a) × LearnsAlone p lim v u found)
   follow_step mine small =
       let learns = learned mine (phase_of_word found) refl in
       let tells = told_floor small in
-      (learns.0, keeps, tt, subst (TreeKeeps nodes p lim) (sym (loaded mine learns.0)) learns.1, (tells.0, tells.1, tells.2, learns.2))
+      (learns.0, keeps, tt, subst (TreeKeeps nodes p lim) (sym (loaded mine learns.0)) learns.1, ((tells.0, tells.1, tells.2, learns.2), learns_alone nodes p lim s kept id v at u below))
 
 pub follow : (nodes : List (List Elem)) (p : Program) (lim : Bounds) (id u : ℕ) (v : TreeView) (mine : List (ℕ × TreeSlot)) → v.floor.kind ≢ Spent → u < lim.tasks
     → Allows (TreeKeeps nodes p lim) (tree_slot_count nodes lim) id (v, mine) (phase_place p u) (λ n. n)
     (FollowsWait p lim (step (tree_slot_count nodes lim) (phase_place p u) 0 0 core.none) (v, mine))
 follow nodes p lim id u v mine live below =
-    told (TreeKeeps nodes p lim) (tree_slot_count nodes lim) id (v, mine) (phase_place p u) (λ n. n) (FollowedPhase lim (v, mine) u)
+    told (TreeKeeps nodes p lim) (tree_slot_count nodes lim) id (v, mine) (phase_place p u) (λ n. n) (λ n after. FollowedPhase lim (v, mine) u n after × LearnsAlone p lim v u n)
     (FollowsWait p lim (step (tree_slot_count nodes lim) (phase_place p u) 0 0 core.none) (v, mine))
-    (λ n after learned t place. let same : u ≡ t = omega (arith, place) in subst (λ (k : ℕ). FollowedPhase lim (v, mine) k n after) same learned)
+    (λ n after learned t place. let same : u ≡ t = omega (arith, place) in subst (λ (k : ℕ). FollowedPhase lim (v, mine) k n after × LearnsAlone p lim v k n) same learned)
     (λ s kept count at small. follow_step nodes p lim s kept id v at live u below mine small)

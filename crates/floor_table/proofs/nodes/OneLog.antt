@@ -5,17 +5,7 @@ use Rattle.seg_journal.specs.declared.numbered.NumberedEntry.{NumberedEntry}
 use Rattle.seg_journal.proofs.Slots.{in_contains, occurs}
 use Rattle.floor_rule.specs.Rule.{AreInOrder, LiesInParts, times_drawn}
 use Rattle.admission_laws.specs.admission_core.States.{IsAmong}
-use Rattle.floor_rule.proofs.Puts.{some_one}
-use Rattle.floor_table.proofs.Ends.{contains_among}
-
-same_entries : (a b : List NumberedEntry) → length a ≡ length b → ((n : ℕ) → n < length a → slice_get a n ≡ slice_get b n) → a ≡ b
-same_entries [] [] size same = refl
-same_entries [] (y ∷ b) size same = absurd (omega (arith, size))
-same_entries (x ∷ a) [] size same = absurd (omega (arith, size))
-same_entries (x ∷ a) (y ∷ b) size same =
-    let first : x ≡ y = some_one (same 0 (omega arith)) in
-    let rest : a ≡ b = same_entries a b (omega (arith, size)) (λ n below. same (suc n) (omega (arith, below))) in
-    λ k. first k ∷ rest k
+use Rattle.floor_table.proofs.Alone.{contains_among, same_entries}
 
 module _ (a : List NumberedEntry) (parts : ℕ → List NumberedEntry) (lies : LiesInParts a parts) where
   drawn_one : (i n : ℕ) → n < length a → lies.owner n ≡ i → times_drawn a lies.owner i n ≡ 1

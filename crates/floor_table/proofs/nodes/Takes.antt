@@ -20,6 +20,7 @@ use Rattle.floor_rule.specs.Steps.{after_taking}
 use Rattle.floor_rule.proofs.Puts.{none_some, some_one}
 use Rattle.floor_table.specs.declared.view.SeatKind.TheVariants.{Spent}
 use Rattle.floor_table.specs.declared.view.View.{View}
+use Rattle.floor_table.specs.Alone.{IsFreeIfAlone}
 use Rattle.floor_table.specs.FloorOf.{turn_in, turns_at}
 use Rattle.floor_table.specs.Holds.{TableKeeps}
 use Rattle.floor_table.specs.Layout.{clock_place, free_word, taken_word, turn_of_word, turn_place, turn_word_at, word_count}
@@ -44,6 +45,7 @@ use Rattle.floor_table.specs.nodes.Looks.{looked_view}
 use Rattle.floor_table.specs.nodes.Seats.{TreeSeat, tree_seen, turns_seen}
 use Rattle.floor_table.specs.nodes.TreeOf.{TreeTable, activity_at, clear_at, floor_shown, fresh_at, kept_at, placed_at, removed_at, waits_at}
 use Rattle.floor_table.specs.nodes.TurnSeats.{MayGiveTreeTurn, TookTreeTurn, TriedTreeTurn, TriesTreeTurn, gives_taken, taken_tree_view}
+use Rattle.floor_table.proofs.nodes.Alone.{free_if_alone}
 use Rattle.floor_table.proofs.nodes.Elements.{elements_kept, elements_put, take_there}
 use Rattle.floor_table.proofs.nodes.FloorCalls.{lift_step, quiet}
 use Rattle.floor_table.proofs.nodes.FloorSteps.{StepsBeside, at_floor, fs, log, next_log, nothing_drawn, seated, looks_beside, tree, viewed}
@@ -164,11 +166,11 @@ module _ (nodes : List (List Elem)) (p : Program) (lim : Bounds) (id : ℕ) (v :
 
   pub try_tree_turn : v.floor.kind ≢ Spent
       → Allows (TreeKeeps nodes p lim) (tree_slot_count nodes lim) id (v, mine) (turn_place p t) (λ n. either (n == free_word) (taken_word v.floor.worker) n)
-      (TriesTreeTurn nodes p (step (tree_slot_count nodes lim) (turn_place p t) free_word (taken_word v.floor.worker) core.none) (v, mine))
+      (TriesTreeTurn nodes p lim (step (tree_slot_count nodes lim) (turn_place p t) free_word (taken_word v.floor.worker) core.none) (v, mine))
   try_tree_turn live =
       lift_step nodes p lim id v mine has (tree_slot_count nodes lim) (turn_place p t) (λ n. either (n == free_word) (taken_word v.floor.worker) n)
       (TriesTurn p (step lim.tasks (turn_place p t) free_word (taken_word v.floor.worker) core.none) (floor_seat (v, mine)))
-      (TriesTreeTurn nodes p (step (tree_slot_count nodes lim) (turn_place p t) free_word (taken_word v.floor.worker) core.none) (v, mine)) (omega (arith, below))
+      (TriesTreeTurn nodes p lim (step (tree_slot_count nodes lim) (turn_place p t) free_word (taken_word v.floor.worker) core.none) (v, mine)) (omega (arith, below))
       (try_turn p lim id t v.floor (tasks_out mine) live below)
       (λ s kept at me a keep tell.
       let goes = tried s kept at me a keep (tell t refl) in (
@@ -177,7 +179,8 @@ module _ (nodes : List (List Elem)) (p : Program) (lim : Bounds) (id : ℕ) (v :
         goes.2,
         λ u place.
             let same : t ≡ u = omega (arith, place) in
-            subst (λ (n : ℕ). TriedTreeTurn nodes (v, mine) n (slice_index s.words (turn_place p t)) (goes.0, map as_slot me.1)) same goes.3,
+            subst (λ (n : ℕ). TriedTreeTurn nodes (v, mine) n (slice_index s.words (turn_place p t)) (goes.0, map as_slot me.1) × IsFreeIfAlone p lim v.floor n (slice_index s.words (turn_place p t))) same
+            (goes.3, free_if_alone nodes p lim s kept id v at t below),
       ))
 
 -- A turn that was taken may be given again.

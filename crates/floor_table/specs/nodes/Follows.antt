@@ -9,6 +9,7 @@ use Rattle.floor_table.specs.Tells.{IsOwnPhase, WaitsAbove}
 use Rattle.floor_rule.specs.nodes.Trees.{WaitFact}
 use Rattle.floor_table.specs.declared.nodes.view.Look.TheVariants.{AtPhase}
 use Rattle.floor_table.specs.declared.nodes.view.TreeView.{TreeView}
+use Rattle.floor_table.specs.nodes.Alone.{LearnsAlone}
 use Rattle.floor_table.specs.nodes.Looks.{looked_seat}
 use Rattle.floor_table.specs.nodes.Plays.{TreeStep}
 use Rattle.floor_table.specs.nodes.Seats.{TreeSeat}
@@ -48,6 +49,7 @@ FollowedPhase lim before u found after =
     IsOwnPhase (before.0.floor, []) u found × (found < 2 ^ 32) × WaitsAbove lim u found
     × Learns (phase_of_word found) (looked_seat before (AtPhase u found)) u after
 
--- a load of the phase word of some task tells the seat what it learns of waits
+-- a load of the phase word of some task tells the seat what it learns of waits, and more if it is the only one
 abbrev pub FollowsWait : Program → Bounds → TreeStep → TreeSeat → ℕ → TreeSeat → Type 0
-FollowsWait p lim s before found after = (u : ℕ) → s.word ≡ phase_place p u → FollowedPhase lim before u found after
+FollowsWait p lim s before found after =
+    (u : ℕ) → s.word ≡ phase_place p u → FollowedPhase lim before u found after × LearnsAlone p lim before.0 u found

@@ -1,11 +1,13 @@
 -- Taking and giving a turn on a table with nodes: what the seat needs, and what it knows afterwards.
 use Rattle.std.specs.Prelude.{◌≡◌, ◌≢◌, ◌⊎◌, ℕ, false, List, ◌∷◌, Some, None}
 use Rattle.region_paths.specs.declared.elements.Elem.{Elem}
+use Rattle.twe_base.specs.Limits.{Bounds}
 use Rattle.twe_program.specs.Program.{Program}
 use Rattle.twe_machine.specs.declared.state.TaskStatus.TheVariants as status
 use Rattle.floor_rule.specs.declared.view.HeldTurn.{HeldTurn}
 use Rattle.floor_rule.specs.Rows.{phase_of, slot_of}
 use Rattle.floor_rule.specs.Steps.{with_row}
+use Rattle.floor_table.specs.Alone.{IsFreeIfAlone}
 use Rattle.floor_table.specs.FloorOf.{turn_in}
 use Rattle.floor_table.specs.Layout.{free_word, turn_place}
 use Rattle.floor_table.specs.Tells.{MayGiveTurn, with_turn}
@@ -49,9 +51,10 @@ TriedTreeTurn nodes before t found after =
     ((found ≡ free_word) × TookTreeTurn nodes before t after)
     ⊎ ((found ≢ free_word) × (after ≡ looked_seat before (AtTurn t found)))
 
--- a compare-exchange of the turn word of some task tries to take its turn
-abbrev pub TriesTreeTurn : List (List Elem) → Program → TreeStep → TreeSeat → ℕ → TreeSeat → Type 0
-TriesTreeTurn nodes p s before found after = (t : ℕ) → s.word ≡ turn_place p t → TriedTreeTurn nodes before t found after
+-- a compare-exchange of the turn word of some task tries to take its turn, and finds it free if the seat is the only one
+abbrev pub TriesTreeTurn : List (List Elem) → Program → Bounds → TreeStep → TreeSeat → ℕ → TreeSeat → Type 0
+TriesTreeTurn nodes p lim s before found after =
+    (t : ℕ) → s.word ≡ turn_place p t → TriedTreeTurn nodes before t found after × IsFreeIfAlone p lim before.0.floor t found
 
 -- Giving.
 

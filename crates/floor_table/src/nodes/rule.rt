@@ -159,7 +159,7 @@ pub struct TryTreeTurn<N: Named + Planted> {
 }
 
 impl<N: Named + Planted> Play<TreeSlot, TreeView> for TryTreeTurn<N> {
-    ghost then = { TriesTreeTurn N.nodes N.prog };
+    ghost then = { TriesTreeTurn N.nodes N.prog N.lim };
 }
 
 /// A turn is given.

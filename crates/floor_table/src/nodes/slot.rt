@@ -22,7 +22,7 @@ pub struct Errand {
     /// The number of the task.
     pub task: u32,
     /// Which of the task's effects it is about, counted from 0.
-    pub effect: u32,
+    pub effect: usize,
     /// The place of that effect.
     pub place: u32,
 }

@@ -18,13 +18,13 @@ ghost use Rattle.floor_table.specs.nodes.Seats.{TreeSeat};
 ghost use Rattle.floor_table.specs.nodes.TurnSeats.{GivesTreeTurn, MayGiveTreeTurn, TookTreeTurn, TriesTreeTurn};
 
 /// A seat may try to take a turn. It asks nothing of nodes. If it took the turn of a task that is not enabled, it knows that no
-/// record of the task stands at any node.
+/// record of the task stands at any node. If it is the only one, it takes the turn of each task that was made, unless it has it.
 pub fn a_turn_may_be_tried_beside_nodes()
     ensures { (nodes : List (List Elem)) (p : Program) (lim : Bounds) (id : ℕ) (v : TreeView) (mine : List (ℕ × TreeSlot))
         → HasTaskSlots lim.tasks mine → (t : ℕ) → v.floor.kind ≢ Spent → t < lim.tasks
         → Allows (TreeKeeps nodes p lim) (tree_slot_count nodes lim) id (v, mine) (turn_place p t)
         (λ n. either (n == free_word) (taken_word v.floor.worker) n)
-        (TriesTreeTurn nodes p (step (tree_slot_count nodes lim) (turn_place p t) free_word (taken_word v.floor.worker) none)
+        (TriesTreeTurn nodes p lim (step (tree_slot_count nodes lim) (turn_place p t) free_word (taken_word v.floor.worker) none)
         (v, mine)) }
 {}
 

@@ -11,7 +11,8 @@ use Rattle.floor_rule.specs.declared.view.TaskSlot.{TaskSlot}
 use Rattle.floor_table.specs.declared.view.View.{View}
 use Rattle.floor_table.specs.Holds.{ShowsEnd}
 use Rattle.floor_table.specs.Shown.{EndedQuiet, ShowsRest}
-use Rattle.floor_table.proofs.Rests.{merge_same, numbered_same, one_merge}
+use Rattle.floor_table.proofs.Alone.{one_merge}
+use Rattle.floor_table.proofs.Rests.{merge_same, numbered_same}
 
 -- the journal is legal, and the words and slots show the state that it leads to
 pub record ShowsJournal (p : Program) (lim : Bounds) (words : List ℕ) (slots : List (Option TaskSlot)) (journal : List Entry) (prints : List ℤ) : Type 0 where

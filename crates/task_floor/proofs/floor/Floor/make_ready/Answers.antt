@@ -2,9 +2,10 @@ use Rattle.std.proofs.Common.{◌∙◌, inl, inr, sym}
 use Rattle.floor_table.specs.Layout.{word_of_phase}
 use Rattle.task_floor.proofs.steps.InHand.{may_run}
 use Rattle.floor_table.specs.nodes.FloorSeats.{floor_seat}
+use Rattle.task_floor.proofs.Alone.{undone_since}
 use Rattle.task_floor.proofs.GoingOn.{looked_above, looked_enough, looked_in_hand, looked_moves, looked_phase, same_enough, then_moves, was_in_hand}
 use Rattle.task_floor.proofs.Looking.{has_looked}
-use Rattle.task_floor.proofs.Valuing.{look_live, look_slots, look_worker, not_had_since}
+use Rattle.task_floor.proofs.Valuing.{look_live, look_slots, look_worker, looked_rest, not_had_since}
 use Rattle.task_floor.proofs.floor.Floor.make_ready.Goals as goal
 
 pub resume-requires-clause-live : goal.resume-requires-clause-live
@@ -122,3 +123,11 @@ pub returns-in-Waits-clause-waits : goal.returns-in-Waits-clause-waits
 returns-in-Waits-clause-waits g c on is =
     not_had_since c.args.stand.now.me.0.looks c.status.new.stand.me.0.looks c.resume.new.stand.me.0.looks on
     (has_looked g.N.Named.lim c.args.stand.now.me c.status.new.stand.me c.args.task (word_of_phase c.status.result) c.status.ensures.found).looks (c.resume.ensures.waits on is)
+
+pub returns-in-Waits-clause-alone : goal.returns-in-Waits-clause-alone
+returns-in-Waits-clause-alone g c on is =
+    undone_since g.N.Named.prog g.N.Named.lim (floor_seat c.args.stand.now.me) (floor_seat c.status.new.stand.me) on
+    (looked_rest g.N.Named.lim c.args.stand.now.me c.status.new.stand.me c.args.task (word_of_phase c.status.result) c.status.ensures.found) (c.resume.ensures.alone on is)
+
+pub returns-in-Waits-clause-above : goal.returns-in-Waits-clause-above
+returns-in-Waits-clause-above g c on is = c.resume.ensures.above on is

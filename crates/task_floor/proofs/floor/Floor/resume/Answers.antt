@@ -1,5 +1,7 @@
+use Rattle.std.proofs.Common.{◌<◌, ℕ, subst}
 use Rattle.task_floor.proofs.steps.InHand.{may_store_running}
 use Rattle.floor_table.specs.nodes.FloorSeats.{floor_seat}
+use Rattle.task_floor.proofs.Alone.{one_wait, waits_undone}
 use Rattle.task_floor.proofs.GoingOn.{enough_now, moves_now, same_enough, still_in_hand}
 use Rattle.task_floor.proofs.Valuing.{more_live, more_slots, waits_for}
 use Rattle.task_floor.proofs.floor.Floor.resume.Goals as goal
@@ -54,3 +56,9 @@ returns-clause-enough g c turn hand =
 
 pub returns-in-None-clause-waits : goal.returns-in-None-clause-waits
 returns-in-None-clause-waits g c on is = waits_for c.args.stand.now.me.0.looks c.value_of.new.stand.me.0.looks c.args.on on is c.in-None.ensures.none
+
+pub returns-in-None-clause-alone : goal.returns-in-None-clause-alone
+returns-in-None-clause-alone g c on is = waits_undone g.N.Named.prog g.N.Named.lim c.args.stand.now.me.0.floor c.args.on on is c.in-None.ensures.alone
+
+pub returns-in-None-clause-above : goal.returns-in-None-clause-above
+returns-in-None-clause-above g c on is = subst (λ (u : ℕ). c.args.task < u) (one_wait c.args.on on is) c.requires.on.1

@@ -2,6 +2,7 @@ use Rattle.std.proofs.Common.{ℕ, arith, sym, subst}
 use mathlib.Core.Option.{none}
 use Rattle.atomic_table.specs.Table.{Allows, step}
 use Rattle.floor_table.specs.Layout.{phase_place}
+use Rattle.floor_table.specs.nodes.Alone.{LearnsAlone}
 use Rattle.floor_table.specs.nodes.Follows.{FollowedPhase, FollowsWait}
 use Rattle.floor_table.specs.nodes.Holds.{TreeKeeps}
 use Rattle.floor_table.specs.nodes.Layout.{tree_slot_count}
@@ -27,8 +28,12 @@ load-word-requires g c =
     (cc (here, same), omega (arith, words, place, below), subst (P c.phase_place-place.result) (sym c.self.invariant.4) at_word)
 
 pub phase_of-requires : goal.phase_of-requires
-phase_of-requires g c = (c.load-word.ensures.2 c.args.task c.phase_place-place.ensures).1
+phase_of-requires g c = (c.load-word.ensures.2 c.args.task c.phase_place-place.ensures).0.1
 
 pub returns-clause-found : goal.returns-clause-found
 returns-clause-found g c =
-    subst (λ (n : ℕ). FollowedPhase g.N.Named.lim c.args.stand.now.me c.args.task n c.load-word.new.seat.me) c.phase_of.ensures (c.load-word.ensures.2 c.args.task c.phase_place-place.ensures)
+    subst (λ (n : ℕ). FollowedPhase g.N.Named.lim c.args.stand.now.me c.args.task n c.load-word.new.seat.me) c.phase_of.ensures (c.load-word.ensures.2 c.args.task c.phase_place-place.ensures).0
+
+pub returns-clause-alone : goal.returns-clause-alone
+returns-clause-alone g c =
+    subst (λ (n : ℕ). LearnsAlone g.N.Named.prog g.N.Named.lim c.args.stand.now.me.0 c.args.task n) c.phase_of.ensures (c.load-word.ensures.2 c.args.task c.phase_place-place.ensures).1

@@ -31,7 +31,7 @@ compare_exchange-found-requires g c =
     let worker = c.requires.worker in
     let count = tree_slot_count nodes lim in
     let named : taken_word me.0.floor.worker ≡ c.args.worker + 2 = omega (arith, worker) in
-    let P : ℕ → ℕ → ℕ → Type 0 = λ word slots x. Allows (TreeKeeps nodes p lim) slots id me word (λ n. either (n == free_word) x n) (TriesTreeTurn nodes p (step slots word free_word x none) me) in
+    let P : ℕ → ℕ → ℕ → Type 0 = λ word slots x. Allows (TreeKeeps nodes p lim) slots id me word (λ n. either (n == free_word) x n) (TriesTreeTurn nodes p lim (step slots word free_word x none) me) in
     let allowed : P (turn_place p c.args.task) count (taken_word me.0.floor.worker) = try_tree_turn nodes p lim id me.0 me.1 c.requires.slots c.args.task below c.requires.live in
     let at_word : P c.turn_place-place.result count (taken_word me.0.floor.worker) = subst (λ (w : ℕ). P w count (taken_word me.0.floor.worker)) (sym place) allowed in
     let with_worker : P c.turn_place-place.result count (c.args.worker + 2) = subst (P c.turn_place-place.result count) named at_word in
@@ -45,7 +45,10 @@ returns-then-found-ne0-clause-busy g c =
     let found = c.compare_exchange-found.result in
     ⊎_elim (λ (took : (found ≡ free_word) × TookTreeTurn nodes me c.args.task after). absurd (c.if-found-ne0.true took.0))
     (λ (missed : (found ≢ free_word) × (after ≡ looked_seat me (AtTurn c.args.task found))). record { found = found; busy = missed.0; named = c.found_busy.ensures; seat = missed.1 })
-    (c.compare_exchange-found.ensures.2 c.args.task c.turn_place-place.ensures)
+    (c.compare_exchange-found.ensures.2 c.args.task c.turn_place-place.ensures).0
+
+pub returns-then-found-ne0-clause-alone : goal.returns-then-found-ne0-clause-alone
+returns-then-found-ne0-clause-alone g c st alone not made = c.if-found-ne0.true ((c.compare_exchange-found.ensures.2 c.args.task c.turn_place-place.ensures).1 st alone not made)
 
 pub exchange-home-requires : goal.exchange-home-requires
 exchange-home-requires g c =
@@ -55,7 +58,7 @@ exchange-home-requires g c =
     let here = c.requires.here in
     let same = c.self.view_is in
     let still = c.compare_exchange-found.ensures.0 in
-    let took = took_of nodes me after c.args.task c.compare_exchange-found.result c.if-found-ne0.false (c.compare_exchange-found.ensures.2 c.args.task c.turn_place-place.ensures) in
+    let took = took_of nodes me after c.args.task c.compare_exchange-found.result c.if-found-ne0.false (c.compare_exchange-found.ensures.2 c.args.task c.turn_place-place.ensures).0 in
     (cc (here, same, still), (kinds.Task (Some (slot_of took.turn.row)), out_first nodes me after c.args.task took))
 
 pub task_in-requires : goal.task_in-requires
@@ -63,7 +66,7 @@ task_in-requires g c =
     let nodes = g.N.Planted.nodes in
     let me = c.args.stand.now.me in
     let after = c.compare_exchange-found.new.seat.me in
-    let took = took_of nodes me after c.args.task c.compare_exchange-found.result c.if-found-ne0.false (c.compare_exchange-found.ensures.2 c.args.task c.turn_place-place.ensures) in
+    let took = took_of nodes me after c.args.task c.compare_exchange-found.result c.if-found-ne0.false (c.compare_exchange-found.ensures.2 c.args.task c.turn_place-place.ensures).0 in
     (Some (slot_of took.turn.row), home_is nodes me after c.args.task c.exchange-home.result took c.exchange-home.ensures.2)
 
 pub unreachable-requires : goal.unreachable-requires
@@ -71,7 +74,7 @@ unreachable-requires g c =
     let nodes = g.N.Planted.nodes in
     let me = c.args.stand.now.me in
     let after = c.compare_exchange-found.new.seat.me in
-    let took = took_of nodes me after c.args.task c.compare_exchange-found.result c.if-found-ne0.false (c.compare_exchange-found.ensures.2 c.args.task c.turn_place-place.ensures) in
+    let took = took_of nodes me after c.args.task c.compare_exchange-found.result c.if-found-ne0.false (c.compare_exchange-found.ensures.2 c.args.task c.turn_place-place.ensures).0 in
     none_some (sym c.in-None.is ∙ held_is nodes me after c.args.task c.exchange-home.result c.task_in.result took c.exchange-home.ensures.2 c.task_in.ensures)
 
 pub returns-clause-taken : goal.returns-clause-taken
@@ -79,6 +82,6 @@ returns-clause-taken g c =
     let nodes = g.N.Planted.nodes in
     let me = c.args.stand.now.me in
     let after = c.compare_exchange-found.new.seat.me in
-    let took = took_of nodes me after c.args.task c.compare_exchange-found.result c.if-found-ne0.false (c.compare_exchange-found.ensures.2 c.args.task c.turn_place-place.ensures) in
+    let took = took_of nodes me after c.args.task c.compare_exchange-found.result c.if-found-ne0.false (c.compare_exchange-found.ensures.2 c.args.task c.turn_place-place.ensures).0 in
     let held = held_is nodes me after c.args.task c.exchange-home.result c.task_in.result took c.exchange-home.ensures.2 c.task_in.ensures in
     has_taken_task nodes me after c.exchange-home.new.seat.me c.args.task c.in-Some.slot took (some_one (sym c.in-Some.is ∙ held)) c.exchange-home.ensures.3

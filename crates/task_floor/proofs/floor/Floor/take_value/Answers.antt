@@ -5,6 +5,7 @@ use Rattle.floor_table.specs.Layout.{phase_of_word, word_of_phase}
 use Rattle.task_floor.specs.steps.Resuming.{KnowsValue}
 use Rattle.floor_table.specs.nodes.FloorSeats.{floor_seat}
 use Rattle.floor_table.proofs.Steps.{phase_again}
+use Rattle.task_floor.proofs.Alone.{new_undone, taken_undone}
 use Rattle.task_floor.proofs.Looking.{busy_more}
 use Rattle.task_floor.proofs.Valuing.{busy_not_had, gave_more_beside, live_looked, live_taken, may_give_looked, slots_looked, value_known, value_not_had}
 use Rattle.task_floor.proofs.floor.Floor.take_value.Goals as goal
@@ -72,6 +73,8 @@ returns-in_default g c =
       value = tt;
       none = value_not_had nodes a mid c.args.task c.in-Ok.slot took lim after found c.status-phase.ensures.found c.give_turn.new.stand.me (c.give_turn.ensures.gave took.floor.turn a.1 back)
           (λ done. c.in_default.not-Done (sym (phase_again c.status-phase.result) ∙ done));
+      alone = taken_undone nodes g.N.Named.prog lim a mid after c.args.task found c.in-Ok.slot took c.status-phase.ensures.found c.status-phase.ensures.alone
+          (λ done. c.in_default.not-Done (sym (phase_again c.status-phase.result) ∙ done));
       more = gave_more_beside nodes a mid c.args.task c.in-Ok.slot took lim after found c.status-phase.ensures.found c.give_turn.new.stand.me (c.give_turn.ensures.gave took.floor.turn a.1 back);
       same = (
         c.give_turn.ensures.same.0 ∙ (c.status-phase.ensures.same.0 ∙ c.in-Ok.ensures.same.0),
@@ -84,3 +87,6 @@ returns-in-Err-clause-none g c = busy_not_had c.args.stand.now.me c.take_turn.ne
 
 pub returns-in-Err-clause-more : goal.returns-in-Err-clause-more
 returns-in-Err-clause-more g c = busy_more c.args.stand.now.me c.take_turn.new.stand.me c.args.task _ c.in-Err.ensures.busy
+
+pub returns-in-Err-clause-alone : goal.returns-in-Err-clause-alone
+returns-in-Err-clause-alone g c = new_undone g.N.Named.prog g.N.Named.lim c.args.stand.now.me.0.floor c.args.task c.in-Err.ensures.alone

@@ -1,8 +1,10 @@
 use Rattle.std.proofs.Common.{None, Some, refl, sym, ◌∙◌}
 use Rattle.floor_table.specs.Layout.{word_of_phase}
 use Rattle.floor_table.proofs.Steps.{phase_again}
+use Rattle.floor_table.specs.nodes.FloorSeats.{floor_seat}
+use Rattle.task_floor.proofs.Alone.{found_undone, none_then, undone_since}
 use Rattle.task_floor.proofs.Looking.{has_looked, looked_more}
-use Rattle.task_floor.proofs.Valuing.{look_closed, look_idle, look_live, look_not_had, look_slots, looked_then_more, none_had_since}
+use Rattle.task_floor.proofs.Valuing.{look_closed, look_idle, look_live, look_not_had, look_slots, looked_rest, looked_then_more, none_had_since}
 use Rattle.task_floor.proofs.floor.Floor.value_of.Goals as goal
 
 pub take_value-requires-clause-live : goal.take_value-requires-clause-live
@@ -33,3 +35,14 @@ pub returns-in_default-clause-none : goal.returns-in_default-clause-none
 returns-in_default-clause-none g c =
     look_not_had g.N.Named.lim c.args.stand.now.me c.status.new.stand.me c.args.task (word_of_phase c.status.result) c.status.ensures.found
     (λ done. c.in_default.not-Done (sym (phase_again c.status.result) ∙ done))
+
+pub returns-in-Done-clause-alone : goal.returns-in-Done-clause-alone
+returns-in-Done-clause-alone g c =
+    none_then c.take_value.result
+    (undone_since g.N.Named.prog g.N.Named.lim (floor_seat c.args.stand.now.me) (floor_seat c.status.new.stand.me) c.args.task
+    (looked_rest g.N.Named.lim c.args.stand.now.me c.status.new.stand.me c.args.task (word_of_phase c.status.result) c.status.ensures.found))
+    c.take_value.ensures.alone
+
+pub returns-in_default-clause-alone : goal.returns-in_default-clause-alone
+returns-in_default-clause-alone g c =
+    found_undone g.N.Named.prog g.N.Named.lim c.args.stand.now.me c.args.task (word_of_phase c.status.result) c.status.ensures.alone (λ done. c.in_default.not-Done (sym (phase_again c.status.result) ∙ done))
