@@ -46,13 +46,16 @@ fn answer<R: Threads + Sync, S: Source>(
     ensures { IfOk result (BatchCause (source S.left S.faults S.read_gives) words.now src.old src.new) }
 {
     match job_of(words) {
-        Some(job) => match read_input(alloc, src)? {
-            Input::Given(batch) => {
-                let text = answer_batch(rt, alloc, job, batch.as_slice())?;
-                Ok(Answer::on_out(alloc, Status::Done, text))
+        Some(job) => {
+            let input = read_input(alloc, src)?;
+            match input {
+                Input::Given(batch) => {
+                    let text = answer_batch(rt, alloc, job, batch.as_slice())?;
+                    Ok(Answer::on_out(alloc, Status::Done, text))
+                }
+                Input::Failed(answer) => Ok(answer),
             }
-            Input::Failed(answer) => Ok(answer),
-        },
+        }
         None => Ok(Answer::on_err(alloc, Status::Usage, usage_text(alloc)?)),
     }
 }

@@ -37,10 +37,13 @@ fn answer<S: Source>(alloc: Global, words: &[Word], src: &mut S) -> Result<Answe
     ensures { IfOk result (InferCause (source S.left S.faults S.read_gives) words.now src.old src.new) }
 {
     match words {
-        [] => match read_input(alloc, src)? {
-            Input::Given(text) => answer_text(alloc, text.as_slice()),
-            Input::Failed(answer) => Ok(answer),
-        },
+        [] => {
+            let input = read_input(alloc, src)?;
+            match input {
+                Input::Given(text) => answer_text(alloc, text.as_slice()),
+                Input::Failed(answer) => Ok(answer),
+            }
+        }
         [_, ..] => Ok(Answer::on_err(alloc, Status::Usage, usage_text(alloc)?)),
     }
 }

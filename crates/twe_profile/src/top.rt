@@ -43,10 +43,13 @@ fn answer<S: Source>(alloc: Global, words: &[Word], src: &mut S) -> Result<Answe
     ensures { IfOk result (ProfileCause (source S.left S.faults S.read_gives) words.now src.old src.new) }
 {
     match words {
-        [] => match read_input(alloc, src)? {
-            Input::Given(text) => answer_text(alloc, text.as_slice()),
-            Input::Failed(answer) => Ok(answer),
-        },
+        [] => {
+            let input = read_input(alloc, src)?;
+            match input {
+                Input::Given(text) => answer_text(alloc, text.as_slice()),
+                Input::Failed(answer) => Ok(answer),
+            }
+        }
         [_, ..] => Ok(Answer::on_err(alloc, Status::Usage, usage_text(alloc)?)),
     }
 }
@@ -90,11 +93,7 @@ fn answer_found(alloc: Global, p: &Prog, found: &JournalText) -> Result<Answer, 
     let lim = found.head.unwrap_or(Limits::default());
     let moves = found.moves.as_slice();
     match profile(alloc, p, lim, moves) {
-        Ok(profile) => Ok(Answer::on_out(
-            alloc,
-            Status::Done,
-            profile_text(alloc, &profile)?,
-        )),
+        Ok(profile) => Ok(Answer::on_out(alloc, Status::Done, profile_text(alloc, &profile)?)),
         Err(ProfileFail::Illegal { n, .. }) => Ok(Answer::on_err(
             alloc,
             Status::BadJournal,
