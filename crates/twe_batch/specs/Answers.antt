@@ -1,5 +1,5 @@
 -- What the program answers, and why.
-use Rattle.std.specs.Prelude.{◌≡◌, ℕ, List, [], None, Some, Ok}
+use Rattle.std.specs.Prelude.{◌≡◌, ℕ, List, None, Some, Ok}
 use Rattle.twe_io.specs.Ends.{Ends, EndsTell, SourceTells, WasRead}
 use Rattle.twe_io.specs.Answers.{IsAnswered, on_err, on_out}
 use Rattle.par_check.specs.declared.job.Job.{Job}

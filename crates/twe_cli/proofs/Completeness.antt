@@ -1,5 +1,5 @@
 -- If nothing fails outside, a command has one of its statuses.
-use Rattle.std.proofs.Common.{◌≡◌, ◌≢◌, ◌⊎◌, ◌≤◌, ◌<◌, ◌+◌, ◌++◌, IfSome, inl, inr, ℕ, ℤ, List, [], ◌∷◌, length, cond, Option, None, Some, refl, sym, ap, ◌∙◌, subst, arith}
+use Rattle.std.proofs.Common.{◌≡◌, ◌≢◌, ◌<◌, ◌+◌, IfSome, inl, inr, ℕ, ℤ, List, [], ◌∷◌, length, cond, Option, None, Some, refl, sym, ap, ◌∙◌, subst, arith}
 use Rattle.std.proofs.lemmas.Option.{none-some, same_Some}
 use Rattle.std.proofs.lemmas.List.{length-append}
 use Rattle.twe_io.specs.Faults.{Rose}
