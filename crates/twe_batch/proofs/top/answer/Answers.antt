@@ -1,21 +1,16 @@
-use Rattle.std.proofs.Common.{sym, ap, ◌∙◌, refl, subst}
-use Rattle.twe_io.specs.Ends.{source}
-use Rattle.twe_batch.specs.declared.status.BatchStatus.TheVariants.{Usage}
+use Rattle.std.proofs.Common.{ℕ, List, IfOk, sym, ap, ◌∙◌, refl, subst}
+use Rattle.twe_io.specs.declared.status.Status.TheVariants.{Usage}
 use Rattle.twe_io.specs.Answers.{on_err}
+use Rattle.twe_io.specs.Ends.{source}
 use Rattle.twe_batch.specs.Answers.{BatchCause}
-use Rattle.twe_batch.proofs.Causes.{cause_read, short_read}
 use Rattle.twe_batch.proofs.top.answer.Goals as goal
 
--- what was read is answered
+-- the words are the one that asks for this
 pub returns-in-Some : goal.returns-in-Some
 returns-in-Some g c =
     let src = source g.S.Source.left g.S.Source.faults g.S.Source.read_gives in
-    cause_read src c.args.words.now _ _ c.in-Some.job c.read_text-read.result c.answer_read.result c.in-Some.ensures c.read_text-read.ensures c.answer_read.ensures
-
-pub answer_read-requires : goal.answer_read-requires
-answer_read-requires g c =
-    let src = source g.S.Source.left g.S.Source.faults g.S.Source.read_gives in
-    (c.type_bounds.sync-R, short_read src _ _ c.read_text-read.result c.read_text-read.ensures)
+    subst (λ (words : List (List ℕ)). IfOk c.answer_source.result (BatchCause src words c.args.src.now c.answer_source.new.src)) (sym c.in-Some.ensures)
+    c.answer_source.ensures
 
 -- the words ask for nothing
 pub returns-in_ok-usage_text-in-None : goal.returns-in_ok-usage_text-in-None
