@@ -32,13 +32,13 @@ task void main() pure { future f = c.executeLater(); future g = e.executeLater()
 ";
 
 /// Makes one call over these ends and with this gate, and says its status.
-fn call<R: Threads + Wait + Sync, S: Source, G: Gate + Sync>(
+fn call<R: Threads + Wait + Sync, S: Source, O: Sink, E: Sink, G: Gate + Sync>(
     rt: &R,
     alloc: Global,
     words: &[&str],
     src: &mut S,
-    out: &mut PlainSink,
-    err: &mut PlainSink,
+    out: &mut O,
+    err: &mut E,
     gate: &G,
 ) -> Result<u8, Memory> {
     let mut list = Vec::new(alloc);
@@ -50,6 +50,17 @@ fn call<R: Threads + Wait + Sync, S: Source, G: Gate + Sync>(
     Ok(status.code())
 }
 
+/// Makes the call `run` over these ends, and says its status.
+fn run<R: Threads + Wait + Sync, S: Source, O: Sink, E: Sink>(
+    rt: &R,
+    alloc: Global,
+    src: &mut S,
+    out: &mut O,
+    err: &mut E,
+) -> Result<u8, Memory> {
+    call(rt, alloc, &["run"], src, out, err, &FreeGate)
+}
+
 #[test]
 fn a_source_that_fails_at_any_call_is_a_read_fault(rt: HostRuntime) -> Result<(), Fail> {
     for at in 1..29u64 {
@@ -57,15 +68,7 @@ fn a_source_that_fails_at_any_call_is_a_read_fault(rt: HostRuntime) -> Result<()
         let mut src = MemSource::new(text, 1, Calls::from_slice(rt.alloc(), &[at])?);
         let mut out = PlainSink::new(rt.alloc(), 200)?;
         let mut err = PlainSink::new(rt.alloc(), 200)?;
-        let status = call(
-            &rt,
-            rt.alloc(),
-            &["run"],
-            &mut src,
-            &mut out,
-            &mut err,
-            &FreeGate,
-        )?;
+        let status = run(&rt, rt.alloc(), &mut src, &mut out, &mut err)?;
         // The text has 26 bytes, and call 27 finds the end.
         assert_eq!(rt; status, if at < 28 { 5 } else { 0 });
         let wanted = if at < 28 {
@@ -85,19 +88,8 @@ fn a_sink_that_fails_at_any_call_keeps_what_it_took(rt: HostRuntime) -> Result<(
         let fails = Calls::from_slice(rt.alloc(), &[at])?;
         let mut out = MemSink::new(rt.alloc(), 200, 1, fails)?;
         let mut err = PlainSink::new(rt.alloc(), 200)?;
-        let mut book = Book::new(rt.alloc());
-        let words = [Word::from_text(rt.alloc(), "run")?];
-        let status = twe(
-            &rt,
-            rt.alloc(),
-            &words,
-            &mut src,
-            &mut out,
-            &mut err,
-            &FreeGate,
-            &mut book,
-        );
-        assert_eq!(rt; status.code(), if at < 16 { 6 } else { 0 });
+        let status = run(&rt, rt.alloc(), &mut src, &mut out, &mut err)?;
+        assert_eq!(rt; status, if at < 16 { 6 } else { 0 });
         assert_eq!(rt; out.bytes(), &RESULT[..(at - 1) as usize]);
         assert_eq!(rt; err.bytes().len(), 0);
     }
@@ -111,19 +103,8 @@ fn a_sink_of_errors_that_fails_at_any_call_keeps_what_it_took(rt: HostRuntime) -
         let fails = Calls::from_slice(rt.alloc(), &[at])?;
         let mut out = PlainSink::new(rt.alloc(), 200)?;
         let mut err = MemSink::new(rt.alloc(), 200, 1, fails)?;
-        let mut book = Book::new(rt.alloc());
-        let words = [Word::from_text(rt.alloc(), "run")?];
-        let status = twe(
-            &rt,
-            rt.alloc(),
-            &words,
-            &mut src,
-            &mut out,
-            &mut err,
-            &FreeGate,
-            &mut book,
-        );
-        assert_eq!(rt; status.code(), if at < 21 { 6 } else { 1 });
+        let status = run(&rt, rt.alloc(), &mut src, &mut out, &mut err)?;
+        assert_eq!(rt; status, if at < 21 { 6 } else { 1 });
         assert_eq!(rt; err.bytes(), &REFUSAL[..(at - 1) as usize]);
         assert_eq!(rt; out.bytes().len(), 0);
     }
