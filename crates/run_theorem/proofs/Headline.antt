@@ -1,5 +1,5 @@
 -- From the answer of a call whose status is 0 to the run theorem.
-use Rattle.std.proofs.Common.{◌≡◌, ◌≤◌, ℕ, ℤ, Bool, true, false, List, [], length, Option, Some, Ok, refl, sym, ap, ◌∙◌, subst, arith}
+use Rattle.std.proofs.Common.{◌≡◌, ◌≤◌, ℕ, ℤ, Bool, true, false, List, [], length, Option, Ok, refl, sym, ap, ◌∙◌, subst, arith}
 use Rattle.seg_journal.specs.declared.journal.Entry.{Entry}
 use Rattle.twe_base.specs.Language.{max_text_bytes}
 use Rattle.twe_base.specs.Limits.{Bounds}

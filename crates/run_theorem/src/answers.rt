@@ -11,19 +11,23 @@ ghost use Rattle.text_answers.specs.Answers.{IsAnswerTo};
 ghost use Rattle.twe_io.specs.declared.status.Status.TheVariants.{Done};
 
 use crate::accepted::accepted_programs_are_well_formed;
+use status_laws::{deterministic_runs_are_never_stuck, runs_finish_if_one_does};
 use text_answers::deterministic_mains_have_one_result_text;
-use twe_frontend::one_program;
+use twe_frontend::{one_program, refused_or_accepted};
 
 /// If `main` of an accepted text is deterministic, the answer to its run does not depend on the number of workers, or on which
-/// worker did what: two runs of the text under the same limits that both end with status 0, and were not asked for their
-/// journals, have the same answer, byte for byte.
+/// worker did what: if one run of the text that was not asked for its journal ends with status 0, then each other one under the
+/// same limits has the same answer, byte for byte, and so the same status.
 pub fn deterministic_mains_have_one_answer()
     ensures { (text : List ℕ) (p : Program) (workers crew : ℕ) (lim : Bounds) (answer other : Answer)
         → length text ≤ max_text_bytes → Accepted text p → MainIsDeterministic p → IsWithin lim.fuel lim.tasks
         → IsAnswerTo (Run workers lim false) text answer → answer.status ≡ Done
-        → IsAnswerTo (Run crew lim false) text other → other.status ≡ Done → answer ≡ other }
+        → IsAnswerTo (Run crew lim false) text other → answer ≡ other }
 {
     accepted_programs_are_well_formed();
     deterministic_mains_have_one_result_text();
+    deterministic_runs_are_never_stuck();
+    runs_finish_if_one_does();
     one_program();
+    refused_or_accepted();
 }
