@@ -10,11 +10,11 @@ mod telling;
 mod tests;
 mod top;
 
+use run_gates::FreeGate;
 use std::process::ExitCode;
 use text_answers::Book;
 use top::twe;
 use twe_io::{StdSink, StdSource, words_of};
-use twe_rounds::FreeGate;
 
 fn main(rt: HostRuntime) -> ExitCode {
     let alloc = rt.alloc();

@@ -14,7 +14,7 @@ use crate::crew::twe_crew;
 use crate::single::twe_single;
 use crate::telling::tell;
 use command_line::{Command, WordsFail, every_list_is_decided, one_command, read_words};
-use floor_crew::Gate;
+use run_gates::Gate;
 use std::alloc::Global;
 use std::sync::Wait;
 use std::thread::Threads;
