@@ -116,13 +116,11 @@ fn run_next(
     requires { IsSound p.now lim run.old }
     ensures { OnOk result (HasGoneOn p.now lim run.old.rest.journal run.new) }
 {
-    match look(p, &run.rest.state, &run.enabled, task) {
-        Found::Runs => {
-            let kind = Kind::Run;
-            take(alloc, p, lim, run, book, Move { kind, task })
-        }
-        _ => Ok(()),
-    }
+    let Found::Runs = look(p, &run.rest.state, &run.enabled, task) else {
+        return Ok(());
+    };
+    let kind = Kind::Run;
+    take(alloc, p, lim, run, book, Move { kind, task })
 }
 
 /// Takes a legal move, and notes it in the book.

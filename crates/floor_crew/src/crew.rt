@@ -14,6 +14,7 @@ use crate::book::Book;
 use crate::going_on::go_on;
 use effect_tree::Shape;
 use flat_sched::stuck_cycle;
+use run_gates::Gate;
 use seg_journal::Journal;
 use std::alloc::Global;
 use std::marker::Model;
@@ -23,7 +24,7 @@ use std::thread::Threads;
 use twe_base::{Limits, Memory};
 use twe_machine::{Outcome, State, lowest, outcome};
 use twe_program::Prog;
-use twe_rounds::{Gate, Quietly, lost};
+use twe_rounds::{Quietly, lost};
 
 /// A run of a program by workers on a floor. Once memory runs out, a crew has lost its run, and answers `Memory` from then on.
 #[derive(Drop)]

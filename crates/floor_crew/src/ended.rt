@@ -1,6 +1,5 @@
 //! What a worker knows of tasks that have ended, for the tasks of its list that wait for them or are held back by them.
 
-use seg_journal::{End, Entry, Journal, Kind, Move};
 use std::alloc::Global;
 use std::collections::BTreeMap;
 use twe_base::Memory;
@@ -9,8 +8,8 @@ use twe_rounds::Waiting;
 /// Tasks that were found done, and those that are awaited: others wait for them, or are held back by them.
 #[derive(Drop)]
 pub(crate) struct Ended {
-    // The ends of the tasks that were found done, as entries of a journal, which a list of waiting tasks reads.
-    ends: Journal,
+    // The tasks that were found done since the worker's list was told last.
+    done: Vec<u32>,
     // The awaited tasks that were not found done yet, each once.
     awaited: Vec<u32>,
     // The same tasks.
@@ -23,7 +22,7 @@ impl Ended {
     /// Nothing is known.
     pub(crate) fn new(alloc: Global) -> Self {
         Ended {
-            ends: Journal::new(alloc),
+            done: Vec::new(alloc),
             awaited: Vec::new(alloc),
             listed: BTreeMap::new(alloc),
             at: 0,
@@ -32,14 +31,8 @@ impl Ended {
 
     /// A task has ended with a value.
     pub(crate) fn end(&mut self, task: u32) -> Result<(), Memory> {
-        let mv = Move {
-            kind: Kind::Run,
-            task,
-        };
-        self.ends.push(Entry {
-            mv,
-            end: End::Done { value: 0 },
-        })
+        self.done.push(task)?;
+        Ok(())
     }
 
     /// Some task waits for this one, or is held back by it.
@@ -74,8 +67,12 @@ impl Ended {
         self.end(task)
     }
 
-    /// Tells a worker's list which tasks were found done.
-    pub(crate) fn tell(&self, waiting: &mut Waiting) -> Result<(), Memory> {
-        waiting.read(self.ends.as_slice())
+    /// Tells a worker's list which tasks were found done since it was told last.
+    pub(crate) fn tell(&mut self, waiting: &mut Waiting) -> Result<(), Memory> {
+        for task in self.done.iter() {
+            waiting.end(*task)?;
+        }
+        self.done.clear();
+        Ok(())
     }
 }

@@ -12,13 +12,13 @@ use crate::book::Book;
 use crate::quiet::next_move;
 use crate::round::round;
 use effect_tree::Shape;
+use run_gates::Gate;
 use std::alloc::Global;
 use std::marker::Brand;
 use std::sync::Wait;
 use std::thread::Threads;
 use twe_base::{Limits, Memory};
 use twe_program::Prog;
-use twe_rounds::Gate;
 
 /// Takes the lowest legal move, if the run can go on, and then moves at rest, and a round whenever two tasks may run beside each
 /// other, until no task may go on. Returns the run after that.

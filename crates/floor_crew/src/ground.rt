@@ -7,6 +7,7 @@ use effect_tree::Shape;
 use floor_rule::Phase;
 use floor_table::Named;
 use floor_table::nodes::Planted;
+use run_gates::Gate;
 use std::alloc::Global;
 use std::marker::{Model, PhantomData};
 use std::sync::Wait;
@@ -17,7 +18,7 @@ use task_floor::steps::Served;
 use tree_admit::serving::{Admission, TreeWorker, Workshop};
 use twe_base::{Limits, Memory};
 use twe_program::Prog;
-use twe_rounds::{Gate, Look};
+use twe_rounds::Look;
 
 /// How often an admission is tried again at once.
 const MOST_TRIES: u32 = 16;

@@ -7,10 +7,11 @@ use crate::located::Located;
 use crate::on_floor::OnFloor;
 use floor_table::Named;
 use floor_table::nodes::Planted;
+use run_gates::Gate;
 use std::marker::{Model, PhantomData};
 use std::sync::Wait;
 use tree_admit::serving::TreeWorker;
-use twe_rounds::{Gate, Site, Worker};
+use twe_rounds::{Site, Worker};
 
 /// A worker of a round with its deck, and with its stand on the floor, unless it found no memory.
 #[derive(Drop)]

@@ -24,4 +24,3 @@ mod stands;
 
 pub use crew::FloorCrew;
 pub use rounds::run_on_floor;
-pub use twe_rounds::{FreeGate, Gate, MeetGate};

@@ -8,13 +8,14 @@ use crate::located::Located;
 use floor_rule::Phase;
 use floor_table::Named;
 use floor_table::nodes::Planted;
+use run_gates::Gate;
 use seg_journal::End;
 use std::marker::Model;
 use std::sync::Wait;
 use task_floor::steps::Served;
 use tree_admit::serving::TreeWorker;
 use twe_base::Memory;
-use twe_rounds::{Gate, Look, RoundAccess, Waiting, lost};
+use twe_rounds::{Look, RoundAccess, Waiting, lost};
 
 /// How many awaited tasks a worker looks at before it goes on.
 const GLANCES: usize = 64;

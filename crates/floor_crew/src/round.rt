@@ -13,6 +13,7 @@ use crate::stands::{join_all, split_all};
 use effect_tree::Shape;
 use floor_table::Named;
 use floor_table::nodes::Planted;
+use run_gates::Gate;
 use seg_journal::JournalPart;
 use std::alloc::Global;
 use std::marker::Brand;
@@ -24,7 +25,7 @@ use task_floor::steps::Rest;
 use task_floor::{Floor, Stand};
 use twe_base::{Limits, List, Memory};
 use twe_program::Prog;
-use twe_rounds::{Gate, Site, Team, deal};
+use twe_rounds::{Site, Team, deal};
 
 /// A round of so many workers: the run goes on a floor, on which they admit tasks and run segments at the same time, until they
 /// find no task that may go on. Returns the run after that, whose journal begins with the one from before.
@@ -87,7 +88,7 @@ fn lend<
 {
     let mut stand = stand;
     let pending = AtomicU64::new(team.pending);
-    let mut hands = split_all::<N, F>(alloc, floor, &mut stand, team.workers)?;
+    let mut hands = split_all::<N, F>(alloc, floor, &mut stand, team.workers, workers)?;
     let ground: Ground<'_, N, F> = Ground::new(alloc, floor, p, shape, lim);
     let shared = Shared {
         rt,

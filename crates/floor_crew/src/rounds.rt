@@ -5,6 +5,7 @@ ghost use Rattle.twe_machine.specs.LowestFirst.{IsOver};
 ghost use Rattle.twe_machine.specs.Runs.{Legal, state_after};
 
 use crate::crew::FloorCrew;
+use run_gates::Gate;
 use seg_journal::Journal;
 use std::alloc::Global;
 use std::sync::Wait;
@@ -12,7 +13,6 @@ use std::thread::Threads;
 use twe_base::{Limits, Memory};
 use twe_machine::State;
 use twe_program::Prog;
-use twe_rounds::Gate;
 
 /// Runs the program under these limits to its end, by this many workers, 1 to 64, who run segments at the same time on one floor.
 /// Returns the journal of the run and the state that it leads to. Which of the legal journals it is depends on the workers. After a

@@ -14,12 +14,13 @@ use tree_admit::serving::TreeWorker;
 use twe_base::{List, Memory};
 use twe_rounds::{Worker, lost};
 
-/// A stand for each worker, split off from the main one.
+/// A stand for each of the workers, of whom there are so many, split off from the main one.
 pub(crate) fn split_all<N: Named + Planted, F: Located>(
     alloc: Global,
     floor: &Floor<N>,
     stand: &mut Stand,
     players: Vec<Worker>,
+    workers: u32,
 ) -> Result<Vec<Hand<F>>, Memory>
     requires located { floor.now ≡ F.table }
     requires new { IsNewOn F.table stand.old 0 }
@@ -28,12 +29,12 @@ pub(crate) fn split_all<N: Named + Planted, F: Located>(
 {
     let mut players = players;
     let mut hands = Vec::new(alloc);
-    while let Some(player) = players.pop() {
-        let Ok(number) = u32::try_from(hands.len() + 1) else {
-            return Err(lost());
+    for before in 0..workers {
+        let Some(player) = players.pop() else {
+            break;
         };
         let other = floor.split(stand);
-        let worker = TreeWorker::new(number, other, EntryLog::new(alloc));
+        let worker = TreeWorker::new(before + 1, other, EntryLog::new(alloc));
         hands.push(Hand::new(player, worker))?;
     }
     Ok(hands)

@@ -2,7 +2,8 @@
 //! admitted in that round, whether while the run lies still or by its workers.
 ghost use Rattle.std.specs.Prelude.{◌≤◌};
 
-use floor_crew::{FloorCrew, FreeGate, Gate};
+use floor_crew::FloorCrew;
+use run_gates::{FreeGate, Gate};
 use seg_journal::{End, Entry, Kind, Move};
 use std::alloc::Global;
 use std::sync::Wait;

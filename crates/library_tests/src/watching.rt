@@ -1,7 +1,7 @@
 //! What a gate sees of several workers on a floor: three tasks are under way at once only if three workers have run them. So each
 //! worker has found tasks that another one made, and has gone on after its first segment.
 use crate::crews::{all_done, step_and_round};
-use floor_crew::Gate;
+use run_gates::Gate;
 use std::sync::atomic::{AtomicBool, AtomicU64, Ordering};
 use std::test::Fail;
 use std::{hint, thread};

@@ -6,6 +6,7 @@ use crate::access::{Lent, Locked};
 use crate::kept::Kept;
 use crate::round_core::RoundCore;
 use opt_engine::CoreRun;
+use run_gates::FreeGate;
 use std::alloc::Global;
 use std::sync::atomic::AtomicU64;
 use std::sync::{Mutex, Wait};
@@ -13,7 +14,7 @@ use std::thread;
 use std::thread::Threads;
 use twe_base::{Limits, Memory};
 use twe_program::Prog;
-use twe_rounds::{FreeGate, Game, RoundName, Site, Worker, deal, lost};
+use twe_rounds::{Game, RoundName, Site, Worker, deal, lost};
 
 /// The run after the moves of a single worker, which begins with the task `first`.
 pub(crate) fn alone<N: RoundName, R: Wait>(

@@ -9,6 +9,7 @@ use Rattle.region_paths.specs.declared.elements.Elem.{Elem}
 use Rattle.effect_sets.specs.declared.effects.Effect.{Effect}
 use Rattle.prefix_tree.specs.Nodes.{IsTreeOfPaths}
 use Rattle.twe_base.specs.Limits.{Bounds}
+use Rattle.twe_program.specs.Program.{Program}
 use Rattle.floor_rule.specs.declared.view.HeldTurn.{HeldTurn}
 use Rattle.floor_table.specs.declared.view.View.{View}
 use Rattle.floor_table.proofs.Added.{grown_then}
@@ -38,6 +39,9 @@ use Rattle.tree_admit.specs.Descents.{HasTakenOut, HasTried}
 use Rattle.tree_admit.specs.Errands.{KnowsErrand, MaySetOutFor, record_of, with_clear, with_placed, with_removed}
 use Rattle.tree_admit.specs.Going.{HasLeft, IsOutside}
 use Rattle.tree_admit.specs.Outcomes.{HasPlaced, IsTakenOut, missing, placed, removed, stood}
+use Rattle.tree_admit.specs.Alone.{MayNotAdmitIfAlone}
+use Rattle.tree_admit.specs.inner.Served.{HasOnlyServed}
+use Rattle.tree_admit.proofs.Alone.{forbids}
 use Rattle.tree_admit.proofs.Learning.{barred_kept, barred_since}
 
 -- Lists of records.
@@ -312,15 +316,30 @@ module _ (nodes : List (List Elem)) (t : ℕ) (effects : List Effect) where
       (λ (one : IsOneOfFirst nodes t effects k r). out.gone r one among)
       (h.only r (out.only r among))
 
+  -- of the floor it knows what it knew
+  kept_served : (a b : TreeSeat) → KeepsAllElse t a b → HasOnlyServed t a.0.floor b.0.floor
+  kept_served a b keeps = record {
+    kind = ap (λ (f : View). f.kind) keeps.floor;
+    out = ap (λ (f : View). f.out) keeps.floor;
+    part = ap (λ (f : View). f.part) keeps.floor;
+    turns = λ w other. ap (λ (f : View). turn_in f.turns w) keeps.floor;
+    own = λ turn has. ap (λ (f : View). turn_in f.turns t) keeps.floor ∙ has;
+  }
+
+  -- what was in the way of the only seat forbids the admission
+  pub barred_forbids : (p : Program) (lim : Bounds) (v w : TreeView) (bar : Bar) → MayTryToAdmit v t effects → WasBarredFor p lim v w t effects bar → bar.by < lim.tasks → MayNotAdmitIfAlone p lim v.floor t
+  barred_forbids p lim v w bar may (e, contains, (content, added, (r, among, is))) low st alone only =
+      forbids p lim v.floor st t r e may.turn (is.alone low st alone only) is.other may.has.has (subst (λ (es : List Effect). Contains es e) (sym may.has.its) contains) is.meets
+
   -- what was in the way was so
-  pub barred_still : (lim : Bounds) (since before after : TreeSeat) (bar : Bar) → KeepsAllElse t before after → WasBarredFor lim since.0 before.0 t effects bar → WasBarredFor lim since.0 after.0 t effects bar
-  barred_still lim since before after bar keeps (e, contains, was) =
-      (e, contains, barred_kept lim t e since.0 before.0 after.0 bar (record { waits = keeps.waits; kept = keeps.kept; looks = keeps.looks }) was)
+  pub barred_still : (p : Program) (lim : Bounds) (since before after : TreeSeat) (bar : Bar) → KeepsAllElse t before after → WasBarredFor p lim since.0 before.0 t effects bar → WasBarredFor p lim since.0 after.0 t effects bar
+  barred_still p lim since before after bar keeps (e, contains, was) =
+      (e, contains, barred_kept p lim t e since.0 before.0 after.0 bar (record { waits = keeps.waits; kept = keeps.kept; looks = keeps.looks }) was)
 
   -- what was met now was met since any seat before
-  pub met_since : (lim : Bounds) (kind : ErrandKind) (a b c : TreeSeat) (by : Obstacle) → KeepsAllElse t a b → IsObstacle lim kind b.0 c.0 t effects by → IsObstacle lim kind a.0 c.0 t effects by
-  met_since lim kind a b c (InTheWay bar) keeps (is, (e, contains, was)) = (is, (e, contains, barred_since lim t e a.0 b.0 c.0 bar keeps.kept keeps.looks was))
-  met_since lim kind a b c (NoMemory memory) keeps is = tt
+  pub met_since : (p : Program) (lim : Bounds) (kind : ErrandKind) (a b c : TreeSeat) (by : Obstacle) → KeepsAllElse t a b → IsObstacle p lim kind b.0 c.0 t effects by → IsObstacle p lim kind a.0 c.0 t effects by
+  met_since p lim kind a b c (InTheWay bar) keeps (is, (e, contains, was)) = (is, (e, contains, barred_since p lim t e a.0 b.0 c.0 bar keeps.kept keeps.looks (kept_served a b keeps) was))
+  met_since p lim kind a b c (NoMemory memory) keeps is = tt
 
   -- One effect.
 
@@ -345,18 +364,18 @@ module _ (nodes : List (List Elem)) (t : ℕ) (effects : List Effect) where
       more,
     )
 
-    pub placed_of : (lim : Bounds) (before after : TreeSeat) (attempt : Attempt) → attempt ≡ Placed → HasTried lim before.0 before.1 errand e attempt after → RecordStands nodes t effects k before after
-    placed_of lim before after attempt is came = (record_of errand e, record_is, placed (subst (λ (a : Attempt). HasTried lim before.0 before.1 errand e a after) is came))
+    pub placed_of : (p : Program) (lim : Bounds) (before after : TreeSeat) (attempt : Attempt) → attempt ≡ Placed → HasTried p lim before.0 before.1 errand e attempt after → RecordStands nodes t effects k before after
+    placed_of p lim before after attempt is came = (record_of errand e, record_is, placed (subst (λ (a : Attempt). HasTried p lim before.0 before.1 errand e a after) is came))
 
-    pub stood_of : (lim : Bounds) (before after : TreeSeat) (attempt : Attempt) → attempt ≡ Stood → HasTried lim before.0 before.1 errand e attempt after → RecordStands nodes t effects k before after
-    stood_of lim before after attempt is came =
-        let found = subst (λ (a : Attempt). HasTried lim before.0 before.1 errand e a after) is came in
+    pub stood_of : (p : Program) (lim : Bounds) (before after : TreeSeat) (attempt : Attempt) → attempt ≡ Stood → HasTried p lim before.0 before.1 errand e attempt after → RecordStands nodes t effects k before after
+    stood_of p lim before after attempt is came =
+        let found = subst (λ (a : Attempt). HasTried p lim before.0 before.1 errand e a after) is came in
         (record_of errand e, record_is, stood found.1 found.0)
 
-    pub barred_of : (lim : Bounds) (before after : TreeSeat) (attempt : Attempt) (bar : Bar) → attempt ≡ Barred bar → HasTried lim before.0 before.1 errand e attempt after
-        → HasMet lim kind t effects (InTheWay bar) before after
-    barred_of lim before after attempt bar is came =
-        let found = subst (λ (a : Attempt). HasTried lim before.0 before.1 errand e a after) is came in
+    pub barred_of : (p : Program) (lim : Bounds) (before after : TreeSeat) (attempt : Attempt) (bar : Bar) → attempt ≡ Barred bar → HasTried p lim before.0 before.1 errand e attempt after
+        → HasMet p lim kind t effects (InTheWay bar) before after
+    barred_of p lim before after attempt bar is came =
+        let found = subst (λ (a : Attempt). HasTried p lim before.0 before.1 errand e a after) is came in
         (found.0, (found.1, (e, contains, found.2)))
 
     pub taken_out_of : (before after : TreeSeat) (taken : Bool) → HasTakenOut before.0 before.1 errand e taken after

@@ -1,6 +1,7 @@
 -- A view that learns goes on to know what it knew.
 use Rattle.std.proofs.Common.{◌≡◌, ◌≢◌, ◌++◌, ℕ, List, Some, refl, sym, ap, subst, ◌∙◌, inl, inr, ⊎_elim}
 use Rattle.twe_base.specs.Limits.{Bounds}
+use Rattle.twe_program.specs.Program.{Program}
 use Rattle.floor_rule.specs.nodes.Trees.{WaitFact}
 use Rattle.floor_table.specs.Added.{HasGrown}
 use Rattle.floor_table.specs.declared.nodes.view.Look.{Look}
@@ -16,6 +17,8 @@ use Rattle.floor_rule.specs.nodes.LockSteps.{IsKnownToPass, apart, own, waiting}
 use Rattle.tree_admit.specs.declared.bars.Bar.{Bar}
 use Rattle.tree_admit.specs.Bars.{IsBarOf, IsLedTo, WasBarred}
 use Rattle.tree_admit.specs.Going.{HasOnlyLearned}
+use Rattle.tree_admit.specs.inner.Served.{HasOnlyServed}
+use Rattle.tree_admit.proofs.Alone.{in_the_way_since}
 
 pub learned_refl : (v : TreeView) → HasOnlyLearned v v
 learned_refl v = record { floor = refl; done = λ fact h. h; waits = λ fact h. h; placed = refl; removed = refl; fresh = refl; clear = refl; kept = grown_same v.kept; looks = grown_same v.looks }
@@ -78,8 +81,8 @@ followed_since a b c s u grown is = record {
 }
 
 -- Bars, of which the seat knows more later, and which it has met since any view before.
-module _ (lim : Bounds) (t : ℕ) (e : Effect) where
-  pub bar_kept : (since v w : TreeView) (r : Record) (bar : Bar) → KnowsAll v w → IsBarOf lim since v t e r bar → IsBarOf lim since w t e r bar
+module _ (p : Program) (lim : Bounds) (t : ℕ) (e : Effect) where
+  pub bar_kept : (since v w : TreeView) (r : Record) (bar : Bar) → KnowsAll v w → IsBarOf p lim since v t e r bar → IsBarOf p lim since w t e r bar
   bar_kept since v w r bar h is = record {
     other = is.other;
     meets = is.meets;
@@ -88,22 +91,24 @@ module _ (lim : Bounds) (t : ℕ) (e : Effect) where
         (λ (known : IsAmong (record { waiter = bar.by; awaited = bar.end }) v.waits). inr (h.waits (record { waiter = bar.by; awaited = bar.end }) known)) is.leads;
     elsewhere = is.elsewhere;
     followed = λ low. followed_then since.looks v.looks w.looks bar.by bar.end (is.followed low) h.looks;
+    alone = is.alone;
   }
 
-  pub bar_since : (u v w : TreeView) (r : Record) (bar : Bar) → HasGrown u.looks v.looks → IsBarOf lim v w t e r bar → IsBarOf lim u w t e r bar
-  bar_since u v w r bar grown is = record {
+  pub bar_since : (u v w : TreeView) (r : Record) (bar : Bar) → HasGrown u.looks v.looks → HasOnlyServed t u.floor v.floor → IsBarOf p lim v w t e r bar → IsBarOf p lim u w t e r bar
+  bar_since u v w r bar grown served is = record {
     other = is.other;
     meets = is.meets;
     task = is.task;
     leads = is.leads;
     elsewhere = is.elsewhere;
     followed = λ low. followed_since u.looks v.looks w.looks bar.by bar.end grown (is.followed low);
+    alone = λ low. in_the_way_since p lim t r u.floor v.floor served (is.alone low);
   }
 
-  pub barred_kept : (since v w : TreeView) (bar : Bar) → KnowsAll v w → WasBarred lim since v t e bar → WasBarred lim since w t e bar
+  pub barred_kept : (since v w : TreeView) (bar : Bar) → KnowsAll v w → WasBarred p lim since v t e bar → WasBarred p lim since w t e bar
   barred_kept since v w bar h (content, added, (r, among, is)) =
       (content, added_then (record { node = bar.node; content = Some content }) since.kept v.kept w.kept added h.kept, (r, among, bar_kept since v w r bar h is))
 
-  pub barred_since : (u v w : TreeView) (bar : Bar) → HasGrown u.kept v.kept → HasGrown u.looks v.looks → WasBarred lim v w t e bar → WasBarred lim u w t e bar
-  barred_since u v w bar kept looks (content, added, (r, among, is)) =
-      (content, added_before (record { node = bar.node; content = Some content }) u.kept v.kept w.kept kept added, (r, among, bar_since u v w r bar looks is))
+  pub barred_since : (u v w : TreeView) (bar : Bar) → HasGrown u.kept v.kept → HasGrown u.looks v.looks → HasOnlyServed t u.floor v.floor → WasBarred p lim v w t e bar → WasBarred p lim u w t e bar
+  barred_since u v w bar kept looks served (content, added, (r, among, is)) =
+      (content, added_before (record { node = bar.node; content = Some content }) u.kept v.kept w.kept kept added, (r, among, bar_since u v w r bar looks served is))

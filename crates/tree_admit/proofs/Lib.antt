@@ -1,4 +1,5 @@
 -- What views know, and what of contents is known after a change.
+pub mod Alone
 pub mod Learning
 pub mod Contents
 -- The steps of a worker in the tree.

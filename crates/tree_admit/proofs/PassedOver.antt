@@ -1,5 +1,5 @@
 -- Records that a walk along the waits passed over: their tasks lead to the task that it came to, or they pass whatever is known.
-use Rattle.std.proofs.Common.{◌≡◌, ◌⊎◌, ℕ, true, not, List, IsTrue, subst, inl, inr, ⊎_elim}
+use Rattle.std.proofs.Common.{◌≡◌, ◌≢◌, ◌⊎◌, ◌||◌, ℕ, Bool, true, false, not, List, IsTrue, refl, subst, inl, inr, ⊎_elim, eq-eqb}
 use Rattle.std.specs.Prelude.{◌==◌}
 use Rattle.std.proofs.lemmas.Bool.{eqb-true, not-true, or_cases}
 use Rattle.effect_sets.specs.declared.effects.Effect.{Effect}
@@ -27,6 +27,15 @@ ease_passes waits t e r is =
     (λ same. own (eqb-true r.task t same))
     (λ away. apart (apart_effects r.effect e (not-true (statically_interferes r.effect e) away)))
     (or_cases (r.task == t) (not (statically_interferes r.effect e)) is)
+
+-- a record that does not
+pub uneasy : (t : ℕ) (e : Effect) (r : Record) → is_at_ease t e r ≡ false → (r.task ≢ t) × IsTrue (statically_interferes r.effect e)
+uneasy t e r is = by (r.task == t) (statically_interferes r.effect e) refl refl is
+  where
+    by : (same meets : Bool) → (r.task == t) ≡ same → statically_interferes r.effect e ≡ meets → (same || not meets) ≡ false → (r.task ≢ t) × (statically_interferes r.effect e ≡ true)
+    by true meets one two none = absurd (cc (none))
+    by false true one two none = ((λ at. let yes = eq-eqb r.task t at in cc (one, yes)), two)
+    by false false one two none = absurd (cc (none))
 
 pub all_pass_kept : (v w : TreeView) (t : ℕ) (e : Effect) (content : List Record) (k n : ℕ) → HasOnlyLearned v w
     → EachBetween (IsKnownToPass v.waits t e) content k n → EachBetween (IsKnownToPass w.waits t e) content k n

@@ -4,6 +4,7 @@ use mathlib.Core.Option as core
 use Rattle.region_paths.specs.declared.elements.Elem.{Elem}
 use Rattle.effect_sets.specs.declared.effects.Effect.{Effect}
 use Rattle.twe_base.specs.Limits.{Bounds}
+use Rattle.twe_program.specs.Program.{Program}
 use Rattle.admission_laws.specs.admission_core.States.{Activity, Record, Steps}
 use Rattle.floor_table.specs.declared.nodes.slot.TreeSlot.{TreeSlot}
 use Rattle.floor_table.specs.declared.nodes.slot.TreeSlot.TheVariants as kinds
@@ -16,9 +17,10 @@ use Rattle.floor_table.specs.nodes.Seats.{GaveNode, MayGoOn, MayLock, TreeSeat, 
 use Rattle.task_floor.specs.Contents.{HasBehind, HasInHand}
 use Rattle.tree_admit.specs.declared.bars.Bar.{Bar}
 use Rattle.tree_admit.specs.Bars.{IsBarIn, WasBarred}
-use Rattle.tree_admit.specs.Going.{HasLocked, HasNode}
+use Rattle.tree_admit.specs.Going.{HasLocked, HasNode, HasOnlyLearned}
 use Rattle.tree_admit.specs.Errands.{come_to}
 use Rattle.tree_admit.specs.Descents.{MayStepDown}
+use Rattle.tree_admit.proofs.Alone.{learned_served}
 use Rattle.tree_admit.proofs.Contents.{content_added}
 use Rattle.tree_admit.proofs.Entering.{has_come}
 use Rattle.tree_admit.proofs.Learning.{KnowsAll, bar_kept, bar_since}
@@ -54,9 +56,9 @@ module _ (lim : Bounds) (earlier : TreeView) (rest : List (ℕ × TreeSlot)) (a 
   in_hand = record { known = h.known; slot = h.slots }
 
   -- who gives back a node at which a bar stands was barred, since it has had the node
-  pub barred_after : (from : TreeSeat) (t : ℕ) (e : Effect) (bar : Bar) (goes : Option Activity) (final : TreeSeat) → content_in earlier.kept n ≡ None → HasGrown earlier.looks from.0.looks → bar.node ≡ n
-      → IsBarIn lim from.0 me.0 t e content bar → GaveNode me n goes rest final → WasBarred lim earlier final.0 t e bar
-  barred_after from t e bar goes final none looks at (r, among, is) gave =
+  pub barred_after : (p : Program) (from : TreeSeat) (t : ℕ) (e : Effect) (bar : Bar) (goes : Option Activity) (final : TreeSeat) → content_in earlier.kept n ≡ None → HasOnlyLearned earlier from.0 → bar.node ≡ n
+      → IsBarIn p lim from.0 me.0 t e content bar → GaveNode me n goes rest final → WasBarred p lim earlier final.0 t e bar
+  barred_after p from t e bar goes final none learned at (r, among, is) gave =
       let left = unlocked_view me.0 n goes in
       let more : HasGrown me.0.kept left.kept = grown_by (record { node = n; content = None }) me.0.kept left.kept refl in
       let knows : KnowsAll me.0 left = record { waits = λ fact known. known; kept = more; looks = grown_same me.0.looks } in
@@ -64,5 +66,5 @@ module _ (lim : Bounds) (earlier : TreeView) (rest : List (ℕ × TreeSlot)) (a 
       let added = added_then (record { node = n; content = Some content }) earlier.kept me.0.kept left.kept had more in
       let here : IsAdded (record { node = bar.node; content = Some content }) earlier.kept left.kept =
       subst (λ (m : ℕ). IsAdded (record { node = m; content = Some content }) earlier.kept left.kept) (sym at) added in
-      subst (λ (w : TreeSeat). WasBarred lim earlier w.0 t e bar) (sym gave)
-      (content, here, (r, among, bar_kept lim t e earlier me.0 left r bar knows (bar_since lim t e earlier from.0 me.0 r bar looks is)))
+      subst (λ (w : TreeSeat). WasBarred p lim earlier w.0 t e bar) (sym gave)
+      (content, here, (r, among, bar_kept p lim t e earlier me.0 left r bar knows (bar_since p lim t e earlier from.0 me.0 r bar learned.looks (learned_served t earlier from.0 learned) is)))

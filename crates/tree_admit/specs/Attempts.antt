@@ -6,6 +6,7 @@ use Rattle.twe_machine.specs.declared.state.TaskStatus.TheVariants as status
 use Rattle.floor_rule.specs.declared.view.DoneFact.{DoneFact}
 use Rattle.floor_rule.specs.declared.view.HeldTurn.{HeldTurn}
 use Rattle.twe_base.specs.Limits.{Bounds}
+use Rattle.twe_program.specs.Program.{Program}
 use Rattle.floor_table.specs.Added.{HasGrown}
 use Rattle.floor_table.specs.FloorOf.{turn_in}
 use Rattle.admission_laws.specs.admission_core.States.{IsAmong, IsPlaceOf, Record}
@@ -113,26 +114,26 @@ HasPlacedEach nodes v t effects =
     → (n : ℕ) × IsPlaceOf nodes e n × IsAmong (record { task = t; effect = e; node = n }) v.fresh
 
 -- a record was in the way of one of the effects since the seat had the first view
-abbrev pub WasBarredFor : Bounds → TreeView → TreeView → ℕ → List Effect → Bar → Type 0
-WasBarredFor lim since v t effects bar = (e : Effect) × Contains effects e × WasBarred lim since v t e bar
+abbrev pub WasBarredFor : Program → Bounds → TreeView → TreeView → ℕ → List Effect → Bar → Type 0
+WasBarredFor p lim since v t effects bar = (e : Effect) × Contains effects e × WasBarred p lim since v t e bar
 
 -- the record of effect number k of task t stands now
 abbrev pub RecordStands : List (List Elem) → ℕ → List Effect → ℕ → TreeSeat → TreeSeat → Type 0
 RecordStands nodes t effects k before after = (r : Record) × IsRecordOf nodes t effects k r × HasPlaced before r after
 
 -- the bar that was in the way, if one was; nothing if memory ran out
-abbrev pub IsObstacle : Bounds → ErrandKind → TreeView → TreeView → ℕ → List Effect → Obstacle → Type 0
-IsObstacle lim kind since v t effects (InTheWay bar) = (kind ≡ Admission) × WasBarredFor lim since v t effects bar
-IsObstacle lim kind since v t effects (NoMemory memory) = Unit {0}
+abbrev pub IsObstacle : Program → Bounds → ErrandKind → TreeView → TreeView → ℕ → List Effect → Obstacle → Type 0
+IsObstacle p lim kind since v t effects (InTheWay bar) = (kind ≡ Admission) × WasBarredFor p lim since v t effects bar
+IsObstacle p lim kind since v t effects (NoMemory memory) = Unit {0}
 
 -- the seat met this obstacle, and did nothing else
-abbrev pub HasMet : Bounds → ErrandKind → ℕ → List Effect → Obstacle → TreeSeat → TreeSeat → Type 0
-HasMet lim kind t effects by before after =
-    HasLeft before.0 before.1 None after × IsObstacle lim kind before.0 after.0 t effects by
+abbrev pub HasMet : Program → Bounds → ErrandKind → ℕ → List Effect → Obstacle → TreeSeat → TreeSeat → Type 0
+HasMet p lim kind t effects by before after =
+    HasLeft before.0 before.1 None after × IsObstacle p lim kind before.0 after.0 t effects by
 
 -- the seat has placed the records of the first effects, so many as it says, and then met this obstacle
-pub record HasStopped (nodes : List (List Elem)) (lim : Bounds) (kind : ErrandKind) (t : ℕ) (effects : List Effect)
+pub record HasStopped (nodes : List (List Elem)) (p : Program) (lim : Bounds) (kind : ErrandKind) (t : ℕ) (effects : List Effect)
     (stopped : Stopped) (before after : TreeSeat) : Type 0 where
   pub within : stopped.placed < length effects
   pub placed : HasPlacedFirst nodes t effects stopped.placed before after
-  pub by : IsObstacle lim kind before.0 after.0 t effects stopped.by
+  pub by : IsObstacle p lim kind before.0 after.0 t effects stopped.by

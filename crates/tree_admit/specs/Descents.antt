@@ -5,6 +5,7 @@ use Rattle.effect_sets.specs.declared.effects.Effect.{Effect}
 use Rattle.effect_tree.specs.Place.{IsSolid}
 use Rattle.prefix_tree.specs.Nodes.{IsParent}
 use Rattle.twe_base.specs.Limits.{Bounds}
+use Rattle.twe_program.specs.Program.{Program}
 use Rattle.twe_machine.specs.declared.state.TaskStatus.TheVariants as status
 use Rattle.floor_rule.specs.declared.view.HeldTurn.{HeldTurn}
 use Rattle.admission_laws.specs.admission_core.States.{Activity, Descends, IsAbove, IsAmong, ActivityIsOver, Record, Walks}
@@ -96,11 +97,11 @@ abbrev pub MayTakeOutOf : HeldTurn → Type 0
 MayTakeOutOf turn = (turn.first ≡ false) × (turn.row.status ≢ status.Enabled)
 
 -- how a try to place the record of an errand ended: a record that stood already had been placed by the seat before
-abbrev pub HasTried : Bounds → TreeView → List (ℕ × TreeSlot) → Errand → Effect → Attempt → TreeSeat → Type 0
-HasTried lim earlier rest errand e Placed me = HasLeft (with_placed (record_of errand e) earlier) rest None me
-HasTried lim earlier rest errand e Stood me = HasLeft earlier rest None me × IsAmong (record_of errand e) earlier.fresh
-HasTried lim earlier rest errand e (Barred bar) me =
-    HasLeft earlier rest None me × (errand.kind ≡ Admission) × WasBarred lim earlier me.0 errand.task e bar
+abbrev pub HasTried : Program → Bounds → TreeView → List (ℕ × TreeSlot) → Errand → Effect → Attempt → TreeSeat → Type 0
+HasTried p lim earlier rest errand e Placed me = HasLeft (with_placed (record_of errand e) earlier) rest None me
+HasTried p lim earlier rest errand e Stood me = HasLeft earlier rest None me × IsAmong (record_of errand e) earlier.fresh
+HasTried p lim earlier rest errand e (Barred bar) me =
+    HasLeft earlier rest None me × (errand.kind ≡ Admission) × WasBarred p lim earlier me.0 errand.task e bar
 
 -- how taking out the record of an errand ended: whether it was there; if it was not, the seat had not placed it
 abbrev pub HasTakenOut : TreeView → List (ℕ × TreeSlot) → Errand → Effect → Bool → TreeSeat → Type 0

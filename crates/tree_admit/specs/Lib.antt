@@ -1,9 +1,11 @@
 pub mod Going
 pub mod Errands
+pub mod Alone
 pub mod Bars
 pub mod Passing
 pub mod Descents
 pub mod Outcomes
 pub mod Attempts
+pub mod inner
 pub mod ways
 pub mod serving

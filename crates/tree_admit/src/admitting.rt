@@ -1,9 +1,10 @@
 //! Trying to admit a task.
-ghost use Rattle.std.specs.Prelude.{◌≡◌, ◌<◌, ◌^◌, Ok, OnErr, length};
+ghost use Rattle.std.specs.Prelude.{◌≡◌, ◌<◌, Ok, OnErr};
 ghost use Rattle.floor_rule.specs.nodes.FactSteps.{HasPlacedAll};
 ghost use Rattle.floor_table.specs.nodes.Seats.{tree_seen, turns_seen};
 ghost use Rattle.tree_admit.specs.declared.admitting.Admittance.TheVariants as admittances;
 ghost use Rattle.tree_admit.specs.declared.bars.Bar as bars;
+ghost use Rattle.tree_admit.specs.Alone.{MayNotAdmitIfAlone};
 ghost use Rattle.tree_admit.specs.Attempts.{HasPlacedNone, KeepsAllElse, MayTryToAdmit, WasBarredFor};
 ghost use Rattle.tree_admit.specs.Outcomes.{StandsOn};
 
@@ -34,7 +35,8 @@ pub enum Admittance {
 
 /// Tries to place a record for each effect of a task whose turn the stand took, which is still to be admitted and of which no
 /// record stands. These are the task's effects. If all were placed, the task's admission may be drawn. If a record was in the
-/// way, or memory ran out, no record of the task stands.
+/// way, or memory ran out, no record of the task stands. A stand that is the only one, and has no other turn, is held only if it is
+/// not legal to admit the task.
 pub fn try_admit<R: Wait, N: Named + Planted>(
     rt: &R,
     alloc: Global,
@@ -48,13 +50,14 @@ pub fn try_admit<R: Wait, N: Named + Planted>(
     requires here { stand.old.table_id ≡ floor.now }
     requires shape { shape.now ≡ N.nodes }
     requires ready { StandsOn N.lim footing stand.old.me }
-    requires few { length effects.now < 2 ^ 32 }
     requires may { MayTryToAdmit stand.old.me.0 task effects.now }
     ensures admitted { result ≡ Ok admittances.Admitted
         → HasPlacedAll N.nodes (turns_seen stand.new.me.0) (tree_seen stand.new.me.0) 0 task }
     ensures held { (bar : bars.Bar) → result ≡ Ok (admittances.Held bar)
         → HasPlacedNone stand.new.me.0 task
-        × WasBarredFor N.lim stand.old.me.0 stand.new.me.0 task effects.now bar }
+        × WasBarredFor N.prog N.lim stand.old.me.0 stand.new.me.0 task effects.now bar }
+    ensures alone { (bar : bars.Bar) → result ≡ Ok (admittances.Held bar) → bar.by < N.lim.tasks
+        → MayNotAdmitIfAlone N.prog N.lim stand.old.me.0.floor task }
     ensures memory { OnErr result (HasPlacedNone stand.new.me.0 task) }
     ensures keeps { KeepsAllElse task stand.old.me stand.new.me }
     ensures same { (stand.new.table_id ≡ stand.old.table_id) × (stand.new.id ≡ stand.old.id) }

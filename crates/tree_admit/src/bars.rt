@@ -7,7 +7,7 @@ pub struct Bar {
     pub node: u32,
     /// Its task.
     pub by: u32,
-    /// The task at which the waits from there ended.
+    /// The task at which the waits from there ended. It is not the one that is held, and its phase was found to be no wait.
     pub end: u32,
 }
 

@@ -4,6 +4,7 @@ ghost use Rattle.floor_table.specs.declared.view.SeatKind.TheVariants.{Spent};
 ghost use Rattle.admission_laws.specs.admission_core.States.{IsAmong};
 ghost use Rattle.floor_rule.specs.nodes.LockSteps.{IsKnownToPass};
 ghost use Rattle.floor_table.specs.nodes.Chains.{HasFollowedTo};
+ghost use Rattle.tree_admit.specs.Alone.{FollowedAlone};
 ghost use Rattle.tree_admit.specs.Bars.{IsLedTo};
 ghost use Rattle.tree_admit.specs.Going.{HasOnlyFollowed};
 ghost use Rattle.tree_admit.specs.Passing.{EachBetween};
@@ -40,6 +41,7 @@ pub(crate) fn follow_past<N: Named + Planted>(
     ensures end { IfErr result (λ end. IsLedTo stand.new.me.0 from end × (end ≢ to)) }
     ensures followed { IfErr result (λ end. from < N.lim.tasks
         → HasFollowedTo stand.old.me.0.looks stand.new.me.0.looks from end) }
+    ensures alone { IfErr result (λ _. from < N.lim.tasks → FollowedAlone N.prog N.lim stand.old.me.0 from to) }
     ensures only { HasOnlyFollowed stand.old.me stand.new.me }
     ensures same { (stand.new.table_id ≡ stand.old.table_id) × (stand.new.id ≡ stand.old.id) }
 {

@@ -73,7 +73,7 @@ pub(crate) fn descend<N: Named + Planted, R: Wait>(
         errand.place content stand.new.me) }
     ensures own { IfOk result (λ content. HasOwn stand.old.me.0 errand.place content) }
     ensures barred { IfErr result (λ bar. HasLeft stand.old.me.0 stand.old.me.1 None stand.new.me × (errand.kind ≡ Admission)
-        × WasBarred N.lim stand.old.me.0 stand.new.me.0 errand.task effect.now bar) }
+        × WasBarred N.prog N.lim stand.old.me.0 stand.new.me.0 errand.task effect.now bar) }
     ensures same { (stand.new.table_id ≡ stand.old.table_id) × (stand.new.id ≡ stand.old.id) }
 {
     let _count = shape.nodes();

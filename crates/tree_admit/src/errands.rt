@@ -46,7 +46,7 @@ pub(crate) fn put<N: Named + Planted>(
         × MayPut N.nodes N.lim earlier rest errand effect.now done content stand.old.me }
     ensures tried { (earlier : TreeView) (rest : List (ℕ × slots.TreeSlot)) (done : List ℕ)
         → MayPut N.nodes N.lim earlier rest errand effect.now done content stand.old.me
-        → IfOk result (λ attempt. HasTried N.lim earlier rest errand effect.now attempt stand.new.me) }
+        → IfOk result (λ attempt. HasTried N.prog N.lim earlier rest errand effect.now attempt stand.new.me) }
     ensures failed { (earlier : TreeView) (rest : List (ℕ × slots.TreeSlot)) (done : List ℕ)
         → MayPut N.nodes N.lim earlier rest errand effect.now done content stand.old.me
         → IfErr result (λ _. HasLeft earlier rest None stand.new.me) }
@@ -175,7 +175,7 @@ fn look_around<N: Named + Planted, R: Wait>(
     ensures barred { (earlier : TreeView) (rest : List (ℕ × slots.TreeSlot))
         → MayLookAround N.nodes N.lim earlier rest errand effect.now content stand.old.me
         → IfErr result (λ bar. HasLeft earlier rest None stand.new.me × (errand.kind ≡ Admission)
-        × WasBarred N.lim earlier stand.new.me.0 errand.task effect.now bar) }
+        × WasBarred N.prog N.lim earlier stand.new.me.0 errand.task effect.now bar) }
     ensures same { (stand.new.table_id ≡ stand.old.table_id) × (stand.new.id ≡ stand.old.id) }
 {
     if goes_below(errand, effect) {
@@ -229,7 +229,7 @@ pub fn place_one<N: Named + Planted, R: Wait>(
     requires outside { IsOutside stand.old.me.0 }
     requires knows { (knows : KnowsErrand N.nodes stand.old.me.0 errand effect.now) × IsOfChild errand.kind knows.turn }
     ensures tried { IfOk result (λ attempt.
-        HasTried N.lim stand.old.me.0 stand.old.me.1 errand effect.now attempt stand.new.me) }
+        HasTried N.prog N.lim stand.old.me.0 stand.old.me.1 errand effect.now attempt stand.new.me) }
     ensures failed { IfErr result (λ _. HasLeft stand.old.me.0 stand.old.me.1 None stand.new.me) }
     ensures same { (stand.new.table_id ≡ stand.old.table_id) × (stand.new.id ≡ stand.old.id) }
 {

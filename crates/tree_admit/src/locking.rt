@@ -1,4 +1,6 @@
-//! Locking a node, however often one has to try. Who has a lock in the tree waits for none above it, so nobody waits for long.
+//! Locking a node, however often one has to try. Who has a lock in the tree waits for none above it, so no locks wait for one
+//! another in a circle. But a lock may be kept for long: a walk below a wildcard keeps its place locked while it goes through all
+//! nodes below. No clause says any of this.
 ghost use Rattle.std.specs.Prelude.{◌≡◌, ◌<◌, length};
 ghost use mathlib.Core.Option.{none, some};
 ghost use Rattle.admission_laws.specs.admission_core.States.{Activity};

@@ -1,5 +1,5 @@
 //! Placing the records of all effects of a task, one after the other.
-ghost use Rattle.std.specs.Prelude.{◌≡◌, ◌<◌, ◌^◌, IfErr, OnOk, length};
+ghost use Rattle.std.specs.Prelude.{◌≡◌, ◌<◌, IfErr, OnOk, length};
 ghost use Rattle.prefix_tree.specs.Nodes.{IsTreeOfPaths};
 ghost use Rattle.tree_admit.specs.Attempts.{HasMet, HasPlacedEach, HasPlacedFirst, HasStopped, KeepsAllElse, MayPlaceAll, MayPlaceSpawned, RecordStands};
 ghost use Rattle.tree_admit.specs.Outcomes.{StandsOn};
@@ -29,7 +29,7 @@ pub(crate) enum Obstacle {
 #[derive(Debug, Drop)]
 pub(crate) struct Stopped {
     /// How many of the effects have a record, the first ones.
-    pub placed: u32,
+    pub placed: usize,
     /// Why it stopped.
     pub by: Obstacle,
 }
@@ -45,7 +45,7 @@ fn place_effect<R: Wait, N: Named + Planted>(
     kind: ErrandKind,
     task: u32,
     effects: &[Effect],
-    number: u32,
+    number: usize,
 ) -> Result<(), Obstacle>
     requires here { stand.old.table_id ≡ floor.now }
     requires shape { shape.now ≡ N.nodes }
@@ -53,10 +53,10 @@ fn place_effect<R: Wait, N: Named + Planted>(
     requires number { number < length effects.now }
     requires may { MayPlaceAll stand.old.me.0 kind task effects.now }
     ensures stands { OnOk result (RecordStands N.nodes task effects.now number stand.old.me stand.new.me) }
-    ensures met { IfErr result (λ by. HasMet N.lim kind task effects.now by stand.old.me stand.new.me) }
+    ensures met { IfErr result (λ by. HasMet N.prog N.lim kind task effects.now by stand.old.me stand.new.me) }
     ensures same { (stand.new.table_id ≡ stand.old.table_id) × (stand.new.id ≡ stand.old.id) }
 {
-    let effect = &effects[number as usize];
+    let effect = &effects[number];
     let errand = Errand {
         kind,
         task,
@@ -89,14 +89,13 @@ pub(crate) fn place_all<R: Wait, N: Named + Planted>(
     requires shape { shape.now ≡ N.nodes }
     requires tree { IsTreeOfPaths N.nodes }
     requires ready { StandsOn N.lim footing stand.old.me }
-    requires few { length effects.now < 2 ^ 32 }
     requires may { MayPlaceAll stand.old.me.0 kind task effects.now }
     ensures all { OnOk result (HasPlacedFirst N.nodes task effects.now (length effects.now) stand.old.me stand.new.me) }
     ensures stopped { IfErr result (λ stopped.
-        HasStopped N.nodes N.lim kind task effects.now stopped stand.old.me stand.new.me) }
+        HasStopped N.nodes N.prog N.lim kind task effects.now stopped stand.old.me stand.new.me) }
     ensures same { (stand.new.table_id ≡ stand.old.table_id) × (stand.new.id ≡ stand.old.id) }
 {
-    for number in 0..effects.len() as u32 {
+    for number in 0..effects.len() {
         match place_effect(
             rt, alloc, floor, shape, stand, footing, kind, task, effects, number,
         ) {
@@ -122,7 +121,6 @@ pub fn place_spawned<R: Wait, N: Named + Planted>(
     requires here { stand.old.table_id ≡ floor.now }
     requires shape { shape.now ≡ N.nodes }
     requires ready { StandsOn N.lim footing stand.old.me }
-    requires few { length effects.now < 2 ^ 32 }
     requires may { MayPlaceSpawned stand.old.me.0 child effects.now }
     ensures placed { OnOk result (HasPlacedEach N.nodes stand.new.me.0 child effects.now) }
     ensures keeps { KeepsAllElse child stand.old.me stand.new.me }

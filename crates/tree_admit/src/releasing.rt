@@ -1,5 +1,5 @@
 //! Taking the records of the effects of a task out, one after the other.
-ghost use Rattle.std.specs.Prelude.{◌≡◌, ◌<◌, ◌≤◌, ◌^◌, length};
+ghost use Rattle.std.specs.Prelude.{◌≡◌, ◌<◌, ◌≤◌, length};
 ghost use Rattle.prefix_tree.specs.Nodes.{IsTreeOfPaths};
 ghost use Rattle.admission_laws.specs.admission_core.States.{Record};
 ghost use Rattle.floor_rule.specs.nodes.TurnSteps.{IsClearOf};
@@ -25,7 +25,7 @@ fn take_out_effect<R: Wait, N: Named + Planted>(
     footing: Footing,
     task: u32,
     effects: &[Effect],
-    number: u32,
+    number: usize,
 )
     requires here { stand.old.table_id ≡ floor.now }
     requires shape { shape.now ≡ N.nodes }
@@ -35,7 +35,7 @@ fn take_out_effect<R: Wait, N: Named + Planted>(
     ensures out { (r : Record) × IsRecordOf N.nodes task effects.now number r × IsTakenOut stand.old.me r stand.new.me }
     ensures same { (stand.new.table_id ≡ stand.old.table_id) × (stand.new.id ≡ stand.old.id) }
 {
-    let effect = &effects[number as usize];
+    let effect = &effects[number];
     let errand = Errand {
         kind: ErrandKind::Removal,
         task,
@@ -54,7 +54,7 @@ pub(crate) fn take_out_first<R: Wait, N: Named + Planted>(
     footing: Footing,
     task: u32,
     effects: &[Effect],
-    count: u32,
+    count: usize,
 )
     requires here { stand.old.table_id ≡ floor.now }
     requires shape { shape.now ≡ N.nodes }
@@ -84,13 +84,20 @@ pub fn release<R: Wait, N: Named + Planted>(
     requires here { stand.old.table_id ≡ floor.now }
     requires shape { shape.now ≡ N.nodes }
     requires ready { StandsOn N.lim footing stand.old.me }
-    requires few { length effects.now < 2 ^ 32 }
     requires may { MayRelease stand.old.me.0 task effects.now }
     ensures clear { IsClearOf N.nodes (tree_seen stand.new.me.0) 0 task effects.now }
     ensures keeps { KeepsAllElse task stand.old.me stand.new.me }
     ensures same { (stand.new.table_id ≡ stand.old.table_id) × (stand.new.id ≡ stand.old.id) }
 {
     let _count = shape.nodes();
-    let count = effects.len() as u32;
-    take_out_first(rt, floor, shape, stand, footing, task, effects, count);
+    take_out_first(
+        rt,
+        floor,
+        shape,
+        stand,
+        footing,
+        task,
+        effects,
+        effects.len(),
+    );
 }

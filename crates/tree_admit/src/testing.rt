@@ -1,9 +1,10 @@
 //! Looking at the records that a worker meets on its way to an admission.
-ghost use Rattle.std.specs.Prelude.{◌≡◌, ◌≢◌, ◌≤◌, IfErr, IfOk, OnOk};
+ghost use Rattle.std.specs.Prelude.{◌≡◌, ◌≢◌, ◌≤◌, IfErr, IfOk, OnOk, Some};
 ghost use Rattle.floor_table.specs.declared.view.SeatKind.TheVariants.{Spent};
-ghost use Rattle.admission_laws.specs.admission_core.States.{Admit};
+ghost use Rattle.admission_laws.specs.admission_core.States.{Admit, IsAmong};
 ghost use Rattle.floor_rule.specs.nodes.LockSteps.{IsKnownToPass};
 ghost use Rattle.floor_table.specs.nodes.Seats.{purpose_for};
+ghost use Rattle.floor_table.specs.nodes.TreeOf.{content_in};
 ghost use Rattle.tree_admit.specs.Bars.{IsBarIn, IsBarOf};
 ghost use Rattle.tree_admit.specs.Errands.{AllPass};
 ghost use Rattle.tree_admit.specs.Going.{HasOnlyFollowed};
@@ -33,11 +34,13 @@ fn record_passes<N: Named + Planted>(
     requires here { stand.old.table_id ≡ floor.now }
     requires live { stand.old.me.0.floor.kind ≢ Spent }
     requires tasks { tasks ≡ N.lim.tasks }
+    requires kept { content_in stand.old.me.0.kept node ≡ Some content.now }
+    requires among { IsAmong r.now content.now }
     ensures passes { OnOk result (IsKnownToPass stand.new.me.0.waits task effect.now r.now) }
     ensures others { IfOk result (λ left. (left ≤ at)
         × EachBetween (IsKnownToPass stand.new.me.0.waits task effect.now) content.now left at) }
     ensures barred { IfErr result (λ bar. (bar.node ≡ node)
-        × IsBarOf N.lim stand.old.me.0 stand.new.me.0 task effect.now r.now bar) }
+        × IsBarOf N.prog N.lim stand.old.me.0 stand.new.me.0 task effect.now r.now bar) }
     ensures only { HasOnlyFollowed stand.old.me stand.new.me }
     ensures same { (stand.new.table_id ≡ stand.old.table_id) × (stand.new.id ≡ stand.old.id) }
 {
@@ -66,9 +69,10 @@ fn records_pass<N: Named + Planted>(
     requires here { stand.old.table_id ≡ floor.now }
     requires live { stand.old.me.0.floor.kind ≢ Spent }
     requires tasks { tasks ≡ N.lim.tasks }
+    requires kept { content_in stand.old.me.0.kept node ≡ Some content.now }
     ensures passes { OnOk result (AllPass stand.new.me.0.waits (Admit task effect.now) content.now) }
     ensures barred { IfErr result (λ bar. (bar.node ≡ node)
-        × IsBarIn N.lim stand.old.me.0 stand.new.me.0 task effect.now content.now bar) }
+        × IsBarIn N.prog N.lim stand.old.me.0 stand.new.me.0 task effect.now content.now bar) }
     ensures only { HasOnlyFollowed stand.old.me stand.new.me }
     ensures same { (stand.new.table_id ≡ stand.old.table_id) × (stand.new.id ≡ stand.old.id) }
 {
@@ -100,9 +104,10 @@ pub(crate) fn look_at<N: Named + Planted>(
     requires here { stand.old.table_id ≡ floor.now }
     requires live { stand.old.me.0.floor.kind ≢ Spent }
     requires tasks { tasks ≡ N.lim.tasks }
+    requires kept { content_in stand.old.me.0.kept node ≡ Some content.now }
     ensures passes { OnOk result (AllPass stand.new.me.0.waits (purpose_for errand.kind errand.task effect.now) content.now) }
     ensures barred { IfErr result (λ bar. (errand.kind ≡ ErrandKind.Admission) × (bar.node ≡ node)
-        × IsBarIn N.lim stand.old.me.0 stand.new.me.0 errand.task effect.now content.now bar) }
+        × IsBarIn N.prog N.lim stand.old.me.0 stand.new.me.0 errand.task effect.now content.now bar) }
     ensures only { HasOnlyFollowed stand.old.me stand.new.me }
     ensures same { (stand.new.table_id ≡ stand.old.table_id) × (stand.new.id ≡ stand.old.id) }
 {

@@ -52,7 +52,7 @@ pub(crate) fn walk_below<N: Named + Planted, R: Wait>(
         → MayWalkBelow N.nodes N.lim earlier rest errand effect.now node stack done content stand.old.me
         → IfErr result (λ bar.
         HasLeft earlier rest (left_to_give (walking errand effect.now (node ∷ stack) done) stack) stand.new.me
-        × WasBarred N.lim earlier stand.new.me.0 errand.task effect.now bar) }
+        × WasBarred N.prog N.lim earlier stand.new.me.0 errand.task effect.now bar) }
     ensures unchanged { IfOk result (λ after. after ≡ content) }
     ensures same { (stand.new.table_id ≡ stand.old.table_id) × (stand.new.id ≡ stand.old.id) }
 {

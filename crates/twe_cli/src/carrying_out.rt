@@ -9,7 +9,8 @@ ghost use Rattle.text_answers.specs.Theorem.{IsNew};
 
 use command_line::Command;
 use flat_sched::run_lowest;
-use floor_crew::{Gate, run_on_floor};
+use floor_crew::run_on_floor;
+use run_gates::Gate;
 use seg_journal::Journal;
 use std::alloc::Global;
 use std::sync::Wait;

@@ -7,11 +7,11 @@ mod carrying_out;
 mod tests;
 mod top;
 
+use run_gates::FreeGate;
 use std::process::ExitCode;
 use text_answers::Book;
 use top::twe;
 use twe_io::{Status, StdSink, StdSource, words_of};
-use twe_rounds::FreeGate;
 
 fn main(rt: HostRuntime) -> ExitCode {
     let alloc = rt.alloc();

@@ -1,6 +1,6 @@
 //! What no run of the program shows: ends that fail, and workers that are at work at once. The rest is in `tests/twe/`.
 use crate::top::twe;
-use floor_crew::{FreeGate, Gate, MeetGate};
+use run_gates::{FreeGate, Gate, MeetGate};
 use std::alloc::Global;
 use std::sync::Wait;
 use std::test::Fail;

@@ -13,7 +13,7 @@ ghost use Rattle.twe_cli.specs.inner.Given.{HasCauseInWords};
 
 use crate::carrying_out::answer_command;
 use command_line::{WordsFail, every_list_is_decided, one_command, read_words};
-use floor_crew::Gate;
+use run_gates::Gate;
 use std::alloc::Global;
 use std::sync::Wait;
 use std::thread::Threads;

@@ -18,7 +18,7 @@ pub trait RoundAccess {
     fn tell(&mut self, waiting: &mut Waiting) -> Result<(), Memory>;
 }
 
-/// The answer if the run was lost, since memory ran out before.
+/// The answer of each call on a run that is lost: memory ran out in an earlier call, which answered `Memory` too.
 pub fn lost() -> Memory {
     Memory::from(AllocError)
 }

@@ -22,6 +22,5 @@ pub use dealing::{Team, deal};
 pub use game::Game;
 pub use look::Look;
 pub use named::RoundName;
-pub use run_gates::{FreeGate, Gate, MeetGate};
 pub use waiting::Waiting;
 pub use worker::{Site, Worker};

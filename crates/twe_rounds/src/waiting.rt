@@ -1,7 +1,7 @@
 //! A worker's list of the tasks that wait, and of those that are held back.
 //!
-//! A task that waits is kept beside the task that it waits for, and a task that is held back beside a bar to it. The
-//! worker reads in the journal which tasks have ended, and tries again what was kept beside them.
+//! A task that waits is kept beside the task that it waits for, and a task that is held back beside a bar to it. The worker
+//! says which tasks have ended, or reads it in the journal, and tries again what was kept beside them.
 
 use seg_journal::{End, Entry};
 use std::alloc::Global;
@@ -73,6 +73,17 @@ impl Waiting {
         Ok(())
     }
 
+    /// Makes ready what waited for a task that has ended.
+    pub fn end(&mut self, task: u32) -> Result<(), Memory> {
+        if let Some(waiter) = self.waiters.remove(&task) {
+            self.ready.push(waiter)?;
+        }
+        if let Some(mut group) = self.held.remove(&task) {
+            self.freed.append(&mut group)?;
+        }
+        Ok(())
+    }
+
     /// Whether some task is to be tried.
     pub fn is_ready(&self) -> bool {
         !self.ready.is_empty() || !self.freed.is_empty()
@@ -101,17 +112,6 @@ impl Waiting {
         }
         self.waiters.clear();
         self.held.clear();
-        Ok(())
-    }
-
-    // Makes ready what waited for this task.
-    fn end(&mut self, task: u32) -> Result<(), Memory> {
-        if let Some(waiter) = self.waiters.remove(&task) {
-            self.ready.push(waiter)?;
-        }
-        if let Some(mut group) = self.held.remove(&task) {
-            self.freed.append(&mut group)?;
-        }
         Ok(())
     }
 }

@@ -1,5 +1,5 @@
 -- What stays of a worker's stand over the calls that it makes, and what it has in hand after it went through the tree.
-use Rattle.std.proofs.Common.{◌≡◌, ◌≢◌, ◌⊎◌, ◌+◌, ◌++◌, ◌<◌, ℕ, List, [], ◌∷◌, Option, Some, None, refl, sym, ap, subst, ◌∙◌, inl, inr, ⊎_elim}
+use Rattle.std.proofs.Common.{◌≡◌, ◌≢◌, ◌⊎◌, ◌+◌, ◌++◌, ◌<◌, ℕ, Bool, if◌then◌else◌, ne_eqb, List, [], ◌∷◌, Option, Some, None, refl, sym, ap, subst, ◌∙◌, inl, inr, ⊎_elim}
 use Rattle.std.proofs.lemmas.Bool.{cases_eq}
 use Rattle.region_paths.specs.declared.elements.Elem.{Elem}
 use Rattle.effect_sets.specs.declared.effects.Effect.{Effect}
@@ -23,7 +23,7 @@ use Rattle.floor_rule.specs.declared.view.Phase.TheVariants as phases
 use Rattle.floor_rule.specs.declared.view.TaskSlot.{TaskSlot}
 use Rattle.floor_rule.specs.Rows.{phase_at, phase_of}
 use Rattle.floor_rule.specs.Steps.{end_after, first_turn, row_after}
-use Rattle.floor_rule.proofs.Puts.{put_here, some_one}
+use Rattle.floor_rule.proofs.Puts.{none_some, put_here, some_one}
 use Rattle.floor_table.specs.declared.view.TurnChange.{TurnChange}
 use Rattle.floor_table.specs.declared.view.View.{View}
 use Rattle.floor_table.specs.Added.{HasGrown, IsAdded}
@@ -353,6 +353,13 @@ taken_since nodes me after t slot took =
       has = ap (λ (l : List TurnChange). turn_in l t) turns ∙ put_here (turn_in me.0.floor.turns) t (Some turn);
       had = added_at (record { task = t; turn = Some turn }) me.0.floor.turns after.0.floor.turns turns;
       part = ap (λ (m : Seat). m.0.part) took.floor.seat;
+      served = record {
+        kind = ap (λ (m : Seat). m.0.kind) took.floor.seat;
+        out = ap (λ (m : Seat). m.0.out) took.floor.seat;
+        part = ap (λ (m : Seat). m.0.part) took.floor.seat;
+        turns = λ w other. ap (λ (l : List TurnChange). turn_in l w) turns ∙ ap (λ (b : Bool). if b then Some turn else turn_in me.0.floor.turns w) (ne_eqb w t other);
+        own = λ had has. absurd (none_some (sym took.floor.had_none ∙ has));
+      };
       kept = grown_is me.0.kept after.0.kept (ap (λ (v : TreeView). v.kept) took.view);
       looks = grown_is me.0.looks after.0.looks (ap (λ (v : TreeView). v.looks) took.view);
     }
@@ -371,6 +378,13 @@ module _ (before a : TreeSeat) (t : ℕ) (since : HasTakenSince before a t) (tur
     has = still;
     had = had_since b moves.floor.grown;
     part = moved_part a b t moves ∙ since.part;
+    served = record {
+      kind = ap (λ (m : Seat). m.0.kind) moves.floor.rest ∙ since.served.kind;
+      out = ap (λ (m : Seat). m.0.out) moves.floor.rest ∙ since.served.out;
+      part = moved_part a b t moves ∙ since.part;
+      turns = λ w other. moves.floor.others w other ∙ since.served.turns w other;
+      own = λ had own. still ∙ (sym has ∙ since.served.own had own);
+    };
     kept = grown_then before.0.kept a.0.kept b.0.kept since.kept (grown_is a.0.kept b.0.kept (ap (λ (v : TreeView). v.kept) moves.view));
     looks = grown_then before.0.looks a.0.looks b.0.looks since.looks moves.looks;
   }
@@ -391,13 +405,13 @@ found_waiting before a b after t on since not_done same =
     not_had_since before.0.looks a.0.looks after.0.looks on since.looks (not_had_then a.0.looks b.0.looks after.0.looks on not_done (grown_is b.0.looks after.0.looks same))
 
 -- what was in the way was so since then, and is still known
-pub held_since : (lim : Bounds) (before a b after : TreeSeat) (t : ℕ) (effects : List Effect) (bar : Bar) → HasTakenSince before a t → WasBarredFor lim a.0 b.0 t effects bar
-    → (after.0.kept ≡ b.0.kept) × (after.0.waits ≡ b.0.waits) × (after.0.looks ≡ b.0.looks) → WasBarredFor lim before.0 after.0 t effects bar
-held_since lim before a b after t effects bar since (e, contains, was) (kept, waits, looks) = (
+pub held_since : (p : Program) (lim : Bounds) (before a b after : TreeSeat) (t : ℕ) (effects : List Effect) (bar : Bar) → HasTakenSince before a t → WasBarredFor p lim a.0 b.0 t effects bar
+    → (after.0.kept ≡ b.0.kept) × (after.0.waits ≡ b.0.waits) × (after.0.looks ≡ b.0.looks) → WasBarredFor p lim before.0 after.0 t effects bar
+held_since p lim before a b after t effects bar since (e, contains, was) (kept, waits, looks) = (
   e,
   contains,
-  barred_since lim t e before.0 a.0 after.0 bar since.kept since.looks
-      (barred_kept lim t e a.0 b.0 after.0 bar
+  barred_since p lim t e before.0 a.0 after.0 bar since.kept since.looks since.served
+      (barred_kept p lim t e a.0 b.0 after.0 bar
       (record {
         waits = λ fact. subst (λ (l : List WaitFact). IsAmong fact l) (sym waits);
         kept = grown_is b.0.kept after.0.kept kept;

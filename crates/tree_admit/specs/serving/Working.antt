@@ -8,6 +8,7 @@ use Rattle.floor_rule.specs.declared.view.Phase.{Phase}
 use Rattle.floor_rule.specs.declared.view.Phase.TheVariants as phases
 use Rattle.floor_rule.specs.Rows.{phase_of}
 use Rattle.twe_base.specs.Limits.{Bounds}
+use Rattle.twe_program.specs.Program.{Program}
 use Rattle.floor_table.specs.Added.{IsAdded}
 use Rattle.task_floor.specs.steps.Working.{HasFound, HasRunOne, SameStand}
 use Rattle.task_floor.specs.declared.steps.served.Served.{Served}
@@ -46,13 +47,13 @@ pub record HasAdmittedOne (before after : TreeSeat) (t : ℕ) : Type 0 where
 
 -- The worker has drawn no entry. Task t waited for its admission while the worker had its turn, which it got and gave since then.
 -- Since then too a record of task `by` was in the way of one of its effects.
-pub record WasHeld (lim : Bounds) (before after : TreeSeat) (t by : ℕ) : Type 0 where
+pub record WasHeld (p : Program) (lim : Bounds) (before after : TreeSeat) (t by : ℕ) : Type 0 where
   pub turn : HeldTurn
   pub had : IsAdded (record { task = t; turn = Some turn }) before.0.floor.turns after.0.floor.turns
   pub made : phase_of turn.row ≡ phases.Made
   pub part : after.0.floor.part ≡ before.0.floor.part
   pub bar : Bar
-  pub barred : WasBarredFor lim before.0 after.0 t turn.row.effects.effects bar
+  pub barred : WasBarredFor p lim before.0 after.0 t turn.row.effects.effects bar
   pub by_is : bar.by ≡ by
 
 -- the worker has drawn no entry, since task t did not wait for its admission while the worker had its turn
@@ -62,8 +63,8 @@ pub record WasOver (before after : TreeSeat) (t : ℕ) : Type 0 where
   pub found : HasFound (floor_seat before) (floor_seat after) t phase
 
 -- what the worker has done for the admission of task t
-abbrev pub HasTriedToAdmit : Bounds → TreeSeat → TreeSeat → ℕ → Admission → Type 0
-HasTriedToAdmit lim before after t Admitted = HasAdmittedOne before after t
-HasTriedToAdmit lim before after t (Held by) = WasHeld lim before after t by
-HasTriedToAdmit lim before after t Over = WasOver before after t
-HasTriedToAdmit lim before after t (Busy holder) = FoundBusy before after t holder
+abbrev pub HasTriedToAdmit : Program → Bounds → TreeSeat → TreeSeat → ℕ → Admission → Type 0
+HasTriedToAdmit p lim before after t Admitted = HasAdmittedOne before after t
+HasTriedToAdmit p lim before after t (Held by) = WasHeld p lim before after t by
+HasTriedToAdmit p lim before after t Over = WasOver before after t
+HasTriedToAdmit p lim before after t (Busy holder) = FoundBusy before after t holder

@@ -7,17 +7,17 @@ ghost use Rattle.floor_rule.specs.Rows.{phase_of};
 ghost use Rattle.floor_table.specs.Added.{HasGrown};
 ghost use Rattle.floor_table.specs.nodes.Seats.{TreeSeat};
 ghost use Rattle.task_floor.specs.Holding.{HoldsDrawnBeside, HoldsTaskBeside};
+ghost use Rattle.tree_admit.specs.serving.Alone.{AdmitsIfAlone};
 ghost use Rattle.tree_admit.specs.serving.Working.{HasTriedToAdmit, SameTreeStand};
 ghost use Rattle.tree_admit.specs.serving.inner.InHand.{HasTakenSince};
 
 use crate::serving::admission::Admission;
-use crate::serving::worker::{Holding, TreeWorker, are_few};
+use crate::serving::worker::{Holding, TreeWorker};
 use crate::serving::workshop::Workshop;
 use crate::{Admittance, try_admit};
 use floor_rule::Phase;
 use floor_table::Named;
 use floor_table::nodes::Planted;
-use std::alloc::AllocError;
 use std::sync::Wait;
 use twe_base::Memory;
 
@@ -33,7 +33,8 @@ impl<'a, N: Named + Planted> Workshop<'a, N> {
     ) -> Result<(TreeWorker, Admission), Memory>
         requires here { worker.table_id ≡ self.now }
         requires task { task < N.lim.tasks }
-        ensures tried { IfOk result (λ tried. HasTriedToAdmit N.lim worker.me tried.0.me task tried.1) }
+        ensures tried { IfOk result (λ tried. HasTriedToAdmit N.prog N.lim worker.me tried.0.me task tried.1) }
+        ensures alone { IfOk result (λ tried. AdmitsIfAlone N.prog N.lim worker.me.0.floor task tried.1) }
         ensures same { IfOk result (λ tried. SameTreeStand worker tried.0) }
     {
         let TreeWorker {
@@ -75,7 +76,9 @@ impl<'a, N: Named + Planted> Workshop<'a, N> {
         requires holds { (turn : HeldTurn)
             × HoldsTaskBeside N.nodes holding.number holding.stand.me holding.log holding.task holding.slot turn }
         ensures tried { (before : TreeSeat) → HasTakenSince before holding.stand.me holding.task
-            → IfOk result (λ tried. HasTriedToAdmit N.lim before tried.0.me holding.task tried.1) }
+            → IfOk result (λ tried. HasTriedToAdmit N.prog N.lim before tried.0.me holding.task tried.1) }
+        ensures alone { (before : TreeSeat) → HasTakenSince before holding.stand.me holding.task
+            → IfOk result (λ tried. AdmitsIfAlone N.prog N.lim before.0.floor holding.task tried.1) }
         ensures same { IfOk result (λ tried. SameTreeStand holding.stand tried.0) }
     {
         let Holding {
@@ -111,7 +114,9 @@ impl<'a, N: Named + Planted> Workshop<'a, N> {
             × HoldsTaskBeside N.nodes holding.number holding.stand.me holding.log holding.task holding.slot turn
             × (phase_of turn.row ≡ Made) }
         ensures tried { (before : TreeSeat) → HasTakenSince before holding.stand.me holding.task
-            → IfOk result (λ tried. HasTriedToAdmit N.lim before tried.0.me holding.task tried.1) }
+            → IfOk result (λ tried. HasTriedToAdmit N.prog N.lim before tried.0.me holding.task tried.1) }
+        ensures alone { (before : TreeSeat) → HasTakenSince before holding.stand.me holding.task
+            → IfOk result (λ tried. AdmitsIfAlone N.prog N.lim before.0.floor holding.task tried.1) }
         ensures same { IfOk result (λ tried. SameTreeStand holding.stand tried.0) }
     {
         let Holding {
@@ -123,9 +128,6 @@ impl<'a, N: Named + Planted> Workshop<'a, N> {
         } = holding;
         log.reserve()?;
         let effects = slot.effects.effects.as_slice();
-        if !are_few(effects) {
-            return Err(Memory::from(AllocError));
-        }
         let footing = self.footing(number, 1);
         let admittance = try_admit(
             rt, self.alloc, self.floor, self.shape, &mut stand, footing, task, effects,

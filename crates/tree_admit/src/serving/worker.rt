@@ -1,8 +1,7 @@
 //! A worker of a floor.
-ghost use Rattle.std.specs.Prelude.{◌≡◌, ◌<◌, ◌^◌, ℕ, IsTrue, length};
+ghost use Rattle.std.specs.Prelude.{◌≡◌, ℕ};
 ghost use Rattle.task_floor.specs.Holding.{IsIdleBeside};
 
-use effect_sets::Effect;
 use floor_rule::TaskSlot;
 use std::marker::Model;
 use task_floor::{EntryLog, Stand};
@@ -57,11 +56,4 @@ pub(crate) struct Holding {
     pub log: EntryLog,
     pub task: u32,
     pub slot: TaskSlot,
-}
-
-/// Whether 32 bits number these effects. The tree numbers the effects of a task so.
-pub(crate) fn are_few(effects: &[Effect]) -> bool
-    ensures { IsTrue result → length effects.now < 2 ^ 32 }
-{
-    effects.len() <= u32::MAX as usize
 }

@@ -4,14 +4,16 @@ ghost use Rattle.floor_rule.specs.declared.view.HeldTurn.{HeldTurn};
 ghost use Rattle.task_floor.specs.steps.Committing.{status_after};
 ghost use Rattle.task_floor.specs.steps.Working.{HasRunOne};
 ghost use Rattle.floor_table.specs.Layout.{word_of_phase};
+ghost use Rattle.floor_table.specs.nodes.Alone.{LearnsAlone};
 ghost use Rattle.floor_table.specs.nodes.FloorSeats.{floor_seat};
 ghost use Rattle.floor_table.specs.nodes.Follows.{FollowedPhase};
 ghost use Rattle.floor_table.specs.nodes.Seats.{TreeSeat};
 ghost use Rattle.task_floor.specs.Holding.{HoldsDrawnBeside, HoldsReadyBeside, HoldsTaskBeside};
+ghost use Rattle.tree_admit.specs.serving.Alone.{ServesIfAlone};
 ghost use Rattle.tree_admit.specs.serving.Working.{HasServedBeside, SameTreeStand};
 ghost use Rattle.tree_admit.specs.serving.inner.InHand.{HasEndedIn, HasTakenSince, HoldsMadeBeside, HoldsRanBeside};
 
-use crate::serving::worker::{Holding, TreeWorker, are_few};
+use crate::serving::worker::{Holding, TreeWorker};
 use crate::serving::workshop::Workshop;
 use crate::{place_spawned, release};
 use floor_rule::{Phase, TaskSlot};
@@ -20,7 +22,6 @@ use floor_table::nodes::Planted;
 use run_gates::Gate;
 use seg_exec::Stop;
 use seg_journal::End;
-use std::alloc::AllocError;
 use std::sync::Wait;
 use task_floor::Committed;
 use task_floor::steps::{Readiness, Served, an_end_says_the_status};
@@ -32,6 +33,7 @@ impl<'a, N: Named + Planted> Workshop<'a, N> {
         requires here { worker.old.table_id ≡ self.now }
         requires task { task < N.lim.tasks }
         ensures found { FollowedPhase N.lim worker.old.me task (word_of_phase result) worker.new.me }
+        ensures alone { LearnsAlone N.prog N.lim worker.old.me.0 task (word_of_phase result) }
         ensures part { worker.new.me.0.floor.part ≡ worker.old.me.0.floor.part }
         ensures same { SameTreeStand worker.old worker.new }
     {
@@ -54,6 +56,7 @@ impl<'a, N: Named + Planted> Workshop<'a, N> {
         requires here { worker.table_id ≡ self.now }
         requires task { task < N.lim.tasks }
         ensures served { IfOk result (λ served. HasServedBeside worker.me served.0.me task served.1) }
+        ensures alone { IfOk result (λ served. ServesIfAlone N.prog N.lim worker.me.0.floor task served.1) }
         ensures same { IfOk result (λ served. SameTreeStand worker served.0) }
     {
         let TreeWorker {
@@ -97,6 +100,8 @@ impl<'a, N: Named + Planted> Workshop<'a, N> {
             × HoldsTaskBeside N.nodes holding.number holding.stand.me holding.log holding.task holding.slot turn }
         ensures served { (before : TreeSeat) → HasTakenSince before holding.stand.me holding.task
             → IfOk result (λ served. HasServedBeside before served.0.me holding.task served.1) }
+        ensures alone { (before : TreeSeat) → HasTakenSince before holding.stand.me holding.task
+            → IfOk result (λ served. ServesIfAlone N.prog N.lim before.0.floor holding.task served.1) }
         ensures same { IfOk result (λ served. SameTreeStand holding.stand served.0) }
     {
         let Holding {
@@ -232,9 +237,6 @@ impl<'a, N: Named + Planted> Workshop<'a, N> {
             unreachable!()
         };
         let effects = slot.effects.effects.as_slice();
-        if !are_few(effects) {
-            return Err(Memory::from(AllocError));
-        }
         let footing = self.footing(holding.number, 2);
         place_spawned(
             rt,
@@ -288,9 +290,6 @@ impl<'a, N: Named + Planted> Workshop<'a, N> {
             slot,
         } = holding;
         let effects = slot.effects.effects.as_slice();
-        if !are_few(effects) {
-            return Err(Memory::from(AllocError));
-        }
         let footing = self.footing(number, 1);
         release(
             rt, self.floor, self.shape, &mut stand, footing, task, effects,

@@ -1,7 +1,9 @@
 -- Each step of the chain goes to a task with a higher number, to which the first one and those that were passed over are led.
 use Rattle.std.proofs.Common.{◌≤◌, ℕ, [], refl, subst, ◌∙◌, inl, inr, arith}
 use Rattle.admission_laws.specs.admission_core.States.{IsAmong}
+use Rattle.wait_graph.specs.Chain.{none}
 use Rattle.floor_table.specs.nodes.Chains.{starts}
+use Rattle.tree_admit.proofs.Alone.{followed_alone, leads_on}
 use Rattle.tree_admit.proofs.Following.{followed_refl, followed_trans, follows_only, led_further}
 use Rattle.tree_admit.proofs.Chained.{chain_ended, chain_longer}
 use Rattle.tree_admit.proofs.Learning.{led_kept}
@@ -24,6 +26,16 @@ returns-clause-end g c = (c.loop-at.invariant.led, c.loop-at.invariant.other)
 
 pub returns-clause-followed : goal.returns-clause-followed
 returns-clause-followed g c low =
+    let here = (c.loop-at.invariant.chain low).3 in
+    absurd (omega (arith, here, c.requires.tasks, c.loop-at-test.false))
+
+pub returns-in_default-clause-alone : goal.returns-in_default-clause-alone
+returns-in_default-clause-alone g c low =
+    followed_alone g.N.Named.prog g.N.Named.lim c.args.from c.args.to c.loop-at.at c.status.result c.args.stand.now.me c.loop-at.stand.me c.loop-at.invariant.only c.status.ensures.alone c.loop-at.invariant.other
+    (λ u is. c.in_default.not-Waits u is) c.loop-at.invariant.alone
+
+pub returns-clause-alone : goal.returns-clause-alone
+returns-clause-alone g c low =
     let here = (c.loop-at.invariant.chain low).3 in
     absurd (omega (arith, here, c.requires.tasks, c.loop-at-test.false))
 
@@ -70,6 +82,9 @@ loop-at-preserved g c =
           let chain = c.loop-at.invariant.chain low in
           chain_longer lim c.args.stand.now.me.0.looks before after c.args.from at on chain.0 chain.1 chain.2 c.in-Waits.ensures.found;
       other = c.if-on-to.false;
+      alone = λ st alone turns.
+          leads_on g.N.Named.prog lim c.args.from c.args.to at c.status.result c.args.stand.now.me before c.loop-at.invariant.only c.status.ensures.alone c.loop-at.invariant.other st alone turns on c.in-Waits.is
+          (c.loop-at.invariant.alone st alone turns);
       led = inr (led_further lim before c.args.from at on after c.loop-at.invariant.led c.in-Waits.ensures.found);
       fewer = omega (arith, c.pass_over-rest.ensures.fewer, c.loop-at.invariant.fewer);
       passed = walked_on lim before at on after c.args.to c.args.effect.now c.args.content.now c.pass_over-rest.result c.loop-at.rest c.args.left
@@ -84,6 +99,7 @@ pub loop-at-init : goal.loop-at-init
 loop-at-init g c = record {
   chain = λ low. ([], refl, starts, low);
   other = c.requires.other;
+  alone = λ st alone turns. inl none;
   led = inl refl;
   fewer = omega arith;
   passed = λ k r first last at. absurd (omega (arith, first, last));

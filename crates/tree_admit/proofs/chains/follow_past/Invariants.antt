@@ -1,8 +1,12 @@
 -- The stand has only followed waits, as its looks say, and they led from the first task to the one that was reached. The records that were passed
--- over pass, or their tasks lead to that one too.
-use Rattle.std.proofs.Common.{◌≡◌, ◌≢◌, ◌≤◌, ◌<◌, ◌-◌, ◌++◌, List}
+-- over pass, or their tasks lead to that one too. The only stand knows that the first one waits for the one that was reached, or that its waits lead elsewhere.
+use Rattle.std.proofs.Common.{◌≡◌, ◌≢◌, ◌⊎◌, ◌≤◌, ◌<◌, ◌-◌, ◌++◌, List}
+use Rattle.wait_graph.specs.Waiting.{WaitsOn}
+use Rattle.twe_machine.specs.declared.state.State.{State}
+use Rattle.floor_table.specs.Alone.{IsAloneAt}
 use Rattle.floor_table.specs.declared.nodes.view.Look.{Look}
 use Rattle.floor_table.specs.nodes.Chains.{CameTo}
+use Rattle.tree_admit.specs.Alone.{HasOnlyTurnOf, LeadsElsewhere}
 use Rattle.tree_admit.specs.Bars.{IsLedTo}
 use Rattle.tree_admit.specs.Going.{HasOnlyFollowed}
 use Rattle.tree_admit.specs.Passing.{EachBetween}
@@ -14,6 +18,8 @@ invariant-loop-at g l = record {
   chain : l.from < g.N.Named.lim.tasks
       → (looks : List Look) × (l.stand.me.0.looks ≡ looks ++ l.fn.stand.me.0.looks) × CameTo l.from l.at looks × (l.at < g.N.Named.lim.tasks);
   other : l.at ≢ l.to;
+  alone : (st : State) → IsAloneAt g.N.Named.prog g.N.Named.lim l.fn.stand.me.0.floor st → HasOnlyTurnOf l.fn.stand.me.0.floor l.to
+      → WaitsOn st.links l.from l.at ⊎ LeadsElsewhere st.links l.from l.to;
   led : IsLedTo l.stand.me.0 l.from l.at;
   fewer : l.rest ≤ l.left;
   passed : EachBetween (PassesOrLeads l.stand.me.0 l.to l.effect l.at) l.content l.rest l.left;

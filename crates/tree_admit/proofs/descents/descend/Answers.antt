@@ -60,7 +60,7 @@ returns-in-Err-clause-barred g c =
     let barred = c.in-Err.ensures.barred in (
       descent_left lim start c.requires.outside c.args.errand e n content me has c.loop-node-test.true final gave,
       barred.0,
-      barred_after lim start.0 start.1 (errand_at c.args.errand e n) n content me has c.loop-node.stand.me c.args.errand.task e c.in-Err.bar None final (c.requires.outside.none n) c.loop-node.invariant.has.learned.looks barred.1 barred.2 gave,
+      barred_after lim start.0 start.1 (errand_at c.args.errand e n) n content me has g.N.Named.prog c.loop-node.stand.me c.args.errand.task e c.in-Err.bar None final (c.requires.outside.none n) c.loop-node.invariant.has.learned barred.1 barred.2 gave,
     )
 
 pub step_down-content-requires-clause-may : goal.step_down-content-requires-clause-may
@@ -106,3 +106,6 @@ loop-node-preserved g c =
       here = c.step_down-content.ensures.same.0 ∙ (c.look_at.ensures.same.0 ∙ c.loop-node.invariant.here);
       id = c.step_down-content.ensures.same.1 ∙ (c.look_at.ensures.same.1 ∙ c.loop-node.invariant.id);
     }
+
+pub look_at-requires-clause-kept : goal.look_at-requires-clause-kept
+look_at-requires-clause-kept g c = c.loop-node.invariant.has.known

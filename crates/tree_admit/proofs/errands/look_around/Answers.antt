@@ -43,7 +43,7 @@ returns-in-Err-clause-barred g c = λ earlier rest may.
     let barred = c.in-Err.ensures.barred in (
       gave_left lim earlier rest a errand.place content me has None final (may.outside.none errand.place) gave,
       barred.0,
-      barred_after lim earlier rest a errand.place content me has c.args.stand.now.me errand.task e c.in-Err.bar None final (may.outside.none errand.place) may.has.learned.looks barred.1 barred.2 gave,
+      barred_after lim earlier rest a errand.place content me has g.N.Named.prog c.args.stand.now.me errand.task e c.in-Err.bar None final (may.outside.none errand.place) may.has.learned barred.1 barred.2 gave,
     )
 
 pub returns-then-goes_below-clause-ready : goal.returns-then-goes_below-clause-ready
@@ -64,3 +64,6 @@ returns-then-goes_below-clause-barred g c = λ earlier rest may.
     let kind = (c.goes_below.ensures.walks c.if-goes_below.true).0 in
     on_err _ _ c.walk_below.result (λ bar barred. (barred.0, kind, barred.1))
     (c.walk_below.ensures.barred earlier rest [] [] (around_walks nodes lim earlier rest c.args.errand c.args.effect.now c.args.content c.args.stand.now.me may))
+
+pub look_at-requires-clause-kept : goal.look_at-requires-clause-kept
+look_at-requires-clause-kept g c = c.requires.may.2.has.known

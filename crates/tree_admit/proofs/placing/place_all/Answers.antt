@@ -11,7 +11,7 @@ returns-in-Err-clause-stopped g c =
       within = c.loop-number-test.true;
       placed = placed_still g.N.Planted.nodes c.args.task c.args.effects.now c.loop-number.number c.args.stand.now.me c.loop-number.stand.me c.place_effect.new.stand.me
           c.loop-number.invariant.placed met.0;
-      by = met_since g.N.Planted.nodes c.args.task c.args.effects.now g.N.Named.lim c.args.kind c.args.stand.now.me c.loop-number.stand.me c.place_effect.new.stand.me c.in-Err.by
+      by = met_since g.N.Planted.nodes c.args.task c.args.effects.now g.N.Named.prog g.N.Named.lim c.args.kind c.args.stand.now.me c.loop-number.stand.me c.place_effect.new.stand.me c.in-Err.by
           c.loop-number.invariant.placed.keeps met.1;
     }
 

@@ -27,7 +27,7 @@ returns-in-Placed-clause-stands g c =
     let e = c.index-effects-number.result in
     let at = effect_at nodes t effects k e c.requires.number c.index-effects-number.is in
     let there = subst (λ (ns : List (List Elem)). IsPlaceOf ns e c.place.result) c.requires.shape (record { there = c.place.ensures.there; place = c.place.ensures.place }) in
-    placed_of nodes t effects c.args.kind k c.place.result e at there g.N.Named.lim c.args.stand.now.me c.place_one.new.stand.me c.in-Ok.attempt c.in-Placed.is c.in-Ok.ensures.tried
+    placed_of nodes t effects c.args.kind k c.place.result e at there g.N.Named.prog g.N.Named.lim c.args.stand.now.me c.place_one.new.stand.me c.in-Ok.attempt c.in-Placed.is c.in-Ok.ensures.tried
 
 pub returns-in-Stood-clause-stands : goal.returns-in-Stood-clause-stands
 returns-in-Stood-clause-stands g c =
@@ -38,7 +38,7 @@ returns-in-Stood-clause-stands g c =
     let e = c.index-effects-number.result in
     let at = effect_at nodes t effects k e c.requires.number c.index-effects-number.is in
     let there = subst (λ (ns : List (List Elem)). IsPlaceOf ns e c.place.result) c.requires.shape (record { there = c.place.ensures.there; place = c.place.ensures.place }) in
-    stood_of nodes t effects c.args.kind k c.place.result e at there g.N.Named.lim c.args.stand.now.me c.place_one.new.stand.me c.in-Ok.attempt c.in-Stood.is c.in-Ok.ensures.tried
+    stood_of nodes t effects c.args.kind k c.place.result e at there g.N.Named.prog g.N.Named.lim c.args.stand.now.me c.place_one.new.stand.me c.in-Ok.attempt c.in-Stood.is c.in-Ok.ensures.tried
 
 pub returns-in-Barred-clause-met : goal.returns-in-Barred-clause-met
 returns-in-Barred-clause-met g c =
@@ -49,7 +49,7 @@ returns-in-Barred-clause-met g c =
     let e = c.index-effects-number.result in
     let at = effect_at nodes t effects k e c.requires.number c.index-effects-number.is in
     let there = subst (λ (ns : List (List Elem)). IsPlaceOf ns e c.place.result) c.requires.shape (record { there = c.place.ensures.there; place = c.place.ensures.place }) in
-    barred_of nodes t effects c.args.kind k c.place.result e at there g.N.Named.lim c.args.stand.now.me c.place_one.new.stand.me c.in-Ok.attempt c.in-Barred.bar c.in-Barred.is
+    barred_of nodes t effects c.args.kind k c.place.result e at there g.N.Named.prog g.N.Named.lim c.args.stand.now.me c.place_one.new.stand.me c.in-Ok.attempt c.in-Barred.bar c.in-Barred.is
     c.in-Ok.ensures.tried
 
 pub returns-in-Err-clause-met : goal.returns-in-Err-clause-met

@@ -1,7 +1,9 @@
 -- Records that pass go on to pass while the stand learns of waits.
-use Rattle.std.proofs.Common.{◌-◌, length, sym, ◌∙◌, arith}
+use Rattle.std.proofs.Common.{◌-◌, length, ap, sym, ◌∙◌, arith}
 use Rattle.admission_laws.specs.admission_core.States.{Record}
 use Rattle.floor_rule.specs.nodes.LockSteps.{IsKnownToPass}
+use Rattle.floor_table.specs.nodes.TreeOf.{content_in}
+use Rattle.tree_admit.proofs.Alone.{learned_served}
 use Rattle.tree_admit.proofs.Between.{at_is_among, both_between, each_among, one_before, this_record}
 use Rattle.tree_admit.proofs.Following.{followed_trans}
 use Rattle.tree_admit.proofs.Learning.{bar_since}
@@ -15,8 +17,8 @@ returns-in-Err-clause-barred g c =
       (
         r,
         at_is_among c.args.content.now (c.loop-left.left - 1) r (sym c.in-Some.ensures),
-        bar_since g.N.Named.lim c.args.task c.args.effect.now c.args.stand.now.me.0 c.loop-left.stand.me.0 c.record_passes.new.stand.me.0 r c.in-Err.bar
-            c.loop-left.invariant.only.learned.looks c.in-Err.ensures.barred.1,
+        bar_since g.N.Named.prog g.N.Named.lim c.args.task c.args.effect.now c.args.stand.now.me.0 c.loop-left.stand.me.0 c.record_passes.new.stand.me.0 r c.in-Err.bar
+            c.loop-left.invariant.only.learned.looks (learned_served c.args.task c.args.stand.now.me.0 c.loop-left.stand.me.0 c.loop-left.invariant.only.learned) c.in-Err.ensures.barred.1,
       ),
     )
 
@@ -50,3 +52,9 @@ pub returns-clause-passes : goal.returns-clause-passes
 returns-clause-passes g c =
     let pass = λ (x : Record). IsKnownToPass c.loop-left.stand.me.0.waits c.args.task c.args.effect.now x in
     each_among pass c.args.content.now c.loop-left.left c.loop-left-test.false c.loop-left.invariant.passes
+
+pub record_passes-requires-clause-kept : goal.record_passes-requires-clause-kept
+record_passes-requires-clause-kept g c = ap (λ l. content_in l c.args.node) c.loop-left.invariant.only.kept ∙ c.requires.kept
+
+pub record_passes-requires-clause-among : goal.record_passes-requires-clause-among
+record_passes-requires-clause-among g c = at_is_among c.args.content.now (c.loop-left.left - 1) c.in-Some.r.now (sym c.in-Some.ensures)

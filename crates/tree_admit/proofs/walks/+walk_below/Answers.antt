@@ -7,6 +7,7 @@ use Rattle.tree_admit.proofs.ways.WayLemmas.{room_shrinks}
 use Rattle.floor_table.specs.nodes.Seats.{TreeSeat, left_to_give}
 use Rattle.tree_admit.specs.Descents.{walking}
 use Rattle.tree_admit.specs.Going.{HasOnlyLearned}
+use Rattle.tree_admit.proofs.Alone.{learned_served}
 use Rattle.tree_admit.proofs.Learning.{barred_kept, barred_since, learned_all, learned_refl, learned_trans, live_kept, worker_kept}
 use Rattle.tree_admit.proofs.Stepping.{barred_after, in_hand}
 use Rattle.tree_admit.proofs.Steps.{locked_has, unlocked_learned}
@@ -46,7 +47,7 @@ returns-in-Err-clause-barred g t c = λ earlier rest stack done may.
     let gave = c.back_out.ensures.gave next rest (looked_stops nodes tree lim earlier rest errand e n stack done content start may me only) hand in
     let barred = c.in-Err.ensures.barred in (
       looked_left nodes tree lim earlier rest errand e n stack done content start may me only final gave,
-      barred_after lim earlier rest (walking errand e (n ∷ stack) done) n content me (looked_has nodes tree lim earlier rest errand e n stack done content start may me only) start errand.task e c.in-Err.bar next final may.none may.has.learned.looks barred.1 barred.2 gave,
+      barred_after lim earlier rest (walking errand e (n ∷ stack) done) n content me (looked_has nodes tree lim earlier rest errand e n stack done content start may me only) g.N.Named.prog start errand.task e c.in-Err.bar next final may.none may.has.learned barred.1 barred.2 gave,
     )
 
 pub loop-at-init : goal.loop-at-init
@@ -259,8 +260,8 @@ returns-in-Err-walk_below-clause-barred g t c = λ earlier rest stack done may.
     let gave = c.back_out-in-Err-walk_below.ensures.gave next rest (back_stops nodes tree lim earlier rest errand e n stack done content start may children each rising at within me part below after locked then left) (in_hand lim earlier rest (giving nodes tree lim earlier rest errand e n stack done content start may children each rising at within me part below after locked then left) n content then (back_has nodes tree lim earlier rest errand e n stack done content start may children each rising at within me part below after locked then left)) in
     let learned : HasOnlyLearned then.0 final.0 = subst (λ (w : TreeSeat). HasOnlyLearned then.0 w.0) (sym gave) (unlocked_learned then.0 then.0 n next (learned_refl then.0)) in (
       back_left nodes tree lim earlier rest errand e n stack done content start may children each rising at within me part below after locked then left final gave,
-      barred_since lim errand.task e earlier me.0 final.0 c.in-Err-walk_below.bar part.has.learned.kept part.has.learned.looks
-          (barred_kept lim errand.task e me.0 then.0 final.0 c.in-Err-walk_below.bar (learned_all then.0 final.0 learned) barred.1),
+      barred_since g.N.Named.prog lim errand.task e earlier me.0 final.0 c.in-Err-walk_below.bar part.has.learned.kept part.has.learned.looks (learned_served errand.task earlier me.0 part.has.learned)
+          (barred_kept g.N.Named.prog lim errand.task e me.0 then.0 final.0 c.in-Err-walk_below.bar (learned_all then.0 final.0 learned) barred.1),
     )
 
 pub loop-at-preserved : goal.loop-at-preserved
@@ -326,3 +327,6 @@ returns-clause-walked g t c = λ earlier rest stack done may.
     let rising = c.below-children.ensures.in_order in
     let all : c.loop-at.at ≡ length children = omega (arith, c.loop-at-test.false, c.loop-at.auto.at-end) in
     whole_walk nodes tree lim earlier rest errand e n stack done content start may children each rising c.loop-at.at all c.loop-at.stand.me (c.loop-at.invariant.walk earlier rest stack done may)
+
+pub look_at-requires-clause-kept : goal.look_at-requires-clause-kept
+look_at-requires-clause-kept g t c = c.requires.may.4.has.known

@@ -16,6 +16,7 @@ use Rattle.floor_table.specs.FloorOf.{turn_in}
 use Rattle.task_floor.specs.steps.Committing.{Log}
 use Rattle.floor_table.specs.nodes.Seats.{TreeSeat}
 use Rattle.task_floor.specs.Committing.{MayCommitBeside}
+use Rattle.tree_admit.specs.inner.Served.{HasOnlyServed}
 use Rattle.task_floor.specs.Holding.{HoldsChildBeside, HoldsDrawnBeside, HoldsOneBeside}
 
 -- The worker has this turn of task t, which it got since it had the first seat. It has drawn no entry since then.
@@ -24,6 +25,7 @@ pub record HasTakenSince (before me : TreeSeat) (t : ℕ) : Type 0 where
   pub has : turn_in me.0.floor.turns t ≡ Some turn
   pub had : IsAdded (record { task = t; turn = Some turn }) before.0.floor.turns me.0.floor.turns
   pub part : me.0.floor.part ≡ before.0.floor.part
+  pub served : HasOnlyServed t before.0.floor me.0.floor
   pub kept : HasGrown before.0.kept me.0.kept
   pub looks : HasGrown before.0.looks me.0.looks
 

@@ -8,6 +8,7 @@ use Rattle.floor_table.proofs.Added.{grown_is, grown_then}
 use Rattle.tree_admit.specs.Attempts.{WasBarredFor}
 use Rattle.tree_admit.specs.declared.admitting.Admittance.{Admittance}
 use Rattle.tree_admit.proofs.serving.Serving.{admitted_one, admitted_same, drawn_admitted, had_since, held_since, held_tried, is_made, kept_part, kept_same, may_admit_tried, same_stands, same_trees_twice, same_twice}
+use Rattle.tree_admit.proofs.Alone.{alone_then}
 use Rattle.tree_admit.proofs.serving.workshop.Workshop.admit_made.Goals as goal
 
 pub park-requires-clause-holds : goal.park-requires-clause-holds
@@ -86,7 +87,7 @@ returns-in-Held-clause-tried g c = λ before since.
     let keeps = c.in_ok-admittance.ensures.keeps in
     let logs = ap (λ (l : Log). l.entries) c.in_ok-reserve.ensures.ok in
     let barred = c.in_ok-admittance.ensures.held c.in-Held.bar (ap (λ (x : Admittance). Ok x) c.in-Held.is) in
-    let was = subst (λ (l : List Effect). WasBarredFor g.N.Named.lim h.stand.me.0 b.0 h.task l c.in-Held.bar) (c.as_slice-effects.ensures ∙ ap (λ (s : TaskSlot). s.effects.effects) held.slot_is) barred.1 in
+    let was = subst (λ (l : List Effect). WasBarredFor g.N.Named.prog g.N.Named.lim h.stand.me.0 b.0 h.task l c.in-Held.bar) (c.as_slice-effects.ensures ∙ ap (λ (s : TaskSlot). s.effects.effects) held.slot_is) barred.1 in
     let turns = grown_then h.stand.me.0.floor.turns b.0.floor.turns c.give_back.result.me.0.floor.turns
     (grown_is h.stand.me.0.floor.turns b.0.floor.turns (ap (λ (v : View). v.turns) keeps.floor)) c.give_back.ensures.turns in
     record {
@@ -95,6 +96,12 @@ returns-in-Held-clause-tried g c = λ before since.
       made = holds.2;
       part = c.give_back.ensures.part ∙ (kept_part h.task h.stand.me b keeps ∙ since.part);
       bar = c.in-Held.bar;
-      barred = held_since g.N.Named.lim before h.stand.me b c.give_back.result.me h.task turn.row.effects.effects c.in-Held.bar since was c.give_back.ensures.knows;
+      barred = held_since g.N.Named.prog g.N.Named.lim before h.stand.me b c.give_back.result.me h.task turn.row.effects.effects c.in-Held.bar since was c.give_back.ensures.knows;
       by_is = refl;
     }
+
+pub returns-in-Held-clause-alone : goal.returns-in-Held-clause-alone
+returns-in-Held-clause-alone g c = λ before since low st alone.
+    let h = c.args.holding in
+    c.in_ok-admittance.ensures.alone c.in-Held.bar (ap (λ (x : Admittance). Ok x) c.in-Held.is) low st
+    (alone_then g.N.Named.prog g.N.Named.lim h.task before.0.floor h.stand.me.0.floor st since.served alone) c.requires.holds.1.one.others

@@ -1,10 +1,11 @@
-use Rattle.std.proofs.Common.{◌≡◌, subst, ◌∙◌, inl, inr, ⊎_elim}
+use Rattle.std.proofs.Common.{◌≡◌, subst, ◌∙◌, inl, inr, ⊎_elim, arith}
 use Rattle.floor_rule.specs.declared.view.Phase.TheVariants as phases
 use Rattle.floor_rule.specs.Rows.{phase_of}
 use Rattle.task_floor.specs.steps.Resuming.{IsReadiness}
 use Rattle.floor_table.specs.nodes.FloorSeats.{floor_seat}
 use Rattle.task_floor.proofs.ServedBeside.{holds_ready}
 use Rattle.tree_admit.proofs.serving.Serving.{found_waiting, moved_part, run_since, still_held, was_found}
+use Rattle.tree_admit.proofs.Alone.{alone_then}
 use Rattle.tree_admit.proofs.serving.workshop.Workshop.serve_taken.Goals as goal
 
 pub run_taken-requires-clause-holds : goal.run_taken-requires-clause-holds
@@ -83,3 +84,11 @@ returns-in_ok-worker-in-Runs-clause-served g c = λ before since.
     let h = c.args.holding in
     let b = c.make_ready-readiness.new.stand.me in
     run_since before b c.in_ok-worker-in-Runs.worker.me h.task c.in_ok-worker-in-Runs.end (moved_part h.stand.me b h.task c.make_ready-readiness.ensures.moves ∙ since.part) c.in_ok-worker-in-Runs.ensures.ran
+
+pub returns-in-Waits-clause-alone : goal.returns-in-Waits-clause-alone
+returns-in-Waits-clause-alone g c = λ before since st alone done.
+    let h = c.args.holding in
+    let on = c.in-Waits.on in
+    let above = c.make_ready-readiness.ensures.above on c.in-Waits.is in
+    c.make_ready-readiness.ensures.alone on c.in-Waits.is st (alone_then g.N.Named.prog g.N.Named.lim h.task before.0.floor h.stand.me.0.floor st since.served alone)
+    (c.requires.holds.1.one.others on (λ same. omega (arith, same, above))) done
