@@ -25,7 +25,7 @@ cause_command tells words before after book command (Err memory) means cause = t
 -- the answer to words that mean none
 pub cause_usage : {S : Type 0} (tells : SourceTells S) (words : List (List ℕ)) (src : S) (book : Book) (made : Result Answer out_of.Memory)
     → IsMeaning words None → IsNew book → IfOk made (λ a. a ≡ on_err Usage usage_text) → IfOk made (HasCauseInWords tells words src src book)
-cause_usage tells words src book (Ok answer) none new same = (None, none, same, refl, new)
+cause_usage tells words src book (Ok answer) none new same = (None, none, (same, refl, new))
 cause_usage tells words src book (Err memory) none new same = tt
 
 -- an answer that has its cause by what the words mean, and is written

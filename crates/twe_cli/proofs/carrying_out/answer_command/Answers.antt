@@ -5,12 +5,19 @@ use Rattle.text_answers.specs.Starting.{IsStarted}
 use Rattle.text_answers.proofs.Inputs.{cause_of_run}
 use Rattle.twe_cli.proofs.carrying_out.answer_command.Goals as goal
 
--- the program keeps the rules on effects, and these are the limits of its run
-pub run_program-requires : goal.run_program-requires
-run_program-requires g c =
+-- the program keeps the rules on effects
+pub run_program-requires-clause-keeps : goal.run_program-requires-clause-keeps
+run_program-requires-clause-keeps g c =
     let src = source g.S.Source.left g.S.Source.faults g.S.Source.read_gives in
     let is = subst (λ (s : Started). IsStarted src c.args.cmd.now c.args.src.now c.start.new.src c.start.new.book s) c.in-ToRun.is c.in_ok-started.ensures in
-    record { sized = c.requires.sized; keeps = is.0.keeps; asked = is.0.limits }
+    λ κs fits. is.0.keeps
+
+-- these are the limits of its run
+pub run_program-requires-clause-asked : goal.run_program-requires-clause-asked
+run_program-requires-clause-asked g c =
+    let src = source g.S.Source.left g.S.Source.faults g.S.Source.read_gives in
+    let is = subst (λ (s : Started). IsStarted src c.args.cmd.now c.args.src.now c.start.new.src c.start.new.book s) c.in-ToRun.is c.in_ok-started.ensures in
+    λ κs fits. is.0.limits
 
 -- the run is the one that the command asks for
 pub answer_run-requires : goal.answer_run-requires

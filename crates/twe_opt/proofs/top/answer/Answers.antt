@@ -9,21 +9,22 @@ use Rattle.twe_opt.proofs.Causes.{asked_range, cause_asked}
 use Rattle.twe_opt.proofs.top.answer.Goals as goal
 
 -- the words ask for 1 to 64 workers
-pub answer_command-requires : goal.answer_command-requires
-answer_command-requires g c =
-    let within = asked_range c.args.words.now c.in-Some.cmd c.in-Some.ensures in
-    record { new = c.requires; sized = within.0; some = within.1 }
+pub answer_command-requires-clause-sized : goal.answer_command-requires-clause-sized
+answer_command-requires-clause-sized g c = λ κs fits. (asked_range c.args.words.now c.in-Some.cmd (sym c.in-Some.ensures)).0
+
+pub answer_command-requires-clause-some : goal.answer_command-requires-clause-some
+answer_command-requires-clause-some g c = λ κs fits. (asked_range c.args.words.now c.in-Some.cmd (sym c.in-Some.ensures)).1
 
 -- their run is answered
 pub returns-in-Some : goal.returns-in-Some
 returns-in-Some g c =
     let src = source g.S.Source.left g.S.Source.faults g.S.Source.read_gives in
-    cause_asked src c.args.words.now c.args.src.now _ c.answer_command.new.book c.in-Some.cmd c.answer_command.result c.in-Some.ensures c.answer_command.ensures
+    cause_asked src c.args.words.now c.args.src.now _ c.answer_command.new.book c.in-Some.cmd c.answer_command.result (sym c.in-Some.ensures) c.answer_command.ensures
 
 -- they ask for no run
 pub returns-in_ok-usage_text-in-None : goal.returns-in_ok-usage_text-in-None
 returns-in_ok-usage_text-in-None g c =
     let src = source g.S.Source.left g.S.Source.faults g.S.Source.read_gives in
     let line = c.on_err.ensures ∙ ap (on_err Usage) c.in_ok-usage_text-in-None.ensures in
-    subst (λ (meaning : Option Command). CauseOfWords src opt_usage_text meaning c.args.src.now c.args.src.now c.args.book.now c.on_err.result) (sym c.in-None.ensures)
+    subst (λ (meaning : Option Command). CauseOfWords src opt_usage_text meaning c.args.src.now c.args.src.now c.args.book.now c.on_err.result) c.in-None.ensures
     (line, refl, c.requires)
