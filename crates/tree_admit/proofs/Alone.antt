@@ -1,15 +1,14 @@
 -- What the only stand finds in the way of an admission.
-use Rattle.std.proofs.Common.{◌≡◌, ◌≢◌, ◌⊎◌, ℕ, Bool, true, false, List, ◌∷◌, [], Option, None, Some, IsTrue, refl, sym, ap, subst, ◌∙◌, inl, inr, ⊎_elim}
-use Rattle.std.specs.Prelude.{Contains, not, ◌&&◌}
+use Rattle.std.proofs.Common.{◌≡◌, ◌≢◌, ◌⊎◌, ℕ, Bool, true, false, List, None, Some, IsTrue, refl, sym, ap, subst, ◌∙◌, inl, inr, ⊎_elim}
+use Rattle.std.specs.Prelude.{Contains, not}
 use Rattle.std.proofs.lemmas.Bool.{and_parts}
 use Rattle.region_paths.specs.Apart.{apart}
 use Rattle.region_paths.specs.Filled.{filled}
 use Rattle.region_paths.proofs.Meeting.{not_apart-meet}
 use Rattle.effect_sets.specs.declared.effects.Effect.{Effect}
 use Rattle.effect_sets.specs.Interference.{Interferes, one_writes, statically_interferes}
-use Rattle.wait_graph.specs.declared.tasks.Link.{Link}
 use Rattle.wait_graph.specs.Link.{link_of}
-use Rattle.wait_graph.specs.Waiting.{SpawnedBy, WaitsFor, WaitsForNobody, WaitsOn}
+use Rattle.wait_graph.specs.Waiting.{SpawnedBy, WaitsOn}
 use Rattle.wait_graph.proofs.ChainLemmas.{Chain-fork, Chain-push, Chain-stays}
 use Rattle.wait_graph.proofs.WaitingLemmas.{WaitsFor-done, WaitsFor-one, YieldsTo-rootless}
 use Rattle.twe_base.specs.Limits.{Bounds}
@@ -19,7 +18,6 @@ use Rattle.twe_machine.specs.declared.state.TaskRow.{TaskRow}
 use Rattle.twe_machine.specs.Legal.{Interfere, MayAdmit}
 use Rattle.twe_machine.proofs.tasks.Filled.{reached_filled}
 use Rattle.isolation_laws.proofs.admission.Statuses.{reached_made}
-use Rattle.seg_journal.specs.declared.numbered.NumberedEntry.{NumberedEntry}
 use Rattle.floor_rule.specs.declared.view.HeldTurn.{HeldTurn}
 use Rattle.floor_rule.specs.declared.view.Phase.{Phase}
 use Rattle.floor_rule.specs.declared.view.Phase.TheVariants.{Absent, Made, Running, Waits, Done, Faulted}
@@ -112,12 +110,12 @@ module _ (p : Program) (lim : Bounds) (from to at : ℕ) (phase : Phase) (start 
     }
       where
         awaits_none : (phase : Phase) → ((on : ℕ) → phase ≢ Waits on) → awaited_by phase ≡ None
-        awaits_none Absent no = refl
-        awaits_none Made no = refl
-        awaits_none Running no = refl
-        awaits_none (Waits on) no = absurd (no on refl)
-        awaits_none Done no = refl
-        awaits_none Faulted no = refl
+        awaits_none Absent other = refl
+        awaits_none Made other = refl
+        awaits_none Running other = refl
+        awaits_none (Waits on) other = absurd (other on refl)
+        awaits_none Done other = refl
+        awaits_none Faulted other = refl
 
   -- what is known then, if no entry was drawn on the way
   pub followed_alone : ((on : ℕ) → phase ≢ Waits on) → ((st : State) → IsAloneAt p lim start.0.floor st → HasOnlyTurnOf start.0.floor to → WaitsOn st.links from at ⊎ LeadsElsewhere st.links from to)

@@ -40,7 +40,7 @@ returns-in-InTheWay-clause-alone g c =
     let met = subst (λ (o : Obstacle). IsObstacle p lim Admission before.0 middle.0 t effects o) c.in-InTheWay.is c.in-Err.ensures.stopped.by in
     λ bar same low.
     let one = held_by c.in-InTheWay.bar bar same in
-    barred_forbids p lim before.0 middle.0 t effects c.in-InTheWay.bar c.requires.may met.1 (subst (λ (b : Bar). b.by < lim.tasks) (sym one) low)
+    barred_forbids g.N.Planted.nodes t effects p lim before.0 middle.0 c.in-InTheWay.bar c.requires.may met.1 (subst (λ (b : Bar). b.by < lim.tasks) (sym one) low)
 
 pub returns-in-InTheWay-clause-keeps : goal.returns-in-InTheWay-clause-keeps
 returns-in-InTheWay-clause-keeps g c =
