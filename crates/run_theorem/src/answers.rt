@@ -1,5 +1,5 @@
-//! The law of determinism at the answers.
-ghost use Rattle.std.specs.Prelude.{◌≡◌, ◌≤◌, ℕ, List, false, length};
+//! The laws of determinism at the answers.
+ghost use Rattle.std.specs.Prelude.{◌≡◌, ◌≤◌, ℕ, Bool, List, false, length};
 ghost use Rattle.twe_base.specs.Language.{max_text_bytes};
 ghost use Rattle.twe_base.specs.Limits.{Bounds, IsWithin};
 ghost use Rattle.twe_program.specs.Program.{Program};
@@ -11,9 +11,24 @@ ghost use Rattle.text_answers.specs.Answers.{IsAnswerTo};
 ghost use Rattle.twe_io.specs.declared.status.Status.TheVariants.{Done};
 
 use crate::accepted::accepted_programs_are_well_formed;
-use status_laws::{deterministic_runs_are_never_stuck, runs_finish_if_one_does};
+use status_laws::ended_runs_end_as_the_execution;
 use text_answers::deterministic_mains_have_one_result_text;
 use twe_frontend::{one_program, refused_or_accepted};
+
+/// If `main` of an accepted text is deterministic, the status of its run is a function of the text and the limits: two runs of
+/// the text under the same limits have the same status, by any two numbers of workers, whether they were asked for their
+/// journals or not.
+pub fn deterministic_mains_have_one_status()
+    ensures { (text : List ℕ) (p : Program) (workers crew : ℕ) (asked also : Bool) (lim : Bounds) (answer other : Answer)
+        → length text ≤ max_text_bytes → Accepted text p → MainIsDeterministic p → IsWithin lim.fuel lim.tasks
+        → IsAnswerTo (Run workers lim asked) text answer → IsAnswerTo (Run crew lim also) text other
+        → answer.status ≡ other.status }
+{
+    accepted_programs_are_well_formed();
+    ended_runs_end_as_the_execution();
+    one_program();
+    refused_or_accepted();
+}
 
 /// If `main` of an accepted text is deterministic, the answer to its run does not depend on the number of workers, or on which
 /// worker did what: if one run of the text that was not asked for its journal ends with status 0, then each other one under the
@@ -26,8 +41,6 @@ pub fn deterministic_mains_have_one_answer()
 {
     accepted_programs_are_well_formed();
     deterministic_mains_have_one_result_text();
-    deterministic_runs_are_never_stuck();
-    runs_finish_if_one_does();
+    deterministic_mains_have_one_status();
     one_program();
-    refused_or_accepted();
 }

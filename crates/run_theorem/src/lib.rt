@@ -9,6 +9,6 @@ mod journals;
 mod theorem;
 
 pub use accepted::accepted_programs_are_well_formed;
-pub use answers::deterministic_mains_have_one_answer;
+pub use answers::{deterministic_mains_have_one_answer, deterministic_mains_have_one_status};
 pub use journals::{each_task_is_enabled_once, tasks_keep_apart_throughout};
 pub use theorem::the_run_theorem;

@@ -1,12 +1,10 @@
-use Rattle.std.proofs.Common.{◌≡◌, refl, sym, ap, ◌∙◌, subst, false}
+use Rattle.std.proofs.Common.{◌≡◌, sym, ap, ◌∙◌, subst, false}
 use Rattle.twe_program.specs.Program.{Program}
 use Rattle.twe_machine.specs.Runs.{AllTasksDone, Legal, state_after}
 use Rattle.twe_report.specs.Texts.{result_text}
 use Rattle.twe_io.specs.Answers.{on_out}
 use Rattle.twe_io.specs.declared.status.Status.TheVariants.{Done}
-use Rattle.status_laws.specs.Endings.{SomeRunFinishes}
 use Rattle.run_theorem.proofs.Headline.{done_run}
-use Rattle.run_theorem.proofs.OtherRuns.{other_is_done}
 use Rattle.run_theorem.proofs.answers.deterministic_mains_have_one_answer.Goals as goal
 
 pub returns : goal.returns
@@ -19,10 +17,8 @@ returns c text p workers crew lim answer other short accepted flag limits one do
     let legal_first : Legal p lim one.0.journal = subst (λ (q : Program). Legal q lim one.0.journal) is_first first.has.has.legal in
     let all_first : AllTasksDone (state_after p lim one.0.journal) =
     subst (λ (q : Program). AllTasksDone (state_after q lim one.0.journal)) is_first first.has.has.ended.1 in
-    let finishes : SomeRunFinishes p lim = record { journal = one.0.journal; legal = legal_first; done = all_first } in
-    let done_second = other_is_done p lim (c.runs_finish_if_one_does.ensures.no_fault p wf keeps flag lim finishes)
-    (λ journal legal. c.deterministic_runs_are_never_stuck.ensures.never_stuck p wf keeps flag lim limits (state_after p lim journal) (record { journal = journal; legal = legal; same = refl }))
-    text accepted (λ q is. c.one_program.ensures text q p is accepted) (λ refusal. c.refused_or_accepted.ensures.never_both text p refusal accepted) crew second.0 other second.1 in
+    let done_second : other.status ≡ Done =
+    sym (c.deterministic_mains_have_one_status.ensures text p workers crew false false lim answer other short accepted flag limits one second) ∙ done in
     let later = done_run crew lim false text second.0 other second.1 done_second in
     let is_later : later.program ≡ p = c.one_program.ensures text later.program p later.accepted accepted in
     let legal_later : Legal p lim second.0.journal = subst (λ (q : Program). Legal q lim second.0.journal) is_later later.has.has.legal in
