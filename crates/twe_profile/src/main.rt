@@ -3,6 +3,7 @@
 //! heaviest chain of entries.
 #![tactic(auto)]
 
+mod laws;
 mod text;
 mod top;
 

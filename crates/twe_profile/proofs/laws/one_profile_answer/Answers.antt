@@ -1,0 +1,5 @@
+use Rattle.twe_profile.proofs.OneAnswer.{one_answer}
+use Rattle.twe_profile.proofs.laws.one_profile_answer.Goals as goal
+
+pub returns : goal.returns
+returns c = one_answer c.one_program.ensures c.one_refusal.ensures c.refused_or_accepted.ensures.never_both c.one_profile.ensures
