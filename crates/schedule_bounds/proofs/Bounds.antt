@@ -3,11 +3,13 @@ use Rattle.std.proofs.Common.{◌≡◌, ◌<◌, ◌≤◌, ◌+◌, ◌-◌, �
 use Rattle.std.specs.Prelude.{◌&&◌, nat_le, nat_lt, if◌then◌else◌}
 use Rattle.std.specs.List.{sum_by}
 use Rattle.std.proofs.Math.Nat.{mul-le-mul_left}
-use Rattle.std.proofs.lemmas.Nat.{div_below}
+use Rattle.std.specs.Int.{div_ceil}
+use Rattle.std.proofs.lemmas.Grind.{div_ceil_times}
+use Rattle.std.proofs.lemmas.Nat.{mul-le}
 use Rattle.std.proofs.lemmas.Bool.{and_from, and_left, and_right, cases_lt, cases_order, le-leb, lt-leb, lt-ltb, le-ltb}
 use Rattle.std.proofs.lemmas.List.Sums.{sum_by-cons, sum_by_push}
 use Rattle.schedule_bounds.specs.Chains.{ComesInOrder, LeadsForward, SpanIsAtMost, SpanIsReached}
-use Rattle.schedule_bounds.specs.Schedules.{IsGreedy, IsSchedule, Waits, divided_up, least_time, length_of, running, runs_in}
+use Rattle.schedule_bounds.specs.Schedules.{IsGreedy, IsSchedule, Waits, least_time, length_of, running, runs_in}
 use Rattle.schedule_bounds.specs.Sums.{sum_below}
 
 -- the step counts as one if the entry runs in it
@@ -86,11 +88,14 @@ zero_or_more zero = inl refl
 zero_or_more (suc n) = inr (omega arith)
 
 -- the quotient rounded up is the least number of which so many are enough
-divided_up_least : (number by time : ℕ) → 0 < by → number ≤ by * time → divided_up number by ≤ time
-divided_up_least number by time some enough =
-    let below : number + (by - 1) < (time + 1) * by = omega (arith, some, enough) in
-    let least = div_below (number + (by - 1)) by (time + 1) some below in
-    omega (arith, least)
+quotient_least : (number by time : ℕ) → 0 < by → number ≤ by * time → div_ceil number by ≤ time
+quotient_least number by time some enough = elim (cases_lt time (div_ceil number by)) [
+  | inl more ↦ (
+      let below = (div_ceil_times number by some).1 in
+      let product : (time + 1) * by ≤ div_ceil number by * by = mul-le (time + 1) by (div_ceil number by) by (omega (arith, more)) (omega arith) in
+      absurd (omega (arith, below, product, enough)))
+  | inr least ↦ least
+]
 
 sum_of_times : (f : ℕ → ℕ) (k n : ℕ) → sum_below (λ i. k * f i) n ≡ k * sum_below f n
 sum_of_times f k zero = omega arith
@@ -124,7 +129,7 @@ module _ (Leads : ℕ → ℕ → Type 0) (weight : ℕ → ℕ) (count processo
   not_shorter span some reached =
       let chain = span_within reached.0 reached.1 in
       let weighs = reached.2 in
-      let share = divided_up_least (sum_below weight count) processors (length_of weight start count) some work_within in
+      let share = quotient_least (sum_below weight count) processors (length_of weight start count) some work_within in
       omega (arith, chain, weighs, share)
 
 module _ (Leads : ℕ → ℕ → Type 0) (forward : LeadsForward Leads) (weight : ℕ → ℕ) (count processors : ℕ) (start : ℕ → ℕ) (is : IsGreedy Leads weight count processors start) where

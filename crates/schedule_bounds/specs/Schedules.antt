@@ -1,6 +1,7 @@
 -- Schedules of entries on processors that work at once. An entry has a weight, which is the number of steps that it takes on
 -- one processor, without a break. Steps and entries are numbered from 0.
-use Rattle.std.specs.Prelude.{◌≡◌, ◌<◌, ◌≤◌, ◌+◌, ◌-◌, ◌/◌, ◌&&◌, ◌⊎◌, ℕ, zero, suc, Bool, max, nat_le, nat_lt, if◌then◌else◌}
+use Rattle.std.specs.Int.{div_ceil}
+use Rattle.std.specs.Prelude.{◌≡◌, ◌<◌, ◌≤◌, ◌+◌, ◌&&◌, ◌⊎◌, ℕ, zero, suc, Bool, max, nat_le, nat_lt, if◌then◌else◌}
 use Rattle.schedule_bounds.specs.Sums.{sum_below}
 
 -- whether an entry of this weight that starts at this step runs in the step
@@ -35,10 +36,7 @@ pub record IsGreedy (Leads : ℕ → ℕ → Type 0) (weight : ℕ → ℕ) (cou
   pub busy : (entry step : ℕ) → entry < count → step < start entry
       → Waits Leads weight start entry step ⊎ (running weight start count step ≡ processors)
 
--- the quotient, rounded up
-abbrev pub divided_up : ℕ → ℕ → ℕ
-divided_up number by = (number + (by - 1)) / by
-
--- the least time that work with this span can take on so many processors: the greater of the span and the work by processors
+-- the least time that work with this span can take on so many processors: the greater of the span, and of the work by the
+-- processors, rounded up
 abbrev pub least_time : ℕ → ℕ → ℕ → ℕ
-least_time work span processors = max span (divided_up work processors)
+least_time work span processors = max span (div_ceil work processors)

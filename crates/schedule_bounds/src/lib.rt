@@ -6,6 +6,8 @@
 
 mod graph;
 mod laws;
+mod times;
 
 pub use graph::Graph;
 pub use laws::{a_greedy_schedule_is_short, no_schedule_is_shorter};
+pub use times::least_time;
