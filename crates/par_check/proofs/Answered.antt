@@ -2,7 +2,7 @@
 use Rattle.std.proofs.Common.{◌≡◌, ℕ, List, [], ◌∷◌, map, Result, Ok, Err, IfOk, sym, subst}
 use Rattle.std.specs.List.{AllZip}
 use Rattle.twe_base.specs.declared.memory.Memory.{Memory}
-use Rattle.text_answers.specs.Answer.{Answer}
+use Rattle.twe_io.specs.declared.answer.Answer.{Answer}
 
 -- the answers in results that are all there
 all-there : (R : List ℕ → Answer → Type 0) (texts : List (List ℕ)) (answers : List Answer)

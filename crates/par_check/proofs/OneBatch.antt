@@ -2,7 +2,7 @@
 use Rattle.std.proofs.Common.{◌≡◌, ℕ, List, [], ◌∷◌, refl, sym, ap, ◌∙◌}
 use Rattle.std.specs.List.{AllZip}
 use Rattle.command_line.specs.declared.command.Command.{Command}
-use Rattle.text_answers.specs.Answer.{Answer}
+use Rattle.twe_io.specs.declared.answer.Answer.{Answer}
 use Rattle.text_answers.specs.Answers.{IsAnswerTo}
 use Rattle.command_line.specs.Words.{workers_of}
 use Rattle.par_check.specs.declared.job.Job.{Job}

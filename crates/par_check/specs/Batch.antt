@@ -4,8 +4,8 @@ use Rattle.std.specs.List.{AllZip}
 use Rattle.seg_journal.specs.Lines.{lines_of}
 use Rattle.command_line.specs.declared.command.Command.{Command}
 use Rattle.command_line.specs.declared.command.Command.TheVariants as commands
-use Rattle.text_answers.specs.Answer.{Answer}
-use Rattle.text_answers.specs.Codes.{code_of}
+use Rattle.twe_io.specs.declared.answer.Answer.{Answer}
+use Rattle.twe_io.specs.Codes.{code_of}
 use Rattle.text_answers.specs.Answers.{IsAnswerTo, default_limits}
 use Rattle.text_answers.specs.Input.{is_mark}
 use Rattle.par_check.specs.declared.job.Job.{Job}

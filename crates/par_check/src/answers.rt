@@ -10,8 +10,9 @@ use crate::job::Job;
 use rayon::prelude::*;
 use std::alloc::Global;
 use std::thread::Threads;
-use text_answers::{Answer, answer_text};
+use text_answers::answer_text;
 use twe_base::{Bytes, List, Memory};
+use twe_io::Answer;
 
 /// Answers in the order of their programs.
 pub type Answers = List<Answer>;

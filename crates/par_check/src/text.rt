@@ -4,8 +4,8 @@ ghost use Rattle.par_check.specs.Batch.{answer_text, batch_text};
 
 use itoa::Buffer;
 use std::alloc::Global;
-use text_answers::Answer;
 use twe_base::{Bytes, Memory};
+use twe_io::Answer;
 
 /// What is written for these answers: for each, counted from 1, a line as `program 1: status 0`, and then its bytes for out and
 /// those for err.

@@ -17,12 +17,12 @@ use Rattle.twe_report.specs.Texts.{result_text}
 use Rattle.twe_io.specs.Answers.{Tells, on_out}
 use Rattle.twe_io.specs.Ends.{SinkTells, SourceTells, Took, WasRead}
 use Rattle.twe_io.specs.Runs.{WriteCalls}
-use Rattle.text_answers.specs.Answer.{Answer}
+use Rattle.twe_io.specs.declared.answer.Answer.{Answer}
 use Rattle.text_answers.specs.Answers.{AnswersRun, Due, with_journal}
 use Rattle.text_answers.specs.Theorem.{HasRun}
 use Rattle.text_answers.specs.declared.book.Book.{Book}
-use Rattle.text_answers.specs.declared.status.Status.{Status}
-use Rattle.text_answers.specs.declared.status.Status.TheVariants.{Done, Fault, Stuck, Unfinished, WriteFault}
+use Rattle.twe_io.specs.declared.status.Status.{Status}
+use Rattle.twe_io.specs.declared.status.Status.TheVariants.{Done, Fault, Stuck, Unfinished, WriteFault}
 use Rattle.run_theorem.specs.Journals.{AlwaysApart, AlwaysDeclared, EachTaskOnce}
 use Rattle.run_theorem.specs.Theorem.{RunTheorem, output_of_run}
 

@@ -6,9 +6,9 @@ ghost use Rattle.twe_program.specs.Program.{Program};
 ghost use Rattle.twe_frontend.specs.Accepted.{Accepted};
 ghost use Rattle.determinism_laws.specs.results.Main.{MainIsDeterministic};
 ghost use Rattle.command_line.specs.declared.command.Command.TheVariants.{Run};
-ghost use Rattle.text_answers.specs.Answer.{Answer};
+ghost use Rattle.twe_io.specs.declared.answer.Answer.{Answer};
 ghost use Rattle.text_answers.specs.Answers.{IsAnswerTo};
-ghost use Rattle.text_answers.specs.declared.status.Status.TheVariants.{Done};
+ghost use Rattle.twe_io.specs.declared.status.Status.TheVariants.{Done};
 
 use crate::accepted::accepted_programs_are_well_formed;
 use text_answers::deterministic_mains_have_one_result_text;

@@ -4,10 +4,10 @@ ghost use Rattle.twe_base.specs.Limits.{Bounds};
 ghost use Rattle.command_line.specs.declared.command.Command.TheVariants.{Run};
 ghost use Rattle.twe_io.specs.Answers.{Tells};
 ghost use Rattle.twe_io.specs.Ends.{WasRead, sink, source};
-ghost use Rattle.text_answers.specs.Answer.{Answer};
+ghost use Rattle.twe_io.specs.declared.answer.Answer.{Answer};
 ghost use Rattle.text_answers.specs.Answers.{Due};
 ghost use Rattle.text_answers.specs.declared.book.Book.{Book};
-ghost use Rattle.text_answers.specs.declared.status.Status.TheVariants.{Done, WriteFault};
+ghost use Rattle.twe_io.specs.declared.status.Status.TheVariants.{Done, WriteFault};
 ghost use Rattle.run_theorem.specs.Theorem.{RunTheorem};
 
 use crate::accepted::accepted_programs_are_well_formed;

@@ -17,7 +17,7 @@ use Rattle.twe_machine.specs.Moves.{move_result, start_of}
 use Rattle.twe_machine.specs.Replays.{ReplayIsOutOfMemory, IsReplay}
 use Rattle.twe_machine.specs.Runs.{Legal, LegalFrom, counted, is_fault, state_after}
 use Rattle.twe_machine.proofs.replays.Replayed.{one_from}
-use Rattle.text_answers.specs.Answer.{Answer}
+use Rattle.twe_io.specs.declared.answer.Answer.{Answer}
 use Rattle.text_answers.specs.Answers.{AnswersRun}
 
 -- the part that counts is a beginning

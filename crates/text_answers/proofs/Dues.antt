@@ -13,9 +13,9 @@ use Rattle.twe_machine.specs.declared.state.State.{State}
 use Rattle.twe_report.specs.Texts.{accepted_text, refusal_text}
 use Rattle.command_line.specs.declared.command.Command.{Command}
 use Rattle.command_line.specs.declared.command.Command.TheVariants.{Check, Run, Replay, Load}
-use Rattle.text_answers.specs.Answer.{Answer}
+use Rattle.twe_io.specs.declared.answer.Answer.{Answer}
 use Rattle.text_answers.specs.declared.book.Book.{Book}
-use Rattle.text_answers.specs.declared.status.Status.TheVariants.{Done, Refused}
+use Rattle.twe_io.specs.declared.status.Status.TheVariants.{Done, Refused}
 use Rattle.twe_io.specs.Answers.{on_err, on_out}
 use Rattle.text_answers.specs.Answers.{Due, AnswersReplay, IsAnswerTo, default_limits}
 use Rattle.text_answers.specs.Input.{program_text, journal_text}

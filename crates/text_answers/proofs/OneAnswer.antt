@@ -27,9 +27,9 @@ use Rattle.twe_report.specs.Texts as texts
 use Rattle.command_line.specs.declared.command.Command.{Command}
 use Rattle.command_line.specs.declared.command.Command.TheVariants.{Check, Run, Replay, Load}
 use Rattle.command_line.specs.Words.{workers_of}
-use Rattle.text_answers.specs.Answer.{Answer}
+use Rattle.twe_io.specs.declared.answer.Answer.{Answer}
 use Rattle.text_answers.specs.declared.book.Book.{Book}
-use Rattle.text_answers.specs.declared.status.Status.TheVariants as statuses
+use Rattle.twe_io.specs.declared.status.Status.TheVariants as statuses
 use Rattle.twe_io.specs.Answers.{on_err, on_out}
 use Rattle.text_answers.specs.Answers.{AnswersReplay, AnswersRun, Due, IsAnswerTo, after_prints, default_limits, for_load, limits_with, with_journal}
 use Rattle.text_answers.specs.Input.{journal_text, program_text}

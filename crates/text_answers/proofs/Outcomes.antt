@@ -13,8 +13,8 @@ use Rattle.determinism_laws.specs.results.Main.{MainHasItsResult}
 use Rattle.determinism_laws.specs.results.Results.{DeterministicTasksHaveResults}
 use Rattle.flat_sched.specs.Stuck.{IsCycleOfReasons, IsStuckCycle}
 use Rattle.twe_report.specs.Texts.{stuck_text}
-use Rattle.text_answers.specs.Answer.{Answer}
-use Rattle.text_answers.specs.declared.status.Status.TheVariants as statuses
+use Rattle.twe_io.specs.declared.answer.Answer.{Answer}
+use Rattle.twe_io.specs.declared.status.Status.TheVariants as statuses
 use Rattle.text_answers.specs.Answers.{AnswersRun, after_prints}
 use Rattle.text_answers.specs.Theorem.{EachAsOften, HasJournal}
 use Rattle.text_answers.specs.declared.book.Book.{Book}

@@ -11,9 +11,9 @@ use Rattle.twe_program.specs.Program.{Program}
 use Rattle.twe_machine.specs.declared.legal.Why.{Why}
 use Rattle.twe_machine.specs.Replays.{IsFirstIllegal}
 use Rattle.twe_report.specs.Texts.{not_a_move_text, not_legal_text}
-use Rattle.text_answers.specs.Answer.{Answer}
+use Rattle.twe_io.specs.declared.answer.Answer.{Answer}
 use Rattle.text_answers.specs.declared.book.Book.{Book}
-use Rattle.text_answers.specs.declared.status.Status.TheVariants.{BadJournal}
+use Rattle.twe_io.specs.declared.status.Status.TheVariants.{BadJournal}
 use Rattle.twe_io.specs.Answers.{on_err}
 use Rattle.text_answers.specs.Answers.{AnswersReplay, limits_with}
 use Rattle.text_answers.specs.Theorem.{HasProgram}

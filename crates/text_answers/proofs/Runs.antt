@@ -5,12 +5,12 @@ use Rattle.twe_base.specs.Limits.{Bounds}
 use Rattle.twe_program.specs.Program.{Program}
 use Rattle.twe_machine.specs.declared.state.State.{State}
 use Rattle.twe_machine.specs.Runs.{state_after}
-use Rattle.text_answers.specs.Answer.{Answer}
+use Rattle.twe_io.specs.declared.answer.Answer.{Answer}
 use Rattle.text_answers.specs.declared.book.Book.{Book}
 use Rattle.twe_io.specs.Answers.{on_err, on_out}
-use Rattle.text_answers.specs.declared.status.Status.TheVariants.{Done}
+use Rattle.twe_io.specs.declared.status.Status.TheVariants.{Done}
 use Rattle.text_answers.specs.Answers.{default_limits, for_load, with_journal}
-use Rattle.text_answers.specs.Codes.{is_status_done}
+use Rattle.twe_io.specs.Codes.{is_status_done}
 use Rattle.twe_report.specs.Texts as texts
 use Rattle.text_answers.specs.inner.Given.{IsAnswerOfLoad, IsAnswerOfRun, IsAnswerWithJournal}
 

@@ -26,7 +26,7 @@ use Rattle.twe_machine.proofs.standing.Standing.{Stands}
 use Rattle.twe_report.specs.Texts as texts
 use Rattle.command_line.specs.declared.command.Command.{Command}
 use Rattle.command_line.specs.declared.command.Command.TheVariants.{Check, Run, Replay}
-use Rattle.text_answers.specs.Answer.{Answer}
+use Rattle.twe_io.specs.declared.answer.Answer.{Answer}
 use Rattle.text_answers.specs.declared.book.Book.{Book}
 use Rattle.text_answers.specs.Answers.{AnswersReplay, AnswersRun, Due, limits_with, with_journal}
 use Rattle.text_answers.specs.Input as input

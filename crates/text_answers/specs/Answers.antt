@@ -20,13 +20,13 @@ use Rattle.flat_sched.specs.Stuck.{IsCycleOfReasons, IsStuckCycle}
 use Rattle.twe_report.specs.Texts.{result_text, prints_text, fault_text, stuck_text, unfinished_text, not_a_move_text, not_legal_text, accepted_text, refusal_text}
 use Rattle.twe_report.specs.Texts as texts
 use Rattle.twe_io.specs.Answers.{on_err, on_out}
-use Rattle.text_answers.specs.Answer.{Answer}
+use Rattle.twe_io.specs.declared.answer.Answer.{Answer}
 use Rattle.text_answers.specs.declared.book.Book.{Book}
-use Rattle.text_answers.specs.declared.status.Status.{Status}
-use Rattle.text_answers.specs.declared.status.Status.TheVariants.{Done, Refused, Fault, Stuck, BadJournal, Unfinished}
+use Rattle.twe_io.specs.declared.status.Status.{Status}
+use Rattle.twe_io.specs.declared.status.Status.TheVariants.{Done, Refused, Fault, Stuck, BadJournal, Unfinished}
 use Rattle.command_line.specs.declared.command.Command.{Command}
 use Rattle.command_line.specs.declared.command.Command.TheVariants.{Check, Run, Replay, Load}
-use Rattle.text_answers.specs.Codes.{is_status_done}
+use Rattle.twe_io.specs.Codes.{is_status_done}
 use Rattle.text_answers.specs.Theorem.{HasProgram, HasReplay, HasRun, HasRefusal}
 use Rattle.text_answers.specs.Input.{program_text, journal_text}
 

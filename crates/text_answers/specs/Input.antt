@@ -1,7 +1,7 @@
 -- The input of a command. For `check` and `run` it is the text of a program. For `replay` it is the text of a program, and
 -- after the first line that is exactly `%%` the text of a journal; without such a line the journal is empty. `load` has no
 -- input: its program text is that of the load generator.
-use Rattle.std.specs.Prelude.{Option, None, Some, ◌≡◌, ◌==◌, true, false, ◌++◌, ◌||◌, ℕ, Bool, List, [], ◌∷◌, codes, bytes_eq, if◌then◌else◌}
+use Rattle.std.specs.Prelude.{◌≡◌, ◌==◌, true, false, ◌++◌, ◌||◌, ℕ, Bool, List, [], ◌∷◌, codes, bytes_eq, if◌then◌else◌}
 use Rattle.std.specs.List.{flat_map, list_any}
 use Rattle.seg_journal.specs.Lines.{lines_of}
 use Rattle.command_line.specs.declared.command.Command.{Command}
@@ -26,9 +26,11 @@ after_mark (line ∷ lines) = if is_mark line then lines else after_mark lines
 abbrev pub joined : List (List ℕ) → List ℕ
 joined lines = flat_map (λ line. line) lines
 
+-- the text before the first mark
 abbrev pub program_part : List ℕ → List ℕ
 program_part input = joined (before_mark (lines_of input))
 
+-- the text after the first mark
 abbrev pub journal_part : List ℕ → List ℕ
 journal_part input = joined (after_mark (lines_of input))
 
@@ -52,11 +54,6 @@ has_input Check = true
 has_input (Run workers lim asked) = true
 has_input (Replay lim) = true
 has_input (Load workers n) = false
-
--- there is a command, and it has an input
-abbrev pub HasInput : Option Command → Type 0
-HasInput None = ⊥
-HasInput (Some command) = has_input command ≡ true
 
 -- the text is empty, or its last byte is the end of a line
 abbrev pub ends_line : List ℕ → Bool

@@ -1,7 +1,7 @@
-pub mod Answer
 pub mod Answers
-pub mod Codes
+pub mod Causes
 pub mod Input
 pub mod Running
+pub mod Starting
 pub mod Theorem
 pub mod inner

@@ -10,7 +10,7 @@ use Rattle.twe_machine.specs.Runs.{Legal, state_after}
 use Rattle.command_line.specs.declared.command.Command.{Command}
 use Rattle.command_line.specs.declared.command.Command.TheVariants.{Check, Run, Replay, Load}
 use Rattle.command_line.specs.Words.{workers_of}
-use Rattle.text_answers.specs.Answer.{Answer}
+use Rattle.twe_io.specs.declared.answer.Answer.{Answer}
 use Rattle.text_answers.specs.declared.book.Book.{Book}
 use Rattle.text_answers.specs.Answers.{Due, default_limits}
 use Rattle.text_answers.specs.Input.{program_text}

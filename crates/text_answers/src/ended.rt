@@ -5,15 +5,14 @@ ghost use Rattle.twe_machine.specs.declared.ending.Outcome.TheVariants as outcom
 ghost use Rattle.twe_report.specs.Texts as texts;
 ghost use Rattle.twe_io.specs.Answers.{on_err, on_out};
 ghost use Rattle.text_answers.specs.Answers.{AnswersRun, after_prints};
-ghost use Rattle.text_answers.specs.declared.status.Status.TheVariants.{Done, Unfinished};
+ghost use Rattle.twe_io.specs.declared.status.Status.TheVariants.{Done, Unfinished};
 
-use crate::answer::Answer;
 use crate::counting::{counted_length, prints_of};
-use crate::status::Status;
 use flat_sched::stuck_cycle;
 use seg_journal::Journal;
 use std::alloc::Global;
 use twe_base::{Bytes, Limits, Memory};
+use twe_io::{Answer, Status};
 use twe_machine::{Outcome, State};
 use twe_program::Prog;
 use twe_report::{fault_text, prints_text, result_text, stuck_text, unfinished_text};

@@ -12,7 +12,7 @@ ghost use Rattle.twe_report.specs.Texts.{journal_part_text, result_text};
 ghost use Rattle.command_line.specs.Words.{workers_of};
 ghost use Rattle.command_line.specs.declared.command.Command.{Command};
 ghost use Rattle.command_line.specs.declared.command.Command.TheVariants.{Run, Replay};
-ghost use Rattle.text_answers.specs.Answer.{Answer};
+ghost use Rattle.twe_io.specs.declared.answer.Answer.{Answer};
 ghost use Rattle.text_answers.specs.declared.book.Book.{Book};
 ghost use Rattle.text_answers.specs.Answers.{Due, IsAnswerTo, with_journal};
 ghost use Rattle.text_answers.specs.Input.{HasNoMark, ends_line};

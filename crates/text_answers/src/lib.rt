@@ -1,24 +1,24 @@
-//! The answer to a program text: what the commands write of it, and with which status. The texts are given, and nothing is
-//! written; `twe_cli` reads and writes. All of it happens on the calling thread.
+//! From a command to its answer: what the commands write of a program text, and with which status. Nothing is written here, and all
+//! of it happens on the calling thread. The programs run by workers what `start` says is to be run, and `answer_run` makes the answer
+//! of the run.
 #![tactic(auto)]
 
-mod answer;
 mod answering;
 mod book;
 mod counting;
 mod ended;
 mod input;
 mod laws;
+mod reading;
 mod replaying;
 mod running;
-mod status;
+mod starting;
 
-pub use answer::Answer;
-pub use answering::{answer_input, answer_text, refuse};
+pub use answering::{answer_input, answer_text};
 pub use book::Book;
 pub use input::{cut_at_mark, cut_input, has_input};
 pub use laws::{
     deterministic_mains_have_one_result_text, one_answer_without_workers, written_journals_replay,
 };
-pub use running::{answer_run, limits_to_run};
-pub use status::Status;
+pub use running::answer_run;
+pub use starting::{Started, start};

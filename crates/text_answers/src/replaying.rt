@@ -6,13 +6,11 @@ ghost use Rattle.twe_machine.specs.Replays.{IsReplay};
 ghost use Rattle.twe_io.specs.Answers.{on_err};
 ghost use Rattle.text_answers.specs.Answers.{AnswersReplay};
 ghost use Rattle.text_answers.specs.Theorem.{HasProgram, IsNew};
-ghost use Rattle.text_answers.specs.declared.status.Status.TheVariants.{BadJournal};
+ghost use Rattle.twe_io.specs.declared.status.Status.TheVariants.{BadJournal};
 ghost use Rattle.text_answers.specs.inner.Given.{AnswersFound, IsAnswerOfReplay};
 
-use crate::answer::Answer;
 use crate::book::Book;
 use crate::ended::answer_ended;
-use crate::status::Status;
 use determinism_laws::results::{
     deterministic_mains_have_their_results, deterministic_tasks_have_results,
 };
@@ -20,6 +18,7 @@ use isolation_laws::accepted_runs_are_isolated;
 use seg_journal::{Journal, JournalFail, JournalText, Move, read_journal};
 use std::alloc::Global;
 use twe_base::{Bytes, Limits, Memory};
+use twe_io::{Answer, Status};
 use twe_machine::{ReplayFail, State, each_thing_happens_once, outcome, replay_journal};
 use twe_program::Prog;
 use twe_report::{not_a_move_text, not_legal_text};

@@ -1,56 +1,25 @@
-//! The run of an accepted program, and the answer to it.
-ghost use Rattle.std.specs.Prelude.{◌≡◌, Some, IfOk, OnOk};
+//! The answer to the run of an accepted program.
+ghost use Rattle.std.specs.Prelude.{◌≡◌, IfOk, OnOk};
 ghost use Rattle.isolation_laws.specs.soundness.KeepsEffects.{KeepsEffects};
 ghost use Rattle.text_answers.specs.Answers.{for_load, with_journal};
-ghost use Rattle.text_answers.specs.Running.{IsDueForProgram, IsRunFor, IsWholeRun, limits_to_run};
+ghost use Rattle.text_answers.specs.Running.{IsDueForProgram, IsRunFor, IsWholeRun};
 ghost use Rattle.text_answers.specs.Theorem.{IsNew};
 ghost use Rattle.text_answers.specs.inner.Given.{IsAnswerOfRun};
 
-use crate::answer::Answer;
 use crate::book::Book;
 use crate::ended::answer_ended;
-use crate::status::Status;
 use command_line::Command;
 use determinism_laws::results::{
     deterministic_mains_have_their_results, deterministic_tasks_have_results,
 };
-use flat_sched::run_lowest;
 use isolation_laws::accepted_runs_are_isolated;
 use seg_journal::Journal;
 use std::alloc::Global;
 use twe_base::{Limits, Memory};
+use twe_io::{Answer, Status};
 use twe_machine::{State, each_thing_happens_once, outcome};
 use twe_program::Prog;
 use twe_report::{journal_part, load_result_text};
-
-/// The limits of the run that a command asks for, or `None` if it asks for none.
-pub fn limits_to_run(cmd: &Command) -> Option<Limits>
-    ensures { result ≡ limits_to_run cmd.now }
-{
-    match *cmd {
-        Command::Run { lim, .. } => Some(lim),
-        Command::Load { .. } => Some(Limits::default()),
-        Command::Check | Command::Replay { .. } => None,
-    }
-}
-
-/// Runs the program of a command that asks for a run under these limits, and returns the answer. The run is the lowest-first one.
-/// Afterwards the book has the program, the journal and the outcome.
-pub(crate) fn run_lowest_first(
-    alloc: Global,
-    cmd: &Command,
-    lim: Limits,
-    p: Prog,
-    book: &mut Book,
-) -> Result<Answer, Memory>
-    requires new { IsNew book.old }
-    requires keeps { KeepsEffects p }
-    requires asked { limits_to_run cmd.now ≡ Some lim }
-    ensures { IfOk result (IsDueForProgram cmd.now p book.new) }
-{
-    let (journal, st) = run_lowest(alloc, &p, lim)?;
-    answer_run(alloc, cmd, p, journal, st, book)
-}
 
 /// The answer to the run that a command asks for. The run is over, with this journal and in this state, whoever made its
 /// moves. If entries come after the first fault, the journal is written with them, and the numbers that they printed are

@@ -1,4 +1,3 @@
-pub mod Codes
 pub mod Words
 pub mod Answers
 pub mod inner

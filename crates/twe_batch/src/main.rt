@@ -2,19 +2,18 @@
 //! checks or runs them in several threads, and writes their answers in order.
 #![tactic(auto)]
 
-mod status;
 mod text;
 mod top;
 mod words;
 
 use std::process::ExitCode;
 use top::batch_top;
-use twe_io::{StdSink, StdSource, words_of};
+use twe_io::{Status, StdSink, StdSource, words_of};
 
 fn main(rt: HostRuntime) -> ExitCode {
     let alloc = rt.alloc();
     let Ok(words) = words_of(&rt) else {
-        return ExitCode::from(7);
+        return ExitCode::from(Status::Memory.code());
     };
     let mut src = StdSource::new(rt.stdin());
     let mut out = StdSink::new(rt.stdout());

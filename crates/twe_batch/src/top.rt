@@ -1,23 +1,18 @@
 //! The top call: the whole program, apart from where its bytes come from and go to.
 ghost use Rattle.std.specs.Prelude.{◌≤◌, length, IfOk};
 ghost use Rattle.twe_base.specs.Language.{max_text_bytes};
-ghost use Rattle.twe_io.specs.Ends.{sink, source};
+ghost use Rattle.twe_io.specs.Ends.{ends, ends_tell, sink, source};
 ghost use Rattle.par_check.specs.Batch.{IsBatch};
 ghost use Rattle.twe_batch.specs.Answers.{AnswersBatch, BatchCause};
-ghost use Rattle.twe_batch.specs.inner.Given.{AnswersRead};
 
-use crate::status::BatchStatus;
 use crate::text::usage_text;
 use crate::words::job_of;
 use par_check::{Job, answer_all, batch_text, programs_of};
 use std::alloc::Global;
 use std::thread::Threads;
 use twe_base::{Bytes, Memory, Word};
-use twe_io::{ReadFail, Sink, Source, Unwritten, read_text, tell};
-use twe_report::{read_fault_text, too_long_text};
-
-/// An answer of this program.
-type Answer = twe_io::Answer<BatchStatus>;
+use twe_io::{Answer, Sink, Source, Status, tell};
+use twe_report::{Input, read_input};
 
 /// Reads a batch of programs from the source, checks or runs each of them, and writes their answers in order, with the number
 /// of each program and its status.
@@ -32,17 +27,13 @@ pub fn batch_top<R: Threads + Sync, S: Source, O: Sink, E: Sink>(
     src: &mut S,
     out: &mut O,
     err: &mut E,
-) -> BatchStatus
-    ensures { AnswersBatch (source S.left S.faults S.read_gives) (sink O.written O.faults O.write_gives)
-        (sink E.written E.faults E.write_gives)
-        words.now src.old src.new out.old out.new err.old err.new result }
+) -> Status
+    ensures { AnswersBatch (ends_tell (source S.left S.faults S.read_gives) (sink O.written O.faults O.write_gives)
+        (sink E.written E.faults E.write_gives))
+        words.now (ends src.old out.old err.old) (ends src.new out.new err.new) result }
 {
     let made = answer(rt, alloc, words, src);
-    let unwritten = Unwritten {
-        write_fault: BatchStatus::WriteFault,
-        memory: BatchStatus::Memory,
-    };
-    tell(&made, unwritten, out, err)
+    tell(&made, out, err)
 }
 
 /// The answer to these words.
@@ -55,40 +46,14 @@ fn answer<R: Threads + Sync, S: Source>(
     ensures { IfOk result (BatchCause (source S.left S.faults S.read_gives) words.now src.old src.new) }
 {
     match job_of(words) {
-        Some(job) => {
-            let read = read_text(alloc, src);
-            answer_read(rt, alloc, job, read)
-        }
-        None => Ok(Answer::on_err(alloc, BatchStatus::Usage, usage_text(alloc)?)),
-    }
-}
-
-/// The answer to what the reading of the source came to.
-fn answer_read<R: Threads + Sync>(
-    rt: &R,
-    alloc: Global,
-    job: Job,
-    read: Result<Bytes, ReadFail>,
-) -> Result<Answer, Memory>
-    requires { IfOk read (λ batch. length batch ≤ max_text_bytes) }
-    ensures { IfOk result (AnswersRead job read) }
-{
-    match read {
-        Ok(batch) => {
-            let text = answer_batch(rt, alloc, job, batch.as_slice())?;
-            Ok(Answer::on_out(alloc, BatchStatus::Done, text))
-        }
-        Err(ReadFail::ReadFault) => Ok(Answer::on_err(
-            alloc,
-            BatchStatus::ReadFault,
-            read_fault_text(alloc)?,
-        )),
-        Err(ReadFail::TooLong) => Ok(Answer::on_err(
-            alloc,
-            BatchStatus::TooLong,
-            too_long_text(alloc)?,
-        )),
-        Err(ReadFail::OutOfMemory(memory)) => Err(memory),
+        Some(job) => match read_input(alloc, src)? {
+            Input::Given(batch) => {
+                let text = answer_batch(rt, alloc, job, batch.as_slice())?;
+                Ok(Answer::on_out(alloc, Status::Done, text))
+            }
+            Input::Failed(answer) => Ok(answer),
+        },
+        None => Ok(Answer::on_err(alloc, Status::Usage, usage_text(alloc)?)),
     }
 }
 

@@ -11,10 +11,10 @@ use Rattle.command_line.specs.declared.command.Command.{Command}
 use Rattle.command_line.specs.declared.command.Command.TheVariants.{Check, Run, Replay, Load}
 use Rattle.command_line.specs.Words.{IsSized}
 use Rattle.twe_io.specs.Ends.{SourceTells, SinkTells, WasRead}
-use Rattle.text_answers.specs.Answer.{Answer}
+use Rattle.twe_io.specs.declared.answer.Answer.{Answer}
 use Rattle.text_answers.specs.declared.book.Book.{Book}
-use Rattle.text_answers.specs.declared.status.Status.{Status}
-use Rattle.text_answers.specs.declared.status.Status.TheVariants.{ReadFault, Refused, TooLong, Usage}
+use Rattle.twe_io.specs.declared.status.Status.{Status}
+use Rattle.twe_io.specs.declared.status.Status.TheVariants.{ReadFault, Refused, TooLong, Usage}
 use Rattle.twe_io.specs.Answers.{on_err}
 use Rattle.text_answers.specs.Answers.{Due}
 use Rattle.text_answers.specs.Input.{has_input, journal_text, program_text}

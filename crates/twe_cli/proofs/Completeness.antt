@@ -16,14 +16,14 @@ use Rattle.twe_machine.specs.declared.state.State.{State}
 use Rattle.twe_machine.specs.Runs.{state_after}
 use Rattle.command_line.specs.declared.command.Command.{Command}
 use Rattle.command_line.specs.declared.command.Command.TheVariants.{Check, Run, Replay, Load}
-use Rattle.text_answers.specs.Answer.{Answer}
+use Rattle.twe_io.specs.declared.answer.Answer.{Answer}
 use Rattle.text_answers.specs.declared.book.Book.{Book}
-use Rattle.text_answers.specs.declared.status.Status.{Status}
-use Rattle.text_answers.specs.declared.status.Status.TheVariants.{Done, Refused, Usage, Fault, Stuck, ReadFault, WriteFault, Memory, TooLong, BadJournal, Unfinished}
+use Rattle.twe_io.specs.declared.status.Status.{Status}
+use Rattle.twe_io.specs.declared.status.Status.TheVariants.{Done, Refused, Usage, Fault, Stuck, ReadFault, WriteFault, Memory, TooLong, BadJournal, Unfinished}
 use Rattle.twe_io.specs.Answers.{Tells, on_err, on_out}
 use Rattle.text_answers.specs.Answers.{AnswersReplay, AnswersRun, Due, default_limits, for_load}
 use Rattle.twe_cli.specs.Answers.{Answers, Cause}
-use Rattle.text_answers.specs.Codes.{is_status_done}
+use Rattle.twe_io.specs.Codes.{is_status_done}
 use Rattle.twe_report.specs.Texts as texts
 use Rattle.twe_cli.specs.Complete.{Completes, IsOneOf, IsComplete, statuses_of}
 use Rattle.twe_io.specs.Ends.{SourceTells, SinkTells}

@@ -8,10 +8,10 @@ use Rattle.load_text.specs.Text.{load_text_of}
 use Rattle.command_line.specs.declared.command.Command.{Command}
 use Rattle.command_line.specs.declared.command.Command.TheVariants.{Load}
 use Rattle.twe_io.specs.Ends.{SourceTells, SinkTells, WasRead}
-use Rattle.text_answers.specs.Answer.{Answer}
+use Rattle.twe_io.specs.declared.answer.Answer.{Answer}
 use Rattle.text_answers.specs.declared.book.Book.{Book}
-use Rattle.text_answers.specs.declared.status.Status.{Status}
-use Rattle.text_answers.specs.declared.status.Status.TheVariants.{Usage, ReadFault, WriteFault, Memory, TooLong}
+use Rattle.twe_io.specs.declared.status.Status.{Status}
+use Rattle.twe_io.specs.declared.status.Status.TheVariants.{Usage, ReadFault, WriteFault, Memory, TooLong}
 use Rattle.twe_io.specs.Answers.{Tells, on_err}
 use Rattle.text_answers.specs.Answers.{Due}
 use Rattle.text_answers.specs.Input.{HasInput}

@@ -7,8 +7,8 @@ use Rattle.twe_frontend.specs.declared.refusal.Refusal.{Refusal}
 use Rattle.twe_frontend.specs.Accepted.{Accepted, IsRefusal}
 use Rattle.command_line.specs.declared.command.Command.{Command}
 use Rattle.command_line.specs.declared.command.Command.TheVariants.{Check, Run, Replay, Load}
-use Rattle.text_answers.specs.declared.status.Status.{Status}
-use Rattle.text_answers.specs.declared.status.Status.TheVariants.{Done, Refused, Fault, Stuck, Memory, BadJournal, Unfinished}
+use Rattle.twe_io.specs.declared.status.Status.{Status}
+use Rattle.twe_io.specs.declared.status.Status.TheVariants.{Done, Refused, Fault, Stuck, Memory, BadJournal, Unfinished}
 use Rattle.twe_io.specs.Ends.{SourceTells, SinkTells}
 use Rattle.text_answers.specs.Input.{program_text}
 

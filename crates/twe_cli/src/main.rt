@@ -13,13 +13,13 @@ mod top;
 use std::process::ExitCode;
 use text_answers::Book;
 use top::twe;
-use twe_io::{StdSink, StdSource, words_of};
+use twe_io::{Status, StdSink, StdSource, words_of};
 use twe_rounds::FreeGate;
 
 fn main(rt: HostRuntime) -> ExitCode {
     let alloc = rt.alloc();
     let Ok(words) = words_of(&rt) else {
-        return ExitCode::from(7);
+        return ExitCode::from(Status::Memory.code());
     };
     let mut src = StdSource::new(rt.stdin());
     let mut out = StdSink::new(rt.stdout());

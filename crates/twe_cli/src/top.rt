@@ -8,7 +8,7 @@ ghost use Rattle.twe_report.specs.Texts as texts;
 ghost use Rattle.text_answers.specs.Theorem.{IsNew};
 ghost use Rattle.command_line.specs.Words.{IsMeaning, IsSized, Means};
 ghost use Rattle.command_line.specs.declared.command.Command.{Command};
-ghost use Rattle.text_answers.specs.declared.status.Status.TheVariants.{Usage};
+ghost use Rattle.twe_io.specs.declared.status.Status.TheVariants.{Usage};
 
 use crate::crew::twe_crew;
 use crate::single::twe_single;

@@ -20,8 +20,7 @@ use Rattle.twe_base.proofs.Members.{contains-in, in-contains}
 use Rattle.twe_report.specs.Texts.{refusal_text}
 use Rattle.twe_io.specs.declared.answer.Answer.{Answer}
 use Rattle.twe_io.specs.Answers.{on_err, on_out}
-use Rattle.twe_infer.specs.declared.status.InferStatus.{InferStatus}
-use Rattle.twe_infer.specs.declared.status.InferStatus.TheVariants.{Done, Refused, TooMany}
+use Rattle.twe_io.specs.declared.status.Status.TheVariants.{Done, Refused, TooMany}
 use Rattle.twe_infer.specs.Answers.{InferDue}
 use Rattle.twe_infer.specs.Meaning.{IsRefusedBefore, TextMeans}
 use Rattle.twe_infer.specs.Order.{Ascend, summary_paths_of}
@@ -114,7 +113,7 @@ not-inferred p m summaries many least =
 
 -- The answer.
 module _ (one-tree : OneTree) (one-refusal : (text : List ℕ) (r other : Refusal) → IsRefusal text r → IsRefusal text other → r ≡ other) (text : List ℕ) where
-  pub one-answer : (a b : Answer InferStatus) → InferDue text a → InferDue text b → a ≡ b
+  pub one-answer : (a b : Answer) → InferDue text a → InferDue text b → a ≡ b
   one-answer a b (InferDue.refused r is) (InferDue.refused other also) =
       ap (λ (its : Refusal). on_err Refused (refusal_text its)) (one-refusal text r other (as-refusal text r is) (as-refusal text other also))
   one-answer a b (InferDue.refused r is) (InferDue.too_many tree p method decl means many at) = absurd (never-both one-tree text r tree p is means)

@@ -1,8 +1,6 @@
-pub mod Codes
 pub mod Meaning
 pub mod Reading
 pub mod Order
 pub mod Texts
 pub mod Pasting
 pub mod Answers
-pub mod inner

@@ -11,7 +11,6 @@ ghost use Rattle.effect_infer.specs.Inferred.{AreLeast, IsLeast};
 ghost use Rattle.pasting_laws.specs.Clauses.{CanBeWritten, clauses_of, texts_of};
 ghost use Rattle.pasting_laws.specs.Pasted.{HaveSameEffects};
 ghost use Rattle.twe_io.specs.declared.answer.Answer.{Answer};
-ghost use Rattle.twe_infer.specs.declared.status.InferStatus.{InferStatus};
 ghost use Rattle.twe_infer.specs.Answers.{InferDue};
 ghost use Rattle.twe_infer.specs.Order.{Ascend, comes_before, summary_paths_of};
 ghost use Rattle.twe_infer.specs.Pasting.{in_line, without_blanks};
@@ -38,7 +37,7 @@ pub fn written_paths_ascend()
 
 /// What `twe_infer` writes for a text, and its status, are functions of the text.
 pub fn one_infer_answer()
-    ensures { (text : List ℕ) (answer other : Answer InferStatus) → InferDue text answer → InferDue text other → answer ≡ other }
+    ensures { (text : List ℕ) (answer other : Answer) → InferDue text answer → InferDue text other → answer ≡ other }
 {
     one_tree();
     one_refusal();

@@ -5,7 +5,6 @@
 mod laws;
 mod order;
 mod read;
-mod status;
 #[cfg(test)]
 mod tests;
 mod text;
@@ -13,12 +12,12 @@ mod top;
 
 use std::process::ExitCode;
 use top::infer_top;
-use twe_io::{StdSink, StdSource, words_of};
+use twe_io::{Status, StdSink, StdSource, words_of};
 
 fn main(rt: HostRuntime) -> ExitCode {
     let alloc = rt.alloc();
     let Ok(words) = words_of(&rt) else {
-        return ExitCode::from(7);
+        return ExitCode::from(Status::Memory.code());
     };
     let mut src = StdSource::new(rt.stdin());
     let mut out = StdSink::new(rt.stdout());

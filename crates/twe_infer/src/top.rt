@@ -1,22 +1,17 @@
 //! The top call: the whole program, apart from where its bytes come from and go to.
 ghost use Rattle.std.specs.Prelude.{IfOk};
 ghost use Rattle.twe_infer.specs.Answers.{AnswersInfer, InferCause, InferDue};
-ghost use Rattle.twe_io.specs.Ends.{sink, source};
+ghost use Rattle.twe_io.specs.Ends.{ends, ends_tell, sink, source};
 ghost use Rattle.twe_infer.specs.Meaning.{TextMeans};
-ghost use Rattle.twe_infer.specs.inner.Given.{AnswersRead};
 
 use crate::read::{Meaning, read_meaning};
-use crate::status::InferStatus;
 use crate::text::{lines_of, too_many_text, usage_text};
 use effect_infer::{InferFail, infer};
 use std::alloc::Global;
-use twe_base::{Bytes, Memory, Word};
+use twe_base::{Memory, Word};
 use twe_frontend::FrontFail;
-use twe_io::{ReadFail, Sink, Source, Unwritten, read_text, tell};
-use twe_report::{read_fault_text, refusal_text, too_long_text};
-
-/// An answer of this program.
-type Answer = twe_io::Answer<InferStatus>;
+use twe_io::{Answer, Sink, Source, Status, tell};
+use twe_report::{Input, read_input, refusal_text};
 
 /// Reads the text of a program from the source, and writes the least summary of each of its methods, a line for each.
 ///
@@ -28,17 +23,13 @@ pub fn infer_top<S: Source, O: Sink, E: Sink>(
     src: &mut S,
     out: &mut O,
     err: &mut E,
-) -> InferStatus
-    ensures { AnswersInfer (source S.left S.faults S.read_gives) (sink O.written O.faults O.write_gives)
-        (sink E.written E.faults E.write_gives)
-        words.now src.old src.new out.old out.new err.old err.new result }
+) -> Status
+    ensures { AnswersInfer (ends_tell (source S.left S.faults S.read_gives) (sink O.written O.faults O.write_gives)
+        (sink E.written E.faults E.write_gives))
+        words.now (ends src.old out.old err.old) (ends src.new out.new err.new) result }
 {
     let made = answer(alloc, words, src);
-    let unwritten = Unwritten {
-        write_fault: InferStatus::WriteFault,
-        memory: InferStatus::Memory,
-    };
-    tell(&made, unwritten, out, err)
+    tell(&made, out, err)
 }
 
 /// The answer to these words.
@@ -46,31 +37,11 @@ fn answer<S: Source>(alloc: Global, words: &[Word], src: &mut S) -> Result<Answe
     ensures { IfOk result (InferCause (source S.left S.faults S.read_gives) words.now src.old src.new) }
 {
     match words {
-        [] => {
-            let read = read_text(alloc, src);
-            answer_read(alloc, read)
-        }
-        [_, ..] => Ok(Answer::on_err(alloc, InferStatus::Usage, usage_text(alloc)?)),
-    }
-}
-
-/// The answer to what the reading of the source came to.
-fn answer_read(alloc: Global, read: Result<Bytes, ReadFail>) -> Result<Answer, Memory>
-    ensures { IfOk result (AnswersRead read) }
-{
-    match read {
-        Ok(text) => answer_text(alloc, text.as_slice()),
-        Err(ReadFail::ReadFault) => Ok(Answer::on_err(
-            alloc,
-            InferStatus::ReadFault,
-            read_fault_text(alloc)?,
-        )),
-        Err(ReadFail::TooLong) => Ok(Answer::on_err(
-            alloc,
-            InferStatus::TooLong,
-            too_long_text(alloc)?,
-        )),
-        Err(ReadFail::OutOfMemory(memory)) => Err(memory),
+        [] => match read_input(alloc, src)? {
+            Input::Given(text) => answer_text(alloc, text.as_slice()),
+            Input::Failed(answer) => Ok(answer),
+        },
+        [_, ..] => Ok(Answer::on_err(alloc, Status::Usage, usage_text(alloc)?)),
     }
 }
 
@@ -82,7 +53,7 @@ fn answer_text(alloc: Global, text: &[u8]) -> Result<Answer, Memory>
         Ok(meaning) => answer_meaning(alloc, text, &meaning),
         Err(FrontFail::Refused(refusal)) => Ok(Answer::on_err(
             alloc,
-            InferStatus::Refused,
+            Status::Refused,
             refusal_text(alloc, refusal)?,
         )),
         Err(FrontFail::OutOfMemory(memory)) => Err(memory),
@@ -100,12 +71,12 @@ fn answer_meaning(alloc: Global, text: &[u8], meaning: &Meaning) -> Result<Answe
         Ok(summaries) => {
             let items = meaning.tree.items.as_slice();
             let lines = lines_of(alloc, p.regions.as_slice(), summaries.as_slice(), items)?;
-            Ok(Answer::on_out(alloc, InferStatus::Done, lines))
+            Ok(Answer::on_out(alloc, Status::Done, lines))
         }
         Err(InferFail::TooMany { method }) => {
             let decl = &p.methods.as_slice()[method as usize];
             let line = too_many_text(alloc, &decl.name)?;
-            Ok(Answer::on_err(alloc, InferStatus::TooMany, line))
+            Ok(Answer::on_err(alloc, Status::TooMany, line))
         }
         Err(InferFail::OutOfMemory(memory)) => Err(memory),
     }

@@ -4,3 +4,4 @@ pub mod MemReads
 pub mod MemWrites
 mod Read
 mod Written
+pub mod Answered

@@ -28,6 +28,26 @@ pub record SinkTells (K : Type 0) : Type 1 where
 abbrev pub sink : {K : Type 0} → (K → Option (List ℕ)) → (K → ℕ) → (K → List ℕ → Option ℕ → K → Type 0) → SinkTells K
 sink written faults gives = record { written = written; faults = faults; gives = gives }
 
+-- what is known of the three ends of a program: the source that it reads and its two sinks, out and err
+pub record EndsTell (S O E : Type 0) : Type 1 where
+  pub src : SourceTells S
+  pub out : SinkTells O
+  pub err : SinkTells E
+
+-- three ends that are described so
+abbrev pub ends_tell : {S O E : Type 0} → SourceTells S → SinkTells O → SinkTells E → EndsTell S O E
+ends_tell src out err = record { src = src; out = out; err = err }
+
+-- the ends of a program at one moment
+pub record Ends (S O E : Type 0) : Type 0 where
+  pub src : S
+  pub out : O
+  pub err : E
+
+-- these ends
+abbrev pub ends : {S O E : Type 0} → S → O → E → Ends S O E
+ends src out err = record { src = src; out = out; err = err }
+
 -- What the reading of a whole text says of the bytes of a source: the text is all that was left; or a read failed; or the
 -- source gave more bytes than a text may have.
 abbrev pub Told : {S : Type 0} → SourceTells S → S → Result (List ℕ) ReadFail → S → Type 0

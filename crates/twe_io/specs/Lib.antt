@@ -8,4 +8,5 @@ pub mod Standard
 pub mod inner
 pub mod Ends
 pub mod Writing
+pub mod Codes
 pub mod Answers

@@ -5,33 +5,24 @@ ghost use Rattle.twe_io.specs.Answers.{Tells, TellsMade, on_err, on_out};
 ghost use Rattle.twe_io.specs.Writing.{WroteBoth};
 
 use crate::writing::write_both;
-use crate::{Sink, WriteFault};
+use crate::{Sink, Status, WriteFault};
 use std::alloc::Global;
 use twe_base::{Bytes, Memory};
 
 /// An answer: a status, and the bytes for the two sinks.
 #[derive(Debug, Drop)]
-pub struct Answer<S> {
+pub struct Answer {
     /// The status.
-    pub status: S,
+    pub status: Status,
     /// The bytes for out.
     pub out: Bytes,
     /// The bytes for err.
     pub err: Bytes,
 }
 
-/// The statuses of a call whose answer was not written, or not whole.
-#[derive(Clone, Copy, Debug, PartialEq, Eq)]
-pub struct Unwritten<S> {
-    /// The status after a failed write.
-    pub write_fault: S,
-    /// The status if there was not enough memory for an answer.
-    pub memory: S,
-}
-
-impl<S: Copy> Answer<S> {
+impl Answer {
     /// An answer on err alone: this line, and nothing on out. It takes no memory.
-    pub fn on_err(alloc: Global, status: S, line: Bytes) -> Answer<S>
+    pub fn on_err(alloc: Global, status: Status, line: Bytes) -> Answer
         ensures { result ≡ on_err status line }
     {
         Answer {
@@ -42,7 +33,7 @@ impl<S: Copy> Answer<S> {
     }
 
     /// An answer on out alone: this text, and nothing on err. It takes no memory.
-    pub fn on_out(alloc: Global, status: S, text: Bytes) -> Answer<S>
+    pub fn on_out(alloc: Global, status: Status, text: Bytes) -> Answer
         ensures { result ≡ on_out status text }
     {
         Answer {
@@ -53,43 +44,33 @@ impl<S: Copy> Answer<S> {
     }
 }
 
-/// Writes an answer, out before err, and returns the status of the call: the answer's status, or the one of a failed write, after
-/// which nothing more is written. If no answer could be made, nothing is written, and the status is the one of memory. It takes
-/// no memory.
-pub fn tell<S: Copy, O: Sink, E: Sink>(
-    made: &Result<Answer<S>, Memory>,
-    unwritten: Unwritten<S>,
-    out: &mut O,
-    err: &mut E,
-) -> S
-    ensures { TellsMade unwritten (sink O.written O.faults O.write_gives) (sink E.written E.faults E.write_gives)
+/// Writes an answer, out before err, and returns the status of the call: the answer's status, or `WriteFault` after a failed
+/// write, after which nothing more is written. If no answer could be made, nothing is written, and the status is `Memory`. It
+/// takes no memory.
+pub fn tell<O: Sink, E: Sink>(made: &Result<Answer, Memory>, out: &mut O, err: &mut E) -> Status
+    ensures { TellsMade (sink O.written O.faults O.write_gives) (sink E.written E.faults E.write_gives)
         out.old out.new err.old err.new made.now result }
 {
     match made {
-        Ok(answer) => tell_answer(answer, unwritten.write_fault, out, err),
-        Err(_) => unwritten.memory,
+        Ok(answer) => tell_answer(answer, out, err),
+        Err(_) => Status::Memory,
     }
 }
 
 /// Writes an answer that could be made.
-fn tell_answer<S: Copy, O: Sink, E: Sink>(
-    answer: &Answer<S>,
-    write_fault: S,
-    out: &mut O,
-    err: &mut E,
-) -> S
-    ensures { Tells write_fault (sink O.written O.faults O.write_gives) (sink E.written E.faults E.write_gives)
+fn tell_answer<O: Sink, E: Sink>(answer: &Answer, out: &mut O, err: &mut E) -> Status
+    ensures { Tells (sink O.written O.faults O.write_gives) (sink E.written E.faults E.write_gives)
         out.old out.new err.old err.new answer.now result }
 {
     match write_answer(answer, out, err) {
         Ok(()) => answer.status,
-        Err(WriteFault) => write_fault,
+        Err(WriteFault) => Status::WriteFault,
     }
 }
 
 /// Writes the bytes for out, and then those for err.
-fn write_answer<S: Copy, O: Sink, E: Sink>(
-    answer: &Answer<S>,
+fn write_answer<O: Sink, E: Sink>(
+    answer: &Answer,
     out: &mut O,
     err: &mut E,
 ) -> Result<(), WriteFault>

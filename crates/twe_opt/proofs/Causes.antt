@@ -10,10 +10,10 @@ use Rattle.twe_report.specs.Texts.{refusal_text}
 use Rattle.command_line.specs.Options.{max_workers}
 use Rattle.command_line.proofs.Sizes.{in_range}
 use Rattle.twe_io.specs.Ends.{SourceTells, SinkTells, WasRead}
-use Rattle.text_answers.specs.Answer.{Answer}
+use Rattle.twe_io.specs.declared.answer.Answer.{Answer}
 use Rattle.text_answers.specs.declared.book.Book.{Book}
-use Rattle.text_answers.specs.declared.status.Status.{Status}
-use Rattle.text_answers.specs.declared.status.Status.TheVariants.{Refused}
+use Rattle.twe_io.specs.declared.status.Status.{Status}
+use Rattle.twe_io.specs.declared.status.Status.TheVariants.{Refused}
 use Rattle.twe_io.specs.Answers.{TellsMade, on_err}
 use Rattle.text_answers.specs.Answers.{Due}
 use Rattle.text_answers.specs.Theorem.{HasRefusal}

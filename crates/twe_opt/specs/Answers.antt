@@ -6,10 +6,10 @@ use Rattle.command_line.specs.declared.command.Command.{Command}
 use Rattle.command_line.specs.declared.command.Command.TheVariants.{Run}
 use Rattle.twe_io.specs.Answers.{Tells, on_err}
 use Rattle.twe_io.specs.Ends.{SourceTells, SinkTells, WasRead}
-use Rattle.text_answers.specs.Answer.{Answer}
+use Rattle.twe_io.specs.declared.answer.Answer.{Answer}
 use Rattle.text_answers.specs.declared.book.Book.{Book}
-use Rattle.text_answers.specs.declared.status.Status.{Status}
-use Rattle.text_answers.specs.declared.status.Status.TheVariants.{Usage, ReadFault, WriteFault, Memory, TooLong}
+use Rattle.twe_io.specs.declared.status.Status.{Status}
+use Rattle.twe_io.specs.declared.status.Status.TheVariants.{Usage, ReadFault, WriteFault, Memory, TooLong}
 use Rattle.text_answers.specs.Answers.{Due, default_limits}
 use Rattle.text_answers.specs.Theorem.{IsNew}
 use Rattle.twe_opt.specs.Words.{usage_text, workers_asked}

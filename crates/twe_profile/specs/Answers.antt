@@ -1,6 +1,5 @@
 -- What the program answers, and why.
-use Rattle.std.specs.Prelude.{◌≡◌, ◌+◌, ℕ, List, [], ◌∷◌, Option, Ok, Err, length}
-use Rattle.twe_io.specs.declared.whole.ReadFail.TheVariants as reads
+use Rattle.std.specs.Prelude.{◌≡◌, ◌+◌, ℕ, List, [], ◌∷◌, Option, Ok, length}
 use Rattle.seg_journal.specs.declared.moves.Move.{Move}
 use Rattle.seg_journal.specs.Lines.{IsFirstBadLine}
 use Rattle.seg_journal.specs.Spelling.{Spells, head_lines}
@@ -10,19 +9,20 @@ use Rattle.twe_frontend.specs.Accepted.{Accepted, IsRefusal}
 use Rattle.twe_frontend.specs.declared.refusal.Refusal.{Refusal}
 use Rattle.twe_machine.specs.declared.legal.Why.{Why}
 use Rattle.twe_machine.specs.Replays.{IsFirstIllegal}
-use Rattle.twe_report.specs.Texts.{not_a_move_text, not_legal_text, refusal_text, read_fault_text, too_long_text}
+use Rattle.twe_report.specs.Texts.{not_a_move_text, not_legal_text, refusal_text}
+use Rattle.twe_report.specs.Reading.{FailedRead}
 use Rattle.text_answers.specs.Answers.{default_limits, limits_with}
 use Rattle.text_answers.specs.Input.{journal_part, program_part}
-use Rattle.twe_io.specs.Ends.{SourceTells, SinkTells, WasRead}
-use Rattle.twe_io.specs.Answers.{Tells, on_err, on_out}
+use Rattle.twe_io.specs.Ends.{Ends, EndsTell, SourceTells, WasRead}
+use Rattle.twe_io.specs.Answers.{IsAnswered, on_err, on_out}
 use Rattle.span_profile.specs.Profiles.{IsProfile}
 use Rattle.twe_io.specs.declared.answer.Answer.{Answer}
-use Rattle.twe_profile.specs.declared.status.ProfileStatus.{ProfileStatus}
-use Rattle.twe_profile.specs.declared.status.ProfileStatus.TheVariants.{Done, Refused, Usage, ReadFault, WriteFault, Memory, TooLong, BadJournal}
+use Rattle.twe_io.specs.declared.status.Status.{Status}
+use Rattle.twe_io.specs.declared.status.Status.TheVariants.{Done, Refused, Usage, BadJournal}
 use Rattle.twe_profile.specs.Texts.{profile_text, profile_usage_text}
 
 -- The answer to a journal text on an accepted program. The limits are those of the journal's head, or the default ones.
-pub data AnswersJournal (p : Program) (text : List ℕ) : Answer ProfileStatus → Type 0 where
+pub data AnswersJournal (p : Program) (text : List ℕ) : Answer → Type 0 where
   -- line n is the first that is neither a head on line 1 nor a move
   not_a_move : (n : ℕ) → IsFirstBadLine text n → AnswersJournal p text (on_err BadJournal (not_a_move_text n))
   -- each line is one, and move n is the first that is not legal
@@ -35,38 +35,28 @@ pub data AnswersJournal (p : Program) (text : List ℕ) : Answer ProfileStatus �
       → AnswersJournal p text (on_out Done (profile_text work span chain))
 
 -- The answer to an input: the text of a program, and after the first line that is exactly `%%` the text of a journal.
-pub data ProfileDue (text : List ℕ) : Answer ProfileStatus → Type 0 where
+pub data ProfileDue (text : List ℕ) : Answer → Type 0 where
   -- the text of the program is refused
   refused : (r : Refusal) → IsRefusal (program_part text) r → ProfileDue text (on_err Refused (refusal_text r))
   -- it is accepted, and this is the answer to the journal
-  accepted : {answer : Answer ProfileStatus} (p : Program)
+  accepted : {answer : Answer} (p : Program)
       → Accepted (program_part text) p
       → AnswersJournal p (journal_part text) answer
       → ProfileDue text answer
 
 -- Why the program gives an answer, before it writes anything.
 pub data ProfileCause {S : Type 0} (tells : SourceTells S) (words : List (List ℕ))
-    (before after : S) : Answer ProfileStatus → Type 0 where
+    (before after : S) : Answer → Type 0 where
   -- there is a word, and nothing is read
   usage : (first : List ℕ) (others : List (List ℕ)) → words ≡ first ∷ others → after ≡ before
       → ProfileCause tells words before after (on_err Usage profile_usage_text)
-  -- a read failed
-  read_fault : words ≡ [] → WasRead tells before (Err reads.ReadFault) after
-      → ProfileCause tells words before after (on_err ReadFault read_fault_text)
-  -- the source has more bytes than a text may have
-  too_long : words ≡ [] → WasRead tells before (Err reads.TooLong) after
-      → ProfileCause tells words before after (on_err TooLong too_long_text)
+  -- a read failed, or the source has more bytes than a text may have
+  not_read : {answer : Answer} → words ≡ [] → FailedRead tells before after answer → ProfileCause tells words before after answer
   -- the source gave a text, and this is the answer to it
-  text : {answer : Answer ProfileStatus} (bytes : List ℕ) → words ≡ [] → WasRead tells before (Ok bytes) after
+  text : {answer : Answer} (bytes : List ℕ) → words ≡ [] → WasRead tells before (Ok bytes) after
       → ProfileDue bytes answer
       → ProfileCause tells words before after answer
 
--- What a call of the program comes to: an answer that has its cause is written; or memory runs out, and nothing is written.
-pub data AnswersProfile {S O E : Type 0} (src : SourceTells S) (out : SinkTells O) (err : SinkTells E) (words : List (List ℕ))
-    (src_from src_to : S) (out_from out_to : O) (err_from err_to : E) : ProfileStatus → Type 0 where
-  answered : {answer : Answer ProfileStatus} {status : ProfileStatus}
-      → ProfileCause src words src_from src_to answer
-      → Tells WriteFault out err out_from out_to err_from err_to answer status
-      → AnswersProfile src out err words src_from src_to out_from out_to err_from err_to status
-  out_of_memory : out_to ≡ out_from → err_to ≡ err_from
-      → AnswersProfile src out err words src_from src_to out_from out_to err_from err_to Memory
+-- what a call of the program comes to: an answer that has its cause is written; or memory runs out, and nothing is written
+abbrev pub AnswersProfile : {S O E : Type 0} → EndsTell S O E → List (List ℕ) → Ends S O E → Ends S O E → Status → Type 0
+AnswersProfile tells words before after status = IsAnswered tells (ProfileCause tells.src words) before after status

@@ -3,18 +3,17 @@
 //! heaviest chain of entries.
 #![tactic(auto)]
 
-mod status;
 mod text;
 mod top;
 
 use std::process::ExitCode;
 use top::profile_top;
-use twe_io::{StdSink, StdSource, words_of};
+use twe_io::{Status, StdSink, StdSource, words_of};
 
 fn main(rt: HostRuntime) -> ExitCode {
     let alloc = rt.alloc();
     let Ok(words) = words_of(&rt) else {
-        return ExitCode::from(7);
+        return ExitCode::from(Status::Memory.code());
     };
     let mut src = StdSource::new(rt.stdin());
     let mut out = StdSink::new(rt.stdout());

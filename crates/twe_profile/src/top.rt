@@ -2,24 +2,20 @@
 ghost use Rattle.std.specs.Prelude.{◌≡◌, ◌≤◌, ◌+◌, IfOk, length};
 ghost use Rattle.seg_journal.specs.Spelling.{head_lines};
 ghost use Rattle.twe_base.specs.Language.{max_text_bytes};
-ghost use Rattle.twe_io.specs.Ends.{sink, source};
+ghost use Rattle.twe_io.specs.Ends.{ends, ends_tell, sink, source};
 ghost use Rattle.twe_profile.specs.Answers.{AnswersProfile, AnswersJournal, ProfileCause, ProfileDue};
-ghost use Rattle.twe_profile.specs.inner.Given.{AnswersFound, AnswersRead, IsShort};
+ghost use Rattle.twe_profile.specs.inner.Given.{AnswersFound};
 
-use crate::status::ProfileStatus;
 use crate::text::{profile_text, usage_text};
 use seg_journal::{JournalFail, JournalText, Limits, Move, read_journal};
 use span_profile::{ProfileFail, profile};
 use std::alloc::Global;
 use text_answers::cut_input;
-use twe_base::{Bytes, Memory, Word};
+use twe_base::{Memory, Word};
 use twe_frontend::{FrontFail, read_program};
-use twe_io::{ReadFail, Sink, Source, Unwritten, read_text, tell};
+use twe_io::{Answer, Sink, Source, Status, tell};
 use twe_program::Prog;
-use twe_report::{not_a_move_text, not_legal_text, read_fault_text, refusal_text, too_long_text};
-
-/// An answer of this program.
-type Answer = twe_io::Answer<ProfileStatus>;
+use twe_report::{Input, not_a_move_text, not_legal_text, read_input, refusal_text};
 
 /// Reads the text of a program from the source, and after the first line that is exactly `%%` the text of a journal. Writes the
 /// work and the span of the journal, and its heaviest chain. Without such a line the journal is empty. A journal may be
@@ -33,17 +29,13 @@ pub fn profile_top<S: Source, O: Sink, E: Sink>(
     src: &mut S,
     out: &mut O,
     err: &mut E,
-) -> ProfileStatus
-    ensures { AnswersProfile (source S.left S.faults S.read_gives) (sink O.written O.faults O.write_gives)
-        (sink E.written E.faults E.write_gives)
-        words.now src.old src.new out.old out.new err.old err.new result }
+) -> Status
+    ensures { AnswersProfile (ends_tell (source S.left S.faults S.read_gives) (sink O.written O.faults O.write_gives)
+        (sink E.written E.faults E.write_gives))
+        words.now (ends src.old out.old err.old) (ends src.new out.new err.new) result }
 {
     let made = answer(alloc, words, src);
-    let unwritten = Unwritten {
-        write_fault: ProfileStatus::WriteFault,
-        memory: ProfileStatus::Memory,
-    };
-    tell(&made, unwritten, out, err)
+    tell(&made, out, err)
 }
 
 /// The answer to these words.
@@ -51,32 +43,11 @@ fn answer<S: Source>(alloc: Global, words: &[Word], src: &mut S) -> Result<Answe
     ensures { IfOk result (ProfileCause (source S.left S.faults S.read_gives) words.now src.old src.new) }
 {
     match words {
-        [] => {
-            let read = read_text(alloc, src);
-            answer_read(alloc, read)
-        }
-        [_, ..] => Ok(Answer::on_err(alloc, ProfileStatus::Usage, usage_text(alloc)?)),
-    }
-}
-
-/// The answer to what the reading of the source came to.
-fn answer_read(alloc: Global, read: Result<Bytes, ReadFail>) -> Result<Answer, Memory>
-    requires { IsShort read }
-    ensures { IfOk result (AnswersRead read) }
-{
-    match read {
-        Ok(text) => answer_text(alloc, text.as_slice()),
-        Err(ReadFail::ReadFault) => Ok(Answer::on_err(
-            alloc,
-            ProfileStatus::ReadFault,
-            read_fault_text(alloc)?,
-        )),
-        Err(ReadFail::TooLong) => Ok(Answer::on_err(
-            alloc,
-            ProfileStatus::TooLong,
-            too_long_text(alloc)?,
-        )),
-        Err(ReadFail::OutOfMemory(memory)) => Err(memory),
+        [] => match read_input(alloc, src)? {
+            Input::Given(text) => answer_text(alloc, text.as_slice()),
+            Input::Failed(answer) => Ok(answer),
+        },
+        [_, ..] => Ok(Answer::on_err(alloc, Status::Usage, usage_text(alloc)?)),
     }
 }
 
@@ -90,7 +61,7 @@ fn answer_text(alloc: Global, text: &[u8]) -> Result<Answer, Memory>
         Ok(p) => answer_journal(alloc, &p, journal),
         Err(FrontFail::Refused(refusal)) => Ok(Answer::on_err(
             alloc,
-            ProfileStatus::Refused,
+            Status::Refused,
             refusal_text(alloc, refusal)?,
         )),
         Err(FrontFail::OutOfMemory(memory)) => Err(memory),
@@ -105,7 +76,7 @@ fn answer_journal(alloc: Global, p: &Prog, text: &[u8]) -> Result<Answer, Memory
         Ok(found) => answer_found(alloc, p, &found),
         Err(JournalFail::BadLine(n)) => Ok(Answer::on_err(
             alloc,
-            ProfileStatus::BadJournal,
+            Status::BadJournal,
             not_a_move_text(alloc, n)?,
         )),
         Err(JournalFail::OutOfMemory(memory)) => Err(memory),
@@ -121,12 +92,12 @@ fn answer_found(alloc: Global, p: &Prog, found: &JournalText) -> Result<Answer, 
     match profile(alloc, p, lim, moves) {
         Ok(profile) => Ok(Answer::on_out(
             alloc,
-            ProfileStatus::Done,
+            Status::Done,
             profile_text(alloc, &profile)?,
         )),
         Err(ProfileFail::Illegal { n, .. }) => Ok(Answer::on_err(
             alloc,
-            ProfileStatus::BadJournal,
+            Status::BadJournal,
             not_legal_text(alloc, line_of(found.head, n, moves))?,
         )),
         Err(ProfileFail::OutOfMemory(memory)) => Err(memory),

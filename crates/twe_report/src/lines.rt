@@ -23,14 +23,14 @@ replay [--fuel f] [--tasks t] | load N [--workers k]\n",
 }
 
 /// The line for a read that failed.
-pub fn read_fault_text(alloc: Global) -> Result<Bytes, Memory>
+pub(crate) fn read_fault_text(alloc: Global) -> Result<Bytes, Memory>
     ensures { IfOk result (λ text. text ≡ texts.read_fault_text) }
 {
     Bytes::from_slice(alloc, b"read fault\n")
 }
 
 /// The line for an input that has more bytes than a text may have.
-pub fn too_long_text(alloc: Global) -> Result<Bytes, Memory>
+pub(crate) fn too_long_text(alloc: Global) -> Result<Bytes, Memory>
     ensures { IfOk result (λ text. text ≡ texts.too_long_text) }
 {
     Bytes::from_slice(alloc, b"input too long\n")

@@ -1,29 +1,51 @@
--- The answers to an accepted program and to a run, apart from how they came about.
-use Rattle.std.specs.Prelude.{◌≡◌, ℕ, Bool, List}
+-- What is known on the way from a command to its answer.
+use Rattle.std.specs.Prelude.{◌≡◌, ◌≤◌, ℕ, Bool, List, length}
+use Rattle.twe_base.specs.Language.{max_text_bytes}
 use Rattle.twe_base.specs.Limits.{Bounds}
 use Rattle.twe_program.specs.Program.{Program}
 use Rattle.twe_frontend.specs.Accepted.{Accepted}
 use Rattle.twe_machine.specs.declared.ending.Outcome.{Outcome}
 use Rattle.twe_machine.specs.Runs.{state_after, counted}
-use Rattle.text_answers.specs.Answer.{Answer}
+use Rattle.twe_io.specs.declared.answer.Answer.{Answer}
 use Rattle.text_answers.specs.declared.book.Book.{Book}
 use Rattle.command_line.specs.declared.command.Command.{Command}
 use Rattle.text_answers.specs.Answers.{Due, AnswersReplay, AnswersRun, default_limits, for_load, with_journal}
-use Rattle.text_answers.specs.Theorem.{HasReplay, HasRun}
+use Rattle.text_answers.specs.Causes.{Cause}
+use Rattle.text_answers.specs.Starting.{IsReady}
+use Rattle.text_answers.specs.Theorem.{HasReplay, HasRun, IsNew}
+use Rattle.text_answers.specs.declared.starting.Started.{Started}
+use Rattle.text_answers.specs.declared.starting.Started.TheVariants.{Answered, ToRun}
+use Rattle.twe_io.specs.Ends.{SourceTells}
+use Rattle.twe_report.specs.declared.reading.Input.{Input}
+use Rattle.twe_report.specs.declared.reading.Input.TheVariants.{Given, Failed}
 use Rattle.text_answers.specs.Input.{program_text, journal_text}
 use Rattle.seg_journal.specs.declared.moves.Move.{Move}
 use Rattle.seg_journal.specs.declared.text.JournalText.{JournalText}
 use Rattle.seg_journal.specs.Spelling.{Spells}
 
--- the answer to each input whose program text is accepted and has this program, and which has this journal text
-abbrev pub IsDueFor : Command → Program → List ℕ → Book → Answer → Type 0
-IsDueFor command p journal book answer =
-    (input : List ℕ) → Accepted (program_text command input) p → journal ≡ journal_text command input → Due command input book answer
+-- an answer to the input has its cause, and so has the answer to a read that failed, if nothing is in the book
+abbrev pub IsInputOf : {S : Type 0} → SourceTells S → Command → S → S → Input → Type 0
+IsInputOf tells command before after (Given input) =
+    (length input ≤ max_text_bytes)
+    × ((book : Book) (answer : Answer) → Due command input book answer → Cause tells command before after book answer)
+IsInputOf tells command before after (Failed answer) = (book : Book) → IsNew book → Cause tells command before after book answer
 
--- the answer to each input that has this program text and this journal text
-abbrev pub IsDueForTexts : Command → List ℕ → List ℕ → Book → Answer → Type 0
-IsDueForTexts command program journal book answer =
-    (input : List ℕ) → program ≡ program_text command input → journal ≡ journal_text command input → Due command input book answer
+-- what a command with this input has come to: its answer; or the program of its accepted text, ready to be run
+abbrev pub IsStartedFor : Command → List ℕ → Book → Started → Type 0
+IsStartedFor command input book (Answered answer) = Due command input book answer
+IsStartedFor command input book (ToRun p lim) = Accepted (program_text command input) p × IsReady command p lim book
+
+-- the same, of each input that has this program text and this journal text
+abbrev pub IsStartedForTexts : Command → List ℕ → List ℕ → Book → Started → Type 0
+IsStartedForTexts command program journal book started =
+    (input : List ℕ) → program ≡ program_text command input → journal ≡ journal_text command input
+    → IsStartedFor command input book started
+
+-- the same, of each input whose program text is accepted and has this program, and which has this journal text
+abbrev pub IsStartedForProgram : Command → Program → List ℕ → Book → Started → Type 0
+IsStartedForProgram command p journal book started =
+    (input : List ℕ) → Accepted (program_text command input) p → journal ≡ journal_text command input
+    → IsStartedFor command input book started
 
 -- the answer to each journal text in which this was found
 abbrev pub AnswersFound : Program → Bounds → JournalText → Book → Answer → Type 0

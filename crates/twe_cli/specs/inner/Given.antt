@@ -3,7 +3,7 @@ use Rattle.std.specs.Prelude.{◌≡◌, ◌≤◌, ℕ, List, Some, length}
 use Rattle.twe_base.specs.Language.{max_text_bytes}
 use Rattle.command_line.specs.declared.command.Command.{Command}
 use Rattle.twe_io.specs.Ends.{SourceTells}
-use Rattle.text_answers.specs.Answer.{Answer}
+use Rattle.twe_io.specs.declared.answer.Answer.{Answer}
 use Rattle.text_answers.specs.declared.book.Book.{Book}
 use Rattle.text_answers.specs.Answers.{Due}
 use Rattle.text_answers.specs.Input.{program_text}

@@ -3,10 +3,10 @@ use Rattle.std.specs.Prelude.{◌≡◌, ℕ, List, Result, Ok, Err}
 use Rattle.twe_io.specs.declared.whole.ReadFail.{ReadFail}
 use Rattle.twe_io.specs.declared.whole.ReadFail.TheVariants as reads
 use Rattle.twe_report.specs.Texts.{read_fault_text, too_long_text}
-use Rattle.text_answers.specs.Answer.{Answer}
+use Rattle.twe_io.specs.declared.answer.Answer.{Answer}
 use Rattle.text_answers.specs.declared.book.Book.{Book}
-use Rattle.text_answers.specs.declared.status.Status.{Status}
-use Rattle.text_answers.specs.declared.status.Status.TheVariants.{ReadFault, WriteFault, TooLong, Memory}
+use Rattle.twe_io.specs.declared.status.Status.{Status}
+use Rattle.twe_io.specs.declared.status.Status.TheVariants.{ReadFault, WriteFault, TooLong, Memory}
 use Rattle.text_answers.specs.Answers.{Due}
 use Rattle.text_answers.specs.Theorem.{IsNew}
 use Rattle.twe_io.specs.Answers.{on_err}

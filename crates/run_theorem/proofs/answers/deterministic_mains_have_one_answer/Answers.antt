@@ -3,7 +3,7 @@ use Rattle.twe_program.specs.Program.{Program}
 use Rattle.twe_machine.specs.Runs.{AllTasksDone, Legal, state_after}
 use Rattle.twe_report.specs.Texts.{result_text}
 use Rattle.twe_io.specs.Answers.{on_out}
-use Rattle.text_answers.specs.declared.status.Status.TheVariants.{Done}
+use Rattle.twe_io.specs.declared.status.Status.TheVariants.{Done}
 use Rattle.run_theorem.proofs.Headline.{done_run}
 use Rattle.run_theorem.proofs.answers.deterministic_mains_have_one_answer.Goals as goal
 

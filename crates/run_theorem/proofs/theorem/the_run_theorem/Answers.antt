@@ -1,6 +1,6 @@
 use Rattle.std.proofs.Common.{refl}
 use Rattle.twe_io.specs.Ends.{sink, source}
-use Rattle.text_answers.specs.declared.status.Status.TheVariants.{Done}
+use Rattle.twe_io.specs.declared.status.Status.TheVariants.{Done}
 use Rattle.run_theorem.proofs.Headline.{of_told}
 use Rattle.run_theorem.proofs.theorem.the_run_theorem.Goals as goal
 

@@ -2,7 +2,7 @@ use Rattle.std.proofs.Common.{◌≡◌, IfOk, OnOk, subst}
 use Rattle.twe_frontend.specs.declared.read.FrontFail.TheVariants.{Refused}
 use Rattle.twe_frontend.specs.declared.refusal.Refusal.{Refusal}
 use Rattle.twe_report.specs.Texts.{refusal_text}
-use Rattle.text_answers.specs.declared.status.Status.TheVariants as statuses
+use Rattle.twe_io.specs.declared.status.Status.TheVariants as statuses
 use Rattle.twe_io.specs.Answers.{on_err}
 use Rattle.text_answers.specs.Theorem.{HasRefusal}
 use Rattle.text_answers.proofs.Dues.{due_program, due_refused, refused_as}

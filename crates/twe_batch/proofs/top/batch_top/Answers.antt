@@ -1,5 +1,6 @@
-use Rattle.twe_io.specs.Ends.{source, sink}
-use Rattle.twe_batch.proofs.Causes.{answers_made}
+use Rattle.twe_io.specs.Ends.{ends, ends_tell, source, sink}
+use Rattle.twe_io.proofs.Answered.{is_answered}
+use Rattle.twe_batch.specs.Answers.{BatchCause}
 use Rattle.twe_batch.proofs.top.batch_top.Goals as goal
 
 -- the answer is written
@@ -8,4 +9,6 @@ returns g c =
     let src = source g.S.Source.left g.S.Source.faults g.S.Source.read_gives in
     let out = sink g.O.Sink.written g.O.Sink.faults g.O.Sink.write_gives in
     let err = sink g.E.Sink.written g.E.Sink.faults g.E.Sink.write_gives in
-    answers_made src out err _ _ _ _ _ _ _ c.answer-made.result c.tell.result c.answer-made.ensures c.tell.ensures
+    is_answered (ends_tell src out err) (BatchCause src c.args.words.now)
+    (ends c.args.src.now c.args.out.now c.args.err.now) (ends c.answer-made.new.src c.tell.new.out c.tell.new.err)
+    c.answer-made.result c.tell.result c.answer-made.ensures c.tell.ensures

@@ -7,7 +7,7 @@ use Rattle.twe_program.specs.declared.program.Decl.{Decl}
 use Rattle.twe_program.specs.Program.{Program}
 use Rattle.effect_infer.specs.declared.fail.InferFail.{InferFail}
 use Rattle.effect_infer.specs.Inferred.{InferHasCause}
-use Rattle.twe_infer.specs.declared.status.InferStatus.TheVariants.{Done, TooMany}
+use Rattle.twe_io.specs.declared.status.Status.TheVariants.{Done, TooMany}
 use Rattle.twe_io.specs.Answers.{on_err, on_out}
 use Rattle.twe_infer.specs.Answers.{InferDue}
 use Rattle.twe_infer.specs.Texts.{summary_lines_of, too_many_text}

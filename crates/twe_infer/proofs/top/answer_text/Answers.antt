@@ -1,6 +1,6 @@
 use Rattle.std.proofs.Common.{◌≡◌, sym, ap, ◌∙◌, subst}
 use Rattle.twe_frontend.specs.declared.read.FrontFail.{FrontFail}
-use Rattle.twe_infer.specs.declared.status.InferStatus.TheVariants.{Refused}
+use Rattle.twe_io.specs.declared.status.Status.TheVariants.{Refused}
 use Rattle.twe_io.specs.Answers.{on_err}
 use Rattle.twe_infer.specs.Answers.{InferDue}
 use Rattle.twe_infer.specs.Reading.{ReadingHasCause}

@@ -1,6 +1,6 @@
 use Rattle.std.proofs.Common.{sym, ap, ◌∙◌, refl, subst}
 use Rattle.twe_io.specs.Ends.{source}
-use Rattle.text_answers.specs.declared.status.Status.TheVariants.{Usage}
+use Rattle.twe_io.specs.declared.status.Status.TheVariants.{Usage}
 use Rattle.twe_io.specs.Answers.{on_err}
 use Rattle.twe_opt.specs.Answers.{Cause}
 use Rattle.twe_opt.proofs.Causes.{asked_range, cause_read}

@@ -4,7 +4,7 @@ use Rattle.span_profile.specs.declared.heaviest_chain.chains.Heaviest.{Heaviest}
 use Rattle.seg_journal.specs.Spelling.{head_lines}
 use Rattle.twe_base.specs.Limits.{Bounds}
 use Rattle.text_answers.proofs.Replays.{illegal_within}
-use Rattle.twe_profile.specs.declared.status.ProfileStatus.TheVariants.{Done, BadJournal}
+use Rattle.twe_io.specs.declared.status.Status.TheVariants.{Done, BadJournal}
 use Rattle.twe_io.specs.Answers.{on_err, on_out}
 use Rattle.twe_profile.specs.Texts.{profile_text}
 use Rattle.twe_profile.proofs.Causes.{found_illegal, found_profiled}

@@ -1,7 +1,7 @@
 use Rattle.std.proofs.Common.{◌≡◌, ℕ, Err, sym, ap, ◌∙◌, subst}
 use Rattle.seg_journal.specs.Lines.{IsFirstBadLine}
 use Rattle.twe_report.specs.Texts.{not_a_move_text}
-use Rattle.twe_profile.specs.declared.status.ProfileStatus.TheVariants.{BadJournal}
+use Rattle.twe_io.specs.declared.status.Status.TheVariants.{BadJournal}
 use Rattle.twe_io.specs.Answers.{on_err}
 use Rattle.twe_profile.specs.Answers.{AnswersJournal}
 use Rattle.twe_profile.proofs.Causes.{answers_found}

@@ -4,7 +4,7 @@ use Rattle.twe_frontend.specs.Reads.{HasCause}
 use Rattle.twe_frontend.specs.declared.read.FrontFail.{FrontFail}
 use Rattle.twe_frontend.specs.declared.refusal.Refusal.{Refusal}
 use Rattle.twe_report.specs.Texts.{refusal_text}
-use Rattle.twe_profile.specs.declared.status.ProfileStatus.TheVariants.{Refused}
+use Rattle.twe_io.specs.declared.status.Status.TheVariants.{Refused}
 use Rattle.twe_io.specs.Answers.{on_err}
 use Rattle.twe_profile.specs.Answers.{ProfileDue}
 use Rattle.twe_profile.proofs.Causes.{due_accepted}

@@ -1,15 +1,15 @@
-//! The statuses that the program ends with.
+//! The statuses that the programs end with.
 ghost use Rattle.std.specs.Prelude.{◌≡◌};
-ghost use Rattle.text_answers.specs.Codes.{code_of, is_status_done};
+ghost use Rattle.twe_io.specs.Codes.{code_of, is_status_done};
 
-/// What a call of the program comes to.
+/// What a call of a program comes to.
 #[derive(Clone, Copy, Debug, PartialEq, Eq)]
 pub enum Status {
-    /// The program has run, and every task is done.
+    /// What the program was asked for is done. If that was a run, every task is done.
     Done,
     /// The text is refused.
     Refused,
-    /// The words are no command.
+    /// The words do not ask for anything that the program does.
     Usage,
     /// The program has run, and met a fault.
     Fault,
@@ -27,11 +27,13 @@ pub enum Status {
     BadJournal,
     /// The journal was replayed, and its run can go on.
     Unfinished,
+    /// A method would have more than 8 effects.
+    TooMany,
 }
 
 impl Status {
-    /// Whether all went well, and every task is done.
-    pub(crate) fn is_done(self) -> bool
+    /// Whether what the program was asked for is done.
+    pub fn is_done(self) -> bool
         ensures { result ≡ is_status_done self }
     {
         matches!(self, Status::Done)
@@ -53,6 +55,7 @@ impl Status {
             Status::TooLong => 8,
             Status::BadJournal => 9,
             Status::Unfinished => 10,
+            Status::TooMany => 11,
         }
     }
 }

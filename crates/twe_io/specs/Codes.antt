@@ -1,8 +1,10 @@
 -- The numbers of the statuses.
 use Rattle.std.specs.Prelude.{ℕ, Bool, true, false}
-use Rattle.text_answers.specs.declared.status.Status.{Status}
-use Rattle.text_answers.specs.declared.status.Status.TheVariants.{Done, Refused, Usage, Fault, Stuck, ReadFault, WriteFault, Memory, TooLong, BadJournal, Unfinished}
+use Rattle.twe_io.specs.declared.status.Status.{Status}
+use Rattle.twe_io.specs.declared.status.Status.TheVariants.{Done, Refused, Usage, Fault, Stuck, ReadFault, WriteFault, Memory}
+use Rattle.twe_io.specs.declared.status.Status.TheVariants.{TooLong, BadJournal, Unfinished, TooMany}
 
+-- the number of a status
 abbrev pub code_of : Status → ℕ
 code_of Done = 0
 code_of Refused = 1
@@ -15,8 +17,9 @@ code_of Memory = 7
 code_of TooLong = 8
 code_of BadJournal = 9
 code_of Unfinished = 10
+code_of TooMany = 11
 
--- all went well, and every task is done
+-- all went well: what was asked for is done
 abbrev pub is_status_done : Status → Bool
 is_status_done Done = true
 is_status_done _ = false
