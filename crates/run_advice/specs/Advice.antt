@@ -7,6 +7,7 @@ use Rattle.twe_base.specs.Limits.{Bounds}
 use Rattle.twe_program.specs.Program.{Program}
 use Rattle.twe_machine.specs.declared.state.State.{State}
 use Rattle.twe_machine.specs.Runs.{Legal, counted, state_after}
+use Rattle.span_profile.specs.Profiles.{IsProfile}
 use Rattle.run_advice.specs.Totals.{works_from}
 use Rattle.run_advice.specs.declared.totals.TaskWork.{TaskWork}
 
@@ -27,5 +28,10 @@ pub record AreWorks (p : Program) (lim : Bounds) (moves : List Move) (works : Li
   pub journal : List Entry
   pub st : State
   pub run : IsCountedRun p lim moves journal st
-  pub works_are : works ≡ works_from lim journal 0 st.tasks
+  pub works_are : works ≡ works_from lim.fuel journal 0 st.tasks
 
+-- The work and the span of the moves, their heaviest chain, and the work of each task. The moves after the first fault do not
+-- count.
+pub record IsAdvice (p : Program) (lim : Bounds) (moves : List Move) (work span : ℕ) (chain : List ℕ) (works : List TaskWork) : Type 0 where
+  pub profile : IsProfile p lim moves work span chain
+  pub tasks : AreWorks p lim moves works

@@ -1,6 +1,6 @@
 //! The part of a journal that counts: up to its first fault.
 ghost use Rattle.std.specs.Prelude.{◌≡◌, length, ℕ, IfOk, IsErrOf};
-ghost use Rattle.twe_machine.specs.Runs.{counted};
+ghost use Rattle.twe_machine.specs.Runs.{counted, is_fault};
 ghost use Rattle.twe_machine.specs.Replays.{IsFirstIllegal};
 ghost use Rattle.twe_machine.specs.declared.legal.Why.{Why as Reason};
 ghost use Rattle.twe_machine.specs.declared.replaying.ReplayFail.TheVariants.{Illegal};
@@ -11,12 +11,19 @@ use std::alloc::Global;
 use twe_machine::{ReplayFail, State, replay_journal};
 use twe_program::Prog;
 
+/// Whether a move with this end met a fault.
+fn is_fault(end: End) -> bool
+    ensures { result ≡ is_fault end }
+{
+    matches!(end, End::Fault { .. })
+}
+
 /// How many entries of a journal count.
 fn counted_entries(journal: &[Entry]) -> usize
     ensures { result ≡ length (counted journal.now) }
 {
     for (i, entry) in journal.iter().enumerate() {
-        if matches!(entry.end, End::Fault { .. }) {
+        if is_fault(entry.end) {
             return i + 1;
         }
     }

@@ -1,8 +1,8 @@
 //! What the tasks of a run took, one by one and by their declarations.
-ghost use Rattle.std.specs.Prelude.{◌≡◌, ◌<◌, ℕ, Some, length, slice_get, slice_index, IfOk};
-ghost use Rattle.run_advice.specs.Totals.{AreFew, entries_of, total_of, work_of, works_from};
+ghost use Rattle.std.specs.Prelude.{◌≡◌, ◌<◌, ◌+◌, ◌==◌, ◌^◌, ℕ, length, slice_index, if◌then◌else◌, IfOk};
+ghost use Rattle.run_advice.specs.Totals.{AreFew, entries_of, total_of, with_task, works_from};
 
-use seg_journal::{Entry, Limits};
+use seg_journal::Entry;
 use std::alloc::Global;
 use twe_base::{List, Memory};
 use twe_machine::TaskRow;
@@ -52,19 +52,21 @@ fn entry_counts(alloc: Global, journal: &[Entry], tasks: usize) -> Result<List<u
     Ok(counts)
 }
 
-/// What each task took, if the journal leads to a state in which the tasks have these rows.
-pub(crate) fn works(
+/// What each task took, if it had this much fuel and the journal leads to a state in which the tasks have these rows.
+pub(crate) fn task_works(
     alloc: Global,
-    lim: Limits,
+    fuel: u64,
     journal: &[Entry],
     rows: &[TaskRow],
 ) -> Result<List<TaskWork>, Memory>
-    ensures { IfOk result (λ works. works ≡ works_from lim journal.now 0 rows.now) }
+    requires little { fuel < 2 ^ 32 }
+    requires short { length journal.now < 2 ^ 45 }
+    ensures { IfOk result (λ works. works ≡ works_from fuel journal.now 0 rows.now) }
 {
     let counts = entry_counts(alloc, journal, rows.len())?;
     let mut works = List::new(alloc);
     for (task, row) in rows.iter().enumerate() {
-        let taken = lim.fuel.saturating_sub(row.frame.fuel);
+        let taken = fuel.saturating_sub(row.frame.fuel);
         let work = counts.as_slice()[task] + taken;
         works.push(TaskWork {
             decl: row.decl,
@@ -74,8 +76,25 @@ pub(crate) fn works(
     Ok(works)
 }
 
+/// The total with one task more, if it is of the declaration.
+fn with_task(total: TaskTotal, task: &TaskWork, decl: usize) -> TaskTotal
+    requires made { total.made < 2 ^ 63 }
+    requires work { total.work + task.now.work < 2 ^ 64 }
+    ensures { result ≡ with_task (task.now.decl == decl) total task.now }
+{
+    if task.decl as usize == decl {
+        TaskTotal {
+            made: total.made + 1,
+            work: total.work + task.work,
+            heaviest: total.heaviest.max(task.work),
+        }
+    } else {
+        total
+    }
+}
+
 /// What the tasks of a declaration took.
-pub fn total_of(works: &[TaskWork], decl: u32) -> TaskTotal
+pub fn total_of(works: &[TaskWork], decl: usize) -> TaskTotal
     requires { AreFew works.now }
     ensures { result ≡ total_of decl works.now }
 {
@@ -85,11 +104,7 @@ pub fn total_of(works: &[TaskWork], decl: u32) -> TaskTotal
         heaviest: 0,
     };
     for task in works {
-        if task.decl == decl {
-            total.made += 1;
-            total.work += task.work;
-            total.heaviest = total.heaviest.max(task.work);
-        }
+        total = with_task(total, task, decl);
     }
     total
 }
