@@ -22,7 +22,7 @@ use Rattle.text_answers.specs.Answers.{AnswersRun, Due, with_journal}
 use Rattle.text_answers.specs.Theorem.{HasRun}
 use Rattle.text_answers.specs.declared.book.Book.{Book}
 use Rattle.twe_io.specs.declared.status.Status.{Status}
-use Rattle.twe_io.specs.declared.status.Status.TheVariants.{Done, Fault, Stuck, Unfinished, WriteFault}
+use Rattle.twe_io.specs.declared.status.Status.TheVariants.{Done, Fault, Stuck, Unfinished}
 use Rattle.run_theorem.specs.Journals.{AlwaysApart, AlwaysDeclared, EachTaskOnce}
 use Rattle.run_theorem.specs.Theorem.{RunTheorem, output_of_run}
 
@@ -123,7 +123,7 @@ module _ (well_formed : (text : List ℕ) (p : Program) → length text ≤ max_
       }
 
   pub of_told : (text : List ℕ) (answer : Answer) (status : Status) → WasRead src src_from (Ok text) src_to
-      → Due (Run workers lim asked) text book answer → Tells WriteFault out err out_from out_to err_from err_to answer status
+      → Due (Run workers lim asked) text book answer → Tells out err out_from out_to err_from err_to answer status
       → status ≡ Done → Theorem
   of_told text answer status was due (Tells.told took errs) done =
       of_run text answer was (done_run workers lim asked text book answer due done) took errs

@@ -7,7 +7,7 @@ ghost use Rattle.twe_io.specs.Ends.{WasRead, sink, source};
 ghost use Rattle.twe_io.specs.declared.answer.Answer.{Answer};
 ghost use Rattle.text_answers.specs.Answers.{Due};
 ghost use Rattle.text_answers.specs.declared.book.Book.{Book};
-ghost use Rattle.twe_io.specs.declared.status.Status.TheVariants.{Done, WriteFault};
+ghost use Rattle.twe_io.specs.declared.status.Status.TheVariants.{Done};
 ghost use Rattle.run_theorem.specs.Theorem.{RunTheorem};
 
 use crate::accepted::accepted_programs_are_well_formed;
@@ -23,7 +23,7 @@ pub fn the_run_theorem<S: Source, O: Sink, E: Sink>()
         (book : Book) (text : List ℕ) (answer : Answer)
         → WasRead (source S.left S.faults S.read_gives) src_from (Ok text) src_to
         → Due (Run workers lim asked) text book answer
-        → Tells WriteFault (sink O.written O.faults O.write_gives) (sink E.written E.faults E.write_gives)
+        → Tells (sink O.written O.faults O.write_gives) (sink E.written E.faults E.write_gives)
         out_from out_to err_from err_to answer Done
         → RunTheorem (source S.left S.faults S.read_gives) (sink O.written O.faults O.write_gives) workers lim asked
         src_from src_to out_from out_to err_from err_to book }

@@ -5,23 +5,21 @@ use Rattle.twe_base.specs.declared.memory.Memory as out_of
 use Rattle.seg_journal.specs.declared.journal.Entry.{Entry}
 use Rattle.twe_base.specs.Limits.{Bounds}
 use Rattle.twe_program.specs.Program.{Program}
-use Rattle.twe_frontend.specs.declared.refusal.Refusal.{Refusal}
-use Rattle.twe_frontend.specs.Accepted.{Accepted, IsRefusal}
+use Rattle.twe_frontend.specs.Accepted.{Accepted}
 use Rattle.twe_frontend.specs.Reads.{HasCause}
 use Rattle.twe_frontend.specs.declared.read.FrontFail.{FrontFail}
 use Rattle.twe_machine.specs.declared.state.State.{State}
-use Rattle.twe_report.specs.Texts.{accepted_text, refusal_text}
+use Rattle.twe_machine.specs.LowestFirst.{IsOver, LowestFirst}
+use Rattle.twe_machine.specs.Runs.{Legal, state_after}
+use Rattle.command_line.specs.Words.{workers_of}
 use Rattle.command_line.specs.declared.command.Command.{Command}
 use Rattle.command_line.specs.declared.command.Command.TheVariants.{Check, Run, Replay, Load}
 use Rattle.twe_io.specs.declared.answer.Answer.{Answer}
 use Rattle.text_answers.specs.declared.book.Book.{Book}
-use Rattle.twe_io.specs.declared.status.Status.TheVariants.{Done, Refused}
-use Rattle.twe_io.specs.Answers.{on_err, on_out}
-use Rattle.text_answers.specs.Answers.{Due, AnswersReplay, IsAnswerTo, default_limits}
-use Rattle.text_answers.specs.Input.{program_text, journal_text}
-use Rattle.text_answers.specs.Running.{IsDueForProgram, IsRunFor, IsWholeRun}
-use Rattle.text_answers.specs.Theorem.{HasProgram, HasRefusal}
-use Rattle.text_answers.specs.inner.Given.{IsDueFor, IsDueForTexts, IsAnswerOfLoad, IsAnswerWithJournal}
+use Rattle.text_answers.specs.Answers.{Due, IsAnswerTo, default_limits}
+use Rattle.text_answers.specs.Input.{program_text}
+use Rattle.text_answers.specs.Running.{IsDueForProgram, IsRunFor, IsWholeRun, limits_to_run}
+use Rattle.text_answers.specs.inner.Given.{IsAnswerOfLoad, IsAnswerWithJournal}
 
 -- the run that a command asks for, by the command
 pub run_asked : (cmd : Command) (p : Program) (journal : List Entry) (st : State) (workers : ℕ) (lim : Bounds) (asked : Bool) → cmd ≡ Run workers lim asked
@@ -46,6 +44,14 @@ replay_asks_for_none cmd p journal st lim is run =
     let here = subst (λ (k : Command). IsRunFor k p journal st) is run in
     none-some here.0 here.1
 
+-- a run that is over is one that the command asks for, if it is the lowest-first one whenever no workers are asked for
+pub run_for : (cmd : Command) (p : Program) (lim : Bounds) (made : Result (List Entry × State) out_of.Memory) → limits_to_run cmd ≡ Some lim
+    → IfOk made (λ run. Legal p lim run.0) → IfOk made (λ run. run.1 ≡ state_after p lim run.0) → IfOk made (λ run. IsOver run.1)
+    → (workers_of cmd ≡ 0 → IfOk made (λ run. LowestFirst p lim run.0)) → IfOk made (λ run. IsRunFor cmd p run.0 run.1)
+run_for cmd p lim (Ok run) asked legal state over lowest =
+    (lim, asked, record { legal = legal; state = state; over = over; lowest = lowest })
+run_for cmd p lim (Err e) asked legal state over lowest = tt
+
 -- a program that was run
 pub due_ran : (cmd : Command) (workers : ℕ) (lim : Bounds) (asked : Bool) (p : Program) (book : Book) (made : Result Answer out_of.Memory) → cmd ≡ Run workers lim asked
     → IfOk made (IsAnswerWithJournal p lim workers asked book) → IfOk made (IsDueForProgram cmd p book)
@@ -60,47 +66,15 @@ due_loaded cmd workers n p book (Ok a) command ran = λ input accepted.
     subst (Due cmd input book) (sym ran.2) (Due.loaded workers n p ran.1.outcome ran.0 command accepted ran.1.run ran.1.answers)
 due_loaded cmd workers n p book (Err e) command ran = tt
 
--- whatever the journal text
-pub due_for_program : (cmd : Command) (p : Program) (journal : List ℕ) (book : Book) (made : Result Answer out_of.Memory)
-    → IfOk made (IsDueForProgram cmd p book) → IfOk made (IsDueFor cmd p journal book)
-due_for_program cmd p journal book (Ok a) due = λ input accepted is. due input accepted
-due_for_program cmd p journal book (Err e) due = tt
-
--- a journal text that was replayed
-pub due_replayed : (cmd : Command) (lim : Bounds) (p : Program) (journal : List ℕ) (book : Book) (made : Result Answer out_of.Memory) → cmd ≡ Replay lim
-    → IfOk made (AnswersReplay p lim journal book) → IfOk made (IsDueFor cmd p journal book)
-due_replayed cmd lim p journal book (Ok a) command answers = λ input accepted is.
-    Due.replayed lim p command accepted (subst (λ (text : List ℕ). AnswersReplay p lim text book a) is answers)
-due_replayed cmd lim p journal book (Err e) command answers = tt
-
--- a program that was accepted
-pub due_accepted : (cmd : Command) (p : Program) (journal : List ℕ) (book : Book) (made : Result Answer out_of.Memory) → cmd ≡ Check
-    → OnOk made (HasProgram p book) → IfOk made (λ a. a ≡ on_out Done accepted_text) → IfOk made (IsDueFor cmd p journal book)
-due_accepted cmd p journal book (Ok a) command has same = λ input accepted is. subst (Due cmd input book) (sym same) (Due.accepted p command accepted has)
-due_accepted cmd p journal book (Err e) command has same = tt
-
--- a text that was refused
-pub due_refused : (cmd : Command) (program journal : List ℕ) (r : Refusal) (book : Book) (made : Result Answer out_of.Memory) → IsRefusal program r
-    → OnOk made (HasRefusal r book) → IfOk made (λ a. a ≡ on_err Refused (refusal_text r)) → IfOk made (IsDueForTexts cmd program journal book)
-due_refused cmd program journal r book (Ok a) is has same = λ input text other.
-    subst (Due cmd input book) (sym same) (Due.refused r (subst (λ (t : List ℕ). IsRefusal t r) text is) has)
-due_refused cmd program journal r book (Err e) is has same = tt
-
--- a program text that is accepted
-pub due_program : (cmd : Command) (program journal : List ℕ) (p : Program) (book : Book) (made : Result Answer out_of.Memory) → Accepted program p
-    → IfOk made (IsDueFor cmd p journal book) → IfOk made (IsDueForTexts cmd program journal book)
-due_program cmd program journal p book (Ok a) accepted due = λ input text is. due input (subst (λ (t : List ℕ). Accepted t p) text accepted) is
-due_program cmd program journal p book (Err e) accepted due = tt
-
--- an input that has these texts
-pub due_texts : (cmd : Command) (input program journal : List ℕ) (book : Book) (made : Result Answer out_of.Memory) → program ≡ program_text cmd input → journal ≡ journal_text cmd input
-    → IfOk made (IsDueForTexts cmd program journal book) → IfOk made (Due cmd input book)
-due_texts cmd input program journal book (Ok a) text is due = due input text is
-due_texts cmd input program journal book (Err e) text is due = tt
-
 -- a failure of the rules on the program text
 pub refused_as : (program : List ℕ) (fail known : FrontFail) → HasCause program fail → fail ≡ known → HasCause program known
 refused_as program fail known cause same = subst (HasCause program) same cause
+
+-- the answer to a run of the program of an accepted text
+pub due_of_run : (cmd : Command) (input : List ℕ) (p : Program) (book : Book) (made : Result Answer out_of.Memory) → Accepted (program_text cmd input) p
+    → IfOk made (IsDueForProgram cmd p book) → IfOk made (Due cmd input book)
+due_of_run cmd input p book (Ok a) accepted due = due input accepted
+due_of_run cmd input p book (Err e) accepted due = tt
 
 -- the answer, apart from the book
 pub without_book : (cmd : Command) (input : List ℕ) (book : Book) (made : Result Answer out_of.Memory) → IfOk made (Due cmd input book) → IfOk made (IsAnswerTo cmd input)

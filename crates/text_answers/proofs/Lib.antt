@@ -1,5 +1,7 @@
 pub mod Outcomes
 pub mod Dues
+pub mod Inputs
+pub mod Starts
 pub mod Cuts
 pub mod Counted
 pub mod Replays

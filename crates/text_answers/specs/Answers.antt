@@ -17,7 +17,8 @@ use Rattle.twe_machine.specs.declared.legal.Why.{Why}
 use Rattle.twe_machine.specs.Replays.{IsFirstIllegal}
 use Rattle.twe_machine.specs.Runs.{state_after, counted}
 use Rattle.flat_sched.specs.Stuck.{IsCycleOfReasons, IsStuckCycle}
-use Rattle.twe_report.specs.Texts.{result_text, prints_text, fault_text, stuck_text, unfinished_text, not_a_move_text, not_legal_text, accepted_text, refusal_text}
+use Rattle.twe_report.specs.Texts.{result_text, prints_text, fault_text, stuck_text, unfinished_text}
+use Rattle.twe_report.specs.Texts.{not_a_move_text, not_legal_text, accepted_text, refusal_text}
 use Rattle.twe_report.specs.Texts as texts
 use Rattle.twe_io.specs.Answers.{on_err, on_out}
 use Rattle.twe_io.specs.declared.answer.Answer.{Answer}
@@ -36,12 +37,14 @@ after_prints status prints line = record { status = status; out = prints_text pr
 
 -- the answer with the journal after its lines on out, if the journal is asked for
 abbrev pub with_journal : Bool → Bounds → List Entry → Answer → Answer
-with_journal asked lim journal answer = record answer { out = if asked then answer.out ++ texts.journal_part_text lim journal else answer.out }
+with_journal asked lim journal answer =
+    record answer { out = if asked then answer.out ++ texts.journal_part_text lim journal else answer.out }
 
 -- The answer to the run of a load that has come to this state. If all tasks are done, it has the result of the load, and else
 -- nothing on out.
 abbrev pub for_load : ℕ → State → Answer → Answer
-for_load n last answer = if is_status_done answer.status then on_out Done (texts.load_result_text n last) else on_err answer.status answer.err
+for_load n last answer =
+    if is_status_done answer.status then on_out Done (texts.load_result_text n last) else on_err answer.status answer.err
 
 -- the limits of a run, if no option gives them
 abbrev pub default_limits : Bounds
@@ -51,7 +54,8 @@ default_limits = record { fuel = default_fuel; tasks = default_tasks }
 -- were printed up to the first fault.
 abbrev pub AnswersRun : Program → State → List ℤ → Outcome → Answer → Type 0
 AnswersRun p last prints outcomes.AllDone answer = answer ≡ on_out Done (result_text p last)
-AnswersRun p last prints (outcomes.Fault task kind place) answer = answer ≡ after_prints Fault prints (fault_text task kind place)
+AnswersRun p last prints (outcomes.Fault task kind place) answer =
+    answer ≡ after_prints Fault prints (fault_text task kind place)
 AnswersRun p last prints outcomes.Stuck answer =
     (cycle : List Edge) × IsStuckCycle last cycle × IsCycleOfReasons last cycle
     × (answer ≡ after_prints Stuck prints (stuck_text cycle))
@@ -64,7 +68,8 @@ limits_with head lim = unwrap_or head lim
 -- The answer to the journal text of a replay on an accepted program.
 pub data AnswersReplay (p : Program) (lim : Bounds) (text : List ℕ) (book : Book) : Answer → Type 0 where
   -- line n is the first that is neither a head on line 1 nor a move
-  not_a_move : (n : ℕ) → IsFirstBadLine text n → HasProgram p book → AnswersReplay p lim text book (on_err BadJournal (not_a_move_text n))
+  not_a_move : (n : ℕ) → IsFirstBadLine text n → HasProgram p book
+      → AnswersReplay p lim text book (on_err BadJournal (not_a_move_text n))
   -- each line is one, and move n is the first that is not legal
   not_legal : (head : Option Bounds) (moves : List Move) (n : ℕ) (why : Why) → Spells text head moves
       → IsFirstIllegal p (limits_with head lim) moves n why → HasProgram p book
@@ -72,24 +77,29 @@ pub data AnswersReplay (p : Program) (lim : Bounds) (text : List ℕ) (book : Bo
   -- each move is legal, and the book has the replay
   replayed : (head : Option Bounds) (moves : List Move) (outcome : Outcome) {answer : Answer} → Spells text head moves
       → HasReplay p (limits_with head lim) moves outcome book
-      → AnswersRun p (state_after p (limits_with head lim) book.journal) (state_after p (limits_with head lim) (counted book.journal)).prints outcome answer
+      → AnswersRun p (state_after p (limits_with head lim) book.journal)
+      (state_after p (limits_with head lim) (counted book.journal)).prints outcome answer
       → AnswersReplay p lim text book answer
 
 -- The answer to a command with this input. The book has what led to it.
 pub data Due (command : Command) (text : List ℕ) (book : Book) : Answer → Type 0 where
   -- the text is refused, and the book has the refusal
-  refused : (r : Refusal) → IsRefusal (program_text command text) r → HasRefusal r book → Due command text book (on_err Refused (refusal_text r))
+  refused : (r : Refusal) → IsRefusal (program_text command text) r → HasRefusal r book
+      → Due command text book (on_err Refused (refusal_text r))
   -- the text is accepted, and the book has its program
-  accepted : (p : Program) → command ≡ Check → Accepted (program_text command text) p → HasProgram p book → Due command text book (on_out Done accepted_text)
+  accepted : (p : Program) → command ≡ Check → Accepted (program_text command text) p → HasProgram p book
+      → Due command text book (on_out Done accepted_text)
   -- the run theorem: the text is accepted, and the book has a run of its program
-  ran : (workers : ℕ) (lim : Bounds) (asked : Bool) (p : Program) (outcome : Outcome) (answer : Answer) → command ≡ Run workers lim asked
-      → Accepted (program_text command text) p → HasRun p lim workers outcome book
+  ran : (workers : ℕ) (lim : Bounds) (asked : Bool) (p : Program) (outcome : Outcome) (answer : Answer)
+      → command ≡ Run workers lim asked → Accepted (program_text command text) p → HasRun p lim workers outcome book
       → AnswersRun p (state_after p lim book.journal) (state_after p lim (counted book.journal)).prints outcome answer
       → Due command text book (with_journal asked lim book.journal answer)
   -- the text of the load generator is accepted, and the book has a run of its program
-  loaded : (workers n : ℕ) (p : Program) (outcome : Outcome) (answer : Answer) → command ≡ Load workers n → Accepted (program_text command text) p
+  loaded : (workers n : ℕ) (p : Program) (outcome : Outcome) (answer : Answer) → command ≡ Load workers n
+      → Accepted (program_text command text) p
       → HasRun p default_limits workers outcome book
-      → AnswersRun p (state_after p default_limits book.journal) (state_after p default_limits (counted book.journal)).prints outcome answer
+      → AnswersRun p (state_after p default_limits book.journal)
+      (state_after p default_limits (counted book.journal)).prints outcome answer
       → Due command text book (for_load n (state_after p default_limits book.journal) answer)
   -- the text is accepted, and its journal text is replayed
   replayed : (lim : Bounds) (p : Program) {answer : Answer} → command ≡ Replay lim → Accepted (program_text command text) p

@@ -31,12 +31,14 @@ pub data Cause {S : Type 0} (tells : SourceTells S) (command : Command) (before 
 
 -- Why a program has this answer, if its words mean this command or none. If they mean none, the answer is the usage line, and
 -- nothing is read.
-abbrev pub CauseOfWords : {S : Type 0} → SourceTells S → List ℕ → Option Command → S → S → Book → Answer → Type 0
+abbrev pub CauseOfWords : {S : Type 0} → SourceTells S → List ℕ → Option Command → S → S → Book → Answer
+    → Type 0
 CauseOfWords tells usage None before after book answer = (answer ≡ on_err Usage usage) × (after ≡ before) × IsNew book
 CauseOfWords tells usage (Some command) before after book answer = Cause tells command before after book answer
 
 -- What a call of a program with this usage line comes to, if its words mean this command or none: an answer that has its cause is
 -- written; or memory runs out, and nothing is written.
-abbrev pub Answers : {S O E : Type 0} → EndsTell S O E → List ℕ → Option Command → Ends S O E → Ends S O E → Book → Status → Type 0
+abbrev pub Answers : {S O E : Type 0} → EndsTell S O E → List ℕ → Option Command → Ends S O E → Ends S O E → Book
+    → Status → Type 0
 Answers tells usage command before after book status =
     IsAnswered tells (λ from to answer. CauseOfWords tells.src usage command from to book answer) before after status

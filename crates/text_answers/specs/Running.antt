@@ -32,8 +32,10 @@ pub record IsWholeRun (p : Program) (lim : Bounds) (workers : ℕ) (journal : Li
 
 -- the run is the one that the command asks for
 abbrev pub IsRunFor : Command → Program → List Entry → State → Type 0
-IsRunFor command p journal st = (lim : Bounds) × (limits_to_run command ≡ Some lim) × IsWholeRun p lim (workers_of command) journal st
+IsRunFor command p journal st =
+    (lim : Bounds) × (limits_to_run command ≡ Some lim) × IsWholeRun p lim (workers_of command) journal st
 
 -- the answer to each input whose program text is accepted and has this program
 abbrev pub IsDueForProgram : Command → Program → Book → Answer → Type 0
-IsDueForProgram command p book answer = (input : List ℕ) → Accepted (program_text command input) p → Due command input book answer
+IsDueForProgram command p book answer =
+    (input : List ℕ) → Accepted (program_text command input) p → Due command input book answer

@@ -20,10 +20,11 @@ pub record IsReady (command : Command) (p : Program) (lim : Bounds) (book : Book
   pub limits : limits_to_run command ≡ Some lim
   pub new : IsNew book
 
--- What a command has come to: its answer, which has its cause; or a program that is ready to be run, and the answer to a run of it
--- will have its cause.
+-- What a command has come to: its answer, which has its cause; or a program that is ready to be run, and the answer to a run of
+-- it will have its cause.
 abbrev pub IsStarted : {S : Type 0} → SourceTells S → Command → S → S → Book → Started → Type 0
 IsStarted tells command before after book (Answered answer) = Cause tells command before after book answer
 IsStarted tells command before after book (ToRun p lim) =
     IsReady command p lim book
-    × ((later : Book) (answer : Answer) → IsDueForProgram command p later answer → Cause tells command before after later answer)
+    × ((later : Book) (answer : Answer) → IsDueForProgram command p later answer
+    → Cause tells command before after later answer)

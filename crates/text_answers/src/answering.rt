@@ -39,7 +39,8 @@ pub fn answer_input(
     requires short { length input.now ≤ max_text_bytes }
     ensures { IfOk result (Due cmd.now input.now book.new) }
 {
-    match start_input(alloc, cmd, input, book)? {
+    let started = start_input(alloc, cmd, input, book)?;
+    match started {
         Started::Answered(answer) => Ok(answer),
         Started::ToRun { p, lim } => {
             let (journal, st) = run_lowest(alloc, &p, lim)?;

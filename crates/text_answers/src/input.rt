@@ -13,8 +13,8 @@ pub fn has_input(cmd: &Command) -> bool
     !matches!(cmd, Command::Load { .. })
 }
 
-/// The two parts of the input of `replay`: what stands before the first line that is exactly `%%`, and what stands after it. Without
-/// such a line the first part is the whole input, and the second is empty.
+/// The two parts of the input of `replay`: what stands before the first line that is exactly `%%`, and what stands after it.
+/// Without such a line the first part is the whole input, and the second is empty.
 pub fn cut_input(input: &[u8]) -> (&[u8], &[u8])
     requires { length input.now ≤ max_text_bytes }
     ensures program { result.0.now ≡ program_part input.now }

@@ -21,8 +21,8 @@ use determinism_laws::results::deterministic_mains_have_one_result;
 use twe_frontend::{one_program, one_refusal, refused_or_accepted};
 use twe_machine::one_lowest_first;
 
-/// A command that asks for no workers has one answer to an input: what is written and the status are a function of the command and
-/// the input, apart from want of memory.
+/// A command that asks for no workers has one answer to an input: what is written and the status are a function of the command
+/// and the input, apart from want of memory.
 pub fn one_answer_without_workers()
     ensures { (command : Command) (input : List ℕ) (answer other : Answer) → workers_of command ≡ 0
         → IsAnswerTo command input answer → IsAnswerTo command input other → answer ≡ other }
@@ -46,8 +46,9 @@ pub fn written_journals_replay()
     refused_or_accepted();
 }
 
-/// If `main` is deterministic, what a run writes when all tasks are done is a function of the program and its limits: two
-/// journals of the program under the same limits, from whatever schedulers, have the same result text.
+/// If `main` is deterministic, what a run with status 0 writes, but for its journal, is a function of the program and its limits:
+/// two journals of the program under the same limits, from whatever schedulers, have the same result text if all tasks are done
+/// after each of them.
 pub fn deterministic_mains_have_one_result_text()
     ensures { (p : Program) → IsWellFormed p → KeepsEffects p → MainIsDeterministic p
         → (lim : Bounds) → IsWithin lim.fuel lim.tasks → (one other : List Entry) → Legal p lim one → Legal p lim other

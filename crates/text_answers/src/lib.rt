@@ -1,6 +1,6 @@
-//! From a command to its answer: what the commands write of a program text, and with which status. Nothing is written here, and all
-//! of it happens on the calling thread. The programs run by workers what `start` says is to be run, and `answer_run` makes the answer
-//! of the run.
+//! From a command to its answer: what the commands write of a program text, and with which status. Nothing is written here, and
+//! all of it happens on the calling thread. Programs run what `start` says is to be run, by workers if they want, and `answer_run`
+//! makes the answer to the run.
 #![tactic(auto)]
 
 mod answering;

@@ -24,10 +24,9 @@ pub(crate) fn input_of<S: Source>(
 {
     load_texts_are_accepted();
     if has_input(cmd) {
-        read_input_of(alloc, cmd, src)
-    } else {
-        Ok(Input::Given(Bytes::new(alloc)))
+        return read_input_of(alloc, cmd, src);
     }
+    Ok(Input::Given(Bytes::new(alloc)))
 }
 
 /// Reads the input of a command that has one.

@@ -38,9 +38,9 @@ pub enum Started {
     },
 }
 
-/// Takes a command up to its run: reads its input, or makes the text of the load generator; checks the program text; and replays a
-/// journal if the command asks for that. If the result is an answer, the book has what led to it. If it is a program that is to be
-/// run, the book is still empty: `answer_run` takes the run of that program, whoever makes it, to the answer.
+/// Takes a command up to its run: reads its input, or makes the text of the load generator; checks the program text; and replays
+/// a journal if the command asks for that. If the result is an answer, the book has what led to it. If it is a program that is to
+/// be run, the book is still empty: `answer_run` makes the answer to the run of that program, whoever runs it.
 pub fn start<S: Source>(
     alloc: Global,
     cmd: &Command,
@@ -51,7 +51,8 @@ pub fn start<S: Source>(
     requires sized { IsSized cmd.now }
     ensures { IfOk result (IsStarted (source S.left S.faults S.read_gives) cmd.now src.old src.new book.new) }
 {
-    match input_of(alloc, cmd, src)? {
+    let input = input_of(alloc, cmd, src)?;
+    match input {
         Input::Given(input) => start_input(alloc, cmd, input.as_slice(), book),
         Input::Failed(answer) => Ok(Started::Answered(answer)),
     }

@@ -1,5 +1,5 @@
 -- What the program answers, and why.
-use Rattle.std.specs.Prelude.{◌≡◌, ℕ, List, [], None, Some, Ok}
+use Rattle.std.specs.Prelude.{◌≡◌, ℕ, List, None, Some, Ok}
 use Rattle.twe_io.specs.Ends.{Ends, EndsTell, SourceTells, WasRead}
 use Rattle.twe_io.specs.Answers.{IsAnswered, on_err, on_out}
 use Rattle.par_check.specs.declared.job.Job.{Job}
@@ -24,5 +24,6 @@ pub data BatchCause {S : Type 0} (tells : SourceTells S) (words : List (List ℕ
       → BatchCause tells words before after (on_out Done text)
 
 -- what a call of the program comes to: an answer that has its cause is written; or memory runs out, and nothing is written
-abbrev pub AnswersBatch : {S O E : Type 0} → EndsTell S O E → List (List ℕ) → Ends S O E → Ends S O E → Status → Type 0
+abbrev pub AnswersBatch : {S O E : Type 0} → EndsTell S O E → List (List ℕ) → Ends S O E → Ends S O E → Status
+    → Type 0
 AnswersBatch tells words before after status = IsAnswered tells (BatchCause tells.src words) before after status

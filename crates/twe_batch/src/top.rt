@@ -1,9 +1,10 @@
 //! The top call: the whole program, apart from where its bytes come from and go to.
-ghost use Rattle.std.specs.Prelude.{◌≤◌, length, IfOk};
+ghost use Rattle.std.specs.Prelude.{◌≤◌, [], ◌∷◌, length, IfOk};
 ghost use Rattle.twe_base.specs.Language.{max_text_bytes};
 ghost use Rattle.twe_io.specs.Ends.{ends, ends_tell, sink, source};
 ghost use Rattle.par_check.specs.Batch.{IsBatch};
 ghost use Rattle.twe_batch.specs.Answers.{AnswersBatch, BatchCause};
+ghost use Rattle.twe_batch.specs.Words.{word_for};
 
 use crate::text::usage_text;
 use crate::words::job_of;
@@ -46,14 +47,27 @@ fn answer<R: Threads + Sync, S: Source>(
     ensures { IfOk result (BatchCause (source S.left S.faults S.read_gives) words.now src.old src.new) }
 {
     match job_of(words) {
-        Some(job) => match read_input(alloc, src)? {
-            Input::Given(batch) => {
-                let text = answer_batch(rt, alloc, job, batch.as_slice())?;
-                Ok(Answer::on_out(alloc, Status::Done, text))
-            }
-            Input::Failed(answer) => Ok(answer),
-        },
+        Some(job) => answer_source(rt, alloc, job, src),
         None => Ok(Answer::on_err(alloc, Status::Usage, usage_text(alloc)?)),
+    }
+}
+
+/// The answer to the one word that asks for this: the source is read, and its batch is answered.
+fn answer_source<R: Threads + Sync, S: Source>(
+    rt: &R,
+    alloc: Global,
+    job: Job,
+    src: &mut S,
+) -> Result<Answer, Memory>
+    ensures { IfOk result (BatchCause (source S.left S.faults S.read_gives) (word_for job ∷ []) src.old src.new) }
+{
+    let input = read_input(alloc, src)?;
+    match input {
+        Input::Given(batch) => {
+            let text = answer_batch(rt, alloc, job, batch.as_slice())?;
+            Ok(Answer::on_out(alloc, Status::Done, text))
+        }
+        Input::Failed(answer) => Ok(answer),
     }
 }
 

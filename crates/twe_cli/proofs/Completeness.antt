@@ -1,10 +1,9 @@
 -- If nothing fails outside, a command has one of its statuses.
-use Rattle.std.proofs.Common.{◌≡◌, ◌≢◌, ◌⊎◌, ◌≤◌, ◌<◌, ◌+◌, ◌++◌, IfSome, inl, inr, ℕ, ℤ, List, [], ◌∷◌, length, cond, Option, None, Some, Ok, Err, refl, sym, ap, ◌∙◌, subst, arith}
+use Rattle.std.proofs.Common.{◌≡◌, ◌≢◌, ◌<◌, ◌+◌, IfSome, inl, inr, ℕ, ℤ, List, [], ◌∷◌, length, cond, Option, None, Some, refl, sym, ap, ◌∙◌, subst, arith}
 use Rattle.std.proofs.lemmas.Option.{none-some, same_Some}
 use Rattle.std.proofs.lemmas.List.{length-append}
 use Rattle.twe_io.specs.Faults.{Rose}
 use Rattle.twe_io.specs.Told.{Gives}
-use Rattle.twe_io.specs.declared.whole.ReadFail.TheVariants as reads
 use Rattle.twe_base.specs.Language.{max_text_bytes}
 use Rattle.twe_base.specs.Limits.{Bounds}
 use Rattle.twe_program.specs.Program.{Program}
@@ -14,20 +13,23 @@ use Rattle.twe_machine.specs.declared.ending.Outcome.{Outcome}
 use Rattle.twe_machine.specs.declared.ending.Outcome.TheVariants as outcomes
 use Rattle.twe_machine.specs.declared.state.State.{State}
 use Rattle.twe_machine.specs.Runs.{state_after}
+use Rattle.command_line.specs.Words.{IsMeaning, Means}
 use Rattle.command_line.specs.declared.command.Command.{Command}
 use Rattle.command_line.specs.declared.command.Command.TheVariants.{Check, Run, Replay, Load}
 use Rattle.twe_io.specs.declared.answer.Answer.{Answer}
 use Rattle.text_answers.specs.declared.book.Book.{Book}
 use Rattle.twe_io.specs.declared.status.Status.{Status}
-use Rattle.twe_io.specs.declared.status.Status.TheVariants.{Done, Refused, Usage, Fault, Stuck, ReadFault, WriteFault, Memory, TooLong, BadJournal, Unfinished}
-use Rattle.twe_io.specs.Answers.{Tells, on_err, on_out}
+use Rattle.twe_io.specs.declared.status.Status.TheVariants.{Done, Refused, Usage, Fault, Stuck, ReadFault, WriteFault, Memory}
+use Rattle.twe_io.specs.declared.status.Status.TheVariants.{TooLong, BadJournal, Unfinished, TooMany}
+use Rattle.twe_io.specs.Answers.{IsAnswered, Tells, on_err, on_out}
 use Rattle.text_answers.specs.Answers.{AnswersReplay, AnswersRun, Due, default_limits, for_load}
-use Rattle.twe_cli.specs.Answers.{Answers, Cause}
+use Rattle.text_answers.specs.Causes.{Answers, Cause}
 use Rattle.twe_io.specs.Codes.{is_status_done}
+use Rattle.twe_report.specs.Reading.{FailedRead}
 use Rattle.twe_report.specs.Texts as texts
-use Rattle.twe_cli.specs.Complete.{Completes, IsOneOf, IsComplete, statuses_of}
-use Rattle.twe_io.specs.Ends.{SourceTells, SinkTells}
-use Rattle.text_answers.specs.Input.{HasInput, program_text}
+use Rattle.twe_cli.specs.Complete.{Completes, IsOneOf, IsComplete, IsInputFor, statuses_of}
+use Rattle.twe_io.specs.Ends.{Ends, EndsTell, SourceTells}
+use Rattle.text_answers.specs.Input.{program_text}
 
 -- the statuses of runs
 abbrev RunStatuses : List Status
@@ -60,6 +62,7 @@ load_keeps n st Memory answer = refl
 load_keeps n st TooLong answer = refl
 load_keeps n st BadJournal answer = refl
 load_keeps n st Unfinished answer = refl
+load_keeps n st TooMany answer = refl
 
 replay_status : (p : Program) (lim : Bounds) (text : List ℕ) (book : Book) (answer : Answer) → AnswersReplay p lim text book answer
     → IsOneOf answer.status (Done ∷ Fault ∷ Stuck ∷ Memory ∷ BadJournal ∷ Unfinished ∷ [])
@@ -85,18 +88,9 @@ memory_among (Run workers lim asked) = inr (inr (inr (inl refl)))
 memory_among (Replay lim) = inr (inr (inr (inl refl)))
 memory_among (Load workers n) = inr (inr (inr (inl refl)))
 
--- want of memory can stand in for any status
-pub memory_completes : {S O E : Type 0} (src : SourceTells S) (out : SinkTells O) (err : SinkTells E) (command : Command) (src_from src_to : S) (out_from out_to : O) (err_from err_to : E)
-    → Completes src out err command src_from src_to out_from out_to err_from err_to Memory
-memory_completes src out err command src_from src_to out_from out_to err_from err_to = λ input calm left short.
-    record { refused = λ r is. inr (inl refl); accepted = λ p is. memory_among command }
-
--- the same of another command that is equal
-pub completes_as : {S O E : Type 0} (src : SourceTells S) (out : SinkTells O) (err : SinkTells E) {command other : Command} {src_from src_to : S} {out_from out_to : O} {err_from err_to : E}
-    {status : Status} → command ≡ other → Completes src out err command src_from src_to out_from out_to err_from err_to status
-    → Completes src out err other src_from src_to out_from out_to err_from err_to status
-completes_as src out err {command} {other} {src_from} {src_to} {out_from} {out_to} {err_from} {err_to} {status} same is =
-    subst (λ (k : Command). Completes src out err k src_from src_to out_from out_to err_from err_to status) same is
+-- the words mean at most one command
+abbrev pub OneMeaning : List (List ℕ) → Type 0
+OneMeaning words = (command other : Command) → Means words command → Means words other → command ≡ other
 
 module _ (not_refused : (text : List ℕ) (p : Program) (refusal : Refusal) → Accepted text p → ¬ IsRefusal text refusal) where
   due_refused : (command : Command) (input : List ℕ) (book : Book) (answer : Answer) (r : Refusal) → IsRefusal (program_text command input) r → Due command input book answer
@@ -130,26 +124,35 @@ module _ (not_refused : (text : List ℕ) (p : Program) (refusal : Refusal) → 
   load_complete : (workers n : ℕ) (input : List ℕ) (status : Status) → IsComplete (Load workers n) [] status → IsComplete (Load workers n) input status
   load_complete workers n input status c = record { refused = c.refused; accepted = c.accepted }
 
-  cause_complete : {S : Type 0} (src : SourceTells S) (command : Command) (before after : S) (book : Book) (answer : Answer) (input : List ℕ)
-      → Cause src (Some command) before after book answer → ¬ Rose (src.faults before) (src.faults after) → src.left before ≡ Some input → length input ≤ max_text_bytes
+  cause_complete : {S : Type 0} (tells : SourceTells S) (command : Command) (before after : S) (book : Book) (answer : Answer) (input : List ℕ)
+      → Cause tells command before after book answer → ¬ Rose (tells.faults before) (tells.faults after) → IsInputFor tells command input before
       → IsComplete command input answer.status
-  cause_complete src command before after book answer input (Cause.usage none same new) calm left short = absurd (none-some command (sym none))
-  cause_complete src command before after book answer input (Cause.read_fault has was new) calm left short = absurd (calm was.told)
-  cause_complete src command before after book answer input (Cause.too_long has was new) calm left short =
-      absurd (too_many (src.left before) (src.left after) input (max_text_bytes + 1) left was.told (omega (arith, short)))
-  cause_complete src command before after book answer input (Cause.text given bytes same has was due) calm left short =
-      let is : command ≡ given = same_Some command given same in
-      let text : bytes ≡ input = whole_is (src.left before) bytes input left was.told.0 in
-      subst (λ (c : Command). IsComplete c input answer.status) (sym is) (subst (λ (t : List ℕ). IsComplete given t answer.status) text (due_complete given bytes book answer due))
-  cause_complete src command before after book answer input (Cause.no_input workers n same nothing never due) calm left short =
-      subst (λ (c : Command). IsComplete c input answer.status) (sym (same_Some command (Load workers n) same)) (load_complete workers n input answer.status (due_complete (Load workers n) [] book answer due))
+  cause_complete tells command before after book answer input (Cause.not_read has (FailedRead.read_fault was) new) calm is = absurd (calm was.told)
+  cause_complete tells command before after book answer input (Cause.not_read has (FailedRead.too_long was) new) calm is =
+      let short = is.short has in
+      absurd (too_many (tells.left before) (tells.left after) input (max_text_bytes + 1) (is.content has) was.told (omega (arith, short)))
+  cause_complete tells command before after book answer input (Cause.text bytes has was due) calm is =
+      let text : bytes ≡ input = whole_is (tells.left before) bytes input (is.content has) was.told.0 in
+      subst (λ (t : List ℕ). IsComplete command t answer.status) text (due_complete command bytes book answer due)
+  cause_complete tells command before after book answer input (Cause.no_input workers n same nothing never due) calm is =
+      subst (λ (c : Command). IsComplete c input answer.status) (sym same)
+      (load_complete workers n input answer.status (due_complete (Load workers n) [] book answer due))
 
-  pub complete : {S O E : Type 0} (src : SourceTells S) (out : SinkTells O) (err : SinkTells E) (command : Command) (src_from src_to : S) (out_from out_to : O) (err_from err_to : E)
-      (book : Book) (status : Status) → Answers src out err (Some command) src_from src_to out_from out_to err_from err_to book status
-      → Completes src out err command src_from src_to out_from out_to err_from err_to status
-  complete src out err command src_from src_to out_from out_to err_from err_to book status (Answers.out_of_memory a b) = λ input calm left short.
+  -- the status of a call that was answered
+  pub complete : {S O E : Type 0} (tells : EndsTell S O E) (command : Command) (before after : Ends S O E) (book : Book) (status : Status)
+      → IsAnswered tells (λ from to answer. Cause tells.src command from to book answer) before after status
+      → Completes tells command before after status
+  complete tells command before after book status (IsAnswered.out_of_memory a b) = λ input calm is.
       record { refused = λ r is. inr (inl refl); accepted = λ p is. memory_among command }
-  complete src out err command src_from src_to out_from out_to err_from err_to book status (Answers.answered {answer} cause (Tells.told a b)) = λ input calm left short.
-      cause_complete src command src_from src_to book answer input cause calm.no_read left short
-  complete src out err command src_from src_to out_from out_to err_from err_to book status (Answers.answered cause (Tells.out_broke_off a b)) = λ input calm left short. absurd (calm.no_out a.fault)
-  complete src out err command src_from src_to out_from out_to err_from err_to book status (Answers.answered cause (Tells.err_broke_off a b)) = λ input calm left short. absurd (calm.no_err b.fault)
+  complete tells command before after book status (IsAnswered.answered {answer} cause (Tells.told a b)) = λ input calm is.
+      cause_complete tells.src command before.src after.src book answer input cause calm.no_read is
+  complete tells command before after book status (IsAnswered.answered cause (Tells.out_broke_off a b)) = λ input calm is. absurd (calm.no_out a.fault)
+  complete tells command before after book status (IsAnswered.answered cause (Tells.err_broke_off a b)) = λ input calm is. absurd (calm.no_err b.fault)
+
+  -- the same, of the command that the words mean
+  pub completes : {S O E : Type 0} (tells : EndsTell S O E) (words : List (List ℕ)) (usage : List ℕ) (before after : Ends S O E) (book : Book) (status : Status)
+      → OneMeaning words → (meaning : Option Command) → IsMeaning words meaning → Answers tells usage meaning before after book status
+      → (command : Command) → Means words command → Completes tells command before after status
+  completes tells words usage before after book status one None none answers command means = absurd (none command means)
+  completes tells words usage before after book status one (Some given) is answers command means =
+      subst (λ (c : Command). Completes tells c before after status) (one given command is means) (complete tells given before after book status answers)

@@ -2,10 +2,7 @@
 //! input and writes its answer.
 #![tactic(auto)]
 
-mod crew;
-mod reading;
-mod single;
-mod telling;
+mod carrying_out;
 #[cfg(test)]
 mod tests;
 mod top;

@@ -1,34 +1,36 @@
 //! The top call: the whole program, apart from where its bytes come from and go to.
-ghost use Rattle.std.specs.Prelude.{◌≡◌, Option, Some, IfOk};
-ghost use Rattle.twe_io.specs.Answers.{on_err};
-ghost use Rattle.twe_cli.specs.Answers.{Answers};
-ghost use Rattle.twe_cli.specs.Complete.{Completes};
-ghost use Rattle.twe_io.specs.Ends.{source, sink};
-ghost use Rattle.twe_report.specs.Texts as texts;
-ghost use Rattle.text_answers.specs.Theorem.{IsNew};
-ghost use Rattle.command_line.specs.Words.{IsMeaning, IsSized, Means};
+ghost use Rattle.std.specs.Prelude.{◌≡◌, Option, IfOk};
+ghost use Rattle.command_line.specs.Words.{IsMeaning, Means};
 ghost use Rattle.command_line.specs.declared.command.Command.{Command};
+ghost use Rattle.twe_io.specs.Answers.{on_err};
+ghost use Rattle.twe_io.specs.Ends.{ends, ends_tell, sink, source};
 ghost use Rattle.twe_io.specs.declared.status.Status.TheVariants.{Usage};
+ghost use Rattle.twe_report.specs.Texts as texts;
+ghost use Rattle.text_answers.specs.Causes.{Answers};
+ghost use Rattle.text_answers.specs.Theorem.{IsNew};
+ghost use Rattle.twe_cli.specs.Complete.{Completes};
+ghost use Rattle.twe_cli.specs.inner.Given.{HasCauseInWords};
 
-use crate::crew::twe_crew;
-use crate::single::twe_single;
-use crate::telling::tell;
-use command_line::{Command, WordsFail, every_list_is_decided, one_command, read_words};
+use crate::carrying_out::answer_command;
+use command_line::{WordsFail, every_list_is_decided, one_command, read_words};
 use floor_crew::Gate;
 use std::alloc::Global;
 use std::sync::Wait;
 use std::thread::Threads;
-use text_answers::{Answer, Book, Status};
+use text_answers::Book;
 use twe_base::{Memory, Word};
-use twe_io::{Sink, Source};
+use twe_frontend::refused_or_accepted;
+use twe_io::{Answer, Sink, Source, Status, tell};
 use twe_report::usage_text;
 
-/// Carries out the command that the words mean. If it asks for workers, they run the program on threads of their own and pass the gate
-/// before each segment; else all of it happens on the calling thread.
+/// Carries out the command that the words mean, and writes its answer. If it asks for workers, they run the program on threads of
+/// their own and pass the gate before each segment; else all of it happens on the calling thread, and a run is the lowest-first
+/// one.
 ///
 /// `Answers` says what each status means and what is written with it. If the words mean no command, the answer is the usage
-/// line, and nothing is read from the source. After `Memory` nothing was written. `Completes` says which statuses a command can
-/// have if nothing fails outside.
+/// line, and nothing is read from the source. Afterwards the book has the program, the journal of its run and how the run ended,
+/// or the refusal of the text. After `Memory` nothing was written, and nothing more is known of the source and the book.
+/// `Completes` says which statuses a command can have if nothing fails outside.
 pub fn twe<R: Threads + Wait + Sync, S: Source, O: Sink, E: Sink, G: Gate + Sync>(
     rt: &R,
     alloc: Global,
@@ -41,43 +43,37 @@ pub fn twe<R: Threads + Wait + Sync, S: Source, O: Sink, E: Sink, G: Gate + Sync
 ) -> Status
     requires { IsNew book.old }
     ensures answers { (command : Option Command) × IsMeaning words.now command
-        × Answers (source S.left S.faults S.read_gives) (sink O.written O.faults O.write_gives) (sink E.written E.faults E.write_gives)
-        command src.old src.new out.old out.new err.old err.new book.new result }
+        × Answers (ends_tell (source S.left S.faults S.read_gives) (sink O.written O.faults O.write_gives)
+        (sink E.written E.faults E.write_gives)) texts.usage_text
+        command (ends src.old out.old err.old) (ends src.new out.new err.new) book.new result }
     ensures complete { (command : Command) → Means words.now command
-        → Completes (source S.left S.faults S.read_gives) (sink O.written O.faults O.write_gives) (sink E.written E.faults E.write_gives)
-        command src.old src.new out.old out.new err.old err.new result }
+        → Completes (ends_tell (source S.left S.faults S.read_gives) (sink O.written O.faults O.write_gives)
+        (sink E.written E.faults E.write_gives))
+        command (ends src.old out.old err.old) (ends src.new out.new err.new) result }
 {
     every_list_is_decided();
     one_command();
-    match read_words(alloc, words) {
-        Ok(cmd) => carry_out(rt, alloc, &cmd, src, out, err, gate, book),
-        Err(WordsFail::Usage) => tell(&usage(alloc), out, err),
-        Err(WordsFail::OutOfMemory(_)) => Status::Memory,
-    }
+    refused_or_accepted();
+    let made = answer(rt, alloc, words, src, gate, book);
+    tell(&made, out, err)
 }
 
-/// Carries out a command: on the calling thread if it asks for no workers, and else by them.
-fn carry_out<R: Threads + Wait + Sync, S: Source, O: Sink, E: Sink, G: Gate + Sync>(
+/// The answer to these words.
+fn answer<R: Threads + Wait + Sync, S: Source, G: Gate + Sync>(
     rt: &R,
     alloc: Global,
-    cmd: &Command,
+    words: &[Word],
     src: &mut S,
-    out: &mut O,
-    err: &mut E,
     gate: &G,
     book: &mut Book,
-) -> Status
-    requires new { IsNew book.old }
-    requires sized { IsSized cmd.now }
-    ensures answers { Answers (source S.left S.faults S.read_gives) (sink O.written O.faults O.write_gives) (sink E.written E.faults E.write_gives)
-        (Some cmd.now) src.old src.new out.old out.new err.old err.new book.new result }
-    ensures complete { Completes (source S.left S.faults S.read_gives) (sink O.written O.faults O.write_gives) (sink E.written E.faults E.write_gives)
-        cmd.now src.old src.new out.old out.new err.old err.new result }
+) -> Result<Answer, Memory>
+    requires { IsNew book.old }
+    ensures { IfOk result (HasCauseInWords (source S.left S.faults S.read_gives) words.now src.old src.new book.new) }
 {
-    if cmd.workers() == 0 {
-        twe_single(alloc, cmd, src, out, err, book)
-    } else {
-        twe_crew(rt, alloc, cmd, src, out, err, gate, book)
+    match read_words(alloc, words) {
+        Ok(cmd) => answer_command(rt, alloc, &cmd, src, gate, book),
+        Err(WordsFail::Usage) => usage(alloc),
+        Err(WordsFail::OutOfMemory(memory)) => Err(memory),
     }
 }
 

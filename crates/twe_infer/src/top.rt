@@ -1,5 +1,5 @@
 //! The top call: the whole program, apart from where its bytes come from and go to.
-ghost use Rattle.std.specs.Prelude.{IfOk};
+ghost use Rattle.std.specs.Prelude.{[], IfOk};
 ghost use Rattle.twe_infer.specs.Answers.{AnswersInfer, InferCause, InferDue};
 ghost use Rattle.twe_io.specs.Ends.{ends, ends_tell, sink, source};
 ghost use Rattle.twe_infer.specs.Meaning.{TextMeans};
@@ -37,11 +37,19 @@ fn answer<S: Source>(alloc: Global, words: &[Word], src: &mut S) -> Result<Answe
     ensures { IfOk result (InferCause (source S.left S.faults S.read_gives) words.now src.old src.new) }
 {
     match words {
-        [] => match read_input(alloc, src)? {
-            Input::Given(text) => answer_text(alloc, text.as_slice()),
-            Input::Failed(answer) => Ok(answer),
-        },
+        [] => answer_source(alloc, src),
         [_, ..] => Ok(Answer::on_err(alloc, Status::Usage, usage_text(alloc)?)),
+    }
+}
+
+/// The answer to no words: the source is read, and its text is answered.
+fn answer_source<S: Source>(alloc: Global, src: &mut S) -> Result<Answer, Memory>
+    ensures { IfOk result (InferCause (source S.left S.faults S.read_gives) [] src.old src.new) }
+{
+    let input = read_input(alloc, src)?;
+    match input {
+        Input::Given(text) => answer_text(alloc, text.as_slice()),
+        Input::Failed(answer) => Ok(answer),
     }
 }
 

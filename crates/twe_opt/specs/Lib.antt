@@ -1,3 +1,1 @@
 pub mod Words
-pub mod Answers
-pub mod inner

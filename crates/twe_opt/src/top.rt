@@ -1,35 +1,30 @@
 //! The top call: the whole program, apart from where its bytes come from and go to.
-ghost use Rattle.std.specs.Prelude.{◌≡◌, ◌≤◌, IfOk};
-ghost use Rattle.command_line.specs.Options.{max_workers};
-ghost use Rattle.isolation_laws.specs.soundness.KeepsEffects.{KeepsEffects};
-ghost use Rattle.twe_io.specs.Ends.{sink, source};
-ghost use Rattle.text_answers.specs.Answers.{Due};
-ghost use Rattle.text_answers.specs.Running.{IsDueForProgram};
+ghost use Rattle.std.specs.Prelude.{◌≤◌, IfOk};
+ghost use Rattle.command_line.specs.Words.{IsSized, workers_of};
+ghost use Rattle.twe_io.specs.Ends.{ends, ends_tell, sink, source};
+ghost use Rattle.text_answers.specs.Causes.{Answers, Cause, CauseOfWords};
 ghost use Rattle.text_answers.specs.Theorem.{IsNew};
-ghost use Rattle.twe_opt.specs.Answers.{Answers, Cause, run_by};
-ghost use Rattle.twe_opt.specs.inner.Given.{AnswersRead};
+ghost use Rattle.twe_opt.specs.Words.{command_asked, opt_usage_text};
 
 use crate::text::usage_text;
-use crate::words::workers_asked;
+use crate::words::command_asked;
 use command_line::Command;
 use opt_crew::run_ahead;
 use std::alloc::Global;
 use std::sync::Wait;
 use std::thread::Threads;
-use text_answers::{Answer, Book, Status, answer_run, refuse};
-use twe_base::{Bytes, Limits, Memory, Word};
-use twe_frontend::{FrontFail, read_program};
-use twe_io::{ReadFail, Sink, Source, Unwritten, read_text, tell};
-use twe_program::Prog;
-use twe_report::{read_fault_text, too_long_text};
+use text_answers::{Book, Started, answer_run, start};
+use twe_base::{Memory, Word};
+use twe_io::{Answer, Sink, Source, Status, tell};
 
-/// Reads the text of a program from the source, checks it, and runs it by as many workers as the one word says, which run ahead of
-/// admission. Writes what `twe run` with as many workers and the default limits writes. Which of the legal journals the run has depends
-/// on the workers.
+/// Reads the text of a program from the source, checks it, and runs it by as many workers as the one word says, which run ahead
+/// of admission. Writes what `twe run` with as many workers and the default limits writes. Which of the legal journals the run
+/// has depends on the workers.
 ///
 /// `Answers` says what each status means and what is written with it. If the words are not one number from 1 to 64, the answer is
-/// the usage line, and nothing is read from the source. Afterwards the book has the program, the journal of its run and how the run
-/// ended, or the refusal of the text. After `Memory` nothing was written, and nothing more is known of the source and the book.
+/// the usage line, and nothing is read from the source. Afterwards the book has the program, the journal of its run and how the
+/// run ended, or the refusal of the text. After `Memory` nothing was written, and nothing more is known of the source and the
+/// book.
 pub fn opt_top<R: Threads + Wait + Sync, S: Source, O: Sink, E: Sink>(
     rt: &R,
     alloc: Global,
@@ -40,15 +35,12 @@ pub fn opt_top<R: Threads + Wait + Sync, S: Source, O: Sink, E: Sink>(
     book: &mut Book,
 ) -> Status
     requires { IsNew book.old }
-    ensures { Answers (source S.left S.faults S.read_gives) (sink O.written O.faults O.write_gives) (sink E.written E.faults E.write_gives)
-        words.now src.old src.new out.old out.new err.old err.new book.new result }
+    ensures { Answers (ends_tell (source S.left S.faults S.read_gives) (sink O.written O.faults O.write_gives)
+        (sink E.written E.faults E.write_gives)) opt_usage_text
+        (command_asked words.now) (ends src.old out.old err.old) (ends src.new out.new err.new) book.new result }
 {
     let made = answer(rt, alloc, words, src, book);
-    let unwritten = Unwritten {
-        write_fault: Status::WriteFault,
-        memory: Status::Memory,
-    };
-    tell(&made, unwritten, out, err)
+    tell(&made, out, err)
 }
 
 /// The answer to these words.
@@ -60,82 +52,34 @@ fn answer<R: Threads + Wait + Sync, S: Source>(
     book: &mut Book,
 ) -> Result<Answer, Memory>
     requires { IsNew book.old }
-    ensures { IfOk result (Cause (source S.left S.faults S.read_gives) words.now src.old src.new book.new) }
+    ensures { IfOk result (CauseOfWords (source S.left S.faults S.read_gives) opt_usage_text (command_asked words.now)
+        src.old src.new book.new) }
 {
-    match workers_asked(words) {
-        Some(workers) => {
-            let read = read_text(alloc, src);
-            answer_read(rt, alloc, workers, read, book)
-        }
+    match command_asked(words) {
+        Some(cmd) => answer_command(rt, alloc, &cmd, src, book),
         None => Ok(Answer::on_err(alloc, Status::Usage, usage_text(alloc)?)),
     }
 }
 
-/// The answer to what the reading of the source came to.
-fn answer_read<R: Threads + Wait + Sync>(
+/// The answer to a command that asks for workers: reads its input, checks the text, and runs the program.
+fn answer_command<R: Threads + Wait + Sync, S: Source>(
     rt: &R,
     alloc: Global,
-    workers: u32,
-    read: Result<Bytes, ReadFail>,
+    cmd: &Command,
+    src: &mut S,
     book: &mut Book,
 ) -> Result<Answer, Memory>
     requires new { IsNew book.old }
-    requires some { 1 ≤ workers }
-    requires most { workers ≤ max_workers }
-    ensures { IfOk result (AnswersRead workers read book.new) }
+    requires sized { IsSized cmd.now }
+    requires some { 1 ≤ workers_of cmd.now }
+    ensures { IfOk result (Cause (source S.left S.faults S.read_gives) cmd.now src.old src.new book.new) }
 {
-    match read {
-        Ok(text) => answer_text(rt, alloc, workers, text.as_slice(), book),
-        Err(ReadFail::ReadFault) => Ok(Answer::on_err(
-            alloc,
-            Status::ReadFault,
-            read_fault_text(alloc)?,
-        )),
-        Err(ReadFail::TooLong) => Ok(Answer::on_err(alloc, Status::TooLong, too_long_text(alloc)?)),
-        Err(ReadFail::OutOfMemory(memory)) => Err(memory),
+    let started = start(alloc, cmd, src, book)?;
+    match started {
+        Started::Answered(answer) => Ok(answer),
+        Started::ToRun { p, lim } => {
+            let (journal, st) = run_ahead(rt, alloc, &p, lim, cmd.workers())?;
+            answer_run(alloc, cmd, p, journal, st, book)
+        }
     }
-}
-
-/// The answer to the text of a program.
-fn answer_text<R: Threads + Wait + Sync>(
-    rt: &R,
-    alloc: Global,
-    workers: u32,
-    text: &[u8],
-    book: &mut Book,
-) -> Result<Answer, Memory>
-    requires new { IsNew book.old }
-    requires some { 1 ≤ workers }
-    requires most { workers ≤ max_workers }
-    ensures { IfOk result (Due (run_by workers) text.now book.new) }
-{
-    match read_program(alloc, text) {
-        Ok(p) => answer_program(rt, alloc, workers, p, book),
-        Err(FrontFail::Refused(refusal)) => refuse(alloc, refusal, book),
-        Err(FrontFail::OutOfMemory(memory)) => Err(memory),
-    }
-}
-
-/// The answer to an accepted text that has this program.
-fn answer_program<R: Threads + Wait + Sync>(
-    rt: &R,
-    alloc: Global,
-    workers: u32,
-    p: Prog,
-    book: &mut Book,
-) -> Result<Answer, Memory>
-    requires new { IsNew book.old }
-    requires keeps { KeepsEffects p }
-    requires some { 1 ≤ workers }
-    requires most { workers ≤ max_workers }
-    ensures { IfOk result (IsDueForProgram (run_by workers) p book.new) }
-{
-    let lim = Limits::default();
-    let cmd = Command::Run {
-        workers,
-        lim,
-        journal: false,
-    };
-    let (journal, st) = run_ahead(rt, alloc, &p, lim, workers)?;
-    answer_run(alloc, &cmd, p, journal, st, book)
 }

@@ -1,5 +1,5 @@
 -- From what the parts of a call ensure to the cause of its answer.
-use Rattle.std.proofs.Common.{◌≡◌, ◌+◌, ap, ◌∙◌, length, ℕ, List, [], Result, Ok, Err, IfOk, sym, subst}
+use Rattle.std.proofs.Common.{◌≡◌, ◌+◌, ap, ◌∙◌, length, ℕ, List, [], Result, Ok, Err, IfOk, refl, sym, subst}
 use Rattle.twe_base.specs.declared.memory.Memory as out_of
 use Rattle.seg_journal.specs.declared.text.JournalText.{JournalText}
 use Rattle.seg_journal.specs.Spelling.{Spells, head_lines}
@@ -22,11 +22,10 @@ use Rattle.twe_profile.specs.Texts.{profile_text}
 use Rattle.twe_profile.specs.inner.Given.{AnswersFound}
 
 -- the answer to a text that was read
-pub cause_text : {S : Type 0} (tells : SourceTells S) (words : List (List ℕ)) (before after : S) (text : List ℕ)
-    (made : Result Answer out_of.Memory) → words ≡ [] → WasRead tells before (Ok text) after
-    → IfOk made (ProfileDue text) → IfOk made (ProfileCause tells words before after)
-cause_text tells words before after text (Ok answer) none was due = ProfileCause.text text none was due
-cause_text tells words before after text (Err memory) none was due = tt
+pub cause_text : {S : Type 0} (tells : SourceTells S) (before after : S) (text : List ℕ) (made : Result Answer out_of.Memory)
+    → WasRead tells before (Ok text) after → IfOk made (ProfileDue text) → IfOk made (ProfileCause tells [] before after)
+cause_text tells before after text (Ok answer) was due = ProfileCause.text text refl was due
+cause_text tells before after text (Err memory) was due = tt
 
 -- the answer to the journal of an accepted program is that to the input
 pub due_accepted : (text program journal : List ℕ) (p : Program) (made : Result Answer out_of.Memory) → program ≡ program_part text → journal ≡ journal_part text → Accepted program p

@@ -51,12 +51,14 @@ pub data ProfileCause {S : Type 0} (tells : SourceTells S) (words : List (List �
   usage : (first : List ℕ) (others : List (List ℕ)) → words ≡ first ∷ others → after ≡ before
       → ProfileCause tells words before after (on_err Usage profile_usage_text)
   -- a read failed, or the source has more bytes than a text may have
-  not_read : {answer : Answer} → words ≡ [] → FailedRead tells before after answer → ProfileCause tells words before after answer
+  not_read : {answer : Answer} → words ≡ [] → FailedRead tells before after answer
+      → ProfileCause tells words before after answer
   -- the source gave a text, and this is the answer to it
   text : {answer : Answer} (bytes : List ℕ) → words ≡ [] → WasRead tells before (Ok bytes) after
       → ProfileDue bytes answer
       → ProfileCause tells words before after answer
 
 -- what a call of the program comes to: an answer that has its cause is written; or memory runs out, and nothing is written
-abbrev pub AnswersProfile : {S O E : Type 0} → EndsTell S O E → List (List ℕ) → Ends S O E → Ends S O E → Status → Type 0
+abbrev pub AnswersProfile : {S O E : Type 0} → EndsTell S O E → List (List ℕ) → Ends S O E → Ends S O E → Status
+    → Type 0
 AnswersProfile tells words before after status = IsAnswered tells (ProfileCause tells.src words) before after status

@@ -1,5 +1,5 @@
 //! The top call: the whole program, apart from where its bytes come from and go to.
-ghost use Rattle.std.specs.Prelude.{◌≡◌, ◌≤◌, ◌+◌, IfOk, length};
+ghost use Rattle.std.specs.Prelude.{◌≡◌, ◌≤◌, ◌+◌, [], IfOk, length};
 ghost use Rattle.seg_journal.specs.Spelling.{head_lines};
 ghost use Rattle.twe_base.specs.Language.{max_text_bytes};
 ghost use Rattle.twe_io.specs.Ends.{ends, ends_tell, sink, source};
@@ -43,11 +43,19 @@ fn answer<S: Source>(alloc: Global, words: &[Word], src: &mut S) -> Result<Answe
     ensures { IfOk result (ProfileCause (source S.left S.faults S.read_gives) words.now src.old src.new) }
 {
     match words {
-        [] => match read_input(alloc, src)? {
-            Input::Given(text) => answer_text(alloc, text.as_slice()),
-            Input::Failed(answer) => Ok(answer),
-        },
+        [] => answer_source(alloc, src),
         [_, ..] => Ok(Answer::on_err(alloc, Status::Usage, usage_text(alloc)?)),
+    }
+}
+
+/// The answer to no words: the source is read, and its text is answered.
+fn answer_source<S: Source>(alloc: Global, src: &mut S) -> Result<Answer, Memory>
+    ensures { IfOk result (ProfileCause (source S.left S.faults S.read_gives) [] src.old src.new) }
+{
+    let input = read_input(alloc, src)?;
+    match input {
+        Input::Given(text) => answer_text(alloc, text.as_slice()),
+        Input::Failed(answer) => Ok(answer),
     }
 }
 
@@ -90,11 +98,7 @@ fn answer_found(alloc: Global, p: &Prog, found: &JournalText) -> Result<Answer, 
     let lim = found.head.unwrap_or(Limits::default());
     let moves = found.moves.as_slice();
     match profile(alloc, p, lim, moves) {
-        Ok(profile) => Ok(Answer::on_out(
-            alloc,
-            Status::Done,
-            profile_text(alloc, &profile)?,
-        )),
+        Ok(profile) => Ok(Answer::on_out(alloc, Status::Done, profile_text(alloc, &profile)?)),
         Err(ProfileFail::Illegal { n, .. }) => Ok(Answer::on_err(
             alloc,
             Status::BadJournal,

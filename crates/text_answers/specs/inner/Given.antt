@@ -28,7 +28,8 @@ abbrev pub IsInputOf : {S : Type 0} → SourceTells S → Command → S → S �
 IsInputOf tells command before after (Given input) =
     (length input ≤ max_text_bytes)
     × ((book : Book) (answer : Answer) → Due command input book answer → Cause tells command before after book answer)
-IsInputOf tells command before after (Failed answer) = (book : Book) → IsNew book → Cause tells command before after book answer
+IsInputOf tells command before after (Failed answer) =
+    (book : Book) → IsNew book → Cause tells command before after book answer
 
 -- what a command with this input has come to: its answer; or the program of its accepted text, ready to be run
 abbrev pub IsStartedFor : Command → List ℕ → Book → Started → Type 0
@@ -49,7 +50,8 @@ IsStartedForProgram command p journal book started =
 
 -- the answer to each journal text in which this was found
 abbrev pub AnswersFound : Program → Bounds → JournalText → Book → Answer → Type 0
-AnswersFound p lim found book answer = (text : List ℕ) → Spells text found.head found.moves → AnswersReplay p lim text book answer
+AnswersFound p lim found book answer =
+    (text : List ℕ) → Spells text found.head found.moves → AnswersReplay p lim text book answer
 
 -- the book has the replay of these moves, and this is the answer to it
 abbrev pub IsAnswerOfReplay : Program → Bounds → List Move → Book → Answer → Type 0
@@ -71,4 +73,5 @@ IsAnswerWithJournal p lim workers asked book answer =
 -- the book has a run of a load, and this is the answer to it
 abbrev pub IsAnswerOfLoad : Program → ℕ → ℕ → Book → Answer → Type 0
 IsAnswerOfLoad p workers n book answer =
-    (plain : Answer) × IsAnswerOfRun p default_limits workers book plain × (answer ≡ for_load n (state_after p default_limits book.journal) plain)
+    (plain : Answer) × IsAnswerOfRun p default_limits workers book plain
+    × (answer ≡ for_load n (state_after p default_limits book.journal) plain)

@@ -1,27 +1,30 @@
-use Rattle.std.proofs.Common.{sym, ap, ◌∙◌, refl, subst}
+use Rattle.std.proofs.Common.{◌∙◌, Option, refl, sym, ap, subst}
+use Rattle.command_line.specs.declared.command.Command.{Command}
+use Rattle.twe_io.specs.Answers.{on_err}
 use Rattle.twe_io.specs.Ends.{source}
 use Rattle.twe_io.specs.declared.status.Status.TheVariants.{Usage}
-use Rattle.twe_io.specs.Answers.{on_err}
-use Rattle.twe_opt.specs.Answers.{Cause}
-use Rattle.twe_opt.proofs.Causes.{asked_range, cause_read}
+use Rattle.text_answers.specs.Causes.{CauseOfWords}
+use Rattle.twe_opt.specs.Words.{opt_usage_text}
+use Rattle.twe_opt.proofs.Causes.{asked_range, cause_asked}
 use Rattle.twe_opt.proofs.top.answer.Goals as goal
 
--- what was read is answered
+-- the words ask for 1 to 64 workers
+pub answer_command-requires-clause-sized : goal.answer_command-requires-clause-sized
+answer_command-requires-clause-sized g c = λ κs fits. (asked_range c.args.words.now c.in-Some.cmd (sym c.in-Some.ensures)).0
+
+pub answer_command-requires-clause-some : goal.answer_command-requires-clause-some
+answer_command-requires-clause-some g c = λ κs fits. (asked_range c.args.words.now c.in-Some.cmd (sym c.in-Some.ensures)).1
+
+-- their run is answered
 pub returns-in-Some : goal.returns-in-Some
 returns-in-Some g c =
     let src = source g.S.Source.left g.S.Source.faults g.S.Source.read_gives in
-    cause_read src c.args.words.now _ _ c.in-Some.workers c.answer_read.new.book c.read_text-read.result c.answer_read.result (sym c.in-Some.ensures) c.read_text-read.ensures c.answer_read.ensures
+    cause_asked src c.args.words.now c.args.src.now _ c.answer_command.new.book c.in-Some.cmd c.answer_command.result (sym c.in-Some.ensures) c.answer_command.ensures
 
--- the number of workers is in its range
-pub answer_read-requires-clause-some : goal.answer_read-requires-clause-some
-answer_read-requires-clause-some g c = λ κs fits. (asked_range c.args.words.now c.in-Some.workers (sym c.in-Some.ensures)).0
-
-pub answer_read-requires-clause-most : goal.answer_read-requires-clause-most
-answer_read-requires-clause-most g c = λ κs fits. (asked_range c.args.words.now c.in-Some.workers (sym c.in-Some.ensures)).1
-
--- the words ask for no workers
+-- they ask for no run
 pub returns-in_ok-usage_text-in-None : goal.returns-in_ok-usage_text-in-None
 returns-in_ok-usage_text-in-None g c =
     let src = source g.S.Source.left g.S.Source.faults g.S.Source.read_gives in
-    subst (Cause src c.args.words.now c.args.src.now c.args.src.now c.args.book.now) (sym (c.on_err.ensures ∙ ap (on_err Usage) c.in_ok-usage_text-in-None.ensures))
-    (Cause.usage (sym c.in-None.ensures) refl c.requires)
+    let line = c.on_err.ensures ∙ ap (on_err Usage) c.in_ok-usage_text-in-None.ensures in
+    subst (λ (meaning : Option Command). CauseOfWords src opt_usage_text meaning c.args.src.now c.args.src.now c.args.book.now c.on_err.result) c.in-None.ensures
+    (line, refl, c.requires)

@@ -1,5 +1,8 @@
-use Rattle.twe_io.specs.Ends.{source, sink}
-use Rattle.twe_opt.proofs.Causes.{answers_made}
+use Rattle.twe_io.specs.Ends.{ends, ends_tell, sink, source}
+use Rattle.twe_io.specs.declared.answer.Answer.{Answer}
+use Rattle.twe_io.proofs.Answered.{is_answered}
+use Rattle.text_answers.specs.Causes.{CauseOfWords}
+use Rattle.twe_opt.specs.Words.{command_asked, opt_usage_text}
 use Rattle.twe_opt.proofs.top.opt_top.Goals as goal
 
 -- the answer is written
@@ -8,4 +11,7 @@ returns g c =
     let src = source g.S.Source.left g.S.Source.faults g.S.Source.read_gives in
     let out = sink g.O.Sink.written g.O.Sink.faults g.O.Sink.write_gives in
     let err = sink g.E.Sink.written g.E.Sink.faults g.E.Sink.write_gives in
-    answers_made src out err _ _ _ _ _ _ _ c.answer-made.new.book c.answer-made.result c.tell.result c.answer-made.ensures c.tell.ensures
+    is_answered (ends_tell src out err)
+    (λ from to (answer : Answer). CauseOfWords src opt_usage_text (command_asked c.args.words.now) from to c.answer-made.new.book answer)
+    (ends c.args.src.now c.args.out.now c.args.err.now) (ends c.answer-made.new.src c.tell.new.out c.tell.new.err)
+    c.answer-made.result c.tell.result c.answer-made.ensures c.tell.ensures

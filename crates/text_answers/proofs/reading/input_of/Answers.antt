@@ -1,8 +1,8 @@
 use Rattle.std.proofs.Common.{◌≡◌, ◌∙◌, false, sym}
 use Rattle.text_answers.specs.Input.{has_input}
 use Rattle.twe_io.specs.Ends.{source}
-use Rattle.twe_cli.proofs.Causes.{input_of_load}
-use Rattle.twe_cli.proofs.reading.input_of.Goals as goal
+use Rattle.text_answers.proofs.Inputs.{input_of_load}
+use Rattle.text_answers.proofs.reading.input_of.Goals as goal
 
 -- nothing is read for a load
 pub returns : goal.returns
