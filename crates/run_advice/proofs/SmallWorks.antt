@@ -55,7 +55,7 @@ run_is_small p lim well within moves journal st run =
     (omega (arith, product, short), are_few lim within journal st.tasks short (stands.limit within.tasks_least))
 
 -- the work of the tasks, by the lists that were lent
-pub works_are : (fuel : ℕ) (journal items : List Entry) (rows slice : List TaskRow) (works : List TaskWork) → works ≡ works_from fuel items 0 slice → items ≡ journal → slice ≡ rows
-    → works ≡ works_from fuel journal 0 rows
-works_are fuel journal items rows slice works is same same_rows =
-    is ∙ (ap (λ (l : List Entry). works_from fuel l 0 slice) same ∙ ap (works_from fuel journal 0) same_rows)
+pub works_are : (fuel used : ℕ) (journal items : List Entry) (rows slice : List TaskRow) (works : List TaskWork) → works ≡ works_from used items 0 slice → used ≡ fuel → items ≡ journal
+    → slice ≡ rows → works ≡ works_from fuel journal 0 rows
+works_are fuel used journal items rows slice works is same_fuel same same_rows =
+    is ∙ (ap (λ (f : ℕ). works_from f items 0 slice) same_fuel ∙ (ap (λ (l : List Entry). works_from fuel l 0 slice) same ∙ ap (works_from fuel journal 0) same_rows))

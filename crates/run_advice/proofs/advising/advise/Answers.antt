@@ -1,4 +1,4 @@
-use Rattle.std.proofs.Common.{◌<◌, ◌^◌, List, length, sym, subst, arith}
+use Rattle.std.proofs.Common.{◌<◌, ◌^◌, List, length, sym, ap, subst, arith}
 use Rattle.seg_journal.specs.declared.journal.Entry.{Entry}
 use Rattle.twe_base.specs.Limits.{Bounds, IsWithin}
 use Rattle.twe_program.specs.Program.{Program}
@@ -28,7 +28,7 @@ returns-clause-advised c = record {
     journal = c.in_ok-journal.journal;
     st = c.in_ok-journal.st;
     run = c.in_ok-journal.ensures.counted;
-    works_are = works_are c.args.lim.fuel c.in_ok-journal.journal c.as_slice.result.now c.in_ok-journal.st.tasks c.as_slice-2.result.now c.in_ok-works.works c.in_ok-works.ensures c.as_slice.ensures c.as_slice-2.ensures;
+    works_are = works_are c.args.lim.fuel c.lim-2.inside.fuel c.in_ok-journal.journal c.as_slice.result.now c.in_ok-journal.st.tasks c.as_slice-2.result.now c.in_ok-works.works c.in_ok-works.ensures (ap (λ (b : Bounds). b.fuel) c.lim-2.view_is) c.as_slice.ensures c.as_slice-2.ensures;
   };
 }
 
@@ -37,5 +37,5 @@ returns-clause-few c =
     let well = subst (λ (p : Program). IsWellFormed p) c.p.view_is c.p.invariant in
     let within = subst (λ (lim : Bounds). IsWithin lim.fuel lim.tasks) c.lim.view_is c.lim.invariant in
     let small = run_is_small c.args.p.now c.args.lim well within c.args.moves.now c.in_ok-journal.journal c.in_ok-journal.st c.in_ok-journal.ensures.counted in
-    let are = works_are c.args.lim.fuel c.in_ok-journal.journal c.as_slice.result.now c.in_ok-journal.st.tasks c.as_slice-2.result.now c.in_ok-works.works c.in_ok-works.ensures c.as_slice.ensures c.as_slice-2.ensures in
+    let are = works_are c.args.lim.fuel c.lim-2.inside.fuel c.in_ok-journal.journal c.as_slice.result.now c.in_ok-journal.st.tasks c.as_slice-2.result.now c.in_ok-works.works c.in_ok-works.ensures (ap (λ (b : Bounds). b.fuel) c.lim-2.view_is) c.as_slice.ensures c.as_slice-2.ensures in
     subst (λ (l : List TaskWork). AreFew l) (sym are) small.1
