@@ -17,5 +17,4 @@ complete -c twe_batch -n __fish_use_subcommand -a check -d 'check each program o
 complete -c twe_batch -n __fish_use_subcommand -a run -d 'check and run each program of a batch'
 complete -c twe_infer -f
 complete -c twe_opt -f
-complete -c twe_advise -f
 complete -c twe_profile -f
