@@ -114,7 +114,7 @@ module _ (p : Program) (lim : Bounds) (moves : List Move) (journal : List Entry)
   part_of : (count : ℕ) (part : List Entry) (last : State) → count ≡ length (counted journal) → IsReplay p lim (take count moves) part last → IsCountedRun p lim moves part last
   part_of count part last same replayed =
       let moves_same : map move_of part ≡ map move_of (counted journal) =
-          replayed.has ∙ (ap (take count) (sym is.has) ∙ (sym (map_take count journal) ∙ ap (map move_of) (ap (λ (n : ℕ). take n journal) same ∙ begins journal))) in
+      replayed.has ∙ (ap (take count) (sym is.has) ∙ (sym (map_take count journal) ∙ ap (map move_of) (ap (λ (n : ℕ). take n journal) same ∙ begins journal))) in
       record {
         whole = journal;
         legal = is.run.legal;

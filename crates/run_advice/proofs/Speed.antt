@@ -45,5 +45,5 @@ module _ {X : Type 0} (LeadsOn : X → X → Type 0) (weight : X → ℕ) (xs : 
   pub greedy : IsGreedy (Leads LeadsOn xs) (weight_at weight xs) (length xs) workers start → workers * length_of (weight_at weight xs) start (length xs) ≤ work + workers * span
   greedy is =
       let bound = short (Leads LeadsOn xs) (λ i j leads. leads.before) (weight_at weight xs) (length xs) workers start is span
-          (λ other in_it. heaviest.heaviest other (is_chain (Leads LeadsOn xs) (length xs) other in_it)) in
+      (λ other in_it. heaviest.heaviest other (is_chain (Leads LeadsOn xs) (length xs) other in_it)) in
       omega (arith, bound, work_is)

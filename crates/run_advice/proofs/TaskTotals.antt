@@ -62,7 +62,7 @@ pub works_on : (fuel : ℕ) (journal : List Entry) (rows : List TaskRow) (i take
     → taken ≡ fuel - row.frame.fuel → new ≡ works ++ record { decl = row.decl; work = slice_index items i + taken } ∷ [] → new ≡ works_from fuel journal 0 (take (i + 1) rows)
 works_on fuel journal rows i taken row works new counts items below row_is so_far counted same taken_is pushed =
     let number : slice_index items i + taken ≡ work_of fuel journal i row =
-        ap (λ (l : List ℕ). slice_index l i + taken) same ∙ (ap (λ (n : ℕ). n + taken) (counted i below) ∙ ap (λ (n : ℕ). entries_of i journal + n) taken_is) in
+    ap (λ (l : List ℕ). slice_index l i + taken) same ∙ (ap (λ (n : ℕ). n + taken) (counted i below) ∙ ap (λ (n : ℕ). entries_of i journal + n) taken_is) in
     pushed
     ∙ (ap (λ (l : List TaskWork). l ++ record { decl = row.decl; work = slice_index items i + taken } ∷ []) so_far
     ∙ (ap (λ (n : ℕ). works_from fuel journal 0 (take i rows) ++ record { decl = row.decl; work = n } ∷ []) number
