@@ -1,0 +1,4 @@
+pub mod CountedParts
+pub mod SmallWorks
+pub mod Speed
+pub mod TaskTotals

@@ -1,0 +1,4 @@
+pub mod Chains
+pub mod Graphs
+pub mod Schedules
+pub mod Sums

@@ -1,0 +1,26 @@
+//! The laws of schedules.
+ghost use Rattle.std.specs.Prelude.{◌≤◌, ◌<◌, ◌+◌, ◌*◌, ℕ};
+ghost use Rattle.schedule_bounds.specs.Chains.{LeadsForward, SpanIsAtMost, SpanIsReached};
+ghost use Rattle.schedule_bounds.specs.Graphs.{LeadsIn, entry_count, weight_in};
+ghost use Rattle.schedule_bounds.specs.Schedules.{IsGreedy, IsSchedule, least_time, length_of};
+ghost use Rattle.schedule_bounds.specs.Sums.{sum_below};
+ghost use Rattle.schedule_bounds.specs.declared.graph.Graph.{Graph as AnyGraph};
+
+/// No schedule that keeps the order is shorter than the span, nor than the work shared out to all processors.
+pub fn no_schedule_is_shorter()
+    ensures { (graph : AnyGraph) (processors span : ℕ) (start : ℕ → ℕ) → 0 < processors
+        → IsSchedule (LeadsIn graph) (weight_in graph) (entry_count graph) processors start
+        → SpanIsReached (LeadsIn graph) (weight_in graph) (entry_count graph) span
+        → least_time (sum_below (weight_in graph) (entry_count graph)) span processors
+        ≤ length_of (weight_in graph) start (entry_count graph) }
+{}
+
+/// A greedy schedule takes at most the work shared out to all processors, and the span. It is stated without a division: the
+/// time of all processors together is at most the work and one span for each processor.
+pub fn a_greedy_schedule_is_short()
+    ensures { (graph : AnyGraph) (processors span : ℕ) (start : ℕ → ℕ) → LeadsForward (LeadsIn graph)
+        → IsGreedy (LeadsIn graph) (weight_in graph) (entry_count graph) processors start
+        → SpanIsAtMost (LeadsIn graph) (weight_in graph) (entry_count graph) span
+        → processors * length_of (weight_in graph) start (entry_count graph)
+        ≤ sum_below (weight_in graph) (entry_count graph) + processors * span }
+{}
