@@ -9,7 +9,6 @@ mod at_rest;
 mod book;
 mod brief;
 mod crew;
-mod enabled;
 mod ended;
 mod going_on;
 mod ground;
