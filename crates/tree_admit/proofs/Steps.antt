@@ -7,8 +7,8 @@ use Rattle.effect_sets.specs.declared.effects.Effect.{Effect}
 use Rattle.effect_tree.specs.Place.{IsSolid}
 use Rattle.prefix_tree.specs.Nodes.{IsParent}
 use Rattle.twe_base.specs.Limits.{Bounds}
-use Rattle.admission_laws.specs.admission_core.States.{Activity, Admit, Descends, IsAbove, IsAmong, Record, Stage, Steps, Walks, held}
-use Rattle.admission_laws.specs.admission_core.Events.{AllFinished, HasCome}
+use Rattle.admission_laws.specs.admission_core.States.{Activity, Admit, Descends, IsAbove, IsAmong, Record, Stage, Steps, Walks, held, record_effect}
+use Rattle.admission_laws.specs.admission_core.Events.{AllFinishedOrApart, HasCome}
 use Rattle.floor_rule.specs.nodes.LockSteps.{SeesPass}
 use Rattle.floor_table.specs.declared.nodes.slot.TreeSlot.{TreeSlot}
 use Rattle.floor_table.specs.declared.nodes.slot.TreeSlot.TheVariants as kinds
@@ -90,7 +90,7 @@ module _ (lim : Bounds) (earlier : TreeView) (rest : List (ℕ × TreeSlot)) (a 
         walks_down a t e n stack done
         (record { active = h.active; purpose = purpose; stage = stage; wild = wild; child = child; unfinished = unfinished; pass = sees pass }) refl
 
-    pub may_walk_up : (m : ℕ) (stack done : List ℕ) → a.stage ≡ Walks (n ∷ m ∷ stack) done → AllFinished nodes n done → AllPass me.0.waits a.purpose content
+    pub may_walk_up : (m : ℕ) (stack done : List ℕ) → a.stage ≡ Walks (n ∷ m ∷ stack) done → AllFinishedOrApart nodes (record_effect a.purpose) n done → AllPass me.0.waits a.purpose content
         → MayGoOn nodes me.0 n (record a { stage = Walks (m ∷ stack) (n ∷ done) })
     may_walk_up m stack done stage below pass =
         walks_up a m stack done (record { active = h.active; stage = stage; pass = sees pass; below = below }) refl
