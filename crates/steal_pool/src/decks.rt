@@ -1,6 +1,6 @@
 //! Making the decks of all workers.
 ghost use Rattle.std.specs.Prelude.{◌≡◌, ◌+◌, length, map, All, IfOk, OnOk};
-ghost use Rattle.steal_pool.specs.Ends.{AreNew};
+ghost use Rattle.steal_pool.specs.DeckEnds.{AreNew};
 ghost use Rattle.steal_pool.specs.inner.Making.{met, end_on};
 
 use crate::deck::Deck;
