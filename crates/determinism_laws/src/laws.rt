@@ -61,8 +61,10 @@ pub fn deterministic_tasks_keep_the_elision_order()
 /// last writer before it, in each cell that it accesses, and all writers before that one are the same, too. So it finds the
 /// same value there. At the end each cell has the same value, and the segments that print came in the same order.
 pub fn orders_that_agree_on_conflicts_give_the_same_values()
-    ensures writers { (p : Program) (xs ys : List SegmentAccesses) → AgreeOn (SegmentsConflict p) xs ys → HaveSameWriters xs ys }
-    ensures values { (p : Program) (xs ys : List SegmentAccesses) → AgreeOn (SegmentsConflict p) xs ys → FindSameValues xs ys }
+    ensures writers { (p : Program) (xs ys : List SegmentAccesses) → AgreeOn (SegmentsConflict p) xs ys
+        → HaveSameWriters xs ys }
+    ensures values { (p : Program) (xs ys : List SegmentAccesses) → AgreeOn (SegmentsConflict p) xs ys
+        → FindSameValues xs ys }
     ensures cells { (p : Program) (xs ys : List SegmentAccesses) → AgreeOn (SegmentsConflict p) xs ys → LeaveSameCells xs ys }
     ensures prints { (p : Program) (xs ys : List SegmentAccesses) → AgreeOn (SegmentsConflict p) xs ys → PrintAlike xs ys }
 {}

@@ -19,7 +19,8 @@ use isolation_laws::{
 pub fn tasks_keep_apart_throughout()
     ensures declared { (p : Program) (lim : Bounds) (journal : List Entry) → IsAcceptedRun p lim journal
         → AlwaysDeclared p lim journal }
-    ensures apart { (p : Program) (lim : Bounds) (journal : List Entry) → IsAcceptedRun p lim journal → AlwaysApart p lim journal }
+    ensures apart { (p : Program) (lim : Bounds) (journal : List Entry) → IsAcceptedRun p lim journal
+        → AlwaysApart p lim journal }
 {
     beginnings_of_legal_journals_are_legal();
     tasks_keep_to_their_declarations();

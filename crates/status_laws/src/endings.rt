@@ -38,8 +38,8 @@ pub fn ended_runs_have_one_result()
     ensures done { (p : Program) → IsWellFormed p → KeepsEffects p → MainIsDeterministic p
         → (lim : Bounds) → IsWithin lim.fuel lim.tasks → (st : State) → IsReached p lim st
         → IsOver st → st.first_fault ≡ None → AllTasksDone st }
-    ensures one_result { (p : Program) (lim : Bounds) (one other : List Entry) → IsAcceptedRun p lim one → IsAcceptedRun p lim other
-        → MainIsDeterministic p → IsWithin lim.fuel lim.tasks
+    ensures one_result { (p : Program) (lim : Bounds) (one other : List Entry) → IsAcceptedRun p lim one
+        → IsAcceptedRun p lim other → MainIsDeterministic p → IsWithin lim.fuel lim.tasks
         → IsOver (state_after p lim one) → IsOver (state_after p lim other)
         → (state_after p lim one).first_fault ≡ None → (state_after p lim other).first_fault ≡ None
         → HaveSameResult (state_after p lim one) (state_after p lim other) }

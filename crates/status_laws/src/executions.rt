@@ -45,6 +45,6 @@ pub fn sequential_executions_of_main_are_runs()
 /// there are in the run: the task itself, those that it spawned, those that these spawned, and so on.
 pub fn results_count_the_tasks_below()
     ensures { (p : Program) (lim : Bounds) (journal : List Entry) → IsAcceptedRun p lim journal → 1 ≤ lim.tasks
-        → (t : ℕ) (row : TaskRow) → IsRow (state_after p lim journal) t row → row.status ≡ Done → IsDeterministic p row
-        → HasCountedResult p lim journal t row }
+        → (t : ℕ) (row : TaskRow) → IsRow (state_after p lim journal) t row → row.status ≡ Done
+        → IsDeterministic p row → HasCountedResult p lim journal t row }
 {}

@@ -44,6 +44,6 @@ pub fn ended_runs_end_as_the_execution()
         → (lim : Bounds) → IsWithin lim.fuel lim.tasks → (st : State) → IsReached p lim st → IsOver st
         → HasEndedAs st (elided p lim p.main [] (initial_values p.cells)) }
     ensures alike { (p : Program) → IsWellFormed p → KeepsEffects p → MainIsDeterministic p
-        → (lim : Bounds) → IsWithin lim.fuel lim.tasks → (one other : State) → IsReached p lim one → IsReached p lim other
-        → IsOver one → IsOver other → HaveEndedAlike one other }
+        → (lim : Bounds) → IsWithin lim.fuel lim.tasks → (one other : State) → IsReached p lim one
+        → IsReached p lim other → IsOver one → IsOver other → HaveEndedAlike one other }
 {}

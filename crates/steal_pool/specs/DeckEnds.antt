@@ -29,7 +29,8 @@ with_hand ends deck known = record ends { hands = slice_set ends.hands deck know
 abbrev pub Pushed : DeckEnds → DeckEnds → ℕ → Type 0
 Pushed old new number =
     let known = pushing (hand_at old old.number) (number ∷ []) in
-    (new ≡ record (with_hand old old.number known) { spare = old.spare - 1 }) × Joins (hand_at old old.number) (number ∷ []) known
+    (new ≡ record (with_hand old old.number known) { spare = old.spare - 1 })
+    × Joins (hand_at old old.number) (number ∷ []) known
 
 -- in one step the number was the first of this deck and left it, and the worker's pass of the deck records it; the
 -- number is below the bound

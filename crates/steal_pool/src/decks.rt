@@ -16,7 +16,8 @@ pub type Decks = List<Deck>;
 /// times.
 pub fn make_decks(alloc: Global, workers: u32, capacity: u32, bound: u32) -> Result<Decks, Memory>
     ensures new { IfOk result (AreNew workers capacity bound) }
-    ensures each { IfOk result (All (λ ends. (ends.bound ≡ bound) × (ends.spare ≡ capacity) × (length ends.hands ≡ workers))) }
+    ensures each { IfOk result (All (λ ends. (ends.bound ≡ bound) × (ends.spare ≡ capacity)
+        × (length ends.hands ≡ workers))) }
 {
     let mut decks = Vec::new(alloc);
     for number in 0..workers {
