@@ -1,7 +1,7 @@
 -- A legal journal of a program that keeps the rules on effects is safe, and so is that of a call that returned one.
-use Rattle.std.proofs.Common.{◌≡◌, ◌≤◌, List, Result, Ok, Err, IfOk, subst, arith}
+use Rattle.std.proofs.Common.{◌≤◌, List, Result, Ok, Err, IfOk}
 use Rattle.seg_journal.specs.declared.journal.Entry.{Entry}
-use Rattle.twe_base.specs.Limits.{Bounds, IsWithin}
+use Rattle.twe_base.specs.Limits.{Bounds}
 use Rattle.twe_program.specs.Program.{Program}
 use Rattle.twe_program.specs.WellFormed.{IsWellFormed}
 use Rattle.isolation_laws.specs.soundness.KeepsEffects.{KeepsEffects}
