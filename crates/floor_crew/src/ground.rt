@@ -18,7 +18,7 @@ use task_floor::steps::Served;
 use tree_admit::serving::{Admission, TreeWorker, Workshop};
 use twe_base::{Limits, Memory};
 use twe_program::Prog;
-use twe_rounds::Look;
+use twe_rounds::Outlook;
 
 /// How often an admission is tried again at once.
 const MOST_TRIES: u32 = 16;
@@ -87,22 +87,22 @@ impl<'a, N: Named + Planted, F: Located> Ground<'a, N, F> {
         rt: &R,
         worker: TreeWorker,
         task: u32,
-    ) -> Result<(TreeWorker, Look), Memory>
+    ) -> Result<(TreeWorker, Outlook), Memory>
         requires { IsOtherOn F.table worker }
         ensures { IfOk result (λ looked. IsOtherOn F.table looked.0) }
     {
         let mut worker = worker;
         if self.faulted.load(Ordering::SeqCst) {
-            return Ok((worker, Look::Over));
+            return Ok((worker, Outlook::Over));
         }
         match self.phase(&mut worker, task) {
-            Phase::Running => Ok((worker, Look::Runs)),
+            Phase::Running => Ok((worker, Outlook::Runs)),
             Phase::Made => self.admit(rt, worker, task),
             Phase::Waits { on } => {
                 let look = self.look_at_wait(&mut worker, on);
                 Ok((worker, look))
             }
-            _ => Ok((worker, Look::Over)),
+            _ => Ok((worker, Outlook::Over)),
         }
     }
 
@@ -112,7 +112,7 @@ impl<'a, N: Named + Planted, F: Located> Ground<'a, N, F> {
         rt: &R,
         worker: TreeWorker,
         task: u32,
-    ) -> Result<(TreeWorker, Look), Memory>
+    ) -> Result<(TreeWorker, Outlook), Memory>
         requires { IsOtherOn F.table worker }
         ensures { IfOk result (λ looked. IsOtherOn F.table looked.0) }
     {
@@ -120,7 +120,7 @@ impl<'a, N: Named + Planted, F: Located> Ground<'a, N, F> {
         'tries: for _ in 0..MOST_TRIES {
             let (other, look) = self.try_once(rt, worker, task)?;
             worker = other;
-            let Look::Held { by } = look else {
+            let Outlook::Held { by } = look else {
                 return Ok((worker, look));
             };
             if !self.may_go_soon(&mut worker, by, task) {
@@ -137,19 +137,19 @@ impl<'a, N: Named + Planted, F: Located> Ground<'a, N, F> {
         rt: &R,
         worker: TreeWorker,
         task: u32,
-    ) -> Result<(TreeWorker, Look), Memory>
+    ) -> Result<(TreeWorker, Outlook), Memory>
         requires { IsOtherOn F.table worker }
         ensures { IfOk result (λ looked. IsOtherOn F.table looked.0) }
     {
         if task >= self.lim.tasks {
-            return Ok((worker, Look::Over));
+            return Ok((worker, Outlook::Over));
         }
         let (worker, admission) = self.shop().admit(rt, worker, task)?;
         match admission {
-            Admission::Admitted => Ok((worker, Look::Runs)),
-            Admission::Held { by } => Ok((worker, Look::Held { by })),
-            Admission::Over => Ok((worker, Look::Over)),
-            Admission::Busy { .. } => Ok((worker, Look::Over)),
+            Admission::Admitted => Ok((worker, Outlook::Runs)),
+            Admission::Held { by } => Ok((worker, Outlook::Held { by })),
+            Admission::Over => Ok((worker, Outlook::Over)),
+            Admission::Busy { .. } => Ok((worker, Outlook::Over)),
         }
     }
 
@@ -178,7 +178,7 @@ impl<'a, N: Named + Planted, F: Located> Ground<'a, N, F> {
 
     /// What may be done next for a task that waits for `on`. If the chain of waits from there ends at a task that is still to be
     /// admitted, that one is to be looked at next.
-    fn look_at_wait(&self, worker: &mut TreeWorker, on: u32) -> Look
+    fn look_at_wait(&self, worker: &mut TreeWorker, on: u32) -> Outlook
         requires { IsOtherOn F.table worker.old }
         ensures { IsOtherOn F.table worker.new }
     {
@@ -187,11 +187,11 @@ impl<'a, N: Named + Planted, F: Located> Ground<'a, N, F> {
             match self.phase(worker, at) {
                 Phase::Done => return done_or_waits(on, at),
                 Phase::Waits { on: next } => at = next,
-                Phase::Made => return Look::Waits { on, next: Some(at) },
-                _ => return Look::Waits { on, next: None },
+                Phase::Made => return Outlook::Waits { on, next: Some(at) },
+                _ => return Outlook::Waits { on, next: None },
             }
         }
-        Look::Waits { on, next: None }
+        Outlook::Waits { on, next: None }
     }
 
     /// What the phase word of a task says; `Absent` if no task of this number may be made.
@@ -236,10 +236,10 @@ impl<'a, N: Named + Planted, F: Located> Ground<'a, N, F> {
 }
 
 /// What may be done next for a task that waits for `on`, if the task `at`, to which the chain of waits leads, is done.
-fn done_or_waits(on: u32, at: u32) -> Look {
+fn done_or_waits(on: u32, at: u32) -> Outlook {
     if at == on {
-        Look::Runs
+        Outlook::Runs
     } else {
-        Look::Waits { on, next: None }
+        Outlook::Waits { on, next: None }
     }
 }

@@ -4,7 +4,7 @@ use Rattle.twe_report.specs.declared.reading.Input.{Input}
 use Rattle.twe_report.specs.declared.reading.Input.TheVariants.{Given}
 use Rattle.text_answers.specs.inner.Given.{IsInputOf}
 use Rattle.text_answers.proofs.Starts.{of_input}
-use Rattle.text_answers.proofs.starting.start.Goals as goal
+use Rattle.text_answers.proofs.starting.start_command.Goals as goal
 
 -- the input was read
 pub returns-in-Given : goal.returns-in-Given

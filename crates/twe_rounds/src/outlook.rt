@@ -4,7 +4,7 @@ use twe_machine::{State, TaskStatus};
 
 /// What a worker may do next for a task.
 #[derive(Clone, Copy, Debug, PartialEq, Eq)]
-pub enum Look {
+pub enum Outlook {
     /// It may run a segment of the task.
     Runs,
     /// The task waits for another one, `on`. If the chain of waits from there ends at a task that is still to be
@@ -16,10 +16,10 @@ pub enum Look {
     Over,
 }
 
-impl Look {
+impl Outlook {
     /// What may be done next for a task that waits for the task `on` in this state.
     pub fn waits(state: &State, on: u32) -> Self {
-        Look::Waits {
+        Outlook::Waits {
             on,
             next: next_of(state, on),
         }
