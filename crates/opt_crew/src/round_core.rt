@@ -45,13 +45,13 @@ impl<N: RoundName> Model for RoundCore<N> {
 
 impl<N: RoundName> RoundCore<N> {
     /// The core of a round that begins with this run.
-    pub(crate) fn new(alloc: Global, lim: Limits, run: CoreRun) -> Self
+    pub(crate) fn new(alloc: Global, lim: Limits, run: CoreRun) -> Result<Self, Memory>
         requires named { lim ≡ N.lim }
         requires keeps { Keeps N.prog N.lim N.earlier run }
     {
-        RoundCore {
-            core: Core::of(alloc, lim, run),
-        }
+        Ok(RoundCore {
+            core: Core::of(alloc, lim, run)?,
+        })
     }
 
     /// The run after the round, or `None` if it is lost.
