@@ -15,7 +15,7 @@ use Rattle.floor_table.specs.declared.nodes.slot.TreeSlot.TheVariants as kinds
 use Rattle.floor_table.specs.declared.nodes.view.TreeView.{TreeView}
 use Rattle.floor_table.proofs.Added.{grown_by, grown_then}
 use Rattle.floor_table.specs.nodes.Layout.{content_place}
-use Rattle.floor_table.specs.nodes.Seats.{GaveNode, MayGoOn, MayLock, MayStop, TreeSeat, gives_parent, goes_down, left_to_give, locked_view, tree_seen, unlocked_view, walks_down, walks_up}
+use Rattle.floor_table.specs.nodes.Seats.{GaveNode, MayGoOn, MayLock, MayStop, TreeSeat, gives_parent, goes_down, left_to_give, locked_view, passed_view, tree_seen, unlocked_view, walks_down, walks_up}
 use Rattle.floor_table.specs.nodes.TreeOf.{content_in}
 use Rattle.tree_admit.specs.Going.{HasLeft, HasLocked, HasNode, HasOnlyFollowed, HasOnlyLearned}
 use Rattle.tree_admit.specs.Errands.{AllPass}
@@ -46,6 +46,20 @@ unlocked_learned v u n next h = record {
   fresh = h.fresh;
   clear = h.clear;
   kept = grown_then v.kept u.kept (unlocked_view u n next).kept h.kept (grown_by (record { node = n; content = None }) u.kept (unlocked_view u n next).kept refl);
+  looks = h.looks;
+}
+
+-- so does passing by
+pub passed_learned : (v u : TreeView) (next : Activity) → HasOnlyLearned v u → HasOnlyLearned v (passed_view u next)
+passed_learned v u next h = record {
+  floor = h.floor;
+  done = h.done;
+  waits = h.waits;
+  placed = h.placed;
+  removed = h.removed;
+  fresh = h.fresh;
+  clear = h.clear;
+  kept = h.kept;
   looks = h.looks;
 }
 

@@ -1,5 +1,5 @@
 -- A worker that walks below a node: what it has before each child, and what it may do.
-use Rattle.std.proofs.Common.{◌≡◌, ◌≢◌, ◌<◌, ◌+◌, ℕ, List, [], ◌∷◌, length, get_or, Some, None, refl, sym, ap, subst, ◌∙◌, ⊎_elim}
+use Rattle.std.proofs.Common.{◌≡◌, ◌≢◌, ◌<◌, ◌+◌, ℕ, List, [], ◌∷◌, length, get_or, Some, None, refl, sym, ap, subst, ◌∙◌, inl, ⊎_elim}
 use Rattle.std.specs.List.Sorted.{IsStrictlyIncreasing}
 use Rattle.std.proofs.lemmas.Bool.{cases_eq}
 use mathlib.Core.Option as core
@@ -16,7 +16,7 @@ use Rattle.floor_table.specs.declared.nodes.slot.ErrandKind.{ErrandKind}
 use Rattle.floor_table.specs.declared.nodes.slot.ErrandKind.TheVariants.{Admission}
 use Rattle.floor_table.specs.declared.nodes.slot.TreeSlot.{TreeSlot}
 use Rattle.floor_table.specs.declared.nodes.view.TreeView.{TreeView}
-use Rattle.floor_table.specs.nodes.Seats.{GaveNode, MayGoOn, MayLock, MayStop, TreeSeat, left_to_give, purpose_for, unlocked_view}
+use Rattle.floor_table.specs.nodes.Seats.{GaveNode, MayGoOn, MayLock, MayPass, MayStop, TreeSeat, passed_view, left_to_give, purpose_for, unlocked_view}
 use Rattle.floor_table.specs.nodes.TreeOf.{content_in}
 use Rattle.tree_admit.specs.ways.Ways.{AreReached}
 use Rattle.tree_admit.specs.Going.{HasLeft, HasLocked, HasNode, HasOnlyFollowed, HasOnlyLearned}
@@ -25,7 +25,7 @@ use Rattle.tree_admit.specs.Descents.{HasWalkedBelow, MayWalkBelow, walking}
 use Rattle.tree_admit.proofs.Contents.{content_else, content_here}
 use Rattle.tree_admit.proofs.Entering.{effect_is}
 use Rattle.tree_admit.proofs.Learning.{pass_kept}
-use Rattle.tree_admit.proofs.Steps.{followed_has, gave_left, left_has, locked_has, may_stop, may_walk_down, may_walk_up, unlocked_learned, walked_has}
+use Rattle.tree_admit.proofs.Steps.{followed_has, gave_left, left_has, locked_has, may_stop, may_walk_down, may_walk_up, passed_learned, unlocked_learned, walked_has}
 use Rattle.tree_admit.proofs.Finishing.{HasWalked, all_walked, child_at, next_is_unfinished, none_below_next, nothing_walked, walked_more}
 
 pub passes_kept : (v w : TreeView) (purpose : Purpose) (content : List Record) → HasOnlyLearned v w → AllPass v.waits purpose content → AllPass w.waits purpose content
@@ -90,6 +90,38 @@ module _ (nodes : List (List Elem)) (tree : IsTreeOfPaths nodes) (lim : Bounds) 
         may_walk_down lim earlier rest (walking errand e (n ∷ stack) part.after) n content me part.has nodes errand.task e child stack part.after
         (ap (λ (k : ErrandKind). purpose_for k errand.task e) kind) refl wild parent
         (next_is_unfinished nodes tree e n children each rising done may.unfinished k within part.after part.walked) part.pass
+
+    -- It was passed by.
+    abbrev pub passed_child : Activity
+    passed_child = walking errand e (n ∷ stack) (child ∷ part.after)
+
+    pub may_pass_child : ((m : ℕ) → ¬ IsParent nodes child m) → MayPass nodes me.0 child passed_child
+    may_pass_child lowest = record {
+      activity = walking errand e (n ∷ stack) part.after;
+      node = n;
+      stack = stack;
+      done = part.after;
+      may = record { active = part.has.active; stage = refl; child = parent; lowest = lowest };
+      goes = refl;
+    }
+
+    pub one_passed : ((m : ℕ) → ¬ IsParent nodes child m) → (final : TreeSeat) → final ≡ (passed_view me.0 passed_child, me.1) → HasWalkedPart nodes lim earlier rest errand e n stack done children (k + 1) content final
+    one_passed lowest final is =
+        subst (HasWalkedPart nodes lim earlier rest errand e n stack done children (k + 1) content) (sym is)
+        (record {
+          after = child ∷ part.after;
+          has = record {
+            active = refl;
+            known = part.has.known;
+            others = part.has.others;
+            slots = part.has.slots;
+            learned = passed_learned earlier me.0 passed_child part.has.learned;
+          };
+          pass = part.pass;
+          walked = walked_more nodes tree e n children each rising done may.unfinished k within part.after part.walked part.after
+              (record { all = λ c lies. absurd (lowest c lies); kept = λ m h. h; below = λ m h. inl h });
+          unheld = part.unheld;
+        })
 
     module _ (below : List Record) (locked_me : TreeSeat) (locked : HasLocked lim me child at_child below locked_me) where
       pub may_walk_child : MayWalkBelow nodes lim me.0 me.1 errand e child (n ∷ stack) part.after below locked_me

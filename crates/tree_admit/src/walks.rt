@@ -13,7 +13,7 @@ ghost use Rattle.tree_admit.specs.Going.{HasLeft};
 
 use crate::bars::Bar;
 use crate::footing::Footing;
-use crate::locking::lock_child;
+use crate::locking::take_child;
 use crate::testing::look_at;
 use crate::ways::reached_below;
 use effect_sets::Effect;
@@ -24,7 +24,7 @@ use std::sync::Wait;
 use task_floor::{Floor, Stand};
 
 /// Looks at the records at a node, whose content this is, and walks through the nodes below it: it locks each child that the
-/// effect may reach, walks below it and leaves it. Returns the content of the node, which the stand holds still. If a record is a bar, it gives the node back.
+/// effect may reach, walks below it and leaves it, and passes by those at which nothing stands. Returns the content of the node, which the stand holds still. If a record is a bar, it gives the node back.
 pub(crate) fn walk_below<N: Named + Planted, R: Wait>(
     rt: &R,
     floor: &Floor<N>,
@@ -68,7 +68,9 @@ pub(crate) fn walk_below<N: Named + Planted, R: Wait>(
     let children = reached_below(shape, node, effect);
     for at in 0..children.len() {
         let child = children[at];
-        let below = lock_child(rt, floor, stand, footing.worker, child);
+        let Some(below) = take_child(rt, floor, shape, stand, footing.worker, child) else {
+            continue;
+        };
         match walk_below(
             rt, floor, shape, stand, footing, errand, effect, child, below,
         ) {

@@ -5,13 +5,13 @@ use Rattle.effect_sets.specs.declared.effects.Effect.{Effect}
 use Rattle.prefix_tree.specs.Nodes.{IsTreeOfPaths}
 use Rattle.admission_laws.specs.admission_core.Tasks.{Tasks}
 use Rattle.admission_laws.specs.admission_core.States.{ActivityIsOver, IsAbove, IsAmong, IsApartBelow, Record, Purpose, Admit, Child, Stage, Descends, Steps, Walks, Leaves, held, Activity, State, PassesFor, with_stage}
-use Rattle.admission_laws.specs.admission_core.Events.{Places, PlacesChild, Removes, TreeEvent, Begin, Down, Give, WalkDown, WalkUp, Place, PlaceChild, TakeOut, Bar, GiveBack, End}
+use Rattle.admission_laws.specs.admission_core.Events.{Places, PlacesChild, Removes, TreeEvent, Begin, Down, Give, WalkDown, WalkUp, PassBy, Place, PlaceChild, TakeOut, Bar, GiveBack, End}
 use Rattle.admission_laws.specs.admission_core.Entries.{TaskEvent, TakeTurn, GiveTurn, GiveFirst, Enable, Run, Make}
 use Rattle.admission_laws.specs.admission_core.Rule.{CoreIsReached, quiet, in_tree, by_task, DescentsSawPass, WalksSawPass, IsLast}
 use Rattle.admission_laws.proofs.admission_core.Invariant.{IsPast, Kept}
 use Rattle.admission_laws.proofs.admission_core.TreeLemmas.{above_refl}
 use Rattle.admission_laws.proofs.admission_core.PutLemmas.{put_none_keeps}
-use Rattle.admission_laws.proofs.admission_core.MoveLemmas.{begin, down, give, walk_down, walk_up, leave}
+use Rattle.admission_laws.proofs.admission_core.MoveLemmas.{begin, down, give, walk_down, walk_up, pass_by, leave}
 use Rattle.admission_laws.proofs.admission_core.RecordLemmas.{place_keeps}
 use Rattle.admission_laws.proofs.admission_core.ChildLemmas.{child_keeps}
 use Rattle.admission_laws.proofs.admission_core.RemoveLemmas.{remove_keeps}
@@ -62,6 +62,9 @@ module _ (nodes : List (List Elem)) (tree : IsTreeOfPaths nodes) (s : State) (ke
   tree_event n (WalkUp w a c m stack done h is) =
       subst (λ (x : State). Kept nodes x) (sym is)
       (walk_up nodes tree s kept w a c m stack done (at_stage s w a (Walks (c ∷ m ∷ stack) done) h.active h.stage) h.pass h.below)
+  tree_event n (PassBy w a m c stack done h is) =
+      subst (λ (x : State). Kept nodes x) (sym is)
+      (pass_by nodes tree s kept w a m c stack done (at_stage s w a (Walks (m ∷ stack) done) h.active h.stage) h.child h.free h.bare)
   tree_event n (Place w a t e done h is) = subst (λ (x : State). Kept nodes x) (sym is) (after_place w a t e done h)
   tree_event n (PlaceChild w a c e done h is) = subst (λ (x : State). Kept nodes x) (sym is) (after_child w a c e done h)
   tree_event n (TakeOut w a t e done records h is) = subst (λ (x : State). Kept nodes x) (sym is) (after_remove w a t e done records h)

@@ -5,7 +5,7 @@ use Rattle.region_paths.specs.declared.elements.Elem.{Elem}
 use Rattle.effect_sets.specs.Interference.{Interferes}
 use Rattle.prefix_tree.specs.Nodes.{IsParent, IsTreeOfPaths}
 use Rattle.admission_laws.specs.admission_core.Tasks.{Tasks}
-use Rattle.admission_laws.specs.admission_core.States.{IsAmong, IsAbove, ActivityIsOver, IsApartBelow, Record, Purpose, Admit, Child, Remove, record_effect, Stage, Descends, Steps, Walks, Leaves, held, finished, Activity, State, NodeIsFree, PassesFor, AllPassAt, with_activity, with_stage}
+use Rattle.admission_laws.specs.admission_core.States.{IsAmong, IsAbove, ActivityIsOver, IsApartBelow, Record, Purpose, Admit, Child, Remove, record_effect, Stage, Descends, Steps, Walks, Leaves, held, finished, Activity, State, HoldsNode, NodeIsFree, PassesFor, AllPassAt, with_activity, with_stage}
 use Rattle.admission_laws.specs.admission_core.Events.{HasCome, AllFinishedOrApart, Begins}
 use Rattle.admission_laws.proofs.admission_core.TreeLemmas.{above_refl, above_trans, above_antisym, apart_lower, parent_above, parent_other, parent_one, above_parent, over_parent, over_above, child_toward, root_above, root_lowest, root_alone}
 use Rattle.admission_laws.proofs.admission_core.StackLemmas.{stack_above}
@@ -217,6 +217,50 @@ module _ (nodes : List (List Elem)) (tree : IsTreeOfPaths nodes) (s : State) (ke
             (λ (apart : IsApartBelow nodes (record_effect a.purpose) next.0). apart_lower nodes tree (record_effect a.purpose) next.0 x next.2 apart)
             (below next.0 next.1))
             (cases_eq c x))
+            (λ (old : IsAmong f done). kept.shut w v before f x active old above holds)
+            fin,
+      ))
+
+  -- a child at and below which nothing stands and no lock is held is finished
+  pub pass_by : (a : Activity) (n c : ℕ) (stack done : List ℕ) → s.activities w ≡ Some (record a { stage = Walks (n ∷ stack) done }) → IsParent nodes n c → ((m : ℕ) → IsAbove nodes c m → NodeIsFree s m)
+      → ((r : Record) → IsAmong r s.records → ¬ IsAbove nodes c r.node) → Kept nodes (with_stage s w a (Walks (n ∷ stack) (c ∷ done)))
+  pass_by a n c stack done active child free bare =
+      let before : Activity = record a { stage = Walks (n ∷ stack) done } in
+      let g = kept.going w before active in
+      let held_free : (f x v : ℕ) → f ≡ c → IsAbove nodes f x → ¬ HoldsNode s.activities v x =
+      λ f x v here above holds. free x (subst (λ (y : ℕ). IsAbove nodes y x) here above) v holds in
+      put_keeps nodes s w (record a { stage = Walks (n ∷ stack) (c ∷ done) }) kept
+      (λ x h. inl (before, active, h))
+      (record {
+        place = g.place;
+        way = g.way;
+        mine = g.mine;
+        seen = λ r among past.
+            ⊎_elim
+            (λ (over : ActivityIsOver nodes r.node n). g.seen r among (inl over))
+            (λ (low : (f : ℕ) × ((f ≡ c) ⊎ IsAmong f done) × IsAbove nodes f r.node).
+            ⊎_elim
+            (λ (here : low.0 ≡ c). absurd (bare r among (subst (λ (y : ℕ). IsAbove nodes y r.node) here low.2)))
+            (λ (old : IsAmong low.0 done). g.seen r among (inr (low.0, old, low.2)))
+            low.1)
+            past;
+        rim = λ f fin.
+            ⊎_elim
+            (λ (here : f ≡ c). (n, subst (λ (y : ℕ). IsParent nodes n y) (sym here) child, inl (inl refl)))
+            (λ (old : IsAmong f done).
+            let rim = g.rim f old in
+            (rim.0, rim.1, ⊎_elim (λ (h : IsAmong rim.0 (n ∷ stack)). inl h) (λ (low : (g : ℕ) × IsAmong g done × IsAbove nodes g rim.0). inr (low.0, inr low.1, low.2)) rim.2))
+            fin;
+      })
+      (λ f x fin above. (
+        λ h.
+            ⊎_elim
+            (λ (here : f ≡ c). absurd (held_free f x w here above (before, active, h)))
+            (λ (old : IsAmong f done). kept.shut w w before f x active old above (before, active, h))
+            fin,
+        λ v other holds.
+            ⊎_elim
+            (λ (here : f ≡ c). absurd (held_free f x v here above holds))
             (λ (old : IsAmong f done). kept.shut w v before f x active old above holds)
             fin,
       ))

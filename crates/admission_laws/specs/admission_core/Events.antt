@@ -69,6 +69,15 @@ pub record WalksUp (nodes : List (List Elem)) (s : State) (w : ℕ) (a : Activit
   pub pass : AllPassAt s a.purpose c
   pub below : AllFinishedOrApart nodes (record_effect a.purpose) c done
 
+-- The last node of a walk is n. No record stands at a child of it or below that child, and no lock there is held: the
+-- child is finished as it is.
+pub record PassesBy (nodes : List (List Elem)) (s : State) (w : ℕ) (a : Activity) (n c : ℕ) (stack done : List ℕ) : Type 0 where
+  pub active : s.activities w ≡ Some a
+  pub stage : a.stage ≡ Walks (n ∷ stack) done
+  pub child : IsParent nodes n c
+  pub free : (m : ℕ) → IsAbove nodes c m → NodeIsFree s m
+  pub bare : (r : Record) → IsAmong r s.records → ¬ IsAbove nodes c r.node
+
 -- at its place each record passes, and the effect is solid or each child is finished or apart from the effect: a record
 -- of the task stands there
 pub record Places (nodes : List (List Elem)) (s : State) (w : ℕ) (a : Activity) (t : ℕ) (e : Effect)
@@ -111,6 +120,8 @@ pub data TreeEvent (nodes : List (List Elem)) (s next : State) : Type 0 where
       → WalksDown nodes s w a t e m c stack done
       → next ≡ with_stage s w a (Walks (c ∷ m ∷ stack) done) → TreeEvent nodes s next
   WalkUp : (w : ℕ) (a : Activity) (c m : ℕ) (stack done : List ℕ) → WalksUp nodes s w a c m stack done
+      → next ≡ with_stage s w a (Walks (m ∷ stack) (c ∷ done)) → TreeEvent nodes s next
+  PassBy : (w : ℕ) (a : Activity) (m c : ℕ) (stack done : List ℕ) → PassesBy nodes s w a m c stack done
       → next ≡ with_stage s w a (Walks (m ∷ stack) (c ∷ done)) → TreeEvent nodes s next
   Place : (w : ℕ) (a : Activity) (t : ℕ) (e : Effect) (done : List ℕ) → Places nodes s w a t e done
       → next ≡ with_stage (record s { records = record { task = t; effect = e; node = a.place } ∷ s.records }) w a

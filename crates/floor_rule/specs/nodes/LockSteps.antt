@@ -96,6 +96,14 @@ pub record MayWalkDown (nodes : List (List Elem)) (tree : Tree) (i : ℕ) (a : A
   pub unfinished : ¬ IsAmong c done
   pub pass : SeesPass tree i a.purpose n
 
+-- Seat i may pass by node c, which has no children, if nobody has locked it and no record stands at it. The last node of its
+-- walk is the parent of c.
+pub record MayPassBy (nodes : List (List Elem)) (tree : Tree) (i : ℕ) (a : Activity) (n c : ℕ) (stack done : List ℕ) : Type 0 where
+  pub active : tree.activities i ≡ Some a
+  pub stage : a.stage ≡ Walks (n ∷ stack) done
+  pub child : IsParent nodes n c
+  pub lowest : (m : ℕ) → ¬ IsParent nodes c m
+
 -- Unlocking.
 
 -- seat i has unlocked node n, at which these records lie, and does this from now on

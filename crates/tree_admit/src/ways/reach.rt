@@ -1,5 +1,5 @@
 //! Which of the nodes right below one an effect may reach. At or below the others nothing can stand that interferes with it.
-ghost use Rattle.std.specs.Prelude.{◌≡◌, ◌≢◌, ◌⊎◌, ◌-◌, ◌<◌, ℕ, true, length, slice_get, Contains};
+ghost use Rattle.std.specs.Prelude.{◌≡◌, ◌≢◌, ◌⊎◌, ◌-◌, ◌<◌, ℕ, true, length, slice_get, Contains, IsFalse};
 ghost use Rattle.std.specs.List.Sorted.{IsStrictlyIncreasing};
 ghost use Rattle.region_paths.specs.Filled.{is_solid};
 ghost use Rattle.prefix_tree.specs.Nodes.{path_of, IsParent};
@@ -9,6 +9,14 @@ use crate::ways::wild::is_fixed;
 use effect_sets::Effect;
 use effect_tree::Shape;
 use region_paths::Elem;
+
+/// Whether there are nodes right below one. It takes no memory.
+pub(crate) fn has_children(shape: &Shape, node: u32) -> bool
+    requires { node < length shape.now }
+    ensures { IsFalse result → (m : ℕ) → ¬ IsParent shape.now node m }
+{
+    shape.below(node).len() > 0
+}
 
 /// How many of `count` elements are left after as many as the node's path has.
 fn left_below(shape: &Shape, node: u32, count: usize) -> usize
