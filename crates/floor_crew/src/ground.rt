@@ -3,7 +3,7 @@ ghost use Rattle.std.specs.Prelude.{◌≡◌, ◌<◌, IfOk};
 ghost use Rattle.floor_crew.specs.inner.Lent.{IsOtherOn};
 
 use crate::located::Located;
-use effect_tree::Shape;
+use crate::setup::Setup;
 use floor_rule::Phase;
 use floor_table::Named;
 use floor_table::nodes::Planted;
@@ -16,8 +16,7 @@ use std::thread;
 use task_floor::Floor;
 use task_floor::steps::Served;
 use tree_admit::serving::{Admission, TreeWorker, Workshop};
-use twe_base::{Limits, Memory};
-use twe_program::Prog;
+use twe_base::Memory;
 use twe_rounds::Outlook;
 
 /// How often an admission is tried again at once.
@@ -29,11 +28,8 @@ const MOST_WAITS: u32 = u32::MAX;
 /// The floor of a round.
 #[derive(Drop)]
 pub(crate) struct Ground<'a, N: Named + Planted, F: Located> {
-    alloc: Global,
+    setup: &'a Setup<'a>,
     floor: &'a Floor<N>,
-    p: &'a Prog,
-    shape: &'a Shape,
-    lim: Limits,
     // Whether some task has met a fault. Then no worker begins another segment.
     faulted: AtomicBool,
     of: PhantomData<F>,
@@ -45,30 +41,21 @@ impl<'a, N: Named + Planted, F: Located> Model for Ground<'a, N, F> {
 
     ghost Value = { Bounds };
 
-    ghost view = { λ ground. ground.lim };
+    ghost view = { λ ground. ground.setup.now.lim };
 
-    ghost invariant = { λ ground. (ground.floor.now ≡ F.table) × (ground.p.now ≡ N.prog) × (ground.lim ≡ N.lim)
-        × (ground.shape.now ≡ N.nodes) };
+    ghost invariant = { λ ground. (ground.floor.now ≡ F.table) × (ground.setup.now.p.now ≡ N.prog) × (ground.setup.now.lim ≡ N.lim)
+        × (ground.setup.now.shape.now ≡ N.nodes) };
 }
 
 impl<'a, N: Named + Planted, F: Located> Ground<'a, N, F> {
     /// The ground of a round on this floor.
-    pub(crate) fn new(
-        alloc: Global,
-        floor: &'a Floor<N>,
-        p: &'a Prog,
-        shape: &'a Shape,
-        lim: Limits,
-    ) -> Self
+    pub(crate) fn new(setup: &'a Setup<'a>, floor: &'a Floor<N>) -> Self
         requires located { floor.now ≡ F.table }
-        requires named { (p.now ≡ N.prog) × (lim ≡ N.lim) × (shape.now ≡ N.nodes) }
+        requires named { (setup.now.p.now ≡ N.prog) × (setup.now.lim ≡ N.lim) × (setup.now.shape.now ≡ N.nodes) }
     {
         Ground {
-            alloc,
+            setup,
             floor,
-            p,
-            shape,
-            lim,
             faulted: AtomicBool::new(false),
             of: PhantomData,
         }
@@ -78,7 +65,16 @@ impl<'a, N: Named + Planted, F: Located> Ground<'a, N, F> {
     fn shop(&self) -> Workshop<'a, N>
         ensures { result ≡ F.table }
     {
-        Workshop::new(self.alloc, self.p, self.lim, self.shape, self.floor)
+        let setup = self.setup;
+        Workshop::new(setup.alloc, setup.p, setup.lim, setup.shape, self.floor)
+    }
+
+    /// How many tasks may be made.
+    fn most_tasks(&self) -> u32
+        ensures { result ≡ N.lim.tasks }
+    {
+        let lim = self.setup.lim;
+        lim.tasks
     }
 
     /// What may be done next for a task. A task that was made is admitted if it may be. After `Memory` the worker is gone.
@@ -141,7 +137,7 @@ impl<'a, N: Named + Planted, F: Located> Ground<'a, N, F> {
         requires { IsOtherOn F.table worker }
         ensures { IfOk result (λ looked. IsOtherOn F.table looked.0) }
     {
-        if task >= self.lim.tasks {
+        if task >= self.most_tasks() {
             return Ok((worker, Outlook::Over));
         }
         let (worker, admission) = self.shop().admit(rt, worker, task)?;
@@ -199,7 +195,7 @@ impl<'a, N: Named + Planted, F: Located> Ground<'a, N, F> {
         requires { IsOtherOn F.table worker.old }
         ensures { IsOtherOn F.table worker.new }
     {
-        if task < self.lim.tasks {
+        if task < self.most_tasks() {
             self.shop().glance(worker, task)
         } else {
             Phase::Absent
@@ -217,7 +213,7 @@ impl<'a, N: Named + Planted, F: Located> Ground<'a, N, F> {
         requires { IsOtherOn F.table worker }
         ensures { IfOk result (λ served. IsOtherOn F.table served.0) }
     {
-        if task >= self.lim.tasks {
+        if task >= self.most_tasks() {
             return Ok((worker, None));
         }
         let (worker, served) = self.shop().serve(rt, worker, task, gate)?;
@@ -231,7 +227,7 @@ impl<'a, N: Named + Planted, F: Located> Ground<'a, N, F> {
 
     /// Where memory comes from.
     pub(crate) fn alloc(&self) -> Global {
-        self.alloc
+        self.setup.alloc
     }
 }
 
