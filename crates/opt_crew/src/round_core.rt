@@ -1,16 +1,15 @@
 //! The core of a round, and what workers ask of it. Nothing comes after a fault in its run.
 ghost use Rattle.std.specs.Prelude.{◌≡◌, IfOk, IfSome};
-ghost use Rattle.twe_machine.specs.Runs.{IsReachable};
 ghost use Rattle.opt_engine.specs.Drafts.{IsDraftOf};
 ghost use Rattle.opt_crew.specs.Keeping.{Keeps};
 
 use crate::named_drafted::NamedDrafted;
 use opt_engine::{Core, CoreRun, Draft, Verdict};
-use seg_journal::{End, Kind, Move};
+use seg_journal::End;
 use std::alloc::Global;
 use std::marker::Model;
 use twe_base::{Limits, Memory};
-use twe_machine::{State, TaskStatus, Why, may};
+use twe_machine::{State, TaskStatus};
 use twe_program::Prog;
 use twe_rounds::{Game, Outlook, RoundName, Waiting, lost};
 
@@ -69,7 +68,7 @@ impl<N: RoundName> RoundCore<N> {
         if run.state.first_fault.is_some() {
             return Ok(Outlook::Over);
         }
-        if kept && let Some(by) = bar_of(game.prog(), &run.state, task) {
+        if kept && let Some(by) = self.core.holder(game.prog(), task)? {
             return Ok(Outlook::Held { by });
         }
         Ok(look_at(&run.state, task))
@@ -119,20 +118,6 @@ impl<N: RoundName> RoundCore<N> {
 fn end_at(run: Option<&CoreRun>, number: u64) -> Option<End> {
     let entry = run?.journal.get(number as usize)?;
     Some(entry.end)
-}
-
-/// The lowest bar to the admission of a task, if it waits for its admission and has a bar.
-fn bar_of(p: &Prog, state: &State, task: u32) -> Option<u32>
-    requires { IsReachable p.now state.now }
-{
-    let admission = Move {
-        kind: Kind::Admit,
-        task,
-    };
-    match may(p, state, admission) {
-        Err(Why::HeldBy(by)) => Some(by),
-        _ => None,
-    }
 }
 
 /// What may be done next for a task in this state.

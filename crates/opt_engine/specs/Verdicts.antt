@@ -108,3 +108,8 @@ IsDraftAt p st t (Some draft) =
 -- the core had a run, and gives a draft of its state
 abbrev pub Drafts : Program → Option CoreRun → ℕ → Option Draft → Type 0
 Drafts p core t draft = (run : CoreRun) × (core ≡ Some run) × IsDraftAt p run.state t draft
+
+-- the core had a run, in which this is the lowest bar to the admission of the task; None if nothing holds the task back
+abbrev pub HoldsBack : Option CoreRun → ℕ → Option ℕ → Type 0
+HoldsBack core t None = (run : CoreRun) × (core ≡ Some run) × IsFree run.state t
+HoldsBack core t (Some by) = (run : CoreRun) × (core ≡ Some run) × Forbids run.state Admit t (HeldBy by)

@@ -2,11 +2,12 @@
 ghost use Rattle.std.specs.Prelude.{◌≡◌, [], Some, None, IfOk, OnErr, option_copied};
 ghost use Rattle.twe_machine.specs.Moves.{start_of};
 ghost use Rattle.opt_engine.specs.Drafts.{IsDraftedOf};
-ghost use Rattle.opt_engine.specs.Verdicts.{AnswersCommit, Drafts, RunGoesOn, IsKept};
+ghost use Rattle.opt_engine.specs.Verdicts.{AnswersCommit, Drafts, HoldsBack, RunGoesOn, IsKept};
 
 use crate::answering::answer;
 use crate::core_run::CoreRun;
 use crate::drafts::{Draft, Drafted};
+use crate::judging::holder;
 use crate::readiness::draft_of;
 use crate::verdict::Verdict;
 use std::alloc::Global;
@@ -101,6 +102,15 @@ impl<N: RoundName> Core<N> {
     {
         let run = self.run.as_ref().ok_or(lost())?;
         draft_of(self.alloc, p, &run.state, t)
+    }
+
+    /// The lowest bar to the admission of a task, or `None` if nothing holds it back.
+    pub fn holder(&self, p: &Prog, t: u32) -> Result<Option<u32>, Memory>
+        requires { p.now ≡ N.prog }
+        ensures { IfOk result (HoldsBack self.now t) }
+    {
+        let run = self.run.as_ref().ok_or(lost())?;
+        Ok(holder(p, &run.state, &self.enabled, t))
     }
 
     /// Takes the moves that a draft stands for, if it fits and they are legal, and else says why not. Then nothing has
