@@ -3,7 +3,7 @@
 
 is_program() {
   case ${1-} in
-    twe | twe_batch | twe_infer | twe_opt | twe_profile) true ;;
+    twe | twe_advise | twe_batch | twe_infer | twe_opt | twe_profile) true ;;
     *) false ;;
   esac
 }

@@ -43,4 +43,4 @@ _twe_other() {
 
 complete -F _twe twe
 complete -F _twe_batch twe_batch
-complete -F _twe_other twe_infer twe_opt twe_profile
+complete -F _twe_other twe_advise twe_infer twe_opt twe_profile
