@@ -63,7 +63,12 @@ impl<N: RoundName> RoundCore<N> {
 
     /// What may be done next for a task. A task that is not admitted yet may run ahead, unless a draft of it is kept and it is
     /// still held back.
-    pub(crate) fn look(&self, game: &Game<'_, N>, task: u32, kept: bool) -> Result<Outlook, Memory> {
+    pub(crate) fn look(
+        &self,
+        game: &Game<'_, N>,
+        task: u32,
+        kept: bool,
+    ) -> Result<Outlook, Memory> {
         let run = self.core.run().ok_or(lost())?;
         if run.state.first_fault.is_some() {
             return Ok(Outlook::Over);

@@ -1,6 +1,6 @@
 //! What is written of a run, in the form that is asked for.
 ghost use Rattle.std.specs.Prelude.{◌≡◌, IfOk};
-ghost use Rattle.run_advice.specs.Totals.{AreFew};
+ghost use Rattle.run_advice.specs.Totals.{CanBeSummed};
 ghost use Rattle.twe_advise.specs.Forms as forms;
 
 use crate::json::json_text;
@@ -18,7 +18,7 @@ pub(crate) fn advice_text(
     p: &Prog,
     advice: &Advice,
 ) -> Result<Bytes, Memory>
-    requires { AreFew advice.now.works }
+    requires { CanBeSummed advice.now.works }
     ensures { IfOk result (λ text. text
         ≡ forms.advice_text form p.now.tasks advice.now.profile.work advice.now.profile.span advice.now.works) }
 {

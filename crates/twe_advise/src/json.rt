@@ -1,7 +1,7 @@
 //! What is written as JSON: one object, on one line.
 ghost use Rattle.std.specs.Prelude.{◌≡◌, ◌<◌, ◌++◌, IfOk, OnOk};
 ghost use Rattle.std.specs.List.{All, flat_map};
-ghost use Rattle.run_advice.specs.Totals.{AreFew};
+ghost use Rattle.run_advice.specs.Totals.{CanBeSummed};
 ghost use Rattle.twe_advise.specs.Json.{comma_before, json_head, json_next_time, json_tasks, json_time, json_times};
 ghost use Rattle.twe_advise.specs.Json as json;
 ghost use Rattle.twe_advise.specs.Texts.{word_number};
@@ -93,7 +93,7 @@ fn push_json_task(text: &mut Bytes, total: TaskTotal, name: &[u8]) -> Result<(),
 
 /// Appends what the tasks of each declaration took.
 fn push_json_tasks(text: &mut Bytes, works: &[TaskWork], decls: &[Decl]) -> Result<(), Memory>
-    requires { AreFew works.now }
+    requires { CanBeSummed works.now }
     ensures { OnOk result (text.new ≡ text.old ++ json_tasks works.now 0 decls.now) }
 {
     for (number, decl) in decls.iter().enumerate() {
@@ -105,7 +105,7 @@ fn push_json_tasks(text: &mut Bytes, works: &[TaskWork], decls: &[Decl]) -> Resu
 
 /// What is written of a run of the program, as JSON.
 pub(crate) fn json_text(alloc: Global, p: &Prog, advice: &Advice) -> Result<Bytes, Memory>
-    requires { AreFew advice.now.works }
+    requires { CanBeSummed advice.now.works }
     ensures { IfOk result (λ text. text
         ≡ json.json_text p.now.tasks advice.now.profile.work advice.now.profile.span advice.now.works) }
 {

@@ -1,7 +1,7 @@
 //! What is written for people: lines of a head, and tables whose columns are twelve bytes wide; and the usage line.
 ghost use Rattle.std.specs.Prelude.{◌≡◌, ◌<◌, ◌++◌, IfOk, OnOk};
 ghost use Rattle.std.specs.List.{All, flat_map};
-ghost use Rattle.run_advice.specs.Totals.{AreFew};
+ghost use Rattle.run_advice.specs.Totals.{CanBeSummed};
 ghost use Rattle.twe_advise.specs.Texts.{head_text, hundredths_text, number_column, task_rows, tasks_text, time_row, times_text, word_number};
 ghost use Rattle.twe_advise.specs.Texts as texts;
 ghost use Rattle.twe_advise.specs.Words.{advise_usage_text};
@@ -87,7 +87,7 @@ fn push_task(text: &mut Bytes, total: TaskTotal, name: &[u8]) -> Result<(), Memo
 
 /// Appends a row for each declared task.
 fn push_tasks(text: &mut Bytes, works: &[TaskWork], decls: &[Decl]) -> Result<(), Memory>
-    requires { AreFew works.now }
+    requires { CanBeSummed works.now }
     ensures { OnOk result (text.new ≡ text.old ++ task_rows works.now 0 decls.now) }
 {
     for (number, decl) in decls.iter().enumerate() {
@@ -106,7 +106,7 @@ fn push_times_table(text: &mut Bytes, work: u64, span: u64) -> Result<(), Memory
 
 /// Appends the table of tasks.
 fn push_tasks_table(text: &mut Bytes, works: &[TaskWork], decls: &[Decl]) -> Result<(), Memory>
-    requires { AreFew works.now }
+    requires { CanBeSummed works.now }
     ensures { OnOk result (text.new ≡ text.old ++ tasks_text works.now decls.now) }
 {
     text.push_all(b"\n       tasks        work    heaviest  name\n")?;
@@ -115,7 +115,7 @@ fn push_tasks_table(text: &mut Bytes, works: &[TaskWork], decls: &[Decl]) -> Res
 
 /// What is written of a run of the program, as tables.
 pub(crate) fn tables_text(alloc: Global, p: &Prog, advice: &Advice) -> Result<Bytes, Memory>
-    requires { AreFew advice.now.works }
+    requires { CanBeSummed advice.now.works }
     ensures { IfOk result (λ text. text
         ≡ texts.tables_text p.now.tasks advice.now.profile.work advice.now.profile.span advice.now.works) }
 {
