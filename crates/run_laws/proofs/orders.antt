@@ -6,8 +6,10 @@ pub mod TasksStay
 pub mod Yielding
 -- Of two enabled tasks that interfere, the one that was enabled before the other yields to it.
 pub mod Enabling
+-- Tasks are enabled one by one, so of two that are enabled one was enabled before the other.
+pub mod OneByOne
 -- The task that was admitted last decides for those before it.
 pub mod Deciding
--- No futures of two tasks stand for one task, so a task is waited for by the task that made it alone.
-pub mod OwnFutures
+-- Each task has one maker at most, by whom alone it is waited for.
+pub mod Makers
 pub mod WaitPaths

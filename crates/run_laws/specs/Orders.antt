@@ -1,5 +1,6 @@
--- The order in which tasks are enabled, and the tasks that decide for others.
-use Rattle.std.specs.Prelude.{◌≡◌, ◌≢◌, ◌++◌, ℕ, List, ◌∷◌, None, take}
+-- Who has made a task, which of two tasks was enabled before the other, and which task decides for others.
+use Rattle.std.specs.Prelude.{◌≡◌, ◌≢◌, ◌++◌, ℕ, List, ◌∷◌, None, Some, slice_get, take}
+use Rattle.seg_journal.specs.declared.journal.End.TheVariants as ends
 use Rattle.seg_journal.specs.declared.journal.Entry.{Entry}
 use Rattle.seg_journal.specs.declared.moves.Kind.TheVariants.{Admit}
 use Rattle.twe_base.specs.Limits.{Bounds}
@@ -11,6 +12,14 @@ use Rattle.twe_machine.specs.declared.state.TaskStatus.TheVariants.{Enabled, Mad
 use Rattle.twe_machine.specs.Legal.{Interfere}
 use Rattle.twe_machine.specs.Rows.{HasStatus, IsRow}
 use Rattle.twe_machine.specs.Runs.{state_after}
+
+-- an entry of the journal is a move of s that made u
+pub record HasMade (journal : List Entry) (s u : ℕ) : Type 0 where
+  pub entry : Entry
+  pub place : ℕ
+  pub there : slice_get journal place ≡ Some entry
+  pub by : entry.mv.task ≡ s
+  pub made : entry.end ≡ ends.Made u
 
 -- task t is not enabled yet: it was not made, or it waits for its admission
 abbrev pub IsNotEnabledYet : State → ℕ → Type 0

@@ -1,5 +1,5 @@
 //! Laws of orders: waits form paths, and the order in which tasks are enabled is the order in which they yield.
-ghost use Rattle.std.specs.Prelude.{◌≡◌, ◌⊎◌, ◌↔◌, ℕ, List};
+ghost use Rattle.std.specs.Prelude.{◌≡◌, ◌≢◌, ◌⊎◌, ◌↔◌, ℕ, List};
 ghost use Rattle.seg_journal.specs.declared.journal.Entry.{Entry};
 ghost use Rattle.twe_base.specs.Limits.{Bounds};
 ghost use Rattle.twe_program.specs.Program.{Program};
@@ -11,11 +11,13 @@ ghost use Rattle.twe_machine.specs.declared.state.TaskStatus.TheVariants.{Enable
 ghost use Rattle.twe_machine.specs.Legal.{Interfere, IsBar};
 ghost use Rattle.twe_machine.specs.Rows.{HasStatus};
 ghost use Rattle.twe_machine.specs.Runs.{IsReached, Legal, LegalFrom, replayed, state_after};
-ghost use Rattle.run_laws.specs.Orders.{DecidesFor, EarlierYield, IsAdmittedAfter};
+ghost use Rattle.run_laws.specs.Orders.{DecidesFor, EarlierYield, HasMade, IsAdmittedAfter, WasEnabledBefore};
 
-/// In each reached state, each task is waited for by at most one other, so waits form paths: of two tasks that wait for a third,
-/// directly or through others, one waits for the other, or they are the same.
+/// A task waits only for tasks that it has made. Each task is waited for by at most one other, so waits form paths: of two tasks
+/// that wait for a third, directly or through others, one waits for the other, or they are the same.
 pub fn waits_form_paths()
+    ensures made { (p : Program) → IsWellFormed p → (lim : Bounds) (journal : List Entry) → Legal p lim journal
+        → (s u : ℕ) → WaitsFor (state_after p lim journal).links s u → HasMade journal s u }
     ensures one { (p : Program) → IsWellFormed p → (lim : Bounds) (st : State) → IsReached p lim st
         → (s r u : ℕ) → WaitsFor st.links s u → WaitsFor st.links r u → s ≡ r }
     ensures ordered { (p : Program) → IsWellFormed p → (lim : Bounds) (st : State) → IsReached p lim st
@@ -27,6 +29,19 @@ pub fn yielding_stays()
     ensures { (p : Program) → IsWellFormed p → (lim : Bounds) (st : State) → IsReached p lim st
         → (entries : List Entry) → LegalFrom p lim st entries → (s t : ℕ) → YieldsTo st.links s t
         → ¬ IsDone (replayed p lim st entries).links t → YieldsTo (replayed p lim st entries).links s t }
+{}
+
+/// Tasks are enabled one by one. Of two different tasks that are enabled after a legal journal, one was enabled before the other,
+/// and never each before the other. Who was enabled before a second that was enabled before a third was enabled before the third.
+pub fn tasks_are_enabled_one_by_one()
+    ensures one_first { (p : Program) → IsWellFormed p → (lim : Bounds) (journal : List Entry) → Legal p lim journal
+        → (s t : ℕ) → s ≢ t → HasStatus (state_after p lim journal) s Enabled → HasStatus (state_after p lim journal) t Enabled
+        → WasEnabledBefore p lim journal s t ⊎ WasEnabledBefore p lim journal t s }
+    ensures never_both { (p : Program) → IsWellFormed p → (lim : Bounds) (journal : List Entry) → Legal p lim journal
+        → (s t : ℕ) → WasEnabledBefore p lim journal s t → ¬ WasEnabledBefore p lim journal t s }
+    ensures on_and_on { (p : Program) → IsWellFormed p → (lim : Bounds) (journal : List Entry) → Legal p lim journal
+        → (s t u : ℕ) → WasEnabledBefore p lim journal s t → WasEnabledBefore p lim journal t u
+        → WasEnabledBefore p lim journal s u }
 {}
 
 /// After each legal journal, of two enabled tasks that interfere, the one that was enabled before the other yields to it. So the
@@ -46,11 +61,11 @@ pub fn who_does_not_wait_is_a_bar()
         → (IsBar st s t ↔ (¬ WaitsOn st.links s t)) }
 {}
 
-/// The task that was admitted last decides for those before it: who interferes with an admitted task and was enabled before it
-/// waits for it, directly or through others, as long as it isn't done. So if the admitted task leads by waits to another task, or
-/// yields to it, so do those before it.
+/// The task that was admitted last decides for those before it: who is enabled when it is admitted, and interferes with it, waits
+/// for it, directly or through others, until it is done. So if it waits for another task, or yields to it, so does each enabled
+/// task that interferes with it and was enabled before it.
 pub fn who_is_admitted_last_decides()
-    // From the admission on those that are enabled then wait for the admitted task, until it is done.
+    // From the admission on, until the admitted task is done.
     ensures admitted { (p : Program) → IsWellFormed p → (lim : Bounds) (journal : List Entry) → Legal p lim journal
         → (w r : ℕ) → IsAdmittedAfter p lim journal w r → WaitsOnUnlessDone (state_after p lim journal).links r w }
     ensures waits { (p : Program) → IsWellFormed p → KeepsEffects p → (lim : Bounds) (journal : List Entry) → Legal p lim journal

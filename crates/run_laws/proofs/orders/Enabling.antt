@@ -1,8 +1,9 @@
 -- Of two enabled tasks that interfere, the one that was enabled before the other yields to it.
-use Rattle.std.proofs.Common.{◌≡◌, ◌≢◌, ◌⊎◌, ◌≤◌, ◌<◌, ◌++◌, ℕ, zero, suc, List, [], ◌∷◌, length, take, drop, Option, None, Some, inl, inr, refl, sym, ap, ◌∙◌, subst, arith}
+use Rattle.std.proofs.Common.{◌≡◌, ◌≢◌, ◌≤◌, ◌++◌, ℕ, List, [], ◌∷◌, take, drop, Option, None, Some, inl, inr, refl, sym, ap, ◌∙◌, subst, arith}
 use Rattle.std.specs.Prelude.{slice_get}
-use Rattle.std.proofs.lemmas.Bool.{cases_eq, cases_lt}
+use Rattle.std.proofs.lemmas.Bool.{cases_eq}
 use Rattle.std.proofs.lemmas.List.{take-append-drop}
+use Rattle.std.proofs.lemmas.Option.{slice_get_within}
 use Rattle.seg_journal.specs.declared.journal.End.{End}
 use Rattle.seg_journal.specs.declared.journal.End.TheVariants as ends
 use Rattle.seg_journal.specs.declared.journal.Entry.{Entry}
@@ -17,15 +18,14 @@ use Rattle.wait_graph.proofs.WaitingLemmas.{YieldsTo-alone}
 use Rattle.isolation_laws.specs.soundness.KeepsEffects.{KeepsEffects}
 use Rattle.twe_machine.specs.declared.state.State.{State}
 use Rattle.twe_machine.specs.declared.state.TaskRow.{TaskRow}
-use Rattle.twe_machine.specs.declared.state.TaskStatus.{TaskStatus}
-use Rattle.twe_machine.specs.declared.state.TaskStatus.TheVariants.{Done, Enabled, Faulted, Made}
+use Rattle.twe_machine.specs.declared.state.TaskStatus.TheVariants.{Enabled, Made}
 use Rattle.twe_machine.specs.Changes.{made_by}
 use Rattle.twe_machine.specs.Legal.{Interfere, MayTake}
 use Rattle.twe_machine.specs.Moves.{admitted, move_result, result_by_kind, start_of}
 use Rattle.twe_machine.specs.Rows.{HasStatus, IsRow}
 use Rattle.twe_machine.specs.Runs.{IsReached, Legal, LegalFrom, replayed, state_after}
 use Rattle.twe_machine.proofs.links.Ordered.{parent_down, waits_up}
-use Rattle.twe_machine.proofs.lists.Places.{below_there, got_one}
+use Rattle.twe_machine.proofs.lists.Places.{got_one}
 use Rattle.twe_machine.proofs.standing.ReachedStands.{reached_stands, run_stands, taken_stands}
 use Rattle.twe_machine.proofs.standing.SettlesNext.{as_many_links}
 use Rattle.twe_machine.proofs.standing.Standing.{Stands}
@@ -36,7 +36,7 @@ use Rattle.isolation_laws.proofs.journals.Journals.{beginning_reached, reached_k
 use Rattle.isolation_laws.proofs.rows.LinksOfRows.{enabled_undone, spawned_row}
 use Rattle.isolation_laws.proofs.rows.RowsLater.{same_interfere}
 use Rattle.run_laws.specs.Orders.{EarlierYield}
-use Rattle.run_laws.proofs.orders.TasksStay.{enabled_between, legal_both, one_status, reached_next, replayed_both, tasks_stay}
+use Rattle.run_laws.proofs.orders.TasksStay.{enabled_between, enabled_or_not, legal_both, not_there, one_status, reached_next, replayed_both, tasks_stay}
 use Rattle.run_laws.proofs.orders.Yielding.{yields_stays}
 
 -- A task that a move enables.
@@ -46,7 +46,7 @@ record IsFresh (st : State) (u : ℕ) : Type 0 where
   free : WaitsForNobody st.links u
   childless : (c : ℕ) → ¬ SpawnedBy st.links c u
 
-at_most_one : (end : End) → made_by end ≤ 1
+pub at_most_one : (end : End) → made_by end ≤ 1
 at_most_one ends.Admitted = omega arith
 at_most_one (ends.Made child) = omega arith
 at_most_one (ends.Waits on) = omega arith
@@ -68,10 +68,7 @@ module _ (p : Program) (lim : Bounds) (well : IsWellFormed p) (st : State) (kind
   -- a task that the move has made has the highest number
   made_fresh : (u : ℕ) → slice_get st.tasks u ≡ None → IsFresh after u
   made_fresh u nowhere =
-      let past : length st.tasks ≤ u = elim (cases_lt u (length st.tasks)) [
-        | inl below ↦ let row = below_there st.tasks u below in absurd (cc (row.1, nowhere))
-        | inr past ↦ omega (arith, past)
-      ] in
+      let past = not_there st.tasks u nowhere in
       let alone = left_alone p lim well st kind t may stands in
       let few = at_most_one (result_by_kind p lim st kind t).1 in
       let links = as_many_links p lim after after_stands in
@@ -80,17 +77,9 @@ module _ (p : Program) (lim : Bounds) (well : IsWellFormed p) (st : State) (kind
         childless = λ c by.
             let down = parent_down p lim after after_stands c u by.parent in
             let child = spawned_row after after_stands.links c u by in
-            let there : c < length after.tasks = elim (cases_lt c (length after.tasks)) [
-              | inl below ↦ below
-              | inr past ↦ absurd (beyond after.tasks c child.0 past child.1)
-            ] in
+            let there = slice_get_within after.tasks c child.0 child.1 in
             absurd (omega (arith, past, alone.tasks, few, down, there));
       }
-    where
-      beyond : (rows : List TaskRow) (c : ℕ) (row : TaskRow) → (length rows ≤ c) → ¬ (slice_get rows c ≡ Some row)
-      beyond [] c row past is = cc (is)
-      beyond (r ∷ rows) zero row past is = omega (arith, past)
-      beyond (r ∷ rows) (suc c) row past is = beyond rows c row (omega (arith, past)) is
 
   -- a task that was there before, and is not the one that moved, was enabled before
   other_was : (u : ℕ) (row : TaskRow) → u ≢ t → IsRow st u row → HasStatus after u Enabled → HasStatus st u Enabled
@@ -117,20 +106,6 @@ newly_fresh p lim well st kind t u may stands was now = elim (cases_eq u t) [
       subst (IsFresh (result_by_kind p lim st kind t).0) (sym same) (own_fresh p lim well st kind t may stands (λ before. was (subst (λ (x : ℕ). HasStatus st x Enabled) (sym same) before)))
   | inr other ↦ other_fresh p lim well st kind t may stands u (slice_get st.tasks u) refl other was now
 ]
-
--- A task is enabled, or it isn't.
-
-enabled_by_row : (st : State) (t : ℕ) (row : TaskRow) → IsRow st t row → (status : TaskStatus) → row.status ≡ status → HasStatus st t Enabled ⊎ ¬ HasStatus st t Enabled
-enabled_by_row st t row is Enabled has = inl (row, is, has)
-enabled_by_row st t row is Made has = inr (λ now. let both : Made ≡ Enabled = sym has ∙ one_status st t row Enabled now is in cc (both))
-enabled_by_row st t row is Done has = inr (λ now. let both : Done ≡ Enabled = sym has ∙ one_status st t row Enabled now is in cc (both))
-enabled_by_row st t row is Faulted has = inr (λ now. let both : Faulted ≡ Enabled = sym has ∙ one_status st t row Enabled now is in cc (both))
-
-enabled_or_not : (st : State) (t : ℕ) → HasStatus st t Enabled ⊎ ¬ HasStatus st t Enabled
-enabled_or_not st t = by_place (slice_get st.tasks t) refl where
-  by_place : (found : Option TaskRow) → slice_get st.tasks t ≡ found → HasStatus st t Enabled ⊎ ¬ HasStatus st t Enabled
-  by_place None is = inr (λ now. cc (is, now.1))
-  by_place (Some row) is = enabled_by_row st t row is row.status refl
 
 -- The order of enabling.
 

@@ -1,7 +1,7 @@
 -- What a task keeps over the moves of a journal: its effects, its parent, and that it is over.
-use Rattle.std.proofs.Common.{◌≡◌, ◌≢◌, ◌+◌, ◌++◌, ◌⊎◌, ℕ, ℤ, Bool, true, false, cond, List, [], ◌∷◌, Option, None, Some, inl, inr, refl, sym, ap, ◌∙◌, subst, nat_lt}
+use Rattle.std.proofs.Common.{◌≡◌, ◌≢◌, ◌≤◌, ◌+◌, ◌++◌, ◌⊎◌, ℕ, ℤ, Bool, true, false, cond, List, [], ◌∷◌, length, Option, None, Some, inl, inr, refl, sym, ap, ◌∙◌, subst, nat_lt, arith}
 use Rattle.std.specs.Prelude.{slice_get, slice_set}
-use Rattle.std.proofs.lemmas.Bool.{cases_eq}
+use Rattle.std.proofs.lemmas.Bool.{cases_eq, cases_lt}
 use Rattle.twe_base.specs.declared.place.Place.{Place}
 use Rattle.effect_sets.specs.declared.effects.Summary.{Summary}
 use Rattle.twe_base.specs.declared.fault.FaultKind.TheVariants.{TaskLimit}
@@ -22,17 +22,17 @@ use Rattle.wait_graph.specs.Link.{link_of}
 use Rattle.twe_machine.specs.declared.state.State.{State}
 use Rattle.twe_machine.specs.declared.state.TaskRow.{TaskRow}
 use Rattle.twe_machine.specs.declared.state.TaskStatus.{TaskStatus}
-use Rattle.twe_machine.specs.declared.state.TaskStatus.TheVariants.{Enabled, Made}
+use Rattle.twe_machine.specs.declared.state.TaskStatus.TheVariants.{Done, Enabled, Faulted, Made}
 use Rattle.twe_machine.specs.Changes.{IsTaskOf}
 use Rattle.twe_machine.specs.Legal.{MayMove, MayTake}
 use Rattle.twe_machine.specs.Moves.{done_row, faulted_row, going_row, joined_child, joined_row, making_frame, move_result, new_row, parent_of, ran, ready_frame, result_by_kind, state_after_asking, state_after_fault, state_after_join, state_after_make, stop_result, stopped_frame}
 use Rattle.twe_machine.specs.Rows.{HasStatus, IsRow}
 use Rattle.twe_machine.specs.Runs.{IsReached, LegalFrom, replayed}
-use Rattle.twe_machine.proofs.lists.Places.{got_one, put_before, set_same}
+use Rattle.twe_machine.proofs.lists.Places.{below_there, got_one, put_before, set_same}
 use Rattle.twe_machine.proofs.replays.Replayed.{run_more}
 use Rattle.twe_machine.proofs.standing.Halfway.{halfway}
 use Rattle.twe_machine.proofs.standing.LaterStates.{replayed_later}
-use Rattle.twe_machine.proofs.standing.ReachedStands.{linked_of}
+use Rattle.twe_machine.proofs.standing.ReachedStands.{linked_of, taken_stands}
 use Rattle.twe_machine.proofs.standing.Standing.{IsOver, Stands}
 use Rattle.twe_machine.proofs.tasks.OtherRows.{row_after}
 
@@ -85,9 +85,33 @@ mover_not_over : (st : State) (kind : Kind) (t : ℕ) → MayTake st kind t → 
 mover_not_over st Admit t may row is over = subst IsOver (one_status st t row Made may.0 is) over
 mover_not_over st Run t may row is over = subst IsOver (one_status st t row Enabled may.0 is) over
 
+-- a task is enabled, or it isn't
+enabled_by_row : (st : State) (t : ℕ) (row : TaskRow) → IsRow st t row → (status : TaskStatus) → row.status ≡ status → HasStatus st t Enabled ⊎ ¬ HasStatus st t Enabled
+enabled_by_row st t row is Enabled has = inl (row, is, has)
+enabled_by_row st t row is Made has = inr (λ now. let both : Made ≡ Enabled = sym has ∙ one_status st t row Enabled now is in cc (both))
+enabled_by_row st t row is Done has = inr (λ now. let both : Done ≡ Enabled = sym has ∙ one_status st t row Enabled now is in cc (both))
+enabled_by_row st t row is Faulted has = inr (λ now. let both : Faulted ≡ Enabled = sym has ∙ one_status st t row Enabled now is in cc (both))
+
+pub enabled_or_not : (st : State) (t : ℕ) → HasStatus st t Enabled ⊎ ¬ HasStatus st t Enabled
+enabled_or_not st t = by_place (slice_get st.tasks t) refl where
+  by_place : (found : Option TaskRow) → slice_get st.tasks t ≡ found → HasStatus st t Enabled ⊎ ¬ HasStatus st t Enabled
+  by_place None is = inr (λ now. cc (is, now.1))
+  by_place (Some row) is = enabled_by_row st t row is row.status refl
+
+-- who has no row has a number that no task has yet
+pub not_there : (rows : List TaskRow) (u : ℕ) → slice_get rows u ≡ None → length rows ≤ u
+not_there rows u nowhere = elim (cases_lt u (length rows)) [
+  | inl below ↦ let row = below_there rows u below in absurd (cc (row.1, nowhere))
+  | inr past ↦ omega (arith, past)
+]
+
+-- the task is enabled, or over
+abbrev pub IsOut : TaskStatus → Type 0
+IsOut status = (status ≡ Enabled) ⊎ IsOver status
+
 module _ (p : Program) (lim : Bounds) (well : IsWellFormed p) where
   ran_goes : (st : State) (t : ℕ) → Stands p lim st → MayTake st Run t → (found : Option TaskRow) → slice_get st.tasks t ≡ found
-      → (b : TaskRow) × IsRow (ran p lim st t found).0 t b × ((b.status ≡ Enabled) ⊎ IsOver b.status)
+      → (b : TaskRow) × IsRow (ran p lim st t found).0 t b × IsOut b.status
   ran_goes st t stands may None is = absurd (cc (may.0.1, is))
   ran_goes st t stands may (Some row) is =
       let after : Stopped = segment p (ready_frame st.tasks row.frame) st.cells in
@@ -97,12 +121,12 @@ module _ (p : Program) (lim : Bounds) (well : IsWellFormed p) where
 
   -- an enabled task is enabled after a move, or over
   enabled_by : (st : State) (kind : Kind) (t : ℕ) → Stands p lim st → MayTake st kind t → HasStatus st t Enabled
-      → (b : TaskRow) × IsRow (result_by_kind p lim st kind t).0 t b × ((b.status ≡ Enabled) ⊎ IsOver b.status)
+      → (b : TaskRow) × IsRow (result_by_kind p lim st kind t).0 t b × IsOut b.status
   enabled_by st Admit t stands may was = let both : Made ≡ Enabled = sym may.0.2 ∙ one_status st t may.0.0 Enabled was may.0.1 in absurd (cc (both))
   enabled_by st Run t stands may was = ran_goes st t stands may (slice_get st.tasks t) refl
 
   enabled_goes : (st : State) (kind : Kind) (t s : ℕ) → Stands p lim st → MayTake st kind t → HasStatus st s Enabled
-      → (b : TaskRow) × IsRow (result_by_kind p lim st kind t).0 s b × ((b.status ≡ Enabled) ⊎ IsOver b.status)
+      → (b : TaskRow) × IsRow (result_by_kind p lim st kind t).0 s b × IsOut b.status
   enabled_goes st kind t s stands may was = elim (cases_eq s t) [
     | inl same ↦
         let own = enabled_by st kind t stands may (subst (λ (x : ℕ). HasStatus st x Enabled) same was) in
@@ -122,6 +146,21 @@ module _ (p : Program) (lim : Bounds) (well : IsWellFormed p) where
         | inl stays ↦ (row, stays.1, over)
         | inr marked ↦ (joined_row row, marked.1, over)
       ]
+
+  -- so does one that is enabled or over
+  out_stays : (st : State) (kind : Kind) (t s : ℕ) → Stands p lim st → MayTake st kind t → (row : TaskRow) → IsRow st s row → IsOut row.status
+      → (b : TaskRow) × IsRow (result_by_kind p lim st kind t).0 s b × IsOut b.status
+  out_stays st kind t s stands may row is (inl enabled) = enabled_goes st kind t s stands may (row, is, enabled)
+  out_stays st kind t s stands may row is (inr over) = let goes = over_stays st kind t s may row is over in (goes.0, goes.1, inr goes.2)
+
+  pub out_at_end : (st : State) (entries : List Entry) → LegalFrom p lim st entries → Stands p lim st → (s : ℕ) (row : TaskRow) → IsRow st s row → IsOut row.status
+      → (b : TaskRow) × IsRow (replayed p lim st entries) s b × IsOut b.status
+  out_at_end st [] legal stands s row is out = (row, is, out)
+  out_at_end st (entry ∷ entries) legal stands s row is out =
+      let kind = entry.mv.kind in
+      let t = entry.mv.task in
+      let next = out_stays st kind t s stands legal.0 row is out in
+      out_at_end (move_result p lim st entry.mv).0 entries legal.2 (taken_stands p lim well st kind t legal.0 stands) s next.0 next.1 next.2
 
   pub over_at_end : (st : State) (entries : List Entry) → LegalFrom p lim st entries → (s : ℕ) (row : TaskRow) → IsRow st s row → IsOver row.status
       → (b : TaskRow) × IsRow (replayed p lim st entries) s b × IsOver b.status
