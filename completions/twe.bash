@@ -36,6 +36,25 @@ _twe_batch() {
   done
 }
 
+_twe_advise() {
+  COMPREPLY=()
+  if ((COMP_CWORD == 1)) && [[ --json == "${COMP_WORDS[1]}"* ]]; then COMPREPLY=(--json); fi
+}
+
+_twe_explain() {
+  local current=${COMP_WORDS[COMP_CWORD]} words=' --name --lines ' word given
+  COMPREPLY=()
+  [[ $current == -* ]] || return
+  [[ ${COMP_WORDS[COMP_CWORD - 1]} != --name ]] || return # a name stands here
+  # Each option may be given once.
+  for given in "${COMP_WORDS[@]:1:COMP_CWORD-1}"; do
+    words=${words/ $given / }
+  done
+  for word in $words; do
+    [[ $word != "$current"* ]] || COMPREPLY+=("$word")
+  done
+}
+
 # A number, or no words at all.
 _twe_other() {
   COMPREPLY=()
@@ -43,4 +62,6 @@ _twe_other() {
 
 complete -F _twe twe
 complete -F _twe_batch twe_batch
+complete -F _twe_advise twe_advise
+complete -F _twe_explain twe_explain
 complete -F _twe_other twe_infer twe_opt twe_profile

@@ -12,9 +12,14 @@ complete -c twe -n '__fish_seen_subcommand_from run replay; and not __fish_conta
 complete -c twe -n '__fish_seen_subcommand_from run replay; and not __fish_contains_opt tasks' -l tasks -x -d 'how many tasks may be made, 1 to 100000'
 complete -c twe -n '__fish_seen_subcommand_from run; and not __fish_contains_opt journal' -l journal -d 'write the journal too'
 
+complete -c twe_advise -f
+complete -c twe_advise -n __fish_use_subcommand -a --json -d 'write JSON in place of tables'
 complete -c twe_batch -f
 complete -c twe_batch -n __fish_use_subcommand -a check -d 'check each program of a batch'
 complete -c twe_batch -n __fish_use_subcommand -a run -d 'check and run each program of a batch'
+complete -c twe_explain -f
+complete -c twe_explain -n 'not __fish_contains_opt name' -l name -x -d 'the name that is shown before places'
+complete -c twe_explain -n 'not __fish_contains_opt lines' -l lines -d 'one line for each note, for editors'
 complete -c twe_infer -f
 complete -c twe_opt -f
 complete -c twe_profile -f

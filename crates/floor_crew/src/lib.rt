@@ -19,6 +19,7 @@ mod on_floor;
 mod quiet;
 mod round;
 mod rounds;
+mod setup;
 mod stands;
 
 pub use crew::FloorCrew;

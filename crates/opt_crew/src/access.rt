@@ -7,7 +7,7 @@ use crate::round_core::RoundCore;
 use seg_journal::End;
 use std::sync::{Mutex, Wait};
 use twe_base::Memory;
-use twe_rounds::{Game, Look, RoundAccess, RoundName, Waiting};
+use twe_rounds::{Game, Outlook, RoundAccess, RoundName, Waiting};
 
 /// The core as it is lent to a single worker, with the drafts that the worker keeps.
 #[derive(Drop)]
@@ -18,7 +18,7 @@ pub(crate) struct Lent<'a, N: RoundName> {
 }
 
 impl<'a, N: RoundName> RoundAccess for Lent<'a, N> {
-    fn look(&mut self, task: u32) -> Result<Look, Memory> {
+    fn look(&mut self, task: u32) -> Result<Outlook, Memory> {
         self.core.look(self.game, task, self.kept.has(task))
     }
 
@@ -51,7 +51,7 @@ pub(crate) struct Locked<'a, R: Wait, N: RoundName> {
 }
 
 impl<'a, R: Wait, N: RoundName> RoundAccess for Locked<'a, R, N> {
-    fn look(&mut self, task: u32) -> Result<Look, Memory> {
+    fn look(&mut self, task: u32) -> Result<Outlook, Memory> {
         let kept = self.kept.has(task);
         self.core.lock(self.rt).look(self.game, task, kept)
     }

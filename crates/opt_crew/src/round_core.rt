@@ -11,7 +11,7 @@ use std::marker::Model;
 use twe_base::{Limits, Memory};
 use twe_machine::{State, TaskStatus};
 use twe_program::Prog;
-use twe_rounds::{Game, Look, RoundName, Waiting, lost};
+use twe_rounds::{Game, Outlook, RoundName, Waiting, lost};
 
 /// What became of a draft that was handed to the core.
 #[derive(Drop)]
@@ -63,13 +63,13 @@ impl<N: RoundName> RoundCore<N> {
 
     /// What may be done next for a task. A task that is not admitted yet may run ahead, unless a draft of it is kept and it is
     /// still held back.
-    pub(crate) fn look(&self, game: &Game<'_, N>, task: u32, kept: bool) -> Result<Look, Memory> {
+    pub(crate) fn look(&self, game: &Game<'_, N>, task: u32, kept: bool) -> Result<Outlook, Memory> {
         let run = self.core.run().ok_or(lost())?;
         if run.state.first_fault.is_some() {
-            return Ok(Look::Over);
+            return Ok(Outlook::Over);
         }
         if kept && let Some(by) = self.core.holder(game.prog(), task)? {
-            return Ok(Look::Held { by });
+            return Ok(Outlook::Held { by });
         }
         Ok(look_at(&run.state, task))
     }
@@ -121,25 +121,25 @@ fn end_at(run: Option<&CoreRun>, number: u64) -> Option<End> {
 }
 
 /// What may be done next for a task in this state.
-fn look_at(state: &State, task: u32) -> Look {
+fn look_at(state: &State, task: u32) -> Outlook {
     match state.tasks.get(task as usize) {
-        None => Look::Over,
+        None => Outlook::Over,
         Some(row) => match row.status {
-            TaskStatus::Made => Look::Runs,
+            TaskStatus::Made => Outlook::Runs,
             TaskStatus::Enabled => look_on(state, task),
-            TaskStatus::Done => Look::Over,
-            TaskStatus::Faulted => Look::Over,
+            TaskStatus::Done => Outlook::Over,
+            TaskStatus::Faulted => Outlook::Over,
         },
     }
 }
 
 /// What may be done next for an enabled task.
-fn look_on(state: &State, task: u32) -> Look {
+fn look_on(state: &State, task: u32) -> Outlook {
     if task >= state.links.task_count() {
-        return Look::Over;
+        return Outlook::Over;
     }
     match state.links.awaited(task) {
-        None => Look::Runs,
-        Some(on) => Look::waits(state, on),
+        None => Outlook::Runs,
+        Some(on) => Outlook::waits(state, on),
     }
 }
