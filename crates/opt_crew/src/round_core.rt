@@ -61,19 +61,18 @@ impl<N: RoundName> RoundCore<N> {
         core.into_run()
     }
 
-    /// What may be done next for a task. A task that is not admitted yet may run ahead, unless a draft of it is kept and it is
-    /// still held back.
+    /// What may be done next for a task. A task that is held back may run only if it may run ahead.
     pub(crate) fn look(
         &self,
         game: &Game<'_, N>,
         task: u32,
-        kept: bool,
+        ahead: bool,
     ) -> Result<Outlook, Memory> {
         let run = self.core.run().ok_or(lost())?;
         if run.state.first_fault.is_some() {
             return Ok(Outlook::Over);
         }
-        if kept && let Some(by) = self.core.holder(game.prog(), task)? {
+        if !ahead && let Some(by) = self.core.bar(game.prog(), task)? {
             return Ok(Outlook::Held { by });
         }
         Ok(look_at(&run.state, task))
@@ -86,7 +85,7 @@ impl<N: RoundName> RoundCore<N> {
         self.core.draft(game.prog(), task)
     }
 
-    /// Commits a draft, unless the run has met a fault.
+    /// Commits a draft, unless the run has met a fault or the task is held back.
     pub(crate) fn commit(
         &mut self,
         game: &Game<'_, N>,
@@ -95,6 +94,9 @@ impl<N: RoundName> RoundCore<N> {
         let run = self.core.run().ok_or(lost())?;
         if run.state.first_fault.is_some() {
             return Ok(Tried::Dropped);
+        }
+        if self.core.bar(game.prog(), drafted.task())?.is_some() {
+            return Ok(Tried::Held(drafted));
         }
         match self.core.commit(game.prog(), drafted.into_drafted())? {
             Verdict::Committed { number } => Ok(self.taken(number)),

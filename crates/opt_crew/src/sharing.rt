@@ -42,7 +42,6 @@ pub(crate) fn alone<N: RoundName, R: Wait>(
         let mut access = Lent {
             game: &game,
             core: &mut core,
-            kept: Kept::new(alloc),
         };
         worker.work(rt, &mut access, &site);
     }

@@ -7,7 +7,7 @@ ghost use Rattle.opt_engine.specs.Verdicts.{AnswersCommit, Drafts, HoldsBack, Ru
 use crate::answering::answer;
 use crate::core_run::CoreRun;
 use crate::drafts::{Draft, Drafted};
-use crate::judging::holder;
+use crate::judging::some_bar;
 use crate::readiness::draft_of;
 use crate::verdict::Verdict;
 use std::alloc::Global;
@@ -104,13 +104,14 @@ impl<N: RoundName> Core<N> {
         draft_of(self.alloc, p, &run.state, t)
     }
 
-    /// The lowest bar to the admission of a task, or `None` if nothing holds it back.
-    pub fn holder(&self, p: &Prog, t: u32) -> Result<Option<u32>, Memory>
+    /// Some bar to the admission of a task, or `None` if nothing holds it back. It need not be the lowest one, and is looked for where
+    /// the effects of the task are placed alone.
+    pub fn bar(&self, p: &Prog, t: u32) -> Result<Option<u32>, Memory>
         requires { p.now ≡ N.prog }
         ensures { IfOk result (HoldsBack self.now t) }
     {
         let run = self.run.as_ref().ok_or(lost())?;
-        Ok(holder(p, &run.state, &self.enabled, t))
+        Ok(some_bar(p, &run.state, &self.enabled, t))
     }
 
     /// Takes the moves that a draft stands for, if it fits and they are legal, and else says why not. Then nothing has

@@ -4,7 +4,7 @@ ghost use Rattle.std.specs.List.{All};
 ghost use Rattle.twe_machine.specs.Runs.{IsReached};
 ghost use Rattle.seg_journal.specs.declared.moves.Kind.TheVariants.{Admit};
 ghost use Rattle.twe_machine.specs.declared.legal.Why.TheVariants.{HeldBy};
-ghost use Rattle.twe_machine.specs.Legal.{Forbids};
+ghost use Rattle.twe_machine.specs.Legal.{Forbids, IsBar};
 ghost use Rattle.twe_machine.specs.Listings.{IsListing};
 ghost use Rattle.twe_base.specs.Limits.{Bounds};
 ghost use Rattle.opt_engine.specs.Drafts.{IsDraftedOf, IsNext, StandsIn};
@@ -13,7 +13,7 @@ ghost use Rattle.opt_engine.specs.inner.Judging.{Finds, HasChanged, IsChange};
 
 use crate::drafts::Drafted;
 use crate::frames::same_frame;
-use crate::readiness::{is_ready, ready_copy};
+use crate::readiness::{is_made, is_ready, ready_copy};
 use crate::touch::CellValue;
 use seg_journal::{Kind, Move};
 use std::alloc::Global;
@@ -86,7 +86,7 @@ fn is_next(alloc: Global, p: &Prog, st: &State, d: &Drafted) -> Result<bool, Mem
 
 /// The lowest bar to the admission of a task, if it waits for its admission and has a bar. It is looked for among all tasks only if
 /// there is one.
-pub(crate) fn holder(p: &Prog, st: &State, enabled: &EnabledTasks, t: u32) -> Option<u32>
+fn holder(p: &Prog, st: &State, enabled: &EnabledTasks, t: u32) -> Option<u32>
     requires reached { (lim : Bounds) × IsReached p.now lim st.now }
     requires listing { IsListing st.now enabled.now }
     ensures some { IfSome result (λ by. Forbids st.now Admit t (HeldBy by)) }
@@ -104,6 +104,20 @@ pub(crate) fn holder(p: &Prog, st: &State, enabled: &EnabledTasks, t: u32) -> Op
         Err(Why::NotEnabled) => None,
         Err(Why::WaitsFor(_)) => None,
     }
+}
+
+/// Some bar to the admission of a task, if it waits for its admission and has a bar.
+pub(crate) fn some_bar(p: &Prog, st: &State, enabled: &EnabledTasks, t: u32) -> Option<u32>
+    requires reached { (lim : Bounds) × IsReached p.now lim st.now }
+    requires listing { IsListing st.now enabled.now }
+    ensures some { IfSome result (λ s. IsBar st.now s t) }
+    ensures none { IfNone result (IsFree st.now t) }
+{
+    let _main = p.main;
+    if !is_made(st, t) {
+        return None;
+    }
+    enabled.bar(st, t)
 }
 
 /// The first read whose cell has another value now.
