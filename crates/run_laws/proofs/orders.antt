@@ -8,6 +8,8 @@ pub mod Yielding
 pub mod Enabling
 -- Tasks are enabled one by one, so of two that are enabled one was enabled before the other.
 pub mod OneByOne
+-- Who yields to another task has a lower number, so the order of enabling is that of the numbers.
+pub mod Numbers
 -- The task that was admitted last decides for those before it.
 pub mod Deciding
 -- Each task has one maker at most, by whom alone it is waited for.

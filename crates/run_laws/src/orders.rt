@@ -1,5 +1,5 @@
 //! Laws of orders: waits form paths, and the order in which tasks are enabled is the order in which they yield.
-ghost use Rattle.std.specs.Prelude.{◌≡◌, ◌≢◌, ◌⊎◌, ◌↔◌, ℕ, List};
+ghost use Rattle.std.specs.Prelude.{◌≡◌, ◌≢◌, ◌<◌, ◌≤◌, ◌⊎◌, ◌↔◌, ℕ, List};
 ghost use Rattle.seg_journal.specs.declared.journal.Entry.{Entry};
 ghost use Rattle.twe_base.specs.Limits.{Bounds};
 ghost use Rattle.twe_program.specs.Program.{Program};
@@ -49,6 +49,18 @@ pub fn tasks_are_enabled_one_by_one()
 pub fn who_is_enabled_earlier_yields()
     ensures { (p : Program) → IsWellFormed p → KeepsEffects p
         → (lim : Bounds) (journal : List Entry) → Legal p lim journal → EarlierYield p lim journal }
+{}
+
+/// Who yields to another task has a lower number. So of two enabled tasks that interfere, the one with the lower number yields to
+/// the other, and was enabled before it: the order of enabling is that of the numbers, in which the tasks were made.
+pub fn who_is_made_earlier_yields()
+    ensures up { (p : Program) → IsWellFormed p → (lim : Bounds) (st : State) → IsReached p lim st
+        → (s t : ℕ) → YieldsTo st.links s t → s ≤ t }
+    ensures lower { (p : Program) → IsWellFormed p → (lim : Bounds) (st : State) → IsReached p lim st → KeepsEffects p
+        → (s t : ℕ) → s < t → HasStatus st s Enabled → HasStatus st t Enabled → Interfere st s t → YieldsTo st.links s t }
+    ensures earlier { (p : Program) → IsWellFormed p → KeepsEffects p → (lim : Bounds) (journal : List Entry) → Legal p lim journal
+        → (s t : ℕ) → HasStatus (state_after p lim journal) s Enabled → HasStatus (state_after p lim journal) t Enabled
+        → Interfere (state_after p lim journal) s t → (WasEnabledBefore p lim journal s t ↔ (s < t)) }
 {}
 
 /// To a task that is not admitted yet, those alone yield that wait for it, directly or through others. So an enabled task that
