@@ -1,7 +1,7 @@
 //! Where needs may stand among those that were found. An answer is a hint, which its user compares with what stands there.
 
 use crate::found::Found;
-use crate::opened::{Open, opened_parts};
+use crate::opened::{Open, count_indexes, has_parameter, opened_parts};
 use prefix_tree::PrefixTree;
 use std::alloc::Global;
 use std::collections::BTreeMap;
@@ -57,14 +57,26 @@ impl Index {
         self.paths.add_path(parts.as_slice())
     }
 
-    /// The numbers of the paths of a need.
+    /// The numbers of the paths of a need. For a need that stands in the list its own is enough.
     pub(crate) fn numbers(&mut self, alloc: Global, found: &Found) -> Result<PathNumbers, Memory> {
-        Ok(PathNumbers {
-            own: self.path(alloc, found, Open::Nothing)?,
-            last: self.path(alloc, found, Open::Last)?,
-            before: self.path(alloc, found, Open::Before)?,
-            shape: self.path(alloc, found, Open::All)?,
-        })
+        let own = self.path(alloc, found, Open::Nothing)?;
+        let mut numbers = PathNumbers {
+            own,
+            last: own,
+            before: own,
+            shape: own,
+        };
+        let indexes = count_indexes(found.need.elems.as_slice());
+        if indexes == 0 || self.place_of(found, own).is_some() {
+            return Ok(numbers);
+        }
+        numbers.last = self.path(alloc, found, Open::Last)?;
+        numbers.shape = numbers.last;
+        if indexes > 1 {
+            numbers.before = self.path(alloc, found, Open::Before)?;
+            numbers.shape = self.path(alloc, found, Open::All)?;
+        }
+        Ok(numbers)
     }
 
     /// Where a need of the method with this path stands that writes if the need does.
@@ -146,8 +158,8 @@ impl Index {
         Ok(())
     }
 
-    /// Notes where a need stands.
-    pub(crate) fn note(
+    /// Notes where a need without parameters stands, as one of those that may leave no room for others.
+    fn note_crowds(
         &mut self,
         alloc: Global,
         found: &Found,
@@ -179,8 +191,11 @@ impl Index {
                 place,
             )?;
         }
-        for path in [shape, last, before] {
-            if path != own {
+        if shape != own {
+            self.push(alloc, key, place)?;
+        }
+        for path in [last, before] {
+            if path != own && path != shape {
                 self.push(
                     alloc,
                     Key {
@@ -192,10 +207,26 @@ impl Index {
                 )?;
             }
         }
+        Ok(())
+    }
+
+    /// Notes where a need stands.
+    pub(crate) fn note(
+        &mut self,
+        alloc: Global,
+        found: &Found,
+        numbers: PathNumbers,
+        place: usize,
+    ) -> Result<(), Memory> {
+        if !has_parameter(found.need.elems.as_slice()) {
+            self.note_crowds(alloc, found, numbers, place)?;
+        }
+        let method = found.method;
+        let write = found.need.write;
         self.places.insert(
             Key {
                 method,
-                path: own,
+                path: numbers.own,
                 write,
             },
             place,

@@ -28,6 +28,21 @@ fn is_name(elem: Elem) -> bool {
     }
 }
 
+/// Whether the element is a parameter.
+fn is_parameter(elem: Elem) -> bool {
+    match elem {
+        Elem::Name(_) => false,
+        Elem::Index(_) => false,
+        Elem::Var(_) => true,
+        Elem::AnyIndex => false,
+    }
+}
+
+/// Whether some element is a parameter.
+pub(crate) fn has_parameter(elems: &[Elem]) -> bool {
+    elems.iter().any(|elem| is_parameter(*elem))
+}
+
 /// The element as a part of a path in the tree. Parameters and any index stand beyond the numbers of literals.
 fn part_of(elem: Elem) -> Part {
     match elem {
@@ -36,6 +51,11 @@ fn part_of(elem: Elem) -> Part {
         Elem::Var(param) => Part::Index(0x1_0000_0000 + i64::from(param)),
         Elem::AnyIndex => Part::Index(0x10_0000_0000),
     }
+}
+
+/// How many of the elements are indexes.
+pub(crate) fn count_indexes(elems: &[Elem]) -> usize {
+    elems.iter().filter(|elem| !is_name(**elem)).count()
 }
 
 /// Where the last index of the elements stands, and where the last but one. Past their end, if there is none.
