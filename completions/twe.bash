@@ -36,6 +36,11 @@ _twe_batch() {
   done
 }
 
+_twe_advise() {
+  COMPREPLY=()
+  if ((COMP_CWORD == 1)) && [[ --json == "${COMP_WORDS[1]}"* ]]; then COMPREPLY=(--json); fi
+}
+
 # A number, or no words at all.
 _twe_other() {
   COMPREPLY=()
@@ -43,4 +48,5 @@ _twe_other() {
 
 complete -F _twe twe
 complete -F _twe_batch twe_batch
-complete -F _twe_other twe_advise twe_infer twe_opt twe_profile
+complete -F _twe_advise twe_advise
+complete -F _twe_other twe_infer twe_opt twe_profile

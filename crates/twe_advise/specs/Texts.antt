@@ -8,10 +8,6 @@ use Rattle.run_advice.specs.Totals.{total_of}
 use Rattle.run_advice.specs.declared.totals.TaskTotal.{TaskTotal}
 use Rattle.run_advice.specs.declared.totals.TaskWork.{TaskWork}
 
--- the usage line of `twe_advise`
-abbrev pub advise_usage_text : List ℕ
-advise_usage_text = codes "usage: twe_advise\n"
-
 -- a number at the right of a column of 12 bytes; a longer number takes more
 abbrev pub number_column : ℕ → List ℕ
 number_column number = drop (min (length (decimal number)) 12) (codes "            ") ++ decimal number
@@ -40,10 +36,18 @@ task_row total name =
     ((number_column total.made ++ number_column total.work) ++ number_column total.heaviest)
     ++ ((codes "  " ++ name) ++ codes "\n")
 
+-- a row for each of these declarations, by its number; the first has this one
+abbrev pub rows_by : (ℕ → Decl → List ℕ) → ℕ → List Decl → List ℕ
+rows_by row number [] = []
+rows_by row number (decl ∷ decls) = row number decl ++ rows_by row (suc number) decls
+
+-- what the tasks of the declaration with this number and this name took
+abbrev pub task_row_of : List TaskWork → ℕ → Decl → List ℕ
+task_row_of works number decl = task_row (total_of number works) decl.name
+
 -- the rows of these declarations, the first of which has this number
 abbrev pub task_rows : List TaskWork → ℕ → List Decl → List ℕ
-task_rows works number [] = []
-task_rows works number (decl ∷ decls) = task_row (total_of number works) decl.name ++ task_rows works (suc number) decls
+task_rows works number decls = rows_by (task_row_of works) number decls
 
 -- the table of times
 unfoldable pub times_text : ℕ → ℕ → List ℕ
@@ -53,6 +57,6 @@ times_text work span = codes "\n     workers  least time\n" ++ flat_map (time_ro
 unfoldable pub tasks_text : List TaskWork → List Decl → List ℕ
 tasks_text works decls = codes "\n       tasks        work    heaviest  name\n" ++ task_rows works 0 decls
 
--- what is written of a run: its work, span and parallelism, the times, and the tasks
-abbrev pub advice_text : List Decl → ℕ → ℕ → List TaskWork → List ℕ
-advice_text decls work span works = (head_text work span ++ times_text work span) ++ tasks_text works decls
+-- what is written as tables: work, span and parallelism, the times, and the tasks
+abbrev pub tables_text : List Decl → ℕ → ℕ → List TaskWork → List ℕ
+tables_text decls work span works = (head_text work span ++ times_text work span) ++ tasks_text works decls

@@ -2,8 +2,11 @@
 //! text of a journal. It writes how parallel the run was, the least time with more workers, and what its tasks took.
 #![tactic(auto)]
 
+mod forms;
+mod json;
 mod text;
 mod top;
+mod words;
 
 use std::process::ExitCode;
 use top::advise_top;

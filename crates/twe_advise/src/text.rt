@@ -1,9 +1,10 @@
-//! What is written for people: lines of a head, and tables whose columns are twelve bytes wide.
+//! What is written for people: lines of a head, and tables whose columns are twelve bytes wide; and the usage line.
 ghost use Rattle.std.specs.Prelude.{◌≡◌, ◌<◌, ◌++◌, IfOk, OnOk};
 ghost use Rattle.std.specs.List.{All, flat_map};
 ghost use Rattle.run_advice.specs.Totals.{AreFew};
 ghost use Rattle.twe_advise.specs.Texts.{head_text, hundredths_text, number_column, task_rows, tasks_text, time_row, times_text, word_number};
 ghost use Rattle.twe_advise.specs.Texts as texts;
+ghost use Rattle.twe_advise.specs.Words.{advise_usage_text};
 
 use itoa::Buffer;
 use run_advice::{Advice, TaskTotal, TaskWork, parallelism_of, total_of};
@@ -14,9 +15,9 @@ use twe_program::{Decl, Prog};
 
 /// The usage line.
 pub(crate) fn usage_text(alloc: Global) -> Result<Bytes, Memory>
-    ensures { IfOk result (λ text. text ≡ texts.advise_usage_text) }
+    ensures { IfOk result (λ text. text ≡ advise_usage_text) }
 {
-    Bytes::from_slice(alloc, b"usage: twe_advise\n")
+    Bytes::from_slice(alloc, b"usage: twe_advise [--json]\n")
 }
 
 /// Appends a number at the right of a column.
@@ -32,7 +33,7 @@ fn push_column(text: &mut Bytes, number: u64) -> Result<(), Memory>
 }
 
 /// Appends a word and a number.
-fn push_number(text: &mut Bytes, word: &[u8], number: u128) -> Result<(), Memory>
+pub(crate) fn push_number(text: &mut Bytes, word: &[u8], number: u128) -> Result<(), Memory>
     ensures { OnOk result (text.new ≡ text.old ++ word_number word.now number) }
 {
     text.push_all(word)?;
@@ -40,7 +41,7 @@ fn push_number(text: &mut Bytes, word: &[u8], number: u128) -> Result<(), Memory
 }
 
 /// Appends hundredths, as `1.33`.
-fn push_hundredths(text: &mut Bytes, number: u128) -> Result<(), Memory>
+pub(crate) fn push_hundredths(text: &mut Bytes, number: u128) -> Result<(), Memory>
     ensures { OnOk result (text.new ≡ text.old ++ hundredths_text number) }
 {
     text.push_all(Buffer::new().format(number / 100).as_bytes())?;
@@ -112,11 +113,11 @@ fn push_tasks_table(text: &mut Bytes, works: &[TaskWork], decls: &[Decl]) -> Res
     push_tasks(text, works, decls)
 }
 
-/// What is written of a run of the program.
-pub(crate) fn advice_text(alloc: Global, p: &Prog, advice: &Advice) -> Result<Bytes, Memory>
+/// What is written of a run of the program, as tables.
+pub(crate) fn tables_text(alloc: Global, p: &Prog, advice: &Advice) -> Result<Bytes, Memory>
     requires { AreFew advice.now.works }
     ensures { IfOk result (λ text. text
-        ≡ texts.advice_text p.now.tasks advice.now.profile.work advice.now.profile.span advice.now.works) }
+        ≡ texts.tables_text p.now.tasks advice.now.profile.work advice.now.profile.span advice.now.works) }
 {
     let (work, span) = (advice.profile.work, advice.profile.span);
     let mut text = Bytes::new(alloc);

@@ -1,12 +1,15 @@
 //! The answer to the words and the input of a call, and the call itself, apart from where its bytes come from and go to.
-ghost use Rattle.std.specs.Prelude.{◌≡◌, ◌≤◌, ◌+◌, [], IfOk, length};
+ghost use Rattle.std.specs.Prelude.{◌≡◌, ◌≤◌, ◌+◌, IfOk, length};
 ghost use Rattle.seg_journal.specs.Spelling.{head_lines};
 ghost use Rattle.twe_base.specs.Language.{max_text_bytes};
 ghost use Rattle.twe_io.specs.Ends.{ends, ends_tell, sink, source};
 ghost use Rattle.twe_advise.specs.Answers.{AdviceCause, AdviceDue, IsAdvised};
+ghost use Rattle.twe_advise.specs.Words.{words_for};
 ghost use Rattle.twe_advise.specs.inner.Given.{AnswersEachFound, AnswersEachJournal};
 
-use crate::text::{advice_text, usage_text};
+use crate::forms::advice_text;
+use crate::text::usage_text;
+use crate::words::{Form, form_of};
 use run_advice::advise;
 use seg_journal::{JournalFail, JournalText, Limits, Move, read_journal};
 use std::alloc::Global;
@@ -31,8 +34,8 @@ fn line_of(head: Option<Limits>, n: u64, moves: &[Move]) -> u64
 }
 
 /// The answer to what was found in a journal text.
-fn answer_found(alloc: Global, p: &Prog, found: &JournalText) -> Result<Answer, Memory>
-    ensures { IfOk result (AnswersEachFound p.now found.now) }
+fn answer_found(alloc: Global, form: Form, p: &Prog, found: &JournalText) -> Result<Answer, Memory>
+    ensures { IfOk result (AnswersEachFound form p.now found.now) }
 {
     let lim = found.head.unwrap_or(Limits::default());
     let moves = found.moves.as_slice();
@@ -43,13 +46,17 @@ fn answer_found(alloc: Global, p: &Prog, found: &JournalText) -> Result<Answer, 
             Status::BadJournal,
             not_legal_text(alloc, line_of(found.head, n, moves))?,
         )),
-        Ok(advice) => Ok(Answer::on_out(alloc, Status::Done, advice_text(alloc, p, &advice)?)),
+        Ok(advice) => Ok(Answer::on_out(
+            alloc,
+            Status::Done,
+            advice_text(alloc, form, p, &advice)?,
+        )),
     }
 }
 
 /// The answer to the journal text of an input whose program is accepted.
-fn answer_journal(alloc: Global, p: &Prog, journal: &[u8]) -> Result<Answer, Memory>
-    ensures { IfOk result (AnswersEachJournal p.now journal.now) }
+fn answer_journal(alloc: Global, form: Form, p: &Prog, journal: &[u8]) -> Result<Answer, Memory>
+    ensures { IfOk result (AnswersEachJournal form p.now journal.now) }
 {
     match read_journal(alloc, journal) {
         Err(JournalFail::OutOfMemory(memory)) => Err(memory),
@@ -58,14 +65,14 @@ fn answer_journal(alloc: Global, p: &Prog, journal: &[u8]) -> Result<Answer, Mem
             Status::BadJournal,
             not_a_move_text(alloc, n)?,
         )),
-        Ok(found) => answer_found(alloc, p, &found),
+        Ok(found) => answer_found(alloc, form, p, &found),
     }
 }
 
 /// The answer to an input.
-fn answer_text(alloc: Global, text: &[u8]) -> Result<Answer, Memory>
+fn answer_text(alloc: Global, form: Form, text: &[u8]) -> Result<Answer, Memory>
     requires { length text.now ≤ max_text_bytes }
-    ensures { IfOk result (AdviceDue text.now) }
+    ensures { IfOk result (AdviceDue form text.now) }
 {
     let (program, journal) = cut_input(text);
     match read_program(alloc, program) {
@@ -75,17 +82,17 @@ fn answer_text(alloc: Global, text: &[u8]) -> Result<Answer, Memory>
             Status::Refused,
             refusal_text(alloc, refusal)?,
         )),
-        Ok(p) => answer_journal(alloc, &p, journal),
+        Ok(p) => answer_journal(alloc, form, &p, journal),
     }
 }
 
-/// The answer to the input that the source gives.
-fn answer_source<S: Source>(alloc: Global, src: &mut S) -> Result<Answer, Memory>
-    ensures { IfOk result (AdviceCause (source S.left S.faults S.read_gives) [] src.old src.new) }
+/// The answer to the words for this form: the source is read, and its text is answered.
+fn answer_source<S: Source>(alloc: Global, form: Form, src: &mut S) -> Result<Answer, Memory>
+    ensures { IfOk result (AdviceCause (source S.left S.faults S.read_gives) (words_for form) src.old src.new) }
 {
     let input = read_input(alloc, src)?;
     match input {
-        Input::Given(text) => answer_text(alloc, text.as_slice()),
+        Input::Given(text) => answer_text(alloc, form, text.as_slice()),
         Input::Failed(answer) => Ok(answer),
     }
 }
@@ -94,17 +101,17 @@ fn answer_source<S: Source>(alloc: Global, src: &mut S) -> Result<Answer, Memory
 fn answer<S: Source>(alloc: Global, words: &[Word], src: &mut S) -> Result<Answer, Memory>
     ensures { IfOk result (AdviceCause (source S.left S.faults S.read_gives) words.now src.old src.new) }
 {
-    match words {
-        [] => answer_source(alloc, src),
-        [_, ..] => Ok(Answer::on_err(alloc, Status::Usage, usage_text(alloc)?)),
+    match form_of(words) {
+        Some(form) => answer_source(alloc, form, src),
+        None => Ok(Answer::on_err(alloc, Status::Usage, usage_text(alloc)?)),
     }
 }
 
 /// Reads the text of a program from the source, and after the first line that is exactly `%%` the text of a journal, and writes
-/// what the run of that journal could gain. Without such a line the journal is empty. A journal may be unfinished or stuck, or
+/// what the run of that journal could gain, as tables or as JSON. Without such a line the journal is empty. A journal may be unfinished or stuck, or
 /// end with a fault.
 ///
-/// `Answers` says what each status means and what is written with it. The program takes no words: if there is one, the answer
+/// `Answers` says what each status means and what is written with it. If there are words other than `--json` alone, the answer
 /// is the usage line, and nothing is read from the source. After `Memory` nothing was written.
 pub fn advise_top<S: Source, O: Sink, E: Sink>(
     alloc: Global,

@@ -12,13 +12,13 @@ returns-in-Given g c =
     let src = source g.S.Source.left g.S.Source.faults g.S.Source.read_gives in
     let was = subst (λ (i : Input). IsInput src c.args.src.now c.read_input.new.src i) c.in-Given.is c.in_ok-input.ensures in
     let text = subst (λ (t : List ℕ). WasRead src c.args.src.now (Ok t) c.read_input.new.src) (sym c.as_slice.ensures) was in
-    cause_given src c.args.src.now c.read_input.new.src c.as_slice.result.now c.answer_text.result text c.answer_text.ensures
+    cause_given src c.args.form c.args.src.now c.read_input.new.src c.as_slice.result.now c.answer_text.result text c.answer_text.ensures
 
 -- or why none could be read
 pub returns-in-Failed : goal.returns-in-Failed
 returns-in-Failed g c =
     let src = source g.S.Source.left g.S.Source.faults g.S.Source.read_gives in
-    AdviceCause.not_read refl (subst (λ (i : Input). IsInput src c.args.src.now c.read_input.new.src i) c.in-Failed.is c.in_ok-input.ensures)
+    AdviceCause.not_read c.args.form refl (subst (λ (i : Input). IsInput src c.args.src.now c.read_input.new.src i) c.in-Failed.is c.in_ok-input.ensures)
 
 -- what was read is short enough
 pub answer_text-requires : goal.answer_text-requires
