@@ -79,6 +79,12 @@ module _ {X Y : Type 0} (R : X → Y → Type 0) (weight_x : X → ℕ) (weight_
   reached_forth span ends (inl none) = inl none
   reached_forth span ends (inr last) = inr (last.0, (let less = last.1 in omega (arith, less, as_many)), last.2)
 
+  tight_forth : (entry : ℕ) (starts ends : List ℕ)
+      → (slice_index starts entry ≡ 0) ⊎ ((before : ℕ) × (before < length xs) × Leads LeadsX xs before entry × (slice_index ends before ≡ slice_index starts entry))
+      → (slice_index starts entry ≡ 0) ⊎ ((before : ℕ) × (before < length ys) × Leads LeadsY ys before entry × (slice_index ends before ≡ slice_index starts entry))
+  tight_forth entry starts ends (inl none) = inl none
+  tight_forth entry starts ends (inr last) = inr (last.0, (let less = last.1 in omega (arith, less, as_many)), leads_forth last.0 entry last.2, last.3)
+
   pub earliest_forth : (span : ℕ) (starts ends : List ℕ) → AreEarliest (Leads LeadsX xs) (weight_at weight_x xs) (length xs) span starts ends
       → AreEarliest (Leads LeadsY ys) (weight_at weight_y ys) (length ys) span starts ends
   earliest_forth span starts ends is = record {
@@ -87,6 +93,7 @@ module _ {X Y : Type 0} (R : X → Y → Type 0) (weight_x : X → ℕ) (weight_
     takes = λ entry less. (let takes = is.takes entry (omega (arith, less, as_many)) in let same = weight_found xs ys entry all in omega (arith, takes, same));
     some = λ entry less. (let some = is.some entry (omega (arith, less, as_many)) in let same = weight_found xs ys entry all in omega (arith, some, same));
     ordered = λ entry next less below leads. is.ordered entry next (omega (arith, less, as_many)) (omega (arith, below, as_many)) (leads_back entry next leads);
+    tight = λ entry less. tight_forth entry starts ends (is.tight entry (omega (arith, less, as_many)));
     within = λ entry less. is.within entry (omega (arith, less, as_many));
     reached = reached_forth span ends is.reached;
   }

@@ -1,9 +1,11 @@
 //! What is written of a run, in the form that is asked for.
-ghost use Rattle.std.specs.Prelude.{◌≡◌, IfOk};
+ghost use Rattle.std.specs.Prelude.{◌≡◌, ◌<◌, IfOk};
+ghost use Rattle.std.specs.List.{All};
 ghost use Rattle.run_advice.specs.Totals.{AreFew};
 ghost use Rattle.twe_advise.specs.Forms as forms;
 
 use crate::json::json_text;
+use crate::paces::Pace;
 use crate::text::tables_text;
 use crate::words::Form;
 use run_advice::Advice;
@@ -17,13 +19,15 @@ pub(crate) fn advice_text(
     form: Form,
     p: &Prog,
     advice: &Advice,
+    paces: &[Pace],
 ) -> Result<Bytes, Memory>
-    requires { AreFew advice.now.works }
+    requires few { AreFew advice.now.works }
+    requires some { All (λ pace. 0 < pace.workers) paces.now }
     ensures { IfOk result (λ text. text
-        ≡ forms.advice_text form p.now.tasks advice.now.profile.work advice.now.profile.span advice.now.works) }
+        ≡ forms.advice_text form p.now.tasks advice.now.profile.work advice.now.profile.span paces.now advice.now.works) }
 {
     match form {
-        Form::Tables => tables_text(alloc, p, advice),
-        Form::Json => json_text(alloc, p, advice),
+        Form::Tables => tables_text(alloc, p, advice, paces),
+        Form::Json => json_text(alloc, p, advice, paces),
     }
 }

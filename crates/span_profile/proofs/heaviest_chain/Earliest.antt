@@ -2,6 +2,7 @@
 use Rattle.std.proofs.Common.{◌≡◌, ◌<◌, ◌≤◌, ◌+◌, ◌⊎◌, inl, inr, ℕ, zero, suc, List, [], ◌∷◌, length, map, Option, None, Some, refl, sym, ap, ◌∙◌, subst, arith}
 use Rattle.std.specs.Prelude.{slice_get, slice_index}
 use Rattle.std.proofs.lemmas.List.{length-map}
+use Rattle.std.proofs.lemmas.Option.{slice_get_within}
 use Rattle.schedule_bounds.specs.Timetables.{AreEarliest}
 use Rattle.span_profile.specs.declared.heaviest_chain.top.Best.{Best}
 use Rattle.span_profile.specs.declared.heaviest_chain.top.Top.{Top}
@@ -60,6 +61,12 @@ module _ (nodes : List Node) (chains : BestChains) (h : FrontHolds nodes chains)
   weight_is : (entry : ℕ) (less : entry < length nodes) → weight_at weight_of nodes entry ≡ (times_of entry less).1.node.weight
   weight_is entry less = ap (λ (n : Option Node). weight_of_found weight_of n) (times_of entry less).1.there
 
+  tight_by : (entry : ℕ) (top : Option Top) → IsTop bests (λ before. Leads SharesKey nodes before entry) top → (start : ℕ) → start ≡ weight_before top
+      → (start ≡ 0) ⊎ ((before : ℕ) × (before < length nodes) × Leads SharesKey nodes before entry × (slice_index ends before ≡ start))
+  tight_by entry None none start is = inl is
+  tight_by entry (Some top) is_top start is =
+      inr (top.node, slice_get_within nodes top.node is_top.has.first is_top.has.at_first, is_top.has, end_at bests top.node ∙ (is_top.weight_is ∙ sym is))
+
   reached_by : (top : Option Top) → IsHighest bests top → (weight_before top ≡ 0) ⊎ ((entry : ℕ) × (entry < length nodes) × (slice_index ends entry ≡ weight_before top))
   reached_by None none = inl refl
   reached_by (Some top) is =
@@ -81,6 +88,7 @@ module _ (nodes : List Node) (chains : BestChains) (h : FrontHolds nodes chains)
         let end = end_at bests entry in
         let start = starts_at next below in
         omega (arith, no_more, end, start);
+    tight = λ entry less. (let at = times_of entry less in tight_by entry at.1.top at.1.is_top (slice_index starts entry) (starts_at entry less));
     within = λ entry less.
         let count = h.count in
         let no_more = no_heavier bests (λ node. node < length bests) top entry highest (omega (arith, less, count)) in
