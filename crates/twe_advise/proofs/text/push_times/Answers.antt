@@ -14,4 +14,4 @@ loop-pace-preserved c =
     c.in_ok-push_time.ensures
     ∙ (ap (λ (l : List ℕ). l ++ f (get_or paces i none)) c.loop-pace.invariant
     ∙ (flat_map_more f c.args.text.now (take i paces) (get_or paces i none)
-    ∙ ap (λ (l : List ℕ). c.args.text.now ++ flat_map f l) (sym (take_more paces i none c.loop-pace-test.true))))
+    ∙ ap (λ (l : List Pace). c.args.text.now ++ flat_map f l) (sym (take_more paces i none c.loop-pace-test.true))))
