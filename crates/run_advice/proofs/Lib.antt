@@ -1,4 +1,5 @@
 pub mod CountedParts
 pub mod SmallWorks
+pub mod PacedRuns
 pub mod Speed
 pub mod TaskTotals

@@ -24,7 +24,7 @@ sum_from_front : (f : ℕ → ℕ) (n : ℕ) → sum_below f (suc n) ≡ f 0 + s
 sum_from_front f zero = omega arith
 sum_from_front f (suc n) = let before = sum_from_front f n in omega (arith, before)
 
-sum_of_list : {X : Type 0} (weight : X → ℕ) (xs : List X) → sum_below (weight_at weight xs) (length xs) ≡ sum_by weight xs
+pub sum_of_list : {X : Type 0} (weight : X → ℕ) (xs : List X) → sum_below (weight_at weight xs) (length xs) ≡ sum_by weight xs
 sum_of_list weight [] = refl
 sum_of_list weight (x ∷ xs) =
     let front = sum_from_front (weight_at weight (x ∷ xs)) (length xs) in

@@ -7,6 +7,7 @@ use Rattle.span_profile.specs.LeadsTo.{LeadsTo}
 use Rattle.span_profile.specs.Strands.{strands, weight_of}
 use Rattle.span_profile.specs.heaviest_chain.Chains.{Leads, weight_at}
 use Rattle.schedule_bounds.specs.Schedules.{IsGreedy, IsSchedule, length_of}
+use Rattle.schedule_bounds.specs.Timetables.{IsTimetable, Slot}
 
 -- the weight of the entry of this number
 abbrev pub entry_weight : Program → Bounds → List Entry → ℕ → ℕ
@@ -29,3 +30,8 @@ IsGreedyRun p lim journal workers start =
 -- the time that a schedule of the entries takes
 abbrev pub run_time : Program → Bounds → List Entry → (ℕ → ℕ) → ℕ
 run_time p lim journal start = length_of (entry_weight p lim journal) start (length (strands p lim journal))
+
+-- a timetable of the entries on so many workers: what leads to another ends before that starts
+abbrev pub IsRunTimetable : Program → Bounds → List Entry → ℕ → List Slot → Type 0
+IsRunTimetable p lim journal workers slots =
+    IsTimetable (EntryLeads p lim journal) (entry_weight p lim journal) (length (strands p lim journal)) workers slots

@@ -10,5 +10,5 @@ mod laws;
 mod totals;
 
 pub use advising::{Advice, advise, parallelism_of};
-pub use laws::{greedy_workers_are_fast, no_workers_are_faster};
+pub use laws::{greedy_workers_are_fast, no_workers_are_faster, paced_workers_are_fast};
 pub use totals::{TaskTotal, TaskWork, total_of};

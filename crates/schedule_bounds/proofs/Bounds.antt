@@ -1,15 +1,15 @@
 -- How long schedules take: no less than a chain, no less than the work shared out, and if greedy no more than both.
-use Rattle.std.proofs.Common.{◌≡◌, ◌<◌, ◌≤◌, ◌+◌, ◌-◌, ◌*◌, ◌/◌, ◌⊎◌, inl, inr, ℕ, zero, suc, Bool, true, false, List, [], ◌∷◌, ◌++◌, refl, sym, ap, ◌∙◌, arith, min, max}
-use Rattle.std.specs.Prelude.{◌&&◌, nat_le, nat_lt, if◌then◌else◌}
+use Rattle.std.proofs.Common.{◌≡◌, ◌<◌, ◌≤◌, ◌+◌, ◌-◌, ◌*◌, ◌⊎◌, inl, inr, ℕ, zero, suc, Bool, List, [], ◌∷◌, ◌++◌, refl, ap, ◌∙◌, arith, min}
+use Rattle.std.specs.Prelude.{nat_le, nat_lt, if◌then◌else◌}
 use Rattle.std.specs.List.{sum_by}
 use Rattle.std.proofs.Math.Nat.{mul-le-mul_left}
 use Rattle.std.specs.Int.{div_ceil}
 use Rattle.std.proofs.lemmas.Grind.{div_ceil_times}
 use Rattle.std.proofs.lemmas.Nat.{mul-le}
-use Rattle.std.proofs.lemmas.Bool.{and_from, and_left, and_right, cases_lt, cases_order, le-leb, lt-leb, lt-ltb, le-ltb}
+use Rattle.std.proofs.lemmas.Bool.{and_from, and_left, and_right, cases_lt, le-leb, lt-leb, lt-ltb, le-ltb}
 use Rattle.std.proofs.lemmas.List.Sums.{sum_by-cons, sum_by_push}
 use Rattle.schedule_bounds.specs.Chains.{ComesInOrder, LeadsForward, SpanIsAtMost, SpanIsReached}
-use Rattle.schedule_bounds.specs.Schedules.{IsGreedy, IsSchedule, Waits, least_time, length_of, running, runs_in}
+use Rattle.schedule_bounds.specs.Schedules.{IsGreedy, IsSchedule, least_time, length_of, running, runs_in}
 use Rattle.schedule_bounds.specs.Sums.{sum_below}
 
 -- the step counts as one if the entry runs in it
@@ -27,7 +27,7 @@ in_between start weight step here there =
     ap one_if (and_from (nat_le start step) (nat_lt step (start + weight)) (le-leb start step here) (lt-ltb step (start + weight) there))
 
 -- in how many of the first steps an entry runs
-steps_run : (start weight time : ℕ) → sum_below (λ step. one_if (runs_in start weight step)) time ≡ min (time - start) weight
+pub steps_run : (start weight time : ℕ) → sum_below (λ step. one_if (runs_in start weight step)) time ≡ min (time - start) weight
 steps_run start weight zero = omega arith
 steps_run start weight (suc time) =
     let before = steps_run start weight time in
@@ -40,11 +40,11 @@ steps_run start weight (suc time) =
     ]
 
 -- sums of sums
-sum_of_none : (n : ℕ) → sum_below (λ i. 0) n ≡ 0
+pub sum_of_none : (n : ℕ) → sum_below (λ i. 0) n ≡ 0
 sum_of_none zero = refl
 sum_of_none (suc n) = let before = sum_of_none n in omega (arith, before)
 
-sum_of_both : (f g : ℕ → ℕ) (n : ℕ) → sum_below (λ i. f i + g i) n ≡ sum_below f n + sum_below g n
+pub sum_of_both : (f g : ℕ → ℕ) (n : ℕ) → sum_below (λ i. f i + g i) n ≡ sum_below f n + sum_below g n
 sum_of_both f g zero = refl
 sum_of_both f g (suc n) = let before = sum_of_both f g n in omega (arith, before)
 
@@ -53,11 +53,11 @@ sums_swap f zero m = sum_of_none m
 sums_swap f (suc n) m =
     sum_of_both (λ j. sum_below (λ i. f i j) n) (λ j. f n j) m ∙ ap (λ (x : ℕ). x + sum_below (λ j. f n j) m) (sums_swap f n m)
 
-sum_within : (f g : ℕ → ℕ) (n : ℕ) → ((i : ℕ) → f i ≤ g i) → sum_below f n ≤ sum_below g n
+pub sum_within : (f g : ℕ → ℕ) (n : ℕ) → ((i : ℕ) → f i ≤ g i) → sum_below f n ≤ sum_below g n
 sum_within f g zero each = omega arith
 sum_within f g (suc n) each = let before = sum_within f g n each in let this = each n in omega (arith, before, this)
 
-sum_of_same : (k n : ℕ) → sum_below (λ i. k) n ≡ k * n
+pub sum_of_same : (k n : ℕ) → sum_below (λ i. k) n ≡ k * n
 sum_of_same k zero = omega arith
 sum_of_same k (suc n) = let before = sum_of_same k n in omega (arith, before)
 
@@ -88,7 +88,7 @@ zero_or_more zero = inl refl
 zero_or_more (suc n) = inr (omega arith)
 
 -- the quotient rounded up is the least number of which so many are enough
-quotient_least : (number by time : ℕ) → 0 < by → number ≤ by * time → div_ceil number by ≤ time
+pub quotient_least : (number by time : ℕ) → 0 < by → number ≤ by * time → div_ceil number by ≤ time
 quotient_least number by time some enough = elim (cases_lt time (div_ceil number by)) [
   | inl more ↦ (
       let below = (div_ceil_times number by some).1 in

@@ -1,1 +1,4 @@
 pub mod Bounds
+pub mod Paced
+pub mod PacedTimes
+pub mod OneMore

@@ -1,7 +1,6 @@
 -- Entries in an order in which what leads to another comes before it.
-use Rattle.std.specs.Prelude.{◌≡◌, ◌<◌, ◌≤◌, ◌==◌, ℕ, List, [], length, slice_index, slice_index_or}
-use Rattle.std.specs.List.{Contains, count_by}
-use Rattle.schedule_bounds.specs.Sums.{sum_below}
+use Rattle.std.specs.Prelude.{ℕ, List, [], length, slice_index, slice_index_or}
+use Rattle.std.specs.List.{Contains}
 use Rattle.schedule_bounds.specs.declared.graph.Graph.{Graph}
 
 -- the weight of an entry

@@ -1,9 +1,10 @@
 //! The laws of schedules.
-ghost use Rattle.std.specs.Prelude.{◌≤◌, ◌<◌, ◌+◌, ◌*◌, ℕ};
+ghost use Rattle.std.specs.Prelude.{◌≡◌, ◌≤◌, ◌<◌, ◌+◌, ◌*◌, ℕ, List};
 ghost use Rattle.schedule_bounds.specs.Chains.{LeadsForward, SpanIsAtMost, SpanIsReached};
 ghost use Rattle.schedule_bounds.specs.Graphs.{LeadsIn, entry_count, weight_in};
 ghost use Rattle.schedule_bounds.specs.Schedules.{IsGreedy, IsSchedule, least_time, length_of};
 ghost use Rattle.schedule_bounds.specs.Sums.{sum_below};
+ghost use Rattle.schedule_bounds.specs.Timetables.{AreEarliest, IsPacedTime, IsTimetable, Slot, time_of};
 ghost use Rattle.schedule_bounds.specs.declared.graph.Graph.{Graph as AnyGraph};
 
 /// No schedule that keeps the order is shorter than the span, nor than the work shared out to all processors.
@@ -23,4 +24,19 @@ pub fn a_greedy_schedule_is_short()
         → SpanIsAtMost (LeadsIn graph) (weight_in graph) (entry_count graph) span
         → processors * length_of (weight_in graph) start (entry_count graph)
         ≤ sum_below (weight_in graph) (entry_count graph) + processors * span }
+{}
+
+/// The paced timetable of entries is one: what leads to another ends before that starts, and no step has more entries than there are
+/// processors. It takes no less than the least time, and no more than the work shared out to all processors, and the span.
+pub fn a_paced_timetable_is_short()
+    ensures keeps { (graph : AnyGraph) (span : ℕ) (starts ends : List ℕ) (processors time : ℕ)
+        → AreEarliest (LeadsIn graph) (weight_in graph) (entry_count graph) span starts ends → IsPacedTime starts ends processors time
+        → (slots : List Slot) × IsTimetable (LeadsIn graph) (weight_in graph) (entry_count graph) processors slots
+        × (time ≡ time_of slots) }
+    ensures least { (graph : AnyGraph) (span : ℕ) (starts ends : List ℕ) (processors time : ℕ)
+        → AreEarliest (LeadsIn graph) (weight_in graph) (entry_count graph) span starts ends → IsPacedTime starts ends processors time
+        → 0 < processors → least_time (sum_below (weight_in graph) (entry_count graph)) span processors ≤ time }
+    ensures short { (graph : AnyGraph) (span : ℕ) (starts ends : List ℕ) (processors time : ℕ)
+        → AreEarliest (LeadsIn graph) (weight_in graph) (entry_count graph) span starts ends → IsPacedTime starts ends processors time
+        → processors * time ≤ sum_below (weight_in graph) (entry_count graph) + processors * span }
 {}

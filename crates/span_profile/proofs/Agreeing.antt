@@ -1,8 +1,10 @@
--- Two lists of elements that correspond, weigh the same and lead to one another alike have the same heaviest chain.
-use Rattle.std.proofs.Common.{◌≡◌, ℕ, zero, suc, List, [], ◌∷◌, length, refl, sym, ◌∙◌, arith}
-use Rattle.std.specs.Prelude.{slice_get, sum_by}
+-- Two lists of elements that correspond, weigh the same and lead to one another alike have the same heaviest chain, and the same
+-- earliest times.
+use Rattle.std.proofs.Common.{◌≡◌, ◌<◌, ◌+◌, ◌⊎◌, inl, inr, ℕ, zero, suc, List, [], ◌∷◌, length, refl, sym, ap, ◌∙◌, subst, arith}
+use Rattle.std.specs.Prelude.{slice_get, slice_index, sum_by}
 use Rattle.std.specs.List.{AllZip}
 use Rattle.std.proofs.lemmas.List.Sums.{sum_by-cons}
+use Rattle.schedule_bounds.specs.Timetables.{AreEarliest}
 use Rattle.span_profile.specs.heaviest_chain.Chains.{IsChain, IsHeaviest, Leads, chain_weight, weight_at, weight_of_found}
 use Rattle.span_profile.proofs.Lists.{zip_first, zip_length, zip_second}
 
@@ -70,4 +72,28 @@ module _ {X Y : Type 0} (R : X → Y → Type 0) (weight_x : X → ℕ) (weight_
     span_is = sym (weight_same chain) ∙ is.span_is;
     heaviest = λ other chain_is. (let most = is.heaviest other (chain_back other chain_is) in omega (arith, most, weight_same other));
     lowest = λ other chain_is weighs. is.lowest other (chain_back other chain_is) (weight_same other ∙ weighs);
+  }
+
+  reached_forth : (span : ℕ) (ends : List ℕ) → (span ≡ 0) ⊎ ((entry : ℕ) × (entry < length xs) × (slice_index ends entry ≡ span))
+      → (span ≡ 0) ⊎ ((entry : ℕ) × (entry < length ys) × (slice_index ends entry ≡ span))
+  reached_forth span ends (inl none) = inl none
+  reached_forth span ends (inr last) = inr (last.0, (let less = last.1 in omega (arith, less, as_many)), last.2)
+
+  tight_forth : (entry : ℕ) (starts ends : List ℕ)
+      → (slice_index starts entry ≡ 0) ⊎ ((before : ℕ) × (before < length xs) × Leads LeadsX xs before entry × (slice_index ends before ≡ slice_index starts entry))
+      → (slice_index starts entry ≡ 0) ⊎ ((before : ℕ) × (before < length ys) × Leads LeadsY ys before entry × (slice_index ends before ≡ slice_index starts entry))
+  tight_forth entry starts ends (inl none) = inl none
+  tight_forth entry starts ends (inr last) = inr (last.0, (let less = last.1 in omega (arith, less, as_many)), leads_forth last.0 entry last.2, last.3)
+
+  pub earliest_forth : (span : ℕ) (starts ends : List ℕ) → AreEarliest (Leads LeadsX xs) (weight_at weight_x xs) (length xs) span starts ends
+      → AreEarliest (Leads LeadsY ys) (weight_at weight_y ys) (length ys) span starts ends
+  earliest_forth span starts ends is = record {
+    starts_count = is.starts_count ∙ as_many;
+    ends_count = is.ends_count ∙ as_many;
+    takes = λ entry less. (let takes = is.takes entry (omega (arith, less, as_many)) in let same = weight_found xs ys entry all in omega (arith, takes, same));
+    some = λ entry less. (let some = is.some entry (omega (arith, less, as_many)) in let same = weight_found xs ys entry all in omega (arith, some, same));
+    ordered = λ entry next less below leads. is.ordered entry next (omega (arith, less, as_many)) (omega (arith, below, as_many)) (leads_back entry next leads);
+    tight = λ entry less. tight_forth entry starts ends (is.tight entry (omega (arith, less, as_many)));
+    within = λ entry less. is.within entry (omega (arith, less, as_many));
+    reached = reached_forth span ends is.reached;
   }

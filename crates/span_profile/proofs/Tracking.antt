@@ -4,7 +4,8 @@ use Rattle.std.specs.Prelude.{◌||◌, slice_get, sum_by}
 use Rattle.std.specs.List.{AllZip}
 use Rattle.std.proofs.lemmas.List.Sums.{sum_by_push}
 use Rattle.span_profile.specs.heaviest_chain.Built.{HasRoom, FrontHolds}
-use Rattle.span_profile.specs.heaviest_chain.Chains.{IsHeaviest}
+use Rattle.schedule_bounds.specs.Timetables.{AreEarliest}
+use Rattle.span_profile.specs.heaviest_chain.Chains.{IsHeaviest, Leads, weight_at}
 use Rattle.span_profile.specs.heaviest_chain.Nodes.{Node, SharesKey}
 use Rattle.span_profile.specs.heaviest_chain.Nodes as chain_nodes
 use Rattle.span_profile.specs.declared.heaviest_chain.chains.Chains.{Chains}
@@ -42,7 +43,7 @@ use Rattle.span_profile.specs.inner.Sets.{NumberSet, no_cells}
 use Rattle.span_profile.specs.inner.Shows.{Shows}
 use Rattle.span_profile.specs.inner.Tracked.{IsTracked, has_fault}
 use Rattle.span_profile.specs.inner.Watch.{read_by, written_by}
-use Rattle.span_profile.proofs.Agreeing.{heaviest_forth, sum_same}
+use Rattle.span_profile.proofs.Agreeing.{earliest_forth, heaviest_forth, sum_same}
 use Rattle.span_profile.proofs.Counted.{all_counted, counted_legal, counted_more, counted_stays, has_fault_more, strands_more}
 use Rattle.span_profile.proofs.FuelTaken.{work_fits}
 use Rattle.span_profile.proofs.Lists.{zip_push}
@@ -244,3 +245,11 @@ pub profile_is : (p : Program) (lim : Bounds) (run : Tracked) (t : IsTracked p l
 profile_is p lim run t work span chain is =
     heaviest_forth (Shows t.places.nodes) chain_nodes.weight_of weight_of SharesKey LeadsTo (λ x y s. s.weight) (λ x y a b r s shared. shared_leads t.places.nodes x y a b r s shared)
     (λ x y a b r s leads. leads_shared t.places.nodes x y a b r s leads) t.nodes (strands p lim (counted run.journal)) t.shows work span chain is
+
+-- and so are the earliest times
+pub earliest_is : (p : Program) (lim : Bounds) (run : Tracked) (t : IsTracked p lim run) (span : ℕ) (starts ends : List ℕ)
+    → AreEarliest (Leads SharesKey t.nodes) (weight_at chain_nodes.weight_of t.nodes) (length t.nodes) span starts ends
+    → AreEarliest (Leads LeadsTo (strands p lim (counted run.journal))) (weight_at weight_of (strands p lim (counted run.journal))) (length (strands p lim (counted run.journal))) span starts ends
+earliest_is p lim run t span starts ends is =
+    earliest_forth (Shows t.places.nodes) chain_nodes.weight_of weight_of SharesKey LeadsTo (λ x y s. s.weight) (λ x y a b r s shared. shared_leads t.places.nodes x y a b r s shared)
+    (λ x y a b r s leads. leads_shared t.places.nodes x y a b r s leads) t.nodes (strands p lim (counted run.journal)) t.shows span starts ends is

@@ -1,5 +1,6 @@
 pub mod Adding
 pub mod Back
+pub mod Earliest
 pub mod FrontLemmas
 pub mod Givers
 pub mod HighestChain

@@ -8,7 +8,7 @@ ghost use Rattle.twe_machine.specs.Moves.{move_result};
 ghost use Rattle.twe_machine.specs.Replays.{IsFirstIllegal};
 ghost use Rattle.twe_machine.specs.Runs.{IsReached, is_fault};
 ghost use Rattle.twe_program.specs.Program.{cell_count};
-ghost use Rattle.span_profile.specs.Profiles.{IsProfile};
+ghost use Rattle.span_profile.specs.Profiles.{HasEarliest, IsProfile};
 ghost use Rattle.span_profile.specs.heaviest_chain.Built.{HasRoom, FrontHolds};
 ghost use Rattle.span_profile.specs.heaviest_chain.Nodes.{Nodes};
 ghost use Rattle.span_profile.specs.inner.Deeds.{DidMove, node_of};
@@ -176,11 +176,12 @@ fn advance(
     }
 }
 
-/// The work and the span of a run of the program under these limits that makes these moves, and its heaviest chain. Entries are
-/// numbered from 0. Those after the first fault do not count, but their moves have to be legal too. If the moves are not all
+/// The work and the span of a run of the program under these limits that makes these moves, its heaviest chain, and the earliest
+/// times of its entries. Entries are numbered from 0. Those after the first fault do not count, but their moves have to be legal too. If the moves are not all
 /// legal, it returns the number of the first that is not, counted from 1, and why it is not.
 pub fn profile(alloc: Global, p: &Prog, lim: Limits, moves: &[Move]) -> Result<Heaviest, ReplayFail>
     ensures profiled { IfOk result (λ h. IsProfile p.now lim moves.now h.work h.span h.chain) }
+    ensures earliest { IfOk result (λ h. HasEarliest p.now lim moves.now h.span h.starts h.ends) }
     ensures illegal { (n : ℕ) (why : Reason) → IsErrOf result (Illegal n why) → IsFirstIllegal p.now lim moves.now n why }
 {
     let mut run = Tracked::start(alloc, p, lim)?;

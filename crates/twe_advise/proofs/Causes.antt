@@ -18,12 +18,16 @@ use Rattle.twe_io.specs.declared.status.Status.TheVariants.{Done, BadJournal}
 use Rattle.twe_io.specs.Answers.{on_err, on_out}
 use Rattle.twe_io.specs.Ends.{SourceTells, WasRead}
 use Rattle.run_advice.specs.Advice.{IsAdvice}
-use Rattle.run_advice.specs.declared.totals.TaskWork.{TaskWork}
+use Rattle.run_advice.specs.declared.advising.Advice.{Advice}
+use Rattle.span_profile.specs.Profiles.{HasEarliest}
+use Rattle.twe_program.specs.declared.program.Decl.{Decl}
+use Rattle.twe_advise.specs.declared.paces.Pace.{Pace}
+use Rattle.twe_advise.specs.Paces.{ArePaces, worker_counts}
 use Rattle.twe_advise.specs.Answers.{AdviceCause, AdviceDue}
 use Rattle.twe_advise.specs.declared.words.Form.{Form}
 use Rattle.twe_advise.specs.Forms.{advice_text}
 use Rattle.twe_advise.specs.Words.{words_for}
-use Rattle.twe_advise.specs.inner.Given.{AnswersEachFound, AnswersEachJournal}
+use Rattle.twe_advise.specs.inner.Given.{AdvisedBy, AnswersEachFound, AnswersEachJournal}
 
 -- the answer to a text that was read
 pub cause_given : {S : Type 0} (tells : SourceTells S) (form : Form) (before after : S) (text : List ℕ) (made : Result Answer out_of.Memory)
@@ -53,12 +57,27 @@ abbrev LimitedBy : JournalText → Bounds → Type 0
 LimitedBy found lim = lim ≡ limits_with found.head default_limits
 
 -- legal moves have their advice written
-pub found_advised : (form : Form) (p : Program) (found : JournalText) (lim : Bounds) (moves : List Move) (work span : ℕ) (chain : List ℕ) (works : List TaskWork) (answer : Answer) → LimitedBy found lim
-    → moves ≡ found.moves → IsAdvice p lim moves work span chain works → answer ≡ on_out Done (advice_text form p.tasks work span works) → AnswersEachFound form p found answer
-found_advised form p found lim moves work span chain works answer limits all advice is text accepted spelled =
-    subst (AdviceDue form text) (sym is)
-    (AdviceDue.advised p found.head found.moves work span chain works accepted spelled
-    (subst (λ (l : List Move). IsAdvice p (limits_with found.head default_limits) l work span chain works) all (subst (λ (b : Bounds). IsAdvice p b moves work span chain works) limits advice)))
+pub found_advised : (form : Form) (p : Program) (found : JournalText) (lim : Bounds) (moves : List Move) (advice : Advice) (answer : Answer) → LimitedBy found lim → moves ≡ found.moves
+    → IsAdvice p lim moves advice.profile.work advice.profile.span advice.profile.chain advice.works → HasEarliest p lim moves advice.profile.span advice.profile.starts advice.profile.ends
+    → AdvisedBy form p.tasks advice answer → AnswersEachFound form p found answer
+found_advised form p found lim moves advice answer limits all is early advised text accepted spelled =
+    let h = advice.profile in
+    let works = advice.works in
+    subst (AdviceDue form text) (sym advised.2)
+    (AdviceDue.advised p found.head found.moves h.work h.span h.chain works h.starts h.ends advised.0 accepted spelled
+    (subst (λ (l : List Move). IsAdvice p (limits_with found.head default_limits) l h.work h.span h.chain works) all (subst (λ (b : Bounds). IsAdvice p b moves h.work h.span h.chain works) limits is))
+    (subst (λ (l : List Move). HasEarliest p (limits_with found.head default_limits) l h.span h.starts h.ends) all (subst (λ (b : Bounds). HasEarliest p b moves h.span h.starts h.ends) limits early))
+    advised.1)
+
+-- the parts of an answer with advice
+pub advised_by : (form : Form) (decls : List Decl) (advice : Advice) (starts ends : List ℕ) (paces slice : List Pace) (text : List ℕ) (answer : Answer) → starts ≡ advice.profile.starts → ends ≡ advice.profile.ends
+    → ArePaces starts ends worker_counts paces → slice ≡ paces → text ≡ advice_text form decls advice.profile.work advice.profile.span slice advice.works → answer ≡ on_out Done text
+    → AdvisedBy form decls advice answer
+advised_by form decls advice starts ends paces slice text answer starts_are ends_are are same is answer_is = (
+  paces,
+  subst (λ (s : List ℕ). ArePaces s advice.profile.ends worker_counts paces) starts_are (subst (λ (e : List ℕ). ArePaces starts e worker_counts paces) ends_are are),
+  answer_is ∙ ap (on_out Done) (is ∙ ap (λ (l : List Pace). advice_text form decls advice.profile.work advice.profile.span l advice.works) same),
+)
 
 -- or the first that is not legal is named
 pub found_not_legal : (form : Form) (p : Program) (found : JournalText) (lim : Bounds) (moves : List Move) (n line : ℕ) (why : Why) (answer : Answer) → LimitedBy found lim → moves ≡ found.moves

@@ -18,10 +18,13 @@ use Rattle.twe_io.specs.Answers.{IsAnswered, on_err, on_out}
 use Rattle.twe_io.specs.declared.answer.Answer.{Answer}
 use Rattle.twe_io.specs.declared.status.Status.{Status}
 use Rattle.twe_io.specs.declared.status.Status.TheVariants.{Done, Refused, Usage, BadJournal}
+use Rattle.span_profile.specs.Profiles.{HasEarliest}
 use Rattle.run_advice.specs.Advice.{IsAdvice}
 use Rattle.run_advice.specs.declared.totals.TaskWork.{TaskWork}
 use Rattle.twe_advise.specs.declared.words.Form.{Form}
+use Rattle.twe_advise.specs.declared.paces.Pace.{Pace}
 use Rattle.twe_advise.specs.Forms.{advice_text}
+use Rattle.twe_advise.specs.Paces.{ArePaces, worker_counts}
 use Rattle.twe_advise.specs.Words.{IsFormMeaning, advise_usage_text}
 
 -- The answer to an input, in this form: to the text of a program, and after the first line that is exactly `%%` the text of a
@@ -29,9 +32,11 @@ use Rattle.twe_advise.specs.Words.{IsFormMeaning, advise_usage_text}
 pub data AdviceDue (form : Form) (text : List ℕ) : Answer → Type 0 where
   -- the program is accepted, each move of the journal is legal, and what the run could gain is written
   advised : (p : Program) (head : Option Bounds) (moves : List Move) (work span : ℕ) (chain : List ℕ) (works : List TaskWork)
+      (starts ends : List ℕ) (paces : List Pace)
       → Accepted (program_part text) p → Spells (journal_part text) head moves
       → IsAdvice p (limits_with head default_limits) moves work span chain works
-      → AdviceDue form text (on_out Done (advice_text form p.tasks work span works))
+      → HasEarliest p (limits_with head default_limits) moves span starts ends → ArePaces starts ends worker_counts paces
+      → AdviceDue form text (on_out Done (advice_text form p.tasks work span paces works))
   -- move n is the first that is not legal
   not_legal : (p : Program) (head : Option Bounds) (moves : List Move) (n : ℕ) (why : Why)
       → Accepted (program_part text) p → Spells (journal_part text) head moves

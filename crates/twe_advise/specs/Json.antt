@@ -7,6 +7,7 @@ use Rattle.run_advice.specs.Advice.{parallelism_of}
 use Rattle.run_advice.specs.Totals.{total_of}
 use Rattle.run_advice.specs.declared.totals.TaskTotal.{TaskTotal}
 use Rattle.run_advice.specs.declared.totals.TaskWork.{TaskWork}
+use Rattle.twe_advise.specs.declared.paces.Pace.{Pace}
 use Rattle.twe_advise.specs.Texts.{hundredths_text, rows_by, word_number}
 
 -- `{"work":8,"span":6,"parallelism":1.33`
@@ -15,18 +16,24 @@ json_head work span =
     (word_number (codes "{\"work\":") work ++ word_number (codes ",\"span\":") span)
     ++ (codes ",\"parallelism\":" ++ hundredths_text (parallelism_of work span))
 
--- `{"workers":2,"least":6}`
-abbrev pub json_time : ℕ → ℕ → ℕ → List ℕ
-json_time work span workers =
-    (word_number (codes "{\"workers\":") workers ++ word_number (codes ",\"least\":") (least_time work span workers)) ++ codes "}"
+-- `{"workers":2,"least":6,"paced":6}`
+abbrev pub json_time : ℕ → ℕ → Pace → List ℕ
+json_time work span pace =
+    (word_number (codes "{\"workers\":") pace.workers ++ word_number (codes ",\"least\":") (least_time work span pace.workers))
+    ++ (word_number (codes ",\"paced\":") pace.time ++ codes "}")
 
 -- the same after a comma
-abbrev pub json_next_time : ℕ → ℕ → ℕ → List ℕ
-json_next_time work span workers = codes "," ++ json_time work span workers
+abbrev pub json_next_time : ℕ → ℕ → Pace → List ℕ
+json_next_time work span pace = codes "," ++ json_time work span pace
+
+-- these objects with commas between them
+abbrev pub json_paces : ℕ → ℕ → List Pace → List ℕ
+json_paces work span [] = []
+json_paces work span (pace ∷ paces) = json_time work span pace ++ flat_map (json_next_time work span) paces
 
 -- the times
-unfoldable pub json_times : ℕ → ℕ → List ℕ
-json_times work span = (codes ",\"times\":[" ++ json_time work span 2) ++ flat_map (json_next_time work span) (4 ∷ 8 ∷ 16 ∷ 64 ∷ [])
+unfoldable pub json_times : ℕ → ℕ → List Pace → List ℕ
+json_times work span paces = codes ",\"times\":[" ++ json_paces work span paces
 
 -- a comma, unless this is the first one
 abbrev pub comma_before : ℕ → List ℕ
@@ -47,6 +54,6 @@ abbrev pub json_tasks : List TaskWork → ℕ → List Decl → List ℕ
 json_tasks works number decls = rows_by (json_task_of works) number decls
 
 -- the object
-abbrev pub json_text : List Decl → ℕ → ℕ → List TaskWork → List ℕ
-json_text decls work span works =
-    (((json_head work span ++ json_times work span) ++ codes "],\"tasks\":[") ++ json_tasks works 0 decls) ++ codes "]}\n"
+abbrev pub json_text : List Decl → ℕ → ℕ → List Pace → List TaskWork → List ℕ
+json_text decls work span paces works =
+    (((json_head work span ++ json_times work span paces) ++ codes "],\"tasks\":[") ++ json_tasks works 0 decls) ++ codes "]}\n"

@@ -1,6 +1,7 @@
 pub mod Answers
 pub mod Forms
 pub mod Json
+pub mod Paces
 pub mod Texts
 pub mod Words
 pub mod inner

@@ -7,6 +7,7 @@ use Rattle.run_advice.specs.Advice.{parallelism_of}
 use Rattle.run_advice.specs.Totals.{total_of}
 use Rattle.run_advice.specs.declared.totals.TaskTotal.{TaskTotal}
 use Rattle.run_advice.specs.declared.totals.TaskWork.{TaskWork}
+use Rattle.twe_advise.specs.declared.paces.Pace.{Pace}
 
 -- a number at the right of a column of 12 bytes; a longer number takes more
 abbrev pub number_column : ℕ → List ℕ
@@ -26,9 +27,10 @@ head_text work span =
     (word_number (codes "work ") work ++ word_number (codes ", span ") span)
     ++ ((codes ", parallelism " ++ hundredths_text (parallelism_of work span)) ++ codes "\n")
 
--- so many workers, and the least time of a schedule with them
-abbrev pub time_row : ℕ → ℕ → ℕ → List ℕ
-time_row work span workers = (number_column workers ++ number_column (least_time work span workers)) ++ codes "\n"
+-- so many workers, the least time of a schedule with them, and the time of the paced timetable
+abbrev pub time_row : ℕ → ℕ → Pace → List ℕ
+time_row work span pace =
+    ((number_column pace.workers ++ number_column (least_time work span pace.workers)) ++ number_column pace.time) ++ codes "\n"
 
 -- what the tasks of a name took: how many there were, their work, the work of the heaviest
 abbrev pub task_row : TaskTotal → List ℕ → List ℕ
@@ -50,13 +52,13 @@ abbrev pub task_rows : List TaskWork → ℕ → List Decl → List ℕ
 task_rows works number decls = rows_by (task_row_of works) number decls
 
 -- the table of times
-unfoldable pub times_text : ℕ → ℕ → List ℕ
-times_text work span = codes "\n     workers  least time\n" ++ flat_map (time_row work span) (2 ∷ 4 ∷ 8 ∷ 16 ∷ 64 ∷ [])
+unfoldable pub times_text : ℕ → ℕ → List Pace → List ℕ
+times_text work span paces = codes "\n     workers  least time  paced time\n" ++ flat_map (time_row work span) paces
 
 -- the table of tasks
 unfoldable pub tasks_text : List TaskWork → List Decl → List ℕ
 tasks_text works decls = codes "\n       tasks        work    heaviest  name\n" ++ task_rows works 0 decls
 
 -- what is written as tables: work, span and parallelism, the times, and the tasks
-abbrev pub tables_text : List Decl → ℕ → ℕ → List TaskWork → List ℕ
-tables_text decls work span works = (head_text work span ++ times_text work span) ++ tasks_text works decls
+abbrev pub tables_text : List Decl → ℕ → ℕ → List Pace → List TaskWork → List ℕ
+tables_text decls work span paces works = (head_text work span ++ times_text work span paces) ++ tasks_text works decls

@@ -1,10 +1,12 @@
 //! What is written of a run, in the form that is asked for.
-ghost use Rattle.std.specs.Prelude.{◌≡◌, IfOk};
+ghost use Rattle.std.specs.Prelude.{◌≡◌, ◌<◌, IfOk};
+ghost use Rattle.std.specs.List.{All};
 ghost use Rattle.run_advice.specs.Totals.{CanBeSummed};
 ghost use Rattle.twe_advise.specs.Forms as forms;
 
-use crate::json::json_text;
-use crate::text::tables_text;
+use crate::json::{push_json_head, push_json_tasks, push_json_times};
+use crate::paces::Pace;
+use crate::text::{push_head, push_tasks_table, push_times_table};
 use crate::words::Form;
 use run_advice::Advice;
 use std::alloc::Global;
@@ -17,13 +19,29 @@ pub(crate) fn advice_text(
     form: Form,
     p: &Prog,
     advice: &Advice,
+    paces: &[Pace],
 ) -> Result<Bytes, Memory>
-    requires { CanBeSummed advice.now.works }
+    requires few { CanBeSummed advice.now.works }
+    requires some { All (λ pace. 0 < pace.workers) paces.now }
     ensures { IfOk result (λ text. text
-        ≡ forms.advice_text form p.now.tasks advice.now.profile.work advice.now.profile.span advice.now.works) }
+        ≡ forms.advice_text form p.now.tasks advice.now.profile.work advice.now.profile.span paces.now advice.now.works) }
 {
+    let (work, span) = (advice.profile.work, advice.profile.span);
+    let (works, decls) = (advice.works.as_slice(), p.tasks.as_slice());
+    let mut text = Bytes::new(alloc);
     match form {
-        Form::Tables => tables_text(alloc, p, advice),
-        Form::Json => json_text(alloc, p, advice),
+        Form::Tables => {
+            push_head(&mut text, work, span)?;
+            push_times_table(&mut text, work, span, paces)?;
+            push_tasks_table(&mut text, works, decls)?;
+        }
+        Form::Json => {
+            push_json_head(&mut text, work, span)?;
+            push_json_times(&mut text, work, span, paces)?;
+            text.push_all(b"],\"tasks\":[")?;
+            push_json_tasks(&mut text, works, decls)?;
+            text.push_all(b"]}\n")?;
+        }
     }
+    Ok(text)
 }

@@ -1,17 +1,17 @@
 //! What is written as JSON: one object, on one line.
-ghost use Rattle.std.specs.Prelude.{◌≡◌, ◌<◌, ◌++◌, IfOk, OnOk};
+ghost use Rattle.std.specs.Prelude.{◌≡◌, ◌<◌, ◌++◌, OnOk};
 ghost use Rattle.std.specs.List.{All, flat_map};
 ghost use Rattle.run_advice.specs.Totals.{CanBeSummed};
-ghost use Rattle.twe_advise.specs.Json.{comma_before, json_head, json_next_time, json_tasks, json_time, json_times};
+ghost use Rattle.twe_advise.specs.Json.{comma_before, json_head, json_next_time, json_paces, json_tasks, json_time, json_times};
 ghost use Rattle.twe_advise.specs.Json as json;
 ghost use Rattle.twe_advise.specs.Texts.{word_number};
 
+use crate::paces::Pace;
 use crate::text::{push_hundredths, push_number};
-use run_advice::{Advice, TaskTotal, TaskWork, parallelism_of, total_of};
+use run_advice::{TaskTotal, TaskWork, parallelism_of, total_of};
 use schedule_bounds::least_time;
-use std::alloc::Global;
 use twe_base::{Bytes, Memory};
-use twe_program::{Decl, Prog};
+use twe_program::Decl;
 
 /// Appends a word and a number.
 fn push_small(text: &mut Bytes, word: &[u8], number: u64) -> Result<(), Memory>
@@ -21,7 +21,7 @@ fn push_small(text: &mut Bytes, word: &[u8], number: u64) -> Result<(), Memory>
 }
 
 /// Appends the work, the span and the parallelism.
-fn push_json_head(text: &mut Bytes, work: u64, span: u64) -> Result<(), Memory>
+pub(crate) fn push_json_head(text: &mut Bytes, work: u64, span: u64) -> Result<(), Memory>
     ensures { OnOk result (text.new ≡ text.old ++ json_head work span) }
 {
     push_small(text, b"{\"work\":", work)?;
@@ -30,43 +30,63 @@ fn push_json_head(text: &mut Bytes, work: u64, span: u64) -> Result<(), Memory>
     push_hundredths(text, parallelism_of(work, span))
 }
 
-/// Appends the least time with so many workers.
-fn push_json_time(text: &mut Bytes, work: u64, span: u64, workers: u64) -> Result<(), Memory>
-    requires { 0 < workers }
-    ensures { OnOk result (text.new ≡ text.old ++ json_time work span workers) }
+/// Appends the times with so many workers.
+fn push_json_time(text: &mut Bytes, work: u64, span: u64, pace: Pace) -> Result<(), Memory>
+    requires { 0 < pace.workers }
+    ensures { OnOk result (text.new ≡ text.old ++ json_time work span pace) }
 {
-    push_small(text, b"{\"workers\":", workers)?;
-    push_small(text, b",\"least\":", least_time(work, span, workers))?;
+    push_small(text, b"{\"workers\":", pace.workers)?;
+    push_small(text, b",\"least\":", least_time(work, span, pace.workers))?;
+    push_number(text, b",\"paced\":", pace.time)?;
     text.push_all(b"}")
 }
 
-/// Appends a comma, and the least time with so many workers.
-fn push_next_time(text: &mut Bytes, work: u64, span: u64, workers: u64) -> Result<(), Memory>
-    requires { 0 < workers }
-    ensures { OnOk result (text.new ≡ text.old ++ json_next_time work span workers) }
+/// Appends a comma, and the times with so many workers.
+fn push_next_time(text: &mut Bytes, work: u64, span: u64, pace: Pace) -> Result<(), Memory>
+    requires { 0 < pace.workers }
+    ensures { OnOk result (text.new ≡ text.old ++ json_next_time work span pace) }
 {
     text.push_all(b",")?;
-    push_json_time(text, work, span, workers)
+    push_json_time(text, work, span, pace)
 }
 
-/// Appends the least time for each of these numbers of workers, each after a comma.
-fn push_next_times(text: &mut Bytes, work: u64, span: u64, workers: &[u64]) -> Result<(), Memory>
-    requires { All (λ count. 0 < count) workers.now }
-    ensures { OnOk result (text.new ≡ text.old ++ flat_map (json_next_time work span) workers.now) }
+/// Appends the times for each of these numbers of workers, each after a comma.
+fn push_next_times(text: &mut Bytes, work: u64, span: u64, paces: &[Pace]) -> Result<(), Memory>
+    requires { All (λ pace. 0 < pace.workers) paces.now }
+    ensures { OnOk result (text.new ≡ text.old ++ flat_map (json_next_time work span) paces.now) }
 {
-    for count in workers {
-        push_next_time(text, work, span, *count)?;
+    for pace in paces {
+        push_next_time(text, work, span, *pace)?;
     }
     Ok(())
 }
 
-/// Appends the least times.
-fn push_json_times(text: &mut Bytes, work: u64, span: u64) -> Result<(), Memory>
-    ensures { OnOk result (text.new ≡ text.old ++ json_times work span) }
+/// Appends the times for each of these numbers of workers, with commas between them.
+fn push_paces(text: &mut Bytes, work: u64, span: u64, paces: &[Pace]) -> Result<(), Memory>
+    requires { All (λ pace. 0 < pace.workers) paces.now }
+    ensures { OnOk result (text.new ≡ text.old ++ json_paces work span paces.now) }
+{
+    match paces {
+        [] => Ok(()),
+        [pace, others @ ..] => {
+            push_json_time(text, work, span, *pace)?;
+            push_next_times(text, work, span, others)
+        }
+    }
+}
+
+/// Appends the times.
+pub(crate) fn push_json_times(
+    text: &mut Bytes,
+    work: u64,
+    span: u64,
+    paces: &[Pace],
+) -> Result<(), Memory>
+    requires { All (λ pace. 0 < pace.workers) paces.now }
+    ensures { OnOk result (text.new ≡ text.old ++ json_times work span paces.now) }
 {
     text.push_all(b",\"times\":[")?;
-    push_json_time(text, work, span, 2)?;
-    push_next_times(text, work, span, &[4, 8, 16, 64])
+    push_paces(text, work, span, paces)
 }
 
 /// Appends a comma, unless this is the first one.
@@ -92,7 +112,11 @@ fn push_json_task(text: &mut Bytes, total: TaskTotal, name: &[u8]) -> Result<(),
 }
 
 /// Appends what the tasks of each declaration took.
-fn push_json_tasks(text: &mut Bytes, works: &[TaskWork], decls: &[Decl]) -> Result<(), Memory>
+pub(crate) fn push_json_tasks(
+    text: &mut Bytes,
+    works: &[TaskWork],
+    decls: &[Decl],
+) -> Result<(), Memory>
     requires { CanBeSummed works.now }
     ensures { OnOk result (text.new ≡ text.old ++ json_tasks works.now 0 decls.now) }
 {
@@ -101,20 +125,4 @@ fn push_json_tasks(text: &mut Bytes, works: &[TaskWork], decls: &[Decl]) -> Resu
         push_json_task(text, total_of(works, number), decl.name.as_bytes())?;
     }
     Ok(())
-}
-
-/// What is written of a run of the program, as JSON.
-pub(crate) fn json_text(alloc: Global, p: &Prog, advice: &Advice) -> Result<Bytes, Memory>
-    requires { CanBeSummed advice.now.works }
-    ensures { IfOk result (λ text. text
-        ≡ json.json_text p.now.tasks advice.now.profile.work advice.now.profile.span advice.now.works) }
-{
-    let (work, span) = (advice.profile.work, advice.profile.span);
-    let mut text = Bytes::new(alloc);
-    push_json_head(&mut text, work, span)?;
-    push_json_times(&mut text, work, span)?;
-    text.push_all(b"],\"tasks\":[")?;
-    push_json_tasks(&mut text, advice.works.as_slice(), p.tasks.as_slice())?;
-    text.push_all(b"]}\n")?;
-    Ok(text)
 }

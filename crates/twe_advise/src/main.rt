@@ -4,6 +4,7 @@
 
 mod forms;
 mod json;
+mod paces;
 mod text;
 mod top;
 mod words;

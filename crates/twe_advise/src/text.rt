@@ -6,12 +6,13 @@ ghost use Rattle.twe_advise.specs.Texts.{head_text, hundredths_text, number_colu
 ghost use Rattle.twe_advise.specs.Texts as texts;
 ghost use Rattle.twe_advise.specs.Words.{advise_usage_text};
 
+use crate::paces::Pace;
 use itoa::Buffer;
-use run_advice::{Advice, TaskTotal, TaskWork, parallelism_of, total_of};
+use run_advice::{TaskTotal, TaskWork, parallelism_of, total_of};
 use schedule_bounds::least_time;
 use std::alloc::Global;
 use twe_base::{Bytes, Memory};
-use twe_program::{Decl, Prog};
+use twe_program::Decl;
 
 /// The usage line.
 pub(crate) fn usage_text(alloc: Global) -> Result<Bytes, Memory>
@@ -21,7 +22,7 @@ pub(crate) fn usage_text(alloc: Global) -> Result<Bytes, Memory>
 }
 
 /// Appends a number at the right of a column.
-fn push_column(text: &mut Bytes, number: u64) -> Result<(), Memory>
+fn push_column(text: &mut Bytes, number: u128) -> Result<(), Memory>
     ensures { OnOk result (text.new ≡ text.old ++ number_column number) }
 {
     let mut buffer = Buffer::new();
@@ -50,7 +51,7 @@ pub(crate) fn push_hundredths(text: &mut Bytes, number: u128) -> Result<(), Memo
 }
 
 /// Appends the work, the span and the parallelism.
-fn push_head(text: &mut Bytes, work: u64, span: u64) -> Result<(), Memory>
+pub(crate) fn push_head(text: &mut Bytes, work: u64, span: u64) -> Result<(), Memory>
     ensures { OnOk result (text.new ≡ text.old ++ head_text work span) }
 {
     push_number(text, b"work ", u128::from(work))?;
@@ -60,15 +61,31 @@ fn push_head(text: &mut Bytes, work: u64, span: u64) -> Result<(), Memory>
     text.push_all(b"\n")
 }
 
-/// Appends a row for each of these numbers of workers.
-fn push_times(text: &mut Bytes, work: u64, span: u64, workers: &[u64]) -> Result<(), Memory>
-    requires { All (λ count. 0 < count) workers.now }
-    ensures { OnOk result (text.new ≡ text.old ++ flat_map (time_row work span) workers.now) }
+/// Appends a number of 64 bits at the right of a column.
+fn push_small_column(text: &mut Bytes, number: u64) -> Result<(), Memory>
+    ensures { OnOk result (text.new ≡ text.old ++ number_column number) }
 {
-    for count in workers {
-        push_column(text, *count)?;
-        push_column(text, least_time(work, span, *count))?;
-        text.push_all(b"\n")?;
+    push_column(text, u128::from(number))
+}
+
+/// Appends the row of so many workers.
+fn push_time(text: &mut Bytes, work: u64, span: u64, pace: Pace) -> Result<(), Memory>
+    requires { 0 < pace.workers }
+    ensures { OnOk result (text.new ≡ text.old ++ time_row work span pace) }
+{
+    push_small_column(text, pace.workers)?;
+    push_small_column(text, least_time(work, span, pace.workers))?;
+    push_column(text, pace.time)?;
+    text.push_all(b"\n")
+}
+
+/// Appends a row for each of these numbers of workers.
+fn push_times(text: &mut Bytes, work: u64, span: u64, paces: &[Pace]) -> Result<(), Memory>
+    requires { All (λ pace. 0 < pace.workers) paces.now }
+    ensures { OnOk result (text.new ≡ text.old ++ flat_map (time_row work span) paces.now) }
+{
+    for pace in paces {
+        push_time(text, work, span, *pace)?;
     }
     Ok(())
 }
@@ -77,9 +94,9 @@ fn push_times(text: &mut Bytes, work: u64, span: u64, workers: &[u64]) -> Result
 fn push_task(text: &mut Bytes, total: TaskTotal, name: &[u8]) -> Result<(), Memory>
     ensures { OnOk result (text.new ≡ text.old ++ texts.task_row total name.now) }
 {
-    push_column(text, total.made)?;
-    push_column(text, total.work)?;
-    push_column(text, total.heaviest)?;
+    push_small_column(text, total.made)?;
+    push_small_column(text, total.work)?;
+    push_small_column(text, total.heaviest)?;
     text.push_all(b"  ")?;
     text.push_all(name)?;
     text.push_all(b"\n")
@@ -97,32 +114,28 @@ fn push_tasks(text: &mut Bytes, works: &[TaskWork], decls: &[Decl]) -> Result<()
 }
 
 /// Appends the table of times.
-fn push_times_table(text: &mut Bytes, work: u64, span: u64) -> Result<(), Memory>
-    ensures { OnOk result (text.new ≡ text.old ++ times_text work span) }
+pub(crate) fn push_times_table(
+    text: &mut Bytes,
+    work: u64,
+    span: u64,
+    paces: &[Pace],
+) -> Result<(), Memory>
+    requires { All (λ pace. 0 < pace.workers) paces.now }
+    ensures { OnOk result (text.new ≡ text.old ++ times_text work span paces.now) }
 {
-    text.push_all(b"\n     workers  least time\n")?;
-    push_times(text, work, span, &[2, 4, 8, 16, 64])
+    text.push_all(b"\n     workers  least time  paced time\n")?;
+    push_times(text, work, span, paces)
 }
 
 /// Appends the table of tasks.
-fn push_tasks_table(text: &mut Bytes, works: &[TaskWork], decls: &[Decl]) -> Result<(), Memory>
+pub(crate) fn push_tasks_table(
+    text: &mut Bytes,
+    works: &[TaskWork],
+    decls: &[Decl],
+) -> Result<(), Memory>
     requires { CanBeSummed works.now }
     ensures { OnOk result (text.new ≡ text.old ++ tasks_text works.now decls.now) }
 {
     text.push_all(b"\n       tasks        work    heaviest  name\n")?;
     push_tasks(text, works, decls)
-}
-
-/// What is written of a run of the program, as tables.
-pub(crate) fn tables_text(alloc: Global, p: &Prog, advice: &Advice) -> Result<Bytes, Memory>
-    requires { CanBeSummed advice.now.works }
-    ensures { IfOk result (λ text. text
-        ≡ texts.tables_text p.now.tasks advice.now.profile.work advice.now.profile.span advice.now.works) }
-{
-    let (work, span) = (advice.profile.work, advice.profile.span);
-    let mut text = Bytes::new(alloc);
-    push_head(&mut text, work, span)?;
-    push_times_table(&mut text, work, span)?;
-    push_tasks_table(&mut text, advice.works.as_slice(), p.tasks.as_slice())?;
-    Ok(text)
 }

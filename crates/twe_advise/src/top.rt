@@ -1,16 +1,18 @@
 //! The answer to the words and the input of a call, and the call itself, apart from where its bytes come from and go to.
 ghost use Rattle.std.specs.Prelude.{◌≡◌, ◌≤◌, ◌+◌, IfOk, length};
 ghost use Rattle.seg_journal.specs.Spelling.{head_lines};
+ghost use Rattle.run_advice.specs.Totals.{CanBeSummed};
 ghost use Rattle.twe_base.specs.Language.{max_text_bytes};
 ghost use Rattle.twe_io.specs.Ends.{ends, ends_tell, sink, source};
 ghost use Rattle.twe_advise.specs.Answers.{AdviceCause, AdviceDue, IsAdvised};
 ghost use Rattle.twe_advise.specs.Words.{words_for};
-ghost use Rattle.twe_advise.specs.inner.Given.{AnswersEachFound, AnswersEachJournal};
+ghost use Rattle.twe_advise.specs.inner.Given.{AdvisedBy, AnswersEachFound, AnswersEachJournal};
 
 use crate::forms::advice_text;
+use crate::paces::paces_of;
 use crate::text::usage_text;
 use crate::words::{Form, form_of};
-use run_advice::advise;
+use run_advice::{Advice, advise};
 use seg_journal::{JournalFail, JournalText, Limits, Move, read_journal};
 use std::alloc::Global;
 use text_answers::cut_input;
@@ -33,6 +35,19 @@ fn line_of(head: Option<Limits>, n: u64, moves: &[Move]) -> u64
     }
 }
 
+/// The answer that has this advice, with the times of the paced timetables.
+fn advised_answer(alloc: Global, form: Form, p: &Prog, advice: &Advice) -> Result<Answer, Memory>
+    requires few { CanBeSummed advice.now.works }
+    requires both { length advice.now.profile.ends ≡ length advice.now.profile.starts }
+    ensures { IfOk result (AdvisedBy form p.now.tasks advice.now) }
+{
+    let starts = advice.profile.starts.as_slice();
+    let ends = advice.profile.ends.as_slice();
+    let paces = paces_of(alloc, starts, ends, &[2, 4, 8, 16, 64])?;
+    let text = advice_text(alloc, form, p, advice, paces.as_slice())?;
+    Ok(Answer::on_out(alloc, Status::Done, text))
+}
+
 /// The answer to what was found in a journal text.
 fn answer_found(alloc: Global, form: Form, p: &Prog, found: &JournalText) -> Result<Answer, Memory>
     ensures { IfOk result (AnswersEachFound form p.now found.now) }
@@ -46,11 +61,7 @@ fn answer_found(alloc: Global, form: Form, p: &Prog, found: &JournalText) -> Res
             Status::BadJournal,
             not_legal_text(alloc, line_of(found.head, n, moves))?,
         )),
-        Ok(advice) => Ok(Answer::on_out(
-            alloc,
-            Status::Done,
-            advice_text(alloc, form, p, &advice)?,
-        )),
+        Ok(advice) => advised_answer(alloc, form, p, &advice),
     }
 }
 

@@ -44,7 +44,7 @@ lower_after i back other l = record {
 }
 
 -- the weight of the heaviest chain to a node that goes on from the highest node before it
-weight_after : (top : Option Top) (weight : ℕ) → (best_after top weight).weight ≡ weight_before top + weight
+pub weight_after : (top : Option Top) (weight : ℕ) → (best_after top weight).weight ≡ weight_before top + weight
 weight_after None weight = omega arith
 weight_after (Some top) weight = refl
 

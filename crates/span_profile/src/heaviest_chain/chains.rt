@@ -1,9 +1,10 @@
 //! Chains as their nodes come, and the heaviest of them.
-ghost use Rattle.std.specs.Prelude.{◌≡◌, ◌<◌, ◌+◌, ◌++◌, ◌∷◌, [], ◌^◌, Some, IfOk, OnOk, length, reverse};
-ghost use Rattle.span_profile.specs.heaviest_chain.Chains.{IsHeaviest};
+ghost use Rattle.std.specs.Prelude.{◌≡◌, ◌<◌, ◌+◌, ◌++◌, ◌∷◌, [], ◌^◌, Some, IfOk, OnOk, length, map, reverse};
+ghost use Rattle.schedule_bounds.specs.Timetables.{AreEarliest};
+ghost use Rattle.span_profile.specs.heaviest_chain.Chains.{IsHeaviest, Leads, weight_at};
 ghost use Rattle.span_profile.specs.heaviest_chain.Nodes.{Nodes, SharesKey, weight_of};
 ghost use Rattle.span_profile.specs.heaviest_chain.Built.{HasRoom, FrontHolds, IsBuilt};
-ghost use Rattle.span_profile.specs.heaviest_chain.inner.Tops.{IsHighest, PreviousAreLower, best_after, weight_before};
+ghost use Rattle.span_profile.specs.heaviest_chain.inner.Tops.{IsHighest, PreviousAreLower, best_after, start_after, weight_before};
 ghost use Rattle.span_profile.specs.heaviest_chain.inner.Following.{Follows};
 
 use crate::heaviest_chain::fronts::Fronts;
@@ -44,6 +45,10 @@ pub struct Heaviest {
     /// The numbers of its nodes, counted from 0. Of the heaviest chains it is the one whose last node is the lowest, then
     /// whose last but one is the lowest, and so on.
     pub chain: List<u64>,
+    /// For each node the earliest time at which it can start, with any number of processors, if it takes as long as it weighs.
+    pub starts: List<u64>,
+    /// For each node the time at which it has ended then.
+    pub ends: List<u64>,
 }
 
 /// The heaviest chain that ends at a node of this weight, if this is the highest node that leads to it.
@@ -76,6 +81,41 @@ fn highest(bests: &[Best]) -> Option<Top>
         top = higher(top, Some(next));
     }
     top
+}
+
+/// The weight of the heaviest chain up to a node before another one, and 0 if there is none before it.
+fn start_after(bests: &[Best], previous: Option<u64>) -> u64
+    ensures { result ≡ start_after bests.now previous }
+{
+    match previous {
+        None => 0,
+        Some(node) => match bests.get(node as usize) {
+            None => 0,
+            Some(best) => best.weight,
+        },
+    }
+}
+
+/// The earliest starts of nodes.
+fn starts_of(alloc: Global, bests: &[Best]) -> Result<List<u64>, Memory>
+    ensures { IfOk result (λ starts. starts ≡ map (λ best. start_after bests.now best.previous) bests.now) }
+{
+    let mut starts = List::new(alloc);
+    for best in bests {
+        starts.push(start_after(bests, best.previous))?;
+    }
+    Ok(starts)
+}
+
+/// The earliest ends of nodes.
+fn ends_of(alloc: Global, bests: &[Best]) -> Result<List<u64>, Memory>
+    ensures { IfOk result (λ ends. ends ≡ map (λ best. best.weight) bests.now) }
+{
+    let mut ends = List::new(alloc);
+    for best in bests {
+        ends.push(best.weight)?;
+    }
+    Ok(ends)
 }
 
 /// The nodes of the heaviest chain that ends at this node.
@@ -125,27 +165,36 @@ impl Chains {
         Ok(())
     }
 
-    /// The heaviest chain of these nodes.
+    /// The heaviest chain of these nodes, and their earliest times.
     pub fn heaviest(self, alloc: Global) -> Result<Heaviest, Memory>
         requires { IsBuilt self }
-        ensures { (nodes : Nodes) → FrontHolds nodes self
+        ensures heaviest { (nodes : Nodes) → FrontHolds nodes self
             → IfOk result (λ h. IsHeaviest SharesKey weight_of nodes h.work h.span h.chain) }
+        ensures earliest { (nodes : Nodes) → FrontHolds nodes self
+            → IfOk result (λ h. AreEarliest (Leads SharesKey nodes) (weight_at weight_of nodes) (length nodes) h.span h.starts h.ends) }
     {
         let Chains {
             work,
             bests,
             fronts: _fronts,
         } = self;
-        match highest(bests.as_slice()) {
+        let all = bests.as_slice();
+        let starts = starts_of(alloc, all)?;
+        let ends = ends_of(alloc, all)?;
+        match highest(all) {
             None => Ok(Heaviest {
                 work,
                 span: 0,
                 chain: List::new(alloc),
+                starts,
+                ends,
             }),
             Some(top) => Ok(Heaviest {
                 work,
                 span: top.weight,
                 chain: chain_to(alloc, &bests, top.node)?,
+                starts,
+                ends,
             }),
         }
     }

@@ -3,7 +3,7 @@ use Rattle.std.proofs.lemmas.List.{take_all, take_more}
 use Rattle.seg_journal.specs.declared.moves.Move.{Move}
 use Rattle.seg_journal.specs.declared.moves.Kind.TheVariants.{Admit}
 use Rattle.twe_machine.proofs.replays.Replayed.{first_at, passed_on}
-use Rattle.span_profile.proofs.Tracking.{profile_is}
+use Rattle.span_profile.proofs.Tracking.{earliest_is, profile_is}
 use Rattle.span_profile.proofs.profiling.profile.Goals as goal
 
 pub loop-i-preserved : goal.loop-i-preserved
@@ -34,5 +34,16 @@ returns-clause-profiled c =
       journal = c.loop-i.run.journal;
       legal = t.is_run.legal;
       has = c.loop-i.invariant.moves ∙ take_all c.loop-i.i c.args.moves.now c.loop-i-test.false;
-      heaviest = profile_is c.args.p.now c.args.lim c.loop-i.run t h.work h.span h.chain (c.in_ok-heaviest.ensures t.nodes t.holds);
+      heaviest = profile_is c.args.p.now c.args.lim c.loop-i.run t h.work h.span h.chain (c.in_ok-heaviest.ensures.heaviest t.nodes t.holds);
+    }
+
+pub returns-clause-earliest : goal.returns-clause-earliest
+returns-clause-earliest c =
+    let t = c.loop-i.invariant.tracked in
+    let h = c.in_ok-heaviest.field-0 in
+    record {
+      journal = c.loop-i.run.journal;
+      legal = t.is_run.legal;
+      has = c.loop-i.invariant.moves ∙ take_all c.loop-i.i c.args.moves.now c.loop-i-test.false;
+      earliest = earliest_is c.args.p.now c.args.lim c.loop-i.run t h.span h.starts h.ends (c.in_ok-heaviest.ensures.earliest t.nodes t.holds);
     }

@@ -51,6 +51,11 @@ abbrev pub best_after : Option Top → ℕ → Best
 best_after None weight = record { weight = weight; previous = None }
 best_after (Some top) weight = record { weight = top.weight + weight; previous = Some top.node }
 
+-- the weight of the heaviest chain up to a node before another one, and 0 if there is none before it
+abbrev pub start_after : List Best → Option ℕ → ℕ
+start_after bests None = 0
+start_after bests (Some node) = best_at bests node
+
 -- the last node but one of each of these chains comes before its last
 abbrev pub PreviousAreLower : List Best → Type 0
 PreviousAreLower bests =

@@ -1,4 +1,3 @@
-use Rattle.std.proofs.Common.{ℕ, List, [], ◌∷◌}
 use Rattle.std.specs.Prelude.{codes}
 use Rattle.std.specs.List.{flat_map}
 use Rattle.std.proofs.lemmas.Result.{on_ok_weaker}
@@ -10,6 +9,6 @@ pub returns : goal.returns
 unfolding times_text
 returns c =
     on_ok_weaker c.push_times.result
-    (two_pieces c.args.text.now (codes "\n     workers  least time\n") (flat_map (time_row c.args.work c.args.span) (2 ∷ 4 ∷ 8 ∷ 16 ∷ 64 ∷ [])) c.push_all.new.self c.push_times.new.text
+    (two_pieces c.args.text.now (codes "\n     workers  least time  paced time\n") (flat_map (time_row c.args.work c.args.span) c.args.paces.now) c.push_all.new.self c.push_times.new.text
     c.in_ok-push_all.ensures.ok)
     c.push_times.ensures

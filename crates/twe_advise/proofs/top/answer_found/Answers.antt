@@ -1,12 +1,13 @@
-use Rattle.std.proofs.Common.{◌≤◌, ◌+◌, ℕ, length, Err, sym, ap, ◌∙◌, subst}
+use Rattle.std.proofs.Common.{◌≡◌, ◌≤◌, ◌+◌, ℕ, length, Err, IfOk, sym, ap, ◌∙◌, subst}
+use Rattle.std.proofs.lemmas.Result.{IfOk-weaker}
 use Rattle.std.specs.Prelude.{unwrap_or}
 use Rattle.seg_journal.specs.Spelling.{head_lines}
 use Rattle.twe_base.specs.Limits.{Bounds}
 use Rattle.text_answers.proofs.Replays.{illegal_within}
-use Rattle.twe_io.specs.declared.status.Status.TheVariants.{Done, BadJournal}
-use Rattle.twe_io.specs.Answers.{on_err, on_out}
+use Rattle.twe_io.specs.declared.status.Status.TheVariants.{BadJournal}
+use Rattle.twe_io.specs.Answers.{on_err}
 use Rattle.run_advice.specs.declared.advising.Advice.{Advice}
-use Rattle.twe_advise.specs.Forms.{advice_text}
+use Rattle.twe_advise.specs.inner.Given.{AdvisedBy, AnswersEachFound}
 use Rattle.twe_advise.proofs.Causes.{found_advised, found_not_legal}
 use Rattle.twe_advise.proofs.top.answer_found.Goals as goal
 
@@ -17,14 +18,21 @@ line_of-requires c =
     subst (λ (n : ℕ). n ≤ length c.as_slice-moves.result.now) (sym c.in-Err-Illegal.n-is)
     (illegal_within c.args.p.now c.unwrap_or-lim.result c.as_slice-moves.result.now c.in-Err-Illegal.n c.in-Err-Illegal.field-0-1 first)
 
+-- the times are as many
+pub advised_answer-requires-clause-both : goal.advised_answer-requires-clause-both
+advised_answer-requires-clause-both c =
+    let earliest = c.in-Ok.ensures.earliest.earliest in
+    subst (λ (a : Advice). length a.profile.ends ≡ length a.profile.starts) (sym c.in-Ok.advice-is) (earliest.ends_count ∙ sym earliest.starts_count)
+
 -- the advice is written
-pub returns-in_ok-advice_text-in-Ok : goal.returns-in_ok-advice_text-in-Ok
-returns-in_ok-advice_text-in-Ok c =
-    let a = c.in-Ok.advice in
+pub returns-in-Ok : goal.returns-in-Ok
+returns-in-Ok c =
     let limits = c.unwrap_or-lim.ensures ∙ ap (λ (d : Bounds). unwrap_or c.args.found.now.head d) c.default.ensures in
-    found_advised c.args.form c.args.p.now c.args.found.now c.unwrap_or-lim.result c.as_slice-moves.result.now a.profile.work a.profile.span a.profile.chain a.works c.on_out.result limits
-    c.as_slice-moves.ensures c.in-Ok.ensures.advised
-    (c.on_out.ensures ∙ (ap (on_out Done) c.in_ok-advice_text-in-Ok.ensures ∙ ap (λ (b : Advice). on_out Done (advice_text c.args.form c.args.p.now.tasks b.profile.work b.profile.span b.works)) c.in-Ok.advice-is))
+    IfOk-weaker c.advised_answer.result (AdvisedBy c.args.form c.args.p.now.tasks c.in-Ok.advice) (AnswersEachFound c.args.form c.args.p.now c.args.found.now)
+    (λ answer advised.
+    found_advised c.args.form c.args.p.now c.args.found.now c.unwrap_or-lim.result c.as_slice-moves.result.now c.in-Ok.advice answer limits c.as_slice-moves.ensures c.in-Ok.ensures.advised
+    c.in-Ok.ensures.earliest advised)
+    (subst (λ (a : Advice). IfOk c.advised_answer.result (AdvisedBy c.args.form c.args.p.now.tasks a)) c.in-Ok.advice-is c.advised_answer.ensures)
 
 -- or the line of the move that is not legal
 pub returns-in_ok-not_legal_text-in-Err-Illegal : goal.returns-in_ok-not_legal_text-in-Err-Illegal

@@ -7,6 +7,7 @@ use Rattle.span_profile.specs.heaviest_chain.Nodes.{SharesKey, weight_of}
 use Rattle.span_profile.specs.heaviest_chain.inner.Fronts.{givers_in}
 use Rattle.span_profile.specs.heaviest_chain.inner.Tops.{IsHighest, IsTopOf}
 use Rattle.span_profile.proofs.heaviest_chain.Back.{previous_lower}
+use Rattle.span_profile.proofs.heaviest_chain.Earliest.{earliest_found}
 use Rattle.span_profile.proofs.heaviest_chain.HighestChain.{heaviest_followed, heaviest_of_none}
 use Rattle.span_profile.proofs.heaviest_chain.chains.Chains.heaviest.Goals as goal
 
@@ -16,16 +17,31 @@ chain_to-requires-clause-lower c =
     previous_lower c.requires.0 chains (subst (FrontHolds c.requires.0) (sym c.self.view_is) c.requires.1)
 
 -- without nodes
-pub returns-in-None : goal.returns-in-None
-returns-in-None c = λ nodes h.
+pub returns-in-None-clause-heaviest : goal.returns-in-None-clause-heaviest
+returns-in-None-clause-heaviest c = λ nodes h.
     let chains : BestChains = record { work = c.self.inside.work; bests = c.self.inside.bests; givers = givers_in c.self.inside.fronts } in
-    let none = subst (λ (bests : List Best). IsHighest bests None) c.as_slice.ensures c.in-None.ensures in
+    let none = subst (λ (bests : List Best). IsHighest bests None) c.as_slice-all.ensures c.in-None.ensures in
     subst (IsHeaviest SharesKey weight_of nodes chains.work 0) (sym c.new.ensures) (heaviest_of_none nodes chains (subst (FrontHolds nodes) (sym c.self.view_is) h) none)
 
+pub returns-in-None-clause-earliest : goal.returns-in-None-clause-earliest
+returns-in-None-clause-earliest c = λ nodes h.
+    let chains : BestChains = record { work = c.self.inside.work; bests = c.self.inside.bests; givers = givers_in c.self.inside.fronts } in
+    let none = subst (λ (bests : List Best). IsHighest bests None) c.as_slice-all.ensures c.in-None.ensures in
+    earliest_found nodes chains (subst (FrontHolds nodes) (sym c.self.view_is) h) None none c.as_slice-all.result.now c.in_ok-starts.starts c.in_ok-ends.ends c.as_slice-all.ensures
+    c.in_ok-starts.ensures c.in_ok-ends.ensures
+
 -- and from the highest node back
-pub returns : goal.returns
-returns c = λ nodes h.
+pub returns-clause-heaviest : goal.returns-clause-heaviest
+returns-clause-heaviest c = λ nodes h.
     let chains : BestChains = record { work = c.self.inside.work; bests = c.self.inside.bests; givers = givers_in c.self.inside.fronts } in
     let top = c.in-Some.top in
-    let is : IsTopOf chains.bests (λ node. node < length chains.bests) top = subst (λ (bests : List Best). IsHighest bests (Some top)) c.as_slice.ensures c.in-Some.ensures in
+    let is : IsTopOf chains.bests (λ node. node < length chains.bests) top = subst (λ (bests : List Best). IsHighest bests (Some top)) c.as_slice-all.ensures c.in-Some.ensures in
     heaviest_followed nodes chains (subst (FrontHolds nodes) (sym c.self.view_is) h) top is c.in_ok-chain_to-in-Some.field-0 c.in_ok-chain_to-in-Some.ensures
+
+pub returns-clause-earliest : goal.returns-clause-earliest
+returns-clause-earliest c = λ nodes h.
+    let chains : BestChains = record { work = c.self.inside.work; bests = c.self.inside.bests; givers = givers_in c.self.inside.fronts } in
+    let top = c.in-Some.top in
+    let is : IsTopOf chains.bests (λ node. node < length chains.bests) top = subst (λ (bests : List Best). IsHighest bests (Some top)) c.as_slice-all.ensures c.in-Some.ensures in
+    earliest_found nodes chains (subst (FrontHolds nodes) (sym c.self.view_is) h) (Some top) is c.as_slice-all.result.now c.in_ok-starts.starts c.in_ok-ends.ends c.as_slice-all.ensures
+    c.in_ok-starts.ensures c.in_ok-ends.ensures
