@@ -3,7 +3,7 @@
 
 is_program() {
   case ${1-} in
-    twe | twe_batch | twe_explain | twe_infer | twe_opt | twe_profile) true ;;
+    twe | twe_advise | twe_batch | twe_explain | twe_infer | twe_opt | twe_profile) true ;;
     *) false ;;
   esac
 }
@@ -12,6 +12,7 @@ is_program() {
 words_for() {
   case $1 in
     twe) echo ' check | run [--workers k] [--fuel f] [--tasks t] [--journal] | replay [--fuel f] [--tasks t] | load N [--workers k]' ;;
+    twe_advise) echo ' [--json]' ;;
     twe_batch) echo ' check | run' ;;
     twe_explain) echo ' [--name FILE] [--lines]' ;;
     twe_opt) echo ' k' ;;
@@ -46,6 +47,7 @@ is_command() {
         *) false ;;
       esac
       ;;
+    twe_advise) [[ $# == 0 || ($# == 1 && $1 == --json) ]] ;;
     twe_batch) (($# == 1)) && [[ $1 == check || $1 == run ]] ;;
     twe_explain) is_wish "$@" ;;
     twe_opt) (($# == 1)) && is_number 1 64 "$1" ;;

@@ -12,6 +12,8 @@ complete -c twe -n '__fish_seen_subcommand_from run replay; and not __fish_conta
 complete -c twe -n '__fish_seen_subcommand_from run replay; and not __fish_contains_opt tasks' -l tasks -x -d 'how many tasks may be made, 1 to 100000'
 complete -c twe -n '__fish_seen_subcommand_from run; and not __fish_contains_opt journal' -l journal -d 'write the journal too'
 
+complete -c twe_advise -f
+complete -c twe_advise -n __fish_use_subcommand -a --json -d 'write JSON in place of tables'
 complete -c twe_batch -f
 complete -c twe_batch -n __fish_use_subcommand -a check -d 'check each program of a batch'
 complete -c twe_batch -n __fish_use_subcommand -a run -d 'check and run each program of a batch'

@@ -24,10 +24,12 @@ pub fn events_keep_the_rule()
     // For a descent, each record strictly above its last node passes.
     ensures descents { (nodes : List (List Elem)) (s : State) → IsTreeOfPaths nodes → CoreIsReached nodes s
         → DescentsSawPass nodes s }
-    // For a walk, each record strictly above its last node, and each at or below a finished node, passes.
+    // For a walk, each record strictly above its last node passes, and so does each at or below a finished node, and each at
+    // a node that is apart from the effect with all that lies below it.
     ensures walks { (nodes : List (List Elem)) (s : State) → IsTreeOfPaths nodes → CoreIsReached nodes s
         → WalksSawPass nodes s }
-    // No lock of a finished node of a walk is held.
+    // No lock at or below a finished node of a walk is held, except of nodes that are apart from its effect with all that
+    // lies below them.
     ensures finished { (nodes : List (List Elem)) (s : State) → IsTreeOfPaths nodes → CoreIsReached nodes s
         → FinishedAreFree nodes s }
     // No lock is held by two workers.

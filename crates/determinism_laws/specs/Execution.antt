@@ -77,6 +77,7 @@ pub record IsExecutedAlike (p : Program) (lim : Bounds) (journal : List Entry)
 -- begin no later than its first segment, and it is done after them
 abbrev pub DoneTasksExecuteAlike : Program → Bounds → List Entry → Type 0
 DoneTasksExecuteAlike p lim journal =
-    (t first from count : ℕ) (row : TaskRow) → IsRow (state_after p lim journal) t row → row.status ≡ Done → IsDeterministic p row
+    (t first from count : ℕ) (row : TaskRow) → IsRow (state_after p lim journal) t row → row.status ≡ Done
+    → IsDeterministic p row
     → IsNextSegment journal t 0 first → from ≤ first → IsEnabledThroughout p lim journal t from count
     → HasStatus (state_before p lim journal (from + count)) t Done → IsExecutedAlike p lim journal t row first from count

@@ -1,3 +1,4 @@
+pub mod AcceptedRuns
 pub mod Deterministic
 pub mod ElisionOrder
 pub mod Execution

@@ -87,7 +87,8 @@ HaveSameWriters xs ys =
 
 -- at the end each cell has the same value
 abbrev pub LeaveSameCells : List SegmentAccesses → List SegmentAccesses → Type 0
-LeaveSameCells xs ys = (cells : List ℤ) (cell : ℕ) → slice_get (after_all cells xs) cell ≡ slice_get (after_all cells ys) cell
+LeaveSameCells xs ys =
+    (cells : List ℤ) (cell : ℕ) → slice_get (after_all cells xs) cell ≡ slice_get (after_all cells ys) cell
 
 -- the segments that print are the same, in the same order
 abbrev pub PrintAlike : List SegmentAccesses → List SegmentAccesses → Type 0

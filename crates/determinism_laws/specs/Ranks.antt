@@ -42,7 +42,8 @@ OneSegmentEach p lim journal t =
 -- no segment has two ranks below t
 abbrev pub OneRankEach : Program → Bounds → List Entry → ℕ → Type 0
 OneRankEach p lim journal t =
-    (i : ℕ) (first second : List ℕ) → HasRank p lim journal t i first → HasRank p lim journal t i second → first ≡ second
+    (i : ℕ) (first second : List ℕ) → HasRank p lim journal t i first → HasRank p lim journal t i second
+    → first ≡ second
 
 -- of two segments below t one comes before the other by rank
 abbrev pub SegmentsAreInOrder : Program → Bounds → List Entry → ℕ → Type 0

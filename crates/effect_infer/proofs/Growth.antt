@@ -1,17 +1,15 @@
 -- The list of needs grows, one step after another.
-use Rattle.std.proofs.Common.{◌≡◌, ◌⊎◌, ◌<◌, ◌≤◌, ℕ, ◌+◌, List, [], ◌∷◌, ◌++◌, length, take, get_or, None, Some, inl, inr, refl, sym, ap, ◌∙◌, subst, arith, append_assoc, append-nil}
+use Rattle.std.proofs.Common.{◌≡◌, ◌⊎◌, ◌<◌, ℕ, ◌+◌, List, [], ◌∷◌, ◌++◌, length, take, get_or, None, Some, inl, inr, refl, sym, ap, ◌∙◌, subst, arith, append_assoc, append-nil}
 use Rattle.std.specs.Prelude.{slice_get}
 use Rattle.std.specs.List.{Contains}
-use Rattle.std.proofs.lemmas.List.{take_more, take_all}
+use Rattle.std.proofs.lemmas.List.{take_more}
 use Rattle.std.proofs.lemmas.Option.{none-some, same_Some}
 use Rattle.std.proofs.lemmas.List.Elements.{Contains-append_left, Contains-push, Contains-push_cases}
 use Rattle.effect_infer.specs.declared.needs.need.Need.{Need}
-use Rattle.effect_infer.specs.needs.Needs.{Widens}
 use Rattle.effect_infer.proofs.needs.Inside.{covers-refl}
 use Rattle.effect_infer.specs.declared.found.Found.{Found}
 use Rattle.effect_infer.specs.declared.found.CallSite.{CallSite}
-use Rattle.effect_infer.specs.Gathered.{handed}
-use Rattle.effect_infer.specs.Covered.{IsCovered, SummaryGrows, IsHanded, IsHandedBy}
+use Rattle.effect_infer.specs.Covered.{IsCovered, IsMet, SummaryGrows, IsHanded, IsHandedBy}
 
 pub covered-longer : (old more : List Found) (f : Found) → IsCovered old f → IsCovered (old ++ more) f
 covered-longer old more f c = (c.0, Contains-append_left old more c.0 c.1, c.2, c.3)
@@ -19,11 +17,20 @@ covered-longer old more f c = (c.0, Contains-append_left old more c.0 c.1, c.2, 
 pub covered-grown : (old new : List Found) (more : List Found) → new ≡ old ++ more → (f : Found) → IsCovered old f → IsCovered new f
 covered-grown old new more is f c = subst (λ xs. IsCovered xs f) (sym is) (covered-longer old more f c)
 
+pub met-longer : (old more : List Found) (f : Found) → IsMet old f → IsMet (old ++ more) f
+met-longer old more f h = elim h [
+  | inl by ↦ inl (covered-longer old more f by)
+  | inr by ↦ inr (by.0, by.1, by.2, λ cover few covers. by.3 cover few (λ other there is same rank. covers other (Contains-append_left old more other there) is same rank))
+]
+
+pub met-grown : (old new : List Found) (more : List Found) → new ≡ old ++ more → (f : Found) → IsMet old f → IsMet new f
+met-grown old new more is f h = subst (λ xs. IsMet xs f) (sym is) (met-longer old more f h)
+
 pub covered-itself : (all : List Found) (f : Found) → Contains all f → IsCovered all f
 covered-itself all f there = (f, there, refl, covers-refl f.need)
 
--- nothing is added where all is covered
-pub grows-same : (all : List Found) (P : Found → Type 0) → ((f : Found) → P f → IsCovered all f) → SummaryGrows all all P
+-- nothing is added where all is met
+pub grows-same : (all : List Found) (P : Found → Type 0) → ((f : Found) → P f → IsMet all f) → SummaryGrows all all P
 grows-same all P h = record { longer = ([], sym (append-nil all)); only = λ f c. inl c; all = h }
 
 pub grows-none : (all : List Found) (P : Found → Type 0) → ((f : Found) → P f → ⊥) → SummaryGrows all all P
@@ -33,7 +40,7 @@ pub grows-push : (all : List Found) (found : Found) → SummaryGrows all (all ++
 grows-push all found = record {
   longer = (found ∷ [], refl);
   only = λ f c. elim (Contains-push_cases all found f c) [ inl old ↦ inl old | inr e ↦ inr (sym e) ];
-  all = λ f e. subst (λ g. IsCovered (all ++ found ∷ []) g) (sym e) (covered-itself (all ++ found ∷ []) found (Contains-push all found));
+  all = λ f e. subst (λ g. IsMet (all ++ found ∷ []) g) (sym e) (inl (covered-itself (all ++ found ∷ []) found (Contains-push all found)));
 }
 
 -- one growth after another
@@ -49,7 +56,7 @@ grows-then a b c P Q R first second split left right = record {
     | inr q ↦ inr (right f q)
   ];
   all = λ f r. elim (split f r) [
-    | inl p ↦ covered-grown b c second.longer.0 second.longer.1 f (first.all f p)
+    | inl p ↦ met-grown b c second.longer.0 second.longer.1 f (first.all f p)
     | inr q ↦ second.all f q
   ];
 }
@@ -80,14 +87,6 @@ taken-before xs i y x below there = subst (λ ys. Contains ys x) (sym (take_more
 pub taken-last : {X : Type 0} (xs : List X) (i : ℕ) (y : X) → i < length xs → get_or xs i y ≡ y → Contains (take (i + 1) xs) y
 taken-last xs i y below is =
     subst (λ ys. Contains ys y) (sym (take_more xs i y below)) (subst (λ z. Contains (take i xs ++ z ∷ []) y) (sym is) (Contains-push (take i xs) y))
-
-pub starts-more : (a b c starts : List Found) (i : ℕ) (start : Found) → i < length starts → get_or starts i start ≡ start
-    → SummaryGrows a b (Contains (take i starts)) → SummaryGrows b c (λ f. f ≡ start) → SummaryGrows a c (Contains (take (i + 1) starts))
-starts-more a b c starts i start below is first second =
-    grows-then a b c (Contains (take i starts)) (λ f. f ≡ start) (Contains (take (i + 1) starts)) first second
-    (λ f r. elim (taken-cases starts i start f below is r) [ inl before ↦ inl before | inr e ↦ inr (sym e) ])
-    (λ f p. taken-before starts i start f below p)
-    (λ f e. subst (Contains (take (i + 1) starts)) (sym e) (taken-last starts i start below is))
 
 -- the places of calls, one after the other
 module _ (calls : List CallSite) (places : List ℕ) (method : ℕ) (need : Need) (i place : ℕ) (below : i < length places) (is : get_or places i place ≡ place) where

@@ -1,15 +1,15 @@
 -- The table keeps the widest needs, from the highest rank down.
-use Rattle.std.proofs.Common.{◌≡◌, ◌⊎◌, ◌<◌, ◌≤◌, ℕ, ◌+◌, Bool, true, false, not, List, [], ◌∷◌, ◌++◌, length, take, get_or, inl, inr, refl, sym, ap, ◌∙◌, subst, arith}
-use Rattle.std.specs.Prelude.{IsTrue, ◌&&◌, nat_lt}
-use Rattle.std.specs.List.{Contains, list_any}
-use Rattle.std.proofs.lemmas.Bool.{cases_eq, cases_lt, cases_Bool, false≢true, and_parts, and_cases, ltb-true, ltb-false, not-false, not-true}
+use Rattle.std.proofs.Common.{◌≡◌, ◌⊎◌, ◌<◌, ◌≤◌, ℕ, ◌+◌, true, false, not, List, [], ◌∷◌, ◌++◌, length, take, get_or, inl, inr, sym, ap, ◌∙◌, subst, arith}
+use Rattle.std.specs.Prelude.{nat_lt}
+use Rattle.std.specs.List.{Contains}
+use Rattle.std.proofs.lemmas.Bool.{cases_eq, cases_lt, false≢true, and_parts, and_cases, ltb-true, ltb-false, not-false, not-true}
 use Rattle.std.proofs.lemmas.List.{length-append, take_all}
-use Rattle.std.proofs.lemmas.List.Elements.{Contains-append_left, Contains-push, Contains-push_cases}
+use Rattle.std.proofs.lemmas.List.Elements.{Contains-push, Contains-push_cases}
 use Rattle.effect_sets.specs.Covers.{effect_covers}
 use Rattle.effect_infer.specs.declared.needs.need.Need.{Need}
 use Rattle.effect_infer.specs.needs.Needs.{Widens, effect_of}
 use Rattle.effect_infer.proofs.needs.Inside.{covers-refl, covers-trans}
-use Rattle.twe_base.proofs.Members.{IsIn, contains-in, in-contains, list_any-in, in-list_any}
+use Rattle.twe_base.proofs.Members.{contains-in, in-contains, list_any-in, in-list_any}
 use Rattle.effect_infer.specs.declared.found.Found.{Found}
 use Rattle.effect_infer.specs.Rows.{row, no_rows, with_item}
 use Rattle.effect_infer.specs.Kept.{method_rank, some_cover, AreDistinct, most_kept, is_wanted, KeepsNeeds}
@@ -67,6 +67,7 @@ module _ (methods : ℕ) (all : List Found) where
     long = length-none Need methods;
     found = λ m need c. absurd (empty m need c);
     widest = λ m need other c there is h. absurd (empty m need c);
+    ahead = λ m need other c there is h. absurd (empty m need c);
     once = λ m. subst AreDistinct (sym (row-none methods m)) tt;
     few = λ m. subst (λ xs. length xs ≤ most_kept) (sym (row-none methods m)) (omega arith);
     all_done = λ f there done below. absurd (none f there done);
@@ -82,6 +83,7 @@ module _ (methods : ℕ) (all : List Found) where
     long = k.long;
     found = k.found;
     widest = k.widest;
+    ahead = k.ahead;
     once = k.once;
     few = k.few;
     all_done = λ f there done below. elim (more f there done below) [ inl before ↦ k.all_done f there before below | inr now ↦ now ];
@@ -105,22 +107,26 @@ module _ (methods : ℕ) (all : List Found) where
       | inr differ ↦ inl (subst (λ xs. Contains xs need) (row-other table new.method m new.need differ) c)
     ]
 
+    -- what is of a higher rank than the new one is covered, since all of it is done with, and there was room
+    new-ahead : (other : Found) → Contains all other → other.method ≡ new.method → method_rank new.need < method_rank other.need
+        → some_cover (row table new.method) other.need ≡ true
+    new-ahead other found is above =
+        let long = k.long in
+        let within : other.method < methods = omega (arith, is, below, long) in
+        elim (k.all_done other found (higher other above) within) [
+          | inl full ↦
+              let room = wanted-room (row table new.method) new.need wanted in
+              let same : length (row table new.method) ≡ most_kept = subst (λ n. length (row table n) ≡ most_kept) is full in
+              absurd (omega (arith, room, same))
+          | inr covered ↦ subst (λ n. some_cover (row table n) other.need ≡ true) is covered
+        ]
+
     -- nothing that was found covers the new one
     new-widest : (other : Found) → Contains all other → other.method ≡ new.method → Widens other.need new.need → other.need ≡ new.need
     new-widest other found is h =
         let most = rank-most other.need new.need h in
         elim (cases_lt (method_rank new.need) (method_rank other.need)) [
-          | inl above ↦
-              let long = k.long in
-              let within : other.method < methods = omega (arith, is, below, long) in
-              absurd (elim (k.all_done other found (higher other above) within) [
-                | inl full ↦
-                    let room = wanted-room (row table new.method) new.need wanted in
-                    let same : length (row table new.method) ≡ most_kept = subst (λ n. length (row table n) ≡ most_kept) is full in
-                    omega (arith, room, same)
-                | inr covered ↦ wanted-new (row table new.method) new.need wanted
-                    (cover-wider (row table new.method) new.need other.need (subst (λ n. some_cover (row table n) other.need ≡ true) is covered) h)
-              ])
+          | inl above ↦ absurd (wanted-new (row table new.method) new.need wanted (cover-wider (row table new.method) new.need other.need (new-ahead other found is above) h))
           | inr upto ↦ most.same (let low = most.below in omega (arith, upto, low))
         ]
 
@@ -175,6 +181,11 @@ module _ (methods : ℕ) (all : List Found) where
       widest = λ m need other c found is h. elim (cases m need c) [
         | inl old ↦ k.widest m need other old found is h
         | inr new_one ↦ new-widest other found (is ∙ new_one.0) (subst (Widens other.need) new_one.1 h) ∙ sym new_one.1
+      ];
+      ahead = λ m need other c found is above. elim (cases m need c) [
+        | inl old ↦ cover-stays m other.need (k.ahead m need other old found is above)
+        | inr new_one ↦ cover-stays m other.need (subst (λ n. some_cover (row table n) other.need ≡ true) (sym new_one.0)
+            (new-ahead other found (is ∙ new_one.0) (subst (λ (x : Need). method_rank x < method_rank other.need) new_one.1 above)))
       ];
       once = distinct;
       few = short;

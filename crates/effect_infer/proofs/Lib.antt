@@ -1,4 +1,6 @@
 pub mod Growth
+pub mod Crowding
+pub mod Constants
 pub mod Gathering
 pub mod Ranks
 pub mod RowItems

@@ -1,7 +1,8 @@
 -- The widest needs make the least summaries.
-use Rattle.std.proofs.Common.{◌≡◌, ◌⊎◌, ◌<◌, ◌≤◌, ℕ, zero, suc, ◌+◌, Bool, true, false, List, [], ◌∷◌, map, length, Some, None, Result, Ok, Err, inl, inr, refl, sym, ap, ◌∙◌, subst, arith}
-use Rattle.std.specs.Prelude.{slice_get, IsTrue, IfOk}
+use Rattle.std.proofs.Common.{◌≡◌, ◌<◌, ◌≤◌, ℕ, zero, suc, true, List, [], ◌∷◌, ◌++◌, map, length, Some, Result, Ok, Err, inl, inr, refl, sym, ap, ◌∙◌, subst, arith}
+use Rattle.std.specs.Prelude.{slice_get, IfOk}
 use Rattle.std.specs.List.{Contains}
+use Rattle.std.proofs.lemmas.Bool.{cases_lt}
 use Rattle.std.proofs.lemmas.List.{length-map}
 use Rattle.std.proofs.lemmas.Option.{slice_get_within}
 use Rattle.effect_sets.specs.declared.effects.Effect.{Effect}
@@ -12,7 +13,7 @@ use Rattle.twe_program.specs.Program.{Program}
 use Rattle.effect_infer.specs.declared.needs.need.Need.{Need}
 use Rattle.effect_infer.specs.needs.Needs.{IsNeed, own, called, IsWidest, Widens, effect_of}
 use Rattle.twe_program.specs.WellFormed.{IsWellFormed}
-use Rattle.effect_infer.specs.needs.Choices.{with_summaries, IsChoice, NoMethodFails, NoRuleFails, HasNeeds, CoversNeeds}
+use Rattle.effect_infer.specs.needs.Choices.{with_summaries, NoMethodFails, NoRuleFails, CoversNeeds}
 use Rattle.effect_infer.proofs.needs.Inside.{covers-trans}
 use Rattle.effect_infer.proofs.needs.Soundness as sound
 use Rattle.effect_infer.proofs.needs.Leastness as least
@@ -22,23 +23,55 @@ use Rattle.effect_infer.specs.declared.found.Found.{Found}
 use Rattle.effect_infer.specs.declared.fail.InferFail.{InferFail}
 use Rattle.effect_infer.specs.declared.fail.InferFail.TheVariants.{TooMany, OutOfMemory}
 use Rattle.effect_infer.specs.Rows.{row}
-use Rattle.effect_infer.specs.Covered.{IsCovered, HasFoundAll}
-use Rattle.effect_infer.specs.Kept.{AreDistinct, some_cover, most_kept, KeepsNeeds}
+use Rattle.effect_infer.specs.Crowded.{CoversFixed, IsCrowded}
+use Rattle.effect_infer.specs.Covered.{HasFoundAll}
+use Rattle.effect_infer.specs.Kept.{method_rank, some_cover, most_kept, KeepsNeeds}
 use Rattle.effect_infer.specs.Table.{AreFew, IsFirstLong, IsWidestTable}
-use Rattle.effect_infer.specs.Inferred.{AreWidest, summary_of, IsLeast, HasTooMany, AreLeast, AreCoveredByAll, InferHasCause}
-use Rattle.effect_infer.proofs.Ranks.{widens-same}
+use Rattle.effect_infer.specs.Inferred.{AreWidest, summary_of, IsLeast, AreLeast, AreCoveredByAll, InferHasCause}
+use Rattle.effect_infer.proofs.Ranks.{rank-most, widens-same}
+use Rattle.effect_infer.proofs.Crowding.{left-out, length-without, put-back, splits-in}
 use Rattle.effect_infer.proofs.Keeping.{cover-found, cover-wider}
 
 -- the table of the widest
 module _ (p : Program) (all : List Found) (table : List (List Need)) (found : HasFoundAll p all) (keeps : KeepsNeeds (length p.methods) all table (λ f. Unit {0})) where
+  -- what covers a need of the table, and is crowded out, is that need
+  crowded-same : (m : ℕ) (need other : Need) → Contains (row table m) need → Widens other need → IsCrowded all (record { method = m; need = other }) → other ≡ need
+  crowded-same m need other c h crowd = elim (cases_lt (method_rank need) (method_rank crowd.0)) [
+    | inl above ↦
+        let s = splits-in (row table m) need (contains-in (row table m) need c) in
+        let covers : CoversFixed all m (method_rank crowd.0) (s.0 ++ s.1) = λ w found is fixed rank.
+        let ahead = keeps.ahead m need w c found is (omega (arith, above, rank)) in
+        elim (left-out s.0 need s.1 w.need (subst (λ (xs : List Need). some_cover xs w.need ≡ true) s.2 ahead)) [
+          | inl wide ↦ let low = (rank-most need w.need wide).below in absurd (omega (arith, above, rank, low))
+          | inr rest ↦ rest
+        ] in
+        let few : length (s.0 ++ s.1) ≤ max_effects =
+        let long = length-without s.0 need s.1 in
+        let same : length (row table m) ≡ length (s.0 ++ need ∷ s.1) = ap (λ (xs : List Need). length xs) s.2 in
+        let most = keeps.few m in
+        omega (arith, long, same, most) in
+        let by = cover-found (row table m) crowd.0
+        (subst (λ (xs : List Need). some_cover xs crowd.0 ≡ true) (sym s.2) (put-back s.0 need s.1 crowd.0 (crowd.3 (s.0 ++ s.1) few covers))) in
+        let wider = covers-trans other (effect_of crowd.0) (effect_of by.0) crowd.2 by.2 in
+        let same : by.0 ≡ need =
+        keeps.widest m need (record { method = m; need = by.0 }) c (keeps.found m by.0 by.1) refl (covers-trans need (effect_of other) (effect_of by.0) h wider) in
+        widens-same other need h (subst (λ n. Widens n other) same wider)
+    | inr upto ↦
+        let most = rank-most crowd.0 need (covers-trans need (effect_of other) (effect_of crowd.0) h crowd.2) in
+        let same : crowd.0 ≡ need = most.same (let low = most.below in omega (arith, upto, low)) in
+        widens-same other need h (subst (λ n. Widens n other) same crowd.2)
+  ]
+
   only-widest : (m : ℕ) (need : Need) → Contains (row table m) need → IsWidest p m need
   only-widest m need c = record {
     needed = found.only (record { method = m; need = need }) (keeps.found m need c);
-    widest = λ other needed h.
-        let cover = found.covered (record { method = m; need = other }) needed in
-        let wider = covers-trans need (effect_of other) (effect_of cover.0.need) h cover.3 in
-        let same : cover.0.need ≡ need = keeps.widest m need cover.0 c cover.1 cover.2 wider in
-        widens-same other need h (subst (λ n. Widens n other) same cover.3);
+    widest = λ other needed h. elim (found.met (record { method = m; need = other }) needed) [
+      | inl cover ↦
+          let wider = covers-trans need (effect_of other) (effect_of cover.0.need) h cover.3 in
+          let same : cover.0.need ≡ need = keeps.widest m need cover.0 c cover.1 cover.2 wider in
+          widens-same other need h (subst (λ n. Widens n other) same cover.3)
+      | inr crowd ↦ crowded-same m need other c h crowd
+    ];
   }
 
   -- a method that needs something is there
@@ -46,13 +79,19 @@ module _ (p : Program) (all : List Found) (table : List (List Need)) (found : Ha
   need-there m need (own n decl step has) = slice_get_within p.methods n decl has.0
   need-there m need (called n decl callee args inner has needed) = slice_get_within p.methods n decl has.0
 
+  -- what was found of a method is covered, if it has few needs in the table
+  found-covered : (m : ℕ) (f : Found) → length (row table m) ≤ max_effects → m < length p.methods → Contains all f → f.method ≡ m → some_cover (row table m) f.need ≡ true
+  found-covered m f few there c is = elim (keeps.all_done f c tt (subst (λ n. n < length p.methods) (sym is) there)) [
+    | inl full ↦ absurd (let here = subst (λ n. length (row table n) ≡ most_kept) is full in omega (arith, here, few))
+    | inr covered ↦ subst (λ n. some_cover (row table n) f.need ≡ true) is covered
+  ]
+
   all-covered : (m : ℕ) (need : Need) → length (row table m) ≤ max_effects → IsNeed p m need → some_cover (row table m) need ≡ true
   all-covered m need few needed =
-      let cover = found.covered (record { method = m; need = need }) needed in
       let there : m < length p.methods = need-there m need needed in
-      elim (keeps.all_done cover.0 cover.1 tt (subst (λ n. n < length p.methods) (sym cover.2) there)) [
-        | inl full ↦ absurd (let here = subst (λ n. length (row table n) ≡ most_kept) cover.2 full in omega (arith, here, few))
-        | inr covered ↦ cover-wider (row table m) need cover.0.need (subst (λ n. some_cover (row table n) cover.0.need ≡ true) cover.2 covered) cover.3
+      elim (found.met (record { method = m; need = need }) needed) [
+        | inl cover ↦ cover-wider (row table m) need cover.0.need (found-covered m cover.0 few there cover.1 cover.2) cover.3
+        | inr crowd ↦ cover-wider (row table m) need crowd.0 (crowd.3 (row table m) few (λ w c is fixed rank. found-covered m w few there c is)) crowd.2
       ]
 
   pub widest-table : IsWidestTable p table

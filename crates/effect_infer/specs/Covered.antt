@@ -1,21 +1,27 @@
 -- How the list of needs that were found grows, until it covers all.
-use Rattle.std.specs.Prelude.{◌≡◌, ◌⊎◌, ◌<◌, ℕ, List, ◌++◌, Some, slice_get, Contains}
+use Rattle.std.specs.Prelude.{◌≡◌, ◌⊎◌, ◌<◌, ◌≤◌, ℕ, List, ◌++◌, Some, slice_get, Contains}
 use Rattle.twe_program.specs.Program.{Program}
 use Rattle.effect_infer.specs.declared.needs.need.Need.{Need}
 use Rattle.effect_infer.specs.needs.Needs.{IsNeed, Widens}
 use Rattle.effect_infer.specs.declared.found.Found.{Found}
 use Rattle.effect_infer.specs.declared.found.CallSite.{CallSite}
 use Rattle.effect_infer.specs.Gathered.{handed}
+use Rattle.effect_infer.specs.Kept.{method_rank}
+use Rattle.effect_infer.specs.Crowded.{IsCrowded}
 
 -- a need of the method is covered by one that was found
 abbrev pub IsCovered : List Found → Found → Type 0
 IsCovered all need = (wide : Found) × Contains all wide × (wide.method ≡ need.method) × Widens wide.need need.need
 
--- the list grows at its end by nothing but these needs, and covers them then
+-- a need of the method is covered, or whatever covers what was found with few effects covers it
+abbrev pub IsMet : List Found → Found → Type 0
+IsMet all need = IsCovered all need ⊎ IsCrowded all need
+
+-- the list grows at its end by nothing but these needs, and meets them then
 pub record SummaryGrows (old new : List Found) (Added : Found → Type 0) : Type 0 where
   pub longer : (more : List Found) × (new ≡ old ++ more)
   pub only : (need : Found) → Contains new need → Contains old need ⊎ Added need
-  pub all : (need : Found) → Added need → IsCovered new need
+  pub all : (need : Found) → Added need → IsMet new need
 
 -- the call hands a need of this method on
 abbrev pub IsHanded : CallSite → ℕ → Need → Found → Type 0
@@ -34,15 +40,35 @@ pub data MethodIsReached (starts : List Found) (calls : List CallSite) : Found �
       → call.callee ≡ need.method
       → MethodIsReached starts calls (handed call need.need)
 
--- the list has grown until each need that a call hands on is covered
-pub record Spreads (methods : ℕ) (calls : List CallSite) (old new : List Found) : Type 0 where
-  pub longer : (more : List Found) × (new ≡ old ++ more)
-  pub only : (need : Found) → Contains new need → MethodIsReached old calls need
-  pub all : (need : Found) (call : CallSite) → Contains new need → Contains calls call
-      → call.callee ≡ need.method → call.callee < methods
-      → IsCovered new (handed call need.need)
+-- calls lead to each need from one of those at the start
+abbrev pub ComesFrom : List Found → List CallSite → List Found → Type 0
+ComesFrom starts calls all = (need : Found) → Contains all need → MethodIsReached starts calls need
 
--- what was found is needed, and covers all that is needed
+-- what the calls hand on of each need before this place is met
+abbrev pub HandsOnBefore : ℕ → List CallSite → ℕ → List Found → Type 0
+HandsOnBefore methods calls at all =
+    (k : ℕ) (need : Found) (call : CallSite) → k < at → slice_get all k ≡ Some need → Contains calls call
+    → call.callee ≡ need.method → call.callee < methods → IsMet all (handed call need.need)
+
+-- what the calls hand on of each need is met
+abbrev pub HandsOnAll : ℕ → List CallSite → List Found → Type 0
+HandsOnAll methods calls all =
+    (need : Found) (call : CallSite) → Contains all need → Contains calls call
+    → call.callee ≡ need.method → call.callee < methods → IsMet all (handed call need.need)
+
+-- the list has grown by needs that calls lead to from these, until each need that a call hands on is met
+pub record Spreads (methods : ℕ) (calls : List CallSite) (starts old new : List Found) : Type 0 where
+  pub longer : (more : List Found) × (new ≡ old ++ more)
+  pub only : ComesFrom starts calls new
+  pub all : HandsOnAll methods calls new
+
+-- calls lead to each need from one of these, and what they hand on is met; so are those of these that have at least this rank
+pub record HasSpread (methods : ℕ) (calls : List CallSite) (starts : List Found) (least : ℕ) (all : List Found) : Type 0 where
+  pub only : ComesFrom starts calls all
+  pub handed_on : HandsOnAll methods calls all
+  pub met : (need : Found) → Contains starts need → least ≤ method_rank need.need → IsMet all need
+
+-- what was found is needed, and meets all that is needed
 pub record HasFoundAll (p : Program) (all : List Found) : Type 0 where
   pub only : (found : Found) → Contains all found → IsNeed p found.method found.need
-  pub covered : (found : Found) → IsNeed p found.method found.need → IsCovered all found
+  pub met : (found : Found) → IsNeed p found.method found.need → IsMet all found

@@ -49,6 +49,9 @@ pub record KeepsNeeds (methods : ℕ) (all : List Found) (table : List (List Nee
   pub widest : (m : ℕ) (need : Need) (other : Found) → Contains (row table m) need
       → Contains all other → other.method ≡ m
       → Widens other.need need → other.need ≡ need
+  pub ahead : (m : ℕ) (need : Need) (other : Found) → Contains (row table m) need
+      → Contains all other → other.method ≡ m
+      → method_rank need < method_rank other.need → IsTrue (some_cover (row table m) other.need)
   pub once : (m : ℕ) → AreDistinct (row table m)
   pub few : (m : ℕ) → length (row table m) ≤ most_kept
   pub all_done : (need : Found) → Contains all need → IsDone need → need.method < methods

@@ -1,7 +1,9 @@
 pub mod Gathered
-pub mod Covered
 pub mod Rows
 pub mod Kept
+pub mod Spread
+pub mod Crowded
+pub mod Covered
 pub mod Table
 pub mod Inferred
 pub mod needs

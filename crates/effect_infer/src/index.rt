@@ -1,13 +1,16 @@
-//! Where a need may stand among those that were found. An answer is a hint, which its user compares with what stands there.
+//! Where needs may stand among those that were found. An answer is a hint, which its user compares with what stands there.
 
 use crate::found::Found;
-use prefix_tree::{Part, PrefixTree};
-use region_paths::Elem;
+use crate::opened::{Open, count_indexes, has_parameter, opened_parts};
+use prefix_tree::PrefixTree;
 use std::alloc::Global;
 use std::collections::BTreeMap;
 use twe_base::{List, Memory};
 
-/// A need of a method, with its path as a number.
+/// How many places of needs that differ are noted at most: one more than a summary may have effects.
+pub(crate) const MOST_NOTED: usize = 9;
+
+/// Needs of a method, by the number of a path.
 #[derive(Clone, Copy, Debug, PartialEq, Eq, PartialOrd, Ord)]
 struct Key {
     method: u32,
@@ -15,21 +18,26 @@ struct Key {
     write: bool,
 }
 
+/// The numbers of the paths of a need: its own, and those with some of its indexes replaced by any index.
+#[derive(Clone, Copy, Debug)]
+pub(crate) struct PathNumbers {
+    /// The path as it is.
+    own: u32,
+    /// Any index in the place of the last one.
+    last: u32,
+    /// Any index in the place of the last but one.
+    before: u32,
+    /// Any index in the place of each index.
+    shape: u32,
+}
+
 /// The places of needs in a list.
 #[derive(Debug, Drop)]
 pub(crate) struct Index {
     paths: PrefixTree,
     places: BTreeMap<Key, usize>,
-}
-
-/// The element as a part of a path in the tree. Parameters and any index stand beyond the numbers of literals.
-fn part_of(elem: Elem) -> Part {
-    match elem {
-        Elem::Name(name) => Part::Name(name),
-        Elem::Index(index) => Part::Index(i64::from(index)),
-        Elem::Var(param) => Part::Index(0x1_0000_0000 + i64::from(param)),
-        Elem::AnyIndex => Part::Index(0x10_0000_0000),
-    }
+    rows: BTreeMap<Key, usize>,
+    crowds: List<List<usize>>,
 }
 
 impl Index {
@@ -38,44 +46,191 @@ impl Index {
         Ok(Index {
             paths: PrefixTree::new(alloc)?,
             places: BTreeMap::new(alloc),
+            rows: BTreeMap::new(alloc),
+            crowds: List::new(alloc),
         })
     }
 
-    /// The number of the path.
-    fn path(&mut self, alloc: Global, elems: &[Elem]) -> Result<u32, Memory> {
-        let mut parts = List::new(alloc);
-        for elem in elems {
-            parts.push(part_of(*elem))?;
-        }
+    /// The number of the path with these of its indexes replaced.
+    fn path(&mut self, alloc: Global, found: &Found, open: Open) -> Result<u32, Memory> {
+        let parts = opened_parts(alloc, found.need.elems.as_slice(), open)?;
         self.paths.add_path(parts.as_slice())
     }
 
-    /// Where this need of the method may stand, or a write of the same path. If there is no hint, `next` is kept as its place.
-    pub(crate) fn place_or_next(
-        &mut self,
-        alloc: Global,
-        found: &Found,
-        next: usize,
-    ) -> Result<usize, Memory> {
-        let path = self.path(alloc, found.need.elems.as_slice())?;
+    /// The numbers of the paths of a need. For a need that stands in the list its own is enough.
+    pub(crate) fn numbers(&mut self, alloc: Global, found: &Found) -> Result<PathNumbers, Memory> {
+        let own = self.path(alloc, found, Open::Nothing)?;
+        let mut numbers = PathNumbers {
+            own,
+            last: own,
+            before: own,
+            shape: own,
+        };
+        let indexes = count_indexes(found.need.elems.as_slice());
+        if indexes == 0 || self.place_of(found, own).is_some() {
+            return Ok(numbers);
+        }
+        numbers.last = self.path(alloc, found, Open::Last)?;
+        numbers.shape = numbers.last;
+        if indexes > 1 {
+            numbers.before = self.path(alloc, found, Open::Before)?;
+            numbers.shape = self.path(alloc, found, Open::All)?;
+        }
+        Ok(numbers)
+    }
+
+    /// Where a need of the method with this path stands that writes if the need does.
+    fn place_of(&self, found: &Found, path: u32) -> Option<usize> {
         let method = found.method;
+        let write = found.need.write;
+        let key = Key {
+            method,
+            path,
+            write,
+        };
+        if let Some(place) = self.places.get(&key) {
+            return Some(*place);
+        }
         let written = Key {
             method,
             path,
             write: true,
         };
-        if let Some(place) = self.places.get(&written) {
-            return Ok(*place);
+        self.places.get(&written).copied()
+    }
+
+    /// Where a need may stand that covers this one.
+    pub(crate) fn covering(&self, found: &Found, numbers: PathNumbers) -> Option<usize> {
+        for path in [numbers.shape, numbers.last, numbers.before, numbers.own] {
+            let place = self.place_of(found, path);
+            if place.is_some() {
+                return place;
+            }
         }
+        None
+    }
+
+    /// The places that are noted for this key.
+    fn crowd_of(&self, key: Key) -> &[usize] {
+        match self.rows.get(&key) {
+            Some(row) => match self.crowds.get(*row) {
+                Some(places) => places.as_slice(),
+                None => &[],
+            },
+            None => &[],
+        }
+    }
+
+    /// Places of needs of the method that may leave no room for this one.
+    pub(crate) fn crowd(&self, found: &Found, numbers: PathNumbers) -> &[usize] {
+        let method = found.method;
+        let write = found.need.write;
+        for path in [numbers.last, numbers.before, u32::MAX] {
+            let places = self.crowd_of(Key {
+                method,
+                path,
+                write,
+            });
+            if places.len() >= MOST_NOTED {
+                return places;
+            }
+        }
+        &[]
+    }
+
+    /// Notes a place for this key, if there is room.
+    fn push(&mut self, alloc: Global, key: Key, place: usize) -> Result<(), Memory> {
+        let row = match self.rows.get(&key) {
+            Some(row) => *row,
+            None => self.crowds.len(),
+        };
+        if row < self.crowds.len() {
+            let places = self.crowds.item_mut(row);
+            if places.len() < MOST_NOTED {
+                places.push(place)?;
+            }
+            return Ok(());
+        }
+        let mut places = List::new(alloc);
+        places.push(place)?;
+        self.crowds.push(places)?;
+        self.rows.insert(key, row)?;
+        Ok(())
+    }
+
+    /// Notes where a need without parameters stands, as one of those that may leave no room for others.
+    fn note_crowds(
+        &mut self,
+        alloc: Global,
+        found: &Found,
+        numbers: PathNumbers,
+        place: usize,
+    ) -> Result<(), Memory> {
+        let method = found.method;
+        let write = found.need.write;
+        let PathNumbers {
+            own,
+            last,
+            before,
+            shape,
+        } = numbers;
         let key = Key {
             method,
-            path,
-            write: found.need.write,
+            path: shape,
+            write,
         };
-        if let Some(place) = self.places.get(&key) {
-            return Ok(*place);
+        if self.rows.get(&key).is_none() {
+            let path = u32::MAX;
+            self.push(
+                alloc,
+                Key {
+                    method,
+                    path,
+                    write,
+                },
+                place,
+            )?;
         }
-        self.places.insert(key, next)?;
-        Ok(next)
+        if shape != own {
+            self.push(alloc, key, place)?;
+        }
+        for path in [last, before] {
+            if path != own && path != shape {
+                self.push(
+                    alloc,
+                    Key {
+                        method,
+                        path,
+                        write,
+                    },
+                    place,
+                )?;
+            }
+        }
+        Ok(())
+    }
+
+    /// Notes where a need stands.
+    pub(crate) fn note(
+        &mut self,
+        alloc: Global,
+        found: &Found,
+        numbers: PathNumbers,
+        place: usize,
+    ) -> Result<(), Memory> {
+        if !has_parameter(found.need.elems.as_slice()) {
+            self.note_crowds(alloc, found, numbers, place)?;
+        }
+        let method = found.method;
+        let write = found.need.write;
+        self.places.insert(
+            Key {
+                method,
+                path: numbers.own,
+                write,
+            },
+            place,
+        )?;
+        Ok(())
     }
 }

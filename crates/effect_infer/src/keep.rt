@@ -48,7 +48,7 @@ fn any_indexes(elems: &[Elem]) -> u64
 }
 
 /// The rank of a need. A need that covers another has a higher rank, unless the two are equal.
-fn rank(need: &Need) -> u64
+pub(crate) fn rank(need: &Need) -> u64
     ensures rank { result ≡ method_rank need.now }
     ensures small { result ≤ 2 ^ 63 }
 {

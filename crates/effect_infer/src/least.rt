@@ -6,11 +6,9 @@ ghost use Rattle.effect_infer.specs.Covered.{HasFoundAll};
 ghost use Rattle.effect_infer.specs.Inferred.{AreCoveredByAll, AreLeast, InferHasCause};
 ghost use Rattle.effect_infer.specs.Table.{IsWidestTable};
 
-use crate::add::add_all;
 use crate::fail::InferFail;
 use crate::found::AllFound;
 use crate::gather::gather;
-use crate::index::Index;
 use crate::keep::{Table, keep_widest};
 use crate::spread::spread;
 use crate::summary::{Needs, summaries};
@@ -25,11 +23,8 @@ fn find(alloc: Global, p: &Prog) -> Result<AllFound, Memory>
 {
     let methods = p.methods.as_slice();
     let gathered = gather(alloc, p.cells.as_slice(), methods)?;
-    let mut all = AllFound::new(alloc);
-    let mut index = Index::new(alloc)?;
-    add_all(&mut all, &mut index, alloc, gathered.starts.as_slice())?;
-    spread(&mut all, &mut index, alloc, &gathered.calls, methods.len())?;
-    Ok(all)
+    let starts = gathered.starts.as_slice();
+    spread(alloc, starts, &gathered.calls, methods.len())
 }
 
 /// For each method its widest needs, or too many of them.

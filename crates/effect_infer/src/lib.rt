@@ -1,11 +1,14 @@
 //! The least summaries of a program's methods: for each method the needs that no other need of it covers.
 //!
 //! `method_needs` says what a method needs. The code starts from what the bodies read and write, hands each need on to the
-//! callers until nothing is new, and then keeps the widest.
+//! callers until nothing is new, and then keeps the widest. Equal calls hand on once. A need that another covers is dropped, and
+//! so is one that every short summary of the method must cover, because of what else was found.
 #![tactic(auto)]
 
 mod add;
 mod callers;
+mod calls_seen;
+mod crowd;
 mod fail;
 mod found;
 mod gather;
@@ -13,6 +16,7 @@ mod index;
 mod keep;
 mod least;
 pub mod needs;
+mod opened;
 mod rows;
 mod spread;
 mod summary;

@@ -1,12 +1,13 @@
 //! Hands each need on to the callers of its method, until nothing is new.
-ghost use Rattle.std.specs.Prelude.{OnOk};
-ghost use Rattle.effect_infer.specs.Rows.{row};
-ghost use Rattle.effect_infer.specs.Covered.{SummaryGrows, IsHanded, IsHandedBy, Spreads};
+ghost use Rattle.std.specs.Prelude.{◌≤◌, ◌∷◌, [], ◌++◌, length, IfOk, OnOk};
+ghost use Rattle.effect_infer.specs.Rows.{ListsCalls, row};
+ghost use Rattle.effect_infer.specs.Covered.{ComesFrom, HandsOnAll, HandsOnBefore, HasSpread, IsHanded, IsHandedBy, IsMet, Spreads, SummaryGrows};
 
 use crate::add::add;
 use crate::callers::{Callers, callers_of};
 use crate::found::{AllFound, CallSite, CallSites, Found};
 use crate::index::Index;
+use crate::keep::rank;
 use crate::needs::Need;
 use crate::widen::{copy, fill, settle};
 use std::alloc::Global;
@@ -70,24 +71,90 @@ fn hand_to_callers(
     }
 }
 
-/// Hands each need on to the callers of its method, until nothing is new.
-pub(crate) fn spread(
+/// Hands each need from this place on to the callers of its method, until nothing is new.
+fn hand_on_from(
     all: &mut AllFound,
     index: &mut Index,
     alloc: Global,
     calls: &CallSites,
-    methods: usize,
+    callers: &Callers,
+    from: usize,
 ) -> Result<(), Memory>
-    ensures { OnOk result (Spreads methods calls.now all.old all.new) }
+    requires before { HandsOnBefore (length callers.now) calls.now from all.old }
+    requires inside { from ≤ length all.old }
+    requires listed { ListsCalls (length callers.now) calls.now callers.now }
+    ensures { OnOk result (Spreads (length callers.now) calls.now all.old all.old all.new) }
 {
-    let callers = callers_of(alloc, calls.as_slice(), methods)?;
-    for at in 0..u32::MAX as usize {
+    for at in from..u32::MAX as usize {
         let Some(found) = all.get(at) else {
             return Ok(());
         };
         let method = found.method;
         let need = copy(alloc, &found.need)?;
-        hand_to_callers(all, index, alloc, calls, &callers, method, &need)?;
+        hand_to_callers(all, index, alloc, calls, callers, method, &need)?;
     }
     Err(Memory::of_uncountable(all.as_slice()))
+}
+
+/// Adds a need, and hands it on.
+fn start(
+    all: &mut AllFound,
+    index: &mut Index,
+    alloc: Global,
+    calls: &CallSites,
+    callers: &Callers,
+    found: &Found,
+) -> Result<(), Memory>
+    requires before { HandsOnAll (length callers.now) calls.now all.old }
+    requires listed { ListsCalls (length callers.now) calls.now callers.now }
+    ensures spreads { OnOk result (Spreads (length callers.now) calls.now (all.old ++ found.now ∷ []) all.old all.new) }
+    ensures met { OnOk result (IsMet all.new found.now) }
+{
+    let from = all.len();
+    let need = copy(alloc, &found.need)?;
+    let method = found.method;
+    add(all, index, alloc, Found { method, need })?;
+    hand_on_from(all, index, alloc, calls, callers, from)
+}
+
+/// Adds and hands on those of the needs that have at least this rank.
+fn start_from(
+    all: &mut AllFound,
+    index: &mut Index,
+    alloc: Global,
+    calls: &CallSites,
+    callers: &Callers,
+    starts: &[Found],
+    least: u64,
+) -> Result<(), Memory>
+    requires reached { ComesFrom starts.now calls.now all.old }
+    requires before { HandsOnAll (length callers.now) calls.now all.old }
+    requires listed { ListsCalls (length callers.now) calls.now callers.now }
+    ensures { OnOk result (HasSpread (length callers.now) calls.now starts.now least all.new) }
+{
+    for found in starts {
+        if least <= rank(&found.need) {
+            start(all, index, alloc, calls, callers, found)?;
+        }
+    }
+    Ok(())
+}
+
+/// These needs, and all that calls hand on of them, until nothing is new. Wide needs come first, so that what they cover is not
+/// handed on.
+pub(crate) fn spread(
+    alloc: Global,
+    starts: &[Found],
+    calls: &CallSites,
+    methods: usize,
+) -> Result<AllFound, Memory>
+    ensures { IfOk result (HasSpread methods calls.now starts.now 0) }
+{
+    let callers = callers_of(alloc, calls.as_slice(), methods)?;
+    let mut index = Index::new(alloc)?;
+    let mut all = AllFound::new(alloc);
+    start_from(&mut all, &mut index, alloc, calls, &callers, starts, 2)?;
+    start_from(&mut all, &mut index, alloc, calls, &callers, starts, 1)?;
+    start_from(&mut all, &mut index, alloc, calls, &callers, starts, 0)?;
+    Ok(all)
 }

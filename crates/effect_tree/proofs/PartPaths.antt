@@ -1,12 +1,12 @@
 -- Paths of parts, and the paths of elements that they stand for.
-use Rattle.std.proofs.Common.{◌≡◌, ℕ, zero, suc, ◌↔◌, List, [], ◌∷◌, ◌++◌, map, length, refl, sym, ap, subst, ◌∙◌, arith}
+use Rattle.std.proofs.Common.{◌≡◌, ℕ, zero, suc, ◌↔◌, List, [], ◌∷◌, ◌++◌, map, length, None, Some, refl, sym, ap, subst, ◌∙◌, arith}
 use Rattle.std.proofs.lemmas.List.{map-append, length-map}
 use Rattle.region_paths.specs.declared.elements.Elem.{Elem}
 use Rattle.prefix_tree.specs.declared.part.Part.{Part}
 use Rattle.prefix_tree.specs.declared.part.Part.TheVariants as part
 use Rattle.prefix_tree.specs.Prefix.{IsPrefix}
 use Rattle.prefix_tree.specs.Nodes.{path_of, IsNode, IsParent, IsTreeOfPaths}
-use Rattle.effect_tree.specs.inner.Parts.{elem_of, elem_paths}
+use Rattle.effect_tree.specs.inner.Parts.{part_of, elem_of, elem_paths}
 
 -- parts with one element are one
 pub elem_of-same : (p q : Part) → elem_of p ≡ elem_of q → p ≡ q
@@ -121,3 +121,22 @@ child-elems nodes at n p e = path_of-elems nodes n ∙ ap (map elem_of) e ∙ ch
 pub absent-elems : (nodes : List (List Part)) (at : ℕ) (p : Part) → ¬ IsNode nodes (path_of nodes at ++ p ∷ []) → ¬ IsNode (elem_paths nodes) (path_of (elem_paths nodes) at ++ elem_of p ∷ [])
 absent-elems nodes at p absent h =
     absent (node-from nodes (path_of nodes at ++ p ∷ []) (subst (λ (path : List Elem). IsNode (elem_paths nodes) path) (sym (child-path nodes at p)) h))
+
+-- the last element of the elements of parts is that of a part
+last_part : (xs : List Part) (ys : List Elem) (e : Elem) → map elem_of xs ≡ ys ++ e ∷ [] → (p : Part) × (elem_of p ≡ e)
+last_part [] [] e h = cc
+last_part [] (y ∷ ys) e h = cc
+last_part (x ∷ xs) [] e h = (x, let same = h in cc)
+last_part (x ∷ xs) (y ∷ ys) e h = last_part xs ys e (let same = h in cc)
+
+elem_part : (p : Part) → part_of (elem_of p) ≡ Some p
+elem_part (part.Name n) = refl
+elem_part (part.Index i) = refl
+
+-- by an element that is no part there is no node
+pub no_part-elems : (nodes : List (List Part)) (at : ℕ) (e : Elem) → part_of e ≡ None → ¬ IsNode (elem_paths nodes) (path_of (elem_paths nodes) at ++ e ∷ [])
+no_part-elems nodes at e none h =
+    let parts = node-parts nodes (path_of (elem_paths nodes) at ++ e ∷ []) h in
+    let last = last_part parts.0 (path_of (elem_paths nodes) at) e parts.2 in
+    let some = sym (ap part_of last.1) ∙ elem_part last.0 in
+    absurd (let no = sym none ∙ some in cc)

@@ -42,7 +42,7 @@ name_is : (n m k : ℕ) → elem_stands (Name n) (region k) ≡ true → elem_st
 name_is n m k s t = ap Name (eqb-true n k s ∙ sym (eqb-true m k t))
 
 -- two solid elements that stand against one concrete element are one
-same_solid : (e f : Elem) (c : ConcreteElem) → is_solid e ≡ true → is_solid f ≡ true → elem_stands e c ≡ true → elem_stands f c ≡ true → e ≡ f
+pub same_solid : (e f : Elem) (c : ConcreteElem) → is_solid e ≡ true → is_solid f ≡ true → elem_stands e c ≡ true → elem_stands f c ≡ true → e ≡ f
 same_solid (Name n) (Name m) (region k) h l s t = name_is n m k s t
 same_solid (Name n) (Name m) (number z) h l s t = absurd (false≢true s)
 same_solid (Name n) (Index j) (region k) h l s t = absurd (false≢true t)
@@ -146,7 +146,7 @@ inside_starts true true xs ys pt qt h = (and_parts _ _ h).0
 pub solid_prefixes_meet : (p q : WrittenPath) (c : ConcretePath) → InSet p c → InSet q c → AreAboveOneAnother (solid_prefix p) (solid_prefix q)
 solid_prefixes_meet p q c s t = fronts_meet p.elems q.elems c (Stands-set p c s) (Stands-set q c t)
 
-unstarred_stands : (b : Bool) (es tail : List Elem) (c : ConcretePath) → b ≡ false → stands (record { elems = es; star = b; tail = tail }) c ≡ true → each_stands es c ≡ true
+pub unstarred_stands : (b : Bool) (es tail : List Elem) (c : ConcretePath) → b ≡ false → stands (record { elems = es; star = b; tail = tail }) c ≡ true → each_stands es c ≡ true
 unstarred_stands false es tail c h s = s
 unstarred_stands true es tail c h s = absurd (false≢true (sym h))
 

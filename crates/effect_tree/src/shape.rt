@@ -1,5 +1,5 @@
 //! The shape of the effect tree of a program.
-ghost use Rattle.std.specs.Prelude.{◌≡◌, ℕ, ◌<◌, ◌≤◌, ◌↔◌, length, take_while, Contains, IfSome, IsNone, IfOk};
+ghost use Rattle.std.specs.Prelude.{◌≡◌, ℕ, ◌<◌, ◌≤◌, ◌↔◌, [], ◌∷◌, ◌++◌, length, take_while, Contains, IfSome, IsNone, IfOk, MatchOption};
 ghost use Rattle.std.specs.List.Sorted.{IsStrictlyIncreasing};
 
 use crate::children::children;
@@ -90,6 +90,21 @@ impl Shape {
         ensures in_order { IsStrictlyIncreasing result.now }
     {
         self.below[n as usize].as_slice()
+    }
+
+    /// The node right below `n` whose path ends with this element, if there is one. It takes no memory, and time near
+    /// logarithmic in the number of nodes.
+    pub fn child(&self, n: u32, elem: Elem) -> Option<u32>
+        requires { n < length self.now }
+        ensures { MatchOption result (¬ IsNode self.now (path_of self.now n ++ elem ∷ []))
+            (λ m. (m < length self.now) × (path_of self.now m ≡ path_of self.now n ++ elem ∷ [])) }
+    {
+        // The tree is read so that a proof may use what it keeps.
+        let _tree = &self.tree;
+        let Some(next) = part(elem) else {
+            return None;
+        };
+        self.tree.child(n, next)
     }
 
     /// The place of a path: the deepest node that is a prefix of the path's solid prefix. It takes no memory, and time

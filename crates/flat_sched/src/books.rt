@@ -1,5 +1,5 @@
 //! The books of a run: what it keeps beside its state, so that it looks at few tasks for each move.
-ghost use Rattle.std.specs.Prelude.{◌≡◌, []};
+ghost use Rattle.std.specs.Prelude.{◌≡◌, [], IfOk};
 ghost use Rattle.twe_base.specs.Limits.{Bounds};
 ghost use Rattle.twe_program.specs.Program.{Program};
 ghost use Rattle.twe_machine.specs.Listings.{IsListing};
@@ -8,7 +8,7 @@ ghost use Rattle.twe_machine.specs.Moves.{start_of};
 use crate::groups::Groups;
 use crate::ready::Ready;
 use std::alloc::Global;
-use twe_base::List;
+use twe_base::{List, Memory};
 use twe_machine::EnabledTasks;
 
 /// The books of a run.
@@ -27,20 +27,20 @@ pub(crate) struct Books {
 }
 
 impl Books {
-    /// The books of a run that has not begun. It takes no memory.
-    pub fn new(alloc: Global) -> Self
-        ensures ready { result.ready ≡ [] }
-        ensures waiters { result.waiters ≡ [] }
-        ensures held { result.held ≡ [] }
-        ensures groups { result.groups ≡ [] }
-        ensures enabled { (p : Program) (lim : Bounds) → IsListing (start_of p lim) result.enabled }
+    /// The books of a run that has not begun.
+    pub fn new(alloc: Global) -> Result<Self, Memory>
+        ensures ready { IfOk result (λ books. books.ready ≡ []) }
+        ensures waiters { IfOk result (λ books. books.waiters ≡ []) }
+        ensures held { IfOk result (λ books. books.held ≡ []) }
+        ensures groups { IfOk result (λ books. books.groups ≡ []) }
+        ensures enabled { IfOk result (λ books. (p : Program) (lim : Bounds) → IsListing (start_of p lim) books.enabled) }
     {
-        Books {
+        Ok(Books {
             ready: Ready::new(alloc),
             waiters: List::new(alloc),
             held: List::new(alloc),
             groups: List::new(alloc),
-            enabled: EnabledTasks::new(alloc),
-        }
+            enabled: EnabledTasks::new(alloc)?,
+        })
     }
 }

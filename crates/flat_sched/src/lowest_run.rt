@@ -50,7 +50,7 @@ pub fn run_lowest(alloc: Global, p: &Prog, lim: Limits) -> Result<(Journal, Stat
 fn first_books(alloc: Global) -> Result<Books, Memory>
     ensures { IfOk result (λ books. (p : Program) (lim : Bounds) → Keeps (start_of p lim) books) }
 {
-    let mut books = Books::new(alloc);
+    let mut books = Books::new(alloc)?;
     books.ready.add(0)?;
     Ok(books)
 }

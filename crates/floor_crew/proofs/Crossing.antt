@@ -16,8 +16,17 @@ use Rattle.twe_rounds.proofs.Crossing.{prog_sync}
 use Rattle.floor_table.specs.declared.rule.Named as Named
 use Rattle.floor_table.specs.declared.nodes.rule.Planted as Planted
 use Rattle.floor_crew.specs.declared.located.Located as Located
+use Rattle.floor_crew.specs.contracts.setup.Setup as Setup
 use Rattle.floor_crew.specs.contracts.ground.Ground as Ground
 use Rattle.floor_crew.specs.contracts.ground.Ground.TheInside as inside
+
+setup_sync : (ℓ : NamedLft) → IsSync (Setup.the_row ℓ)
+setup_sync ℓ =
+    recorded_sync (Setup.the_field ℓ).row _ _ (Setup.the_type ℓ).to_one
+    (struct_sync (shape (Setup.the_type ℓ)) (
+      global.the_field_sync,
+      (shr_sync _ _ Prog.the_row prog_sync, (limits.the_sync, (shr_sync _ _ Shape.the_row tree.the_sync, tt))),
+    ))
 
 pub ground_sync : (ℓ : NamedLft) (N F : RattleType) (n : Named.Ghosts N.Denot) (t : Planted.Ghosts N.Denot) (f : Located.Ghosts F.Denot)
     → IsSync (Ground.the_row ℓ N F n t f)
@@ -25,12 +34,6 @@ ground_sync ℓ N F n t f =
     view_sync (inside.the_row ℓ N F n t f) _ _ _ _
     (recorded_sync (inside.the_field ℓ N F n t f).row _ _ (inside.the_type ℓ N F n t f).to_one
     (struct_sync (shape (inside.the_type ℓ N F n t f)) (
-      global.the_field_sync,
-      (
-        shr_sync _ _ (Floor.the_row N n t) (floor.the_sync N n t),
-        (
-          shr_sync _ _ Prog.the_row prog_sync,
-          (shr_sync _ _ Shape.the_row tree.the_sync, (limits.the_sync, (flag.the_field_sync, (phantom.the_field_sync F, tt)))),
-        ),
-      ),
+      shr_sync _ _ (Setup.the_row ℓ) (setup_sync ℓ),
+      (shr_sync _ _ (Floor.the_row N n t) (floor.the_sync N n t), (flag.the_field_sync, (phantom.the_field_sync F, tt))),
     )))

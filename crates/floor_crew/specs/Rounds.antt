@@ -8,5 +8,6 @@ use Rattle.twe_rounds.specs.Crews.{CrewRun, state_of}
 -- if the run of the crew could go on, its journal is longer afterwards, whatever the number of workers
 abbrev pub GrowsUnlessOver : CrewRun → CrewRun → Type 0
 GrowsUnlessOver old new =
-    (journal later : List Entry) → old.journal ≡ Some journal → new.journal ≡ Some later → IsOutcome (state_of old journal) Unfinished
+    (journal later : List Entry) → old.journal ≡ Some journal → new.journal ≡ Some later
+    → IsOutcome (state_of old journal) Unfinished
     → length journal < length later

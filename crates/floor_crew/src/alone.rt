@@ -12,29 +12,27 @@ use crate::at_rest::RunAtRest;
 use crate::book::Book;
 use crate::brief::is_brief;
 use crate::looking::{Found, look};
+use crate::setup::Setup;
 use seg_journal::{Kind, Move};
-use std::alloc::Global;
-use twe_base::{Limits, Memory};
+use twe_base::Memory;
 use twe_machine::State;
 use twe_program::Prog;
 
 /// Takes moves until two tasks may run beside each other, or none may run. Returns whether two may.
 pub(crate) fn go_on_alone(
-    alloc: Global,
-    p: &Prog,
-    lim: Limits,
+    setup: &Setup<'_>,
     run: &mut RunAtRest,
     book: &mut Book,
 ) -> Result<bool, Memory>
-    requires { IsSound p.now lim run.old }
-    ensures { OnOk result (HasGoneOn p.now lim run.old.rest.journal run.new) }
+    requires { IsSound setup.now.p.now setup.now.lim run.old }
+    ensures { OnOk result (HasGoneOn setup.now.p.now setup.now.lim run.old.rest.journal run.new) }
 {
     'moves: for _ in 0..u64::MAX {
-        look_at_ready(alloc, p, lim, run, book)?;
+        look_at_ready(setup, run, book)?;
         if run.rest.state.first_fault.is_some() {
             return Ok(false);
         }
-        if !go_on_once(alloc, p, lim, run, book)? {
+        if !go_on_once(setup, run, book)? {
             return Ok(book.has_two());
         }
     }
@@ -43,62 +41,43 @@ pub(crate) fn go_on_alone(
 
 /// Runs the next segment that is run alone, if there is one. Returns whether there may be another, perhaps after a look at the
 /// tasks that are to be looked at.
-fn go_on_once(
-    alloc: Global,
-    p: &Prog,
-    lim: Limits,
-    run: &mut RunAtRest,
-    book: &mut Book,
-) -> Result<bool, Memory>
-    requires { IsSound p.now lim run.old }
-    ensures { OnOk result (HasGoneOn p.now lim run.old.rest.journal run.new) }
+fn go_on_once(setup: &Setup<'_>, run: &mut RunAtRest, book: &mut Book) -> Result<bool, Memory>
+    requires { IsSound setup.now.p.now setup.now.lim run.old }
+    ensures { OnOk result (HasGoneOn setup.now.p.now setup.now.lim run.old.rest.journal run.new) }
 {
     let Some(task) = book.next_alone() else {
         return book.look_again();
     };
-    run_next(alloc, p, lim, run, book, task)?;
+    run_next(setup, run, book, task)?;
     Ok(true)
 }
 
 /// Looks at the tasks that are to be looked at, and admits each that may be admitted.
-fn look_at_ready(
-    alloc: Global,
-    p: &Prog,
-    lim: Limits,
-    run: &mut RunAtRest,
-    book: &mut Book,
-) -> Result<(), Memory>
-    requires { IsSound p.now lim run.old }
-    ensures { OnOk result (HasGoneOn p.now lim run.old.rest.journal run.new) }
+fn look_at_ready(setup: &Setup<'_>, run: &mut RunAtRest, book: &mut Book) -> Result<(), Memory>
+    requires { IsSound setup.now.p.now setup.now.lim run.old }
+    ensures { OnOk result (HasGoneOn setup.now.p.now setup.now.lim run.old.rest.journal run.new) }
 {
     'looks: for _ in 0..u64::MAX {
         let Some(task) = book.next() else {
             break;
         };
-        look_at(alloc, p, lim, run, book, task)?;
+        look_at(setup, run, book, task)?;
     }
     Ok(())
 }
 
 /// Looks at a task, and admits it if it may be admitted.
-fn look_at(
-    alloc: Global,
-    p: &Prog,
-    lim: Limits,
-    run: &mut RunAtRest,
-    book: &mut Book,
-    task: u32,
-) -> Result<(), Memory>
-    requires { IsSound p.now lim run.old }
-    ensures { OnOk result (HasGoneOn p.now lim run.old.rest.journal run.new) }
+fn look_at(setup: &Setup<'_>, run: &mut RunAtRest, book: &mut Book, task: u32) -> Result<(), Memory>
+    requires { IsSound setup.now.p.now setup.now.lim run.old }
+    ensures { OnOk result (HasGoneOn setup.now.p.now setup.now.lim run.old.rest.journal run.new) }
 {
-    match look(p, &run.rest.state, &run.enabled, task) {
+    match look(setup.p, &run.rest.state, &run.enabled, task) {
         Found::Admissible => {
             let kind = Kind::Admit;
-            take(alloc, p, lim, run, book, Move { kind, task })
+            take(setup, run, book, Move { kind, task })
         }
         Found::Held { by } => book.hold(task, by),
-        Found::Runs => book.add_running(task, ends_at_once(p, &run.rest.state, task)),
+        Found::Runs => book.add_running(task, ends_at_once(setup.p, &run.rest.state, task)),
         Found::Waits { on, next } => book.wait(task, on, next),
         Found::Over => Ok(()),
     }
@@ -106,39 +85,36 @@ fn look_at(
 
 /// Runs the next segment of a task, if it may run.
 fn run_next(
-    alloc: Global,
-    p: &Prog,
-    lim: Limits,
+    setup: &Setup<'_>,
     run: &mut RunAtRest,
     book: &mut Book,
     task: u32,
 ) -> Result<(), Memory>
-    requires { IsSound p.now lim run.old }
-    ensures { OnOk result (HasGoneOn p.now lim run.old.rest.journal run.new) }
+    requires { IsSound setup.now.p.now setup.now.lim run.old }
+    ensures { OnOk result (HasGoneOn setup.now.p.now setup.now.lim run.old.rest.journal run.new) }
 {
-    let Found::Runs = look(p, &run.rest.state, &run.enabled, task) else {
+    let Found::Runs = look(setup.p, &run.rest.state, &run.enabled, task) else {
         return Ok(());
     };
     let kind = Kind::Run;
-    take(alloc, p, lim, run, book, Move { kind, task })
+    take(setup, run, book, Move { kind, task })
 }
 
 /// Takes a legal move, and notes it in the book.
 pub(crate) fn take(
-    alloc: Global,
-    p: &Prog,
-    lim: Limits,
+    setup: &Setup<'_>,
     run: &mut RunAtRest,
     book: &mut Book,
     mv: Move,
 ) -> Result<(), Memory>
-    requires sound { IsSound p.now lim run.old }
+    requires sound { IsSound setup.now.p.now setup.now.lim run.old }
     requires legal { MayMove run.old.rest.state mv }
-    ensures gone { OnOk result (HasGoneOn p.now lim run.old.rest.journal run.new) }
-    ensures journal { OnOk result (run.new.rest.journal ≡ run.old.rest.journal ++ entry_of p.now lim run.old.rest.state mv ∷ []) }
+    ensures gone { OnOk result (HasGoneOn setup.now.p.now setup.now.lim run.old.rest.journal run.new) }
+    ensures journal { OnOk result (run.new.rest.journal
+        ≡ run.old.rest.journal ++ entry_of setup.now.p.now setup.now.lim run.old.rest.state mv ∷ []) }
 {
     let before = fuel_left(&run.rest.state, mv.task);
-    run.take(alloc, p, lim, mv)?;
+    run.take(setup.alloc, setup.p, setup.lim, mv)?;
     let after = fuel_left(&run.rest.state, mv.task);
     book.account.count(before.saturating_sub(after));
     book.read(run.rest.journal.as_slice())

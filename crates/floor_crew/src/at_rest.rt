@@ -4,7 +4,6 @@ ghost use Rattle.twe_machine.specs.Legal.{MayMove};
 ghost use Rattle.twe_machine.specs.Runs.{IsRun, entry_of};
 ghost use Rattle.floor_crew.specs.inner.GoingOn.{IsSound};
 
-use crate::enabled::enabled_in;
 use seg_journal::{Entry, Journal, Move};
 use std::alloc::Global;
 use task_floor::steps::Rest;
@@ -32,7 +31,7 @@ impl RunAtRest {
                 state: start(alloc, p, lim)?,
                 journal: Journal::new(alloc),
             },
-            enabled: EnabledTasks::new(alloc),
+            enabled: EnabledTasks::new(alloc)?,
         })
     }
 
@@ -65,7 +64,7 @@ impl RunAtRest {
     {
         links_agree();
         let (_main, _tasks) = (p.main, lim.tasks);
-        let enabled = enabled_in(alloc, &rest.state)?;
+        let enabled = EnabledTasks::of(alloc, &rest.state)?;
         Ok(RunAtRest { rest, enabled })
     }
 }

@@ -79,8 +79,8 @@ impl Book {
     }
 
     /// Notes an entry. Its task is to be looked at again, and so is one that it has made. If its task has ended, so is the one
-    /// that waited for it, and so are those that it held. A task that was admitted is looked at before all others, so that no more
-    /// tasks are admitted than are found to run.
+    /// that waited for it, and so are those that it held. A task that was admitted is looked at before all others, so that no
+    /// more tasks are admitted than are found to run.
     fn note(&mut self, entry: Entry) -> Result<(), Memory> {
         match entry.end {
             End::Done { .. } => self.end(entry.mv.task),
@@ -163,8 +163,8 @@ impl Book {
         Ok(())
     }
 
-    /// The task whose next segment is run while the others lie still: one whose segment ends at once, or else one that may run, if it
-    /// is the only one or no floor is paid for yet.
+    /// The task whose next segment is run while the others lie still: one whose segment ends at once, or else one that may run,
+    /// if it is the only one or no floor is paid for yet.
     pub(crate) fn next_alone(&mut self) -> Option<u32> {
         match self.brief.pop() {
             Some(task) => Some(task),

@@ -12,6 +12,7 @@ use crate::alone::take;
 use crate::at_rest::RunAtRest;
 use crate::book::Book;
 use crate::going_on::go_on;
+use crate::setup::Setup;
 use effect_tree::Shape;
 use flat_sched::stuck_cycle;
 use run_gates::Gate;
@@ -53,10 +54,15 @@ impl Model for FloorCrew {
 
     ghost coded = { Prim.hlevel (codes, cell.the_row.coded, decl.the_row.coded) };
 
-    ghost view = { λ crew. record { prog = crew.prog.value; lim = crew.lim; workers = crew.workers; journal = journal_of crew.run } };
+    ghost view = { λ crew. record {
+      prog = crew.prog.value;
+      lim = crew.lim;
+      workers = crew.workers;
+      journal = journal_of crew.run;
+    } };
 
-    ghost invariant = { λ crew. (1 ≤ crew.workers) × (crew.workers ≤ 64) × KeepsEffects crew.prog.value × RunIsKept crew.prog.value crew.lim crew.run
-        × IsShapeOf crew.prog.value crew.shape };
+    ghost invariant = { λ crew. (1 ≤ crew.workers) × (crew.workers ≤ 64) × KeepsEffects crew.prog.value
+        × RunIsKept crew.prog.value crew.lim crew.run × IsShapeOf crew.prog.value crew.shape };
 }
 
 impl FloorCrew {
@@ -87,7 +93,13 @@ impl FloorCrew {
         ensures err { OnErr result (self.new ≡ lost self.old) }
     {
         let mut run = self.run.take().ok_or(lost())?;
-        let found = step_quietly(self.alloc, p, self.lim, &mut run, &mut self.book)?;
+        let setup = Setup {
+            alloc: self.alloc,
+            p,
+            lim: self.lim,
+            shape: &self.shape,
+        };
+        let found = step_quietly(&setup, &mut run, &mut self.book)?;
         self.run = Some(run);
         Ok(found)
     }
@@ -107,17 +119,13 @@ impl FloorCrew {
         ensures err { OnErr result (self.new ≡ lost self.old) }
     {
         let run = self.run.take().ok_or(lost())?;
-        let after = go_on(
-            rt,
-            self.alloc,
+        let setup = Setup {
+            alloc: self.alloc,
             p,
-            &self.shape,
-            self.lim,
-            self.workers,
-            run,
-            &mut self.book,
-            gate,
-        )?;
+            lim: self.lim,
+            shape: &self.shape,
+        };
+        let after = go_on(rt, &setup, self.workers, run, &mut self.book, gate)?;
         self.run = Some(after);
         Ok(())
     }
@@ -137,26 +145,21 @@ impl FloorCrew {
 }
 
 /// A quiet step in a run.
-fn step_quietly(
-    alloc: Global,
-    p: &Prog,
-    lim: Limits,
-    run: &mut RunAtRest,
-    book: &mut Book,
-) -> Result<Quietly, Memory>
-    requires { IsSound p.now lim run.old }
-    ensures sound { OnOk result (IsSound p.now lim run.new) }
-    ensures steps { IfOk result (Steps p.now lim run.old run.new) }
+fn step_quietly(setup: &Setup<'_>, run: &mut RunAtRest, book: &mut Book) -> Result<Quietly, Memory>
+    requires { IsSound setup.now.p.now setup.now.lim run.old }
+    ensures sound { OnOk result (IsSound setup.now.p.now setup.now.lim run.new) }
+    ensures steps { IfOk result (Steps setup.now.p.now setup.now.lim run.old run.new) }
 {
+    let p = setup.p;
     match outcome(p, &run.rest.state) {
         Outcome::Fault { .. } => Ok(Quietly::Faulted),
         Outcome::AllDone => Ok(Quietly::AllDone),
-        Outcome::Stuck => Ok(Quietly::Stuck(stuck_cycle(alloc, p, &run.rest.state)?)),
+        Outcome::Stuck => Ok(Quietly::Stuck(stuck_cycle(setup.alloc, p, &run.rest.state)?)),
         Outcome::Unfinished => {
             let Some(mv) = lowest(p, &run.rest.state) else {
                 unreachable!()
             };
-            take(alloc, p, lim, run, book, mv)?;
+            take(setup, run, book, mv)?;
             Ok(Quietly::Moved)
         }
     }

@@ -11,71 +11,65 @@ use crate::at_rest::RunAtRest;
 use crate::book::Book;
 use crate::quiet::next_move;
 use crate::round::round;
-use effect_tree::Shape;
+use crate::setup::Setup;
 use run_gates::Gate;
-use std::alloc::Global;
 use std::marker::Brand;
 use std::sync::Wait;
 use std::thread::Threads;
-use twe_base::{Limits, Memory};
-use twe_program::Prog;
+use twe_base::Memory;
 
 /// Takes the lowest legal move, if the run can go on, and then moves at rest, and a round whenever two tasks may run beside each
 /// other, until no task may go on. Returns the run after that.
 #[tactic(auto, using(twe_rounds::proofs::Beginnings::prefix_self))]
 pub(crate) fn go_on<R: Threads + Wait + Sync, G: Gate + Sync>(
     rt: &R,
-    alloc: Global,
-    p: &Prog,
-    shape: &Shape,
-    lim: Limits,
+    setup: &Setup<'_>,
     workers: u32,
     run: RunAtRest,
     book: &mut Book,
     gate: &G,
 ) -> Result<RunAtRest, Memory>
     requires some { 1 ≤ workers }
-    requires accepted { KeepsEffects p.now }
-    requires sound { IsSound p.now lim run }
-    ensures sound { IfOk result (IsSound p.now lim) }
+    requires accepted { KeepsEffects setup.now.p.now }
+    requires sound { IsSound setup.now.p.now setup.now.lim run }
+    ensures sound { IfOk result (IsSound setup.now.p.now setup.now.lim) }
     ensures begins { IfOk result (λ after. IsPrefix run.rest.journal after.rest.journal) }
-    ensures longer { IfOk result (λ after. IsOutcome run.rest.state Unfinished → length run.rest.journal < length after.rest.journal) }
+    ensures longer { IfOk result (λ after. IsOutcome run.rest.state Unfinished
+        → length run.rest.journal < length after.rest.journal) }
 {
     let mut run = run;
-    let Some(mv) = next_move(p, &run.rest.state) else {
+    let Some(mv) = next_move(setup.p, &run.rest.state) else {
         return Ok(run);
     };
-    take(alloc, p, lim, &mut run, book, mv)?;
-    go_on_from(rt, alloc, p, shape, lim, workers, run, book, gate)
+    take(setup, &mut run, book, mv)?;
+    go_on_from(rt, setup, workers, run, book, gate)
 }
 
 /// Takes moves at rest, and a round whenever two tasks may run beside each other, until no task may go on.
 #[tactic(auto, using(crate::proofs::GoingOn::still_there, crate::proofs::GoingOn::gone_on))]
 fn go_on_from<R: Threads + Wait + Sync, G: Gate + Sync>(
     rt: &R,
-    alloc: Global,
-    p: &Prog,
-    shape: &Shape,
-    lim: Limits,
+    setup: &Setup<'_>,
     workers: u32,
     run: RunAtRest,
     book: &mut Book,
     gate: &G,
 ) -> Result<RunAtRest, Memory>
     requires some { 1 ≤ workers }
-    requires accepted { KeepsEffects p.now }
-    requires sound { IsSound p.now lim run }
-    ensures { IfOk result (HasGoneOn p.now lim run.rest.journal) }
+    requires accepted { KeepsEffects setup.now.p.now }
+    requires sound { IsSound setup.now.p.now setup.now.lim run }
+    ensures { IfOk result (HasGoneOn setup.now.p.now setup.now.lim run.rest.journal) }
 {
     let mut run = run;
     'rounds: for _ in rt.forever() {
-        if !go_on_alone(alloc, p, lim, &mut run, book)? {
+        if !go_on_alone(setup, &mut run, book)? {
             return Ok(run);
         }
-        book.account.lay_out(lim, shape.nodes(), &run.rest);
+        book.account
+            .lay_out(setup.lim, setup.shape.nodes(), &run.rest);
         book.begin_round()?;
-        run = side_by_side(rt, alloc, p, shape, lim, workers, run, gate)?;
-        book.account.recount(lim, &run.rest);
+        run = side_by_side(rt, setup, workers, run, gate)?;
+        book.account.recount(setup.lim, &run.rest);
         book.read(run.rest.journal.as_slice())?;
     }
     unreachable!()
@@ -84,20 +78,17 @@ fn go_on_from<R: Threads + Wait + Sync, G: Gate + Sync>(
 /// The run after a round of the workers.
 fn side_by_side<R: Threads + Wait + Sync, G: Gate + Sync>(
     rt: &R,
-    alloc: Global,
-    p: &Prog,
-    shape: &Shape,
-    lim: Limits,
+    setup: &Setup<'_>,
     workers: u32,
     run: RunAtRest,
     gate: &G,
 ) -> Result<RunAtRest, Memory>
     requires some { 1 ≤ workers }
-    requires accepted { KeepsEffects p.now }
-    requires sound { IsSound p.now lim run }
-    ensures { IfOk result (HasGoneOn p.now lim run.rest.journal) }
+    requires accepted { KeepsEffects setup.now.p.now }
+    requires sound { IsSound setup.now.p.now setup.now.lim run }
+    ensures { IfOk result (HasGoneOn setup.now.p.now setup.now.lim run.rest.journal) }
 {
     let RunAtRest { rest, .. } = run;
-    let rest = round::<Brand, R, G>(rt, alloc, p, shape, lim, workers, rest, gate)?;
-    RunAtRest::of(alloc, p, lim, rest)
+    let rest = round::<Brand, R, G>(rt, setup, workers, rest, gate)?;
+    RunAtRest::of(setup.alloc, setup.p, setup.lim, rest)
 }

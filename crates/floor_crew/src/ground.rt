@@ -3,7 +3,7 @@ ghost use Rattle.std.specs.Prelude.{◌≡◌, ◌<◌, IfOk};
 ghost use Rattle.floor_crew.specs.inner.Lent.{IsOtherOn};
 
 use crate::located::Located;
-use effect_tree::Shape;
+use crate::setup::Setup;
 use floor_rule::Phase;
 use floor_table::Named;
 use floor_table::nodes::Planted;
@@ -16,9 +16,8 @@ use std::thread;
 use task_floor::Floor;
 use task_floor::steps::Served;
 use tree_admit::serving::{Admission, TreeWorker, Workshop};
-use twe_base::{Limits, Memory};
-use twe_program::Prog;
-use twe_rounds::Look;
+use twe_base::Memory;
+use twe_rounds::Outlook;
 
 /// How often an admission is tried again at once.
 const MOST_TRIES: u32 = 16;
@@ -29,11 +28,8 @@ const MOST_WAITS: u32 = u32::MAX;
 /// The floor of a round.
 #[derive(Drop)]
 pub(crate) struct Ground<'a, N: Named + Planted, F: Located> {
-    alloc: Global,
+    setup: &'a Setup<'a>,
     floor: &'a Floor<N>,
-    p: &'a Prog,
-    shape: &'a Shape,
-    lim: Limits,
     // Whether some task has met a fault. Then no worker begins another segment.
     faulted: AtomicBool,
     of: PhantomData<F>,
@@ -45,30 +41,21 @@ impl<'a, N: Named + Planted, F: Located> Model for Ground<'a, N, F> {
 
     ghost Value = { Bounds };
 
-    ghost view = { λ ground. ground.lim };
+    ghost view = { λ ground. ground.setup.now.lim };
 
-    ghost invariant = { λ ground. (ground.floor.now ≡ F.table) × (ground.p.now ≡ N.prog) × (ground.lim ≡ N.lim)
-        × (ground.shape.now ≡ N.nodes) };
+    ghost invariant = { λ ground. (ground.floor.now ≡ F.table) × (ground.setup.now.p.now ≡ N.prog) × (ground.setup.now.lim ≡ N.lim)
+        × (ground.setup.now.shape.now ≡ N.nodes) };
 }
 
 impl<'a, N: Named + Planted, F: Located> Ground<'a, N, F> {
     /// The ground of a round on this floor.
-    pub(crate) fn new(
-        alloc: Global,
-        floor: &'a Floor<N>,
-        p: &'a Prog,
-        shape: &'a Shape,
-        lim: Limits,
-    ) -> Self
+    pub(crate) fn new(setup: &'a Setup<'a>, floor: &'a Floor<N>) -> Self
         requires located { floor.now ≡ F.table }
-        requires named { (p.now ≡ N.prog) × (lim ≡ N.lim) × (shape.now ≡ N.nodes) }
+        requires named { (setup.now.p.now ≡ N.prog) × (setup.now.lim ≡ N.lim) × (setup.now.shape.now ≡ N.nodes) }
     {
         Ground {
-            alloc,
+            setup,
             floor,
-            p,
-            shape,
-            lim,
             faulted: AtomicBool::new(false),
             of: PhantomData,
         }
@@ -78,7 +65,16 @@ impl<'a, N: Named + Planted, F: Located> Ground<'a, N, F> {
     fn shop(&self) -> Workshop<'a, N>
         ensures { result ≡ F.table }
     {
-        Workshop::new(self.alloc, self.p, self.lim, self.shape, self.floor)
+        let setup = self.setup;
+        Workshop::new(setup.alloc, setup.p, setup.lim, setup.shape, self.floor)
+    }
+
+    /// How many tasks may be made.
+    fn most_tasks(&self) -> u32
+        ensures { result ≡ N.lim.tasks }
+    {
+        let lim = self.setup.lim;
+        lim.tasks
     }
 
     /// What may be done next for a task. A task that was made is admitted if it may be. After `Memory` the worker is gone.
@@ -87,22 +83,22 @@ impl<'a, N: Named + Planted, F: Located> Ground<'a, N, F> {
         rt: &R,
         worker: TreeWorker,
         task: u32,
-    ) -> Result<(TreeWorker, Look), Memory>
+    ) -> Result<(TreeWorker, Outlook), Memory>
         requires { IsOtherOn F.table worker }
         ensures { IfOk result (λ looked. IsOtherOn F.table looked.0) }
     {
         let mut worker = worker;
         if self.faulted.load(Ordering::SeqCst) {
-            return Ok((worker, Look::Over));
+            return Ok((worker, Outlook::Over));
         }
         match self.phase(&mut worker, task) {
-            Phase::Running => Ok((worker, Look::Runs)),
+            Phase::Running => Ok((worker, Outlook::Runs)),
             Phase::Made => self.admit(rt, worker, task),
             Phase::Waits { on } => {
                 let look = self.look_at_wait(&mut worker, on);
                 Ok((worker, look))
             }
-            _ => Ok((worker, Look::Over)),
+            _ => Ok((worker, Outlook::Over)),
         }
     }
 
@@ -112,7 +108,7 @@ impl<'a, N: Named + Planted, F: Located> Ground<'a, N, F> {
         rt: &R,
         worker: TreeWorker,
         task: u32,
-    ) -> Result<(TreeWorker, Look), Memory>
+    ) -> Result<(TreeWorker, Outlook), Memory>
         requires { IsOtherOn F.table worker }
         ensures { IfOk result (λ looked. IsOtherOn F.table looked.0) }
     {
@@ -120,7 +116,7 @@ impl<'a, N: Named + Planted, F: Located> Ground<'a, N, F> {
         'tries: for _ in 0..MOST_TRIES {
             let (other, look) = self.try_once(rt, worker, task)?;
             worker = other;
-            let Look::Held { by } = look else {
+            let Outlook::Held { by } = look else {
                 return Ok((worker, look));
             };
             if !self.may_go_soon(&mut worker, by, task) {
@@ -137,19 +133,19 @@ impl<'a, N: Named + Planted, F: Located> Ground<'a, N, F> {
         rt: &R,
         worker: TreeWorker,
         task: u32,
-    ) -> Result<(TreeWorker, Look), Memory>
+    ) -> Result<(TreeWorker, Outlook), Memory>
         requires { IsOtherOn F.table worker }
         ensures { IfOk result (λ looked. IsOtherOn F.table looked.0) }
     {
-        if task >= self.lim.tasks {
-            return Ok((worker, Look::Over));
+        if task >= self.most_tasks() {
+            return Ok((worker, Outlook::Over));
         }
         let (worker, admission) = self.shop().admit(rt, worker, task)?;
         match admission {
-            Admission::Admitted => Ok((worker, Look::Runs)),
-            Admission::Held { by } => Ok((worker, Look::Held { by })),
-            Admission::Over => Ok((worker, Look::Over)),
-            Admission::Busy { .. } => Ok((worker, Look::Over)),
+            Admission::Admitted => Ok((worker, Outlook::Runs)),
+            Admission::Held { by } => Ok((worker, Outlook::Held { by })),
+            Admission::Over => Ok((worker, Outlook::Over)),
+            Admission::Busy { .. } => Ok((worker, Outlook::Over)),
         }
     }
 
@@ -178,7 +174,7 @@ impl<'a, N: Named + Planted, F: Located> Ground<'a, N, F> {
 
     /// What may be done next for a task that waits for `on`. If the chain of waits from there ends at a task that is still to be
     /// admitted, that one is to be looked at next.
-    fn look_at_wait(&self, worker: &mut TreeWorker, on: u32) -> Look
+    fn look_at_wait(&self, worker: &mut TreeWorker, on: u32) -> Outlook
         requires { IsOtherOn F.table worker.old }
         ensures { IsOtherOn F.table worker.new }
     {
@@ -187,11 +183,11 @@ impl<'a, N: Named + Planted, F: Located> Ground<'a, N, F> {
             match self.phase(worker, at) {
                 Phase::Done => return done_or_waits(on, at),
                 Phase::Waits { on: next } => at = next,
-                Phase::Made => return Look::Waits { on, next: Some(at) },
-                _ => return Look::Waits { on, next: None },
+                Phase::Made => return Outlook::Waits { on, next: Some(at) },
+                _ => return Outlook::Waits { on, next: None },
             }
         }
-        Look::Waits { on, next: None }
+        Outlook::Waits { on, next: None }
     }
 
     /// What the phase word of a task says; `Absent` if no task of this number may be made.
@@ -199,7 +195,7 @@ impl<'a, N: Named + Planted, F: Located> Ground<'a, N, F> {
         requires { IsOtherOn F.table worker.old }
         ensures { IsOtherOn F.table worker.new }
     {
-        if task < self.lim.tasks {
+        if task < self.most_tasks() {
             self.shop().glance(worker, task)
         } else {
             Phase::Absent
@@ -217,7 +213,7 @@ impl<'a, N: Named + Planted, F: Located> Ground<'a, N, F> {
         requires { IsOtherOn F.table worker }
         ensures { IfOk result (λ served. IsOtherOn F.table served.0) }
     {
-        if task >= self.lim.tasks {
+        if task >= self.most_tasks() {
             return Ok((worker, None));
         }
         let (worker, served) = self.shop().serve(rt, worker, task, gate)?;
@@ -231,15 +227,15 @@ impl<'a, N: Named + Planted, F: Located> Ground<'a, N, F> {
 
     /// Where memory comes from.
     pub(crate) fn alloc(&self) -> Global {
-        self.alloc
+        self.setup.alloc
     }
 }
 
 /// What may be done next for a task that waits for `on`, if the task `at`, to which the chain of waits leads, is done.
-fn done_or_waits(on: u32, at: u32) -> Look {
+fn done_or_waits(on: u32, at: u32) -> Outlook {
     if at == on {
-        Look::Runs
+        Outlook::Runs
     } else {
-        Look::Waits { on, next: None }
+        Outlook::Waits { on, next: None }
     }
 }

@@ -9,7 +9,6 @@ mod at_rest;
 mod book;
 mod brief;
 mod crew;
-mod enabled;
 mod ended;
 mod going_on;
 mod ground;
@@ -20,6 +19,7 @@ mod on_floor;
 mod quiet;
 mod round;
 mod rounds;
+mod setup;
 mod stands;
 
 pub use crew::FloorCrew;

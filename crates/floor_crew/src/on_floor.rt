@@ -15,7 +15,7 @@ use std::sync::Wait;
 use task_floor::steps::Served;
 use tree_admit::serving::TreeWorker;
 use twe_base::Memory;
-use twe_rounds::{Look, RoundAccess, Waiting, lost};
+use twe_rounds::{Outlook, RoundAccess, Waiting, lost};
 
 /// How many awaited tasks a worker looks at before it goes on.
 const GLANCES: usize = 64;
@@ -92,10 +92,10 @@ impl<'a, R: Wait, N: Named + Planted, F: Located, G: Gate> OnFloor<'a, R, N, F, 
     }
 
     /// Notes for which task one waits, or which task holds it back.
-    fn await_end(&mut self, look: Look) -> Result<(), Memory> {
+    fn await_end(&mut self, look: Outlook) -> Result<(), Memory> {
         match look {
-            Look::Waits { on, .. } => self.ended.await_end(on),
-            Look::Held { by } => self.ended.await_end(by),
+            Outlook::Waits { on, .. } => self.ended.await_end(on),
+            Outlook::Held { by } => self.ended.await_end(by),
             _ => Ok(()),
         }
     }
@@ -114,9 +114,9 @@ impl<'a, R: Wait, N: Named + Planted, F: Located, G: Gate> OnFloor<'a, R, N, F, 
 }
 
 impl<'a, R: Wait, N: Named + Planted, F: Located, G: Gate> RoundAccess for OnFloor<'a, R, N, F, G> {
-    fn look(&mut self, task: u32) -> Result<Look, Memory> {
+    fn look(&mut self, task: u32) -> Result<Outlook, Memory> {
         if self.busy.take() == Some(task) {
-            return Ok(Look::Over);
+            return Ok(Outlook::Over);
         }
         let Some(worker) = self.worker.take() else {
             return Err(lost());

@@ -9,13 +9,12 @@ ghost use Rattle.floor_crew.specs.inner.Lent.{HasParts, IsMainOn, IsNewOn};
 use crate::ground::Ground;
 use crate::hand::Hand;
 use crate::located::Located;
+use crate::setup::Setup;
 use crate::stands::{join_all, split_all};
-use effect_tree::Shape;
 use floor_table::Named;
 use floor_table::nodes::Planted;
 use run_gates::Gate;
 use seg_journal::JournalPart;
-use std::alloc::Global;
 use std::marker::Brand;
 use std::sync::Wait;
 use std::sync::atomic::AtomicU64;
@@ -23,37 +22,32 @@ use std::thread;
 use std::thread::Threads;
 use task_floor::steps::Rest;
 use task_floor::{Floor, Stand};
-use twe_base::{Limits, List, Memory};
-use twe_program::Prog;
+use twe_base::{List, Memory};
 use twe_rounds::{Site, Team, deal};
 
 /// A round of so many workers: the run goes on a floor, on which they admit tasks and run segments at the same time, until they
 /// find no task that may go on. Returns the run after that, whose journal begins with the one from before.
 pub(crate) fn round<'a, N: Named + Planted + Send + Sync, R: Threads + Wait + Sync, G: Gate + Sync>(
     rt: &'a R,
-    alloc: Global,
-    p: &'a Prog,
-    shape: &'a Shape,
-    lim: Limits,
+    setup: &'a Setup<'a>,
     workers: u32,
     rest: Rest,
     gate: &'a G,
 ) -> Result<Rest, Memory>
     requires some { 1 ≤ workers }
     requires accepted { KeepsEffects N.prog }
-    requires named { (p.now ≡ N.prog) × (lim ≡ N.lim) × (shape.now ≡ N.nodes) }
+    requires named { (setup.now.p.now ≡ N.prog) × (setup.now.lim ≡ N.lim) × (setup.now.shape.now ≡ N.nodes) }
     requires run { IsRun N.prog N.lim rest.journal rest.state }
     ensures run { IfOk result (λ after. IsRun N.prog N.lim after.journal after.state) }
     ensures begins { IfOk result (λ after. IsPrefix rest.journal after.journal) }
 {
+    let (alloc, p, lim) = (setup.alloc, setup.p, setup.lim);
     let _main = p.main;
     let team = deal(alloc, &rest.state, 0, lim.tasks, workers, None)?;
-    let (floor, stand, part) = Floor::<N>::wake(alloc, shape, lim, rest)?;
+    let (floor, stand, part) = Floor::<N>::wake(alloc, setup.shape, lim, rest)?;
     let mut parts = List::new(alloc);
     parts.push(part)?;
-    let stand = lend::<N, Brand, R, G>(
-        rt, alloc, p, shape, lim, workers, &floor, stand, team, gate, &mut parts,
-    )?;
+    let stand = lend::<N, Brand, R, G>(rt, setup, workers, &floor, stand, team, gate, &mut parts)?;
     floor.rest(alloc, stand, parts.as_slice())
 }
 
@@ -66,10 +60,7 @@ fn lend<
     G: Gate + Sync,
 >(
     rt: &'a R,
-    alloc: Global,
-    p: &'a Prog,
-    shape: &'a Shape,
-    lim: Limits,
+    setup: &'a Setup<'a>,
     workers: u32,
     floor: &'a Floor<N>,
     stand: Stand,
@@ -78,7 +69,7 @@ fn lend<
     parts: &mut List<JournalPart>,
 ) -> Result<Stand, Memory>
     requires some { 1 ≤ workers }
-    requires named { (p.now ≡ N.prog) × (lim ≡ N.lim) × (shape.now ≡ N.nodes) }
+    requires named { (setup.now.p.now ≡ N.prog) × (setup.now.lim ≡ N.lim) × (setup.now.shape.now ≡ N.nodes) }
     requires located { floor.now ≡ F.table }
     requires new { IsNewOn F.table stand 0 }
     requires parts { HasParts stand parts.old }
@@ -88,8 +79,8 @@ fn lend<
 {
     let mut stand = stand;
     let pending = AtomicU64::new(team.pending);
-    let mut hands = split_all::<N, F>(alloc, floor, &mut stand, team.workers, workers)?;
-    let ground: Ground<'_, N, F> = Ground::new(alloc, floor, p, shape, lim);
+    let mut hands = split_all::<N, F>(setup.alloc, floor, &mut stand, team.workers, workers)?;
+    let ground: Ground<'_, N, F> = Ground::new(setup, floor);
     let shared = Shared {
         rt,
         gate,

@@ -15,8 +15,8 @@ use twe_machine::State;
 use twe_program::Prog;
 
 /// Runs the program under these limits to its end, by this many workers, 1 to 64, who run segments at the same time on one floor.
-/// Returns the journal of the run and the state that it leads to. Which of the legal journals it is depends on the workers. After a
-/// fault there may be entries of segments that had begun before.
+/// Returns the journal of the run and the state that it leads to. Which of the legal journals it is depends on the workers. After
+/// a fault there may be entries of segments that had begun before.
 pub fn run_on_floor<R: Threads + Wait + Sync, G: Gate + Sync>(
     rt: &R,
     alloc: Global,

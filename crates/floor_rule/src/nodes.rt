@@ -23,9 +23,9 @@ pub use floor_laws::{
     taking_a_turn_keeps_the_nodes, the_next_task_has_no_record,
 };
 pub use lock_laws::{
-    a_finished_node_may_be_unlocked, a_node_below_may_be_locked, a_node_may_be_given_back,
-    a_node_on_the_way_may_be_locked, a_parent_may_be_unlocked, an_activity_may_end,
-    an_activity_may_stop, the_root_may_be_locked,
+    a_bare_node_may_be_passed_by, a_finished_node_may_be_unlocked, a_node_below_may_be_locked,
+    a_node_may_be_given_back, a_node_on_the_way_may_be_locked, a_parent_may_be_unlocked,
+    an_activity_may_end, an_activity_may_stop, the_root_may_be_locked,
 };
 pub use record_laws::{
     a_childs_record_may_be_placed, a_record_may_be_placed, a_record_may_be_removed,

@@ -25,6 +25,8 @@ pub mod Calls
 pub mod MarkCalls
 -- What the only seat finds.
 pub mod Alone
+-- Loading a lock word.
+pub mod PassingBy
 -- Loading a phase word.
 pub mod Following
 -- Steps of the floor.

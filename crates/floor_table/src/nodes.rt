@@ -30,7 +30,9 @@ pub use floor_laws::{
     a_phase_may_be_stored_beside_nodes,
 };
 pub use follow_laws::a_wait_may_be_followed;
-pub use lock_laws::{a_lock_may_be_tried, a_node_may_be_left, a_seat_may_stop};
+pub use lock_laws::{
+    a_lock_may_be_tried, a_node_may_be_left, a_node_may_be_passed_by, a_seat_may_stop,
+};
 pub use quiet_laws::a_closed_tree_table_shows_the_rest;
 pub use record::{KnownWait, NodeRecord};
 pub use record_laws::{
@@ -39,7 +41,7 @@ pub use record_laws::{
 };
 pub use rule::{
     BothTreeSeats, DrawAdmission, DrawTreeEntry, FollowWait, GiveTreeTurn, GoOn, LoadTreeCell,
-    MarkClear, MarkPlaced, MarkRemoved, NextTreeSeat, Planted, StopAt, StoreTreeCell,
+    MarkClear, MarkPlaced, MarkRemoved, NextTreeSeat, PassNode, Planted, StopAt, StoreTreeCell,
     StoreTreePhase, TreeLaw, TreeStart, TryNode, TryTreeTurn,
 };
 pub use seat_laws::{a_tree_seat_may_be_split, tree_seats_may_be_joined};

@@ -13,10 +13,9 @@ use Rattle.twe_machine.specs.declared.state.TaskStatus.TheVariants.{Made, Enable
 use Rattle.twe_machine.specs.Legal.{MayMove}
 use Rattle.twe_machine.specs.Moves.{admitted, move_result, start_of}
 use Rattle.twe_machine.specs.Rows.{IsRow}
-use Rattle.twe_machine.specs.Runs.{counted, entry_of}
+use Rattle.twe_machine.specs.Runs.{entry_of}
 use Rattle.twe_machine.proofs.replays.Replayed.{run_more}
 use Rattle.flat_sched.proofs.Faults.{taken_well}
-use Rattle.twe_rounds.specs.Keeping.{NoFaults}
 use Rattle.twe_rounds.proofs.Faultless.{counted_more, none_more}
 use Rattle.opt_engine.specs.declared.core_run.CoreRun.{CoreRun}
 use Rattle.opt_engine.specs.declared.drafts.Drafted.{Drafted}
@@ -24,7 +23,7 @@ use Rattle.opt_engine.specs.declared.verdict.Verdict.{Verdict}
 use Rattle.opt_engine.specs.declared.verdict.Verdict.TheVariants.{Committed, Passed, Held, Changed}
 use Rattle.opt_engine.specs.Taking.{TakingSteps}
 use Rattle.opt_engine.specs.Verdicts.{AnswersCommit, AreLegalFrom, entries_from, moves_of, state_from}
-use Rattle.opt_crew.specs.Keeping.{EndsAtFault, IsSound, StopsAtFault}
+use Rattle.opt_crew.specs.Keeping.{IsSound, StopsAtFault}
 
 -- a run that has not begun is sound
 pub begins_sound : (p : Program) (lim : Bounds) → IsSound p lim (record { journal = []; state = start_of p lim })

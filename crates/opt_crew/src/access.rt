@@ -1,38 +1,35 @@
 //! How a worker takes the moves of a task: it drafts the next segment, runs the draft without a lock, and commits it. It comes to
-//! the core under its lock, or without one if it is alone.
+//! the core under its lock, or without one if it is alone. Then it does not run ahead, since it would win nothing.
 
 use crate::kept::Kept;
 use crate::named_drafted::NamedDrafted;
-use crate::round_core::RoundCore;
+use crate::round_core::{RoundCore, Tried};
 use seg_journal::End;
 use std::sync::{Mutex, Wait};
 use twe_base::Memory;
-use twe_rounds::{Game, Look, RoundAccess, RoundName, Waiting};
+use twe_rounds::{Game, Outlook, RoundAccess, RoundName, Waiting};
 
-/// The core as it is lent to a single worker, with the drafts that the worker keeps.
+/// The core as it is lent to a single worker.
 #[derive(Drop)]
 pub(crate) struct Lent<'a, N: RoundName> {
     pub game: &'a Game<'a, N>,
     pub core: &'a mut RoundCore<N>,
-    pub kept: Kept<N>,
 }
 
 impl<'a, N: RoundName> RoundAccess for Lent<'a, N> {
-    fn look(&mut self, task: u32) -> Result<Look, Memory> {
-        self.core.look(self.game, task, self.kept.has(task))
+    fn look(&mut self, task: u32) -> Result<Outlook, Memory> {
+        self.core.look(self.game, task, false)
     }
 
     fn run(&mut self, task: u32) -> Result<Option<End>, Memory> {
-        let drafted = match self.kept.take(task) {
-            Some(drafted) => Some(drafted),
-            None => NamedDrafted::run(self.game, self.core.draft(self.game, task)?)?,
+        let draft = self.core.draft(self.game, task)?;
+        let Some(drafted) = NamedDrafted::run(self.game, draft)? else {
+            return Ok(None);
         };
-        match drafted {
-            Some(drafted) => {
-                let tried = self.core.commit(self.game, drafted)?;
-                self.kept.sort(task, tried)
-            }
-            None => Ok(None),
+        match self.core.commit(self.game, drafted)? {
+            Tried::Taken(end) => Ok(Some(end)),
+            Tried::Held(_) => Ok(None),
+            Tried::Dropped => Ok(None),
         }
     }
 
@@ -51,9 +48,9 @@ pub(crate) struct Locked<'a, R: Wait, N: RoundName> {
 }
 
 impl<'a, R: Wait, N: RoundName> RoundAccess for Locked<'a, R, N> {
-    fn look(&mut self, task: u32) -> Result<Look, Memory> {
-        let kept = self.kept.has(task);
-        self.core.lock(self.rt).look(self.game, task, kept)
+    fn look(&mut self, task: u32) -> Result<Outlook, Memory> {
+        let ahead = !self.kept.has(task);
+        self.core.lock(self.rt).look(self.game, task, ahead)
     }
 
     fn run(&mut self, task: u32) -> Result<Option<End>, Memory> {

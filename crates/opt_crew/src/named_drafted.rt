@@ -49,6 +49,11 @@ impl<N: RoundName> NamedDrafted<N> {
         Ok(Some(NamedDrafted::new(drafted)))
     }
 
+    /// The task whose segment it is.
+    pub(crate) fn task(&self) -> u32 {
+        self.drafted.task
+    }
+
     /// The draft without its name.
     pub(crate) fn into_drafted(self) -> Drafted
         ensures same { result ≡ self }

@@ -1,18 +1,17 @@
 //! The core of a round, and what workers ask of it. Nothing comes after a fault in its run.
 ghost use Rattle.std.specs.Prelude.{◌≡◌, IfOk, IfSome};
-ghost use Rattle.twe_machine.specs.Runs.{IsReachable};
 ghost use Rattle.opt_engine.specs.Drafts.{IsDraftOf};
 ghost use Rattle.opt_crew.specs.Keeping.{Keeps};
 
 use crate::named_drafted::NamedDrafted;
 use opt_engine::{Core, CoreRun, Draft, Verdict};
-use seg_journal::{End, Kind, Move};
+use seg_journal::End;
 use std::alloc::Global;
 use std::marker::Model;
 use twe_base::{Limits, Memory};
-use twe_machine::{State, TaskStatus, Why, may};
+use twe_machine::{State, TaskStatus};
 use twe_program::Prog;
-use twe_rounds::{Game, Look, RoundName, Waiting, lost};
+use twe_rounds::{Game, Outlook, RoundName, Waiting, lost};
 
 /// What became of a draft that was handed to the core.
 #[derive(Drop)]
@@ -45,13 +44,13 @@ impl<N: RoundName> Model for RoundCore<N> {
 
 impl<N: RoundName> RoundCore<N> {
     /// The core of a round that begins with this run.
-    pub(crate) fn new(alloc: Global, lim: Limits, run: CoreRun) -> Self
+    pub(crate) fn new(alloc: Global, lim: Limits, run: CoreRun) -> Result<Self, Memory>
         requires named { lim ≡ N.lim }
         requires keeps { Keeps N.prog N.lim N.earlier run }
     {
-        RoundCore {
-            core: Core::of(alloc, lim, run),
-        }
+        Ok(RoundCore {
+            core: Core::of(alloc, lim, run)?,
+        })
     }
 
     /// The run after the round, or `None` if it is lost.
@@ -62,15 +61,19 @@ impl<N: RoundName> RoundCore<N> {
         core.into_run()
     }
 
-    /// What may be done next for a task. A task that is not admitted yet may run ahead, unless a draft of it is kept and it is
-    /// still held back.
-    pub(crate) fn look(&self, game: &Game<'_, N>, task: u32, kept: bool) -> Result<Look, Memory> {
+    /// What may be done next for a task. A task that is held back may run only if it may run ahead.
+    pub(crate) fn look(
+        &self,
+        game: &Game<'_, N>,
+        task: u32,
+        ahead: bool,
+    ) -> Result<Outlook, Memory> {
         let run = self.core.run().ok_or(lost())?;
         if run.state.first_fault.is_some() {
-            return Ok(Look::Over);
+            return Ok(Outlook::Over);
         }
-        if kept && let Some(by) = bar_of(game.prog(), &run.state, task) {
-            return Ok(Look::Held { by });
+        if !ahead && let Some(by) = self.core.bar(game.prog(), task)? {
+            return Ok(Outlook::Held { by });
         }
         Ok(look_at(&run.state, task))
     }
@@ -82,7 +85,7 @@ impl<N: RoundName> RoundCore<N> {
         self.core.draft(game.prog(), task)
     }
 
-    /// Commits a draft, unless the run has met a fault.
+    /// Commits a draft, unless the run has met a fault or the task is held back.
     pub(crate) fn commit(
         &mut self,
         game: &Game<'_, N>,
@@ -91,6 +94,9 @@ impl<N: RoundName> RoundCore<N> {
         let run = self.core.run().ok_or(lost())?;
         if run.state.first_fault.is_some() {
             return Ok(Tried::Dropped);
+        }
+        if self.core.bar(game.prog(), drafted.task())?.is_some() {
+            return Ok(Tried::Held(drafted));
         }
         match self.core.commit(game.prog(), drafted.into_drafted())? {
             Verdict::Committed { number } => Ok(self.taken(number)),
@@ -121,40 +127,26 @@ fn end_at(run: Option<&CoreRun>, number: u64) -> Option<End> {
     Some(entry.end)
 }
 
-/// The lowest bar to the admission of a task, if it waits for its admission and has a bar.
-fn bar_of(p: &Prog, state: &State, task: u32) -> Option<u32>
-    requires { IsReachable p.now state.now }
-{
-    let admission = Move {
-        kind: Kind::Admit,
-        task,
-    };
-    match may(p, state, admission) {
-        Err(Why::HeldBy(by)) => Some(by),
-        _ => None,
-    }
-}
-
 /// What may be done next for a task in this state.
-fn look_at(state: &State, task: u32) -> Look {
+fn look_at(state: &State, task: u32) -> Outlook {
     match state.tasks.get(task as usize) {
-        None => Look::Over,
+        None => Outlook::Over,
         Some(row) => match row.status {
-            TaskStatus::Made => Look::Runs,
+            TaskStatus::Made => Outlook::Runs,
             TaskStatus::Enabled => look_on(state, task),
-            TaskStatus::Done => Look::Over,
-            TaskStatus::Faulted => Look::Over,
+            TaskStatus::Done => Outlook::Over,
+            TaskStatus::Faulted => Outlook::Over,
         },
     }
 }
 
 /// What may be done next for an enabled task.
-fn look_on(state: &State, task: u32) -> Look {
+fn look_on(state: &State, task: u32) -> Outlook {
     if task >= state.links.task_count() {
-        return Look::Over;
+        return Outlook::Over;
     }
     match state.links.awaited(task) {
-        None => Look::Runs,
-        Some(on) => Look::waits(state, on),
+        None => Outlook::Runs,
+        Some(on) => Outlook::waits(state, on),
     }
 }

@@ -37,12 +37,11 @@ pub(crate) fn alone<N: RoundName, R: Wait>(
         pending: &pending,
     };
     let game: Game<'_, N> = Game::new(alloc, p, lim);
-    let mut core = RoundCore::new(alloc, lim, run);
+    let mut core = RoundCore::new(alloc, lim, run)?;
     for worker in team.workers.iter_mut() {
         let mut access = Lent {
             game: &game,
             core: &mut core,
-            kept: Kept::new(alloc),
         };
         worker.work(rt, &mut access, &site);
     }
@@ -67,7 +66,7 @@ pub(crate) fn together<'a, N: RoundName + Send + Sync, R: Threads + Wait + Sync>
     let mut team = deal(alloc, &run.state, entries, lim.tasks, workers, None)?;
     let pending = AtomicU64::new(team.pending);
     let game: Game<'_, N> = Game::new(alloc, p, lim);
-    let core = Mutex::new(RoundCore::new(alloc, lim, run));
+    let core = Mutex::new(RoundCore::new(alloc, lim, run)?);
     let shared = Shared {
         rt,
         pending: &pending,

@@ -1,5 +1,5 @@
 -- Committing a draft that fits is taking legal moves.
-use Rattle.std.proofs.Common.{◌≡◌, ◌≢◌, ◌⊎◌, ◌+◌, ◌-◌, ◌++◌, ◌<◌, ℕ, ℤ, Bool, List, [], ◌∷◌, length, Option, None, Some, refl, sym, ap, ◌∙◌, subst, inl, inr, arith, append_assoc, length-append}
+use Rattle.std.proofs.Common.{◌≡◌, ◌+◌, ◌-◌, ◌++◌, ◌<◌, ℕ, ℤ, List, [], ◌∷◌, length, None, Some, refl, sym, ap, ◌∙◌, subst, inl, inr, arith, append_assoc, length-append}
 use Rattle.std.specs.List.{All}
 use Rattle.std.specs.Prelude.{slice_get, slice_set}
 use Rattle.seg_journal.specs.declared.journal.End.{End}
@@ -10,26 +10,28 @@ use Rattle.twe_base.specs.Limits.{Bounds, IsWithin}
 use Rattle.wait_graph.specs.declared.tasks.Link.{Link}
 use Rattle.wait_graph.specs.Link.{link_of}
 use Rattle.wait_graph.specs.Waiting.{WaitsFor}
-use Rattle.twe_program.specs.Program.{Program, cell_count}
+use Rattle.twe_program.specs.Program.{Program}
 use Rattle.twe_program.specs.WellFormed.{IsWellFormed}
 use Rattle.seg_exec.specs.declared.frame.Frame.{Frame}
 use Rattle.seg_exec.specs.declared.frame.Next.{Next}
 use Rattle.seg_exec.specs.declared.frame.Next.TheVariants.{Go}
-use Rattle.seg_exec.specs.declared.stop.Stop.{Stop}
 use Rattle.seg_exec.specs.Access.{after}
 use Rattle.seg_exec.specs.Giving.{given_by}
 use Rattle.seg_exec.specs.Segment.{Stopped, segment}
 use Rattle.seg_exec.proofs.Determined.{segment_agrees, segment_determined}
+use Rattle.twe_machine.specs.declared.enabled_tasks.EnabledTasks.{EnabledTasks}
 use Rattle.twe_machine.specs.declared.state.State.{State}
 use Rattle.twe_machine.specs.declared.state.TaskRow.{TaskRow}
 use Rattle.twe_machine.specs.declared.state.TaskStatus.{TaskStatus}
 use Rattle.twe_machine.specs.declared.state.TaskStatus.TheVariants.{Made, Enabled}
-use Rattle.twe_machine.specs.Legal.{MayAdmit, MayMove, MayRun}
+use Rattle.twe_machine.specs.Legal.{MayMove, MayRun}
+use Rattle.twe_machine.specs.Listings.{IsListing, WasListing}
 use Rattle.twe_machine.specs.Moves.{MaySettle, admitted, admitted_row, awaited_value, move_result, ran, ready_frame, settling_result}
 use Rattle.twe_machine.specs.Rows.{HasStatus, IsRow, row_awaited, link_of_row}
 use Rattle.twe_machine.specs.Runs.{IsReached, IsRun, entry_of}
 use Rattle.twe_machine.proofs.links.Linked.{link_at}
 use Rattle.twe_machine.proofs.links.LinksAgree.{status_of}
+use Rattle.twe_machine.proofs.listing.Listed.{was_listed}
 use Rattle.twe_machine.proofs.lists.Places.{got_one, set_same}
 use Rattle.twe_machine.proofs.standing.ReachedStands.{reached_stands}
 use Rattle.twe_machine.proofs.replays.Replayed.{run_more}
@@ -37,7 +39,7 @@ use Rattle.twe_machine.proofs.standing.SettlesNext.{may_settle, settles_with}
 use Rattle.opt_engine.specs.declared.core_run.CoreRun.{CoreRun}
 use Rattle.opt_engine.specs.declared.drafts.Drafted.{Drafted}
 use Rattle.opt_engine.specs.declared.touch.CellValue.{CellValue}
-use Rattle.opt_engine.specs.Drafts.{AccessesBeginWith, Fits, IsDraftedOf, DraftIsReady, StandsIn, drafted}
+use Rattle.opt_engine.specs.Drafts.{Fits, IsDraftedOf, StandsIn}
 use Rattle.opt_engine.specs.Touches.{first_reads, last_writes, with_writes}
 use Rattle.opt_engine.specs.Verdicts.{AreLegalFrom, IsFree, Takes, entries_from, moves_of, state_from}
 use Rattle.opt_engine.specs.Taking.{TakingSteps}
@@ -61,6 +63,12 @@ steps_is p lim old new mv end run may moved pushed =
       journal = journal;
       state = state;
     }
+
+-- the enabled tasks are those of the run before the move
+pub was_known : (p : Program) (lim : Bounds) (old new : CoreRun) (mv : Move) (before : ℕ) (enabled : EnabledTasks) → IsWellFormed p → IsRun p lim old.journal old.state
+    → MayMove old.state mv → TakingSteps p lim old mv new → before ≡ length old.state.links → IsListing old.state enabled → WasListing new.state mv before enabled
+was_known p lim old new mv before enabled well run may steps count listing =
+    was_listed p lim old.state new.state mv before enabled well (reached_by p lim old run) may steps.state count listing
 
 -- the entry of the move is the last
 pub last_is : (p : Program) (lim : Bounds) (old new : CoreRun) (mv : Move) (len number : ℕ) → TakingSteps p lim old mv new → len ≡ length new.journal → number ≡ len - 1 → number + 1 ≡ length new.journal

@@ -1,5 +1,5 @@
 -- A draft that is run gives what its segment gives.
-use Rattle.std.proofs.Common.{◌≡◌, ◌<◌, ℕ, ℤ, List, [], ◌∷◌, length, map, None, Option, Some, refl, sym, ap, ◌∙◌, subst}
+use Rattle.std.proofs.Common.{◌≡◌, ◌<◌, ℕ, ℤ, List, [], ◌∷◌, length, map, None, sym, ap, ◌∙◌, subst}
 use Rattle.std.specs.Prelude.{slice_get, slice_set}
 use Rattle.std.proofs.lemmas.List.{length-replicate}
 use Rattle.twe_program.specs.Program.{Program}
@@ -11,14 +11,12 @@ use Rattle.seg_exec.specs.Plain.{list_ways}
 use Rattle.seg_exec.specs.Segment.{CarriesOut, MayCarryOut, Stopped, segment}
 use Rattle.seg_exec.proofs.Accesses.{may_carry_out}
 use Rattle.opt_engine.specs.declared.drafts.Draft.{Draft}
-use Rattle.opt_engine.specs.declared.drafts.Drafted.{Drafted}
 use Rattle.opt_engine.specs.declared.notes.Notes.{Notes}
-use Rattle.opt_engine.specs.declared.touch.CellValue.{CellValue}
 use Rattle.opt_engine.specs.declared.touching.Touching.{Touching}
 use Rattle.opt_engine.specs.inner.Noting.{MayTouch, TouchFollows, fresh, no_notes, notes_after, read_noted, touch_knows, value_at, write_noted}
 use Rattle.opt_engine.specs.Drafts.{IsDraftOf, drafted}
-use Rattle.opt_engine.specs.Touches.{first_reads, last_writes, written_cells}
-use Rattle.opt_engine.proofs.Marks.{NotesStand, notes_stand}
+use Rattle.opt_engine.specs.Touches.{last_writes, written_cells}
+use Rattle.opt_engine.proofs.Marks.{notes_stand}
 use Rattle.opt_engine.proofs.Touched.{values_are}
 
 -- what accesses make of cells that note them

@@ -1,6 +1,6 @@
 -- Notes of accesses are what the words on touched cells say.
-use Rattle.std.proofs.Common.{◌≡◌, ◌<◌, ℕ, ℤ, Bool, true, false, List, [], ◌∷◌, ◌++◌, length, replicate, Option, None, Some, refl, sym, ap, ◌∙◌, subst, length-set}
-use Rattle.std.specs.Prelude.{◌||◌, if◌then◌else◌, is_some, nat_eq, slice_get, slice_set}
+use Rattle.std.proofs.Common.{◌≡◌, ◌<◌, ℕ, ℤ, Bool, true, false, List, [], ◌∷◌, ◌++◌, length, Option, Some, refl, sym, ap, ◌∙◌, subst, length-set}
+use Rattle.std.specs.Prelude.{◌||◌, if◌then◌else◌, is_some, nat_eq, slice_get}
 use Rattle.std.proofs.lemmas.List.{length-replicate}
 use Rattle.seg_exec.specs.Access.{Access, Reads, Writes, Prints, MayAll}
 use Rattle.seg_exec.specs.Plain.{list_ways}

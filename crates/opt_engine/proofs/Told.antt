@@ -1,9 +1,10 @@
 -- What a core answers is what its run answers.
-use Rattle.std.proofs.Common.{◌≡◌, ℕ, List, [], ◌++◌, Option, None, Some, refl, sym, ap, ◌∙◌, subst}
+use Rattle.std.proofs.Common.{◌≡◌, ℕ, List, [], Option, Some, refl, sym, ◌∙◌, subst}
 use mathlib.Core.List.{IsPrefix}
 use Rattle.seg_journal.specs.declared.journal.Entry.{Entry}
 use Rattle.twe_base.specs.Limits.{Bounds}
 use Rattle.twe_program.specs.Program.{Program}
+use Rattle.twe_machine.specs.Moves.{start_of}
 use Rattle.twe_machine.specs.Runs.{IsReached, IsRun}
 use Rattle.opt_engine.specs.declared.core_run.CoreRun.{CoreRun}
 use Rattle.twe_rounds.proofs.Beginnings.{prefix_self, prefix_trans}
@@ -21,6 +22,14 @@ begins_itself run = prefix_self run.journal
 
 pub reached_of : (p : Program) (lim : Bounds) (run : CoreRun) → IsRun p lim run.journal run.state → (some : Bounds) × IsReached p some run.state
 reached_of p lim run is = (lim, reached_by p lim run is)
+
+-- a run that has not begun goes on from nothing
+pub begins_well : (p prog : Program) (limits lim : Bounds) (earlier : List Entry) (run : CoreRun) → p ≡ prog → limits ≡ lim → earlier ≡ []
+    → run ≡ record { journal = []; state = start_of p limits } → RunGoesOn prog lim earlier run
+begins_well p prog limits lim earlier run same_program same_limits none is =
+    subst (λ (x : Program × Bounds). RunGoesOn x.0 x.1 earlier run) (λ i. (same_program i, same_limits i))
+    (subst (RunGoesOn p limits earlier) (sym is)
+    (record { run_is = record { legal = tt; same = refl }; begins = subst (λ (e : List Entry). IsPrefix e []) (sym none) (prefix_self []) }))
 
 -- the core had this run, and answers as it does
 pub answer_kept : (p prog : Program) (limits lim : Bounds) (earlier : List Entry) (core kept : Option CoreRun) (old after : CoreRun) (d : Drafted) (verdict : Verdict)

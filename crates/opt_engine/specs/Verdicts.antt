@@ -13,7 +13,7 @@ use Rattle.twe_machine.specs.declared.state.State.{State}
 use Rattle.twe_machine.specs.declared.state.TaskRow.{TaskRow}
 use Rattle.twe_machine.specs.declared.state.TaskStatus.{TaskStatus}
 use Rattle.twe_machine.specs.declared.state.TaskStatus.TheVariants.{Made, Enabled, Done, Faulted}
-use Rattle.twe_machine.specs.Legal.{Forbids, MayAdmit, MayMove}
+use Rattle.twe_machine.specs.Legal.{Forbids, IsBar, MayAdmit, MayMove}
 use Rattle.twe_machine.specs.Moves.{move_result}
 use Rattle.twe_machine.specs.Rows.{HasStatus, IsRow}
 use Rattle.twe_machine.specs.Runs.{IsRun, entry_of}
@@ -108,3 +108,8 @@ IsDraftAt p st t (Some draft) =
 -- the core had a run, and gives a draft of its state
 abbrev pub Drafts : Program → Option CoreRun → ℕ → Option Draft → Type 0
 Drafts p core t draft = (run : CoreRun) × (core ≡ Some run) × IsDraftAt p run.state t draft
+
+-- the core had a run, in which this is a bar to the admission of the task; None if nothing holds the task back
+abbrev pub HoldsBack : Option CoreRun → ℕ → Option ℕ → Type 0
+HoldsBack core t None = (run : CoreRun) × (core ≡ Some run) × IsFree run.state t
+HoldsBack core t (Some by) = (run : CoreRun) × (core ≡ Some run) × IsBar run.state by t

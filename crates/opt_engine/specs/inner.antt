@@ -1,3 +1,4 @@
 pub mod Frames
 pub mod Judging
+pub mod Knowing
 pub mod Noting

@@ -1,6 +1,7 @@
 //! What a run answers to a draft.
 ghost use Rattle.std.specs.Prelude.{IfOk, Some};
 ghost use mathlib.Core.List.{IsPrefix};
+ghost use Rattle.twe_machine.specs.Listings.{IsListing};
 ghost use Rattle.twe_machine.specs.Runs.{IsRun};
 ghost use Rattle.opt_engine.specs.Drafts.{IsDraftedOf};
 ghost use Rattle.opt_engine.specs.Verdicts.{Judges};
@@ -12,26 +13,31 @@ use crate::judging::{Finding, judge};
 use crate::verdict::Verdict;
 use std::alloc::Global;
 use twe_base::{Limits, Memory};
+use twe_machine::EnabledTasks;
 use twe_program::Prog;
 
-/// Takes the moves that a draft stands for, if it fits and they are legal, and else says why not. Then the run is as before.
+/// Takes the moves that a draft stands for, if it fits and they are legal, and else says why not. Then the run is as before. The enabled
+/// tasks are those of the run.
 #[tactic(auto, using(crate::proofs::Told::takes_begin, crate::proofs::Told::begins_itself, crate::proofs::Told::reached_of))]
 pub(crate) fn answer(
     alloc: Global,
     p: &Prog,
     lim: Limits,
     run: CoreRun,
+    enabled: &mut EnabledTasks,
     d: Drafted,
 ) -> Result<(CoreRun, Verdict), Memory>
     requires run { IsRun p.now lim run.journal run.state }
+    requires listing { IsListing run.state enabled.old }
     requires drafted { IsDraftedOf p.now d }
     ensures run { IfOk result (λ told. IsRun p.now lim told.0.journal told.0.state) }
+    ensures listing { IfOk result (λ told. IsListing told.0.state enabled.new) }
     ensures judges { IfOk result (λ told. Judges p.now lim run d told.1 (Some told.0)) }
     ensures begins { IfOk result (λ told. IsPrefix run.journal told.0.journal) }
 {
-    match judge(alloc, p, &run.state, &d)? {
+    match judge(alloc, p, &run.state, enabled, &d)? {
         Finding::Fits => {
-            let (after, number) = take_moves(alloc, p, lim, run, d)?;
+            let (after, number) = take_moves(alloc, p, lim, run, enabled, d)?;
             Ok((after, Verdict::Committed { number }))
         }
         Finding::Passed => Ok((run, Verdict::Passed)),

@@ -2,16 +2,18 @@
 ghost use Rattle.std.specs.Prelude.{◌≡◌, [], Some, None, IfOk, OnErr, option_copied};
 ghost use Rattle.twe_machine.specs.Moves.{start_of};
 ghost use Rattle.opt_engine.specs.Drafts.{IsDraftedOf};
-ghost use Rattle.opt_engine.specs.Verdicts.{AnswersCommit, Drafts, RunGoesOn, IsKept};
+ghost use Rattle.opt_engine.specs.Verdicts.{AnswersCommit, Drafts, HoldsBack, RunGoesOn, IsKept};
 
 use crate::answering::answer;
 use crate::core_run::CoreRun;
 use crate::drafts::{Draft, Drafted};
+use crate::judging::some_bar;
 use crate::readiness::draft_of;
 use crate::verdict::Verdict;
 use std::alloc::Global;
 use std::marker::{Model, PhantomData};
 use twe_base::{Limits, Memory};
+use twe_machine::{EnabledTasks, links_agree};
 use twe_program::Prog;
 use twe_rounds::{RoundName, lost};
 
@@ -22,6 +24,7 @@ pub struct Core<N: RoundName> {
     alloc: Global,
     lim: Limits,
     run: Option<CoreRun>,
+    enabled: EnabledTasks,
     of: PhantomData<N>,
 }
 
@@ -29,12 +32,14 @@ impl<N: RoundName> Model for Core<N> {
     ghost use Rattle.std.specs.Prelude.{◌≡◌, Option};
     ghost use Rattle.opt_engine.specs.declared.core_run.CoreRun.{CoreRun};
     ghost use Rattle.opt_engine.specs.Verdicts.{IsKept};
+    ghost use Rattle.opt_engine.specs.inner.Knowing.{KnowsEnabled};
 
     ghost Value = { Option CoreRun };
 
     ghost view = { λ core. core.run };
 
-    ghost invariant = { λ core. (core.lim ≡ N.lim) × IsKept N.prog N.lim N.earlier core.run };
+    ghost invariant = { λ core.
+        (core.lim ≡ N.lim) × IsKept N.prog N.lim N.earlier core.run × KnowsEnabled core.run core.enabled };
 }
 
 impl<N: RoundName> Core<N> {
@@ -45,26 +50,31 @@ impl<N: RoundName> Core<N> {
         ensures { IfOk result (λ core. core ≡ Some (record { journal = []; state = start_of p.now lim })) }
     {
         let run = CoreRun::begin(alloc, p, lim)?;
+        let enabled = EnabledTasks::new(alloc)?;
         Ok(Core {
             alloc,
             lim,
             run: Some(run),
+            enabled,
             of: PhantomData,
         })
     }
 
     /// A core with this run, which goes on from the named journal.
-    pub fn of(alloc: Global, lim: Limits, run: CoreRun) -> Self
+    pub fn of(alloc: Global, lim: Limits, run: CoreRun) -> Result<Self, Memory>
         requires named { lim ≡ N.lim }
         requires goes_on { RunGoesOn N.prog N.lim N.earlier run }
-        ensures { result ≡ Some run }
+        ensures { IfOk result (λ core. core ≡ Some run) }
     {
-        Core {
+        links_agree();
+        let enabled = EnabledTasks::of(alloc, &run.state)?;
+        Ok(Core {
             alloc,
             lim,
             run: Some(run),
+            enabled,
             of: PhantomData,
-        }
+        })
     }
 
     /// The run, or `None` if it is lost.
@@ -94,6 +104,16 @@ impl<N: RoundName> Core<N> {
         draft_of(self.alloc, p, &run.state, t)
     }
 
+    /// Some bar to the admission of a task, or `None` if nothing holds it back. It need not be the lowest one, and is looked for where
+    /// the effects of the task are placed alone.
+    pub fn bar(&self, p: &Prog, t: u32) -> Result<Option<u32>, Memory>
+        requires { p.now ≡ N.prog }
+        ensures { IfOk result (HoldsBack self.now t) }
+    {
+        let run = self.run.as_ref().ok_or(lost())?;
+        Ok(some_bar(p, &run.state, &self.enabled, t))
+    }
+
     /// Takes the moves that a draft stands for, if it fits and they are legal, and else says why not. Then nothing has
     /// changed.
     pub fn commit(&mut self, p: &Prog, d: Drafted) -> Result<Verdict, Memory>
@@ -103,7 +123,7 @@ impl<N: RoundName> Core<N> {
         ensures err { OnErr result (self.new ≡ None) }
     {
         let run = self.run.take().ok_or(lost())?;
-        let (after, verdict) = answer(self.alloc, p, self.lim, run, d)?;
+        let (after, verdict) = answer(self.alloc, p, self.lim, run, &mut self.enabled, d)?;
         self.run = Some(after);
         Ok(verdict)
     }

@@ -4,7 +4,8 @@ ghost use Rattle.std.specs.List.{All};
 ghost use Rattle.twe_machine.specs.Runs.{IsReached};
 ghost use Rattle.seg_journal.specs.declared.moves.Kind.TheVariants.{Admit};
 ghost use Rattle.twe_machine.specs.declared.legal.Why.TheVariants.{HeldBy};
-ghost use Rattle.twe_machine.specs.Legal.{Forbids};
+ghost use Rattle.twe_machine.specs.Legal.{Forbids, IsBar};
+ghost use Rattle.twe_machine.specs.Listings.{IsListing};
 ghost use Rattle.twe_base.specs.Limits.{Bounds};
 ghost use Rattle.opt_engine.specs.Drafts.{IsDraftedOf, IsNext, StandsIn};
 ghost use Rattle.opt_engine.specs.Verdicts.{IsFree};
@@ -12,12 +13,12 @@ ghost use Rattle.opt_engine.specs.inner.Judging.{Finds, HasChanged, IsChange};
 
 use crate::drafts::Drafted;
 use crate::frames::same_frame;
-use crate::readiness::{is_ready, ready_copy};
+use crate::readiness::{is_made, is_ready, ready_copy};
 use crate::touch::CellValue;
 use seg_journal::{Kind, Move};
 use std::alloc::Global;
 use twe_base::{Ints, Memory};
-use twe_machine::{State, Why, may};
+use twe_machine::{EnabledTasks, State, Why};
 use twe_program::Prog;
 
 /// A cell that has another value than the one that was read.
@@ -41,9 +42,16 @@ pub(crate) enum Finding {
     Changed(Change),
 }
 
-/// What holds of a draft of the program in a reached state.
-pub(crate) fn judge(alloc: Global, p: &Prog, st: &State, d: &Drafted) -> Result<Finding, Memory>
+/// What holds of a draft of the program in a reached state, whose enabled tasks these are.
+pub(crate) fn judge(
+    alloc: Global,
+    p: &Prog,
+    st: &State,
+    enabled: &EnabledTasks,
+    d: &Drafted,
+) -> Result<Finding, Memory>
     requires reached { (lim : Bounds) × IsReached p.now lim st.now }
+    requires listing { IsListing st.now enabled.now }
     requires drafted { IsDraftedOf p.now d.now }
     ensures { IfOk result (Finds st.now d.now) }
 {
@@ -51,7 +59,7 @@ pub(crate) fn judge(alloc: Global, p: &Prog, st: &State, d: &Drafted) -> Result<
     if !is_next(alloc, p, st, d)? {
         return Ok(Finding::Passed);
     }
-    if let Some(by) = holder(p, st, d.task) {
+    if let Some(by) = holder(p, st, enabled, d.task) {
         return Ok(Finding::Held(by));
     }
     Ok(match first_change(&st.cells, d.reads.as_slice()) {
@@ -76,9 +84,11 @@ fn is_next(alloc: Global, p: &Prog, st: &State, d: &Drafted) -> Result<bool, Mem
     }
 }
 
-/// The lowest bar to the admission of a task, if it waits for its admission and has a bar.
-fn holder(p: &Prog, st: &State, t: u32) -> Option<u32>
-    requires { (lim : Bounds) × IsReached p.now lim st.now }
+/// The lowest bar to the admission of a task, if it waits for its admission and has a bar. It is looked for among all tasks only if
+/// there is one.
+fn holder(p: &Prog, st: &State, enabled: &EnabledTasks, t: u32) -> Option<u32>
+    requires reached { (lim : Bounds) × IsReached p.now lim st.now }
+    requires listing { IsListing st.now enabled.now }
     ensures some { IfSome result (λ by. Forbids st.now Admit t (HeldBy by)) }
     ensures none { IfNone result (IsFree st.now t) }
 {
@@ -86,7 +96,7 @@ fn holder(p: &Prog, st: &State, t: u32) -> Option<u32>
         kind: Kind::Admit,
         task: t,
     };
-    match may(p, st, admission) {
+    match enabled.may(p, st, admission) {
         Ok(()) => None,
         Err(Why::HeldBy(by)) => Some(by),
         Err(Why::NoTask) => None,
@@ -94,6 +104,20 @@ fn holder(p: &Prog, st: &State, t: u32) -> Option<u32>
         Err(Why::NotEnabled) => None,
         Err(Why::WaitsFor(_)) => None,
     }
+}
+
+/// Some bar to the admission of a task, if it waits for its admission and has a bar.
+pub(crate) fn some_bar(p: &Prog, st: &State, enabled: &EnabledTasks, t: u32) -> Option<u32>
+    requires reached { (lim : Bounds) × IsReached p.now lim st.now }
+    requires listing { IsListing st.now enabled.now }
+    ensures some { IfSome result (λ s. IsBar st.now s t) }
+    ensures none { IfNone result (IsFree st.now t) }
+{
+    let _main = p.main;
+    if !is_made(st, t) {
+        return None;
+    }
+    enabled.bar(st, t)
 }
 
 /// The first read whose cell has another value now.

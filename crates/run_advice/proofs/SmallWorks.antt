@@ -19,7 +19,7 @@ use Rattle.twe_program.specs.Program.{Program}
 use Rattle.twe_program.specs.WellFormed.{IsWellFormed}
 use Rattle.run_advice.proofs.CountedParts.{counted_legal}
 use Rattle.run_advice.specs.Advice.{IsCountedRun}
-use Rattle.run_advice.specs.Totals.{AreFew, entries_of, work_of, works_from}
+use Rattle.run_advice.specs.Totals.{CanBeSummed, entries_of, work_of, works_from}
 use Rattle.run_advice.specs.declared.totals.TaskWork.{TaskWork}
 
 works_length : (fuel : ℕ) (journal : List Entry) (task : ℕ) (rows : List TaskRow) → length (works_from fuel journal task rows) ≡ length rows
@@ -33,7 +33,7 @@ works_small fuel most journal few task (row ∷ rows) zero d below =
 works_small fuel most journal few task (row ∷ rows) (suc k) d below = works_small fuel most journal few (suc task) rows k d (omega (arith, below))
 
 pub are_few : (lim : Bounds) → IsWithin lim.fuel lim.tasks → (journal : List Entry) (rows : List TaskRow) → length journal ≤ lim.tasks * (2 * lim.fuel + 2) → length rows ≤ lim.tasks
-    → AreFew (works_from lim.fuel journal 0 rows)
+    → CanBeSummed (works_from lim.fuel journal 0 rows)
 are_few lim within journal rows short few = record {
   few = (let same = works_length lim.fuel journal 0 rows in let most = within.tasks_most in omega (arith, same, most, few));
   small = works_small lim.fuel (2 ^ 45) journal
@@ -45,7 +45,7 @@ are_few lim within journal rows short few = record {
 
 -- the part of a run that counts is short, and its tasks are few
 pub run_is_small : (p : Program) (lim : Bounds) → IsWellFormed p → IsWithin lim.fuel lim.tasks → (moves : List Move) (journal : List Entry) (st : State) → IsCountedRun p lim moves journal st
-    → (length journal < 2 ^ 45) × AreFew (works_from lim.fuel journal 0 st.tasks)
+    → (length journal < 2 ^ 45) × CanBeSummed (works_from lim.fuel journal 0 st.tasks)
 run_is_small p lim well within moves journal st run =
     let legal = subst (Legal p lim) (sym run.journal_is) (counted_legal p lim (start_of p lim) run.whole run.legal) in
     let short = journal_length p lim well journal within.tasks_least legal in

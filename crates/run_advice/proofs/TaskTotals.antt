@@ -6,12 +6,12 @@ use Rattle.std.proofs.lemmas.List.Sums.{fold_more}
 use Rattle.std.proofs.lemmas.List.{length-take-le, take_more}
 use Rattle.seg_journal.specs.declared.journal.Entry.{Entry}
 use Rattle.twe_machine.specs.declared.state.TaskRow.{TaskRow}
-use Rattle.run_advice.specs.Totals.{entries_of, total_of, with_task, work_if, work_of, works_from}
+use Rattle.run_advice.specs.Totals.{entries_of, total_of, with_work, work_if, work_of, works_from}
 use Rattle.run_advice.specs.declared.totals.TaskTotal.{TaskTotal}
 use Rattle.run_advice.specs.declared.totals.TaskWork.{TaskWork}
 
 with_by : (total : TaskTotal) (task : TaskWork) (t : Bool)
-    → record { made = total.made + (if t then 1 else 0); work = total.work + (if t then task.work else 0); heaviest = max total.heaviest (if t then task.work else 0) } ≡ with_task t total task
+    → record { made = total.made + (if t then 1 else 0); work = total.work + (if t then task.work else 0); heaviest = max total.heaviest (if t then task.work else 0) } ≡ with_work t total task
 with_by total task true = refl
 with_by total task false =
     let none : total.made + 0 ≡ total.made = omega arith in
@@ -20,7 +20,7 @@ with_by total task false =
     λ i. record { made = none i; work = no_work i; heaviest = same i }
 
 pub total_more : (decl : ℕ) (works : List TaskWork) (i : ℕ) (d : TaskWork) → i < length works
-    → total_of decl (take (i + 1) works) ≡ with_task ((get_or works i d).decl == decl) (total_of decl (take i works)) (get_or works i d)
+    → total_of decl (take (i + 1) works) ≡ with_work ((get_or works i d).decl == decl) (total_of decl (take i works)) (get_or works i d)
 total_more decl works i d below =
     let made = fold_more (λ (a : ℕ) (task : TaskWork). a + (if task.decl == decl then 1 else 0)) 0 works i d below in
     let work = fold_more (λ (a : ℕ) (task : TaskWork). a + work_if decl task) 0 works i d below in
@@ -52,7 +52,7 @@ works_more fuel journal rows i d below taken =
 
 -- the total of a few tasks stays small
 pub small_more : (t : Bool) (total : TaskTotal) (task : TaskWork) (i : ℕ) → total.made ≤ i → total.work ≤ i * 2 ^ 45 → task.work < 2 ^ 45
-    → ((with_task t total task).made ≤ i + 1) × ((with_task t total task).work ≤ (i + 1) * 2 ^ 45)
+    → ((with_work t total task).made ≤ i + 1) × ((with_work t total task).work ≤ (i + 1) * 2 ^ 45)
 small_more true total task i few small light = (omega (arith, few), omega (arith, small, light))
 small_more false total task i few small light = (omega (arith, few), omega (arith, small))
 

@@ -35,11 +35,11 @@ total_of decl works = record {
 }
 
 -- the total with one task more, which is of the declaration or is not
-abbrev pub with_task : Bool → TaskTotal → TaskWork → TaskTotal
-with_task true total task = record { made = total.made + 1; work = total.work + task.work; heaviest = max total.heaviest task.work }
-with_task false total task = total
+abbrev pub with_work : Bool → TaskTotal → TaskWork → TaskTotal
+with_work true total task = record { made = total.made + 1; work = total.work + task.work; heaviest = max total.heaviest task.work }
+with_work false total task = total
 
 -- There are no more tasks than a run may make, and the work of each is small enough for the sum of all to fit 64 bits.
-pub record AreFew (works : List TaskWork) : Type 0 where
+pub record CanBeSummed (works : List TaskWork) : Type 0 where
   pub few : length works ≤ max_tasks
   pub small : All (λ (task : TaskWork). task.work < 2 ^ 45) works

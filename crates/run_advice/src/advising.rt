@@ -4,7 +4,7 @@ ghost use Rattle.twe_machine.specs.Replays.{IsFirstIllegal};
 ghost use Rattle.twe_machine.specs.declared.legal.Why.{Why as Reason};
 ghost use Rattle.twe_machine.specs.declared.replaying.ReplayFail.TheVariants.{Illegal};
 ghost use Rattle.run_advice.specs.Advice.{IsAdvice, parallelism_of};
-ghost use Rattle.run_advice.specs.Totals.{AreFew};
+ghost use Rattle.run_advice.specs.Totals.{CanBeSummed};
 
 use crate::counting::counted_run;
 use crate::totals::{TaskWork, task_works};
@@ -40,7 +40,7 @@ pub fn parallelism_of(work: u64, span: u64) -> u128
 /// counted from 1, and why it is not.
 pub fn advise(alloc: Global, p: &Prog, lim: Limits, moves: &[Move]) -> Result<Advice, ReplayFail>
     ensures advised { IfOk result (λ a. IsAdvice p.now lim moves.now a.profile.work a.profile.span a.profile.chain a.works) }
-    ensures few { IfOk result (λ a. AreFew a.works) }
+    ensures few { IfOk result (λ a. CanBeSummed a.works) }
     ensures illegal { (n : ℕ) (why : Reason) → IsErrOf result (Illegal n why) → IsFirstIllegal p.now lim moves.now n why }
 {
     let _main = p.main;

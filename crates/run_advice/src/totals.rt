@@ -1,6 +1,6 @@
 //! What the tasks of a run took, one by one and by their declarations.
 ghost use Rattle.std.specs.Prelude.{◌≡◌, ◌<◌, ◌+◌, ◌==◌, ◌^◌, ℕ, length, slice_index, if◌then◌else◌, IfOk};
-ghost use Rattle.run_advice.specs.Totals.{AreFew, entries_of, total_of, with_task, works_from};
+ghost use Rattle.run_advice.specs.Totals.{CanBeSummed, entries_of, total_of, with_work, works_from};
 
 use seg_journal::Entry;
 use std::alloc::Global;
@@ -77,10 +77,10 @@ pub(crate) fn task_works(
 }
 
 /// The total with one task more, if it is of the declaration.
-fn with_task(total: TaskTotal, task: &TaskWork, decl: usize) -> TaskTotal
+fn with_work(total: TaskTotal, task: &TaskWork, decl: usize) -> TaskTotal
     requires made { total.made < 2 ^ 63 }
     requires work { total.work + task.now.work < 2 ^ 64 }
-    ensures { result ≡ with_task (task.now.decl == decl) total task.now }
+    ensures { result ≡ with_work (task.now.decl == decl) total task.now }
 {
     if task.decl as usize == decl {
         TaskTotal {
@@ -95,7 +95,7 @@ fn with_task(total: TaskTotal, task: &TaskWork, decl: usize) -> TaskTotal
 
 /// What the tasks of a declaration took.
 pub fn total_of(works: &[TaskWork], decl: usize) -> TaskTotal
-    requires { AreFew works.now }
+    requires { CanBeSummed works.now }
     ensures { result ≡ total_of decl works.now }
 {
     let mut total = TaskTotal {
@@ -104,7 +104,7 @@ pub fn total_of(works: &[TaskWork], decl: usize) -> TaskTotal
         heaviest: 0,
     };
     for task in works {
-        total = with_task(total, task, decl);
+        total = with_work(total, task, decl);
     }
     total
 }

@@ -1,1 +1,2 @@
 pub mod SafeRuns
+pub mod Orders

@@ -3,9 +3,7 @@ ghost use Rattle.std.specs.Prelude.{◌≤◌, List};
 ghost use Rattle.seg_journal.specs.declared.journal.Entry.{Entry};
 ghost use Rattle.twe_base.specs.Limits.{Bounds};
 ghost use Rattle.twe_program.specs.Program.{Program};
-ghost use Rattle.twe_program.specs.WellFormed.{IsWellFormed};
-ghost use Rattle.isolation_laws.specs.soundness.KeepsEffects.{KeepsEffects};
-ghost use Rattle.twe_machine.specs.Runs.{Legal};
+ghost use Rattle.determinism_laws.specs.AcceptedRuns.{IsAcceptedRun};
 ghost use Rattle.run_laws.specs.SafeRuns.{IsSafeRun};
 
 use determinism_laws::results::{
@@ -19,8 +17,8 @@ use isolation_laws::{
 /// Each legal journal of a program that keeps the rules on effects is safe, under all limits that allow a task. So each run is,
 /// with workers or without, and each replay.
 pub fn accepted_runs_are_safe()
-    ensures { (p : Program) → IsWellFormed p → KeepsEffects p
-        → (lim : Bounds) → 1 ≤ lim.tasks → (journal : List Entry) → Legal p lim journal → IsSafeRun p lim journal }
+    ensures { (p : Program) (lim : Bounds) (journal : List Entry) → IsAcceptedRun p lim journal → 1 ≤ lim.tasks
+        → IsSafeRun p lim journal }
 {
     accepted_runs_are_isolated();
     beginnings_of_legal_journals_are_legal();

@@ -12,6 +12,7 @@ use Rattle.twe_machine.specs.declared.state.State.{State}
 use Rattle.twe_machine.specs.Runs.{AllTasksDone, Legal, state_after}
 use Rattle.isolation_laws.specs.soundness.KeepsEffects.{KeepsEffects}
 use Rattle.isolation_laws.specs.Within.{AlwaysWithin}
+use Rattle.determinism_laws.specs.AcceptedRuns.{IsAcceptedRun}
 use Rattle.command_line.specs.declared.command.Command.TheVariants.{Run}
 use Rattle.twe_report.specs.Texts.{result_text}
 use Rattle.twe_io.specs.Answers.{Tells, on_out}
@@ -79,8 +80,8 @@ wrote_none (WriteCalls.write {n} {before} {after} taken more writes less some st
 
 module _ (well_formed : (text : List ℕ) (p : Program) → length text ≤ max_text_bytes → Accepted text p → IsWellFormed p)
     (within : (p : Program) → IsWellFormed p → KeepsEffects p → (lim : Bounds) (journal : List Entry) → Legal p lim journal → AlwaysWithin p lim journal)
-    (declared : (p : Program) → IsWellFormed p → KeepsEffects p → (lim : Bounds) (journal : List Entry) → Legal p lim journal → AlwaysDeclared p lim journal)
-    (apart : (p : Program) → IsWellFormed p → KeepsEffects p → (lim : Bounds) (journal : List Entry) → Legal p lim journal → AlwaysApart p lim journal)
+    (declared : (p : Program) (lim : Bounds) (journal : List Entry) → IsAcceptedRun p lim journal → AlwaysDeclared p lim journal)
+    (apart : (p : Program) (lim : Bounds) (journal : List Entry) → IsAcceptedRun p lim journal → AlwaysApart p lim journal)
     (once : (p : Program) (lim : Bounds) (journal : List Entry) → IsWellFormed p → Legal p lim journal → AllTasksDone (state_after p lim journal)
     → EachTaskOnce journal (state_after p lim journal))
     {S O E : Type 0} (src : SourceTells S) (out : SinkTells O) (err : SinkTells E) (workers : ℕ) (lim : Bounds) (asked : Bool)
@@ -95,6 +96,7 @@ module _ (well_formed : (text : List ℕ) (p : Program) → length text ≤ max_
       let has = run.has.has in
       let well = well_formed text p was.told.2 run.accepted in
       let keeps = run.accepted.keeps in
+      let accepted : IsAcceptedRun p lim book.journal = record { well_formed = well; keeps = keeps; legal = has.legal } in
       let text_out : answer.out ≡ output_of_run asked p lim book.journal =
       ap (λ (a : Answer). a.out) run.same ∙ result_out asked p lim book.journal in
       let none : answer.err ≡ [] = ap (λ (a : Answer). a.err) run.same in
@@ -111,10 +113,10 @@ module _ (well_formed : (text : List ℕ) (p : Program) → length text ≤ max_
         outcome = has.told;
         once = once p lim book.journal well has.legal has.ended.1;
         isolated = has.isolated;
-        declared = declared p well keeps lim book.journal has.legal;
+        declared = declared p lim book.journal accepted;
         within = within p well keeps lim book.journal has.legal;
         covered = has.covered;
-        apart = apart p well keeps lim book.journal has.legal;
+        apart = apart p lim book.journal accepted;
         deterministic = has.deterministic;
         of_main = λ flag. has.of_main flag has.ended.1;
         lowest = run.has.lowest;

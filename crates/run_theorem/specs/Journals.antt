@@ -14,7 +14,8 @@ use Rattle.isolation_laws.specs.Rows.{RowsKeepToDeclarations}
 -- after each beginning of the journal, each task runs its own declaration, and its effects are those that the declaration has
 -- for its arguments
 abbrev pub AlwaysDeclared : Program → Bounds → List Entry → Type 0
-AlwaysDeclared p lim journal = (n : ℕ) → n ≤ length journal → RowsKeepToDeclarations p (state_after p lim (take n journal))
+AlwaysDeclared p lim journal =
+    (n : ℕ) → n ≤ length journal → RowsKeepToDeclarations p (state_after p lim (take n journal))
 
 -- after each beginning of the journal, no accesses of two tasks that may run conflict
 abbrev pub AlwaysApart : Program → Bounds → List Entry → Type 0

@@ -4,8 +4,8 @@ ghost use Rattle.seg_journal.specs.declared.journal.Entry.{Entry};
 ghost use Rattle.twe_base.specs.Limits.{Bounds};
 ghost use Rattle.twe_program.specs.Program.{Program};
 ghost use Rattle.twe_program.specs.WellFormed.{IsWellFormed};
-ghost use Rattle.isolation_laws.specs.soundness.KeepsEffects.{KeepsEffects};
 ghost use Rattle.twe_machine.specs.Runs.{AllTasksDone, Legal, state_after};
+ghost use Rattle.determinism_laws.specs.AcceptedRuns.{IsAcceptedRun};
 ghost use Rattle.run_theorem.specs.Journals.{AlwaysApart, AlwaysDeclared, EachTaskAtMostOnce, EachTaskOnce};
 
 use isolation_laws::{
@@ -17,10 +17,10 @@ use isolation_laws::{
 /// arguments, and no accesses of two tasks that may run conflict, whatever values the cells have. So two tasks that run at
 /// once never race.
 pub fn tasks_keep_apart_throughout()
-    ensures declared { (p : Program) → IsWellFormed p → KeepsEffects p
-        → (lim : Bounds) (journal : List Entry) → Legal p lim journal → AlwaysDeclared p lim journal }
-    ensures apart { (p : Program) → IsWellFormed p → KeepsEffects p
-        → (lim : Bounds) (journal : List Entry) → Legal p lim journal → AlwaysApart p lim journal }
+    ensures declared { (p : Program) (lim : Bounds) (journal : List Entry) → IsAcceptedRun p lim journal
+        → AlwaysDeclared p lim journal }
+    ensures apart { (p : Program) (lim : Bounds) (journal : List Entry) → IsAcceptedRun p lim journal
+        → AlwaysApart p lim journal }
 {
     beginnings_of_legal_journals_are_legal();
     tasks_keep_to_their_declarations();

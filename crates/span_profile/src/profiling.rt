@@ -53,7 +53,7 @@ impl Tracked {
         let size = st.cells.len();
         Ok(Tracked {
             st,
-            enabled: EnabledTasks::new(alloc),
+            enabled: EnabledTasks::new(alloc)?,
             journal: Journal::new(alloc),
             over: false,
             places: number_places(alloc, p)?,

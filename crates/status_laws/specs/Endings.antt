@@ -40,7 +40,8 @@ HasMetFault st = (fault : FirstFault) × (st.first_fault ≡ Some fault)
 -- fault, the run has met a fault. It is no execution that strays or goes on.
 abbrev pub HasEndedAs : State → Ending → Type 0
 HasEndedAs st (ends value later) =
-    IsOutcome st AllDone × (st.cells ≡ later.cells) × (st.prints ≡ later.prints) × (length st.tasks ≡ length later.values)
+    IsOutcome st AllDone × (st.cells ≡ later.cells) × (st.prints ≡ later.prints)
+    × (length st.tasks ≡ length later.values)
 HasEndedAs st (fails kind place) = HasMetFault st
 HasEndedAs st strays = ⊥
 HasEndedAs st goes_on = ⊥

@@ -14,8 +14,9 @@ ghost use Rattle.twe_machine.specs.declared.state.State.{State};
 ghost use Rattle.twe_machine.specs.Legal.{MayMove};
 ghost use Rattle.twe_machine.specs.LowestFirst.{IsOver};
 ghost use Rattle.twe_machine.specs.Moves.{initial_values};
-ghost use Rattle.twe_machine.specs.Runs.{AllTasksDone, IsOutcome, IsReached, Legal, state_after};
+ghost use Rattle.twe_machine.specs.Runs.{AllTasksDone, IsOutcome, IsReached, state_after};
 ghost use Rattle.seq_elide.specs.Elision.{elided, fails};
+ghost use Rattle.determinism_laws.specs.AcceptedRuns.{IsAcceptedRun};
 ghost use Rattle.determinism_laws.specs.results.Main.{HaveSameResult, MainIsDeterministic};
 
 /// If `main` is deterministic, no run is ever stuck: in each reached state some move is legal, unless a task has met a fault
@@ -37,8 +38,8 @@ pub fn ended_runs_have_one_result()
     ensures done { (p : Program) → IsWellFormed p → KeepsEffects p → MainIsDeterministic p
         → (lim : Bounds) → IsWithin lim.fuel lim.tasks → (st : State) → IsReached p lim st
         → IsOver st → st.first_fault ≡ None → AllTasksDone st }
-    ensures one_result { (p : Program) → IsWellFormed p → KeepsEffects p → MainIsDeterministic p
-        → (lim : Bounds) → IsWithin lim.fuel lim.tasks → (one other : List Entry) → Legal p lim one → Legal p lim other
+    ensures one_result { (p : Program) (lim : Bounds) (one other : List Entry) → IsAcceptedRun p lim one
+        → IsAcceptedRun p lim other → MainIsDeterministic p → IsWithin lim.fuel lim.tasks
         → IsOver (state_after p lim one) → IsOver (state_after p lim other)
         → (state_after p lim one).first_fault ≡ None → (state_after p lim other).first_fault ≡ None
         → HaveSameResult (state_after p lim one) (state_after p lim other) }
@@ -47,10 +48,9 @@ pub fn ended_runs_have_one_result()
 /// If the sequential execution of a deterministic `main` meets a fault, then no run under the same limits ends with all tasks
 /// done, and each run that has ended has met a fault.
 pub fn runs_of_a_faulty_main_end_with_a_fault()
-    ensures never_done { (p : Program) → IsWellFormed p → KeepsEffects p → MainIsDeterministic p
-        → (lim : Bounds) → IsWithin lim.fuel lim.tasks → (kind : FaultKind) (place : Place)
-        → elided p lim p.main [] (initial_values p.cells) ≡ fails kind place
-        → (journal : List Entry) → Legal p lim journal → ¬ AllTasksDone (state_after p lim journal) }
+    ensures never_done { (p : Program) (lim : Bounds) (journal : List Entry) → IsAcceptedRun p lim journal
+        → MainIsDeterministic p → IsWithin lim.fuel lim.tasks → (kind : FaultKind) (place : Place)
+        → elided p lim p.main [] (initial_values p.cells) ≡ fails kind place → ¬ AllTasksDone (state_after p lim journal) }
     ensures fault { (p : Program) → IsWellFormed p → KeepsEffects p → MainIsDeterministic p
         → (lim : Bounds) → IsWithin lim.fuel lim.tasks → (kind : FaultKind) (place : Place)
         → elided p lim p.main [] (initial_values p.cells) ≡ fails kind place

@@ -12,9 +12,10 @@ ghost use Rattle.twe_machine.specs.declared.state.TaskRow.{TaskRow};
 ghost use Rattle.twe_machine.specs.declared.state.TaskStatus.TheVariants.{Done};
 ghost use Rattle.twe_machine.specs.Moves.{initial_values};
 ghost use Rattle.twe_machine.specs.Rows.{IsRow};
-ghost use Rattle.twe_machine.specs.Runs.{Legal, state_after};
+ghost use Rattle.twe_machine.specs.Runs.{state_after};
 ghost use Rattle.seq_elide.specs.declared.progress.Progress.{Progress};
 ghost use Rattle.seq_elide.specs.Elision.{elided, ends, fails, strays};
+ghost use Rattle.determinism_laws.specs.AcceptedRuns.{IsAcceptedRun};
 ghost use Rattle.determinism_laws.specs.Deterministic.{IsDeterministic};
 ghost use Rattle.determinism_laws.specs.results.Main.{MainIsDeterministic};
 ghost use Rattle.status_laws.specs.Counts.{HasCountedResult};
@@ -43,8 +44,7 @@ pub fn sequential_executions_of_main_are_runs()
 /// In every legal journal, the sequential execution of each deterministic task that is done at the end makes as many tasks as
 /// there are in the run: the task itself, those that it spawned, those that these spawned, and so on.
 pub fn results_count_the_tasks_below()
-    ensures { (p : Program) → IsWellFormed p → KeepsEffects p
-        → (lim : Bounds) → 1 ≤ lim.tasks → (journal : List Entry) → Legal p lim journal
-        → (t : ℕ) (row : TaskRow) → IsRow (state_after p lim journal) t row → row.status ≡ Done → IsDeterministic p row
-        → HasCountedResult p lim journal t row }
+    ensures { (p : Program) (lim : Bounds) (journal : List Entry) → IsAcceptedRun p lim journal → 1 ≤ lim.tasks
+        → (t : ℕ) (row : TaskRow) → IsRow (state_after p lim journal) t row → row.status ≡ Done
+        → IsDeterministic p row → HasCountedResult p lim journal t row }
 {}

@@ -10,8 +10,9 @@ ghost use Rattle.twe_machine.specs.declared.state.State.{State};
 ghost use Rattle.twe_machine.specs.Legal.{MayMove};
 ghost use Rattle.twe_machine.specs.LowestFirst.{IsOver};
 ghost use Rattle.twe_machine.specs.Moves.{initial_values, move_result};
-ghost use Rattle.twe_machine.specs.Runs.{AllTasksDone, IsReached, Legal, state_after};
+ghost use Rattle.twe_machine.specs.Runs.{AllTasksDone, IsReached, state_after};
 ghost use Rattle.seq_elide.specs.Elision.{elided};
+ghost use Rattle.determinism_laws.specs.AcceptedRuns.{IsAcceptedRun};
 ghost use Rattle.determinism_laws.specs.results.Main.{MainIsDeterministic};
 ghost use Rattle.status_laws.specs.Endings.{CanFinish, HasEndedAs, HaveEndedAlike, SomeRunFinishes};
 
@@ -27,9 +28,8 @@ pub fn moves_keep_runs_able_to_finish()
 /// So if some run of a program whose `main` is deterministic ends with all tasks done, no run under the same limits ever meets
 /// a fault, and each one that has ended has all tasks done.
 pub fn runs_finish_if_one_does()
-    ensures no_fault { (p : Program) → IsWellFormed p → KeepsEffects p → MainIsDeterministic p
-        → (lim : Bounds) → SomeRunFinishes p lim
-        → (journal : List Entry) → Legal p lim journal → (state_after p lim journal).first_fault ≡ None }
+    ensures no_fault { (p : Program) (lim : Bounds) (journal : List Entry) → IsAcceptedRun p lim journal
+        → MainIsDeterministic p → SomeRunFinishes p lim → (state_after p lim journal).first_fault ≡ None }
     ensures done { (p : Program) → IsWellFormed p → KeepsEffects p → MainIsDeterministic p
         → (lim : Bounds) → IsWithin lim.fuel lim.tasks → SomeRunFinishes p lim
         → (st : State) → IsReached p lim st → IsOver st → AllTasksDone st }
@@ -44,6 +44,6 @@ pub fn ended_runs_end_as_the_execution()
         → (lim : Bounds) → IsWithin lim.fuel lim.tasks → (st : State) → IsReached p lim st → IsOver st
         → HasEndedAs st (elided p lim p.main [] (initial_values p.cells)) }
     ensures alike { (p : Program) → IsWellFormed p → KeepsEffects p → MainIsDeterministic p
-        → (lim : Bounds) → IsWithin lim.fuel lim.tasks → (one other : State) → IsReached p lim one → IsReached p lim other
-        → IsOver one → IsOver other → HaveEndedAlike one other }
+        → (lim : Bounds) → IsWithin lim.fuel lim.tasks → (one other : State) → IsReached p lim one
+        → IsReached p lim other → IsOver one → IsOver other → HaveEndedAlike one other }
 {}

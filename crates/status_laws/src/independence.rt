@@ -11,7 +11,8 @@ ghost use Rattle.twe_machine.specs.declared.state.TaskRow.{TaskRow};
 ghost use Rattle.twe_machine.specs.Legal.{MayMove, MayRun};
 ghost use Rattle.twe_machine.specs.Moves.{move_result};
 ghost use Rattle.twe_machine.specs.Rows.{IsRow};
-ghost use Rattle.twe_machine.specs.Runs.{AllTasksDone, IsReached, Legal, is_fault, state_after};
+ghost use Rattle.twe_machine.specs.Runs.{AllTasksDone, IsReached, is_fault, state_after};
+ghost use Rattle.determinism_laws.specs.AcceptedRuns.{IsAcceptedRun};
 ghost use Rattle.determinism_laws.specs.Segments.{state_before};
 ghost use Rattle.status_laws.specs.Endings.{CanFinish};
 ghost use Rattle.status_laws.specs.Independence.{KeepsNextSegment};
@@ -34,8 +35,7 @@ pub fn whole_runs_were_never_near_a_fault()
     ensures finishing { (p : Program) → IsWellFormed p → KeepsEffects p
         → (lim : Bounds) (st : State) → IsReached p lim st → CanFinish p lim st
         → (mv : Move) → MayMove st mv → is_fault (move_result p lim st mv).1 ≡ false }
-    ensures at_each_place { (p : Program) → IsWellFormed p → KeepsEffects p
-        → (lim : Bounds) (journal : List Entry) → Legal p lim journal → AllTasksDone (state_after p lim journal)
-        → (n : ℕ) (mv : Move) → MayMove (state_before p lim journal n) mv
+    ensures at_each_place { (p : Program) (lim : Bounds) (journal : List Entry) → IsAcceptedRun p lim journal
+        → AllTasksDone (state_after p lim journal) → (n : ℕ) (mv : Move) → MayMove (state_before p lim journal n) mv
         → is_fault (move_result p lim (state_before p lim journal n) mv).1 ≡ false }
 {}

@@ -10,13 +10,13 @@ use Rattle.std.proofs.lemmas.List.Edits.{length-insert, get_or-insert_at, get_or
 use Rattle.steal_pool.specs.declared.law.Hand.{Hand}
 use Rattle.steal_pool.specs.Hand.{pushing, taking, guest_of}
 use Rattle.steal_pool.specs.Stands.{Joins, Leaves, WasEmpty}
-use Rattle.steal_pool.specs.Ends.{Ends, hand_at, with_hand, Pushed, Taken, FoundEmpty}
+use Rattle.steal_pool.specs.DeckEnds.{DeckEnds, hand_at, with_hand, Pushed, Taken, FoundEmpty}
 use Rattle.steal_pool.specs.inner.Single.{OwnEnd, OtherEnd, ends_of, AgreeOnBound, IsAt}
 use Rattle.steal_pool.proofs.CallLemmas.{leaves_below}
 use Rattle.steal_pool.proofs.PlaceLemmas.{set-insert_here, set-insert_before, set-insert_after}
 
 -- what the pass of this deck knows was and becomes so
-taken_so : (old new : Ends) (deck number : ℕ) (known known' : Hand) → hand_at old deck ≡ known → known.bound ≡ old.bound → new ≡ with_hand old deck known' → Leaves known (number ∷ []) known' → Taken old new deck number
+taken_so : (old new : DeckEnds) (deck number : ℕ) (known known' : Hand) → hand_at old deck ≡ known → known.bound ≡ old.bound → new ≡ with_hand old deck known' → Leaves known (number ∷ []) known' → Taken old new deck number
 taken_so old new deck number known known' here bound now step =
     let then : known' ≡ taking (hand_at old deck) (number ∷ []) = step.0 ∙ ap (λ (h : Hand). taking h (number ∷ [])) (sym here) in (
       now ∙ ap (λ (h : Hand). with_hand old deck h) then,
@@ -24,7 +24,7 @@ taken_so old new deck number known known' here bound now step =
       omega (arith, leaves_below known known' number step),
     )
 
-pushed_so : (old new : Ends) (number : ℕ) (known known' : Hand) → hand_at old old.number ≡ known → new ≡ record (with_hand old old.number known') { spare = old.spare - 1 } → Joins known (number ∷ []) known' → Pushed old new number
+pushed_so : (old new : DeckEnds) (number : ℕ) (known known' : Hand) → hand_at old old.number ≡ known → new ≡ record (with_hand old old.number known') { spare = old.spare - 1 } → Joins known (number ∷ []) known' → Pushed old new number
 pushed_so old new number known known' here now step =
     let then : known' ≡ pushing (hand_at old old.number) (number ∷ []) = step.0 ∙ ap (λ (h : Hand). pushing h (number ∷ [])) (sym here) in (
       now ∙ ap (λ (h : Hand). record (with_hand old old.number h) { spare = old.spare - 1 }) then,
@@ -48,17 +48,17 @@ module _ (n : ℕ) (own own' : OwnEnd) (others : List OtherEnd) (agree : AgreeOn
         hands = sym (set-insert_here (map (λ other. other.hand) others) n own.hand own'.hand within) i;
       }
 
-  pub pops : (old : Ends) (deck : ℕ) (r : Option ℕ) → ends_of n own others ≡ old → deck ≡ n → own'.deck ≡ own.deck → own'.spare ≡ own.spare → IfSome r (λ number. Leaves own.hand (number ∷ []) own'.hand) → IfSome r (Taken old (ends_of n own' others) deck)
+  pub pops : (old : DeckEnds) (deck : ℕ) (r : Option ℕ) → ends_of n own others ≡ old → deck ≡ n → own'.deck ≡ own.deck → own'.spare ≡ own.spare → IfSome r (λ number. Leaves own.hand (number ∷ []) own'.hand) → IfSome r (Taken old (ends_of n own' others) deck)
   pops old deck r is at same spare step =
-      subst (λ (p : Ends × ℕ). IfSome r (Taken p.0 (ends_of n own' others) p.1)) (λ i. (is i, sym at i))
+      subst (λ (p : DeckEnds × ℕ). IfSome r (Taken p.0 (ends_of n own' others) p.1)) (λ i. (is i, sym at i))
       (IfSome_then r step (λ number left.
       let bound = ap (λ (h : Hand). h.bound) left.0 in
       let now = own_changed same bound ∙ ap (λ s. record (with_hand (ends_of n own others) n own'.hand) { spare = s }) spare in
       taken_so (ends_of n own others) (ends_of n own' others) n number own.hand own'.hand own_hand refl now left))
 
-  pub pushes_own : (old : Ends) (number : ℕ) → ends_of n own others ≡ old → own'.deck ≡ own.deck → own'.spare ≡ own.spare - 1 → Joins own.hand (number ∷ []) own'.hand → Pushed old (ends_of n own' others) number
+  pub pushes_own : (old : DeckEnds) (number : ℕ) → ends_of n own others ≡ old → own'.deck ≡ own.deck → own'.spare ≡ own.spare - 1 → Joins own.hand (number ∷ []) own'.hand → Pushed old (ends_of n own' others) number
   pushes_own old number is same spare step =
-      subst (λ (e : Ends). Pushed e (ends_of n own' others) number) is
+      subst (λ (e : DeckEnds). Pushed e (ends_of n own' others) number) is
       (let bound = ap (λ (h : Hand). h.bound) step.0 in
       let now = own_changed same bound ∙ ap (λ s. record (with_hand (ends_of n own others) n own'.hand) { spare = s }) spare in
       pushed_so (ends_of n own others) (ends_of n own' others) number own.hand own'.hand own_hand now step)
@@ -68,11 +68,11 @@ none_then None p then = then p
 none_then (Some x) p then = tt
 
 -- where a deck's end stands there is one
-pub end_there : (n : ℕ) (own : OwnEnd) (others : List OtherEnd) (old : Ends) (deck k : ℕ) → AgreeOnBound n own others → ends_of n own others ≡ old → deck < length old.hands → IsAt n deck k → k < length others
+pub end_there : (n : ℕ) (own : OwnEnd) (others : List OtherEnd) (old : DeckEnds) (deck k : ℕ) → AgreeOnBound n own others → ends_of n own others ≡ old → deck < length old.hands → IsAt n deck k → k < length others
 end_there n own others old deck k agree is less at =
     let hands = map (λ (end : OtherEnd). end.hand) others in
     let long = length-map others (λ (end : OtherEnd). end.hand) in
-    let all = ap (λ (e : Ends). length e.hands) is in
+    let all = ap (λ (e : DeckEnds). length e.hands) is in
     omega (arith, agree.0, at, length-insert hands n own.hand (omega (arith, agree.0)))
 
 module _ (n : ℕ) (own : OwnEnd) (others : List OtherEnd) (agree : AgreeOnBound n own others) (deck k : ℕ) (at : IsAt n deck k) (there : k < length others) (other other' : OtherEnd) (is : other ≡ get_or others k other) (same : other'.deck ≡ other.deck) where
@@ -111,16 +111,16 @@ module _ (n : ℕ) (own : OwnEnd) (others : List OtherEnd) (agree : AgreeOnBound
         hands = hands i;
       }
 
-  pub steals : (old : Ends) (r : Option ℕ) → ends_of n own others ≡ old → IfSome r (λ number. Leaves other.hand (number ∷ []) other'.hand) → IfSome r (Taken old (ends_of n own (set others k other')) deck)
+  pub steals : (old : DeckEnds) (r : Option ℕ) → ends_of n own others ≡ old → IfSome r (λ number. Leaves other.hand (number ∷ []) other'.hand) → IfSome r (Taken old (ends_of n own (set others k other')) deck)
   steals old r was step =
-      subst (λ (e : Ends). IfSome r (Taken e (ends_of n own (set others k other')) deck)) was
+      subst (λ (e : DeckEnds). IfSome r (Taken e (ends_of n own (set others k other')) deck)) was
       (IfSome_then r step (λ number left.
       let bound = ap (λ (end : OtherEnd). end.hand.bound) is ∙ agree.1 k other there in
       taken_so (ends_of n own others) (ends_of n own (set others k other')) deck number other.hand other'.hand other_hand bound other_changed left))
 
-  pub steals_none : (old : Ends) (r : Option ℕ) → ends_of n own others ≡ old → IfNone r ((other'.hand ≡ other.hand) × WasEmpty other.hand) → IfNone r (FoundEmpty old (ends_of n own (set others k other')) deck)
+  pub steals_none : (old : DeckEnds) (r : Option ℕ) → ends_of n own others ≡ old → IfNone r ((other'.hand ≡ other.hand) × WasEmpty other.hand) → IfNone r (FoundEmpty old (ends_of n own (set others k other')) deck)
   steals_none old r was none =
-      subst (λ (e : Ends). IfNone r (FoundEmpty e (ends_of n own (set others k other')) deck)) was
+      subst (λ (e : DeckEnds). IfNone r (FoundEmpty e (ends_of n own (set others k other')) deck)) was
       (none_then r none (λ found.
       let unchanged : other' ≡ get_or others k other = (λ i. record { deck = same i; hand = found.0 i }) ∙ is in
       (ap (λ ends. ends_of n own ends) (ap (λ end. set others k end) unchanged ∙ set-get_or others k other), subst WasEmpty (sym other_hand) found.1)))

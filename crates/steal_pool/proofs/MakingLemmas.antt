@@ -5,7 +5,7 @@ use Rattle.std.proofs.lemmas.List.{length-map, map-append, length-take, get_or-a
 use Rattle.std.proofs.lemmas.List.Edits.{insert-append_left, get_or-insert_at, map_over_more}
 use Rattle.steal_pool.specs.declared.law.Hand.{Hand}
 use Rattle.steal_pool.specs.Hand.{sharing, guest_of}
-use Rattle.steal_pool.specs.Ends.{DeckId, Ends, hand_at}
+use Rattle.steal_pool.specs.DeckEnds.{DeckId, DeckEnds, hand_at}
 use Rattle.steal_pool.specs.inner.Single.{OwnEnd, OtherEnd, ends_of}
 use Rattle.steal_pool.specs.inner.Making.{met, end_on}
 use Rattle.steal_pool.proofs.PlaceLemmas.{set-insert_here}
@@ -15,7 +15,7 @@ inserted f others theirs n x within =
     ap (λ xs. insert xs n x) (map-append f others (theirs ∷ [])) ∙ insert-append_left (map f others) (f theirs ∷ []) n x (omega (arith, length-map others f))
 
 -- a worker gets an end of the new deck, and its own deck has a taker more
-pub meets : (n : ℕ) (own own' : OwnEnd) (others others' : List OtherEnd) (theirs : OtherEnd) (old : Ends) (deck : DeckId) (bound : ℕ) → n ≤ length others → ends_of n own others ≡ old
+pub meets : (n : ℕ) (own own' : OwnEnd) (others others' : List OtherEnd) (theirs : OtherEnd) (old : DeckEnds) (deck : DeckId) (bound : ℕ) → n ≤ length others → ends_of n own others ≡ old
     → others' ≡ others ++ theirs ∷ [] → theirs.deck ≡ deck → theirs.hand ≡ guest_of bound → own'.deck ≡ own.deck → own'.spare ≡ own.spare → own'.hand ≡ sharing own.hand
     → ends_of n own' others' ≡ met deck bound old
 meets n own own' others others' theirs old deck bound within is longer theirs_is fresh same spare shares =
@@ -40,7 +40,7 @@ meets n own own' others others' theirs old deck bound within is longer theirs_is
     ap (λ os. ends_of n own' os) longer ∙ (changed ∙ ap (λ e. met deck bound e) is)
 
 -- an item that the loop has not come to is as it was
-at_rest : (f : Ends → Ends) (before now : List Ends) (i : ℕ) (x : Ends) → i < length before → now ≡ map f (take i before) ++ drop i before → x ≡ get_or now i x → x ≡ get_or before i x
+at_rest : (f : DeckEnds → DeckEnds) (before now : List DeckEnds) (i : ℕ) (x : DeckEnds) → i < length before → now ≡ map f (take i before) ++ drop i before → x ≡ get_or now i x → x ≡ get_or before i x
 at_rest f before now i x less is here =
     let long : length (map f (take i before)) ≡ i = omega (arith, length-map (take i before) f, length-take i before) in
     let back : i + (i - i) ≡ i = omega arith in
@@ -50,15 +50,15 @@ at_rest f before now i x less is here =
     ∙ (get_or-drop i before (i - i) x ∙ ap (λ j. get_or before j x) back)))
 
 -- one worker more has met the new deck
-module _ (own : OwnEnd) (before now : List Ends) (i : ℕ) (x : Ends) (less : i < length before) (agree : All (λ ends. ends.bound ≡ own.hand.bound) before)
+module _ (own : OwnEnd) (before now : List DeckEnds) (i : ℕ) (x : DeckEnds) (less : i < length before) (agree : All (λ ends. ends.bound ≡ own.hand.bound) before)
     (is : now ≡ map (met own.deck own.hand.bound) (take i before) ++ drop i before) (here : x ≡ get_or now i x) where
   first : x ≡ get_or before i x
   first = at_rest (met own.deck own.hand.bound) before now i x less is here
 
   bound_is : x.bound ≡ own.hand.bound
-  bound_is = ap (λ (e : Ends). e.bound) first ∙ agree i x less
+  bound_is = ap (λ (e : DeckEnds). e.bound) first ∙ agree i x less
 
-  pub met_more : (deck : DeckId) (x' : Ends) → deck ≡ own.deck → x' ≡ met deck (get_or now i x).bound (get_or now i x) → set now i x' ≡ map (met own.deck own.hand.bound) (take (i + 1) before) ++ drop (i + 1) before
+  pub met_more : (deck : DeckId) (x' : DeckEnds) → deck ≡ own.deck → x' ≡ met deck (get_or now i x).bound (get_or now i x) → set now i x' ≡ map (met own.deck own.hand.bound) (take (i + 1) before) ++ drop (i + 1) before
   met_more deck x' same met_is =
       ap (λ e. set now i e) (met_is ∙ ((λ j. met (same j) (sym here j).bound (sym here j)) ∙ ap (λ b. met own.deck b x) bound_is)) ∙ map_over_more (met own.deck own.hand.bound) before now i x less is here
 

@@ -9,7 +9,7 @@ use Rattle.std.proofs.lemmas.Simd.{map-map}
 use Rattle.std.proofs.lemmas.List.Edits.{insert_end}
 use Rattle.steal_pool.specs.declared.law.Hand.{Hand}
 use Rattle.steal_pool.specs.Hand.{sharing, owner_of, guest_of}
-use Rattle.steal_pool.specs.Ends.{DeckId, Ends, new_ends, AreNew}
+use Rattle.steal_pool.specs.DeckEnds.{DeckId, DeckEnds, new_ends, AreNew}
 use Rattle.steal_pool.specs.inner.Single.{OwnEnd, OtherEnd, ends_of, AgreeOnBound}
 use Rattle.steal_pool.specs.inner.Making.{met, end_on}
 
@@ -56,13 +56,13 @@ met_new capacity bound decks deck number less =
     }
 
 -- the bound that all workers know
-pub bounds : (n capacity bound : ℕ) (all : List Ends) (known : ℕ) → AreNew n capacity bound all → known ≡ bound → All (λ ends. ends.bound ≡ known) all
+pub bounds : (n capacity bound : ℕ) (all : List DeckEnds) (known : ℕ) → AreNew n capacity bound all → known ≡ bound → All (λ ends. ends.bound ≡ known) all
 bounds n capacity bound all known new same k d less =
     let many = new.many in
-    ap (λ (e : Ends). e.bound) (get_or_from_slice_get all k (new_ends capacity bound new.decks k) d (new.each k (omega arith))) ∙ sym same
+    ap (λ (e : DeckEnds). e.bound) (get_or_from_slice_get all k (new_ends capacity bound new.decks k) d (new.each k (omega arith))) ∙ sym same
 
-module _ (n capacity bound : ℕ) (all : List Ends) (new : AreNew n capacity bound all) where
-  abbrev deck_on : Ends → DeckId
+module _ (n capacity bound : ℕ) (all : List DeckEnds) (new : AreNew n capacity bound all) where
+  abbrev deck_on : DeckEnds → DeckId
   deck_on ends = get_or ends.decks ends.number (0, 0)
 
   -- each worker's own deck is the one of its number
@@ -84,7 +84,7 @@ module _ (n capacity bound : ℕ) (all : List Ends) (new : AreNew n capacity bou
       let deck_of = λ (end : OtherEnd). end.deck in
       let hand_of = λ (end : OtherEnd). end.hand in
       let decks : map deck_of others ≡ new.decks = ap (map deck_of) is ∙ (map-map deck_of (end_on bound) all ∙ own_decks) in
-      let hands : map hand_of others ≡ replicate n guest = ap (map hand_of) is ∙ (map-map hand_of (end_on bound) all ∙ (all_same (λ (e : Ends). guest) all guest (λ _. refl) ∙ ap (λ k. replicate k guest) many)) in
+      let hands : map hand_of others ≡ replicate n guest = ap (map hand_of) is ∙ (map-map hand_of (end_on bound) all ∙ (all_same (λ (e : DeckEnds). guest) all guest (λ _. refl) ∙ ap (λ k. replicate k guest) many)) in
       let deck_list : insert (map deck_of others) n own.deck ≡ new.decks ++ own.deck ∷ [] =
       ap (λ l. insert l n own.deck) decks ∙ (ap (λ k. insert new.decks k own.deck) (sym count) ∙ insert_end new.decks own.deck) in
       let long = length-replicate n guest in
@@ -107,7 +107,7 @@ module _ (n capacity bound : ℕ) (all : List Ends) (new : AreNew n capacity bou
       }
 
   -- the decks with one more are new
-  pub one_more : (own own' : OwnEnd) (others : List OtherEnd) (all' : List Ends) → own.spare ≡ capacity → own.hand ≡ owner_of bound 1
+  pub one_more : (own own' : OwnEnd) (others : List OtherEnd) (all' : List DeckEnds) → own.spare ≡ capacity → own.hand ≡ owner_of bound 1
       → own'.deck ≡ own.deck → own'.spare ≡ own.spare → own'.hand ≡ record own.hand { takers = own.hand.takers + length all }
       → others ≡ map (end_on own.hand.bound) all → all' ≡ map (met own.deck own.hand.bound) all ++ ends_of n own' others ∷ []
       → AreNew (n + 1) capacity bound all'
@@ -142,7 +142,7 @@ module _ (n capacity bound : ℕ) (all : List Ends) (new : AreNew n capacity bou
       }
 
 -- all passes of the new worker know one bound
-pub agrees : (n bound : ℕ) (all : List Ends) (own : OwnEnd) (others : List OtherEnd) → others ≡ map (end_on bound) all → n ≡ length all → own.hand.bound ≡ bound → AgreeOnBound n own others
+pub agrees : (n bound : ℕ) (all : List DeckEnds) (own : OwnEnd) (others : List OtherEnd) → others ≡ map (end_on bound) all → n ≡ length all → own.hand.bound ≡ bound → AgreeOnBound n own others
 agrees n bound all own others is count same =
     let long = ap length is ∙ length-map all (end_on bound) in (
       omega arith,
@@ -152,5 +152,5 @@ agrees n bound all own others is count same =
     )
 
 -- a slice of a whole vector, written back
-pub written_back : (before now : List Ends) (n : ℕ) → length now ≡ n → take n (now ++ drop (length now) before) ≡ now
+pub written_back : (before now : List DeckEnds) (n : ℕ) → length now ≡ n → take n (now ++ drop (length now) before) ≡ now
 written_back before now n count = ap (λ k. take k (now ++ drop (length now) before)) (sym count) ∙ take-append_seam now (drop (length now) before)

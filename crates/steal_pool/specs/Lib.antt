@@ -1,4 +1,4 @@
 pub mod Hand
 pub mod Stands
-pub mod Ends
+pub mod DeckEnds
 pub mod inner

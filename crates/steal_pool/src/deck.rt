@@ -1,6 +1,6 @@
 //! A worker's access to the decks: to its own as the owner, and to the others' as a thief.
 ghost use Rattle.std.specs.Prelude.{◌≢◌, ◌≡◌, ◌<◌, length, IfSome, IfNone, IfOk, OnOk};
-ghost use Rattle.steal_pool.specs.Ends.{Pushed, Taken, FoundEmpty};
+ghost use Rattle.steal_pool.specs.DeckEnds.{Pushed, Taken, FoundEmpty};
 ghost use Rattle.steal_pool.specs.inner.Single.{ends_of, AgreeOnBound, IsAt};
 ghost use Rattle.steal_pool.specs.inner.Making.{met, end_on};
 ghost use Rattle.steal_pool.specs.Hand.{sharing};
@@ -24,10 +24,10 @@ pub struct Deck {
 }
 
 impl Model for Deck {
-    ghost use Rattle.steal_pool.specs.Ends.{Ends};
+    ghost use Rattle.steal_pool.specs.DeckEnds.{DeckEnds};
     ghost use Rattle.steal_pool.specs.inner.Single.{ends_of, AgreeOnBound};
 
-    ghost Value = { Ends };
+    ghost Value = { DeckEnds };
 
     ghost view = { λ deck. ends_of deck.number deck.own deck.others.items };
 

@@ -1,6 +1,6 @@
 //! Making the decks of all workers.
 ghost use Rattle.std.specs.Prelude.{◌≡◌, ◌+◌, length, map, All, IfOk, OnOk};
-ghost use Rattle.steal_pool.specs.Ends.{AreNew};
+ghost use Rattle.steal_pool.specs.DeckEnds.{AreNew};
 ghost use Rattle.steal_pool.specs.inner.Making.{met, end_on};
 
 use crate::deck::Deck;
@@ -16,7 +16,8 @@ pub type Decks = List<Deck>;
 /// times.
 pub fn make_decks(alloc: Global, workers: u32, capacity: u32, bound: u32) -> Result<Decks, Memory>
     ensures new { IfOk result (AreNew workers capacity bound) }
-    ensures each { IfOk result (All (λ ends. (ends.bound ≡ bound) × (ends.spare ≡ capacity) × (length ends.hands ≡ workers))) }
+    ensures each { IfOk result (All (λ ends. (ends.bound ≡ bound) × (ends.spare ≡ capacity)
+        × (length ends.hands ≡ workers))) }
 {
     let mut decks = Vec::new(alloc);
     for number in 0..workers {

@@ -10,6 +10,7 @@ use Rattle.floor_table.specs.declared.nodes.slot.TreeSlot.TheVariants as kinds
 use Rattle.floor_table.specs.declared.nodes.view.TreeView.{TreeView}
 use Rattle.floor_table.specs.nodes.Layout.{content_place}
 use Rattle.floor_table.specs.nodes.Seats.{GaveNode, HasContent, TreeSeat, unlocked_view}
+use Rattle.floor_table.specs.nodes.TreeOf.{content_in}
 use Rattle.task_floor.specs.Contents.{HasBehind, HasGivenContent, HasInHand, HasTakenContent, nothing}
 
 -- What lies in a slot.
@@ -58,11 +59,11 @@ pub same_view : (lim : Bounds) (me mid : TreeSeat) (n : ℕ) (content : List Rec
     → HasGivenContent lim me n content others mid → mid.0 ≡ me.0
 same_view lim me mid n content others given = ap (λ (m : TreeSeat). m.0) given
 
-pub has_content : (lim : Bounds) (me mid : TreeSeat) (n : ℕ) (content : List Record) (others : List (ℕ × TreeSlot)) → HasInHand lim me n content others
+abbrev pub has_content : (lim : Bounds) (me mid : TreeSeat) (n : ℕ) (content : List Record) (others : List (ℕ × TreeSlot)) → HasInHand lim me n content others
     → HasGivenContent lim me n content others mid
     → HasContent lim mid n others
 has_content lim me mid n content others hand given =
-    subst (λ (m : TreeSeat). HasContent lim m n others) (sym given) (record { content = content; has = hand.known; slot = refl })
+    record { content = content; has = ap (λ (m : TreeSeat). content_in m.0.kept n) given ∙ hand.known; slot = ap (λ (m : TreeSeat). m.1) given }
 
 pub gave_from : (me mid after : TreeSeat) (n : ℕ) (next : Option Activity) (others : List (ℕ × TreeSlot)) → mid.0 ≡ me.0
     → GaveNode mid n next others after → GaveNode me n next others after

@@ -23,7 +23,7 @@ impl<N: Named + Planted> Floor<N> {
         ensures same { (stand.new.table_id ≡ stand.old.table_id) × (stand.new.id ≡ stand.old.id) }
     {
         let place = self.lock_place(node);
-        let taken = worker as u64 + 1;
+        let taken = worker as u64 + 2;
         self.table
             .shared
             .store::<MarkPlaced<N>>(stand, place, taken);
@@ -42,7 +42,7 @@ impl<N: Named + Planted> Floor<N> {
         ensures same { (stand.new.table_id ≡ stand.old.table_id) × (stand.new.id ≡ stand.old.id) }
     {
         let place = self.lock_place(node);
-        let taken = worker as u64 + 1;
+        let taken = worker as u64 + 2;
         self.table
             .shared
             .store::<MarkRemoved<N>>(stand, place, taken);
@@ -62,7 +62,7 @@ impl<N: Named + Planted> Floor<N> {
         ensures same { (stand.new.table_id ≡ stand.old.table_id) × (stand.new.id ≡ stand.old.id) }
     {
         let place = self.lock_place(node);
-        let taken = worker as u64 + 1;
+        let taken = worker as u64 + 2;
         self.table.shared.store::<MarkClear<N>>(stand, place, taken);
     }
 }

@@ -7,6 +7,7 @@ ghost use Rattle.task_floor.specs.Contents.{HasBehind, HasInHand};
 
 use crate::floor::{Floor, Stand};
 use crate::turning::turn_slots;
+use crate::words::word_left;
 use floor_table::Named;
 use floor_table::nodes::{GoOn, NodeContent, Planted, StopAt};
 
@@ -23,8 +24,9 @@ impl<N: Named + Planted> Floor<N> {
         ensures same { (stand.new.table_id ≡ stand.old.table_id) × (stand.new.id ≡ stand.old.id) }
     {
         let place = self.lock_place(node);
+        let word = word_left(&content);
         self.give_content(stand, node, content);
-        self.table.shared.store::<GoOn<N>>(stand, place, 0);
+        self.table.shared.store::<GoOn<N>>(stand, place, word);
     }
 
     /// The same for a node whose slot is the one before the latest, as it is once the stand has locked a child of the node.
@@ -58,7 +60,8 @@ impl<N: Named + Planted> Floor<N> {
         ensures same { (stand.new.table_id ≡ stand.old.table_id) × (stand.new.id ≡ stand.old.id) }
     {
         let place = self.lock_place(node);
+        let word = word_left(&content);
         self.give_content(stand, node, content);
-        self.table.shared.store::<StopAt<N>>(stand, place, 0);
+        self.table.shared.store::<StopAt<N>>(stand, place, word);
     }
 }

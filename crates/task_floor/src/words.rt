@@ -1,8 +1,10 @@
 //! What the words of the floor mean.
 ghost use Rattle.std.specs.Prelude.{◌≡◌, ◌<◌, ◌^◌};
 ghost use Rattle.floor_table.specs.Layout.{value_of_word, word_of_phase};
+ghost use Rattle.floor_table.specs.nodes.Layout.{left_lock};
 
 use floor_rule::Phase;
+use floor_table::nodes::NodeContent;
 
 /// The phase that a word stands for.
 pub(crate) fn phase_of(word: u64) -> Phase
@@ -33,6 +35,13 @@ pub(crate) fn word_of(phase: Phase) -> u64
         Phase::Faulted => 4,
         Phase::Waits { on } => on as u64 + 5,
     }
+}
+
+/// The lock word of a node that nobody has locked, and at which these records lie.
+pub(crate) fn word_left(content: &NodeContent) -> u64
+    ensures { result ≡ left_lock content.now }
+{
+    if content.len() == 0 { 1 } else { 0 }
 }
 
 /// The value of a cell that has this word.

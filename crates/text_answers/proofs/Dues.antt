@@ -1,5 +1,5 @@
 -- From what the parts of a call ensure to the answer that is due.
-use Rattle.std.proofs.Common.{◌≡◌, ℕ, Bool, List, Option, Result, Ok, Err, None, Some, IfOk, OnOk, sym, ap, subst}
+use Rattle.std.proofs.Common.{◌≡◌, ℕ, Bool, List, Result, Ok, Err, Some, IfOk, sym, subst}
 use Rattle.std.proofs.lemmas.Option.{none-some, same_Some}
 use Rattle.twe_base.specs.declared.memory.Memory as out_of
 use Rattle.seg_journal.specs.declared.journal.Entry.{Entry}

@@ -1,10 +1,10 @@
 -- A command that asks for no workers has one answer to an input.
-use Rattle.std.proofs.Common.{◌≡◌, ◌+◌, ℕ, ℤ, Bool, List, [], length, map, Option, None, Some, refl, sym, ap, ◌∙◌, subst}
+use Rattle.std.proofs.Common.{◌≡◌, ◌+◌, ℕ, ℤ, List, length, Option, None, Some, refl, sym, ap, ◌∙◌, subst}
 use Rattle.std.proofs.lemmas.Option.{none-some, same_Some}
 use Rattle.wait_graph.specs.declared.stuck.Edge.{Edge}
 use Rattle.seg_journal.specs.declared.journal.Entry.{Entry}
 use Rattle.seg_journal.specs.declared.moves.Move.{Move}
-use Rattle.seg_journal.specs.Spelling.{Spells, head_lines, move_of}
+use Rattle.seg_journal.specs.Spelling.{Spells, head_lines}
 use Rattle.seg_journal.proofs.BadLines.{none_bad, one_first_bad}
 use Rattle.seg_journal.proofs.OneSpelling.{one_journal}
 use Rattle.twe_base.specs.Limits.{Bounds}
@@ -19,9 +19,8 @@ use Rattle.twe_machine.specs.declared.state.State.{State}
 use Rattle.twe_machine.specs.LowestFirst.{LowestFirst}
 use Rattle.twe_machine.specs.Moves.{start_of}
 use Rattle.twe_machine.specs.Replays.{IsFirstIllegal}
-use Rattle.twe_machine.specs.Runs.{IsOutcome, Legal, counted, state_after}
+use Rattle.twe_machine.specs.Runs.{IsOutcome, counted, state_after}
 use Rattle.twe_machine.proofs.replays.Replayed.{never_both, one_first, one_from}
-use Rattle.flat_sched.specs.Stuck.{IsCycleOfReasons, IsStuckCycle}
 use Rattle.flat_sched.proofs.Holders.{one_cycle}
 use Rattle.twe_report.specs.Texts as texts
 use Rattle.command_line.specs.declared.command.Command.{Command}
@@ -33,7 +32,7 @@ use Rattle.twe_io.specs.declared.status.Status.TheVariants as statuses
 use Rattle.twe_io.specs.Answers.{on_err, on_out}
 use Rattle.text_answers.specs.Answers.{AnswersReplay, AnswersRun, Due, IsAnswerTo, after_prints, default_limits, for_load, limits_with, with_journal}
 use Rattle.text_answers.specs.Input.{journal_text, program_text}
-use Rattle.text_answers.specs.Theorem.{HasJournal, HasReplay, HasRun}
+use Rattle.text_answers.specs.Theorem.{HasReplay, HasRun}
 
 -- A state has one outcome, and an outcome one answer.
 

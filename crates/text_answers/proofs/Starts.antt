@@ -1,5 +1,5 @@
 -- From what the parts of a start ensure to what the command has come to.
-use Rattle.std.proofs.Common.{◌≡◌, ℕ, List, Result, Ok, Err, Some, IfOk, sym, ap, subst}
+use Rattle.std.proofs.Common.{◌≡◌, ℕ, List, Result, Ok, Err, Some, IfOk, sym, subst}
 use Rattle.twe_base.specs.declared.memory.Memory as out_of
 use Rattle.twe_base.specs.Limits.{Bounds}
 use Rattle.twe_program.specs.Program.{Program}

@@ -1,10 +1,8 @@
 -- The journal that a run has written is read again, and its replay has the answer of the run.
-use Rattle.std.proofs.Common.{◌≡◌, ◌<◌, ◌≤◌, ◌^◌, ◌+◌, ◌++◌, ◌||◌, ◌==◌, ℕ, ℤ, Bool, true, false, cond, List, [], ◌∷◌, length, map, Option, None, Some, codes, inl, inr, refl, sym, ap, ◌∙◌, subst, arith, append_assoc}
+use Rattle.std.proofs.Common.{◌≡◌, ◌++◌, ◌==◌, ℕ, Bool, true, false, cond, List, [], ◌∷◌, map, Option, Some, codes, inl, inr, refl, sym, ap, ◌∙◌, subst, arith}
 use Rattle.std.specs.List.{AllByRecursion, flat_map, list_any}
 use Rattle.std.proofs.lemmas.Bool.{cases_Bool}
-use Rattle.std.proofs.lemmas.Option.{none-some, same_Some}
 use Rattle.seg_journal.specs.declared.journal.Entry.{Entry}
-use Rattle.seg_journal.specs.declared.moves.Move.{Move}
 use Rattle.seg_journal.specs.Lines.{lines_of, with_byte}
 use Rattle.seg_journal.specs.Spelling.{Spells, HasTask, head_line, move_line, move_of}
 use Rattle.seg_journal.proofs.BadLines.{none_bad}
@@ -24,8 +22,7 @@ use Rattle.twe_machine.proofs.standing.ReachedStands.{start_stands, taken_stands
 use Rattle.twe_machine.proofs.replays.Replayed.{never_both, one_from}
 use Rattle.twe_machine.proofs.standing.Standing.{Stands}
 use Rattle.twe_report.specs.Texts as texts
-use Rattle.command_line.specs.declared.command.Command.{Command}
-use Rattle.command_line.specs.declared.command.Command.TheVariants.{Check, Run, Replay}
+use Rattle.command_line.specs.declared.command.Command.TheVariants.{Run, Replay}
 use Rattle.twe_io.specs.declared.answer.Answer.{Answer}
 use Rattle.text_answers.specs.declared.book.Book.{Book}
 use Rattle.text_answers.specs.Answers.{AnswersReplay, AnswersRun, Due, limits_with, with_journal}

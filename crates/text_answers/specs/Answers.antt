@@ -1,5 +1,5 @@
 -- The answer to the input of a command.
-use Rattle.std.specs.Prelude.{unwrap_or, ◌≡◌, ◌+◌, length, ℕ, ℤ, Bool, List, [], ◌++◌, Option, if◌then◌else◌}
+use Rattle.std.specs.Prelude.{unwrap_or, ◌≡◌, ◌+◌, length, ℕ, ℤ, Bool, List, ◌++◌, Option, if◌then◌else◌}
 use Rattle.wait_graph.specs.declared.stuck.Edge.{Edge}
 use Rattle.seg_journal.specs.declared.journal.Entry.{Entry}
 use Rattle.seg_journal.specs.declared.moves.Move.{Move}

@@ -15,7 +15,7 @@ use Rattle.text_answers.specs.Theorem.{IsNew}
 
 -- The program is ready for the run that the command asks for: it keeps the rules on effects, these are the limits of the run,
 -- and the book is empty.
-pub record IsReady (command : Command) (p : Program) (lim : Bounds) (book : Book) : Type 0 where
+pub record IsReadyToRun (command : Command) (p : Program) (lim : Bounds) (book : Book) : Type 0 where
   pub keeps : KeepsEffects p
   pub limits : limits_to_run command ≡ Some lim
   pub new : IsNew book
@@ -25,6 +25,6 @@ pub record IsReady (command : Command) (p : Program) (lim : Bounds) (book : Book
 abbrev pub IsStarted : {S : Type 0} → SourceTells S → Command → S → S → Book → Started → Type 0
 IsStarted tells command before after book (Answered answer) = Cause tells command before after book answer
 IsStarted tells command before after book (ToRun p lim) =
-    IsReady command p lim book
+    IsReadyToRun command p lim book
     × ((later : Book) (answer : Answer) → IsDueForProgram command p later answer
     → Cause tells command before after later answer)

@@ -5,8 +5,8 @@ ghost use Rattle.twe_base.specs.Limits.{Bounds, IsWithin};
 ghost use Rattle.twe_program.specs.Program.{Program};
 ghost use Rattle.twe_program.specs.WellFormed.{IsWellFormed};
 ghost use Rattle.twe_frontend.specs.Accepted.{Accepted};
-ghost use Rattle.isolation_laws.specs.soundness.KeepsEffects.{KeepsEffects};
-ghost use Rattle.twe_machine.specs.Runs.{AllTasksDone, Legal, state_after};
+ghost use Rattle.twe_machine.specs.Runs.{AllTasksDone, state_after};
+ghost use Rattle.determinism_laws.specs.AcceptedRuns.{IsAcceptedRun};
 ghost use Rattle.determinism_laws.specs.results.Main.{MainIsDeterministic};
 ghost use Rattle.twe_report.specs.Texts.{journal_part_text, result_text};
 ghost use Rattle.command_line.specs.Words.{workers_of};
@@ -50,8 +50,8 @@ pub fn written_journals_replay()
 /// two journals of the program under the same limits, from whatever schedulers, have the same result text if all tasks are done
 /// after each of them.
 pub fn deterministic_mains_have_one_result_text()
-    ensures { (p : Program) → IsWellFormed p → KeepsEffects p → MainIsDeterministic p
-        → (lim : Bounds) → IsWithin lim.fuel lim.tasks → (one other : List Entry) → Legal p lim one → Legal p lim other
+    ensures { (p : Program) (lim : Bounds) (one other : List Entry) → IsAcceptedRun p lim one → IsAcceptedRun p lim other
+        → MainIsDeterministic p → IsWithin lim.fuel lim.tasks
         → AllTasksDone (state_after p lim one) → AllTasksDone (state_after p lim other)
         → result_text p (state_after p lim one) ≡ result_text p (state_after p lim other) }
 {

@@ -1,6 +1,6 @@
 //! From a command to its answer: what the commands write of a program text, and with which status. Nothing is written here, and
-//! all of it happens on the calling thread. Programs run what `start` says is to be run, by workers if they want, and `answer_run`
-//! makes the answer to the run.
+//! all of it happens on the calling thread. Programs run what `start_command` says is to be run, by workers if they want, and
+//! `answer_run` makes the answer to the run.
 #![tactic(auto)]
 
 mod answering;
@@ -21,4 +21,4 @@ pub use laws::{
     deterministic_mains_have_one_result_text, one_answer_without_workers, written_journals_replay,
 };
 pub use running::answer_run;
-pub use starting::{Started, start};
+pub use starting::{Started, start_command};

@@ -41,7 +41,7 @@ pub enum Started {
 /// Takes a command up to its run: reads its input, or makes the text of the load generator; checks the program text; and replays
 /// a journal if the command asks for that. If the result is an answer, the book has what led to it. If it is a program that is to
 /// be run, the book is still empty: `answer_run` makes the answer to the run of that program, whoever runs it.
-pub fn start<S: Source>(
+pub fn start_command<S: Source>(
     alloc: Global,
     cmd: &Command,
     src: &mut S,

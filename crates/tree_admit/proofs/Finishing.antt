@@ -1,4 +1,5 @@
--- Walking below a node: the children that were walked are finished, and nothing at or below the others is.
+-- Walking below a node: the children that were walked are finished, nothing at or below the next ones is, and the others are apart
+-- from the effect.
 use Rattle.std.proofs.Common.{◌≡◌, ◌≢◌, ◌⊎◌, ◌<◌, ◌+◌, ◌-◌, ℕ, zero, suc, List, ◌∷◌, length, get_or, refl, sym, ap, subst, ◌∙◌, inl, inr, ⊎_elim, arith}
 use Rattle.std.specs.Prelude.{Contains}
 use Rattle.std.specs.List.Sorted.{IsStrictlyIncreasing}
@@ -6,10 +7,12 @@ use Rattle.std.proofs.lemmas.Bool.{cases_eq}
 use Rattle.std.proofs.lemmas.List.Elements.{Contains-get_or}
 use Rattle.std.proofs.lemmas.Option.{get_or_from_slice_get, slice_get-get_or}
 use Rattle.region_paths.specs.declared.elements.Elem.{Elem}
+use Rattle.effect_sets.specs.declared.effects.Effect.{Effect}
 use Rattle.prefix_tree.specs.Nodes.{IsParent, IsTreeOfPaths}
-use Rattle.admission_laws.specs.admission_core.States.{IsAbove, IsAmong}
+use Rattle.admission_laws.specs.admission_core.States.{IsAbove, IsAmong, IsApartBelow}
 use Rattle.admission_laws.proofs.admission_core.TreeLemmas.{above_refl, over_above, parent_over}
 use Rattle.tree_admit.proofs.ways.WayLemmas.{siblings}
+use Rattle.tree_admit.specs.ways.Ways.{AreReached}
 use Rattle.tree_admit.specs.Descents.{HasFinishedBelow, NoneBelow}
 
 -- the first k children are finished, the nodes that were finished are so still, and each other one lies at or below one of the first k children
@@ -18,7 +21,7 @@ pub record HasWalked (nodes : List (List Elem)) (children : List ℕ) (k : ℕ) 
   pub kept : (m : ℕ) → IsAmong m before → IsAmong m after
   pub below : (m : ℕ) → IsAmong m after → IsAmong m before ⊎ ((j : ℕ) × (j < k) × IsAbove nodes (get_or children j 0) m)
 
-module _ (nodes : List (List Elem)) (tree : IsTreeOfPaths nodes) (n : ℕ) (children : List ℕ) (each : (m : ℕ) → (Contains children m → IsParent nodes n m) × (IsParent nodes n m → Contains children m))
+module _ (nodes : List (List Elem)) (tree : IsTreeOfPaths nodes) (e : Effect) (n : ℕ) (children : List ℕ) (each : AreReached nodes e n children)
     (rising : IsStrictlyIncreasing children) (before : List ℕ) (none : NoneBelow nodes n before) where
   pub child_at : (k : ℕ) → k < length children → IsParent nodes n (get_or children k 0)
   child_at k within = (each (get_or children k 0)).0 (Contains-get_or children k 0 within)
@@ -61,7 +64,7 @@ module _ (nodes : List (List Elem)) (tree : IsTreeOfPaths nodes) (n : ℕ) (chil
     none_below_next m over = next_unfinished m over.above
 
     -- one child more is finished
-    pub walked_more : (then : List ℕ) → HasFinishedBelow nodes (get_or children k 0) after then → HasWalked nodes children (k + 1) before (get_or children k 0 ∷ then)
+    pub walked_more : (then : List ℕ) → HasFinishedBelow nodes e (get_or children k 0) after then → HasWalked nodes children (k + 1) before (get_or children k 0 ∷ then)
     walked_more then finished = record {
       each = λ j h.
           ⊎_elim
@@ -80,12 +83,15 @@ module _ (nodes : List (List Elem)) (tree : IsTreeOfPaths nodes) (n : ℕ) (chil
     }
 
   -- once all children were walked, the node may be left
-  pub all_walked : (after : List ℕ) → HasWalked nodes children (length children) before after → HasFinishedBelow nodes n before after
+  pub all_walked : (after : List ℕ) → HasWalked nodes children (length children) before after → HasFinishedBelow nodes e n before after
   all_walked after walked = record {
     all = λ c parent.
-        let there = (each c).1 parent in
+        ⊎_elim
+        (λ (there : Contains children c).
         let same = get_or_from_slice_get children there.0 (get_or children there.0 c) 0 (slice_get-get_or children there.0 c there.1) in
-        subst (λ (m : ℕ). IsAmong m after) (same ∙ there.2) (walked.each there.0 there.1);
+        inl (subst (λ (m : ℕ). IsAmong m after) (same ∙ there.2) (walked.each there.0 there.1)))
+        (λ (apart : IsApartBelow nodes e c). inr apart)
+        ((each c).1 parent);
     kept = walked.kept;
     below = λ m among.
         ⊎_elim

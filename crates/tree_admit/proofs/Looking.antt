@@ -7,7 +7,7 @@ use Rattle.effect_tree.specs.Place.{IsSolid}
 use Rattle.twe_base.specs.Limits.{Bounds}
 use Rattle.floor_rule.specs.declared.view.HeldTurn.{HeldTurn}
 use Rattle.admission_laws.specs.admission_core.States.{Record}
-use Rattle.admission_laws.specs.admission_core.Events.{AllFinished}
+use Rattle.admission_laws.specs.admission_core.Events.{AllFinishedOrApart}
 use Rattle.floor_table.specs.declared.nodes.slot.Errand.{Errand}
 use Rattle.floor_table.specs.declared.nodes.slot.ErrandKind.{ErrandKind}
 use Rattle.floor_table.specs.declared.nodes.slot.ErrandKind.TheVariants.{Admission, Placing, Removal}
@@ -21,7 +21,7 @@ use Rattle.tree_admit.proofs.Putting.{arrived}
 use Rattle.tree_admit.proofs.Steps.{followed_has}
 
 put_for : (nodes : List (List Elem)) (v : TreeView) (t : ℕ) (e : Effect) (turn : HeldTurn) (place : ℕ) (done : List ℕ) (content : List Record) (kind : ErrandKind) → IsOfChild kind turn
-    → AllPass v.waits (purpose_for kind t e) content → (kind ≡ Admission → IsSolid e.path ⊎ AllFinished nodes place done) → MayPutFor nodes kind v t e turn place done content
+    → AllPass v.waits (purpose_for kind t e) content → (kind ≡ Admission → IsSolid e.path ⊎ AllFinishedOrApart nodes e place done) → MayPutFor nodes kind v t e turn place done content
 put_for nodes v t e turn place done content Admission child pass below = (pass, below refl)
 put_for nodes v t e turn place done content Placing child pass below = child
 put_for nodes v t e turn place done content Removal child pass below = absurd child

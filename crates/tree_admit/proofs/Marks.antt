@@ -10,7 +10,7 @@ use Rattle.floor_rule.specs.declared.view.HeldTurn.{HeldTurn}
 use Rattle.floor_table.specs.FloorOf.{turn_in}
 use Rattle.floor_table.specs.declared.view.View.{View}
 use Rattle.admission_laws.specs.admission_core.States.{Activity, Admit, Child, IsAmong, Record, Remove, Walks}
-use Rattle.admission_laws.specs.admission_core.Events.{AllFinished}
+use Rattle.admission_laws.specs.admission_core.Events.{AllFinishedOrApart}
 use Rattle.floor_rule.specs.nodes.FactSteps.{FindsClear}
 use Rattle.floor_rule.specs.nodes.LockSteps.{stopped}
 use Rattle.floor_rule.specs.nodes.RecordSteps.{IsWithout, not_clear, record_here}
@@ -33,7 +33,7 @@ module _ (lim : Bounds) (earlier : TreeView) (rest : List (ℕ × TreeSlot)) (a 
     (h : HasNode lim earlier rest a a.place content me) where
   -- Placing.
   module _ (nodes : List (List Elem)) (e : Effect) (done : List ℕ) (stage : a.stage ≡ Walks (a.place ∷ []) done) where
-    pub may_place : (t : ℕ) → a.purpose ≡ Admit t e → ¬ IsAmong (record_here t e a) content → AllPass me.0.waits a.purpose content → IsSolid e.path ⊎ AllFinished nodes a.place done
+    pub may_place : (t : ℕ) → a.purpose ≡ Admit t e → ¬ IsAmong (record_here t e a) content → AllPass me.0.waits a.purpose content → IsSolid e.path ⊎ AllFinishedOrApart nodes e a.place done
         → MayMark nodes me.0 a content
     may_place t purpose missing pass below =
         marks t e done (record { active = h.active; purpose = purpose; stage = stage; has = h.known; missing = missing; pass = pass; below = below })

@@ -7,15 +7,15 @@ use Rattle.effect_sets.specs.declared.effects.Effect.{Effect}
 use Rattle.effect_tree.specs.Place.{IsSolid}
 use Rattle.prefix_tree.specs.Nodes.{IsParent}
 use Rattle.twe_base.specs.Limits.{Bounds}
-use Rattle.admission_laws.specs.admission_core.States.{Activity, Admit, Descends, IsAbove, IsAmong, Record, Stage, Steps, Walks, held}
-use Rattle.admission_laws.specs.admission_core.Events.{AllFinished, HasCome}
+use Rattle.admission_laws.specs.admission_core.States.{Activity, Admit, Descends, IsAbove, IsAmong, Record, Stage, Steps, Walks, held, record_effect}
+use Rattle.admission_laws.specs.admission_core.Events.{AllFinishedOrApart, HasCome}
 use Rattle.floor_rule.specs.nodes.LockSteps.{SeesPass}
 use Rattle.floor_table.specs.declared.nodes.slot.TreeSlot.{TreeSlot}
 use Rattle.floor_table.specs.declared.nodes.slot.TreeSlot.TheVariants as kinds
 use Rattle.floor_table.specs.declared.nodes.view.TreeView.{TreeView}
 use Rattle.floor_table.proofs.Added.{grown_by, grown_then}
 use Rattle.floor_table.specs.nodes.Layout.{content_place}
-use Rattle.floor_table.specs.nodes.Seats.{GaveNode, MayGoOn, MayLock, MayStop, TreeSeat, gives_parent, goes_down, left_to_give, locked_view, tree_seen, unlocked_view, walks_down, walks_up}
+use Rattle.floor_table.specs.nodes.Seats.{GaveNode, MayGoOn, MayLock, MayStop, TreeSeat, gives_parent, goes_down, left_to_give, locked_view, passed_view, tree_seen, unlocked_view, walks_down, walks_up}
 use Rattle.floor_table.specs.nodes.TreeOf.{content_in}
 use Rattle.tree_admit.specs.Going.{HasLeft, HasLocked, HasNode, HasOnlyFollowed, HasOnlyLearned}
 use Rattle.tree_admit.specs.Errands.{AllPass}
@@ -46,6 +46,20 @@ unlocked_learned v u n next h = record {
   fresh = h.fresh;
   clear = h.clear;
   kept = grown_then v.kept u.kept (unlocked_view u n next).kept h.kept (grown_by (record { node = n; content = None }) u.kept (unlocked_view u n next).kept refl);
+  looks = h.looks;
+}
+
+-- so does passing by
+pub passed_learned : (v u : TreeView) (next : Activity) → HasOnlyLearned v u → HasOnlyLearned v (passed_view u next)
+passed_learned v u next h = record {
+  floor = h.floor;
+  done = h.done;
+  waits = h.waits;
+  placed = h.placed;
+  removed = h.removed;
+  fresh = h.fresh;
+  clear = h.clear;
+  kept = h.kept;
   looks = h.looks;
 }
 
@@ -90,7 +104,7 @@ module _ (lim : Bounds) (earlier : TreeView) (rest : List (ℕ × TreeSlot)) (a 
         walks_down a t e n stack done
         (record { active = h.active; purpose = purpose; stage = stage; wild = wild; child = child; unfinished = unfinished; pass = sees pass }) refl
 
-    pub may_walk_up : (m : ℕ) (stack done : List ℕ) → a.stage ≡ Walks (n ∷ m ∷ stack) done → AllFinished nodes n done → AllPass me.0.waits a.purpose content
+    pub may_walk_up : (m : ℕ) (stack done : List ℕ) → a.stage ≡ Walks (n ∷ m ∷ stack) done → AllFinishedOrApart nodes (record_effect a.purpose) n done → AllPass me.0.waits a.purpose content
         → MayGoOn nodes me.0 n (record a { stage = Walks (m ∷ stack) (n ∷ done) })
     may_walk_up m stack done stage below pass =
         walks_up a m stack done (record { active = h.active; stage = stage; pass = sees pass; below = below }) refl

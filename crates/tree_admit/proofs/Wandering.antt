@@ -1,6 +1,5 @@
 -- A worker that walks below a node: what it has before each child, and what it may do.
-use Rattle.std.proofs.Common.{◌≡◌, ◌≢◌, ◌<◌, ◌+◌, ℕ, List, [], ◌∷◌, length, get_or, Some, None, refl, sym, ap, subst, ◌∙◌, ⊎_elim}
-use Rattle.std.specs.Prelude.{Contains}
+use Rattle.std.proofs.Common.{◌≡◌, ◌≢◌, ◌<◌, ◌+◌, ℕ, List, [], ◌∷◌, length, get_or, Some, None, refl, sym, ap, subst, ◌∙◌, inl, ⊎_elim}
 use Rattle.std.specs.List.Sorted.{IsStrictlyIncreasing}
 use Rattle.std.proofs.lemmas.Bool.{cases_eq}
 use mathlib.Core.Option as core
@@ -11,19 +10,22 @@ use Rattle.prefix_tree.specs.Nodes.{IsParent, IsTreeOfPaths}
 use Rattle.twe_base.specs.Limits.{Bounds}
 use Rattle.admission_laws.specs.admission_core.States.{Activity, Admit, Child, Remove, ActivityIsOver, Leaves, Purpose, Record}
 use Rattle.admission_laws.proofs.admission_core.TreeLemmas.{over_above, parent_other, parent_over}
+use Rattle.admission_laws.specs.admission_core.Events.{AllFinishedOrApart}
 use Rattle.floor_table.specs.declared.nodes.slot.Errand.{Errand}
 use Rattle.floor_table.specs.declared.nodes.slot.ErrandKind.{ErrandKind}
 use Rattle.floor_table.specs.declared.nodes.slot.ErrandKind.TheVariants.{Admission}
 use Rattle.floor_table.specs.declared.nodes.slot.TreeSlot.{TreeSlot}
 use Rattle.floor_table.specs.declared.nodes.view.TreeView.{TreeView}
-use Rattle.floor_table.specs.nodes.Seats.{GaveNode, MayGoOn, MayLock, MayStop, TreeSeat, left_to_give, purpose_for, unlocked_view}
+use Rattle.floor_table.specs.nodes.Seats.{GaveNode, MayGoOn, MayLock, MayPass, MayStop, TreeSeat, passed_view, left_to_give, purpose_for, unlocked_view}
 use Rattle.floor_table.specs.nodes.TreeOf.{content_in}
+use Rattle.tree_admit.specs.ways.Ways.{AreReached}
 use Rattle.tree_admit.specs.Going.{HasLeft, HasLocked, HasNode, HasOnlyFollowed, HasOnlyLearned}
 use Rattle.tree_admit.specs.Errands.{AllPass}
 use Rattle.tree_admit.specs.Descents.{HasWalkedBelow, MayWalkBelow, walking}
 use Rattle.tree_admit.proofs.Contents.{content_else, content_here}
+use Rattle.tree_admit.proofs.Entering.{effect_is}
 use Rattle.tree_admit.proofs.Learning.{pass_kept}
-use Rattle.tree_admit.proofs.Steps.{followed_has, gave_left, left_has, locked_has, may_stop, may_walk_down, may_walk_up, unlocked_learned, walked_has}
+use Rattle.tree_admit.proofs.Steps.{followed_has, gave_left, left_has, locked_has, may_stop, may_walk_down, may_walk_up, passed_learned, unlocked_learned, walked_has}
 use Rattle.tree_admit.proofs.Finishing.{HasWalked, all_walked, child_at, next_is_unfinished, none_below_next, nothing_walked, walked_more}
 
 pub passes_kept : (v w : TreeView) (purpose : Purpose) (content : List Record) → HasOnlyLearned v w → AllPass v.waits purpose content → AllPass w.waits purpose content
@@ -44,9 +46,6 @@ pub record HasWalkedPart (nodes : List (List Elem)) (lim : Bounds) (earlier : Tr
   pub walked : HasWalked nodes children k done after
   pub unheld : (m : ℕ) → ActivityIsOver nodes n m → content_in me.0.kept m ≡ None
 
-abbrev pub AreChildren : List (List Elem) → ℕ → List ℕ → Type 0
-AreChildren nodes n children = (m : ℕ) → (Contains children m → IsParent nodes n m) × (IsParent nodes n m → Contains children m)
-
 module _ (nodes : List (List Elem)) (tree : IsTreeOfPaths nodes) (lim : Bounds) (earlier : TreeView) (rest : List (ℕ × TreeSlot)) (errand : Errand) (e : Effect) (n : ℕ) (stack done : List ℕ) (content : List Record)
     (start : TreeSeat) (may : MayWalkBelow nodes lim earlier rest errand e n stack done content start) where
   -- The node itself.
@@ -61,18 +60,18 @@ module _ (nodes : List (List Elem)) (tree : IsTreeOfPaths nodes) (lim : Bounds) 
         → HasLeft earlier rest (left_to_give (walking errand e (n ∷ stack) done) stack) final
     looked_left final gave = gave_left lim earlier rest (walking errand e (n ∷ stack) done) n content me looked_has (left_to_give (walking errand e (n ∷ stack) done) stack) final may.none gave
 
-    module _ (children : List ℕ) (each : AreChildren nodes n children) (rising : IsStrictlyIncreasing children) where
+    module _ (children : List ℕ) (each : AreReached nodes e n children) (rising : IsStrictlyIncreasing children) where
       pub none_walked : AllPass me.0.waits (purpose_for errand.kind errand.task e) content → HasWalkedPart nodes lim earlier rest errand e n stack done children 0 content me
       none_walked pass = record {
         after = done;
         has = looked_has;
         pass = pass;
-        walked = nothing_walked nodes tree n children each rising done may.unfinished;
+        walked = nothing_walked nodes tree e n children each rising done may.unfinished;
         unheld = λ m over. ap (λ kept. content_in kept m) only.kept ∙ may.unheld m over;
       }
 
   -- The next child.
-  module _ (children : List ℕ) (each : AreChildren nodes n children) (rising : IsStrictlyIncreasing children) (k : ℕ) (within : k < length children) (me : TreeSeat)
+  module _ (children : List ℕ) (each : AreReached nodes e n children) (rising : IsStrictlyIncreasing children) (k : ℕ) (within : k < length children) (me : TreeSeat)
       (part : HasWalkedPart nodes lim earlier rest errand e n stack done children k content me) where
     abbrev pub child : ℕ
     child = get_or children k 0
@@ -81,7 +80,7 @@ module _ (nodes : List (List Elem)) (tree : IsTreeOfPaths nodes) (lim : Bounds) 
     at_child = walking errand e (child ∷ n ∷ stack) part.after
 
     parent : IsParent nodes n child
-    parent = child_at nodes tree n children each rising done may.unfinished k within
+    parent = child_at nodes tree e n children each rising done may.unfinished k within
 
     other : child ≢ n
     other same = parent_other nodes tree n child parent (sym same)
@@ -90,13 +89,45 @@ module _ (nodes : List (List Elem)) (tree : IsTreeOfPaths nodes) (lim : Bounds) 
     may_lock_child kind wild =
         may_walk_down lim earlier rest (walking errand e (n ∷ stack) part.after) n content me part.has nodes errand.task e child stack part.after
         (ap (λ (k : ErrandKind). purpose_for k errand.task e) kind) refl wild parent
-        (next_is_unfinished nodes tree n children each rising done may.unfinished k within part.after part.walked) part.pass
+        (next_is_unfinished nodes tree e n children each rising done may.unfinished k within part.after part.walked) part.pass
+
+    -- It was passed by.
+    abbrev pub passed_child : Activity
+    passed_child = walking errand e (n ∷ stack) (child ∷ part.after)
+
+    pub may_pass_child : ((m : ℕ) → ¬ IsParent nodes child m) → MayPass nodes me.0 child passed_child
+    may_pass_child lowest = record {
+      activity = walking errand e (n ∷ stack) part.after;
+      node = n;
+      stack = stack;
+      done = part.after;
+      may = record { active = part.has.active; stage = refl; child = parent; lowest = lowest };
+      goes = refl;
+    }
+
+    pub one_passed : ((m : ℕ) → ¬ IsParent nodes child m) → (final : TreeSeat) → final ≡ (passed_view me.0 passed_child, me.1) → HasWalkedPart nodes lim earlier rest errand e n stack done children (k + 1) content final
+    one_passed lowest final is =
+        subst (HasWalkedPart nodes lim earlier rest errand e n stack done children (k + 1) content) (sym is)
+        (record {
+          after = child ∷ part.after;
+          has = record {
+            active = refl;
+            known = part.has.known;
+            others = part.has.others;
+            slots = part.has.slots;
+            learned = passed_learned earlier me.0 passed_child part.has.learned;
+          };
+          pass = part.pass;
+          walked = walked_more nodes tree e n children each rising done may.unfinished k within part.after part.walked part.after
+              (record { all = λ c lies. absurd (lowest c lies); kept = λ m h. h; below = λ m h. inl h });
+          unheld = part.unheld;
+        })
 
     module _ (below : List Record) (locked_me : TreeSeat) (locked : HasLocked lim me child at_child below locked_me) where
       pub may_walk_child : MayWalkBelow nodes lim me.0 me.1 errand e child (n ∷ stack) part.after below locked_me
       may_walk_child = record {
         has = locked_has lim me child at_child below locked_me locked;
-        unfinished = none_below_next nodes tree n children each rising done may.unfinished k within part.after part.walked;
+        unfinished = none_below_next nodes tree e n children each rising done may.unfinished k within part.after part.walked;
         unheld = λ m over.
             let down : ActivityIsOver nodes n m = over_above nodes tree n child m (parent_over nodes tree n child parent) over.above in
             (locked_has lim me child at_child below locked_me locked).others m (λ same. over.other (sym same)) ∙ part.unheld m down;
@@ -110,7 +141,8 @@ module _ (nodes : List (List Elem)) (tree : IsTreeOfPaths nodes) (lim : Bounds) 
 
         pub may_leave_child : MayGoOn nodes then.0 child back_at_node
         may_leave_child =
-            may_walk_up lim me.0 me.1 (walking errand e (child ∷ n ∷ stack) walk.after) child content_then then walk.has nodes n stack walk.after refl walk.finished.all walk.pass
+            may_walk_up lim me.0 me.1 (walking errand e (child ∷ n ∷ stack) walk.after) child content_then then walk.has nodes n stack walk.after refl
+            (subst (λ (x : Effect). AllFinishedOrApart nodes x child walk.after) (sym (effect_is errand.kind errand.task e)) walk.finished.all) walk.pass
 
         pub one_more : (final : TreeSeat) → GaveNode then child (Some back_at_node) me.1 final → HasWalkedPart nodes lim earlier rest errand e n stack done children (k + 1) content final
         one_more final gave =
@@ -122,7 +154,7 @@ module _ (nodes : List (List Elem)) (tree : IsTreeOfPaths nodes) (lim : Bounds) 
               after = child ∷ walk.after;
               has = had;
               pass = passes_kept me.0 final.0 (purpose_for errand.kind errand.task e) content learned part.pass;
-              walked = walked_more nodes tree n children each rising done may.unfinished k within part.after part.walked walk.after walk.finished;
+              walked = walked_more nodes tree e n children each rising done may.unfinished k within part.after part.walked walk.after walk.finished;
               unheld = λ m over.
                   subst (λ (w : TreeSeat). content_in w.0.kept m ≡ None) (sym gave)
                   (⊎_elim
@@ -148,12 +180,12 @@ module _ (nodes : List (List Elem)) (tree : IsTreeOfPaths nodes) (lim : Bounds) 
             → HasLeft earlier rest (left_to_give (walking errand e (n ∷ stack) done) stack) final
         back_left final gave = gave_left lim earlier rest giving n content then back_has (left_to_give (walking errand e (n ∷ stack) done) stack) final may.none gave
 
-  -- All children were walked.
-  pub whole_walk : (children : List ℕ) → AreChildren nodes n children → IsStrictlyIncreasing children → (k : ℕ) → k ≡ length children → (me : TreeSeat)
+  -- All of these children were walked.
+  pub whole_walk : (children : List ℕ) → AreReached nodes e n children → IsStrictlyIncreasing children → (k : ℕ) → k ≡ length children → (me : TreeSeat)
       → HasWalkedPart nodes lim earlier rest errand e n stack done children k content me → HasWalkedBelow nodes lim earlier rest errand e n stack done content me
   whole_walk children each rising k all me part = record {
     after = part.after;
     has = part.has;
     pass = part.pass;
-    finished = all_walked nodes tree n children each rising done may.unfinished part.after (subst (λ (i : ℕ). HasWalked nodes children i done part.after) all part.walked);
+    finished = all_walked nodes tree e n children each rising done may.unfinished part.after (subst (λ (i : ℕ). HasWalked nodes children i done part.after) all part.walked);
   }

@@ -9,7 +9,7 @@ use Rattle.twe_program.specs.Program.{Program}
 use Rattle.twe_machine.specs.declared.state.TaskStatus.TheVariants as status
 use Rattle.floor_rule.specs.declared.view.HeldTurn.{HeldTurn}
 use Rattle.admission_laws.specs.admission_core.States.{Activity, Descends, IsAbove, IsAmong, ActivityIsOver, Record, Walks}
-use Rattle.admission_laws.specs.admission_core.Events.{AllFinished}
+use Rattle.admission_laws.specs.admission_core.Events.{AllFinishedOrApart}
 use Rattle.floor_table.specs.declared.nodes.slot.Errand.{Errand}
 use Rattle.floor_table.specs.declared.nodes.slot.ErrandKind.{ErrandKind}
 use Rattle.floor_table.specs.declared.nodes.slot.ErrandKind.TheVariants.{Admission, Placing, Removal}
@@ -47,9 +47,10 @@ walking errand e stack done = record {
 abbrev pub NoneBelow : List (List Elem) → ℕ → List ℕ → Type 0
 NoneBelow nodes n done = (m : ℕ) → ActivityIsOver nodes n m → ¬ IsAmong m done
 
--- what was finished is so still, all children of the node are finished, and all else that is finished lies below the node
-pub record HasFinishedBelow (nodes : List (List Elem)) (n : ℕ) (before after : List ℕ) : Type 0 where
-  pub all : AllFinished nodes n after
+-- what was finished is so still, each child of the node is finished or apart from the effect, and all else that is finished
+-- lies below the node
+pub record HasFinishedBelow (nodes : List (List Elem)) (e : Effect) (n : ℕ) (before after : List ℕ) : Type 0 where
+  pub all : AllFinishedOrApart nodes e n after
   pub kept : (m : ℕ) → IsAmong m before → IsAmong m after
   pub below : (m : ℕ) → IsAmong m after → IsAmong m before ⊎ ActivityIsOver nodes n m
 
@@ -61,19 +62,20 @@ pub record MayWalkBelow (nodes : List (List Elem)) (lim : Bounds) (earlier : Tre
   pub unheld : (m : ℕ) → ActivityIsOver nodes n m → content_in me.0.kept m ≡ None
   pub none : content_in earlier.kept n ≡ None
 
--- The seat has walked below node n, and holds it as before: each record there passes, and all nodes below it are finished.
+-- The seat has walked below node n, and holds it as before: each record there passes, and each child is finished or apart
+-- from the effect.
 pub record HasWalkedBelow (nodes : List (List Elem)) (lim : Bounds) (earlier : TreeView) (rest : List (ℕ × TreeSlot))
     (errand : Errand) (e : Effect) (n : ℕ) (stack done : List ℕ) (content : List Record) (me : TreeSeat) : Type 0 where
   pub after : List ℕ
   pub has : HasNode lim earlier rest (walking errand e (n ∷ stack) after) n content me
   pub pass : AllPass me.0.waits (purpose_for errand.kind errand.task e) content
-  pub finished : HasFinishedBelow nodes n done after
+  pub finished : HasFinishedBelow nodes e n done after
 
 -- what the worker needs at the place to place the record: for an admission, that each record there passes and nothing stands
 -- below that could be in the way; for a spawned child, its first turn
 abbrev pub MayPutFor : List (List Elem) → ErrandKind → TreeView → ℕ → Effect → HeldTurn → ℕ → List ℕ → List Record → Type 0
 MayPutFor nodes Admission v t e turn place done content =
-    AllPass v.waits (purpose_for Admission t e) content × (IsSolid e.path ⊎ AllFinished nodes place done)
+    AllPass v.waits (purpose_for Admission t e) content × (IsSolid e.path ⊎ AllFinishedOrApart nodes e place done)
 MayPutFor nodes Placing v t e turn place done content = (turn.first ≡ true) × (is_some turn.row.parent ≡ true)
 MayPutFor nodes Removal v t e turn place done content = ⊥
 

@@ -3,6 +3,7 @@
 
 mod admission;
 mod admitting;
+mod taking;
 mod worker;
 mod working;
 mod workshop;

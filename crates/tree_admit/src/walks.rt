@@ -1,5 +1,5 @@
-//! Walking through all nodes below a place. Whoever admits a task with a wildcard in an effect looks at the records there too,
-//! since the effect may meet what stands below its place.
+//! Walking through the nodes below a place. Whoever admits a task with a wildcard in an effect looks at the records there too,
+//! since the effect may meet what stands below its place. Where it cannot, the walk does not go.
 ghost use Rattle.std.specs.Prelude.{◌≡◌, ◌≢◌, ◌<◌, ℕ, List, IfErr, IfOk, ◌∷◌, length};
 ghost use Rattle.effect_tree.specs.Place.{IsSolid};
 ghost use Rattle.floor_table.specs.declared.view.SeatKind.TheVariants.{Spent};
@@ -13,8 +13,9 @@ ghost use Rattle.tree_admit.specs.Going.{HasLeft};
 
 use crate::bars::Bar;
 use crate::footing::Footing;
-use crate::locking::lock_child;
+use crate::locking::take_child;
 use crate::testing::look_at;
+use crate::ways::reached_below;
 use effect_sets::Effect;
 use effect_tree::Shape;
 use floor_table::Named;
@@ -22,8 +23,8 @@ use floor_table::nodes::{Errand, NodeContent, Planted};
 use std::sync::Wait;
 use task_floor::{Floor, Stand};
 
-/// Looks at the records at a node, whose content this is, and walks through all nodes below it: it locks each child, walks below
-/// it and leaves it. Returns the content of the node, which the stand holds still. If a record is a bar, it gives the node back.
+/// Looks at the records at a node, whose content this is, and walks through the nodes below it: it locks each child that the
+/// effect may reach, walks below it and leaves it, and passes by those at which nothing stands. Returns the content of the node, which the stand holds still. If a record is a bar, it gives the node back.
 pub(crate) fn walk_below<N: Named + Planted, R: Wait>(
     rt: &R,
     floor: &Floor<N>,
@@ -64,10 +65,12 @@ pub(crate) fn walk_below<N: Named + Planted, R: Wait>(
             return Err(bar);
         }
     }
-    let children = shape.below(node);
+    let children = reached_below(shape, node, effect);
     for at in 0..children.len() {
         let child = children[at];
-        let below = lock_child(rt, floor, stand, footing.worker, child);
+        let Some(below) = take_child(rt, floor, shape, stand, footing.worker, child) else {
+            continue;
+        };
         match walk_below(
             rt, floor, shape, stand, footing, errand, effect, child, below,
         ) {

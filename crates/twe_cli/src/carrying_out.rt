@@ -15,7 +15,7 @@ use seg_journal::Journal;
 use std::alloc::Global;
 use std::sync::Wait;
 use std::thread::Threads;
-use text_answers::{Book, Started, answer_run, start};
+use text_answers::{Book, Started, answer_run, start_command};
 use twe_base::{Limits, Memory};
 use twe_io::{Answer, Source};
 use twe_machine::State;
@@ -35,7 +35,7 @@ pub(crate) fn answer_command<R: Threads + Wait + Sync, S: Source, G: Gate + Sync
     requires sized { IsSized cmd.now }
     ensures { IfOk result (Cause (source S.left S.faults S.read_gives) cmd.now src.old src.new book.new) }
 {
-    let started = start(alloc, cmd, src, book)?;
+    let started = start_command(alloc, cmd, src, book)?;
     match started {
         Started::Answered(answer) => Ok(answer),
         Started::ToRun { p, lim } => {

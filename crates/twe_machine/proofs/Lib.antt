@@ -10,7 +10,7 @@ pub mod weight
 pub mod counts
 -- What a move does to its own task and leaves of the others.
 pub mod tasks
--- The list of the enabled tasks, and what holds an admission back.
+-- The enabled tasks by place, and what holds an admission back.
 pub mod listing
 -- Replays and outcomes.
 pub mod replays

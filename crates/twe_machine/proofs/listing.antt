@@ -1,3 +1,5 @@
+pub mod Entries
+pub mod Leading
+pub mod Books
+pub mod InWay
 pub mod Listed
-pub mod ListedBars
-pub mod CountedWaits

@@ -1,5 +1,3 @@
 pub mod Members
 pub mod Places
 pub mod RowNumbers
-pub mod ListEdits
-pub mod Tally

@@ -1,6 +1,8 @@
 pub mod Changes
 pub mod FramesOut
 pub mod Legal
+pub mod Queues
+pub mod Books
 pub mod Listings
 pub mod LowestFirst
 pub mod Moves

@@ -1,37 +1,31 @@
--- The list of the enabled tasks of a run, and the state that it belongs to.
-use Rattle.std.specs.Prelude.{◌≡◌, ◌<◌, ◌+◌, ℕ, List, Some, length, slice_get}
-use Rattle.std.specs.List.{Contains}
+-- The enabled tasks of a run by the places of their effects, and the state that they belong to.
+use Rattle.std.specs.Prelude.{◌≡◌, ℕ, List, Some, length, slice_get}
 use Rattle.seg_journal.specs.declared.moves.Move.{Move}
 use Rattle.twe_base.specs.Limits.{Bounds}
+use Rattle.effect_sets.specs.declared.effects.Effect.{Effect}
 use Rattle.twe_program.specs.Program.{Program}
 use Rattle.twe_program.specs.WellFormed.{IsWellFormed}
-use Rattle.wait_graph.specs.Waiting.{WaitsFor}
 use Rattle.twe_machine.specs.declared.enabled_tasks.EnabledTasks.{EnabledTasks}
 use Rattle.twe_machine.specs.declared.state.State.{State}
+use Rattle.twe_machine.specs.declared.state.TaskRow.{TaskRow}
 use Rattle.twe_machine.specs.declared.state.TaskStatus.TheVariants.{Enabled}
+use Rattle.twe_machine.specs.Books.{AreDecided, IsEntered}
 use Rattle.twe_machine.specs.Legal.{MayMove}
 use Rattle.twe_machine.specs.Moves.{move_result}
-use Rattle.twe_machine.specs.Rows.{HasStatus}
+use Rattle.twe_machine.specs.Rows.{IsRow}
 use Rattle.twe_machine.specs.Runs.{IsReached}
 
--- the task at place i of the list waits for the one at place j
-pub record WaitsAt (st : State) (tasks : List ℕ) (i j : ℕ) : Type 0 where
-  pub task : ℕ
-  pub next : ℕ
-  pub here : slice_get tasks i ≡ Some task
-  pub there : slice_get tasks j ≡ Some next
-  pub waits : WaitsFor st.links task next
+-- e is one of these effects
+abbrev pub HasEffect : List Effect → Effect → Type 0
+HasEffect effects e = (k : ℕ) × (slice_get effects k ≡ Some e)
 
--- so many tasks of the list, from the first on, wait for the one after them
-abbrev pub IsPath : State → List ℕ → ℕ → Type 0
-IsPath st tasks path = (i : ℕ) → i < path → WaitsAt st tasks i (i + 1)
-
--- each task that is enabled in the state is on the list, and the first tasks wait for one another as its path says
+-- each effect of each task that is enabled in the state was entered, and who decides for others does so in the state
 pub record IsListing (st : State) (enabled : EnabledTasks) : Type 0 where
-  pub all : (s : ℕ) → HasStatus st s Enabled → Contains enabled.tasks s
-  pub path : IsPath st enabled.tasks enabled.path
+  pub all : (s : ℕ) (row : TaskRow) (e : Effect) → IsRow st s row → row.status ≡ Enabled
+      → HasEffect row.effects.effects e → IsEntered enabled s e
+  pub decided : AreDecided st.links enabled
 
--- the state comes by this legal move from a reached state with so many tasks, to which the list belonged
+-- the state comes by this legal move from a reached state with so many tasks, to which the enabled tasks belonged
 pub record WasListing (after : State) (mv : Move) (before : ℕ) (enabled : EnabledTasks) : Type 0 where
   pub p : Program
   pub lim : Bounds

@@ -1,4 +1,4 @@
-pub mod Counting
+pub mod Meeting
+pub mod Nodes
 pub mod Settling
-pub mod Swaps
 pub mod UnderWay

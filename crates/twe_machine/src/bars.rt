@@ -4,7 +4,7 @@ ghost use Rattle.twe_machine.specs.declared.state.TaskStatus.TheVariants.{Made, 
 ghost use Rattle.twe_machine.specs.Legal.{Interfere, IsBar, MayAdmit};
 ghost use Rattle.wait_graph.specs.Waiting.{YieldsTo};
 ghost use Rattle.twe_machine.specs.Rows.{EffectsAreFilled, HasStatus};
-ghost use Rattle.twe_machine.specs.inner.Counting.{Meets};
+ghost use Rattle.twe_machine.specs.inner.Meeting.{Meets};
 
 use crate::state::{State, TaskStatus};
 use effect_sets::summaries_interfere;

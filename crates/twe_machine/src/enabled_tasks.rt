@@ -1,112 +1,178 @@
-//! The list of the enabled tasks of a run, and how a task comes on it and is taken off it.
-ghost use Rattle.std.specs.Prelude.{◌≡◌, ◌≢◌, ◌<◌, ◌-◌, ℕ, length, IfSome, OnOk, Some, slice_get, slice_set};
-ghost use Rattle.std.specs.List.{Contains};
+//! The enabled tasks of a run, by the places of their effects.
+ghost use Rattle.std.specs.Prelude.{◌≡◌, ◌<◌, ℕ, List, length, IfNone, IfOk, IfSome, IsTrue, OnOk};
+ghost use Rattle.effect_sets.specs.declared.effects.Effect.{Effect};
+ghost use Rattle.effect_sets.specs.Interference.{Interferes};
 ghost use Rattle.twe_base.specs.Limits.{Bounds};
 ghost use Rattle.twe_program.specs.Program.{Program};
-ghost use Rattle.twe_machine.specs.declared.state.State.{State};
-ghost use Rattle.twe_machine.specs.Listings.{IsListing, IsPath};
+ghost use Rattle.twe_machine.specs.declared.state.TaskRow.{TaskRow};
+ghost use Rattle.twe_machine.specs.declared.state.TaskStatus.TheVariants.{Made, Enabled};
+ghost use Rattle.twe_machine.specs.Books.{AreDecided, IsEntered};
+ghost use Rattle.twe_machine.specs.Legal.{IsBar};
+ghost use Rattle.twe_machine.specs.Listings.{HasEffect, IsListing};
 ghost use Rattle.twe_machine.specs.Moves.{start_of};
-ghost use Rattle.twe_machine.specs.inner.Swaps.{IsSwap};
+ghost use Rattle.twe_machine.specs.Queues.{IsNoBar};
+ghost use Rattle.twe_machine.specs.Rows.{EffectsAreFilled, HasStatus, IsRow, LinksAgree};
+ghost use Rattle.wait_graph.specs.declared.tasks.Link.{Link};
 
+use crate::bars::is_enabled;
+use crate::book::TaskBook;
+use crate::state::State;
+use effect_sets::Effect;
 use std::alloc::Global;
-use twe_base::{List, Memory};
+use twe_base::Memory;
 
-/// The enabled tasks of a run, so that an admission needs no look at all tasks. `IsListing` says which state such a list
-/// belongs to.
-///
-/// The first tasks of the list are a chain of waits, so one look at the last of them tells of all of them whether they wait
-/// for a task. A task comes on the list and is taken off it in constant time.
+/// The enabled tasks of a run by the places of their effects, so that an admission looks at what is in its way alone. `IsListing`
+/// says which state they belong to.
 #[derive(Debug, Drop)]
 pub struct EnabledTasks {
-    /// Each enabled task, and perhaps some that are over.
-    pub tasks: List<u32>,
-    /// How many of the tasks, from the first on, wait for the one after them.
-    pub path: usize,
-    /// Where in the list each task was put last, by the number of the task. It only says where to look.
-    pub places: List<usize>,
+    /// The places of the reads.
+    pub reads: TaskBook,
+    /// The places of the writes.
+    pub writes: TaskBook,
 }
 
 impl EnabledTasks {
-    /// The list of a run that has not begun. It takes no memory.
-    pub fn new(alloc: Global) -> Self
-        ensures { (p : Program) (lim : Bounds) → IsListing (start_of p lim) result }
+    /// Those of a run that has not begun.
+    pub fn new(alloc: Global) -> Result<Self, Memory>
+        ensures start { IfOk result (λ enabled. (p : Program) (lim : Bounds) → IsListing (start_of p lim) enabled) }
+        ensures decided { IfOk result (λ enabled. (links : List Link) → AreDecided links enabled) }
     {
-        EnabledTasks {
-            tasks: List::new(alloc),
-            path: 0,
-            places: List::new(alloc),
+        Ok(EnabledTasks {
+            reads: TaskBook::new(alloc)?,
+            writes: TaskBook::new(alloc)?,
+        })
+    }
+
+    /// Those of a state, by one look at each task.
+    pub fn of(alloc: Global, st: &State) -> Result<Self, Memory>
+        requires { length st.now.links ≡ length st.now.tasks }
+        ensures { IfOk result (IsListing st.now) }
+    {
+        let mut enabled = EnabledTasks::new(alloc)?;
+        for t in 0..st.links.task_count() {
+            enabled.add_if_enabled(st, t)?;
         }
+        Ok(enabled)
     }
 
-    /// Where in the list a task stands, if it stands where it was put last.
-    pub(crate) fn place(&self, t: u32) -> Option<usize>
-        ensures { IfSome result (λ at. slice_get self.now.tasks at ≡ Some t) }
+    /// Enters the effects of the task with this number, if there is one and it is enabled.
+    pub(crate) fn add_if_enabled(&mut self, st: &State, t: u32) -> Result<(), Memory>
+        requires { AreDecided st.now.links self.old }
+        ensures added { OnOk result ((row : TaskRow) (e : Effect)
+            → IsRow st.now t row → row.status ≡ Enabled → HasEffect row.effects.effects e → IsEntered self.new t e) }
+        ensures kept { OnOk result ((s : ℕ) (e : Effect)
+            → HasStatus st.now s Enabled → IsEntered self.old s e → IsEntered self.new s e) }
+        ensures decided { OnOk result (AreDecided st.now.links self.new) }
     {
-        let at = *self.places.get(t as usize)?;
-        let there = *self.tasks.get(at)?;
-        if there == t { Some(at) } else { None }
+        let Some(row) = st.tasks.get(t as usize) else {
+            return Ok(());
+        };
+        if !is_enabled(st, t) {
+            return Ok(());
+        }
+        self.add_all(st, row.effects.effects.as_slice(), t)
     }
 
-    /// Adds a task at the end.
-    pub(crate) fn push(&mut self, t: u32) -> Result<(), Memory>
-        ensures added { OnOk result (Contains self.new.tasks t) }
-        ensures kept { OnOk result ((s : ℕ) → Contains self.old.tasks s → Contains self.new.tasks s) }
-        ensures path { OnOk result ((st : State)
-            → IsPath st self.old.tasks self.old.path → IsPath st self.new.tasks self.new.path) }
+    /// Enters effects of an enabled task.
+    fn add_all(&mut self, st: &State, effects: &[Effect], t: u32) -> Result<(), Memory>
+        requires enabled { HasStatus st.now t Enabled }
+        requires decided { AreDecided st.now.links self.old }
+        ensures added { OnOk result ((e : Effect) → HasEffect effects.now e → IsEntered self.new t e) }
+        ensures kept { OnOk result ((s : ℕ) (e : Effect)
+            → HasStatus st.now s Enabled → IsEntered self.old s e → IsEntered self.new s e) }
+        ensures decided { OnOk result (AreDecided st.now.links self.new) }
     {
-        reach(&mut self.places, t)?;
-        self.places.set(t as usize, self.tasks.len());
-        self.tasks.push(t)?;
+        for effect in effects {
+            self.add(st, effect, t)?;
+        }
         Ok(())
     }
 
-    /// Puts a task in the place of another one.
-    fn put(&mut self, at: usize, t: u32)
-        requires { at < length self.old.tasks }
-        ensures tasks { self.new.tasks ≡ slice_set self.old.tasks at t }
-        ensures path { self.new.path ≡ self.old.path }
+    /// Enters an effect of an enabled task.
+    fn add(&mut self, st: &State, effect: &Effect, t: u32) -> Result<(), Memory>
+        requires enabled { HasStatus st.now t Enabled }
+        requires decided { AreDecided st.now.links self.old }
+        ensures added { OnOk result (IsEntered self.new t effect.now) }
+        ensures kept { OnOk result ((s : ℕ) (e : Effect)
+            → HasStatus st.now s Enabled → IsEntered self.old s e → IsEntered self.new s e) }
+        ensures decided { OnOk result (AreDecided st.now.links self.new) }
     {
-        self.tasks.set(at, t);
-        if (t as usize) < self.places.len() {
-            self.places.set(t as usize, at);
+        let elems = effect.path.elems().as_slice();
+        if effect.write {
+            self.writes.add(st, elems, t)?;
+            return Ok(());
+        }
+        self.reads.add(st, elems, t)?;
+        Ok(())
+    }
+
+    /// Takes tasks out that are over, at the places of the effects of a task, if that one is. It takes no memory.
+    pub(crate) fn drop_over(&mut self, st: &State, t: u32)
+        ensures kept { (s : ℕ) (e : Effect) → HasStatus st.now s Enabled → IsEntered self.old s e → IsEntered self.new s e }
+        ensures decided { AreDecided st.now.links self.old → AreDecided st.now.links self.new }
+    {
+        let Some(row) = st.tasks.get(t as usize) else {
+            return;
+        };
+        if is_enabled(st, t) {
+            return;
+        }
+        for effect in row.effects.effects.as_slice() {
+            self.drop_at(st, effect);
         }
     }
 
-    /// Puts two tasks in each other's place.
-    pub(crate) fn swap(&mut self, first: usize, second: usize)
-        requires first { first < length self.old.tasks }
-        requires second { second < length self.old.tasks }
-        ensures swapped { IsSwap self.old.tasks self.new.tasks first second }
-        ensures path { self.new.path ≡ self.old.path }
+    /// Takes tasks out that are over, at the place of an effect. It takes no memory.
+    fn drop_at(&mut self, st: &State, effect: &Effect)
+        ensures kept { (s : ℕ) (e : Effect) → HasStatus st.now s Enabled → IsEntered self.old s e → IsEntered self.new s e }
+        ensures decided { AreDecided st.now.links self.old → AreDecided st.now.links self.new }
     {
-        let tasks = self.tasks.as_slice();
-        let (one, other) = (tasks[first], tasks[second]);
-        self.put(first, other);
-        self.put(second, one);
-    }
-
-    /// Takes a task off the list, and ends the path before the task that may have waited for it.
-    pub(crate) fn take_off(&mut self, t: u32)
-        ensures kept { (s : ℕ) → s ≢ t → Contains self.old.tasks s → Contains self.new.tasks s }
-        ensures path { (st : State) → IsPath st self.old.tasks (self.old.path - 1) → IsPath st self.new.tasks self.new.path }
-    {
-        self.path = self.path.saturating_sub(1);
-        let Some(at) = self.place(t) else {
+        let elems = effect.path.elems().as_slice();
+        if effect.write {
+            self.writes.drop_over(st, elems);
             return;
-        };
-        let last = self.tasks.len() - 1;
-        self.swap(at, last);
-        self.tasks.truncate(last);
-        self.path = self.path.min(at.saturating_sub(1));
+        }
+        self.reads.drop_over(st, elems);
     }
-}
 
-/// Makes room for the place of a task.
-fn reach(places: &mut List<usize>, t: u32) -> Result<(), Memory>
-    ensures { OnOk result (t < length places.new) }
-{
-    'reaching: while places.len() <= t as usize {
-        places.push(0)?;
+    /// Some bar to the admission of `t` among the tasks with an effect that interferes with one of these effects, if there is one. It
+    /// takes no memory.
+    pub(crate) fn bar_to_all(&self, st: &State, effects: &[Effect], t: u32) -> Option<u32>
+        requires made { HasStatus st.now t Made }
+        requires agree { LinksAgree st.now }
+        requires filled { EffectsAreFilled st.now }
+        requires decided { AreDecided st.now.links self.now }
+        ensures some { IfSome result (λ s. IsBar st.now s t) }
+        ensures none { IfNone result ((s : ℕ) (e f : Effect)
+            → IsEntered self.now s e → HasEffect effects.now f → Interferes e f → IsNoBar st.now t s) }
+    {
+        for effect in effects {
+            if let Some(s) = self.bar_to(st, effect, t) {
+                return Some(s);
+            }
+        }
+        None
     }
-    Ok(())
+
+    /// Some bar to the admission of `t` among the tasks with an effect that interferes with this effect, if there is one. It takes
+    /// no memory.
+    fn bar_to(&self, st: &State, effect: &Effect, t: u32) -> Option<u32>
+        requires made { HasStatus st.now t Made }
+        requires agree { LinksAgree st.now }
+        requires filled { EffectsAreFilled st.now }
+        requires decided { AreDecided st.now.links self.now }
+        ensures some { IfSome result (λ s. IsBar st.now s t) }
+        ensures none { IfNone result ((s : ℕ) (e : Effect) → IsEntered self.now s e → Interferes e effect.now → IsNoBar st.now t s) }
+    {
+        let elems = effect.path.elems().as_slice();
+        let star = effect.path.star();
+        if let Some(s) = self.writes.bar(st, elems, star, t) {
+            return Some(s);
+        }
+        if effect.write {
+            self.reads.bar(st, elems, star, t)
+        } else {
+            None
+        }
+    }
 }

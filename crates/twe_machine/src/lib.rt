@@ -3,8 +3,8 @@
 #![tactic(auto)]
 
 mod bars;
+mod book;
 mod coming_home;
-mod counted_waits;
 mod enabled_tasks;
 mod ending;
 mod first_state;
@@ -17,6 +17,8 @@ mod making;
 mod new_task;
 mod one_move;
 mod outcomes;
+mod queue;
+mod queue_bars;
 mod replaying;
 mod running;
 pub mod segment_laws;
@@ -26,6 +28,7 @@ mod taken_joins;
 mod task_end;
 
 pub use bars::{bar, is_enabled};
+pub use book::{NodeTasks, TaskBook};
 pub use coming_home::awaited;
 pub use enabled_tasks::EnabledTasks;
 pub use ending::Outcome;
@@ -41,6 +44,7 @@ pub use making::{note_child, set_future};
 pub use new_task::parent_of;
 pub use one_move::step;
 pub use outcomes::outcome;
+pub use queue::{Queue, Queued};
 pub use replaying::{
     ReplayFail, moves_make_the_journal, one_first_illegal, replay, replay_journal,
 };

@@ -70,7 +70,7 @@ pub fn replay_journal(
 {
     let st = start(alloc, p, lim)?;
     let journal = Journal::new(alloc);
-    let enabled = EnabledTasks::new(alloc);
+    let enabled = EnabledTasks::new(alloc)?;
     let mut run = Replaying {
         journal,
         st,

@@ -13,7 +13,7 @@ use opt_crew::run_ahead;
 use std::alloc::Global;
 use std::sync::Wait;
 use std::thread::Threads;
-use text_answers::{Book, Started, answer_run, start};
+use text_answers::{Book, Started, answer_run, start_command};
 use twe_base::{Memory, Word};
 use twe_io::{Answer, Sink, Source, Status, tell};
 
@@ -74,7 +74,7 @@ fn answer_command<R: Threads + Wait + Sync, S: Source>(
     requires some { 1 ≤ workers_of cmd.now }
     ensures { IfOk result (Cause (source S.left S.faults S.read_gives) cmd.now src.old src.new book.new) }
 {
-    let started = start(alloc, cmd, src, book)?;
+    let started = start_command(alloc, cmd, src, book)?;
     match started {
         Started::Answered(answer) => Ok(answer),
         Started::ToRun { p, lim } => {

@@ -39,7 +39,8 @@ state_of crew journal = state_after crew.prog crew.lim journal
 abbrev pub StepsFrom : CrewRun → CrewRun → List Entry → Quietly → Type 0
 StepsFrom old new journal Faulted =
     (new ≡ old)
-    × ((task : ℕ) × (kind : FaultKind) × (place : Place) × IsOutcome (state_of old journal) (outcomes.Fault task kind place))
+    × ((task : ℕ) × (kind : FaultKind) × (place : Place)
+    × IsOutcome (state_of old journal) (outcomes.Fault task kind place))
 StepsFrom old new journal AllDone = (new ≡ old) × IsOutcome (state_of old journal) outcomes.AllDone
 StepsFrom old new journal (Stuck cycle) =
     (new ≡ old) × IsOutcome (state_of old journal) outcomes.Stuck × IsStuckCycle (state_of old journal) cycle
@@ -56,7 +57,8 @@ is_end _ = true
 -- the crew had a journal, and the quiet step found this
 abbrev pub StepsQuietly : CrewRun → CrewRun → Quietly → Type 0
 StepsQuietly old new quietly =
-    (journal : List Entry) × (old.journal ≡ Some journal) × Legal old.prog old.lim journal × StepsFrom old new journal quietly
+    (journal : List Entry) × (old.journal ≡ Some journal) × Legal old.prog old.lim journal
+    × StepsFrom old new journal quietly
 
 -- What a round does. The journal goes on and stays legal. With a single worker it is longer afterwards, if the run could
 -- go on.

@@ -1,6 +1,6 @@
 //! How a worker comes to the run of a round.
 
-use crate::look::Look;
+use crate::outlook::Outlook;
 use crate::waiting::Waiting;
 use seg_journal::End;
 use std::alloc::AllocError;
@@ -9,7 +9,7 @@ use twe_base::Memory;
 /// A worker's way to the run. Other workers may come between any two calls.
 pub trait RoundAccess {
     /// What may be done next for a task.
-    fn look(&mut self, task: u32) -> Result<Look, Memory>;
+    fn look(&mut self, task: u32) -> Result<Outlook, Memory>;
 
     /// Runs a segment of a task, if it is legal now, and returns its end.
     fn run(&mut self, task: u32) -> Result<Option<End>, Memory>;

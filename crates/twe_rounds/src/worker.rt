@@ -1,7 +1,7 @@
 //! A worker of a round. It takes numbers of tasks from the decks and makes the moves of those tasks.
 
 use crate::access::RoundAccess;
-use crate::look::Look;
+use crate::outlook::Outlook;
 use crate::own_deck::OwnDeck;
 use crate::waiting::Waiting;
 use crossbeam_utils::Backoff;
@@ -152,10 +152,10 @@ impl Worker {
     ) -> Result<(), Memory> {
         for _ in rt.forever() {
             match access.look(task)? {
-                Look::Over => return Ok(()),
-                Look::Waits { on, next } => return self.waiting.wait(task, on, next),
-                Look::Held { by } => return self.waiting.hold(task, by),
-                Look::Runs => self.segment(access, site, task)?,
+                Outlook::Over => return Ok(()),
+                Outlook::Waits { on, next } => return self.waiting.wait(task, on, next),
+                Outlook::Held { by } => return self.waiting.hold(task, by),
+                Outlook::Runs => self.segment(access, site, task)?,
             }
         }
         unreachable!()

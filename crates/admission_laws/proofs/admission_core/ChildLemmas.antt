@@ -7,11 +7,12 @@ use Rattle.effect_sets.specs.Interference.{Interferes}
 use Rattle.prefix_tree.specs.Nodes.{IsTreeOfPaths}
 use Rattle.wait_graph.specs.Waiting.{WaitsForNobody}
 use Rattle.admission_laws.specs.admission_core.Tasks.{Task, Tasks, Enabled, IsLiveStatus, IsTask, IsLive}
-use Rattle.admission_laws.specs.admission_core.States.{IsAmong, IsAbove, IsPlaceOf, Record, Purpose, Admit, Child, Remove, Walks, Activity, State, PassesFor}
+use Rattle.admission_laws.specs.admission_core.States.{IsAmong, IsAbove, IsApartBelow, IsPlaceOf, Record, Purpose, Admit, Child, Remove, Walks, Activity, State, PassesFor, record_effect}
 use Rattle.admission_laws.specs.admission_core.Events.{MayBegin}
 use Rattle.admission_laws.specs.admission_core.Rule.{IsBorn}
 use Rattle.admission_laws.proofs.admission_core.Invariant.{IsPast, Going, Kept}
 use Rattle.admission_laws.proofs.admission_core.EffectLemmas.{mutual_interference, filled_among, covered_more, covering_place}
+use Rattle.admission_laws.proofs.admission_core.TreeLemmas.{above_refl}
 use Rattle.admission_laws.proofs.admission_core.StageLemmas.{IsUnderFinished, past_mine, past_higher}
 use Rattle.admission_laws.proofs.admission_core.FamilyLemmas.{made_not_enabled, yields_by_parent, yields_to_none_made}
 use Rattle.admission_laws.proofs.admission_core.RecordLemmas.{add_record}
@@ -78,7 +79,9 @@ module _ (nodes : List (List Elem)) (tree : IsTreeOfPaths nodes) (s : State) (ke
         let yield = pass up.live (mutual_interference f up.effect (up.covers f (mutual_interference e f i))) in
         let same = yields_to_none_made s.tasks kept.given up.born.maker u up.nobody (mine.0, mine.1, mine.2) yield in
         made_not_enabled s.tasks u (mine.0, mine.1, mine.2) (up.born.parent, subst (λ (x : ℕ). IsTask s.tasks x up.born.parent) same up.born.is, up.born.active))
-        (λ (low : IsUnderFinished nodes b.stage place). kept.shut v w b low.0 place is_b low.1 low.2 (own, active, inl refl))
+        (λ (low : IsUnderFinished nodes b.stage place).
+        let apart = subst (λ (x : Purpose). IsApartBelow nodes (record_effect x) place) purpose (kept.shut v w b low.0 place is_b low.1 low.2 (own, active, inl refl)) in
+        apart e place going.place (above_refl nodes tree place going.place.there) i)
         (past_higher nodes tree b.stage place up.node (up.higher place going.place) past)
 
     for_each : (v : ℕ) (b : Activity) (purpose : Purpose) → s.activities v ≡ Some b → b.purpose ≡ purpose → IsPast nodes b.stage place → PassesFor s.tasks purpose new

@@ -1,16 +1,17 @@
 -- Every event keeps the invariant, which holds at the start: so it holds in each state that events lead to.
-use Rattle.std.proofs.Common.{◌≡◌, ℕ, List, [], ◌∷◌, Some, sym, ap, subst, ◌∙◌, inr}
+use Rattle.std.proofs.Common.{◌≡◌, ◌⊎◌, ℕ, List, [], ◌∷◌, Some, sym, ap, subst, ◌∙◌, inl, inr, ⊎_elim}
 use Rattle.region_paths.specs.declared.elements.Elem.{Elem}
 use Rattle.effect_sets.specs.declared.effects.Effect.{Effect}
 use Rattle.prefix_tree.specs.Nodes.{IsTreeOfPaths}
 use Rattle.admission_laws.specs.admission_core.Tasks.{Tasks}
-use Rattle.admission_laws.specs.admission_core.States.{ActivityIsOver, Record, Purpose, Admit, Child, Stage, Descends, Steps, Walks, Leaves, held, Activity, State, PassesFor, with_stage}
-use Rattle.admission_laws.specs.admission_core.Events.{Places, PlacesChild, Removes, TreeEvent, Begin, Down, Give, WalkDown, WalkUp, Place, PlaceChild, TakeOut, Bar, GiveBack, End}
+use Rattle.admission_laws.specs.admission_core.States.{ActivityIsOver, IsAbove, IsAmong, IsApartBelow, Record, Purpose, Admit, Child, Stage, Descends, Steps, Walks, Leaves, held, Activity, State, PassesFor, with_stage}
+use Rattle.admission_laws.specs.admission_core.Events.{Places, PlacesChild, Removes, TreeEvent, Begin, Down, Give, WalkDown, WalkUp, PassBy, Place, PlaceChild, TakeOut, Bar, GiveBack, End}
 use Rattle.admission_laws.specs.admission_core.Entries.{TaskEvent, TakeTurn, GiveTurn, GiveFirst, Enable, Run, Make}
 use Rattle.admission_laws.specs.admission_core.Rule.{CoreIsReached, quiet, in_tree, by_task, DescentsSawPass, WalksSawPass, IsLast}
 use Rattle.admission_laws.proofs.admission_core.Invariant.{IsPast, Kept}
+use Rattle.admission_laws.proofs.admission_core.TreeLemmas.{above_refl}
 use Rattle.admission_laws.proofs.admission_core.PutLemmas.{put_none_keeps}
-use Rattle.admission_laws.proofs.admission_core.MoveLemmas.{begin, down, give, walk_down, walk_up, leave}
+use Rattle.admission_laws.proofs.admission_core.MoveLemmas.{begin, down, give, walk_down, walk_up, pass_by, leave}
 use Rattle.admission_laws.proofs.admission_core.RecordLemmas.{place_keeps}
 use Rattle.admission_laws.proofs.admission_core.ChildLemmas.{child_keeps}
 use Rattle.admission_laws.proofs.admission_core.RemoveLemmas.{remove_keeps}
@@ -61,6 +62,9 @@ module _ (nodes : List (List Elem)) (tree : IsTreeOfPaths nodes) (s : State) (ke
   tree_event n (WalkUp w a c m stack done h is) =
       subst (λ (x : State). Kept nodes x) (sym is)
       (walk_up nodes tree s kept w a c m stack done (at_stage s w a (Walks (c ∷ m ∷ stack) done) h.active h.stage) h.pass h.below)
+  tree_event n (PassBy w a m c stack done h is) =
+      subst (λ (x : State). Kept nodes x) (sym is)
+      (pass_by nodes tree s kept w a m c stack done (at_stage s w a (Walks (m ∷ stack) done) h.active h.stage) h.child h.free h.bare)
   tree_event n (Place w a t e done h is) = subst (λ (x : State). Kept nodes x) (sym is) (after_place w a t e done h)
   tree_event n (PlaceChild w a c e done h is) = subst (λ (x : State). Kept nodes x) (sym is) (after_child w a c e done h)
   tree_event n (TakeOut w a t e done records h is) = subst (λ (x : State). Kept nodes x) (sym is) (after_remove w a t e done records h)
@@ -94,6 +98,16 @@ pub descents_saw : (nodes : List (List Elem)) (s : State) → Kept nodes s → D
 descents_saw nodes s kept w t e stage last r active is among over =
     (kept.going w (record { purpose = Admit t e; place = active.0; stage = stage }) active.1).seen r among (last_past nodes stage last r.node is over)
 
-pub walks_saw : (nodes : List (List Elem)) (s : State) → Kept nodes s → WalksSawPass nodes s
-walks_saw nodes s kept w t e last stack done r active among past =
-    (kept.going w (record { purpose = Admit t e; place = active.0; stage = Walks (last ∷ stack) done }) active.1).seen r among past
+pub walks_saw : (nodes : List (List Elem)) (s : State) → IsTreeOfPaths nodes → Kept nodes s → WalksSawPass nodes s
+walks_saw nodes s tree kept w t e last stack done r active among past =
+    let g = kept.going w (record { purpose = Admit t e; place = active.0; stage = Walks (last ∷ stack) done }) active.1 in
+    ⊎_elim
+    (λ (over : ActivityIsOver nodes r.node last). g.seen r among (inl over))
+    (λ (rest : ((f : ℕ) × IsAmong f done × IsAbove nodes f r.node) ⊎ IsApartBelow nodes e r.node).
+    ⊎_elim
+    (λ (low : (f : ℕ) × IsAmong f done × IsAbove nodes f r.node). g.seen r among (inr low))
+    (λ (apart : IsApartBelow nodes e r.node).
+    let home = (kept.home r among).place in
+    λ live i. absurd (apart r.effect r.node home (above_refl nodes tree r.node home.there) i))
+    rest)
+    past

@@ -2,13 +2,21 @@
 use Rattle.std.proofs.Common.{◌≡◌, ◌≢◌, ℕ, List, [], ◌∷◌, Some, refl, sym, ap, subst, ◌∙◌, ◌⊎◌, inl, inr, ⊎_elim}
 use Rattle.std.proofs.lemmas.Bool.{cases_eq}
 use Rattle.region_paths.specs.declared.elements.Elem.{Elem}
+use Rattle.effect_sets.specs.Interference.{Interferes}
 use Rattle.prefix_tree.specs.Nodes.{IsParent, IsTreeOfPaths}
-use Rattle.admission_laws.specs.admission_core.States.{IsAmong, IsAbove, ActivityIsOver, Stage, Descends, Steps, Walks, Leaves, held, finished, Activity, State, NodeIsFree, AllPassAt, with_activity, with_stage}
-use Rattle.admission_laws.specs.admission_core.Events.{HasCome, AllFinished, Begins}
-use Rattle.admission_laws.proofs.admission_core.TreeLemmas.{above_refl, above_trans, above_antisym, parent_above, parent_other, parent_one, above_parent, over_parent, over_above, child_toward, root_above, root_lowest, root_alone}
+use Rattle.admission_laws.specs.admission_core.Tasks.{Tasks}
+use Rattle.admission_laws.specs.admission_core.States.{IsAmong, IsAbove, ActivityIsOver, IsApartBelow, Record, Purpose, Admit, Child, Remove, record_effect, Stage, Descends, Steps, Walks, Leaves, held, finished, Activity, State, HoldsNode, NodeIsFree, PassesFor, AllPassAt, with_activity, with_stage}
+use Rattle.admission_laws.specs.admission_core.Events.{HasCome, AllFinishedOrApart, Begins}
+use Rattle.admission_laws.proofs.admission_core.TreeLemmas.{above_refl, above_trans, above_antisym, apart_lower, parent_above, parent_other, parent_one, above_parent, over_parent, over_above, child_toward, root_above, root_lowest, root_alone}
 use Rattle.admission_laws.proofs.admission_core.StackLemmas.{stack_above}
 use Rattle.admission_laws.proofs.admission_core.Invariant.{Kept}
 use Rattle.admission_laws.proofs.admission_core.PutLemmas.{some_one, IsFresh, put_keeps}
+
+-- a record whose effect does not interfere passes, whatever the purpose
+apart_passes : (ts : Tasks) (purpose : Purpose) (r : Record) → ¬ Interferes r.effect (record_effect purpose) → PassesFor ts purpose r
+apart_passes ts (Admit t e) r apart = λ live i. absurd (apart i)
+apart_passes ts (Child t e) r apart = tt
+apart_passes ts (Remove t e) r apart = tt
 
 module _ (nodes : List (List Elem)) (tree : IsTreeOfPaths nodes) (s : State) (kept : Kept nodes s) (w : ℕ) where
   -- a free child of a node that w holds is fresh, if w hasn't finished it
@@ -16,6 +24,8 @@ module _ (nodes : List (List Elem)) (tree : IsTreeOfPaths nodes) (s : State) (ke
   fresh_child a n c active holds child free unfinished = record {
     free = free;
     clear = λ v b f is fin above.
+        let lower : IsApartBelow nodes (record_effect b.purpose) n → IsApartBelow nodes (record_effect b.purpose) c =
+        apart_lower nodes tree (record_effect b.purpose) n c (parent_above nodes tree n c child) in
         ⊎_elim
         (λ (same : f ≡ c).
         let done = subst (λ (x : ℕ). IsAmong x (finished b.stage)) same fin in
@@ -25,12 +35,12 @@ module _ (nodes : List (List Elem)) (tree : IsTreeOfPaths nodes) (s : State) (ke
         (λ (own : IsAmong rim.0 (held b.stage)).
         let worker = kept.owner v w n (b, is, subst (λ (x : ℕ). IsAmong x (held b.stage)) parent own) (a, active, holds) in
         let one = some_one (sym is ∙ ap s.activities worker ∙ active) in
-        unfinished (subst (λ (x : Activity). IsAmong c (finished x.stage)) one done))
+        absurd (unfinished (subst (λ (x : Activity). IsAmong c (finished x.stage)) one done)))
         (λ (low : (g : ℕ) × IsAmong g (finished b.stage) × IsAbove nodes g rim.0).
-        kept.shut v w b low.0 n is low.1 (subst (λ (x : ℕ). IsAbove nodes low.0 x) parent low.2) (a, active, holds))
+        lower (kept.shut v w b low.0 n is low.1 (subst (λ (x : ℕ). IsAbove nodes low.0 x) parent low.2) (a, active, holds)))
         rim.2)
         (λ (other : f ≢ c).
-        kept.shut v w b f n is fin (above_parent nodes tree f n c child above other) (a, active, holds))
+        lower (kept.shut v w b f n is fin (above_parent nodes tree f n c child above other) (a, active, holds)))
         (cases_eq f c);
   }
 
@@ -39,7 +49,7 @@ module _ (nodes : List (List Elem)) (tree : IsTreeOfPaths nodes) (s : State) (ke
     free = free;
     clear = λ v b f is fin above.
         let rim = (kept.going v b is).rim f fin in
-        root_alone nodes tree rim.0 (subst (λ (x : ℕ). IsParent nodes rim.0 x) (root_lowest nodes tree f above) rim.1);
+        absurd (root_alone nodes tree rim.0 (subst (λ (x : ℕ). IsParent nodes rim.0 x) (root_lowest nodes tree f above) rim.1));
   }
 
   pub down : (a : Activity) (n c : ℕ) → s.activities w ≡ Some (record a { stage = Descends n }) → IsParent nodes n c → IsAbove nodes c a.place → NodeIsFree s c → AllPassAt s a.purpose n → Kept nodes (with_stage s w a (Steps n c))
@@ -131,13 +141,14 @@ module _ (nodes : List (List Elem)) (tree : IsTreeOfPaths nodes) (s : State) (ke
       (λ f x fin above. (
         λ h.
             ⊎_elim
-            (λ (same : x ≡ c). fresh.clear w before f active fin (subst (λ (y : ℕ). IsAbove nodes f y) same above))
+            (λ (same : x ≡ c).
+            subst (λ (y : ℕ). IsApartBelow nodes (record_effect a.purpose) y) (sym same) (fresh.clear w before f active fin (subst (λ (y : ℕ). IsAbove nodes f y) same above)))
             (λ (old : IsAmong x (n ∷ stack)). kept.shut w w before f x active fin above (before, active, old))
             h,
         λ v other holds. kept.shut w v before f x active fin above holds,
       ))
 
-  pub walk_up : (a : Activity) (c n : ℕ) (stack done : List ℕ) → s.activities w ≡ Some (record a { stage = Walks (c ∷ n ∷ stack) done }) → AllPassAt s a.purpose c → AllFinished nodes c done → Kept nodes (with_stage s w a (Walks (n ∷ stack) (c ∷ done)))
+  pub walk_up : (a : Activity) (c n : ℕ) (stack done : List ℕ) → s.activities w ≡ Some (record a { stage = Walks (c ∷ n ∷ stack) done }) → AllPassAt s a.purpose c → AllFinishedOrApart nodes (record_effect a.purpose) c done → Kept nodes (with_stage s w a (Walks (n ∷ stack) (c ∷ done)))
   walk_up a c n stack done active pass below =
       let before : Activity = record a { stage = Walks (c ∷ n ∷ stack) done } in
       let g = kept.going w before active in
@@ -158,7 +169,10 @@ module _ (nodes : List (List Elem)) (tree : IsTreeOfPaths nodes) (s : State) (ke
             (λ (same : c ≡ r.node). pass r among (sym same))
             (λ (other : c ≢ r.node).
             let next = child_toward nodes tree c r.node (record { above = above; other = other }) in
-            g.seen r among (inr (next.0, below next.0 next.1, next.2)))
+            ⊎_elim
+            (λ (fin : IsAmong next.0 done). g.seen r among (inr (next.0, fin, next.2)))
+            (λ (apart : IsApartBelow nodes (record_effect a.purpose) next.0). apart_passes s.tasks a.purpose r (apart r.effect r.node (kept.home r among).place next.2))
+            (below next.0 next.1))
             (cases_eq c r.node))
             (λ (old : IsAmong low.0 done). g.seen r among (inr (low.0, old, low.2)))
             low.1)
@@ -187,7 +201,7 @@ module _ (nodes : List (List Elem)) (tree : IsTreeOfPaths nodes) (s : State) (ke
             (λ (here : f ≡ c).
             let low = subst (λ (y : ℕ). IsAbove nodes y x) here above in
             let high = stack_above nodes tree a.place g.place.there n stack x g.way.1 h in
-            parent_other nodes tree n c g.way.0 (above_antisym nodes tree n c (parent_above nodes tree n c g.way.0) (above_trans nodes tree c x n low high)))
+            absurd (parent_other nodes tree n c g.way.0 (above_antisym nodes tree n c (parent_above nodes tree n c g.way.0) (above_trans nodes tree c x n low high))))
             (λ (old : IsAmong f done). kept.shut w w before f x active old above (before, active, inr h))
             fin,
         λ v other holds.
@@ -195,11 +209,58 @@ module _ (nodes : List (List Elem)) (tree : IsTreeOfPaths nodes) (s : State) (ke
             (λ (here : f ≡ c).
             let low = subst (λ (y : ℕ). IsAbove nodes y x) here above in
             ⊎_elim
-            (λ (same : c ≡ x). other (kept.owner v w x holds (before, active, inl (sym same))))
-            (λ (apart : c ≢ x).
-            let next = child_toward nodes tree c x (record { above = low; other = apart }) in
-            kept.shut w v before next.0 x active (below next.0 next.1) next.2 holds)
+            (λ (same : c ≡ x). absurd (other (kept.owner v w x holds (before, active, inl (sym same)))))
+            (λ (differs : c ≢ x).
+            let next = child_toward nodes tree c x (record { above = low; other = differs }) in
+            ⊎_elim
+            (λ (ended : IsAmong next.0 done). kept.shut w v before next.0 x active ended next.2 holds)
+            (λ (apart : IsApartBelow nodes (record_effect a.purpose) next.0). apart_lower nodes tree (record_effect a.purpose) next.0 x next.2 apart)
+            (below next.0 next.1))
             (cases_eq c x))
+            (λ (old : IsAmong f done). kept.shut w v before f x active old above holds)
+            fin,
+      ))
+
+  -- a child at and below which nothing stands and no lock is held is finished
+  pub pass_by : (a : Activity) (n c : ℕ) (stack done : List ℕ) → s.activities w ≡ Some (record a { stage = Walks (n ∷ stack) done }) → IsParent nodes n c → ((m : ℕ) → IsAbove nodes c m → NodeIsFree s m)
+      → ((r : Record) → IsAmong r s.records → ¬ IsAbove nodes c r.node) → Kept nodes (with_stage s w a (Walks (n ∷ stack) (c ∷ done)))
+  pass_by a n c stack done active child free bare =
+      let before : Activity = record a { stage = Walks (n ∷ stack) done } in
+      let g = kept.going w before active in
+      let held_free : (f x v : ℕ) → f ≡ c → IsAbove nodes f x → ¬ HoldsNode s.activities v x =
+      λ f x v here above holds. free x (subst (λ (y : ℕ). IsAbove nodes y x) here above) v holds in
+      put_keeps nodes s w (record a { stage = Walks (n ∷ stack) (c ∷ done) }) kept
+      (λ x h. inl (before, active, h))
+      (record {
+        place = g.place;
+        way = g.way;
+        mine = g.mine;
+        seen = λ r among past.
+            ⊎_elim
+            (λ (over : ActivityIsOver nodes r.node n). g.seen r among (inl over))
+            (λ (low : (f : ℕ) × ((f ≡ c) ⊎ IsAmong f done) × IsAbove nodes f r.node).
+            ⊎_elim
+            (λ (here : low.0 ≡ c). absurd (bare r among (subst (λ (y : ℕ). IsAbove nodes y r.node) here low.2)))
+            (λ (old : IsAmong low.0 done). g.seen r among (inr (low.0, old, low.2)))
+            low.1)
+            past;
+        rim = λ f fin.
+            ⊎_elim
+            (λ (here : f ≡ c). (n, subst (λ (y : ℕ). IsParent nodes n y) (sym here) child, inl (inl refl)))
+            (λ (old : IsAmong f done).
+            let rim = g.rim f old in
+            (rim.0, rim.1, ⊎_elim (λ (h : IsAmong rim.0 (n ∷ stack)). inl h) (λ (low : (g : ℕ) × IsAmong g done × IsAbove nodes g rim.0). inr (low.0, inr low.1, low.2)) rim.2))
+            fin;
+      })
+      (λ f x fin above. (
+        λ h.
+            ⊎_elim
+            (λ (here : f ≡ c). absurd (held_free f x w here above (before, active, h)))
+            (λ (old : IsAmong f done). kept.shut w w before f x active old above (before, active, h))
+            fin,
+        λ v other holds.
+            ⊎_elim
+            (λ (here : f ≡ c). absurd (held_free f x v here above holds))
             (λ (old : IsAmong f done). kept.shut w v before f x active old above holds)
             fin,
       ))

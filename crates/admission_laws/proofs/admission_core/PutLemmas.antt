@@ -2,7 +2,7 @@
 use Rattle.std.proofs.Common.{◌≡◌, ◌≢◌, ℕ, Bool, List, Option, Some, None, if◌then◌else◌, refl, sym, ap, subst, ◌∙◌, ◌⊎◌, inl, inr, ⊎_elim, eq-eqb, ne_eqb}
 use Rattle.std.proofs.lemmas.Bool.{cases_eq}
 use Rattle.region_paths.specs.declared.elements.Elem.{Elem}
-use Rattle.admission_laws.specs.admission_core.States.{IsAmong, IsAbove, Activity, State, HoldsNode, NodeIsFree, held, finished, put_activity, with_activity}
+use Rattle.admission_laws.specs.admission_core.States.{IsAmong, IsAbove, IsApartBelow, Activity, State, HoldsNode, NodeIsFree, held, finished, record_effect, put_activity, with_activity}
 use Rattle.admission_laws.proofs.admission_core.Invariant.{Going, Kept}
 
 pub some_one : {A : Type 0} {x y : A} → Some x ≡ Some y → x ≡ y
@@ -38,15 +38,15 @@ Holds-put_none f w v n h =
     (λ other. (h.0, other.1, h.2))
     (put_was f w v None (Some h.0) h.1)
 
--- nobody holds the node, and it lies neither at nor below a finished node
+-- nobody holds the node, and if it lies at or below a finished node, it is apart from that walk's effect with all below it
 pub record IsFresh (nodes : List (List Elem)) (s : State) (n : ℕ) : Type 0 where
   pub free : NodeIsFree s n
-  pub clear : (v : ℕ) (b : Activity) (f : ℕ) → s.activities v ≡ Some b → IsAmong f (finished b.stage) → ¬ IsAbove nodes f n
+  pub clear : (v : ℕ) (b : Activity) (f : ℕ) → s.activities v ≡ Some b → IsAmong f (finished b.stage) → IsAbove nodes f n → IsApartBelow nodes (record_effect b.purpose) n
 
 pub put_keeps : (nodes : List (List Elem)) (s : State) (w : ℕ) (a : Activity) → Kept nodes s
     → ((n : ℕ) → IsAmong n (held a.stage) → HoldsNode s.activities w n ⊎ IsFresh nodes s n)
     → Going nodes s.tasks s.records w a
-    → ((f n : ℕ) → IsAmong f (finished a.stage) → IsAbove nodes f n → (¬ IsAmong n (held a.stage)) × ((v : ℕ) → v ≢ w → ¬ HoldsNode s.activities v n))
+    → ((f n : ℕ) → IsAmong f (finished a.stage) → IsAbove nodes f n → (IsAmong n (held a.stage) → IsApartBelow nodes (record_effect a.purpose) n) × ((v : ℕ) → v ≢ w → HoldsNode s.activities v n → IsApartBelow nodes (record_effect a.purpose) n))
     → Kept nodes (with_activity s w (Some a))
 put_keeps nodes s w a kept new going own = record {
   given = kept.given;
@@ -87,10 +87,12 @@ put_keeps nodes s w a kept new going own = record {
       ⊎_elim
       (λ (mine : (u ≡ w) × (Some a ≡ Some b)).
       let done = subst (λ (x : Activity). IsAmong f (finished x.stage)) (sym (some_one mine.1)) fin in
+      let apart : IsApartBelow nodes (record_effect a.purpose) n =
       ⊎_elim
       (λ (holder : (v ≡ w) × IsAmong n (held a.stage)). (own f n done above).0 holder.1)
       (λ (holder : (v ≢ w) × HoldsNode s.activities v n). (own f n done above).1 v holder.0 holder.1)
-      (Holds-put s.activities w v n a holds))
+      (Holds-put s.activities w v n a holds) in
+      subst (λ (x : Activity). IsApartBelow nodes (record_effect x.purpose) n) (some_one mine.1) apart)
       (λ (other : (u ≢ w) × (s.activities u ≡ Some b)).
       ⊎_elim
       (λ (holder : (v ≡ w) × IsAmong n (held a.stage)).
@@ -118,7 +120,7 @@ put_none_keeps nodes s w kept = record {
       (put_was s.activities w v None (Some b) is);
   shut = λ u v b f n is fin above holds.
       ⊎_elim
-      (λ (mine : (u ≡ w) × (None ≡ Some b)). not_some mine.1)
+      (λ (mine : (u ≡ w) × (None ≡ Some b)). absurd (not_some mine.1))
       (λ (other : (u ≢ w) × (s.activities u ≡ Some b)). kept.shut u v b f n other.1 fin above (Holds-put_none s.activities w v n holds))
       (put_was s.activities w u None (Some b) is);
 }

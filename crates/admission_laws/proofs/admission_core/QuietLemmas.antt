@@ -29,7 +29,7 @@ quiet_kept nodes s h = record {
   born = λ t task is unplaced. absurd (false≢true (sym (h.placed t task is) ∙ unplaced));
   owner = λ v w n holds _. absurd (not_some (sym (h.activities v) ∙ holds.1));
   going = λ w a is. absurd (not_some (sym (h.activities w) ∙ is));
-  shut = λ w v a f n is _ _ _. not_some (sym (h.activities w) ∙ is);
+  shut = λ w v a f n is _ _ _. absurd (not_some (sym (h.activities w) ∙ is));
 }
 
 -- the only task of a start

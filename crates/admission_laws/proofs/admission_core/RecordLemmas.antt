@@ -9,12 +9,12 @@ use Rattle.effect_tree.specs.Place.{IsSolid}
 use Rattle.wait_graph.specs.Chain.{none}
 use Rattle.wait_graph.specs.Waiting.{DescendsFrom, YieldsTo}
 use Rattle.admission_laws.specs.admission_core.Tasks.{IsLive}
-use Rattle.admission_laws.specs.admission_core.States.{IsAmong, IsAbove, ActivityIsOver, IsPlaceOf, Record, Purpose, Admit, Child, Remove, record_effect, Walks, held, Activity, State, RecordPasses, PassesFor}
-use Rattle.admission_laws.specs.admission_core.Events.{AllFinished}
-use Rattle.admission_laws.proofs.admission_core.TreeLemmas.{above_antisym, child_toward}
+use Rattle.admission_laws.specs.admission_core.States.{IsAmong, IsAbove, IsPlaceOf, Record, Purpose, Admit, Child, Remove, record_effect, Walks, held, Activity, State, IsApartBelow, RecordPasses, PassesFor}
+use Rattle.admission_laws.specs.admission_core.Events.{AllFinishedOrApart}
+use Rattle.admission_laws.proofs.admission_core.TreeLemmas.{above_antisym, above_refl, apart_lower, child_toward}
 use Rattle.admission_laws.proofs.admission_core.Invariant.{IsPast, Going, IsHome, Kept}
 use Rattle.admission_laws.proofs.admission_core.EffectLemmas.{mutual_interference, meeting_places, solid_place}
-use Rattle.admission_laws.proofs.admission_core.StageLemmas.{IsUnderFinished, past_holds, past_place}
+use Rattle.admission_laws.proofs.admission_core.StageLemmas.{HoldsOnWay, IsUnderFinished, past_holds, past_place}
 use Rattle.admission_laws.proofs.admission_core.PutLemmas.{some_one}
 
 swapped : {A B : Type 0} → A ⊎ B → B ⊎ A
@@ -75,7 +75,7 @@ module _ (nodes : List (List Elem)) (tree : IsTreeOfPaths nodes) (s : State) (ke
   module _ (w t place : ℕ) (e : Effect) (done : List ℕ)
       (active : s.activities w ≡ Some (record { purpose = Admit t e; place = place; stage = Walks (place ∷ []) done }))
       (pass : (r : Record) → IsAmong r s.records → r.node ≡ place → RecordPasses s.tasks t e r)
-      (below : IsSolid e.path ⊎ AllFinished nodes place done) where
+      (below : IsSolid e.path ⊎ AllFinishedOrApart nodes e place done) where
     abbrev own : Activity
     own = record { purpose = Admit t e; place = place; stage = Walks (place ∷ []) done }
 
@@ -98,9 +98,12 @@ module _ (nodes : List (List Elem)) (tree : IsTreeOfPaths nodes) (s : State) (ke
         ⊎_elim
         (λ (solid : IsSolid e.path).
         absurd (other (above_antisym nodes tree q.node place (solid_place nodes tree e q.effect place q.node solid going.place home (mutual_interference q.effect e i)) low)))
-        (λ (all : AllFinished nodes place done).
+        (λ (all : AllFinishedOrApart nodes e place done).
         let next = child_toward nodes tree place q.node (record { above = low; other = λ same. other (sym same) }) in
-        going.seen q among (inr (next.0, all next.0 next.1, next.2)) live i)
+        ⊎_elim
+        (λ (fin : IsAmong next.0 done). going.seen q among (inr (next.0, fin, next.2)) live i)
+        (λ (apart : IsApartBelow nodes e next.0). absurd (apart q.effect q.node home next.2 i))
+        (all next.0 next.1))
         below)
         (meeting_places nodes tree q.effect e q.node place home going.place i))
         (cases_eq q.node place)
@@ -108,23 +111,36 @@ module _ (nodes : List (List Elem)) (tree : IsTreeOfPaths nodes) (s : State) (ke
     -- no other activity for an effect that interferes has been past the place
     none_past : (v : ℕ) (b : Activity) (u : ℕ) (f : Effect) → v ≢ w → s.activities v ≡ Some b → b.purpose ≡ Admit u f → IsPast nodes b.stage place → Interferes e f → ⊥
     none_past v b u f other is purpose past i =
-        let under : IsUnderFinished nodes b.stage place → ⊥ = λ low. kept.shut v w b low.0 place is low.1 low.2 (own, active, inl refl) in
-        ⊎_elim
-        (λ (solid : IsSolid e.path).
         let g = kept.going v b is in
         let at = subst (λ (x : Purpose). IsPlaceOf nodes (record_effect x) b.place) purpose g.place in
+        let under : IsUnderFinished nodes b.stage place → ⊥ =
+        λ low.
+        let apart = subst (λ (x : Purpose). IsApartBelow nodes (record_effect x) place) purpose (kept.shut v w b low.0 place is low.1 low.2 (own, active, inl refl)) in
+        apart e place going.place (above_refl nodes tree place going.place.there) i in
+        let both : IsAmong place (held b.stage) → ⊥ = λ holds. other (kept.owner v w place (b, is, holds) (own, active, inl refl)) in
+        ⊎_elim
+        (λ (solid : IsSolid e.path).
         let low = solid_place nodes tree e f place b.place solid going.place at i in
         ⊎_elim
-        (λ (holds : IsAmong place (held b.stage)). other (kept.owner v w place (b, is, holds) (own, active, inl refl)))
+        (λ (holds : IsAmong place (held b.stage)). both holds)
         (λ low. under low)
         (past_place nodes tree b.place b.stage place g.place.there g.way low past))
-        (λ (all : AllFinished nodes place done).
+        (λ (all : AllFinishedOrApart nodes e place done).
         ⊎_elim
-        (λ (over : (last : ℕ) × IsAmong last (held b.stage) × ActivityIsOver nodes place last).
+        (λ (holds : IsAmong place (held b.stage)). both holds)
+        (λ (rest : HoldsOnWay nodes b.place b.stage place ⊎ IsUnderFinished nodes b.stage place).
+        ⊎_elim
+        (λ (over : HoldsOnWay nodes b.place b.stage place).
         let next = child_toward nodes tree place over.0 over.2 in
-        kept.shut w v own next.0 over.0 active (all next.0 next.1) next.2 (b, is, over.1))
-        (λ low. under low)
-        (past_holds nodes b.stage place past))
+        let apart : IsApartBelow nodes e over.0 =
+        ⊎_elim
+        (λ (fin : IsAmong next.0 done). kept.shut w v own next.0 over.0 active fin next.2 (b, is, over.1))
+        (λ (child : IsApartBelow nodes e next.0). apart_lower nodes tree e next.0 over.0 next.2 child)
+        (all next.0 next.1) in
+        apart f b.place at over.3 (mutual_interference e f i))
+        (λ (low : IsUnderFinished nodes b.stage place). under low)
+        rest)
+        (past_holds nodes tree b.place b.stage place g.place.there g.way past))
         below
 
     for_other : (v : ℕ) (b : Activity) (purpose : Purpose) → v ≢ w → s.activities v ≡ Some b → b.purpose ≡ purpose → IsPast nodes b.stage place → PassesFor s.tasks purpose new

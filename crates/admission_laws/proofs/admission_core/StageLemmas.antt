@@ -1,13 +1,13 @@
 -- What an activity that has been past a node holds or has finished.
-use Rattle.std.proofs.Common.{ℕ, ◌<◌, List, [], ◌∷◌, length, refl, ◌⊎◌, inl, inr}
+use Rattle.std.proofs.Common.{ℕ, ◌<◌, List, [], ◌∷◌, length, refl, sym, subst, ◌⊎◌, inl, inr, ⊎_elim}
 use Rattle.region_paths.specs.declared.elements.Elem.{Elem}
 use Rattle.prefix_tree.specs.Nodes.{IsTreeOfPaths}
 use Rattle.admission_laws.specs.admission_core.Tasks.{Tasks}
 use Rattle.admission_laws.specs.admission_core.States.{IsAmong, IsAbove, ActivityIsOver, Purpose, Stage, Descends, Steps, Walks, Leaves, held, finished}
 use Rattle.admission_laws.specs.admission_core.Events.{MayBegin}
-use Rattle.admission_laws.proofs.admission_core.TreeLemmas.{above_antisym, over_above, above_over}
+use Rattle.admission_laws.proofs.admission_core.TreeLemmas.{above_antisym, above_refl, over_above, above_over, over_parent}
 use Rattle.admission_laws.proofs.admission_core.StackLemmas.{stack_has}
-use Rattle.admission_laws.proofs.admission_core.Invariant.{IsOnWay, IsPast, IsMine}
+use Rattle.admission_laws.proofs.admission_core.Invariant.{IsStack, IsOnWay, IsPast, IsMine}
 
 -- x lies at or below a finished node
 abbrev pub IsUnderFinished : List (List Elem) → Stage → ℕ → Type 0
@@ -19,16 +19,33 @@ past_mine nodes ts w purpose (Steps n c) x mine past = mine
 past_mine nodes ts w purpose (Walks stack done) x mine past = mine
 past_mine nodes ts w purpose (Leaves ns) x mine past = absurd past
 
--- it holds a node below x, or x lies under a finished node
-pub past_holds : (nodes : List (List Elem)) (stage : Stage) (x : ℕ) → IsPast nodes stage x → ((last : ℕ) × IsAmong last (held stage) × ActivityIsOver nodes x last) ⊎ IsUnderFinished nodes stage x
-past_holds nodes (Descends n) x past = inl (n, inl refl, past)
-past_holds nodes (Steps n c) x past = inl (c, inl refl, past)
-past_holds nodes (Walks [] done) x past = absurd past
-past_holds nodes (Walks (n ∷ stack) done) x (inl over) = inl (n, inl refl, over)
-past_holds nodes (Walks (n ∷ stack) done) x (inr low) = inr low
-past_holds nodes (Leaves ns) x past = absurd past
+-- it holds a node below x from which the way goes on to its place, or which is its place
+abbrev pub HoldsOnWay : List (List Elem) → ℕ → Stage → ℕ → Type 0
+HoldsOnWay nodes place stage x = (h : ℕ) × IsAmong h (held stage) × ActivityIsOver nodes x h × IsAbove nodes h place
 
 module _ (nodes : List (List Elem)) (tree : IsTreeOfPaths nodes) where
+  -- what lies strictly above the last node of a stack is in the stack, or lies strictly above its place
+  stack_past : (place n : ℕ) (stack : List ℕ) (x : ℕ) → IsStack nodes place (n ∷ stack) → ActivityIsOver nodes x n → IsAmong x (n ∷ stack) ⊎ (IsAmong place (n ∷ stack) × ActivityIsOver nodes x place)
+  stack_past place n [] x h over = inr (inl (sym h), subst (λ (y : ℕ). ActivityIsOver nodes x y) h over)
+  stack_past place n (m ∷ rest) x h over =
+      ⊎_elim
+      (λ same. inl (inr (inl same)))
+      (λ higher. ⊎_elim (λ there. inl (inr there)) (λ past. inr (inr past.0, past.1)) (stack_past place m rest x h.1 higher))
+      (over_parent nodes tree x m n h.0 over)
+
+  -- it holds x, or a node below x on the way to its place, or x lies under a finished node
+  pub past_holds : (place : ℕ) (stage : Stage) (x : ℕ) → place < length nodes → IsOnWay nodes place stage → IsPast nodes stage x → IsAmong x (held stage) ⊎ (HoldsOnWay nodes place stage x ⊎ IsUnderFinished nodes stage x)
+  past_holds place (Descends n) x there way past = inr (inl (n, inl refl, past, way.above))
+  past_holds place (Steps n c) x there way past = inr (inl (c, inl refl, past, way.1))
+  past_holds place (Walks [] done) x there way past = absurd past
+  past_holds place (Walks (n ∷ stack) done) x there way (inl over) =
+      ⊎_elim
+      (λ among. inl among)
+      (λ past. inr (inl (place, past.0, past.1, above_refl nodes tree place there)))
+      (stack_past place n stack x way over)
+  past_holds place (Walks (n ∷ stack) done) x there way (inr low) = inr (inr low)
+  past_holds place (Leaves ns) x there way past = absurd past
+
   -- what lies above x has been passed too, or x lies under a finished node
   pub past_higher : (stage : Stage) (x y : ℕ) → IsAbove nodes y x → IsPast nodes stage x → IsPast nodes stage y ⊎ IsUnderFinished nodes stage x
   past_higher (Descends n) x y above past = inl (above_over nodes tree y x n above past)

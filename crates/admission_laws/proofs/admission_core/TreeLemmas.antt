@@ -5,7 +5,8 @@ use Rattle.region_paths.specs.declared.elements.Elem.{Elem}
 use Rattle.prefix_tree.specs.Prefix.{IsPrefix}
 use Rattle.prefix_tree.specs.Nodes.{path_of, IsParent, IsTreeOfPaths}
 use Rattle.prefix_tree.proofs.PrefixLemmas.{IsPrefix-refl, IsPrefix-trans, IsPrefix-antisym, IsPrefix-snoc}
-use Rattle.admission_laws.specs.admission_core.States.{IsAbove, ActivityIsOver}
+use Rattle.effect_sets.specs.declared.effects.Effect.{Effect}
+use Rattle.admission_laws.specs.admission_core.States.{IsAbove, ActivityIsOver, IsApartBelow}
 
 module _ (nodes : List (List Elem)) (tree : IsTreeOfPaths nodes) where
   pub above_refl : (n : ℕ) → n < length nodes → IsAbove nodes n n
@@ -16,6 +17,10 @@ module _ (nodes : List (List Elem)) (tree : IsTreeOfPaths nodes) where
 
   pub above_antisym : (a b : ℕ) → IsAbove nodes a b → IsAbove nodes b a → a ≡ b
   above_antisym a b h k = tree.once a b h.upper h.lower (IsPrefix-antisym (path_of nodes a) (path_of nodes b) h.prefix k.prefix)
+
+  -- what is apart from an effect with all that lies below it has nothing below it that is not
+  pub apart_lower : (e : Effect) (m n : ℕ) → IsAbove nodes m n → IsApartBelow nodes e m → IsApartBelow nodes e n
+  apart_lower e m n above apart d k at low = apart d k at (above_trans m n k above low)
 
   pub parent_above : (m n : ℕ) → IsParent nodes m n → IsAbove nodes m n
   parent_above m n h = record {

@@ -8,7 +8,7 @@ use Rattle.prefix_tree.specs.Nodes.{IsParent}
 use Rattle.effect_tree.specs.Place.{IsSolid}
 use Rattle.wait_graph.specs.Waiting.{SpawnedBy}
 use Rattle.admission_laws.specs.admission_core.Tasks.{Task, Tasks, Made, Taken, New, IsTask, IsLive}
-use Rattle.admission_laws.specs.admission_core.States.{IsAmong, IsAbove, IsPlaceOf, Record, Purpose, Admit, Child, Remove, record_effect, Stage, Descends, Steps, Walks, Leaves, held, Activity, State, NodeIsFree, AllPassAt, with_activity, with_stage}
+use Rattle.admission_laws.specs.admission_core.States.{IsAmong, IsAbove, IsPlaceOf, Record, Purpose, Admit, Child, Remove, record_effect, Stage, Descends, Steps, Walks, Leaves, held, Activity, State, NodeIsFree, AllPassAt, IsApartBelow, with_activity, with_stage}
 
 -- the stage of an activity that holds node n alone, on its way down or at its place
 abbrev pub HasCome : ℕ → ℕ → Stage → Type 0
@@ -21,9 +21,9 @@ MayBegin ts w (Admit t e) =
 MayBegin ts w (Child t e) = Unit {0}
 MayBegin ts w (Remove t e) = Unit {0}
 
--- all children of node n are among the nodes
-abbrev pub AllFinished : List (List Elem) → ℕ → List ℕ → Type 0
-AllFinished nodes n finished = (c : ℕ) → IsParent nodes n c → IsAmong c finished
+-- each child of node n is among the nodes, or nothing that has its place at or below it interferes with the effect
+abbrev pub AllFinishedOrApart : List (List Elem) → Effect → ℕ → List ℕ → Type 0
+AllFinishedOrApart nodes e n finished = (c : ℕ) → IsParent nodes n c → IsAmong c finished ⊎ IsApartBelow nodes e c
 
 -- worker w, which holds nothing, takes the lock of the root
 pub record Begins (nodes : List (List Elem)) (s : State) (w : ℕ) (a : Activity) : Type 0 where
@@ -61,23 +61,32 @@ pub record WalksDown (nodes : List (List Elem)) (s : State) (w : ℕ) (a : Activ
   pub unfinished : ¬ IsAmong c done
   pub pass : AllPassAt s a.purpose n
 
--- the last node c isn't the place, each record there passes, and all of its children are finished: it is given and
--- finished
+-- the last node c isn't the place, each record there passes, and each of its children is finished or apart from the
+-- effect: it is given and finished
 pub record WalksUp (nodes : List (List Elem)) (s : State) (w : ℕ) (a : Activity) (c n : ℕ) (stack done : List ℕ) : Type 0 where
   pub active : s.activities w ≡ Some a
   pub stage : a.stage ≡ Walks (c ∷ n ∷ stack) done
   pub pass : AllPassAt s a.purpose c
-  pub below : AllFinished nodes c done
+  pub below : AllFinishedOrApart nodes (record_effect a.purpose) c done
 
--- at its place each record passes, and the effect is solid or all children are finished: a record of the task stands
--- there
+-- The last node of a walk is n. No record stands at a child of it or below that child, and no lock there is held: the
+-- child is finished as it is.
+pub record PassesBy (nodes : List (List Elem)) (s : State) (w : ℕ) (a : Activity) (n c : ℕ) (stack done : List ℕ) : Type 0 where
+  pub active : s.activities w ≡ Some a
+  pub stage : a.stage ≡ Walks (n ∷ stack) done
+  pub child : IsParent nodes n c
+  pub free : (m : ℕ) → IsAbove nodes c m → NodeIsFree s m
+  pub bare : (r : Record) → IsAmong r s.records → ¬ IsAbove nodes c r.node
+
+-- at its place each record passes, and the effect is solid or each child is finished or apart from the effect: a record
+-- of the task stands there
 pub record Places (nodes : List (List Elem)) (s : State) (w : ℕ) (a : Activity) (t : ℕ) (e : Effect)
     (done : List ℕ) : Type 0 where
   pub active : s.activities w ≡ Some a
   pub purpose : a.purpose ≡ Admit t e
   pub stage : a.stage ≡ Walks (a.place ∷ []) done
   pub pass : AllPassAt s a.purpose a.place
-  pub below : IsSolid e.path ⊎ AllFinished nodes a.place done
+  pub below : IsSolid e.path ⊎ AllFinishedOrApart nodes e a.place done
 
 -- a record of a spawned child that is still to be placed stands at the place; the worker has the child's first turn and
 -- its parent's turn
@@ -111,6 +120,8 @@ pub data TreeEvent (nodes : List (List Elem)) (s next : State) : Type 0 where
       → WalksDown nodes s w a t e m c stack done
       → next ≡ with_stage s w a (Walks (c ∷ m ∷ stack) done) → TreeEvent nodes s next
   WalkUp : (w : ℕ) (a : Activity) (c m : ℕ) (stack done : List ℕ) → WalksUp nodes s w a c m stack done
+      → next ≡ with_stage s w a (Walks (m ∷ stack) (c ∷ done)) → TreeEvent nodes s next
+  PassBy : (w : ℕ) (a : Activity) (m c : ℕ) (stack done : List ℕ) → PassesBy nodes s w a m c stack done
       → next ≡ with_stage s w a (Walks (m ∷ stack) (c ∷ done)) → TreeEvent nodes s next
   Place : (w : ℕ) (a : Activity) (t : ℕ) (e : Effect) (done : List ℕ) → Places nodes s w a t e done
       → next ≡ with_stage (record s { records = record { task = t; effect = e; node = a.place } ∷ s.records }) w a

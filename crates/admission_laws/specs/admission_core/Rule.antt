@@ -6,7 +6,7 @@ use Rattle.effect_sets.specs.Interference.{Interferes}
 use Rattle.wait_graph.specs.Waiting.{SpawnedBy, YieldsTo}
 use Rattle.admission_laws.specs.admission_core.Tasks.{Task, Tasks, Made, Enabled, Taken, New, IsTask, TaskHasStatus, IsLive, TasksInterfere}
 use Rattle.admission_laws.specs.admission_core.Conditions.{MeetsConditions}
-use Rattle.admission_laws.specs.admission_core.States.{IsAmong, IsAbove, ActivityIsOver, IsPlaceOf, Record, Admit, Stage, Descends, Steps, Walks, finished, Activity, State, HoldsNode, RecordPasses}
+use Rattle.admission_laws.specs.admission_core.States.{IsAmong, IsAbove, ActivityIsOver, IsApartBelow, IsPlaceOf, Record, record_effect, Admit, Stage, Descends, Steps, Walks, finished, Activity, State, HoldsNode, RecordPasses}
 use Rattle.admission_laws.specs.admission_core.Events.{TreeEvent}
 use Rattle.admission_laws.specs.admission_core.Entries.{AllStand, TaskEvent}
 
@@ -58,18 +58,21 @@ DescentsSawPass nodes s =
     → IsAmong r s.records → ActivityIsOver nodes r.node last → RecordPasses s.tasks t e r
 
 -- for a walk of t, each record strictly above the last node of its stack passes (those strictly above its place, and those
--- at nodes of the stack before the last), and so does each record at a finished node or below one
+-- at nodes of the stack before the last), and so does each record at a finished node or below one, and each at a node that
+-- is apart from the effect with all that lies below it
 abbrev pub WalksSawPass : List (List Elem) → State → Type 0
 WalksSawPass nodes s =
     (w t : ℕ) (e : Effect) (last : ℕ) (stack done : List ℕ) (r : Record) → Admitting s w t e (Walks (last ∷ stack) done)
-    → IsAmong r s.records → ActivityIsOver nodes r.node last ⊎ ((f : ℕ) × IsAmong f done × IsAbove nodes f r.node)
+    → IsAmong r s.records
+    → ActivityIsOver nodes r.node last ⊎ (((f : ℕ) × IsAmong f done × IsAbove nodes f r.node) ⊎ IsApartBelow nodes e r.node)
     → RecordPasses s.tasks t e r
 
--- no lock of a node at or below a finished node of a walk is held
+-- of the nodes at or below a finished node of a walk no lock is held, except of those that are apart from the walk's effect
+-- with all that lies below them
 abbrev pub FinishedAreFree : List (List Elem) → State → Type 0
 FinishedAreFree nodes s =
     (w v : ℕ) (a : Activity) (f n : ℕ) → s.activities w ≡ Some a → IsAmong f (finished a.stage) → IsAbove nodes f n
-    → ¬ HoldsNode s.activities v n
+    → HoldsNode s.activities v n → IsApartBelow nodes (record_effect a.purpose) n
 
 -- no lock is held by two workers
 abbrev pub LocksAreHeldOnce : State → Type 0

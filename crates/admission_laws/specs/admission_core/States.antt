@@ -32,6 +32,10 @@ pub record IsPlaceOf (nodes : List (List Elem)) (e : Effect) (n : ℕ) : Type 0 
   pub there : n < length nodes
   pub place : IsPlace nodes e.path (path_of nodes n)
 
+-- What has its place at node n or below it does not interfere with the effect, whatever it is.
+abbrev pub IsApartBelow : List (List Elem) → Effect → ℕ → Type 0
+IsApartBelow nodes e n = (d : Effect) (m : ℕ) → IsPlaceOf nodes d m → IsAbove nodes n m → ¬ Interferes d e
+
 -- an effect of a task, which stands at a node
 pub record Record : Type 0 where
   pub task : ℕ

@@ -63,7 +63,8 @@ stopped_renumbered to after = record {
 -- the new numbers tell the task that the frame waits for apart from its other unjoined children
 abbrev pub TellsApart : Numbering → Frame → Type 0
 TellsApart to frame =
-    (on child : ℕ) → row_awaited frame.next ≡ Some on → Contains frame.out.items child → to child ≡ to on → child ≡ on
+    (on child : ℕ) → row_awaited frame.next ≡ Some on → Contains frame.out.items child → to child ≡ to on
+    → child ≡ on
 
 -- the two numberings agree on the tasks of the frame
 pub record SameNumbersIn (to other : Numbering) (frame : Frame) : Type 0 where

@@ -33,7 +33,8 @@ AreSteps p lim journal [] [] = Unit {0}
 AreSteps p lim journal [] (step ∷ steps) = ⊥
 AreSteps p lim journal (s ∷ segments) [] = ⊥
 AreSteps p lim journal (s ∷ segments) (step ∷ steps) =
-    (step.cells ≡ (state_before p lim journal s.key).cells) × (step_accesses p step ≡ s.accesses) × (step.frame.prints ≡ [])
+    (step.cells ≡ (state_before p lim journal s.key).cells) × (step_accesses p step ≡ s.accesses)
+    × (step.frame.prints ≡ [])
     × AreSteps p lim journal segments steps
 
 -- the segment at this place spawned no task
@@ -110,7 +111,8 @@ pub record IsElidedAsRun (p : Program) (lim : Bounds) (journal : List Entry)
   pub alike : ExecuteAlike p lim journal row from count segments executed
   pub children : List ℕ
   pub spawned : AreSpawned p lim journal executed children
-  pub elides : (to : Numbering) → IsInjective to → to 0 ≡ t → StepsAreNumbered to 1 children → tasks_after 1 children ≤ lim.tasks
+  pub elides : (to : Numbering) → IsInjective to → to 0 ≡ t → StepsAreNumbered to 1 children
+      → tasks_after 1 children ≤ lim.tasks
       → ElidesAsRun p lim journal t row from count task args (tasks_after 1 children)
 
 -- so it is for each deterministic task that is done at the end, if its first segment starts from the first frame of a
@@ -138,7 +140,8 @@ DoneTasksElideAsRun p lim journal =
 -- each deterministic task that is done at the end, with its own declaration and its own arguments
 abbrev pub DeterministicTasksElideAsRun : Program → Bounds → List Entry → Type 0
 DeterministicTasksElideAsRun p lim journal =
-    (t first from count : ℕ) (row : TaskRow) → IsRow (state_after p lim journal) t row → row.status ≡ Done → IsDeterministic p row
+    (t first from count : ℕ) (row : TaskRow) → IsRow (state_after p lim journal) t row → row.status ≡ Done
+    → IsDeterministic p row
     → 1 ≤ lim.tasks → IsNextSegment journal t 0 first → from ≤ first → IsEnabledThroughout p lim journal t from count
     → HasStatus (state_before p lim journal (from + count)) t Done
     → (upto : ℕ) × ElidesAsRun p lim journal t row from count row.decl row.args upto

@@ -48,7 +48,8 @@ pub fn segments_do_the_same_on_what_they_read()
     ensures segment { (p : Program) (to : Numbering) (frame other : Frame) (cells others : List ℤ) → IsReady p frame
         → SameButNumbers to frame other
         → Agrees others (segment p other cells).accesses → DoesTheSame p to frame other cells others }
-    ensures done { (to : Numbering) (stop : Stop) (value : ℤ) → stop_renumbered to stop ≡ Done value → stop ≡ Done value }
+    ensures done { (to : Numbering) (stop : Stop) (value : ℤ) → stop_renumbered to stop ≡ Done value
+        → stop ≡ Done value }
     ensures joins { (to : Numbering) (stop : Stop) (on : ℕ) → stop_renumbered to stop ≡ Joins on
         → (child : ℕ) × (stop ≡ Joins child) × (to child ≡ on) }
     ensures makes { (to : Numbering) (stop : Stop)

@@ -33,7 +33,7 @@ pub record IsBehind (Looks : ℕ → Type 0) (st : State) (b : Books) (t : ℕ) 
 
 -- The books are in step with the state, if those tasks are looked at for which `Looks` holds: a task with a legal move is
 -- one of them, and so is one that was made, is held back by no bar, and is not behind one of them; who waits for a task is
--- on its list; the tasks of each group are alike; and the list of the enabled tasks is that of the state.
+-- on its list; the tasks of each group are alike; and the enabled tasks are those of the state.
 pub record KeepsBy (Looks : ℕ → Type 0) (st : State) (b : Books) : Type 0 where
   pub runs : (t : ℕ) → MayRun st t → Looks t
   pub made : (t : ℕ) → HasStatus st t Made → Looks t ⊎ (IsHeldBack st b t ⊎ IsBehind Looks st b t)

@@ -12,7 +12,7 @@ use Rattle.floor_crew.specs.declared.at_rest.RunAtRest.{RunAtRest}
 use Rattle.floor_crew.specs.declared.looking.Found.{Found}
 use Rattle.floor_crew.specs.declared.looking.Found.TheVariants.{Admissible, Held, Runs, Waits, Over}
 
--- The journal is legal for the program under the limits, and leads to the state. The list is that of its enabled tasks.
+-- The journal is legal for the program under the limits, and leads to the state. The enabled tasks are those of the state.
 pub record IsSound (p : Program) (lim : Bounds) (run : RunAtRest) : Type 0 where
   pub run_is : IsRun p lim run.rest.journal run.rest.state
   pub listing : IsListing run.rest.state run.enabled

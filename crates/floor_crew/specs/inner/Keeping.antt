@@ -36,9 +36,11 @@ pub record IsShapeOf (p : Program) (nodes : List (List Elem)) : Type 0 where
 -- by the outcome of the run so far: the step takes the lowest legal move, if the run can go on, and else changes nothing
 abbrev pub Steps : Program → Bounds → RunAtRest → RunAtRest → Quietly → Type 0
 Steps p lim old new Faulted =
-    (new ≡ old) × ((task : ℕ) × (kind : FaultKind) × (place : Place) × IsOutcome old.rest.state (outcomes.Fault task kind place))
+    (new ≡ old)
+    × ((task : ℕ) × (kind : FaultKind) × (place : Place) × IsOutcome old.rest.state (outcomes.Fault task kind place))
 Steps p lim old new AllDone = (new ≡ old) × IsOutcome old.rest.state outcomes.AllDone
 Steps p lim old new (Stuck cycle) = (new ≡ old) × IsOutcome old.rest.state outcomes.Stuck × IsStuckCycle old.rest.state cycle
 Steps p lim old new Moved =
     IsOutcome old.rest.state outcomes.Unfinished
-    × ((mv : Move) × IsLowest old.rest.state mv × (new.rest.journal ≡ old.rest.journal ++ entry_of p lim old.rest.state mv ∷ []))
+    × ((mv : Move) × IsLowest old.rest.state mv
+    × (new.rest.journal ≡ old.rest.journal ++ entry_of p lim old.rest.state mv ∷ []))

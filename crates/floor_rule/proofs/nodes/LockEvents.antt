@@ -1,6 +1,7 @@
 -- The steps on locks are events of the core, and keep the rule.
 use Rattle.std.proofs.Common.{◌≡◌, ◌≢◌, ◌↔◌, ℕ, List, [], ◌∷◌, Option, Some, None, if◌then◌else◌, refl, sym, ap, subst, ◌∙◌, inl, inr, ⊎_elim}
 use Rattle.std.specs.Prelude.{◌==◌, Contains}
+use Rattle.std.proofs.lemmas.Bool.{cases_eq}
 use Rattle.region_paths.specs.declared.elements.Elem.{Elem}
 use Rattle.effect_sets.specs.declared.effects.Effect.{Effect}
 use Rattle.twe_base.specs.Limits.{Bounds}
@@ -13,14 +14,15 @@ use Rattle.seg_journal.specs.declared.numbered.NumberedEntry.{NumberedEntry}
 use Rattle.seg_journal.specs.Merging.{journal_of}
 use Rattle.floor_rule.specs.Floors.{Floor, put}
 use Rattle.floor_rule.proofs.Puts.{none_some}
-use Rattle.admission_laws.specs.admission_core.States.{State, Activity, HoldsNode, IsAmong, NodeIsFree, AllPassAt, Record, Purpose, Admit, Child, Remove, Stage, Descends, Steps, Walks, Leaves, held, with_activity}
-use Rattle.admission_laws.specs.admission_core.Events.{HasCome, MayBegin, TreeEvent, Begin, Down, Give, WalkDown, WalkUp, Bar, GiveBack, End}
+use Rattle.admission_laws.specs.admission_core.States.{State, Activity, HoldsNode, IsAbove, IsAmong, NodeIsFree, AllPassAt, Record, Purpose, Admit, Child, Remove, Stage, Descends, Steps, Walks, Leaves, held, with_activity}
+use Rattle.admission_laws.specs.admission_core.Events.{HasCome, MayBegin, TreeEvent, Begin, Down, Give, WalkDown, WalkUp, PassBy, Bar, GiveBack, End}
 use Rattle.admission_laws.proofs.admission_core.EventsKeep.{reached_kept}
 use Rattle.admission_laws.proofs.admission_core.Invariant.{IsMine, Kept}
+use Rattle.admission_laws.proofs.admission_core.TreeLemmas.{child_toward}
 use Rattle.admission_laws.specs.admission_core.Rule.{in_tree}
 use Rattle.admission_laws.specs.TasksOf.{status_of}
-use Rattle.floor_rule.specs.nodes.Fitting.{IsDistinct, IsUnlocked, KeptFits, LockFits}
-use Rattle.floor_rule.specs.nodes.LockSteps.{LocksNode, MayEnter, MayGiveNodeBack, MayGiveParent, MayGoDown, MaySetOut, MayWalkDown, MayWalkUp, PassesHere, SeesPass, UnlocksNode, after_turning, stopped}
+use Rattle.floor_rule.specs.nodes.Fitting.{ContentFits, IsDistinct, IsUnlocked, KeptFits, LockFits}
+use Rattle.floor_rule.specs.nodes.LockSteps.{LocksNode, MayEnter, MayGiveNodeBack, MayGiveParent, MayGoDown, MayPassBy, MaySetOut, MayWalkDown, MayWalkUp, PassesHere, SeesPass, UnlocksNode, after_turning, stopped}
 use Rattle.floor_rule.specs.nodes.Rule.{IsOneEvent, KeepsBoth, KeepsNodes}
 use Rattle.floor_rule.specs.nodes.Trees.{Tree, Unlocked}
 use Rattle.floor_rule.proofs.nodes.Holding.{held_of, home_content, kept_content}
@@ -292,6 +294,45 @@ module _ (nodes : List (List Elem)) (p : Program) (lim : Bounds) (log : List Num
               (λ n. (holds_all i a (held a.stage) active refl n).0) (λ n. (holds_all i a (held a.stage) active refl n).1) (once_held i a (held a.stage) active refl);
           contents = contents_same f.workers tree.activities tree.locks tree.contents tree.kept core.records keep.locks keep.contents i (stopped a)
               (λ n. (holds_all i a (held a.stage) active refl n).0) (λ n. (holds_all i a (held a.stage) active refl n).1) (once_held i a (held a.stage) active refl);
+          records = keep.records;
+          known = keep.known;
+        },
+      )
+
+  -- a child without children at which no record lies is passed by
+  pub passing_by : (i : ℕ) (a : Activity) (n c : ℕ) (stack done : List ℕ) → MayPassBy nodes tree i a n c stack done → tree.contents c ≡ Some []
+      → IsOneEvent nodes p lim log f core (after_turning tree i (Some (record a { stage = Walks (n ∷ stack) (c ∷ done) })))
+  passing_by i a n c stack done may empty =
+      let next : Activity = record a { stage = Walks (n ∷ stack) (c ∷ done) } in
+      let fits = subst (ContentFits core.records tree.activities c) empty (keep.contents.homes c) in
+      let only : (m : ℕ) → IsAbove nodes c m → c ≡ m =
+      λ m above.
+      ⊎_elim
+      (λ (same : c ≡ m). same)
+      (λ (other : c ≢ m). let down = child_toward nodes both.paths c m (record { above = above; other = other }) in absurd (may.lowest down.0 down.1))
+      (cases_eq c m) in
+      let event : TreeEvent nodes core (with_activity core i (Some next)) =
+      PassBy i a n c stack done
+      (record {
+        active = active_core i a may.active;
+        stage = may.stage;
+        child = may.child;
+        free = λ m above j holds. fits.0 j (holds_tree j c (subst (λ (x : ℕ). HoldsNode core.activities j x) (sym (only m above)) holds));
+        bare = λ r among above. (fits.1 r).1 (among, sym (only r.node above));
+      })
+      refl in
+      let holds = holds_all i a (n ∷ stack) may.active (ap held may.stage) in
+      let once = once_held i a (n ∷ stack) may.active (ap held may.stage) in (
+        with_activity core i (Some next),
+        event,
+        record {
+          reached = in_tree keep.reached event;
+          tasks = keep.tasks;
+          activities = activities_put i (Some next);
+          locks = locks_same f.workers tree.activities tree.locks tree.contents tree.kept core.records keep.locks keep.contents i next
+              (λ m. (holds m).0) (λ m. (holds m).1) once;
+          contents = contents_same f.workers tree.activities tree.locks tree.contents tree.kept core.records keep.locks keep.contents i next
+              (λ m. (holds m).0) (λ m. (holds m).1) once;
           records = keep.records;
           known = keep.known;
         },

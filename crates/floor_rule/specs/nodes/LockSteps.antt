@@ -13,7 +13,7 @@ use Rattle.floor_rule.specs.declared.view.HeldTurn.{HeldTurn}
 use Rattle.floor_rule.specs.Floors.{Floor, put}
 use Rattle.floor_rule.specs.Fitting.{Turns}
 use Rattle.admission_laws.specs.admission_core.States.{State, Activity, Record, Purpose, Admit, Child, Remove, Stage, Descends, Steps, Walks, Leaves, IsAbove, IsAmong, IsPlaceOf, record_effect, held}
-use Rattle.admission_laws.specs.admission_core.Events.{AllFinished, HasCome}
+use Rattle.admission_laws.specs.admission_core.Events.{AllFinishedOrApart, HasCome}
 use Rattle.floor_rule.specs.nodes.Rule.{IsOneEvent}
 use Rattle.floor_rule.specs.nodes.Trees.{Unlocked, Locked, Tree, WaitFact, put_kept}
 
@@ -96,6 +96,14 @@ pub record MayWalkDown (nodes : List (List Elem)) (tree : Tree) (i : ℕ) (a : A
   pub unfinished : ¬ IsAmong c done
   pub pass : SeesPass tree i a.purpose n
 
+-- Seat i may pass by node c, which has no children, if nobody has locked it and no record stands at it. The last node of its
+-- walk is the parent of c.
+pub record MayPassBy (nodes : List (List Elem)) (tree : Tree) (i : ℕ) (a : Activity) (n c : ℕ) (stack done : List ℕ) : Type 0 where
+  pub active : tree.activities i ≡ Some a
+  pub stage : a.stage ≡ Walks (n ∷ stack) done
+  pub child : IsParent nodes n c
+  pub lowest : (m : ℕ) → ¬ IsParent nodes c m
+
 -- Unlocking.
 
 -- seat i has unlocked node n, at which these records lie, and does this from now on
@@ -120,14 +128,14 @@ pub record MayGiveParent (tree : Tree) (i : ℕ) (a : Activity) (n c : ℕ) (sta
   pub at : a.stage ≡ Steps n c
   pub come : HasCome a.place c stage
 
--- Seat i may unlock node c, the last of a walk and not its place: each record there passes, and all of its children are
--- finished.
+-- Seat i may unlock node c, the last of a walk and not its place: each record there passes, and each of its children is
+-- finished or apart from the effect.
 pub record MayWalkUp (nodes : List (List Elem)) (tree : Tree) (i : ℕ) (a : Activity) (c n : ℕ)
     (stack done : List ℕ) : Type 0 where
   pub active : tree.activities i ≡ Some a
   pub stage : a.stage ≡ Walks (c ∷ n ∷ stack) done
   pub pass : SeesPass tree i a.purpose c
-  pub below : AllFinished nodes c done
+  pub below : AllFinishedOrApart nodes (record_effect a.purpose) c done
 
 -- seat i, which only gives back what it holds, may unlock node n, the next of those
 pub record MayGiveNodeBack (tree : Tree) (i : ℕ) (a : Activity) (n : ℕ) (others : List ℕ) : Type 0 where

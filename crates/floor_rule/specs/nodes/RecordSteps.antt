@@ -8,7 +8,7 @@ use Rattle.floor_rule.specs.declared.view.HeldTurn.{HeldTurn}
 use Rattle.floor_rule.specs.Floors.{put}
 use Rattle.floor_rule.specs.Fitting.{Turns}
 use Rattle.admission_laws.specs.admission_core.States.{Activity, Record, Admit, Child, Remove, Walks, IsAmong}
-use Rattle.admission_laws.specs.admission_core.Events.{AllFinished}
+use Rattle.admission_laws.specs.admission_core.Events.{AllFinishedOrApart}
 use Rattle.floor_rule.specs.nodes.LockSteps.{PassesHere, stopped}
 use Rattle.floor_rule.specs.nodes.Trees.{Tree, put_kept}
 
@@ -38,7 +38,8 @@ abbrev pub record_here : ℕ → Effect → Activity → Record
 record_here t e a = record { task = t; effect = e; node = a.place }
 
 -- Seat i may place the record of a task that is to be admitted. It is at the effect's place, whose content is this and does
--- not have the record. It knows that each record there passes, and the effect has no wildcard or all children are finished.
+-- not have the record. It knows that each record there passes, and the effect has no wildcard, or each child is finished or
+-- apart from the effect.
 pub record MayPlace (nodes : List (List Elem)) (tree : Tree) (i : ℕ) (a : Activity) (t : ℕ) (e : Effect) (done : List ℕ)
     (content : List Record) : Type 0 where
   pub active : tree.activities i ≡ Some a
@@ -47,7 +48,7 @@ pub record MayPlace (nodes : List (List Elem)) (tree : Tree) (i : ℕ) (a : Acti
   pub has : tree.kept i a.place ≡ Some content
   pub missing : ¬ IsAmong (record_here t e a) content
   pub pass : (r : Record) → IsAmong r content → PassesHere (tree.waits i) a.purpose r
-  pub below : IsSolid e.path ⊎ AllFinished nodes a.place done
+  pub below : IsSolid e.path ⊎ AllFinishedOrApart nodes e a.place done
 
 -- Seat i may place the record of a spawned child whose first turn it has. It is at the effect's place, whose content is this
 -- and does not have the record.

@@ -8,7 +8,7 @@ ghost use Rattle.twe_program.specs.Program.{Program};
 ghost use Rattle.seg_journal.specs.declared.numbered.NumberedEntry.{NumberedEntry};
 ghost use Rattle.floor_rule.specs.Floors.{Floor};
 ghost use Rattle.admission_laws.specs.admission_core.States.{Activity, Leaves, Stage, State, Steps, Walks};
-ghost use Rattle.floor_rule.specs.nodes.LockSteps.{LocksNode, MayEnter, MayGiveNodeBack, MayGiveParent, MayGoDown, MayWalkDown, MayWalkUp, UnlocksNode};
+ghost use Rattle.floor_rule.specs.nodes.LockSteps.{LocksNode, MayEnter, MayGiveNodeBack, MayGiveParent, MayGoDown, MayPassBy, MayWalkDown, MayWalkUp, UnlocksNode};
 ghost use Rattle.floor_rule.specs.nodes.LockSteps.{after_turning, stopped};
 ghost use Rattle.floor_rule.specs.nodes.Rule.{IsOneEvent, KeepsBoth};
 ghost use Rattle.floor_rule.specs.nodes.Trees.{Tree, Unlocked};
@@ -55,6 +55,16 @@ pub fn a_node_may_be_given_back()
     ensures { (nodes : List (List Elem)) (p : Program) (lim : Bounds) (log : List NumberedEntry) (f : Floor) (tree : Tree)
         (core : State) (i : ℕ) (a : Activity) (n : ℕ) (others : List ℕ) → KeepsBoth nodes p lim log f tree core
         → MayGiveNodeBack tree i a n others → UnlocksNode nodes p lim log f tree core i n (record a { stage = Leaves others }) }
+{}
+
+/// A worker that walks through a node may take a child as finished that has no children, if no record lies at the child. No word
+/// changes.
+pub fn a_bare_node_may_be_passed_by()
+    ensures { (nodes : List (List Elem)) (p : Program) (lim : Bounds) (log : List NumberedEntry) (f : Floor) (tree : Tree)
+        (core : State) (i : ℕ) (a : Activity) (n c : ℕ) (stack done : List ℕ) → KeepsBoth nodes p lim log f tree core
+        → MayPassBy nodes tree i a n c stack done → tree.contents c ≡ Some []
+        → IsOneEvent nodes p lim log f core
+        (after_turning tree i (Some (record a { stage = Walks (n ∷ stack) (c ∷ done) }))) }
 {}
 
 /// A worker may stop at any moment, and only give back what it holds from then on. No word changes.

@@ -7,13 +7,14 @@ use Rattle.atomic_table.specs.Table.{Allows, State, step}
 use Rattle.region_paths.specs.declared.elements.Elem.{Elem}
 use Rattle.twe_base.specs.Limits.{Bounds}
 use Rattle.twe_program.specs.Program.{Program}
+use Rattle.floor_rule.specs.nodes.Trees.{Unlocked}
 use Rattle.floor_rule.proofs.Puts.{some_one}
 use Rattle.admission_laws.specs.admission_core.States.{Activity, Descends, Leaves, Stage, Steps, Walks, held}
 use Rattle.admission_laws.specs.admission_core.Events.{HasCome}
 use Rattle.floor_table.specs.declared.nodes.slot.TreeSlot.{TreeSlot}
 use Rattle.floor_table.specs.declared.nodes.view.TreeView.{TreeView}
 use Rattle.floor_table.specs.nodes.Holds.{TreeKeeps}
-use Rattle.floor_table.specs.nodes.Layout.{free_lock, lock_place, taken_lock, tree_slot_count}
+use Rattle.floor_table.specs.nodes.Layout.{left_lock, lock_of_word, lock_place, taken_lock, tree_slot_count}
 use Rattle.floor_table.specs.nodes.Plays.{SeatGoesOn, SeatStopsAt, TriesNode}
 use Rattle.floor_table.specs.nodes.Seats.{GaveNode, HasContent, MayGoOn, MayLock, MayStop, TreeSeat, TriedNode, enters, errand_of, gives_parent, goes_down, left_to_give, walks_down, walks_up}
 use Rattle.floor_table.proofs.nodes.Locks.{lock_allowed}
@@ -93,18 +94,19 @@ stop_next v n next may = ap next_stop may.active ∙ (ap (λ (l : List ℕ). lef
 
 -- The calls.
 
-pub try_lock : (nodes : List (List Elem)) (p : Program) (lim : Bounds) (id n : ℕ) (v : TreeView) (mine : List (ℕ × TreeSlot)) (said : core.Option TreeSlot) (next : Activity) → MayLock nodes v said n next
-    → Allows (TreeKeeps nodes p lim) (tree_slot_count nodes lim) id (v, mine) (lock_place p lim n) (λ x. either (x == free_lock) (taken_lock v.floor.worker) x)
-    (TriesNode nodes p lim (step (tree_slot_count nodes lim) (lock_place p lim n) free_lock (taken_lock v.floor.worker) said) (v, mine))
-try_lock nodes p lim id n v mine said next may =
-    told (TreeKeeps nodes p lim) (tree_slot_count nodes lim) id (v, mine) (lock_place p lim n) (λ x. either (x == free_lock) (taken_lock v.floor.worker) x) (TriedNode lim (v, mine) n next)
-    (TriesNode nodes p lim (step (tree_slot_count nodes lim) (lock_place p lim n) free_lock (taken_lock v.floor.worker) said) (v, mine))
+pub try_lock : (nodes : List (List Elem)) (p : Program) (lim : Bounds) (id n : ℕ) (v : TreeView) (mine : List (ℕ × TreeSlot)) (said : core.Option TreeSlot) (next : Activity) (free : ℕ) → lock_of_word free ≡ Unlocked
+    → MayLock nodes v said n next
+    → Allows (TreeKeeps nodes p lim) (tree_slot_count nodes lim) id (v, mine) (lock_place p lim n) (λ x. either (x == free) (taken_lock v.floor.worker) x)
+    (TriesNode nodes p lim (step (tree_slot_count nodes lim) (lock_place p lim n) free (taken_lock v.floor.worker) said) (v, mine))
+try_lock nodes p lim id n v mine said next free is_free may =
+    told (TreeKeeps nodes p lim) (tree_slot_count nodes lim) id (v, mine) (lock_place p lim n) (λ x. either (x == free) (taken_lock v.floor.worker) x) (TriedNode lim (v, mine) n next free)
+    (TriesNode nodes p lim (step (tree_slot_count nodes lim) (lock_place p lim n) free (taken_lock v.floor.worker) said) (v, mine))
     (λ found after tried m other place may_too.
     let same : n ≡ m = omega (arith, place) in
     let may_n : MayLock nodes v said n other = subst (λ (k : ℕ). MayLock nodes v said k other) (sym same) may_too in
     let one : next ≡ other = some_one (sym (lock_next nodes v said n next may) ∙ lock_next nodes v said n other may_n) in
-    subst (λ (k : ℕ). TriedNode lim (v, mine) k other found after) same (subst (λ (a : Activity). TriedNode lim (v, mine) n a found after) one tried))
-    (lock_allowed nodes p lim (tree_slot_count nodes lim) id n v mine said next may)
+    subst (λ (k : ℕ). TriedNode lim (v, mine) k other free found after) same (subst (λ (a : Activity). TriedNode lim (v, mine) n a free found after) one tried))
+    (lock_allowed nodes p lim (tree_slot_count nodes lim) id n v mine said next free is_free may)
 
 -- what was given is determined too
 same_given : (lim : Bounds) (me : TreeSeat) (n m : ℕ) (next other : Option Activity) (rest left : List (ℕ × TreeSlot)) (after : TreeSeat) → n ≡ m → next ≡ other → HasContent lim me n rest → HasContent lim me m left
@@ -114,12 +116,12 @@ same_given lim me n m next other rest left after same one has has_too gave =
     subst (λ (k : ℕ). GaveNode me k other left after) same
     (subst (λ (o : Option Activity). GaveNode me n o left after) one (subst (λ (r : List (ℕ × TreeSlot)). GaveNode me n next r after) rests gave))
 
-pub go_on : (nodes : List (List Elem)) (p : Program) (lim : Bounds) (id n : ℕ) (v : TreeView) (mine rest : List (ℕ × TreeSlot)) (next : Activity) → MayGoOn nodes v n next → HasContent lim (v, mine) n rest
-    → Allows (TreeKeeps nodes p lim) (tree_slot_count nodes lim) id (v, mine) (lock_place p lim n) (λ x. free_lock)
-    (λ x. SeatGoesOn nodes p lim (step (tree_slot_count nodes lim) (lock_place p lim n) free_lock 0 core.none) (v, mine) free_lock)
+pub go_on : (nodes : List (List Elem)) (p : Program) (lim : Bounds) (id n : ℕ) (v : TreeView) (mine rest : List (ℕ × TreeSlot)) (next : Activity) → MayGoOn nodes v n next → (has : HasContent lim (v, mine) n rest)
+    → Allows (TreeKeeps nodes p lim) (tree_slot_count nodes lim) id (v, mine) (lock_place p lim n) (λ x. left_lock has.content)
+    (λ x. SeatGoesOn nodes p lim (step (tree_slot_count nodes lim) (lock_place p lim n) (left_lock has.content) 0 core.none) (v, mine) (left_lock has.content))
 go_on nodes p lim id n v mine rest next may has =
-    told (TreeKeeps nodes p lim) (tree_slot_count nodes lim) id (v, mine) (lock_place p lim n) (λ x. free_lock) (λ x. GaveNode (v, mine) n (Some next) rest)
-    (λ x. SeatGoesOn nodes p lim (step (tree_slot_count nodes lim) (lock_place p lim n) free_lock 0 core.none) (v, mine) free_lock)
+    told (TreeKeeps nodes p lim) (tree_slot_count nodes lim) id (v, mine) (lock_place p lim n) (λ x. left_lock has.content) (λ x. GaveNode (v, mine) n (Some next) rest)
+    (λ x. SeatGoesOn nodes p lim (step (tree_slot_count nodes lim) (lock_place p lim n) (left_lock has.content) 0 core.none) (v, mine) (left_lock has.content))
     (λ found after gave m other left place may_too has_too.
     let same : n ≡ m = omega (arith, place) in
     let may_n : MayGoOn nodes v n other = subst (λ (k : ℕ). MayGoOn nodes v k other) (sym same) may_too in
@@ -127,12 +129,12 @@ go_on nodes p lim id n v mine rest next may has =
     same_given lim (v, mine) n m (Some next) (Some other) rest left after same (ap Some one) has has_too gave)
     (go_on_allowed nodes p lim (tree_slot_count nodes lim) id n v mine rest next may has)
 
-pub stop_at : (nodes : List (List Elem)) (p : Program) (lim : Bounds) (id n : ℕ) (v : TreeView) (mine rest : List (ℕ × TreeSlot)) (next : Option Activity) → MayStop v n next → HasContent lim (v, mine) n rest
-    → Allows (TreeKeeps nodes p lim) (tree_slot_count nodes lim) id (v, mine) (lock_place p lim n) (λ x. free_lock)
-    (λ x. SeatStopsAt p lim (step (tree_slot_count nodes lim) (lock_place p lim n) free_lock 0 core.none) (v, mine) free_lock)
+pub stop_at : (nodes : List (List Elem)) (p : Program) (lim : Bounds) (id n : ℕ) (v : TreeView) (mine rest : List (ℕ × TreeSlot)) (next : Option Activity) → MayStop v n next → (has : HasContent lim (v, mine) n rest)
+    → Allows (TreeKeeps nodes p lim) (tree_slot_count nodes lim) id (v, mine) (lock_place p lim n) (λ x. left_lock has.content)
+    (λ x. SeatStopsAt p lim (step (tree_slot_count nodes lim) (lock_place p lim n) (left_lock has.content) 0 core.none) (v, mine) (left_lock has.content))
 stop_at nodes p lim id n v mine rest next may has =
-    told (TreeKeeps nodes p lim) (tree_slot_count nodes lim) id (v, mine) (lock_place p lim n) (λ x. free_lock) (λ x. GaveNode (v, mine) n next rest)
-    (λ x. SeatStopsAt p lim (step (tree_slot_count nodes lim) (lock_place p lim n) free_lock 0 core.none) (v, mine) free_lock)
+    told (TreeKeeps nodes p lim) (tree_slot_count nodes lim) id (v, mine) (lock_place p lim n) (λ x. left_lock has.content) (λ x. GaveNode (v, mine) n next rest)
+    (λ x. SeatStopsAt p lim (step (tree_slot_count nodes lim) (lock_place p lim n) (left_lock has.content) 0 core.none) (v, mine) (left_lock has.content))
     (λ found after gave m other left place may_too has_too.
     let same : n ≡ m = omega (arith, place) in
     same_given lim (v, mine) n m next other rest left after same (sym (stop_next v n next may) ∙ stop_next v m other may_too) has has_too gave)

@@ -176,6 +176,9 @@ module _ (nodes : List (List Elem)) (p : Program) (lim : Bounds) (s : TreeTable)
                 nodes_keep = subst (λ (t : Tree). KeepsNodes nodes p lim after (floor_of p floor_next) t core_after) (sym tree_next)
                     (floor_same nodes p lim after (viewed u.floor) (seated u) core_after nodes_keep (floor_of p floor_next) refl refl);
               }));
+          bare = λ n is.
+              ap content_at (is_lifted.stay (content_place lim n) (omega arith))
+              ∙ kept.bare n (sym (at_else s.words i (lock_place p lim n) x (λ same. omega (arith, same, low))) ∙ is);
         }
 
     pub next_step : StepsBeside i x u

@@ -169,6 +169,7 @@ module _ (nodes : List (List Elem)) (p : Program) (lim : Bounds) (s : TreeTable)
               floor = subst (λ (l : List NumberedEntry). KeepsRule p lim l f_next) same_log keep.rule;
               nodes_keep = nodes_next;
             }));
+        bare = kept.bare;
       }
 
 pub join_tree : (nodes : List (List Elem)) (p : Program) (lim : Bounds) (id other : ℕ) (v w : TreeView) → v.floor.kind ≡ Main → w.floor.kind ≡ Other → HasGivenAll w.floor → HasLeftTree w

@@ -23,12 +23,12 @@ use Rattle.floor_table.specs.declared.nodes.slot.TreeSlot.{TreeSlot}
 use Rattle.floor_table.specs.declared.nodes.slot.TreeSlot.TheVariants as kinds
 use Rattle.floor_table.specs.declared.nodes.view.TreeView.{TreeView}
 use Rattle.floor_table.specs.nodes.Holds.{TreeKeeps}
-use Rattle.floor_table.specs.nodes.Layout.{content_place, free_lock, lock_at, lock_of_word, lock_place, taken_lock}
+use Rattle.floor_table.specs.nodes.Layout.{bare_lock, content_place, lock_at, lock_of_word, lock_place, taken_lock}
 use Rattle.floor_table.specs.nodes.Seats.{HasOwn, MayLock, TriedNode, enters, goes_down, locked_view, walks_down}
 use Rattle.floor_table.specs.nodes.TreeOf.{TreeTable, activity_at, clear_at, content_at, floor_part, floor_shown, floor_view, fresh_at, kept_at, placed_at, removed_at, task_home, tree_of, waits_at}
 use Rattle.floor_table.proofs.nodes.Elements.{at_some, elements_kept, elements_put, map_set, places_put, take_set}
 use Rattle.floor_table.proofs.nodes.Seen.{down_seen, enter_seen, fresh_id, held_id, kept_id, walk_seen, worker_id}
-use Rattle.floor_table.proofs.nodes.Ties.{keeps_after, tree_is}
+use Rattle.floor_table.proofs.nodes.Ties.{bare_node, keeps_after, tree_is}
 
 -- a slot that shows a content holds it
 node_home : (home : core.Option TreeSlot) (records : List Record) → content_at (core.some home) ≡ Some records → home ≡ core.some (kinds.Node records)
@@ -62,10 +62,11 @@ module _ (nodes : List (List Elem)) (p : Program) (lim : Bounds) (s : TreeTable)
       let views = map_set floor_view s.views id v w at same in
       λ k. record { words = words k; homes = map task_home (homes k); views = views k }
 
-  pub keeps_with : (n x : ℕ) (y : core.Option TreeSlot) (w : TreeView) → w.floor ≡ v.floor → (after : Tree) (core : State) → tree_of p lim (with_node n x y w) ≡ after
-      → KeepsNodes nodes p lim kept.floor.log f after core → TreeKeeps nodes p lim (with_node n x y w)
-  keeps_with n x y w same after core shows nodes_keep =
-      keeps_after nodes p lim s kept (with_node n x y w) after core (length-set s.words (lock_place p lim n) x) (length-set s.homes (content_place lim n) y) (floor_stays n x y w same) shows nodes_keep
+  pub keeps_with : (n x : ℕ) (y : core.Option TreeSlot) (w : TreeView) → w.floor ≡ v.floor → (after : Tree) (last : State) → tree_of p lim (with_node n x y w) ≡ after
+      → KeepsNodes nodes p lim kept.floor.log f after last → n < length nodes → (x ≡ bare_lock → content_at (core.some y) ≡ Some []) → TreeKeeps nodes p lim (with_node n x y w)
+  keeps_with n x y w same after last shows nodes_keep below empty =
+      keeps_after nodes p lim s kept (with_node n x y w) after last (length-set s.words (lock_place p lim n) x) (length-set s.homes (content_place lim n) y) (floor_stays n x y w same) shows nodes_keep
+      (bare_node p lim s.words s.homes n x y (lock_within n below) (content_within n below) kept.bare empty)
 
   -- Locking.
 
@@ -118,40 +119,40 @@ module _ (nodes : List (List Elem)) (p : Program) (lim : Bounds) (s : TreeTable)
           (own_fresh nodes p lim kept.floor.log f tree kept.core kept.both id n records is r turn among (held_id nodes p lim s id v at r.task ∙ held) to_place);
     }
 
-    free_shown : slice_index s.words (lock_place p lim n) ≡ free_lock → tree.locks n ≡ Unlocked
-    free_shown found = ap lock_at (word_at s.words (lock_place p lim n) (lock_within n below)) ∙ ap lock_of_word found
+    free_shown : (free : ℕ) → lock_of_word free ≡ Unlocked → slice_index s.words (lock_place p lim n) ≡ free → tree.locks n ≡ Unlocked
+    free_shown free is found = ap lock_at (word_at s.words (lock_place p lim n) (lock_within n below)) ∙ (ap lock_of_word found ∙ is)
 
-    lock_done : (mine : List (ℕ × TreeSlot)) (next : Activity) → slice_index s.words (lock_place p lim n) ≡ free_lock → LocksNode nodes p lim kept.floor.log f tree kept.core id n next
+    lock_done : (mine : List (ℕ × TreeSlot)) (next : Activity) (free : ℕ) → slice_index s.words (lock_place p lim n) ≡ free → LocksNode nodes p lim kept.floor.log f tree kept.core id n next
         → (w : TreeView) × (a : Act TreeSlot) × Valid s.homes mine a × TreeKeeps nodes p lim (stepped s (lock_place p lim n) (taken_lock v.floor.worker) id mine w a)
-        × TriedNode lim (v, mine) n next (slice_index s.words (lock_place p lim n)) (w, carried_after mine a)
-    lock_done mine next found (records, there, (core_after, event, nodes_keep)) = (
+        × TriedNode lim (v, mine) n next free (slice_index s.words (lock_place p lim n)) (w, carried_after mine a)
+    lock_done mine next free found (records, there, (core_after, event, nodes_keep)) = (
       locked_view v n records next,
       takes (content_place lim n) (kinds.Node records),
       home_there records there,
-      keeps_with n (taken_lock v.floor.worker) core.none (locked_view v n records next) refl (after_locking f tree id n records next) core_after (lock_tie records next) nodes_keep,
+      keeps_with n (taken_lock v.floor.worker) core.none (locked_view v n records next) refl (after_locking f tree id n records next) core_after (lock_tie records next) nodes_keep below (λ same. absurd (omega (arith, same))),
       inl (found, record { records = records; own = owns records there; seat = refl }),
     )
 
     -- a step that changes nothing
-    nothing_changes : stepped s (lock_place p lim n) (slice_index s.words (lock_place p lim n)) id [] v keeps ≡ s
+    pub nothing_changes : stepped s (lock_place p lim n) (slice_index s.words (lock_place p lim n)) id [] v keeps ≡ s
     nothing_changes =
         let words = set_same s.words (lock_place p lim n) (slice_index s.words (lock_place p lim n)) (word_at s.words (lock_place p lim n) (lock_within n below)) in
         let views = set_same s.views id v at in
         λ k. record { words = words k; homes = s.homes; views = views k }
 
-    lock_missed : (mine : List (ℕ × TreeSlot)) (next : Activity) → slice_index s.words (lock_place p lim n) ≢ free_lock
+    lock_missed : (mine : List (ℕ × TreeSlot)) (next : Activity) (free : ℕ) → slice_index s.words (lock_place p lim n) ≢ free
         → (w : TreeView) × (a : Act TreeSlot) × Valid s.homes mine a × TreeKeeps nodes p lim (stepped s (lock_place p lim n) (slice_index s.words (lock_place p lim n)) id mine w a)
-        × TriedNode lim (v, mine) n next (slice_index s.words (lock_place p lim n)) (w, carried_after mine a)
-    lock_missed mine next other = (v, keeps, tt, subst (TreeKeeps nodes p lim) (sym nothing_changes) kept, inr (other, refl))
+        × TriedNode lim (v, mine) n next free (slice_index s.words (lock_place p lim n)) (w, carried_after mine a)
+    lock_missed mine next free other = (v, keeps, tt, subst (TreeKeeps nodes p lim) (sym nothing_changes) kept, inr (other, refl))
 
 pub lock_allowed : (nodes : List (List Elem)) (p : Program) (lim : Bounds) (slots id n : ℕ) (v : TreeView) (mine : List (ℕ × TreeSlot)) (said : core.Option TreeSlot) (next : Activity)
-    → MayLock nodes v said n next
-    → Allows (TreeKeeps nodes p lim) slots id (v, mine) (lock_place p lim n) (λ x. either (x == free_lock) (taken_lock v.floor.worker) x) (TriedNode lim (v, mine) n next)
-lock_allowed nodes p lim slots id n v mine said next may s kept count at small =
+    (free : ℕ) → lock_of_word free ≡ Unlocked → MayLock nodes v said n next
+    → Allows (TreeKeeps nodes p lim) slots id (v, mine) (lock_place p lim n) (λ x. either (x == free) (taken_lock v.floor.worker) x) (TriedNode lim (v, mine) n next free)
+lock_allowed nodes p lim slots id n v mine said next free is_free may s kept count at small =
     let found = slice_index s.words (lock_place p lim n) in
     let below = lock_below nodes p lim s kept id v at said n next may in
     let F : ℕ → Type 0 = λ x. (w : TreeView) × (a : Act TreeSlot) × Valid s.homes mine a × TreeKeeps nodes p lim (stepped s (lock_place p lim n) x id mine w a)
-    × TriedNode lim (v, mine) n next found (w, carried_after mine a) in
-    exchanged found free_lock (taken_lock v.floor.worker) F
-    (λ is. lock_done nodes p lim s kept id v at n below mine next is (locks_node nodes p lim s kept id v at said n next may (free_shown nodes p lim s kept id v at n below is)))
-    (lock_missed nodes p lim s kept id v at n below mine next)
+    × TriedNode lim (v, mine) n next free found (w, carried_after mine a) in
+    exchanged found free (taken_lock v.floor.worker) F
+    (λ is. lock_done nodes p lim s kept id v at n below mine next free is (locks_node nodes p lim s kept id v at said n next may (free_shown nodes p lim s kept id v at n below free is_free is)))
+    (lock_missed nodes p lim s kept id v at n below mine next free)

@@ -35,7 +35,7 @@ use Rattle.floor_table.specs.nodes.Without.{without_record}
 use Rattle.floor_table.proofs.nodes.Elements.{elements_kept, elements_put, map_set, places_put, take_set}
 use Rattle.floor_table.proofs.nodes.Locks.{lock_within}
 use Rattle.floor_table.proofs.nodes.Seen.{activity_id, fresh_id, held_id, kept_id, kept_node, passes, worker_id}
-use Rattle.floor_table.proofs.nodes.Ties.{keeps_after, tree_is}
+use Rattle.floor_table.proofs.nodes.Ties.{bare_word, keeps_after, tree_is}
 use Rattle.floor_table.proofs.nodes.Unlocks.{held_below, holds_kept}
 
 -- setting what is there changes nothing
@@ -89,6 +89,7 @@ module _ (nodes : List (List Elem)) (p : Program) (lim : Bounds) (s : TreeTable)
         let views = map_set floor_view s.views id v w at same in
         let floor : floor_part p lim (with_view w) ≡ floor_part p lim s = λ k. record { words = words k; homes = (floor_part p lim s).homes; views = views k } in
         keeps_after nodes p lim s kept (with_view w) after core (length-set s.words (lock_place p lim n) (taken_lock v.floor.worker)) refl floor shows nodes_keep
+        (bare_word p lim s.words s.homes n (taken_lock v.floor.worker) (lock_within nodes p lim s kept id v at n below) kept.bare (λ same. omega (arith, same)))
 
   -- Placing.
   module _ (a : Activity) (content : List Record) where

@@ -167,6 +167,7 @@ module _ (nodes : List (List Elem)) (p : Program) (lim : Bounds) (s : TreeTable)
               floor = subst (λ (l : List NumberedEntry). KeepsRule p lim l f_next) same_log keep.rule;
               nodes_keep = nodes_next;
             }));
+        bare = kept.bare;
       }
 
 pub split_tree : (nodes : List (List Elem)) (p : Program) (lim : Bounds) (id : ℕ) (v : TreeView) → v.floor.kind ≡ Main → Splits (TreeKeeps nodes p lim) id v (left_tree_view v) (right_tree_view v)

@@ -1,8 +1,9 @@
 -- A table with nodes that is laid out by a state keeps the rule.
-use Rattle.std.proofs.Common.{◌≡◌, ◌<◌, ◌≤◌, ℕ, zero, suc, List, [], ◌∷◌, length, map, Option, None, Some, refl, sym, ap, subst, ◌∙◌, ⊎_elim, arith}
+use Rattle.std.proofs.Common.{◌≡◌, ◌≢◌, ◌<◌, ◌≤◌, ℕ, zero, suc, List, [], ◌∷◌, length, map, Option, None, Some, refl, sym, ap, subst, ◌∙◌, ⊎_elim, arith}
 use Rattle.std.specs.Prelude.{◌^◌, slice_get, take}
 use Rattle.std.proofs.lemmas.Nat.{mod-mul-add}
 use mathlib.Core.Option as core
+use mathlib.Core.Option.{some-injective}
 use lib.ListN.{get_elem?}
 use Rattle.atomic_table.specs.Table.{opening}
 use Rattle.atomic_table.proofs.Lists.{at_map}
@@ -38,7 +39,7 @@ use Rattle.floor_table.specs.declared.nodes.slot.TreeSlot.{TreeSlot}
 use Rattle.floor_table.specs.declared.nodes.slot.TreeSlot.TheVariants as kinds
 use Rattle.floor_table.specs.declared.nodes.view.TreeView.{TreeView}
 use Rattle.floor_table.specs.nodes.Holds.{HoldsContent, IsTreeLaidOut, TreeKeeps, first_tree_view}
-use Rattle.floor_table.specs.nodes.Layout.{content_place, lock_at, lock_place}
+use Rattle.floor_table.specs.nodes.Layout.{bare_lock, content_place, free_lock, lock_at, lock_place}
 use Rattle.floor_table.specs.nodes.TreeOf.{TreeTable, activity_at, clear_at, content_at, fresh_at, floor_part, floor_shown, kept_at, placed_at, removed_at, task_home, tree_of, waits_at}
 use Rattle.floor_table.proofs.nodes.Elements.{below_or, beyond, map_length, take_map}
 use Rattle.floor_table.proofs.nodes.OneLog.{in_order, one_log}
@@ -170,6 +171,16 @@ module _ (nodes : List (List Elem)) (p : Program) (lim : Bounds) (log : List Num
       (λ k i. same_all clear_at refl i k)
       (λ k i. same_all waits_at refl i k)
 
+  -- no lock word is bare
+  none_bare : (n : ℕ) → get_elem? words (lock_place p lim n) ≢ core.some bare_lock
+  none_bare n is =
+      ⊎_elim
+      (λ (below : n < length nodes). let same = some-injective free_lock bare_lock (sym (laid.locks n below) ∙ is) in omega (arith, same))
+      (λ (past : length nodes ≤ n).
+      let size = laid.all_words in
+      let none = sym (beyond words (lock_place p lim n) (omega (arith, size, past))) ∙ is in cc)
+      (below_or n (length nodes))
+
   -- Both.
   held_same : (i t : ℕ) → f.held i t ≡ None
   held_same zero t = refl
@@ -196,4 +207,5 @@ module _ (nodes : List (List Elem)) (p : Program) (lim : Bounds) (log : List Num
         both = subst (λ (l : List NumberedEntry). KeepsBoth nodes p lim l (floor_shown p lim table) (tree_of p lim table) (core_at (journal_of log) st records)) (sym (again.1 ∙ same_log))
             (subst (λ (g : Table). KeepsBoth nodes p lim log (floor_of p g) (tree_of p lim table) (core_at (journal_of log) st records)) (sym floor_tie)
             (record { well = well; effects = keeps; paths = paths; floor = subst (λ (l : List NumberedEntry). KeepsRule p lim l f) same_log starts.rule; nodes_keep = nodes_start }));
+        bare = λ n is. absurd (none_bare n is);
       }

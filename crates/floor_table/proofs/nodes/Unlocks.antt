@@ -15,13 +15,13 @@ use Rattle.admission_laws.specs.admission_core.States.{Activity, HoldsNode, Leav
 use Rattle.floor_rule.specs.nodes.LockSteps.{UnlocksNode, after_turning, after_unlocking, stopped}
 use Rattle.floor_rule.specs.nodes.Rule.{IsOneEvent, KeepsBoth, KeepsNodes}
 use Rattle.floor_rule.specs.nodes.Fitting.{IsUnlocked, KeptFits, LockFits}
-use Rattle.floor_rule.specs.nodes.Trees.{Tree, Unlocked, put_kept}
+use Rattle.floor_rule.specs.nodes.Trees.{LockWord, Tree, Unlocked, put_kept}
 use Rattle.floor_rule.proofs.nodes.LockEvents.{ending, giving_back, giving_parent, stopping, walking_up}
 use Rattle.floor_table.specs.declared.nodes.slot.TreeSlot.{TreeSlot}
 use Rattle.floor_table.specs.declared.nodes.slot.TreeSlot.TheVariants as kinds
 use Rattle.floor_table.specs.declared.nodes.view.TreeView.{TreeView}
 use Rattle.floor_table.specs.nodes.Holds.{TreeKeeps}
-use Rattle.floor_table.specs.nodes.Layout.{content_place, free_lock, lock_at, lock_place}
+use Rattle.floor_table.specs.nodes.Layout.{bare_lock, content_place, left_lock, lock_at, lock_of_word, lock_place}
 use Rattle.floor_table.specs.nodes.Seats.{GaveNode, HasContent, MayGoOn, MayStop, gives_parent, left_to_give, unlocked_view, walks_up}
 use Rattle.floor_table.specs.nodes.TreeOf.{TreeTable, activity_at, clear_at, content_at, content_in, floor_shown, fresh_at, kept_at, placed_at, removed_at, tree_of, waits_at}
 use Rattle.floor_table.proofs.nodes.Elements.{below_or, beyond, elements_kept, elements_put, places_put}
@@ -147,14 +147,24 @@ module _ (nodes : List (List Elem)) (p : Program) (lim : Bounds) (s : TreeTable)
       subst (GivesSo n content) (sym may.goes)
       (ended n content is a active may.others (given n content is a active may.others may.holds (stopping nodes p lim log f tree kept.core kept.both id a active)))
 
+  -- a word that says whether records lie at a node names nobody, and says the truth
+  left_free : (content : List Record) → lock_of_word (left_lock content) ≡ Unlocked
+  left_free [] = refl
+  left_free (r ∷ records) = refl
+
+  left_bare : (content : List Record) → left_lock content ≡ bare_lock → content_at (core.some (core.some (kinds.Node content))) ≡ Some []
+  left_bare [] is = refl
+  left_bare (r ∷ records) is = absurd (omega (arith, is))
+
   -- the step
   module _ (n : ℕ) (below : n < length nodes) where
     unlock_tie : (content : List Record) (next : Option Activity)
-        → tree_of p lim (with_node nodes p lim s kept id v at n free_lock (core.some (kinds.Node content)) (unlocked_view v n next)) ≡ after_giving tree id n content next
+        → tree_of p lim (with_node nodes p lim s kept id v at n (left_lock content) (core.some (kinds.Node content)) (unlocked_view v n next)) ≡ after_giving tree id n content next
     unlock_tie content next =
         let w = unlocked_view v n next in
         tree_is _ (after_giving tree id n content next)
-        (places_put lock_at s.words (word_count p lim) n free_lock (lock_within nodes p lim s kept id v at n below))
+        (places_put lock_at s.words (word_count p lim) n (left_lock content) (lock_within nodes p lim s kept id v at n below)
+        ∙ ap (λ (word : LockWord). put tree.locks n word) (left_free content))
         (places_put content_at s.homes lim.tasks n (core.some (kinds.Node content)) (content_within nodes p lim s kept id v at n below))
         (elements_put activity_at s.views id v w at next refl)
         (elements_put kept_at s.views id v w at (put (tree.kept id) n None) (ap (λ (g : ℕ → Option (List Record)). put g n None) (sym (kept_id nodes p lim s id v at))))
@@ -166,32 +176,33 @@ module _ (nodes : List (List Elem)) (p : Program) (lim : Bounds) (s : TreeTable)
 
     unlock_done : (rest : List (ℕ × TreeSlot)) (content : List Record) (next : Option Activity) → GivesSo n content next
         → (w : TreeView) × (a : Act TreeSlot) × Valid s.homes ((content_place lim n, kinds.Node content) ∷ rest) a
-        × TreeKeeps nodes p lim (stepped s (lock_place p lim n) free_lock id ((content_place lim n, kinds.Node content) ∷ rest) w a)
+        × TreeKeeps nodes p lim (stepped s (lock_place p lim n) (left_lock content) id ((content_place lim n, kinds.Node content) ∷ rest) w a)
         × GaveNode (v, (content_place lim n, kinds.Node content) ∷ rest) n next rest (w, carried_after ((content_place lim n, kinds.Node content) ∷ rest) a)
     unlock_done rest content next (core_after, nodes_keep) = (
       unlocked_view v n next,
       gives,
       tt,
-      keeps_with nodes p lim s kept id v at n free_lock (core.some (kinds.Node content)) (unlocked_view v n next) refl (after_giving tree id n content next) core_after (unlock_tie content next) nodes_keep,
+      keeps_with nodes p lim s kept id v at n (left_lock content) (core.some (kinds.Node content)) (unlocked_view v n next) refl (after_giving tree id n content next) core_after (unlock_tie content next) nodes_keep
+          below (left_bare content),
       refl,
     )
 
   unlocks : (n : ℕ) (mine rest : List (ℕ × TreeSlot)) (next : Option Activity) (has : HasContent lim (v, mine) n rest) → GivesSo n has.content next
-      → (w : TreeView) × (a : Act TreeSlot) × Valid s.homes mine a × TreeKeeps nodes p lim (stepped s (lock_place p lim n) free_lock id mine w a) × GaveNode (v, mine) n next rest (w, carried_after mine a)
+      → (w : TreeView) × (a : Act TreeSlot) × Valid s.homes mine a × TreeKeeps nodes p lim (stepped s (lock_place p lim n) (left_lock has.content) id mine w a) × GaveNode (v, mine) n next rest (w, carried_after mine a)
   unlocks n mine rest next has so =
       subst
-      (λ (l : List (ℕ × TreeSlot)). (w : TreeView) × (a : Act TreeSlot) × Valid s.homes l a × TreeKeeps nodes p lim (stepped s (lock_place p lim n) free_lock id l w a)
+      (λ (l : List (ℕ × TreeSlot)). (w : TreeView) × (a : Act TreeSlot) × Valid s.homes l a × TreeKeeps nodes p lim (stepped s (lock_place p lim n) (left_lock has.content) id l w a)
       × GaveNode (v, l) n next rest (w, carried_after l a))
       (sym has.slot)
       (unlock_done n (held_below n has.content has.has) rest has.content next so)
 
 pub go_on_allowed : (nodes : List (List Elem)) (p : Program) (lim : Bounds) (slots id n : ℕ) (v : TreeView) (mine rest : List (ℕ × TreeSlot)) (next : Activity) → MayGoOn nodes v n next
-    → HasContent lim (v, mine) n rest → Allows (TreeKeeps nodes p lim) slots id (v, mine) (lock_place p lim n) (λ x. free_lock) (λ x. GaveNode (v, mine) n (Some next) rest)
+    → (has : HasContent lim (v, mine) n rest) → Allows (TreeKeeps nodes p lim) slots id (v, mine) (lock_place p lim n) (λ x. left_lock has.content) (λ x. GaveNode (v, mine) n (Some next) rest)
 go_on_allowed nodes p lim slots id n v mine rest next may has s kept count at small =
     unlocks nodes p lim s kept id v at n mine rest (Some next) has
     (gives_on nodes p lim s kept id v at n has.content next (kept_node nodes p lim s id v at n ∙ has.has) (goes_on nodes p lim s kept id v at n next may))
 
 pub stop_allowed : (nodes : List (List Elem)) (p : Program) (lim : Bounds) (slots id n : ℕ) (v : TreeView) (mine rest : List (ℕ × TreeSlot)) (next : Option Activity) → MayStop v n next
-    → HasContent lim (v, mine) n rest → Allows (TreeKeeps nodes p lim) slots id (v, mine) (lock_place p lim n) (λ x. free_lock) (λ x. GaveNode (v, mine) n next rest)
+    → (has : HasContent lim (v, mine) n rest) → Allows (TreeKeeps nodes p lim) slots id (v, mine) (lock_place p lim n) (λ x. left_lock has.content) (λ x. GaveNode (v, mine) n next rest)
 stop_allowed nodes p lim slots id n v mine rest next may has s kept count at small =
     unlocks nodes p lim s kept id v at n mine rest next has (gives_last nodes p lim s kept id v at n has.content next (kept_node nodes p lim s id v at n ∙ has.has) may)

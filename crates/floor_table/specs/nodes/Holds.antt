@@ -1,5 +1,5 @@
 -- The rule of the table, and how a table is laid out.
-use Rattle.std.specs.Prelude.{◌≡◌, ◌<◌, ◌++◌, ℕ, List, [], Option, None, length, map, take}
+use Rattle.std.specs.Prelude.{◌≡◌, ◌<◌, ◌++◌, ℕ, List, [], Option, None, Some, length, map, take}
 use mathlib.Core.Option as core
 use lib.ListN.{get_elem?}
 use Rattle.region_paths.specs.declared.elements.Elem.{Elem}
@@ -16,8 +16,13 @@ use Rattle.floor_rule.specs.nodes.Rule.{KeepsBoth}
 use Rattle.floor_table.specs.declared.nodes.slot.TreeSlot.{TreeSlot}
 use Rattle.floor_table.specs.declared.nodes.slot.TreeSlot.TheVariants as kinds
 use Rattle.floor_table.specs.declared.nodes.view.TreeView.{TreeView}
-use Rattle.floor_table.specs.nodes.Layout.{content_place, free_lock, lock_place, tree_slot_count, tree_word_count}
-use Rattle.floor_table.specs.nodes.TreeOf.{TreeTable, content_in, floor_part, floor_shown, tree_of}
+use Rattle.floor_table.specs.nodes.Layout.{bare_lock, content_place, free_lock, lock_place, tree_slot_count, tree_word_count}
+use Rattle.floor_table.specs.nodes.TreeOf.{TreeTable, content_at, content_in, floor_part, floor_shown, tree_of}
+
+-- A lock word that says that no record lies at its node says the truth: the node's content is in its slot, and has no record.
+abbrev pub BareAreEmpty : Program → Bounds → List ℕ → List (core.Option TreeSlot) → Type 0
+BareAreEmpty p lim words homes =
+    (n : ℕ) → get_elem? words (lock_place p lim n) ≡ core.some bare_lock → content_at (get_elem? homes (content_place lim n)) ≡ Some []
 
 -- The table has the words and slots of the program, the limits and the nodes. Its floor's part keeps the rule of the table of
 -- the floor, and the nodes that it shows keep theirs beside that floor, with the same log and some state of the core.
@@ -27,6 +32,7 @@ pub record TreeKeeps (nodes : List (List Elem)) (p : Program) (lim : Bounds) (s 
   pub floor : TableKeeps p lim (floor_part p lim s)
   pub core : State
   pub both : KeepsBoth nodes p lim floor.log (floor_shown p lim s) (tree_of p lim s) core
+  pub bare : BareAreEmpty p lim s.words s.homes
 
 -- a seat is split off, which does nothing in the tree and knows nothing of nodes
 abbrev pub left_tree_view : TreeView → TreeView

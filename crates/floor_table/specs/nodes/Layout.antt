@@ -1,10 +1,11 @@
 -- Where the words and slots of a floor with nodes lie in its table, and what the words of nodes mean.
-use Rattle.std.specs.Prelude.{◌+◌, ℕ, zero, suc, List, length}
+use Rattle.std.specs.Prelude.{◌+◌, ℕ, zero, suc, List, [], ◌∷◌, length}
 use mathlib.Core.Option.{Option, none, some}
 use Rattle.region_paths.specs.declared.elements.Elem.{Elem}
 use Rattle.twe_base.specs.Limits.{Bounds}
 use Rattle.twe_program.specs.Program.{Program}
 use Rattle.floor_table.specs.Layout.{word_count}
+use Rattle.admission_laws.specs.admission_core.States.{Record}
 use Rattle.floor_rule.specs.nodes.Trees.{LockWord, Unlocked, Locked}
 
 -- The words of the floor come first, as in a table of the floor. For each node its lock word follows.
@@ -23,18 +24,28 @@ content_place lim n = lim.tasks + n
 abbrev pub tree_slot_count : List (List Elem) → Bounds → ℕ
 tree_slot_count nodes lim = lim.tasks + length nodes
 
--- the lock word of a node that nobody has locked, and of one that this worker has locked
+-- the lock word of a node that nobody has locked, and at which records may lie
 abbrev pub free_lock : ℕ
 free_lock = 0
 
+-- the lock word of a node that nobody has locked, and at which no record lies
+abbrev pub bare_lock : ℕ
+bare_lock = 1
+
 -- the lock word of a node that this worker has locked
 abbrev pub taken_lock : ℕ → ℕ
-taken_lock worker = suc worker
+taken_lock worker = suc (suc worker)
+
+-- the lock word of a node that nobody has locked, and at which these records lie
+abbrev pub left_lock : List Record → ℕ
+left_lock [] = bare_lock
+left_lock (r ∷ records) = free_lock
 
 -- what a lock word says
 abbrev pub lock_of_word : ℕ → LockWord
 lock_of_word zero = Unlocked
-lock_of_word (suc worker) = Locked worker
+lock_of_word (suc zero) = Unlocked
+lock_of_word (suc (suc worker)) = Locked worker
 
 -- beyond the words of the table there is no node that could be locked
 abbrev pub lock_at : Option ℕ → LockWord

@@ -7,17 +7,22 @@ use Rattle.twe_program.specs.Program.{Program}
 use Rattle.admission_laws.specs.admission_core.States.{Activity}
 use Rattle.floor_table.specs.declared.nodes.slot.TreeSlot.{TreeSlot}
 use Rattle.floor_table.specs.nodes.Layout.{lock_place}
-use Rattle.floor_table.specs.nodes.Seats.{GaveNode, HasContent, MayGoOn, MayLock, MayStop, TreeSeat, TriedNode}
+use Rattle.floor_table.specs.nodes.Seats.{GaveNode, HasContent, MayGoOn, MayLock, MayPass, MayStop, PassedNode, TreeSeat, TriedNode}
 
 -- a step on a table with nodes
 abbrev pub TreeStep : Type 0
 TreeStep = Step TreeSlot
 
--- a compare-exchange of the lock word of a node that the seat may lock tries to lock it
+-- a compare-exchange of the lock word of a node that the seat may lock, from a word by which nobody has, tries to lock it
 abbrev pub TriesNode : List (List Elem) → Program → Bounds → TreeStep → TreeSeat → ℕ → TreeSeat → Type 0
 TriesNode nodes p lim s before found after =
     (n : ℕ) (next : Activity) → s.word ≡ lock_place p lim n → MayLock nodes before.0 s.said n next
-    → TriedNode lim before n next found after
+    → TriedNode lim before n next s.first found after
+
+-- a load of the lock word of a node that the seat may pass by tells it whether it has passed by it
+abbrev pub PassesNode : List (List Elem) → Program → Bounds → TreeStep → TreeSeat → ℕ → TreeSeat → Type 0
+PassesNode nodes p lim s before found after =
+    (c : ℕ) (next : Activity) → s.word ≡ lock_place p lim c → MayPass nodes before.0 c next → PassedNode before next found after
 
 -- a store to the lock word of a node, by a seat that may unlock it and go on, gives the node back
 abbrev pub SeatGoesOn : List (List Elem) → Program → Bounds → TreeStep → TreeSeat → ℕ → TreeSeat → Type 0

@@ -10,7 +10,7 @@ use Rattle.floor_rule.specs.Fitting.{Turns}
 use Rattle.floor_table.specs.FloorOf.{turn_in}
 use Rattle.admission_laws.specs.admission_core.States.{Activity, Admit, Child, IsAmong, Leaves, Purpose, Record, Remove, Stage, Descends, Steps, Walks, held}
 use Rattle.floor_rule.specs.nodes.FactSteps.{IsToPlace}
-use Rattle.floor_rule.specs.nodes.LockSteps.{MayEnter, MayGiveParent, MayGoDown, MayWalkDown, MayWalkUp}
+use Rattle.floor_rule.specs.nodes.LockSteps.{MayEnter, MayGiveParent, MayGoDown, MayPassBy, MayWalkDown, MayWalkUp}
 use Rattle.floor_rule.specs.nodes.Trees.{Tree, Unlocked}
 use Rattle.floor_table.specs.declared.nodes.slot.Errand.{Errand}
 use Rattle.floor_table.specs.declared.nodes.slot.ErrandKind.{ErrandKind}
@@ -18,7 +18,7 @@ use Rattle.floor_table.specs.declared.nodes.slot.ErrandKind.TheVariants.{Admissi
 use Rattle.floor_table.specs.declared.nodes.slot.TreeSlot.{TreeSlot}
 use Rattle.floor_table.specs.declared.nodes.slot.TreeSlot.TheVariants as kinds
 use Rattle.floor_table.specs.declared.nodes.view.TreeView.{TreeView}
-use Rattle.floor_table.specs.nodes.Layout.{content_place, free_lock}
+use Rattle.floor_table.specs.nodes.Layout.{bare_lock, content_place}
 use Rattle.floor_table.specs.nodes.TreeOf.{content_in}
 
 -- a seat: its view, and the slots that it has out, the latest first
@@ -104,10 +104,30 @@ pub record TookNode (lim : Bounds) (before : TreeSeat) (n : ℕ) (next : Activit
   pub own : HasOwn before.0 n records
   pub seat : after ≡ (locked_view before.0 n records next, (content_place lim n, kinds.Node records) ∷ before.1)
 
--- if the lock word was free, the seat has locked the node; otherwise nothing changes
-abbrev pub TriedNode : Bounds → TreeSeat → ℕ → Activity → ℕ → TreeSeat → Type 0
-TriedNode lim before n next found after =
-    ((found ≡ free_lock) × TookNode lim before n next after) ⊎ ((found ≢ free_lock) × (after ≡ before))
+-- if the lock word was the one that the seat asked for, the seat has locked the node; otherwise nothing changes
+abbrev pub TriedNode : Bounds → TreeSeat → ℕ → Activity → ℕ → ℕ → TreeSeat → Type 0
+TriedNode lim before n next free found after =
+    ((found ≡ free) × TookNode lim before n next after) ⊎ ((found ≢ free) × (after ≡ before))
+
+-- Passing by.
+
+-- A seat with this view may pass by node c, and does this from then on.
+pub record MayPass (nodes : List (List Elem)) (v : TreeView) (c : ℕ) (next : Activity) : Type 0 where
+  pub activity : Activity
+  pub node : ℕ
+  pub stack : List ℕ
+  pub done : List ℕ
+  pub may : MayPassBy nodes (tree_seen v) 0 activity node c stack done
+  pub goes : next ≡ record activity { stage = Walks (node ∷ stack) (c ∷ done) }
+
+-- the seat does this, and has and knows what it did before
+abbrev pub passed_view : TreeView → Activity → TreeView
+passed_view v next = record v { activity = Some next }
+
+-- if the lock word said that no record lies at the node, the seat has passed by it; otherwise nothing changes
+abbrev pub PassedNode : TreeSeat → Activity → ℕ → TreeSeat → Type 0
+PassedNode before next found after =
+    ((found ≡ bare_lock) × (after ≡ (passed_view before.0 next, before.1))) ⊎ ((found ≢ bare_lock) × (after ≡ before))
 
 -- Unlocking.
 

@@ -3,7 +3,7 @@ ghost use Rattle.floor_table.specs.nodes.EntrySeats.{DrewAdmission, DrewTreeEntr
 ghost use Rattle.floor_table.specs.nodes.FloorSeats.{LoadsTreeCell, StoresTreeCell, StoresTreePhase};
 ghost use Rattle.floor_table.specs.nodes.Follows.{FollowsWait};
 ghost use Rattle.floor_table.specs.nodes.Holds.{TreeKeeps, first_tree_view, joined_tree_view, left_tree_view, right_tree_view, spent_tree_view};
-ghost use Rattle.floor_table.specs.nodes.Plays.{SeatGoesOn, SeatStopsAt, TriesNode};
+ghost use Rattle.floor_table.specs.nodes.Plays.{PassesNode, SeatGoesOn, SeatStopsAt, TriesNode};
 ghost use Rattle.floor_table.specs.nodes.RecordSeats.{MarksClear, MarksPlaced, MarksRemoved};
 ghost use Rattle.floor_table.specs.nodes.TurnSeats.{GivesTreeTurn, TriesTreeTurn};
 
@@ -70,6 +70,15 @@ pub struct TryNode<N: Named + Planted> {
 
 impl<N: Named + Planted> Play<TreeSlot, TreeView> for TryNode<N> {
     ghost then = { TriesNode N.nodes N.prog N.lim };
+}
+
+/// A node is passed by, if no record lies there.
+pub struct PassNode<N: Named + Planted> {
+    of: PhantomData<N>,
+}
+
+impl<N: Named + Planted> Play<TreeSlot, TreeView> for PassNode<N> {
+    ghost then = { PassesNode N.nodes N.prog N.lim };
 }
 
 /// A node is unlocked by a seat that goes on.

@@ -18,7 +18,7 @@ use Rattle.span_profile.specs.inner.Shows.{Shows}
 abbrev pub has_fault : List Entry → Bool
 has_fault entries = list_any (λ (entry : Entry). is_fault entry.end) entries
 
--- A run under way: the state is the one that the journal leads to, and the list is one of its enabled tasks. The chains hold a
+-- A run under way: the state is the one that the journal leads to, and its enabled tasks are known. The chains hold a
 -- node for each entry of the counted part, which shows what the entry did.
 pub record IsTracked (p : Program) (lim : Bounds) (run : Tracked) : Type 0 where
   pub is_run : IsRun p lim run.journal run.st

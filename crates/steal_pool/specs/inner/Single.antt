@@ -2,7 +2,7 @@
 use Rattle.std.specs.Prelude.{◌≡◌, ℕ, ◌+◌, ◌<◌, ◌≤◌, ◌⊎◌, List, All, length, map}
 use Rattle.std.specs.List.{insert}
 use Rattle.steal_pool.specs.declared.law.Hand.{Hand}
-use Rattle.steal_pool.specs.Ends.{DeckId, Ends}
+use Rattle.steal_pool.specs.DeckEnds.{DeckId, DeckEnds}
 
 -- the end of the deck's owner, and how many pushes are left
 pub record OwnEnd : Type 0 where
@@ -16,7 +16,7 @@ pub record OtherEnd : Type 0 where
   pub hand : Hand
 
 -- the worker's own end is inserted at its number, among its ends of the others' decks
-abbrev pub ends_of : ℕ → OwnEnd → List OtherEnd → Ends
+abbrev pub ends_of : ℕ → OwnEnd → List OtherEnd → DeckEnds
 ends_of number own others = record {
   number = number;
   spare = own.spare;

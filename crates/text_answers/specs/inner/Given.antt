@@ -11,7 +11,7 @@ use Rattle.text_answers.specs.declared.book.Book.{Book}
 use Rattle.command_line.specs.declared.command.Command.{Command}
 use Rattle.text_answers.specs.Answers.{Due, AnswersReplay, AnswersRun, default_limits, for_load, with_journal}
 use Rattle.text_answers.specs.Causes.{Cause}
-use Rattle.text_answers.specs.Starting.{IsReady}
+use Rattle.text_answers.specs.Starting.{IsReadyToRun}
 use Rattle.text_answers.specs.Theorem.{HasReplay, HasRun, IsNew}
 use Rattle.text_answers.specs.declared.starting.Started.{Started}
 use Rattle.text_answers.specs.declared.starting.Started.TheVariants.{Answered, ToRun}
@@ -34,7 +34,7 @@ IsInputOf tells command before after (Failed answer) =
 -- what a command with this input has come to: its answer; or the program of its accepted text, ready to be run
 abbrev pub IsStartedFor : Command → List ℕ → Book → Started → Type 0
 IsStartedFor command input book (Answered answer) = Due command input book answer
-IsStartedFor command input book (ToRun p lim) = Accepted (program_text command input) p × IsReady command p lim book
+IsStartedFor command input book (ToRun p lim) = Accepted (program_text command input) p × IsReadyToRun command p lim book
 
 -- the same, of each input that has this program text and this journal text
 abbrev pub IsStartedForTexts : Command → List ℕ → List ℕ → Book → Started → Type 0

@@ -364,6 +364,14 @@ taken_since nodes me after t slot took =
       looks = grown_is me.0.looks after.0.looks (ap (λ (v : TreeView). v.looks) took.view);
     }
 
+pub took_same : (nodes : List (List Elem)) (me after : TreeSeat) (t : ℕ) (slot : TaskSlot) → HasTakenTask nodes me after t slot → SameSeat me.0.floor after.0.floor
+took_same nodes me after t slot took = record {
+  worker = ap (λ (m : Seat). m.0.worker) took.floor.seat;
+  kind = ap (λ (m : Seat). m.0.kind) took.floor.seat;
+  split = ap (λ (m : Seat). m.0.split) took.floor.seat;
+  out = ap (λ (m : Seat). m.0.out) took.floor.seat;
+}
+
 module _ (before a : TreeSeat) (t : ℕ) (since : HasTakenSince before a t) (turn : HeldTurn) (has : turn_in a.0.floor.turns t ≡ Some turn) where
   -- it was this turn, also for a seat that has had more turns since
   pub had_since : (after : TreeSeat) → HasGrown a.0.floor.turns after.0.floor.turns → IsAdded (record { task = t; turn = Some turn }) before.0.floor.turns after.0.floor.turns

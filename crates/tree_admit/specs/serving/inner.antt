@@ -1,2 +1,3 @@
 -- What only private clauses cite.
 pub mod InHand
+pub mod Taking

@@ -37,30 +37,12 @@ impl<'a, N: Named + Planted> Workshop<'a, N> {
         ensures alone { IfOk result (λ tried. AdmitsIfAlone N.prog N.lim worker.me.0.floor task tried.1) }
         ensures same { IfOk result (λ tried. SameTreeStand worker tried.0) }
     {
-        let TreeWorker {
-            number,
-            mut stand,
-            log,
-        } = worker;
-        match self.floor.take_turn(&mut stand, number, task) {
-            Ok(slot) => {
-                let holding = Holding {
-                    number,
-                    stand,
-                    log,
-                    task,
-                    slot,
-                };
-                self.admit_taken(rt, holding)
-            }
-            Err(busy) => {
-                let worker = TreeWorker { number, stand, log };
-                Ok((
-                    worker,
-                    Admission::Busy {
-                        holder: busy.holder,
-                    },
-                ))
+        match self.take_in_hand(worker, task) {
+            Ok(holding) => self.admit_taken(rt, holding),
+            Err(left) => {
+                let (worker, busy) = left;
+                let holder = busy.holder;
+                Ok((worker, Admission::Busy { holder }))
             }
         }
     }

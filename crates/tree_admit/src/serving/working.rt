@@ -59,30 +59,12 @@ impl<'a, N: Named + Planted> Workshop<'a, N> {
         ensures alone { IfOk result (λ served. ServesIfAlone N.prog N.lim worker.me.0.floor task served.1) }
         ensures same { IfOk result (λ served. SameTreeStand worker served.0) }
     {
-        let TreeWorker {
-            number,
-            mut stand,
-            log,
-        } = worker;
-        match self.floor.take_turn(&mut stand, number, task) {
-            Ok(slot) => {
-                let holding = Holding {
-                    number,
-                    stand,
-                    log,
-                    task,
-                    slot,
-                };
-                self.serve_taken(rt, holding, gate)
-            }
-            Err(busy) => {
-                let worker = TreeWorker { number, stand, log };
-                Ok((
-                    worker,
-                    Served::Busy {
-                        holder: busy.holder,
-                    },
-                ))
+        match self.take_in_hand(worker, task) {
+            Ok(holding) => self.serve_taken(rt, holding, gate),
+            Err(left) => {
+                let (worker, busy) = left;
+                let holder = busy.holder;
+                Ok((worker, Served::Busy { holder }))
             }
         }
     }

@@ -7,7 +7,7 @@ ghost use Rattle.effect_tree.specs.Place.{IsSolid};
 use region_paths::{Elem, Path};
 
 /// Whether an element is a name or a literal index.
-fn is_fixed(elem: Elem) -> bool
+pub(crate) fn is_fixed(elem: Elem) -> bool
     ensures { result ≡ is_solid elem }
 {
     match elem {

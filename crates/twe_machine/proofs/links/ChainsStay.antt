@@ -122,6 +122,13 @@ module _ (p : Program) (lim : Bounds) (well : IsWellFormed p) where
       subst (λ (links : List Link). WaitsOnUnlessDone links s u) (sym (admitted_links st t (slice_get st.tasks t))) waits
   chain_stays st Run t s u may stands waits = segment_on p lim well st t may stands s u waits
 
+  -- a task that is done stays so
+  pub done_stays : (st : State) (kind : Kind) (t u : ℕ) → MayTake st kind t → Stands p lim st → IsDone st.links u
+      → IsDone (result_by_kind p lim st kind t).0.links u
+  done_stays st Admit t u may stands done =
+      subst (λ (links : List Link). IsDone links u) (sym (admitted_links st t (slice_get st.tasks t))) done
+  done_stays st Run t u may stands done = done_on p lim well st t may stands u done
+
   -- over all moves of a journal
   pub chain_stays_on : (st : State) (entries : List Entry) (s u : ℕ) → LegalFrom p lim st entries → Stands p lim st → WaitsOnUnlessDone st.links s u
       → WaitsOnUnlessDone (replayed p lim st entries).links s u

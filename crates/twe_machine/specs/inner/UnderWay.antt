@@ -5,7 +5,7 @@ use Rattle.twe_machine.specs.declared.replaying.Replaying.{Replaying}
 use Rattle.twe_machine.specs.Listings.{IsListing}
 use Rattle.twe_machine.specs.Runs.{IsRun}
 
--- the journal is legal and leads to the state, and the list is one of its enabled tasks
+-- the journal is legal and leads to the state, whose enabled tasks are known
 pub record IsUnderWay (p : Program) (lim : Bounds) (run : Replaying) : Type 0 where
   pub is_run : IsRun p lim run.journal run.st
   pub listing : IsListing run.st run.enabled

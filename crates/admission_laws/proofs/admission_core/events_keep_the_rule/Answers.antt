@@ -9,7 +9,7 @@ pub returns-clause-descents : goal.returns-clause-descents
 returns-clause-descents c = λ nodes s tree reached. descents_saw nodes s (reached_kept nodes s tree reached)
 
 pub returns-clause-walks : goal.returns-clause-walks
-returns-clause-walks c = λ nodes s tree reached. walks_saw nodes s (reached_kept nodes s tree reached)
+returns-clause-walks c = λ nodes s tree reached. walks_saw nodes s tree (reached_kept nodes s tree reached)
 
 pub returns-clause-finished : goal.returns-clause-finished
 returns-clause-finished c = λ nodes s tree reached. (reached_kept nodes s tree reached).shut

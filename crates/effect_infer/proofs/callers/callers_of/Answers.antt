@@ -1,26 +1,31 @@
-use Rattle.std.proofs.Common.{◌≡◌, ◌+◌, ◌<◌, List, ℕ, Some, length, refl, sym, ap, ◌∙◌, subst, arith}
+use Rattle.std.proofs.Common.{◌≡◌, ◌+◌, Some, length, refl, sym, ◌∙◌, subst, arith}
 use Rattle.std.specs.Prelude.{slice_get}
 use Rattle.std.proofs.lemmas.Option.{slice_get_read}
-use Rattle.effect_infer.specs.declared.found.CallSite.{CallSite}
-use Rattle.effect_infer.specs.Rows.{with_item}
-use Rattle.effect_infer.proofs.RowItems.{ListsSome, lists-start, lists-more, lists-skip, lists-all}
-use Rattle.effect_infer.proofs.callers.callers_of.Goals.{then-callee-len+in_ok-push_to, else-callee-len}
+use Rattle.effect_infer.proofs.RowItems.{ListsSome, lists-more, lists-same, lists-skip, lists-all}
+use Rattle.effect_infer.proofs.callers.callers_of.Goals.{then-not-stands_before+then-callee-len+in_ok-push_to, else-not-stands_before, else-not-stands_before-via-then-not-stands_before+else-callee-len, else-not-stands_before-via-else-not-stands_before}
 use Rattle.effect_infer.proofs.callers.callers_of.Goals as goal
 
--- one place more
+-- one place more, unless an equal call stands before it
 pub loop-place-preserved : goal.loop-place-preserved
 loop-place-preserved c =
+    let methods = c.args.methods in
     let calls = c.args.calls.now in
+    let place = c.loop-place.place in
+    let callers = c.loop-place.callers in
     let call = c.index-calls-place.result in
-    let at : slice_get calls c.loop-place.place ≡ Some call = slice_get_read calls (length calls) c.loop-place.place call refl c.loop-place-test.true c.index-calls-place.is in
-    let long : c.len.result ≡ length c.loop-place.callers = c.len.ensures in
-    elim c.if-callee-len.branch [
-      | then-callee-len+in_ok-push_to w ↦
-          subst (ListsSome c.args.methods calls (c.loop-place.place + 1)) (sym (w.callers-is ∙ w.in_ok-push_to.ensures))
-          (lists-more c.args.methods calls c.loop-place.place c.loop-place.callers call at (let below = w.if-callee-len.true in omega (arith, below, long)) c.loop-place.invariant)
-      | else-callee-len w ↦
-          subst (ListsSome c.args.methods calls (c.loop-place.place + 1)) (sym w.callers-is)
-          (lists-skip c.args.methods calls c.loop-place.place c.loop-place.callers call at (let past = w.if-callee-len.false in omega (arith, past, long)) c.loop-place.invariant)
+    let so_far = c.loop-place.invariant in
+    let at : slice_get calls place ≡ Some call = slice_get_read calls (length calls) place call refl c.loop-place-test.true c.index-calls-place.is in
+    elim c.if-not-stands_before.branch [
+      | then-not-stands_before+then-callee-len+in_ok-push_to w ↦
+          subst (ListsSome methods calls (place + 1)) (sym (w.callers-is ∙ w.in_ok-push_to.ensures))
+          (lists-more methods calls place callers call at (let below = w.if-callee-len.true in let long : w.len.result ≡ length callers = w.len.ensures in omega (arith, below, long)) so_far)
+      | else-not-stands_before w ↦ subst (ListsSome methods calls (place + 1)) (sym w.callers-is) (elim w.else-not-stands_before.branch [
+        | else-not-stands_before-via-then-not-stands_before+else-callee-len w' ↦
+            lists-skip methods calls place callers call at (let past = w'.if-callee-len.false in let long : w'.len.result ≡ length callers = w'.len.ensures in omega (arith, past, long)) so_far
+        | else-not-stands_before-via-else-not-stands_before w' ↦
+            let stands = c.stands_before.ensures w'.if-not-stands_before.false in
+            lists-same methods calls place c.in_ok-first.first callers call at stands.0 stands.1 so_far
+      ])
     ]
 
 pub returns : goal.returns

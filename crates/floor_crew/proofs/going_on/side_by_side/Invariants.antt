@@ -2,7 +2,7 @@ use Rattle.floor_crew.proofs.going_on.side_by_side.Given as goal
 
 -- the round is about the program, the limits and the nodes
 abbrev pub ghosts-round-N-Named : goal.ghosts-round-N-Named
-ghosts-round-N-Named g a = record { prog = a.p.now; lim = a.lim }
+ghosts-round-N-Named g a = record { prog = a.setup.now.p.now; lim = a.setup.now.lim }
 
 abbrev pub ghosts-round-N-Planted : goal.ghosts-round-N-Planted
-ghosts-round-N-Planted g a = record { nodes = a.shape.now }
+ghosts-round-N-Planted g a = record { nodes = a.setup.now.shape.now }

@@ -1,4 +1,4 @@
-use Rattle.std.proofs.Common.{◌∙◌, refl, sym, ap, subst}
+use Rattle.std.proofs.Common.{sym, subst}
 use Rattle.twe_program.specs.WellFormed.{IsWellFormed}
 use Rattle.opt_engine.proofs.Nexts.{draft_is, linked}
 use Rattle.opt_engine.proofs.readiness.draft_of.Goals as goal

@@ -3,7 +3,7 @@ use Rattle.seg_journal.specs.declared.journal.Entry.{Entry}
 use Rattle.twe_base.specs.Limits.{Bounds, IsWithin}
 use Rattle.twe_program.specs.Program.{Program}
 use Rattle.twe_program.specs.WellFormed.{IsWellFormed}
-use Rattle.run_advice.specs.Totals.{AreFew}
+use Rattle.run_advice.specs.Totals.{CanBeSummed}
 use Rattle.run_advice.specs.declared.totals.TaskWork.{TaskWork}
 use Rattle.run_advice.proofs.SmallWorks.{run_is_small, works_are}
 use Rattle.run_advice.proofs.advising.advise.Goals as goal
@@ -38,4 +38,4 @@ returns-clause-few c =
     let within = subst (λ (lim : Bounds). IsWithin lim.fuel lim.tasks) c.lim.view_is c.lim.invariant in
     let small = run_is_small c.args.p.now c.args.lim well within c.args.moves.now c.in_ok-journal.journal c.in_ok-journal.st c.in_ok-journal.ensures.counted in
     let are = works_are c.args.lim.fuel c.lim-2.inside.fuel c.in_ok-journal.journal c.as_slice.result.now c.in_ok-journal.st.tasks c.as_slice-2.result.now c.in_ok-works.works c.in_ok-works.ensures (ap (λ (b : Bounds). b.fuel) c.lim-2.view_is) c.as_slice.ensures c.as_slice-2.ensures in
-    subst (λ (l : List TaskWork). AreFew l) (sym are) small.1
+    subst (λ (l : List TaskWork). CanBeSummed l) (sym are) small.1

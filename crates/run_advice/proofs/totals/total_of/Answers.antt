@@ -1,20 +1,20 @@
 use Rattle.std.proofs.Common.{◌≡◌, ◌∙◌, ap, sym, arith}
 use Rattle.std.specs.Prelude.{◌==◌, slice_index_or}
-use Rattle.run_advice.specs.Totals.{with_task}
+use Rattle.run_advice.specs.Totals.{with_work}
 use Rattle.run_advice.specs.declared.totals.TaskTotal.{TaskTotal}
 use Rattle.run_advice.specs.declared.totals.TaskWork.{TaskWork}
 use Rattle.run_advice.proofs.TaskTotals.{small_more, total_more}
 use Rattle.run_advice.proofs.totals.total_of.Goals as goal
 
-pub with_task-total-requires-clause-made : goal.with_task-total-requires-clause-made
-with_task-total-requires-clause-made c =
+pub with_work-total-requires-clause-made : goal.with_work-total-requires-clause-made
+with_work-total-requires-clause-made c =
     let few = c.requires.few in
     let so_far = c.loop-task.invariant.made_few in
     let test = c.loop-task-test.true in
     omega (arith, few, so_far, test)
 
-pub with_task-total-requires-clause-work : goal.with_task-total-requires-clause-work
-with_task-total-requires-clause-work c =
+pub with_work-total-requires-clause-work : goal.with_work-total-requires-clause-work
+with_work-total-requires-clause-work c =
     let light = c.requires.small c.loop-task.task-index (record { decl = 0; work = 0 }) c.loop-task-test.true in
     let few = c.requires.few in
     let so_far = c.loop-task.invariant.work_small in
@@ -29,11 +29,11 @@ loop-task-preserved c =
     let so_far = c.loop-task.invariant in
     let light = c.requires.small c.loop-task.task-index none c.loop-task-test.true in
     let small = small_more (task.decl == c.args.decl) c.loop-task.total task c.loop-task.task-index so_far.made_few so_far.work_small light in
-    let now = c.with_task-total.ensures in
+    let now = c.with_work-total.ensures in
     let made = ap (λ (t : TaskTotal). t.made) now in
     let work = ap (λ (t : TaskTotal). t.work) now in
     record {
-      same = now ∙ (ap (λ (t : TaskTotal). with_task (task.decl == c.args.decl) t task) so_far.same ∙ sym (total_more c.args.decl works c.loop-task.task-index none c.loop-task-test.true));
+      same = now ∙ (ap (λ (t : TaskTotal). with_work (task.decl == c.args.decl) t task) so_far.same ∙ sym (total_more c.args.decl works c.loop-task.task-index none c.loop-task-test.true));
       made_few = omega (arith, small, made);
       work_small = omega (arith, small, work);
     }

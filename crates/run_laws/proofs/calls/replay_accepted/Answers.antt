@@ -1,9 +1,7 @@
-use Rattle.std.proofs.Common.{◌≤◌, ℕ, List, IfOk, subst, arith}
-use Rattle.seg_journal.specs.declared.journal.Entry.{Entry}
+use Rattle.std.proofs.Common.{subst, arith}
 use Rattle.twe_base.specs.Limits.{Bounds, IsWithin}
 use Rattle.twe_program.specs.Program.{Program}
 use Rattle.twe_program.specs.WellFormed.{IsWellFormed}
-use Rattle.twe_machine.specs.declared.state.State.{State}
 use Rattle.twe_machine.specs.Runs.{Legal}
 use Rattle.run_laws.specs.SafeRuns.{IsSafeRun}
 use Rattle.run_laws.proofs.SafeJournals.{on_ok, safe_result}

@@ -25,8 +25,9 @@ returns c text p workers crew lim answer other short accepted flag limits one do
     let all_later : AllTasksDone (state_after p lim second.0.journal) =
     subst (λ (q : Program). AllTasksDone (state_after q lim second.0.journal)) is_later later.has.has.ended.1 in
     let texts : result_text p (state_after p lim one.0.journal) ≡ result_text p (state_after p lim second.0.journal) =
-    c.deterministic_mains_have_one_result_text.ensures p wf keeps flag lim limits
-    one.0.journal second.0.journal legal_first legal_later all_first all_later in
+    c.deterministic_mains_have_one_result_text.ensures p lim one.0.journal second.0.journal
+    (record { well_formed = wf; keeps = keeps; legal = legal_first }) (record { well_formed = wf; keeps = keeps; legal = legal_later })
+    flag limits all_first all_later in
     first.same
     ∙ (ap (λ (q : Program). on_out Done (result_text q (state_after q lim one.0.journal))) is_first
     ∙ (ap (on_out Done) texts

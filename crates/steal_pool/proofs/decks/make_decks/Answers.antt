@@ -1,7 +1,7 @@
 use Rattle.std.proofs.Common.{List, [], ◌∷◌, ◌++◌, length, ap, sym, ◌∙◌, subst}
 use Rattle.std.proofs.lemmas.List.{length-map}
 use Rattle.steal_pool.specs.declared.law.Hand.{Hand}
-use Rattle.steal_pool.specs.Ends.{Ends, AreNew}
+use Rattle.steal_pool.specs.DeckEnds.{DeckEnds, AreNew}
 use Rattle.steal_pool.proofs.NewLemmas.{agrees, one_more, written_back}
 use Rattle.steal_pool.proofs.decks.make_decks.Goals as goal
 
@@ -16,7 +16,7 @@ loop-number-preserved c =
     let met = c.in_ok-others.ensures in
     let own = c.in_ok-own.own in
     let new : AreNew c.loop-number.number c.args.capacity c.args.bound c.as_mut_slice.result.now =
-    subst (λ (all : List Ends). AreNew c.loop-number.number c.args.capacity c.args.bound all) (sym c.as_mut_slice.ensures.value) c.loop-number.invariant in
+    subst (λ (all : List DeckEnds). AreNew c.loop-number.number c.args.capacity c.args.bound all) (sym c.as_mut_slice.ensures.value) c.loop-number.invariant in
     let count = ap (λ l. length l) met.met ∙ (length-map c.as_mut_slice.result.now _ ∙ (ap (λ l. length l) c.as_mut_slice.ensures.value ∙ sym c.loop-number.decks.ok.0)) in
     let decks = written_back c.loop-number.decks.items c.meet_all.new.decks c.loop-number.decks.len count ∙ met.met in
     let longer = c.in_ok-push.ensures.items ∙ (λ i. decks i ++ c.new.ensures i ∷ []) in

@@ -1,4 +1,4 @@
-use Rattle.steal_pool.specs.Ends.{AreNew}
+use Rattle.steal_pool.specs.DeckEnds.{AreNew}
 use Rattle.steal_pool.proofs.decks.make_decks.Given as goal
 
 -- the decks so far are new

@@ -2,18 +2,18 @@ use Rattle.std.proofs.Common.{◌≡◌, List, [], ◌∷◌, ◌++◌, length, 
 use Rattle.std.specs.List.{All}
 use Rattle.std.proofs.Math.Seq.{get_or-append_seam, take-append_seam}
 use Rattle.std.proofs.lemmas.List.Elements.{All-take}
-use Rattle.steal_pool.specs.Ends.{Ends}
+use Rattle.steal_pool.specs.DeckEnds.{DeckEnds}
 use Rattle.steal_pool.proofs.tests.next_mover.Goals as goal
 
-abbrev Bounded : Ends → Type 0
+abbrev Bounded : DeckEnds → Type 0
 Bounded ends = ends.bound ≡ 4000
 
-front : (all xs : List Ends) (x : Ends) → all ≡ xs ++ x ∷ [] → All Bounded all → All Bounded xs
+front : (all xs : List DeckEnds) (x : DeckEnds) → all ≡ xs ++ x ∷ [] → All Bounded all → All Bounded xs
 front all xs x is h = subst (All Bounded) (take-append_seam xs (x ∷ [])) (All-take Bounded (length xs) (xs ++ x ∷ []) (subst (All Bounded) is h))
 
-last : (all xs : List Ends) (x : Ends) → all ≡ xs ++ x ∷ [] → All Bounded all → Bounded x
+last : (all xs : List DeckEnds) (x : DeckEnds) → all ≡ xs ++ x ∷ [] → All Bounded all → Bounded x
 last all xs x is h =
-    ap (λ (e : Ends). e.bound) (sym (get_or-append_seam xs x [] x)) ∙ subst (All Bounded) is h (length xs) x (omega (arith, length-append xs (x ∷ [])))
+    ap (λ (e : DeckEnds). e.bound) (sym (get_or-append_seam xs x [] x)) ∙ subst (All Bounded) is h (length xs) x (omega (arith, length-append xs (x ∷ [])))
 
 pub invariant_of-result : goal.invariant_of-result
 invariant_of-result c = record { bounded = last c.args.decks.now c.pop.new.self c.in_ok-deck.deck c.in_ok-deck.ensures.split c.requires }

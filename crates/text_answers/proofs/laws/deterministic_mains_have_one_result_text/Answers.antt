@@ -13,6 +13,6 @@ same_text p one other same =
     λ i. prints_text (same.prints i) ++ (flat_map (cell_line (same.cells i)) p.cells ++ line (codes "tasks " ++ decimal (same.tasks i)))
 
 pub returns : goal.returns
-returns c p wf keeps flag lim within one other legal_one legal_other done_one done_other =
+returns c p lim one other run run_too flag within done_one done_other =
     same_text p (state_after p lim one) (state_after p lim other)
-    (c.deterministic_mains_have_one_result.ensures p wf keeps flag lim within.tasks_least one other legal_one legal_other done_one done_other)
+    (c.deterministic_mains_have_one_result.ensures p lim one other run run_too flag within.tasks_least done_one done_other)

@@ -4,6 +4,7 @@ use Rattle.twe_program.specs.WellFormed.{IsWellFormed}
 use Rattle.twe_machine.specs.declared.state.State.{State}
 use Rattle.twe_machine.specs.Runs.{AllTasksDone, EachOnce, IsOutcome, counted, state_after}
 use Rattle.twe_machine.specs.declared.ending.Outcome.TheVariants.{AllDone}
+use Rattle.determinism_laws.specs.AcceptedRuns.{IsAcceptedRun}
 use Rattle.text_answers.specs.Answers.{AnswersRun}
 use Rattle.text_answers.proofs.Outcomes.{has_journal}
 use Rattle.text_answers.proofs.replaying.answer_replay.Goals as goal
@@ -23,8 +24,9 @@ returns c =
     let isolated = c.accepted_runs_are_isolated.ensures.isolated p well c.requires.keeps lim journal run.legal in
     let covered = c.accepted_runs_are_isolated.ensures.covered p well c.requires.keeps lim journal run.legal in
     let within : IsWithin lim.fuel lim.tasks = subst (λ (b : Bounds). IsWithin b.fuel b.tasks) c.lim.view_is c.lim.invariant in
-    let results = c.deterministic_tasks_have_results.ensures p well c.requires.keeps lim within.tasks_least journal run.legal in
-    let of_main = c.deterministic_mains_have_their_results.ensures p well c.requires.keeps lim within.tasks_least journal run.legal in
+    let accepted : IsAcceptedRun p lim journal = record { well_formed = well; keeps = c.requires.keeps; legal = run.legal } in
+    let results = c.deterministic_tasks_have_results.ensures p lim journal accepted within.tasks_least in
+    let of_main = c.deterministic_mains_have_their_results.ensures p lim journal accepted within.tasks_least in
     let once : IsOutcome st AllDone → EachOnce journal st = λ all. subst (EachOnce journal) (sym run.same) (laws.once p lim journal well run.legal (subst AllTasksDone run.same all.1)) in (
       ended,
       record {

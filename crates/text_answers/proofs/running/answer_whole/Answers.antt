@@ -4,6 +4,7 @@ use Rattle.twe_program.specs.WellFormed.{IsWellFormed}
 use Rattle.twe_machine.specs.declared.ending.Outcome.TheVariants.{AllDone}
 use Rattle.twe_machine.specs.declared.state.State.{State}
 use Rattle.twe_machine.specs.Runs.{AllTasksDone, EachOnce, IsOutcome, counted, state_after}
+use Rattle.determinism_laws.specs.AcceptedRuns.{IsAcceptedRun}
 use Rattle.text_answers.specs.Answers.{AnswersRun}
 use Rattle.text_answers.proofs.Outcomes.{has_journal}
 use Rattle.text_answers.proofs.running.answer_whole.Goals as goal
@@ -33,8 +34,9 @@ returns-clause-answer c =
     let within : IsWithin lim.fuel lim.tasks = subst (λ (b : Bounds). IsWithin b.fuel b.tasks) c.lim.view_is c.lim.invariant in
     let isolated = isolation.isolated p well c.requires.keeps lim journal ran.legal in
     let covered = isolation.covered p well c.requires.keeps lim journal ran.legal in
-    let results = c.deterministic_tasks_have_results.ensures p well c.requires.keeps lim within.tasks_least journal ran.legal in
-    let of_main = c.deterministic_mains_have_their_results.ensures p well c.requires.keeps lim within.tasks_least journal ran.legal in
+    let accepted : IsAcceptedRun p lim journal = record { well_formed = well; keeps = c.requires.keeps; legal = ran.legal } in
+    let results = c.deterministic_tasks_have_results.ensures p lim journal accepted within.tasks_least in
+    let of_main = c.deterministic_mains_have_their_results.ensures p lim journal accepted within.tasks_least in
     let once : IsOutcome st AllDone → EachOnce journal st = λ all. subst (EachOnce journal) (sym ran.state) (laws.once p lim journal well ran.legal (subst AllTasksDone ran.state all.1)) in
     record {
       outcome = ended;

@@ -12,7 +12,7 @@ pub loop-i-init : goal.loop-i-init
 loop-i-init c = record {
   so_far = record {
     is_run = subst (λ (j : List Entry). IsRun c.args.p.now c.args.lim j c.in_ok-st.st) (sym c.new-journal.ensures) (record { legal = tt; same = c.in_ok-st.ensures });
-    listing = subst (λ (s : State). IsListing s c.new-enabled.result) (sym c.in_ok-st.ensures) (c.new-enabled.ensures c.args.p.now c.args.lim);
+    listing = subst (λ (s : State). IsListing s c.in_ok-enabled.enabled) (sym c.in_ok-st.ensures) (c.in_ok-enabled.ensures.start c.args.p.now c.args.lim);
   };
   moves = ap (map move_of) c.new-journal.ensures;
   count = ap length c.new-journal.ensures;

@@ -9,7 +9,7 @@ use Rattle.twe_opt.proofs.top.answer_command.Goals as goal
 pub answer_run-requires : goal.answer_run-requires
 answer_run-requires g c =
     let src = source g.S.Source.left g.S.Source.faults g.S.Source.read_gives in
-    let is = subst (λ (s : Started). IsStarted src c.args.cmd.now c.args.src.now c.start.new.src c.start.new.book s) c.in-ToRun.is c.in_ok-started.ensures in
+    let is = subst (λ (s : Started). IsStarted src c.args.cmd.now c.args.src.now c.start_command.new.src c.start_command.new.book s) c.in-ToRun.is c.in_ok-started.ensures in
     let ran = c.in_ok-journal-in-ToRun.ensures in
     record {
       new = is.0.new;
@@ -25,5 +25,5 @@ answer_run-requires g c =
 pub returns-in_ok-journal-in-ToRun : goal.returns-in_ok-journal-in-ToRun
 returns-in_ok-journal-in-ToRun g c =
     let src = source g.S.Source.left g.S.Source.faults g.S.Source.read_gives in
-    let is = subst (λ (s : Started). IsStarted src c.args.cmd.now c.args.src.now c.start.new.src c.start.new.book s) c.in-ToRun.is c.in_ok-started.ensures in
-    cause_of_run src c.args.cmd.now c.args.src.now c.start.new.src c.in-ToRun.p c.answer_run.new.book c.answer_run.result is.1 c.answer_run.ensures
+    let is = subst (λ (s : Started). IsStarted src c.args.cmd.now c.args.src.now c.start_command.new.src c.start_command.new.book s) c.in-ToRun.is c.in_ok-started.ensures in
+    cause_of_run src c.args.cmd.now c.args.src.now c.start_command.new.src c.in-ToRun.p c.answer_run.new.book c.answer_run.result is.1 c.answer_run.ensures

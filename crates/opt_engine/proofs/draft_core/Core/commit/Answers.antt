@@ -1,4 +1,4 @@
-use Rattle.std.proofs.Common.{◌≡◌, sym, ap, ◌∙◌, subst}
+use Rattle.std.proofs.Common.{sym, ◌∙◌}
 use Rattle.opt_engine.proofs.Told.{answer_kept}
 use Rattle.opt_engine.proofs.draft_core.Core.commit.Goals as goal
 

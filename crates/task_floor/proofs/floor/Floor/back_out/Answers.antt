@@ -2,7 +2,7 @@ use Rattle.std.proofs.Common.{ℕ, arith, sym, subst}
 use mathlib.Core.Option.{none}
 use Rattle.atomic_table.specs.Table.{Allows, step}
 use Rattle.floor_table.specs.nodes.Holds.{TreeKeeps}
-use Rattle.floor_table.specs.nodes.Layout.{free_lock, lock_place, tree_slot_count}
+use Rattle.floor_table.specs.nodes.Layout.{left_lock, lock_place, tree_slot_count}
 use Rattle.floor_table.specs.nodes.Plays.{SeatStopsAt}
 use Rattle.floor_table.specs.nodes.Seats.{MayStop}
 use Rattle.floor_table.specs.declared.nodes.view.TreeView.{TreeView}
@@ -33,13 +33,16 @@ store-requires g c =
     let may = c.requires.may in
     let given = c.give_content.ensures.given may.1 may.3.slot in
     let view = same_view lim me mid n c.args.content may.1 given in
-    let P : ℕ → ℕ → Type 0 =
-    λ word slots. Allows (TreeKeeps nodes p lim) slots id mid word (λ k. free_lock) (λ k. SeatStopsAt p lim (step slots word free_lock 0 none) mid free_lock) in
-    let allowed : P (lock_place p lim n) (tree_slot_count nodes lim) =
+    let P : ℕ → ℕ → ℕ → Type 0 =
+    λ x word slots. Allows (TreeKeeps nodes p lim) slots id mid word (λ k. x) (λ k. SeatStopsAt p lim (step slots word x 0 none) mid x) in
+    let allowed : P (left_lock c.args.content) (lock_place p lim n) (tree_slot_count nodes lim) =
     stop_at nodes p lim id n mid.0 mid.1 may.1 may.0 (subst (λ (v : TreeView). MayStop v n may.0) (sym view) may.2)
     (has_content lim me mid n c.args.content may.1 may.3 given) in
-    let at_word : P c.lock_place-place.result (tree_slot_count nodes lim) = subst (λ (w : ℕ). P w (tree_slot_count nodes lim)) (sym place) allowed in
-    (cc (here, same, still), omega (arith, words, place, below), subst (P c.lock_place-place.result) (sym c.self.invariant.4) at_word)
+    let at_place : P (left_lock c.args.content) c.lock_place-place.result (tree_slot_count nodes lim) =
+    subst (λ (w : ℕ). P (left_lock c.args.content) w (tree_slot_count nodes lim)) (sym place) allowed in
+    let at_word : P c.word_left-word.result c.lock_place-place.result (tree_slot_count nodes lim) =
+    subst (λ (x : ℕ). P x c.lock_place-place.result (tree_slot_count nodes lim)) (sym c.word_left-word.ensures) at_place in
+    (cc (here, same, still), omega (arith, words, place, below), subst (P c.word_left-word.result c.lock_place-place.result) (sym c.self.invariant.4) at_word)
 
 pub returns-clause-gave : goal.returns-clause-gave
 returns-clause-gave g c next others may hand =

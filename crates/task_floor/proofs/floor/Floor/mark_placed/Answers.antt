@@ -21,7 +21,7 @@ store-requires g c =
     let same = c.self.view_is in
     let worker = c.requires.worker in
     let may = c.requires.may in
-    let named : taken_lock me.0.floor.worker ≡ c.args.worker + 1 = omega (arith, worker) in
+    let named : taken_lock me.0.floor.worker ≡ c.args.worker + 2 = omega (arith, worker) in
     let P : ℕ → ℕ → ℕ → Type 0 =
     λ word slots x. Allows (TreeKeeps nodes p lim) slots id me word (λ n. x) (λ n. MarksPlaced nodes p lim (step slots word x 0 none) me x) in
     let allowed : P (lock_place p lim may.0.place) (tree_slot_count nodes lim) (taken_lock me.0.floor.worker) =
@@ -29,9 +29,9 @@ store-requires g c =
     let there : c.lock_place-place.result ≡ lock_place p lim may.0.place = place ∙ ap (lock_place p lim) (sym may.2) in
     let at_word : P c.lock_place-place.result (tree_slot_count nodes lim) (taken_lock me.0.floor.worker) =
     subst (λ (w : ℕ). P w (tree_slot_count nodes lim) (taken_lock me.0.floor.worker)) (sym there) allowed in
-    let with_worker : P c.lock_place-place.result (tree_slot_count nodes lim) (c.args.worker + 1) =
+    let with_worker : P c.lock_place-place.result (tree_slot_count nodes lim) (c.args.worker + 2) =
     subst (P c.lock_place-place.result (tree_slot_count nodes lim)) named at_word in
-    let with_slots = subst (λ (n : ℕ). P c.lock_place-place.result n (c.args.worker + 1)) (sym c.self.invariant.4) with_worker in
+    let with_slots = subst (λ (n : ℕ). P c.lock_place-place.result n (c.args.worker + 2)) (sym c.self.invariant.4) with_worker in
     (cc (here, same), omega (arith, words, place, below), with_slots)
 
 pub returns-clause-marked : goal.returns-clause-marked

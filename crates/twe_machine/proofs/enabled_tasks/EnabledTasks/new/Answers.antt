@@ -1,7 +1,10 @@
-use Rattle.std.proofs.Common.{arith}
+use Rattle.twe_machine.specs.Moves.{start_of}
 use Rattle.twe_machine.proofs.tasks.MadeTasks.{none_enabled}
 use Rattle.twe_machine.proofs.enabled_tasks.EnabledTasks.new.Goals as goal
 
 -- at the start no task is enabled
-pub returns : goal.returns
-returns c = λ p lim. record { all = λ s has. absurd (none_enabled p lim s has); path = λ i low. absurd (omega (arith, low)) }
+pub returns-clause-start : goal.returns-clause-start
+returns-clause-start c = λ p lim. record {
+  all = λ s row e here enabled has. absurd (none_enabled p lim s (row, here, enabled));
+  decided = record { reads = c.in_ok-new.ensures (start_of p lim).links; writes = c.in_ok-new-2.ensures (start_of p lim).links };
+}

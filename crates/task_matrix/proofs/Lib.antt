@@ -1,0 +1,3 @@
+pub mod Exactness
+pub mod Solutions
+pub mod Meetings

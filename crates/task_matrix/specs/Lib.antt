@@ -1,0 +1,5 @@
+pub mod Equalities
+pub mod PathEqualities
+pub mod Solving
+pub mod MeetingsOf
+pub mod Meetings

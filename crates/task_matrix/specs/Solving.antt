@@ -1,0 +1,43 @@
+-- Whether equalities can hold together, by one term in the place of another.
+use Rattle.std.specs.Prelude.{Bool, true, false, not, ◌&&◌, List, [], ◌∷◌, ◌++◌, if◌then◌else◌}
+use Rattle.std.specs.List.{filter}
+use Rattle.task_matrix.specs.declared.equality.Term.{Term}
+use Rattle.task_matrix.specs.declared.equality.Term.TheVariants.{Literal, First, Second}
+use Rattle.task_matrix.specs.declared.equality.Equality.{Equality}
+use Rattle.task_matrix.specs.Equalities.{same_term}
+use Rattle.task_matrix.specs.PathEqualities.{equal_terms}
+
+-- the right side of the step in the place of its left side
+abbrev pub replaced : Equality → Term → Term
+replaced step term = if same_term term step.left then step.right else term
+
+-- the term after all of the steps, one after the other
+abbrev pub after_steps : List Equality → Term → Term
+after_steps [] term = term
+after_steps (step ∷ steps) term = after_steps steps (replaced step term)
+
+-- the term is a literal
+abbrev pub is_literal : Term → Bool
+is_literal (Literal i) = true
+is_literal (First k) = false
+is_literal (Second k) = false
+
+-- with what the steps made of the terms, all of the equalities can hold together
+abbrev pub can_hold_after : List Equality → List Equality → Bool
+can_hold_after steps [] = true
+can_hold_after steps (e ∷ es) =
+    let left = after_steps steps e.left in
+    let right = after_steps steps e.right in
+    if same_term left right
+    then can_hold_after steps es
+    else if is_literal left
+    then not (is_literal right) && can_hold_after (steps ++ equal_terms right left ∷ []) es
+    else can_hold_after (steps ++ equal_terms left right ∷ []) es
+
+-- all of the equalities can hold together
+abbrev pub can_hold : List Equality → Bool
+can_hold es = can_hold_after [] es
+
+-- the equalities but for those that always hold
+abbrev pub telling : List Equality → List Equality
+telling es = filter (λ e. not (same_term e.left e.right)) es

@@ -1,0 +1,4 @@
+pub mod Causes
+pub mod Named
+pub mod Pieces
+pub mod TaskRows

@@ -1,0 +1,15 @@
+use Rattle.std.proofs.Common.{◌++◌, ℕ, ap, ◌∙◌}
+use Rattle.std.specs.Prelude.{codes}
+use Rattle.std.proofs.lemmas.Result.{on_ok_weaker}
+use Rattle.schedule_bounds.specs.Schedules.{least_time}
+use Rattle.twe_advise.specs.Texts.{word_number}
+use Rattle.twe_advise.proofs.Pieces.{three_more}
+use Rattle.twe_advise.proofs.json.push_json_time.Goals as goal
+
+pub returns : goal.returns
+returns c =
+    on_ok_weaker c.push_all.result
+    (three_more c.args.text.now (word_number (codes "{\"workers\":") c.args.workers) (word_number (codes ",\"least\":") (least_time c.args.work c.args.span c.args.workers)) (codes "}")
+    c.push_small.new.text c.push_small-2.new.text c.push_all.new.self c.in_ok-push_small.ensures
+    (c.in_ok-push_small-2.ensures ∙ ap (λ (n : ℕ). c.push_small.new.text ++ word_number (codes ",\"least\":") n) c.least_time.ensures))
+    c.push_all.ensures.ok

@@ -1,0 +1,52 @@
+-- What is written as JSON: one object, on one line. Names of tasks are identifiers, so nothing in them has to be escaped.
+use Rattle.std.specs.Prelude.{◌++◌, ◌==◌, ℕ, List, [], ◌∷◌, codes, if◌then◌else◌}
+use Rattle.std.specs.List.{flat_map}
+use Rattle.twe_program.specs.declared.program.Decl.{Decl}
+use Rattle.schedule_bounds.specs.Schedules.{least_time}
+use Rattle.run_advice.specs.Advice.{parallelism_of}
+use Rattle.run_advice.specs.Totals.{total_of}
+use Rattle.run_advice.specs.declared.totals.TaskTotal.{TaskTotal}
+use Rattle.run_advice.specs.declared.totals.TaskWork.{TaskWork}
+use Rattle.twe_advise.specs.Texts.{hundredths_text, rows_by, word_number}
+
+-- `{"work":8,"span":6,"parallelism":1.33`
+unfoldable pub json_head : ℕ → ℕ → List ℕ
+json_head work span =
+    (word_number (codes "{\"work\":") work ++ word_number (codes ",\"span\":") span)
+    ++ (codes ",\"parallelism\":" ++ hundredths_text (parallelism_of work span))
+
+-- `{"workers":2,"least":6}`
+abbrev pub json_time : ℕ → ℕ → ℕ → List ℕ
+json_time work span workers =
+    (word_number (codes "{\"workers\":") workers ++ word_number (codes ",\"least\":") (least_time work span workers)) ++ codes "}"
+
+-- the same after a comma
+abbrev pub json_next_time : ℕ → ℕ → ℕ → List ℕ
+json_next_time work span workers = codes "," ++ json_time work span workers
+
+-- the times
+unfoldable pub json_times : ℕ → ℕ → List ℕ
+json_times work span = (codes ",\"times\":[" ++ json_time work span 2) ++ flat_map (json_next_time work span) (4 ∷ 8 ∷ 16 ∷ 64 ∷ [])
+
+-- a comma, unless this is the first one
+abbrev pub comma_before : ℕ → List ℕ
+comma_before number = if number == 0 then [] else codes ","
+
+-- `{"name":"inc","made":1,"work":2,"heaviest":2}`
+abbrev pub json_task : TaskTotal → List ℕ → List ℕ
+json_task total name =
+    ((codes "{\"name\":\"" ++ name) ++ word_number (codes "\",\"made\":") total.made)
+    ++ (word_number (codes ",\"work\":") total.work ++ (word_number (codes ",\"heaviest\":") total.heaviest ++ codes "}"))
+
+-- the object of the declaration with this number, which comes after a comma unless it is the first
+abbrev pub json_task_of : List TaskWork → ℕ → Decl → List ℕ
+json_task_of works number decl = comma_before number ++ json_task (total_of number works) decl.name
+
+-- the objects of these declarations, the first of which has this number
+abbrev pub json_tasks : List TaskWork → ℕ → List Decl → List ℕ
+json_tasks works number decls = rows_by (json_task_of works) number decls
+
+-- the object
+abbrev pub json_text : List Decl → ℕ → ℕ → List TaskWork → List ℕ
+json_text decls work span works =
+    (((json_head work span ++ json_times work span) ++ codes "],\"tasks\":[") ++ json_tasks works 0 decls) ++ codes "]}\n"

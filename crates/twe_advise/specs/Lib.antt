@@ -1,0 +1,6 @@
+pub mod Answers
+pub mod Forms
+pub mod Json
+pub mod Texts
+pub mod Words
+pub mod inner

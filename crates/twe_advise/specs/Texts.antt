@@ -1,0 +1,62 @@
+-- The texts that are written. Each line ends with byte 10.
+use Rattle.std.specs.Prelude.{◌+◌, ◌/◌, ◌%◌, ◌++◌, ℕ, suc, List, [], ◌∷◌, codes, decimal, drop, length, min}
+use Rattle.std.specs.List.{flat_map}
+use Rattle.twe_program.specs.declared.program.Decl.{Decl}
+use Rattle.schedule_bounds.specs.Schedules.{least_time}
+use Rattle.run_advice.specs.Advice.{parallelism_of}
+use Rattle.run_advice.specs.Totals.{total_of}
+use Rattle.run_advice.specs.declared.totals.TaskTotal.{TaskTotal}
+use Rattle.run_advice.specs.declared.totals.TaskWork.{TaskWork}
+
+-- a number at the right of a column of 12 bytes; a longer number takes more
+abbrev pub number_column : ℕ → List ℕ
+number_column number = drop (min (length (decimal number)) 12) (codes "            ") ++ decimal number
+
+-- a word and a number
+abbrev pub word_number : List ℕ → ℕ → List ℕ
+word_number word number = word ++ decimal number
+
+-- hundredths, as `1.33`
+abbrev pub hundredths_text : ℕ → List ℕ
+hundredths_text number = decimal (number / 100) ++ (word_number (codes ".") (number / 10 % 10) ++ decimal (number % 10))
+
+-- `work 8, span 6, parallelism 1.33`
+unfoldable pub head_text : ℕ → ℕ → List ℕ
+head_text work span =
+    (word_number (codes "work ") work ++ word_number (codes ", span ") span)
+    ++ ((codes ", parallelism " ++ hundredths_text (parallelism_of work span)) ++ codes "\n")
+
+-- so many workers, and the least time of a schedule with them
+abbrev pub time_row : ℕ → ℕ → ℕ → List ℕ
+time_row work span workers = (number_column workers ++ number_column (least_time work span workers)) ++ codes "\n"
+
+-- what the tasks of a name took: how many there were, their work, the work of the heaviest
+abbrev pub task_row : TaskTotal → List ℕ → List ℕ
+task_row total name =
+    ((number_column total.made ++ number_column total.work) ++ number_column total.heaviest)
+    ++ ((codes "  " ++ name) ++ codes "\n")
+
+-- a row for each of these declarations, by its number; the first has this one
+abbrev pub rows_by : (ℕ → Decl → List ℕ) → ℕ → List Decl → List ℕ
+rows_by row number [] = []
+rows_by row number (decl ∷ decls) = row number decl ++ rows_by row (suc number) decls
+
+-- what the tasks of the declaration with this number and this name took
+abbrev pub task_row_of : List TaskWork → ℕ → Decl → List ℕ
+task_row_of works number decl = task_row (total_of number works) decl.name
+
+-- the rows of these declarations, the first of which has this number
+abbrev pub task_rows : List TaskWork → ℕ → List Decl → List ℕ
+task_rows works number decls = rows_by (task_row_of works) number decls
+
+-- the table of times
+unfoldable pub times_text : ℕ → ℕ → List ℕ
+times_text work span = codes "\n     workers  least time\n" ++ flat_map (time_row work span) (2 ∷ 4 ∷ 8 ∷ 16 ∷ 64 ∷ [])
+
+-- the table of tasks
+unfoldable pub tasks_text : List TaskWork → List Decl → List ℕ
+tasks_text works decls = codes "\n       tasks        work    heaviest  name\n" ++ task_rows works 0 decls
+
+-- what is written as tables: work, span and parallelism, the times, and the tasks
+abbrev pub tables_text : List Decl → ℕ → ℕ → List TaskWork → List ℕ
+tables_text decls work span works = (head_text work span ++ times_text work span) ++ tasks_text works decls

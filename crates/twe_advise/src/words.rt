@@ -1,0 +1,44 @@
+//! The words after the program's name.
+ghost use Rattle.std.specs.Prelude.{◌≡◌};
+ghost use Rattle.twe_advise.specs.Words.{IsFormMeaning};
+ghost use Rattle.twe_advise.specs.inner.Named.{form_in, form_named};
+
+use twe_base::Word;
+
+/// How the advice is written.
+#[derive(Clone, Copy, Debug, PartialEq, Eq)]
+pub enum Form {
+    /// As tables, for people.
+    Tables,
+    /// As JSON, for programs.
+    Json,
+}
+
+/// What the words ask for: none asks for tables, and `--json` alone for JSON. Other words ask for nothing.
+pub(crate) fn form_of(words: &[Word]) -> Option<Form>
+    ensures { IsFormMeaning words.now result }
+{
+    form_in(words)
+}
+
+/// The same, word after word.
+fn form_in(words: &[Word]) -> Option<Form>
+    ensures { result ≡ form_in words.now }
+{
+    match words {
+        [] => Some(Form::Tables),
+        [word] => form_named(word),
+        _ => None,
+    }
+}
+
+/// What this one word asks for.
+fn form_named(word: &Word) -> Option<Form>
+    ensures { result ≡ form_named word.now }
+{
+    if word.as_bytes() == b"--json".as_slice() {
+        Some(Form::Json)
+    } else {
+        None
+    }
+}

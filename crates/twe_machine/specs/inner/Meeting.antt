@@ -1,0 +1,10 @@
+-- Tasks that meet a task.
+use Rattle.std.specs.Prelude.{◌≢◌, ℕ}
+use Rattle.twe_machine.specs.declared.state.State.{State}
+use Rattle.twe_machine.specs.declared.state.TaskStatus.TheVariants.{Enabled}
+use Rattle.twe_machine.specs.Legal.{Interfere}
+use Rattle.twe_machine.specs.Rows.{HasStatus}
+
+-- s meets t: it is another task, it is enabled, and its effects interfere with those of t
+abbrev pub Meets : State → ℕ → ℕ → Type 0
+Meets st s t = (s ≢ t) × HasStatus st s Enabled × Interfere st s t

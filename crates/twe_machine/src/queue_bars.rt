@@ -1,0 +1,224 @@
+//! Bars among the tasks of a queue.
+//!
+//! Those that wait for a task, directly or through others, stand in the queue in the order of the waits. So one walk along the
+//! waits passes by all of them that stand one after another.
+ghost use Rattle.std.specs.Prelude.{◌≡◌, ◌≢◌, ◌≤◌, ◌<◌, ◌+◌, ◌↔◌, ℕ, false, length, IfNone, IfSome, IsTrue, Some, slice_get};
+ghost use Rattle.twe_machine.specs.declared.queue.Queued.{Queued};
+ghost use Rattle.twe_machine.specs.declared.state.TaskStatus.TheVariants.{Made, Enabled};
+ghost use Rattle.twe_machine.specs.Legal.{Interfere, IsBar};
+ghost use Rattle.twe_machine.specs.Queues.{AreLed, DecidesAt, IsQueued, IsDecided, IsNoBar};
+ghost use Rattle.twe_machine.specs.Rows.{EffectsAreFilled, HasStatus, LinksAgree};
+ghost use Rattle.wait_graph.specs.Waiting.{IsDone, WaitsFor, WaitsOn, YieldsTo};
+
+use crate::bars::{is_bar, meets};
+use crate::queue::Queue;
+use crate::state::State;
+
+impl Queue {
+    /// Some bar to the admission of `t` among the tasks, if there is one. It takes no memory.
+    pub(crate) fn bar(&self, st: &State, t: u32) -> Option<u32>
+        requires made { HasStatus st.now t Made }
+        requires agree { LinksAgree st.now }
+        requires filled { EffectsAreFilled st.now }
+        requires decided { IsDecided st.now.links self.now.entries }
+        ensures some { IfSome result (λ s. IsBar st.now s t) }
+        ensures none { IfNone result ((s : ℕ) → IsQueued self.now.entries s → IsNoBar st.now t s) }
+    {
+        if let Some(s) = self.last_bar(st, t) {
+            return Some(s);
+        }
+        let mut at = self.led_count(st, self.entries.len(), t);
+        'looking: while at < self.entries.len() {
+            let led = self.passed_from(st, at, t);
+            if led <= at {
+                return Some(self.task_at(at));
+            }
+            at = led;
+        }
+        None
+    }
+
+    /// The last task, if it is a bar to the admission of `t`. It is looked at before the others, since it is a bar to most tasks that
+    /// it has made and does not wait for yet.
+    fn last_bar(&self, st: &State, t: u32) -> Option<u32>
+        requires there { t < length st.now.tasks }
+        requires linked { length st.now.links ≡ length st.now.tasks }
+        requires filled { EffectsAreFilled st.now }
+        ensures { IfSome result (λ s. IsBar st.now s t) }
+    {
+        let last = self.entries.as_slice().last()?;
+        if bars(st, last.task, t) {
+            Some(last.task)
+        } else {
+            None
+        }
+    }
+
+    /// A place after `from`, if none of the tasks from there up to that place is a bar to the admission of `t`. It is `from` if the
+    /// first of them is one.
+    fn passed_from(&self, st: &State, from: usize, t: u32) -> usize
+        requires there { from < length self.now.entries }
+        requires made { HasStatus st.now t Made }
+        requires agree { LinksAgree st.now }
+        requires filled { EffectsAreFilled st.now }
+        ensures bar { result ≤ from → (e : Queued) → slice_get self.now.entries from ≡ Some e → IsBar st.now e.task t }
+        ensures passed { (i : ℕ) (e : Queued) → from ≤ i → i < result → slice_get self.now.entries i ≡ Some e → IsNoBar st.now t e.task }
+    {
+        // The length is read so that a proof may use that places fit.
+        let _count = self.entries.len();
+        let s = self.task_at(from);
+        if !meets(st, s, t) {
+            return from + 1;
+        }
+        let led = self.led_from(st, from, t);
+        if led > from {
+            return led;
+        }
+        if bars(st, s, t) { from } else { from + 1 }
+    }
+
+    /// Whether the tasks of so many first entries are all found to be done or to wait for `t`.
+    pub(crate) fn all_lead(&self, st: &State, count: usize, t: u32) -> bool
+        requires most { count ≤ length self.now.entries }
+        requires decided { IsDecided st.now.links self.now.entries }
+        ensures { IsTrue result → AreLed st.now.links self.now.entries 0 count t }
+    {
+        if !self.last_leads(st, count, t) {
+            return false;
+        }
+        let mut at = self.led_count(st, count, t);
+        'leading: while at < count {
+            let led = self.led_from(st, at, t);
+            if led <= at {
+                return false;
+            }
+            at = led;
+        }
+        true
+    }
+
+    /// Whether the last of so many first tasks waits for `t`, if there is one. It is looked at before the others, since it tells most
+    /// often.
+    fn last_leads(&self, st: &State, count: usize, t: u32) -> bool {
+        count == 0 || leads(st, self.task_at(count - 1), t)
+    }
+
+    /// The place of the last entry among so many first ones that decides for those before it, if one does.
+    pub(crate) fn decider_before(&self, count: usize) -> Option<usize>
+        ensures { IfSome result (λ d. (i : ℕ) × (e : Queued) × (i + 1 ≡ count) × (slice_get self.now.entries i ≡ Some e)
+            × (e.decider ≡ Some d)) }
+    {
+        if count == 0 {
+            return None;
+        }
+        let entry = self.entries.get(count - 1)?;
+        entry.decider
+    }
+
+    /// How many of the first tasks are known to be done or to wait for `t`, by the last of those that decide and are not done. Only so
+    /// many first ones are looked at.
+    fn led_count(&self, st: &State, most: usize, t: u32) -> usize
+        requires { IsDecided st.now.links self.now.entries }
+        ensures { AreLed st.now.links self.now.entries 0 result t }
+    {
+        let mut count = most;
+        'deciding: while let Some(at) = self.decider_before(count) {
+            if at >= count || at >= self.entries.len() {
+                return 0;
+            }
+            if !is_done(st, self.task_at(at)) {
+                return self.led_up_to(st, at, t);
+            }
+            count = at;
+        }
+        0
+    }
+
+    /// How many of the first tasks are known to be done or to wait for `t`, by one that decides.
+    fn led_up_to(&self, st: &State, at: usize, t: u32) -> usize
+        requires there { at < length self.now.entries }
+        requires decides { DecidesAt st.now.links self.now.entries at }
+        ensures { AreLed st.now.links self.now.entries 0 result t }
+    {
+        // The length is read so that a proof may use that places fit.
+        let _count = self.entries.len();
+        let s = self.task_at(at);
+        if is_done(st, s) {
+            return 0;
+        }
+        if leads(st, s, t) { at + 1 } else { 0 }
+    }
+
+    /// The first place from `from` on whose task is not found to wait for `t` on a walk along the waits from the task at `from`.
+    fn led_from(&self, st: &State, from: usize, t: u32) -> usize
+        requires { from < length self.now.entries }
+        ensures { AreLed st.now.links self.now.entries from result t }
+    {
+        let mut at = self.task_at(from);
+        let mut next = self.past(from, at);
+        'walking: while at != t {
+            let Some(on) = awaited_by(st, at) else {
+                return from;
+            };
+            at = on;
+            next = self.past(next, at);
+        }
+        next
+    }
+
+    /// The place after `place`, if this task is there, and else that place.
+    fn past(&self, place: usize, t: u32) -> usize
+        ensures on { place ≤ result }
+        ensures task { (i : ℕ) (e : Queued) → place ≤ i → i < result → slice_get self.now.entries i ≡ Some e → e.task ≡ t }
+    {
+        if place < self.entries.len() && self.task_at(place) == t {
+            place + 1
+        } else {
+            place
+        }
+    }
+}
+
+/// Whether a task of a queue is a bar to the admission of `t`.
+fn bars(st: &State, s: u32, t: u32) -> bool
+    requires there { t < length st.now.tasks }
+    requires linked { length st.now.links ≡ length st.now.tasks }
+    requires filled { EffectsAreFilled st.now }
+    ensures bar { IsTrue result → IsBar st.now s t }
+    ensures yields { result ≡ false → s ≢ t → HasStatus st.now s Enabled → Interfere st.now s t → YieldsTo st.now.links s t }
+{
+    s < st.links.task_count() && is_bar(st, s, t)
+}
+
+/// Whether a task is done.
+fn is_done(st: &State, t: u32) -> bool
+    ensures { IsTrue result ↔ IsDone st.now.links t }
+{
+    t < st.links.task_count() && st.links.link(t).done
+}
+
+/// Whether a task is found to wait for `t`, directly or through others, or is `t`.
+fn leads(st: &State, s: u32, t: u32) -> bool
+    ensures { IsTrue result → WaitsOn st.now.links s t }
+{
+    let mut at = s;
+    'walking: while at != t {
+        let Some(on) = awaited_by(st, at) else {
+            return false;
+        };
+        at = on;
+    }
+    true
+}
+
+/// The task that a task waits for, if there is one.
+fn awaited_by(st: &State, t: u32) -> Option<u32>
+    ensures waits { IfSome result (WaitsFor st.now.links t) }
+    ensures above { IfSome result (λ u. (t < u) × (u < length st.now.links)) }
+{
+    if t < st.links.task_count() {
+        st.links.awaited(t)
+    } else {
+        None
+    }
+}
