@@ -44,3 +44,10 @@ are_found acts sought some is =
     All-from_recursion (λ (act : SoughtAct). IsFoundIn acts sought (act_at act.point act.kind)) some
     (each_act (IsFoundIn acts sought) some (subst (AllByRecursion (IsFoundIn acts sought)) (sym is)
     (found_are acts sought acts (recursion_from_All (Contains acts) acts (All-contains_itself acts)))))
+
+-- what is found so far and in what is left stays what is found in all, if the first part of what is left is looked through
+pub found_on : (sought : Sought) (so_far more left first rest whole : List Act) → left ≡ first ++ rest
+    → more ≡ so_far ++ found sought first → so_far ++ found sought left ≡ whole → more ++ found sought rest ≡ whole
+found_on sought so_far more left first rest whole split looked is =
+    ap (λ (acts : List Act). acts ++ found sought rest) looked ∙ append_assoc so_far (found sought first) (found sought rest)
+    ∙ ap (λ (acts : List Act). so_far ++ acts) (sym (ap (found sought) split ∙ found_append sought first rest)) ∙ is
