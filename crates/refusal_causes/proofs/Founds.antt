@@ -1,6 +1,6 @@
 -- Lists of acts, and of acts that are looked for, put together.
-use Rattle.std.proofs.Common.{◌≡◌, if◌then◌else◌, Bool, true, false, IsTrue, Contains, List, [], ◌∷◌, ◌++◌, refl, ap, sym, ◌∙◌, subst, append_assoc}
-use Rattle.std.specs.List.{All, AllByRecursion}
+use Rattle.std.proofs.Common.{◌≡◌, if◌then◌else◌, Bool, true, false, Contains, List, [], ◌∷◌, ◌++◌, refl, ap, sym, ◌∙◌, subst, append_assoc}
+use Rattle.std.specs.List.{AllByRecursion}
 use Rattle.std.proofs.lemmas.List.Elements.{All-contains_itself, All-from_recursion, recursion_from_All}
 use Rattle.twe_base.proofs.Members.{all-append}
 use Rattle.effect_check.specs.declared.act.Act.{Act}

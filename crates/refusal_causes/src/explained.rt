@@ -3,7 +3,9 @@ ghost use Rattle.std.specs.Prelude.{◌≡◌, ◌+◌, ◌<◌, ◌^◌, length
 ghost use Rattle.refusal_causes.specs.Causes.{IsCause};
 ghost use Rattle.refusal_causes.specs.Explained.{IsExplained};
 ghost use Rattle.twe_names.specs.Meaning.{program_of};
-ghost use Rattle.twe_frontend.specs.Accepted.{IsMeaningOf, IsRefusal, IsTreeOf};
+ghost use Rattle.twe_names.specs.Resolves.{ResolveHasCause};
+ghost use Rattle.twe_frontend.specs.Accepted.{IsMeaningOf, IsTreeOf};
+ghost use Rattle.twe_frontend.specs.Reads.{TreeHasCause};
 
 use crate::cause::RuleCause;
 use crate::needing::cause_at;
@@ -77,13 +79,21 @@ fn explain_program(
     }
 }
 
-/// A text with this refusal, which a rule of the text or of names makes.
-fn refused_early(text: &[u8], refusal: Refusal) -> Explained
-    requires { IsRefusal text.now refusal }
-    ensures { IsExplained text.now result }
+/// What is known of a text that has this tree, of which a rule of names fails.
+fn unresolved(text: &[u8], tree: &Ast, fail: NameFail) -> Result<Explained, Memory>
+    requires parsed { IsTreeOf text.now tree.now }
+    requires cause { ResolveHasCause tree.now fail }
+    ensures { IfOk result (IsExplained text.now) }
 {
     let _ = text;
-    Explained::Early(refusal)
+    let _ = tree;
+    match fail {
+        NameFail::Names { rule, place } => {
+            let rule = RuleName::Name(rule);
+            Ok(Explained::Early(Refusal { rule, place }))
+        }
+        NameFail::OutOfMemory(memory) => Err(memory),
+    }
 }
 
 /// What is known of a text that has this tree.
@@ -95,11 +105,19 @@ fn explain_tree(alloc: Global, text: &[u8], tree: Ast) -> Result<Explained, Memo
     parsed_trees_are_from_texts();
     match resolve(alloc, &tree) {
         Ok(program) => explain_program(alloc, text, tree, program),
-        Err(NameFail::Names { rule, place }) => {
-            let rule = RuleName::Name(rule);
-            Ok(refused_early(text, Refusal { rule, place }))
-        },
-        Err(NameFail::OutOfMemory(memory)) => Err(memory),
+        Err(fail) => unresolved(text, &tree, fail),
+    }
+}
+
+/// What is known of a text that has no tree, for a rule of the text fails.
+fn unread(text: &[u8], fail: FrontFail) -> Result<Explained, Memory>
+    requires { TreeHasCause text.now fail }
+    ensures { IfOk result (IsExplained text.now) }
+{
+    let _ = text;
+    match fail {
+        FrontFail::Refused(refusal) => Ok(Explained::Early(refusal)),
+        FrontFail::OutOfMemory(memory) => Err(memory),
     }
 }
 
@@ -110,7 +128,6 @@ pub fn explain(alloc: Global, text: &[u8]) -> Result<Explained, Memory>
 {
     match read_tree(alloc, text) {
         Ok(tree) => explain_tree(alloc, text, tree),
-        Err(FrontFail::Refused(refusal)) => Ok(refused_early(text, refusal)),
-        Err(FrontFail::OutOfMemory(memory)) => Err(memory),
+        Err(fail) => unread(text, fail),
     }
 }

@@ -1,6 +1,5 @@
 use Rattle.std.proofs.Common.{subst}
 use Rattle.effect_check.specs.FailsEffect.{CheckHasCause}
-use Rattle.effect_check.specs.declared.rule.CheckFail.{CheckFail}
 use Rattle.twe_frontend.specs.Accepted.{IsRefusal}
 use Rattle.refusal_causes.proofs.explained.explain_program.Goals as goal
 

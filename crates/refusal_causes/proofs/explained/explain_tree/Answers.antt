@@ -1,7 +1,3 @@
-use Rattle.std.proofs.Common.{subst}
-use Rattle.twe_names.specs.Resolves.{ResolveHasCause}
-use Rattle.twe_names.specs.declared.fail.NameFail.{NameFail}
-use Rattle.twe_frontend.specs.Accepted.{IsRefusal}
 use Rattle.refusal_causes.proofs.explained.explain_tree.Goals as goal
 
 -- the tree was parsed from a text
@@ -18,9 +14,3 @@ explain_program-requires-clause-meant c = record {
   keeps = c.in-Ok.ensures.accepted;
   meaning = c.in-Ok.ensures.meant;
 }
-
--- a rule of names fails
-pub refused_early-requires : goal.refused_early-requires
-refused_early-requires c =
-    IsRefusal.of_names c.args.tree c.in-Err-Names.rule c.in-Err-Names.place c.requires.parsed
-    (subst (λ (fail : NameFail). ResolveHasCause c.args.tree fail) c.in-Err-Names.field-0-is c.in-Err-Names.ensures.refused)
