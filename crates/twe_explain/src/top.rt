@@ -91,7 +91,8 @@ fn answer_accepted(alloc: Global, wanted: &Wanted, text: &[u8]) -> Result<Answer
     requires { IsExplained text.now Kept }
     ensures { IfOk result (ExplainDue wanted.now text.now) }
 {
-    let _ = (wanted, text);
+    let _ = wanted;
+    let _ = text;
     let line = accepted_text(alloc)?;
     Ok(Answer::on_out(alloc, Status::Done, line))
 }

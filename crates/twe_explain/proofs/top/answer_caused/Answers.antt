@@ -21,14 +21,14 @@ returns c =
     let tree = c.args.tree.now in
     let p = c.args.p.now in
     let items : c.as_slice.result.now ≡ tree.items = c.as_slice.ensures in
-    let names : c.as_slice-explanation.result.now ≡ variables_at tree.items (place_of_cause cause) =
-    c.as_slice-explanation.ensures ∙ c.in_ok-names.ensures
+    let names : c.as_slice-2.result.now ≡ variables_at tree.items (place_of_cause cause) =
+    c.as_slice-2.ensures ∙ c.in_ok-names.ensures
     ∙ ap (λ (xs : List Item). variables_at xs c.place_of_cause.result) items
     ∙ ap (λ (place : Place). variables_at tree.items place) c.place_of_cause.ensures in
     let regions : c.as_slice-regions.result.now ≡ p.regions = c.as_slice-regions.ensures ∙ ap (λ (q : Program). q.regions) c.p.view_is in
     let is : c.in_ok-explanation.explanation ≡ caused_explanation refusal cause tree p =
     c.in_ok-explanation.ensures
-    ∙ ap (λ (xs : List (List ℕ)). explanation_by refusal cause xs c.as_slice-explanation.result.now) regions
+    ∙ ap (λ (xs : List (List ℕ)). explanation_by refusal cause xs c.as_slice-2.result.now) regions
     ∙ ap (λ (xs : List (List ℕ)). explanation_by refusal cause p.regions xs) names in
     subst (ExplainDue wanted text)
     (sym (c.on_out.ensures ∙ ap (on_out Refused) (c.in_ok-lines.ensures
