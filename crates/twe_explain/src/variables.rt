@@ -42,6 +42,7 @@ fn add_locals(stmt: &Stmt, names: &mut Names, alloc: Global) -> Result<(), Memor
 
 /// Adds those of a block.
 #[cycle(naming)]
+#[tactic(auto, using(name_check::proofs::Bodies::close_is))]
 fn add_locals_in(block: &Block, names: &mut Names, alloc: Global) -> Result<(), Memory>
     ensures { OnOk result (names.new ≡ names.old ++ locals_named_in block.now) }
 {
