@@ -1,8 +1,11 @@
 -- What the program answers, and why.
 use Rattle.std.specs.Prelude.{◌≡◌, ℕ, List, None, Some, Ok}
+use Rattle.twe_ast.specs.declared.item.Ast.{Ast}
 use Rattle.twe_program.specs.Program.{Program}
 use Rattle.twe_frontend.specs.declared.refusal.Refusal.{Refusal}
 use Rattle.twe_frontend.specs.Accepted.{Accepted, IsRefusal}
+use Rattle.refusal_causes.specs.declared.cause.RuleCause.{RuleCause}
+use Rattle.refusal_causes.specs.Explained.{IsCausedBy}
 use Rattle.twe_report.specs.Texts.{accepted_text}
 use Rattle.twe_report.specs.Reading.{FailedRead}
 use Rattle.twe_io.specs.declared.answer.Answer.{Answer}
@@ -10,18 +13,27 @@ use Rattle.twe_io.specs.declared.status.Status.{Status}
 use Rattle.twe_io.specs.declared.status.Status.TheVariants.{Done, Refused, Usage}
 use Rattle.twe_io.specs.Ends.{Ends, EndsTell, SourceTells, WasRead}
 use Rattle.twe_io.specs.Answers.{IsAnswered, on_err, on_out}
-use Rattle.twe_explain.specs.Explanation.{explanation_of}
+use Rattle.twe_explain.specs.Explanation.{explanation_by, explanation_of}
+use Rattle.twe_explain.specs.declared.explanation.Explanation.{Explanation}
+use Rattle.twe_explain.specs.Variables.{place_of_cause, variables_at}
 use Rattle.twe_explain.specs.Page.{explain_usage_text, refused_text}
 use Rattle.twe_explain.specs.Words.{wish_of}
 use Rattle.twe_explain.specs.declared.words.Wanted.{Wanted}
+
+-- what is said of a refusal with its cause, by the names that the text has
+abbrev pub caused_explanation : Refusal → RuleCause → Ast → Program → Explanation
+caused_explanation refusal cause tree p = explanation_by refusal cause p.regions (variables_at tree.items (place_of_cause cause))
 
 -- The answer to a text that was read. All of it is on out, and the status is that of `twe check`.
 pub data ExplainDue (wanted : Wanted) (text : List ℕ) : Answer → Type 0 where
   -- the text is accepted, as `twe check` says
   accepted : (p : Program) → Accepted text p → ExplainDue wanted text (on_out Done accepted_text)
-  -- the text is refused; after the answer of `twe check` comes what is said of the refusal
+  -- the text is refused; after the answer of `twe check` comes what every refusal by this rule has
   refused : (refusal : Refusal) → IsRefusal text refusal
       → ExplainDue wanted text (on_out Refused (refused_text wanted text refusal (explanation_of refusal)))
+  -- the text is refused, and the cause is true of the program that it means; after the answer of `twe check` comes the cause
+  caused : (refusal : Refusal) (cause : RuleCause) (tree : Ast) (p : Program) → IsCausedBy text refusal cause tree p
+      → ExplainDue wanted text (on_out Refused (refused_text wanted text refusal (caused_explanation refusal cause tree p)))
 
 -- Why the program gives an answer, before it writes anything.
 pub data ExplainCause {S : Type 0} (tells : SourceTells S) (words : List (List ℕ)) (before after : S)

@@ -2,6 +2,8 @@ pub mod Words
 pub mod Lines
 pub mod Excerpt
 pub mod Sentences
+pub mod Effects
+pub mod Variables
 pub mod Explanation
 pub mod Page
 pub mod Answers

@@ -2,12 +2,14 @@
 //! answer of `twe check` with the place, the line of the text, and what the rule asks.
 #![tactic(auto)]
 
+mod effects;
 mod excerpt;
 mod explanation;
 mod line;
 mod page;
 mod sentences;
 mod top;
+mod variables;
 mod words;
 
 use std::process::ExitCode;

@@ -2,15 +2,20 @@
 ghost use Rattle.std.specs.Prelude.{◌≡◌, IfOk, Some};
 ghost use Rattle.twe_explain.specs.Answers.{AnswersExplain, ExplainCause, ExplainDue};
 ghost use Rattle.twe_explain.specs.Words.{wish_of};
-ghost use Rattle.twe_frontend.specs.Accepted.{Accepted, IsRefusal};
+ghost use Rattle.refusal_causes.specs.declared.explained.Explained.TheVariants.{Kept};
+ghost use Rattle.refusal_causes.specs.Explained.{IsCausedBy, IsExplained};
+ghost use Rattle.twe_frontend.specs.Accepted.{IsRefusal};
 ghost use Rattle.twe_io.specs.Ends.{ends, ends_tell, sink, source};
 
-use crate::explanation::explanation_of;
+use crate::explanation::{explanation_by, explanation_of};
 use crate::page::{refused_text, usage_text};
+use crate::variables::{place_of_cause, variables_at};
 use crate::words::{Wanted, wanted_by};
+use refusal_causes::{Explained, RuleCause, explain};
 use std::alloc::Global;
+use twe_ast::Ast;
 use twe_base::{Memory, Word};
-use twe_frontend::{FrontFail, Refusal, read_program};
+use twe_frontend::Refusal;
 use twe_io::{Answer, Sink, Source, Status, tell};
 use twe_program::Prog;
 use twe_report::{Input, accepted_text, read_input};
@@ -31,7 +36,8 @@ pub fn explain_top<S: Source, O: Sink, E: Sink>(
         (sink E.written E.faults E.write_gives))
         words.now (ends src.old out.old err.old) (ends src.new out.new err.new) result }
 {
-    tell(&answer(alloc, words, src), out, err)
+    let made = answer(alloc, words, src);
+    tell(&made, out, err)
 }
 
 /// The answer to these words.
@@ -67,21 +73,26 @@ fn answer_source<S: Source>(
 fn answer_text(alloc: Global, wanted: &Wanted, text: &[u8]) -> Result<Answer, Memory>
     ensures { IfOk result (ExplainDue wanted.now text.now) }
 {
-    match read_program(alloc, text) {
-        Ok(p) => answer_accepted(alloc, wanted, text, &p),
-        Err(FrontFail::Refused(refusal)) => answer_refusal(alloc, wanted, text, refusal),
-        Err(FrontFail::OutOfMemory(memory)) => Err(memory),
+    let explained = explain(alloc, text)?;
+    match &explained {
+        Explained::Kept => answer_accepted(alloc, wanted, text),
+        Explained::Early(refusal) => answer_refusal(alloc, wanted, text, *refusal),
+        Explained::Late {
+            refusal,
+            cause,
+            tree,
+            program,
+        } => answer_caused(alloc, wanted, text, *refusal, cause, tree, program),
     }
 }
 
-/// The answer to a text that is accepted and means this program.
-fn answer_accepted(alloc: Global, wanted: &Wanted, text: &[u8], p: &Prog) -> Result<Answer, Memory>
-    requires { Accepted text.now p.now }
+/// The answer to a text that is accepted.
+fn answer_accepted(alloc: Global, wanted: &Wanted, text: &[u8]) -> Result<Answer, Memory>
+    requires { IsExplained text.now Kept }
     ensures { IfOk result (ExplainDue wanted.now text.now) }
 {
     let _ = wanted;
     let _ = text;
-    let _ = p;
     let line = accepted_text(alloc)?;
     Ok(Answer::on_out(alloc, Status::Done, line))
 }
@@ -97,6 +108,26 @@ fn answer_refusal(
     ensures { IfOk result (ExplainDue wanted.now text.now) }
 {
     let explanation = explanation_of(alloc, refusal)?;
+    let lines = refused_text(alloc, wanted, text, refusal, &explanation)?;
+    Ok(Answer::on_out(alloc, Status::Refused, lines))
+}
+
+/// The answer to a text that has this tree, means this program, and has this refusal with this cause.
+fn answer_caused(
+    alloc: Global,
+    wanted: &Wanted,
+    text: &[u8],
+    refusal: Refusal,
+    cause: &RuleCause,
+    tree: &Ast,
+    p: &Prog,
+) -> Result<Answer, Memory>
+    requires { IsCausedBy text.now refusal cause.now tree.now p.now }
+    ensures { IfOk result (ExplainDue wanted.now text.now) }
+{
+    let names = variables_at(alloc, tree.items.as_slice(), place_of_cause(cause))?;
+    let regions = p.regions.as_slice();
+    let explanation = explanation_by(alloc, refusal, cause, regions, names.as_slice())?;
     let lines = refused_text(alloc, wanted, text, refusal, &explanation)?;
     Ok(Answer::on_out(alloc, Status::Refused, lines))
 }

@@ -1,4 +1,4 @@
-use Rattle.std.proofs.Common.{◌≡◌, ℕ, ◌∙◌, ap, subst, add-one, sym}
+use Rattle.std.proofs.Common.{ℕ, ◌∙◌, ap, add-one, sym}
 use Rattle.twe_explain.specs.Lines.{after_line, after_lines}
 use Rattle.twe_explain.proofs.line.after_lines.Goals as goal
 

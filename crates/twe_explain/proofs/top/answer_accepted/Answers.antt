@@ -8,4 +8,4 @@ use Rattle.twe_explain.proofs.top.answer_accepted.Goals as goal
 pub returns : goal.returns
 returns c =
     subst (ExplainDue c.args.wanted.now c.args.text.now) (sym (c.on_out.ensures ∙ ap (on_out Done) c.in_ok-line.ensures))
-    (ExplainDue.accepted c.args.p.now c.requires)
+    (ExplainDue.accepted c.requires.0 c.requires.1)

@@ -10,5 +10,5 @@ returns g c =
     let out = sink g.O.Sink.written g.O.Sink.faults g.O.Sink.write_gives in
     let err = sink g.E.Sink.written g.E.Sink.faults g.E.Sink.write_gives in
     is_answered (ends_tell src out err) (ExplainCause src c.args.words.now)
-    (ends c.args.src.now c.args.out.now c.args.err.now) (ends c.answer.new.src c.tell.new.out c.tell.new.err)
-    c.answer.result c.tell.result c.answer.ensures c.tell.ensures
+    (ends c.args.src.now c.args.out.now c.args.err.now) (ends c.answer-made.new.src c.tell.new.out c.tell.new.err)
+    c.answer-made.result c.tell.result c.answer-made.ensures c.tell.ensures

@@ -1,0 +1,3 @@
+mod Early
+pub mod Founds
+pub mod Needs

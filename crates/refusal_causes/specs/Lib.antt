@@ -1,0 +1,4 @@
+pub mod Seeking
+pub mod Causes
+pub mod Barring
+pub mod Explained

@@ -1,0 +1,141 @@
+//! A spawned task that bars an effect: it may be out, and has an effect that interferes.
+ghost use Rattle.std.specs.Prelude.{IfOk, IfSome, IsTrue, Contains};
+ghost use Rattle.cover_flow.specs.Flow.{IsFlowOf};
+ghost use Rattle.cover_flow.specs.Out.{MayBeOut};
+ghost use Rattle.effect_sets.specs.Interference.{statically_interferes};
+ghost use Rattle.effect_check.specs.Acts.{acts_in_all};
+ghost use Rattle.refusal_causes.specs.Barring.{IsSpawnBar};
+ghost use Rattle.refusal_causes.specs.Seeking.{AreFoundIn, act_at};
+ghost use Rattle.refusal_causes.specs.declared.sought.Sought.TheVariants.{AllSpawns};
+
+use crate::doing::acts_sought;
+use crate::sought::{Sought, SoughtAct, SoughtKind};
+use cover_flow::{Points, flow};
+use effect_sets::{Effect, Summary, interferes};
+use std::alloc::Global;
+use twe_base::{Memory, Place};
+use twe_program::{Body, Decl, Prog};
+
+/// An effect of a spawned task that bars another, and the place of the future's name.
+#[derive(Debug, Drop)]
+pub struct SpawnBar {
+    /// The effect of the spawned task.
+    pub other: Effect,
+    /// The place of the future's name.
+    pub future_place: Place,
+}
+
+/// Whether the future may be out at the point, as far as these facts of the body tell.
+fn may_be_out(points: &Points, body: &Body, point: u32, future: u32) -> bool
+    requires { IsFlowOf points.now body.now }
+    ensures { IsTrue result → MayBeOut body.now point future }
+{
+    if body.points <= point || body.futures <= future || !points.follows(future) {
+        return false;
+    }
+    points.may(point, future)
+}
+
+/// The first of the other effects that interferes with the effect.
+fn first_interfering(
+    alloc: Global,
+    effect: &Effect,
+    others: &Summary,
+) -> Result<Option<Effect>, Memory>
+    ensures { IfOk result (λ found. IfSome found (λ other.
+        Contains others.now.effects other × IsTrue (statically_interferes effect.now other))) }
+{
+    for other in others.effects.as_slice() {
+        if interferes(effect, other) {
+            return Ok(Some(other.copy(alloc)?));
+        }
+    }
+    Ok(None)
+}
+
+/// How this spawn of the task bars the effect at the point, if it does.
+fn bar_by(
+    alloc: Global,
+    p: &Prog,
+    task: &Decl,
+    points: &Points,
+    point: u32,
+    effect: &Effect,
+    act: &SoughtAct,
+) -> Result<Option<SpawnBar>, Memory>
+    requires facts { IsFlowOf points.now task.now.body }
+    requires done { Contains (acts_in_all p.now task.now.body.block) (act_at act.now.point act.now.kind) }
+    ensures { IfOk result (λ found. IfSome found (IsSpawnBar p.now task.now point effect.now)) }
+{
+    let _ = p;
+    let SoughtKind::Spawns {
+        future,
+        effects,
+        future_place,
+        ..
+    } = &act.kind
+    else {
+        return Ok(None);
+    };
+    if !may_be_out(points, &task.body, point, *future) {
+        return Ok(None);
+    }
+    match first_interfering(alloc, effect, effects)? {
+        None => Ok(None),
+        Some(other) => {
+            let future_place = *future_place;
+            Ok(Some(SpawnBar {
+                other,
+                future_place,
+            }))
+        }
+    }
+}
+
+/// The first future that an act spawns into, or 0.
+fn future_of(act: &SoughtAct) -> u32 {
+    match &act.kind {
+        SoughtKind::Spawns { future, .. } => *future,
+        _ => 0,
+    }
+}
+
+/// How one of these spawns of the task bars the effect at the point, if one does. The facts of 128 futures are found at once.
+fn bar_among(
+    alloc: Global,
+    p: &Prog,
+    task: &Decl,
+    point: u32,
+    effect: &Effect,
+    spawns: &[SoughtAct],
+) -> Result<Option<SpawnBar>, Memory>
+    requires { AreFoundIn (acts_in_all p.now task.now.body.block) AllSpawns spawns.now }
+    ensures { IfOk result (λ found. IfSome found (IsSpawnBar p.now task.now point effect.now)) }
+{
+    let mut points = flow(alloc, &task.body, 0)?;
+    for act in spawns {
+        let future = future_of(act);
+        if !points.follows(future) {
+            points = flow(alloc, &task.body, future)?;
+        }
+        let found = bar_by(alloc, p, task, &points, point, effect, act)?;
+        if let Some(bar) = found {
+            return Ok(Some(bar));
+        }
+    }
+    Ok(None)
+}
+
+/// How a spawned task bars the effect at the point of the task, if one does.
+pub fn bar_of(
+    alloc: Global,
+    p: &Prog,
+    task: &Decl,
+    point: u32,
+    effect: &Effect,
+) -> Result<Option<SpawnBar>, Memory>
+    ensures { IfOk result (λ found. IfSome found (IsSpawnBar p.now task.now point effect.now)) }
+{
+    let spawns = acts_sought(alloc, p, &task.body.block, Sought::AllSpawns)?;
+    bar_among(alloc, p, task, point, effect, spawns.as_slice())
+}
