@@ -10,8 +10,8 @@ use Rattle.refusal_causes.specs.declared.cause.RuleCause.{RuleCause}
 use Rattle.refusal_causes.specs.declared.cause.RuleCause.TheVariants.{Unsaid, Undeclared, Out}
 
 -- the places are the same
-abbrev pub is_same : Place → Place → Bool
-is_same place other = (place.line == other.line) && (place.col == other.col)
+abbrev pub is_same_place : Place → Place → Bool
+is_same_place place other = (place.line == other.line) && (place.col == other.col)
 
 -- the names of the locals that statements declare, in the order of the text
 abbrev mutual
@@ -38,7 +38,7 @@ variables_of decl = map (λ (name : Name). name.text) decl.params ++ locals_name
 
 -- those of the declaration, if its name is at the place, or else these
 abbrev pub variables_if_at : Decl → Place → List (List ℕ) → List (List ℕ)
-variables_if_at decl place others = if is_same decl.name.place place then variables_of decl else others
+variables_if_at decl place others = if is_same_place decl.name.place place then variables_of decl else others
 
 -- those of the first declaration whose name is at the place
 abbrev pub variables_at : List Item → Place → List (List ℕ)

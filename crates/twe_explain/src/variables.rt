@@ -1,7 +1,7 @@
 //! The names of the variables of a body, by their numbers.
 ghost use Rattle.std.specs.Prelude.{◌≡◌, ◌∷◌, [], ◌++◌, map, IfOk, OnOk};
 ghost use Rattle.twe_ast.specs.declared.name.Name.{Name as Named};
-ghost use Rattle.twe_explain.specs.Variables.{is_same, locals_named, locals_named_by, locals_named_in, place_of_cause, variables_at, variables_of};
+ghost use Rattle.twe_explain.specs.Variables.{is_same_place, locals_named, locals_named_by, locals_named_in, place_of_cause, variables_at, variables_of};
 
 use refusal_causes::RuleCause;
 use std::alloc::Global;
@@ -12,8 +12,8 @@ use twe_base::{List, Memory, Place, Word};
 pub type Names = List<Word>;
 
 /// Whether the places are the same.
-fn is_same(place: Place, other: Place) -> bool
-    ensures { result ≡ is_same place other }
+fn is_same_place(place: Place, other: Place) -> bool
+    ensures { result ≡ is_same_place place other }
 {
     place.line == other.line && place.col == other.col
 }
@@ -93,7 +93,7 @@ pub fn variables_at(alloc: Global, items: &[Item], place: Place) -> Result<Names
     for item in items {
         match item {
             Item::Method(decl) | Item::Task { decl, .. } => {
-                if is_same(decl.name.place, place) {
+                if is_same_place(decl.name.place, place) {
                     return variables_of(alloc, decl);
                 }
             }
