@@ -15,6 +15,8 @@ mod rule;
 mod settled;
 mod whole;
 
+pub use act::{Act, ActKind, Acts};
+pub use body::acts_of_body;
 pub use collect::{accessed_elements, element_of_index, elements_of};
 pub use rule::{CheckFail, ERule};
 pub use whole::check;

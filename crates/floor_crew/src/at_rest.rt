@@ -46,7 +46,8 @@ impl RunAtRest {
         requires sound { IsSound p.now lim self.old }
         requires legal { MayMove self.old.rest.state mv }
         ensures sound { OnOk result (IsSound p.now lim self.new) }
-        ensures journal { OnOk result (self.new.rest.journal ≡ self.old.rest.journal ++ entry_of p.now lim self.old.rest.state mv ∷ []) }
+        ensures journal { OnOk result (self.new.rest.journal
+            ≡ self.old.rest.journal ++ entry_of p.now lim self.old.rest.state mv ∷ []) }
     {
         let _main = p.main;
         let before = self.rest.state.links.task_count();

@@ -43,8 +43,8 @@ impl<'a, N: Named + Planted, F: Located> Model for Ground<'a, N, F> {
 
     ghost view = { λ ground. ground.setup.now.lim };
 
-    ghost invariant = { λ ground. (ground.floor.now ≡ F.table) × (ground.setup.now.p.now ≡ N.prog) × (ground.setup.now.lim ≡ N.lim)
-        × (ground.setup.now.shape.now ≡ N.nodes) };
+    ghost invariant = { λ ground. (ground.floor.now ≡ F.table) × (ground.setup.now.p.now ≡ N.prog)
+        × (ground.setup.now.lim ≡ N.lim) × (ground.setup.now.shape.now ≡ N.nodes) };
 }
 
 impl<'a, N: Named + Planted, F: Located> Ground<'a, N, F> {

@@ -20,8 +20,8 @@ use Rattle.floor_table.specs.declared.view.View.{View}
 use Rattle.floor_table.specs.FloorOf.{turn_in}
 use Rattle.floor_table.specs.Layout.{free_word, phase_of_word}
 
--- The seat is the only one: it is the main one, and each seat that was split off was joined to it again. Its entries, in the order
--- of their numbers, are the journal, and lead to this state.
+-- The seat is the only one: it is the main one, and each seat that was split off was joined to it again. Its entries, in the
+-- order of their numbers, are the journal, and lead to this state.
 pub record IsAloneAt (p : Program) (lim : Bounds) (v : View) (st : State) : Type 0 where
   pub main : v.kind ≡ Main
   pub none_out : v.out ≡ 0
@@ -30,7 +30,8 @@ pub record IsAloneAt (p : Program) (lim : Bounds) (v : View) (st : State) : Type
   pub merge : IsMergeOf (v.part ∷ []) log
   pub leads : st ≡ state_after p lim (journal_of log)
 
--- If the seat is the only one, task t was made, and the seat does not have its turn, then this turn word says that the turn is free.
+-- If the seat is the only one, task t was made, and the seat does not have its turn, then this turn word says that the turn
+-- is free.
 abbrev pub IsFreeIfAlone : Program → Bounds → View → ℕ → ℕ → Type 0
 IsFreeIfAlone p lim v t found =
     (st : State) → IsAloneAt p lim v st → turn_in v.turns t ≡ None → IsMade st t → found ≡ free_word
@@ -51,7 +52,8 @@ awaited_by (Waits u) = Some u
 awaited_by Done = None
 awaited_by Faulted = None
 
--- If the seat is the only one, and does not have the turn of task t, then this phase word says what the task's next operation awaits.
+-- If the seat is the only one, and does not have the turn of task t, then this phase word says what the task's next operation
+-- awaits.
 abbrev pub SaysWaitIfAlone : Program → Bounds → View → ℕ → ℕ → Type 0
 SaysWaitIfAlone p lim v t found =
     (st : State) → IsAloneAt p lim v st → turn_in v.turns t ≡ None

@@ -2,7 +2,7 @@
 use std::test::Fail;
 use twe_base::{Bytes, Calls, Ints, Word};
 use twe_io::{
-    MemSink, MemSource, PlainSink, PlainSource, ReadFail, StdSink, StdSource, read_all, write_whole,
+    MemSink, MemSource, PlainSink, PlainSource, ReadFail, StdStream, read_all, write_whole,
 };
 
 #[test]
@@ -33,9 +33,9 @@ fn a_read_fails_at_the_call_that_is_named(rt: HostRuntime) -> Result<(), Fail> {
 
 #[test]
 fn streams_are_read_and_written(rt: HostRuntime) -> Result<(), Fail> {
-    let mut source = StdSource::new(b"whole".as_slice());
+    let mut source = StdStream::new(b"whole".as_slice());
     let text = read_all(rt.alloc(), &mut source, 5)?;
-    let mut sink = StdSink::new(Vec::new(rt.alloc()));
+    let mut sink = StdStream::new(Vec::new(rt.alloc()));
     assert!(rt; write_whole(&mut sink, text.as_slice()).is_ok());
     assert!(rt; text.as_slice() == b"whole".as_slice());
     Ok(())

@@ -50,6 +50,13 @@ fn check_task(
 {
     let locals = &scope.locals;
     match &stmt.kind {
+        StmtKind::Wait(wait) => {
+            let name_use = NameUse::Future {
+                join: wait.join,
+                valued: false,
+            };
+            check_use(&wait.future, name_use, globals, locals, first);
+        }
         StmtKind::Make {
             future,
             task,
@@ -60,13 +67,6 @@ fn check_task(
             check_declared(future, globals, locals, first);
             check_use(task, name_use, globals, locals, first);
             check_args(args, globals, locals, first);
-        }
-        StmtKind::Wait(wait) => {
-            let name_use = NameUse::Future {
-                join: wait.join,
-                valued: false,
-            };
-            check_use(&wait.future, name_use, globals, locals, first);
         }
         StmtKind::LetWait { name, wait, .. } => {
             let name_use = NameUse::Future {

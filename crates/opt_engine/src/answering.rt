@@ -16,8 +16,8 @@ use twe_base::{Limits, Memory};
 use twe_machine::EnabledTasks;
 use twe_program::Prog;
 
-/// Takes the moves that a draft stands for, if it fits and they are legal, and else says why not. Then the run is as before. The enabled
-/// tasks are those of the run.
+/// Takes the moves that a draft stands for, if it fits and they are legal, and else says why not. Then the run is as before.
+/// The enabled tasks are those of the run.
 #[tactic(auto, using(crate::proofs::Told::takes_begin, crate::proofs::Told::begins_itself, crate::proofs::Told::reached_of))]
 pub(crate) fn answer(
     alloc: Global,

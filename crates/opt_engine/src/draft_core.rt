@@ -104,8 +104,8 @@ impl<N: RoundName> Core<N> {
         draft_of(self.alloc, p, &run.state, t)
     }
 
-    /// Some bar to the admission of a task, or `None` if nothing holds it back. It need not be the lowest one, and is looked for where
-    /// the effects of the task are placed alone.
+    /// Some bar to the admission of a task, or `None` if nothing holds it back. It need not be the lowest one, and is looked
+    /// for where the effects of the task are placed alone.
     pub fn bar(&self, p: &Prog, t: u32) -> Result<Option<u32>, Memory>
         requires { p.now ≡ N.prog }
         ensures { IfOk result (HoldsBack self.now t) }

@@ -84,8 +84,8 @@ fn is_next(alloc: Global, p: &Prog, st: &State, d: &Drafted) -> Result<bool, Mem
     }
 }
 
-/// The lowest bar to the admission of a task, if it waits for its admission and has a bar. It is looked for among all tasks only if
-/// there is one.
+/// The lowest bar to the admission of a task, if it waits for its admission and has a bar. It is looked for among all tasks
+/// only if there is one.
 fn holder(p: &Prog, st: &State, enabled: &EnabledTasks, t: u32) -> Option<u32>
     requires reached { (lim : Bounds) × IsReached p.now lim st.now }
     requires listing { IsListing st.now enabled.now }

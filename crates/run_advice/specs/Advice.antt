@@ -32,6 +32,7 @@ pub record AreWorks (p : Program) (lim : Bounds) (moves : List Move) (works : Li
 
 -- The work and the span of the moves, their heaviest chain, and the work of each task. The moves after the first fault do not
 -- count.
-pub record IsAdvice (p : Program) (lim : Bounds) (moves : List Move) (work span : ℕ) (chain : List ℕ) (works : List TaskWork) : Type 0 where
+pub record IsAdvice (p : Program) (lim : Bounds) (moves : List Move) (work span : ℕ) (chain : List ℕ) (works : List TaskWork)
+    : Type 0 where
   pub profile : IsProfile p lim moves work span chain
   pub tasks : AreWorks p lim moves works

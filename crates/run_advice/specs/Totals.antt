@@ -36,7 +36,11 @@ total_of decl works = record {
 
 -- the total with one task more, which is of the declaration or is not
 abbrev pub with_work : Bool → TaskTotal → TaskWork → TaskTotal
-with_work true total task = record { made = total.made + 1; work = total.work + task.work; heaviest = max total.heaviest task.work }
+with_work true total task = record {
+  made = total.made + 1;
+  work = total.work + task.work;
+  heaviest = max total.heaviest task.work;
+}
 with_work false total task = total
 
 -- There are no more tasks than a run may make, and the work of each is small enough for the sum of all to fit 64 bits.

@@ -1,7 +1,7 @@
 //! What a run could gain: an analysis of its journal.
 //!
-//! `specs/` says what is told of a journal. Work, span and the heaviest chain come from `span_profile`, and the bounds on the time
-//! with more workers from `schedule_bounds`. The text that is written is left to the crate above.
+//! `specs/` says what is told of a journal. Work, span and the heaviest chain come from `span_profile`, and the bounds on the
+//! time with more workers from `schedule_bounds`. The text that is written is left to the crate above.
 #![tactic(auto)]
 
 mod advising;

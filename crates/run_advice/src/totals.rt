@@ -31,7 +31,8 @@ pub struct TaskTotal {
 fn count_entry(counts: &mut List<u64>, task: u32)
     requires { (t : ℕ) → slice_index counts.old t < 2 ^ 63 }
     ensures length { length counts.new ≡ length counts.old }
-    ensures same { (t : ℕ) → t < length counts.old → slice_index counts.new t ≡ slice_index counts.old t + (if task == t then 1 else 0) }
+    ensures same { (t : ℕ) → t < length counts.old
+        → slice_index counts.new t ≡ slice_index counts.old t + (if task == t then 1 else 0) }
 {
     let at = task as usize;
     if at < counts.len() {

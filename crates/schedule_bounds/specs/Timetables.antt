@@ -1,6 +1,6 @@
--- Timetables: when each entry runs on several processors. An entry has an earliest time, before which it cannot start however many
--- processors there are. In a paced timetable entries come in the order of these times, each starts as soon as a processor is free,
--- and none is delayed less than the one before.
+-- Timetables: when each entry runs on several processors. An entry has an earliest time, before which it cannot start however
+-- many processors there are. In a paced timetable entries come in the order of these times, each starts as soon as a
+-- processor is free, and none is delayed less than the one before.
 use Rattle.std.specs.Prelude.{◌≡◌, ◌<◌, ◌≤◌, ◌+◌, ◌-◌, ◌++◌, ◌⊎◌, ℕ, zero, suc, List, [], ◌∷◌, length, map, max, slice_index, if◌then◌else◌}
 use Rattle.std.specs.List.{Contains}
 use Rattle.std.specs.List.Sorted.{IsPermutation}
@@ -72,14 +72,15 @@ pub record IsPacedTime (starts ends : List ℕ) (processors time : ℕ) : Type 0
   pub whole : IsPermutation (jobs_below starts ends (length starts)) (map job_of slots)
   pub time_is : time ≡ time_of slots
 
--- These are the earliest times of entries with these weights: what leads to another ends before that starts, and an entry starts at
--- 0, or as one ends that leads to it. None ends after the span, and one ends there, if the span is not 0.
+-- These are the earliest times of entries with these weights: what leads to another ends before that starts, and an entry
+-- starts at 0, or as one ends that leads to it. None ends after the span, and one ends there, if the span is not 0.
 pub record AreEarliest (Leads : ℕ → ℕ → Type 0) (weight : ℕ → ℕ) (count span : ℕ) (starts ends : List ℕ) : Type 0 where
   pub starts_count : length starts ≡ count
   pub ends_count : length ends ≡ count
   pub takes : (entry : ℕ) → entry < count → slice_index ends entry ≡ slice_index starts entry + weight entry
   pub some : (entry : ℕ) → entry < count → 0 < weight entry
-  pub ordered : (entry next : ℕ) → entry < count → next < count → Leads entry next → slice_index ends entry ≤ slice_index starts next
+  pub ordered : (entry next : ℕ) → entry < count → next < count → Leads entry next
+      → slice_index ends entry ≤ slice_index starts next
   pub tight : (entry : ℕ) → entry < count → (slice_index starts entry ≡ 0)
       ⊎ ((before : ℕ) × (before < count) × Leads before entry × (slice_index ends before ≡ slice_index starts entry))
   pub within : (entry : ℕ) → entry < count → slice_index ends entry ≤ span

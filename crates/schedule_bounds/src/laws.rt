@@ -26,17 +26,21 @@ pub fn a_greedy_schedule_is_short()
         ≤ sum_below (weight_in graph) (entry_count graph) + processors * span }
 {}
 
-/// The paced timetable of entries is one: what leads to another ends before that starts, and no step has more entries than there are
-/// processors. It takes no less than the least time, and no more than the work shared out to all processors, and the span.
+/// The paced timetable of entries is one: what leads to another ends before that starts, and no step has more entries than
+/// there are processors. It takes no less than the least time, and no more than the work shared out to all processors, and
+/// the span.
 pub fn a_paced_timetable_is_short()
     ensures keeps { (graph : AnyGraph) (span : ℕ) (starts ends : List ℕ) (processors time : ℕ)
-        → AreEarliest (LeadsIn graph) (weight_in graph) (entry_count graph) span starts ends → IsPacedTime starts ends processors time
+        → AreEarliest (LeadsIn graph) (weight_in graph) (entry_count graph) span starts ends
+        → IsPacedTime starts ends processors time
         → (slots : List Slot) × IsTimetable (LeadsIn graph) (weight_in graph) (entry_count graph) processors slots
         × (time ≡ time_of slots) }
     ensures least { (graph : AnyGraph) (span : ℕ) (starts ends : List ℕ) (processors time : ℕ)
-        → AreEarliest (LeadsIn graph) (weight_in graph) (entry_count graph) span starts ends → IsPacedTime starts ends processors time
+        → AreEarliest (LeadsIn graph) (weight_in graph) (entry_count graph) span starts ends
+        → IsPacedTime starts ends processors time
         → 0 < processors → least_time (sum_below (weight_in graph) (entry_count graph)) span processors ≤ time }
     ensures short { (graph : AnyGraph) (span : ℕ) (starts ends : List ℕ) (processors time : ℕ)
-        → AreEarliest (LeadsIn graph) (weight_in graph) (entry_count graph) span starts ends → IsPacedTime starts ends processors time
+        → AreEarliest (LeadsIn graph) (weight_in graph) (entry_count graph) span starts ends
+        → IsPacedTime starts ends processors time
         → processors * time ≤ sum_below (weight_in graph) (entry_count graph) + processors * span }
 {}

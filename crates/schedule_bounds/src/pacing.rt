@@ -49,8 +49,8 @@ fn least_at(numbers: &[u128]) -> usize
     least
 }
 
-/// Gives an entry a processor of those that are free at these times: one that is free first. It starts then, but not before it may,
-/// with this delay. Returns how much it is delayed, and when it ends.
+/// Gives an entry a processor of those that are free at these times: one that is free first. It starts then, but not before
+/// it may, with this delay. Returns how much it is delayed, and when it ends.
 fn place(free: &mut List<u128>, job: PacedJob, delay: u128) -> (u128, u128)
     requires some { 0 < length free.old }
     requires small { All (λ time. time < 2 ^ 128 - 2 ^ 64) free.old }

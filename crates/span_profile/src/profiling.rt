@@ -177,8 +177,9 @@ fn advance(
 }
 
 /// The work and the span of a run of the program under these limits that makes these moves, its heaviest chain, and the earliest
-/// times of its entries. Entries are numbered from 0. Those after the first fault do not count, but their moves have to be legal too. If the moves are not all
-/// legal, it returns the number of the first that is not, counted from 1, and why it is not.
+/// times of its entries. Entries are numbered from 0. Those after the first fault do not count, but their moves have to be
+/// legal too. If the moves are not all legal, it returns the number of the first that is not, counted from 1, and why it is
+/// not.
 pub fn profile(alloc: Global, p: &Prog, lim: Limits, moves: &[Move]) -> Result<Heaviest, ReplayFail>
     ensures profiled { IfOk result (λ h. IsProfile p.now lim moves.now h.work h.span h.chain) }
     ensures earliest { IfOk result (λ h. HasEarliest p.now lim moves.now h.span h.starts h.ends) }

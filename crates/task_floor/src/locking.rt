@@ -1,5 +1,6 @@
-//! How a worker locks nodes, and passes by nodes at which no record lies. No call waits for a lock that another worker has. The lock
-//! word of a node that nobody has locked says whether records may lie there, so a try to lock it has one atomic step or two.
+//! How a worker locks nodes, and passes by nodes at which no record lies. No call waits for a lock that another worker has.
+//! The lock word of a node that nobody has locked says whether records may lie there, so a try to lock it has one atomic step
+//! or two.
 ghost use Rattle.std.specs.Prelude.{◌≡◌, ◌<◌, IsFalse, IsTrue, length};
 ghost use mathlib.Core.Option.{none, some};
 ghost use Rattle.admission_laws.specs.admission_core.States.{Activity};
@@ -93,8 +94,8 @@ impl<N: Named + Planted> Floor<N> {
         found == free
     }
 
-    /// Tries to pass by a node that has no children, and whose parent is the last node of the stand's walk. Returns whether no record
-    /// lies there: then the stand has finished the node; otherwise it is as it was.
+    /// Tries to pass by a node that has no children, and whose parent is the last node of the stand's walk. Returns whether
+    /// no record lies there: then the stand has finished the node; otherwise it is as it was.
     pub fn pass_by(&self, stand: &mut Stand, node: u32) -> bool
         requires here { stand.old.table_id ≡ self.now }
         requires node { node < length N.nodes }

@@ -77,8 +77,9 @@ impl<N: Named + Planted> Floor<N> {
     }
 
     /// Looks whether the next segment of a task in hand may run, and makes it ready. If the task waits for one that is done, its
-    /// frame takes the awaited value, and its phase word says `Running` from then on. The only stand finds each such task ready. The
-    /// stand holds no node and does nothing in the tree. What it knows of the nodes is enough to give the turn, as before.
+    /// frame takes the awaited value, and its phase word says `Running` from then on. The only stand finds each such task
+    /// ready. The stand holds no node and does nothing in the tree. What it knows of the nodes is enough to give the turn, as
+    /// before.
     pub fn make_ready(
         &self,
         stand: &mut Stand,

@@ -41,8 +41,8 @@ pub(crate) fn task_in(slot: TreeSlot) -> Option<TaskSlot>
 impl<N: Named + Planted> Floor<N> {
     /// Takes the turn of a task for this worker, whose stand it is, and what lies in the task's slot. Unless the task is enabled,
     /// the stand knows then that no record of it stands. `Busy` if the turn word was not free; then the stand knows what it found
-    /// there, and is as it was otherwise. If the stand is the only one, it finds no turn of a made task busy but those that it has.
-    /// The stand holds no node.
+    /// there, and is as it was otherwise. If the stand is the only one, it finds no turn of a made task busy but those that
+    /// it has. The stand holds no node.
     pub fn take_turn(&self, stand: &mut Stand, worker: u32, task: u32) -> Result<TaskSlot, Busy>
         requires here { stand.old.table_id ≡ self.now }
         requires live { stand.old.me.0.floor.kind ≢ Spent }

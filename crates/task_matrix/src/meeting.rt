@@ -65,8 +65,8 @@ fn meetings_in_order(alloc: Global, first: &[Effect], second: &[Effect]) -> Resu
 /// All meetings of the effects of one declaration with those of another, for some values of the parameters of both. A
 /// declaration and its own copy, with other arguments, are two.
 ///
-/// There is none exactly if the effects never interfere. If there are some, the effects interfere exactly for the values for which
-/// the equalities of one of them hold.
+/// There is none exactly if the effects never interfere. If there are some, the effects interfere exactly for the values for
+/// which the equalities of one of them hold.
 pub fn meetings_between(
     alloc: Global,
     first: &Summary,

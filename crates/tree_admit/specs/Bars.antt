@@ -17,9 +17,9 @@ IsLedTo v s u = (s ≡ u) ⊎ IsAmong (record { waiter = s; awaited = u }) v.wai
 
 -- The record is of another task than t and may interfere with effect e. Its task is the one that the bar names, and is known to
 -- wait for the one at which the bar ends, if that is another. That one is not t: since the seat had the first view, it has looked
--- at the phases of the tasks on the way there, one after the other, and found that the last of them was no wait. If it is the only
--- one, the record stands in the way of t. (A record is of a task below the limit on tasks. The seat does not know that, so the rule
--- is said of such tasks alone.)
+-- at the phases of the tasks on the way there, one after the other, and found that the last of them was no wait. If it is the
+-- only one, the record stands in the way of t. (A record is of a task below the limit on tasks. The seat does not know that,
+-- so the rule is said of such tasks alone.)
 pub record IsBarOf (p : Program) (lim : Bounds) (since v : TreeView) (t : ℕ) (e : Effect) (r : Record) (bar : Bar) : Type 0 where
   pub other : r.task ≢ t
   pub meets : IsTrue (statically_interferes r.effect e)

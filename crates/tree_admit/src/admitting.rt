@@ -35,8 +35,8 @@ pub enum Admittance {
 
 /// Tries to place a record for each effect of a task whose turn the stand took, which is still to be admitted and of which no
 /// record stands. These are the task's effects. If all were placed, the task's admission may be drawn. If a record was in the
-/// way, or memory ran out, no record of the task stands. A stand that is the only one, and has no other turn, is held only if it is
-/// not legal to admit the task.
+/// way, or memory ran out, no record of the task stands. A stand that is the only one, and has no other turn, is held only if
+/// it is not legal to admit the task.
 pub fn try_admit<R: Wait, N: Named + Planted>(
     rt: &R,
     alloc: Global,

@@ -69,7 +69,8 @@ pub(crate) fn lock_child<N: Named + Planted, R: Wait>(
     unreachable!()
 }
 
-/// Passes by a node below the last one of the stand's walk, if it has no children and no record lies there. Returns whether it has.
+/// Passes by a node below the last one of the stand's walk, if it has no children and no record lies there. Returns whether
+/// it has.
 fn passes_bare<N: Named + Planted>(
     floor: &Floor<N>,
     shape: &Shape,

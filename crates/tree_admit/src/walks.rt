@@ -24,7 +24,8 @@ use std::sync::Wait;
 use task_floor::{Floor, Stand};
 
 /// Looks at the records at a node, whose content this is, and walks through the nodes below it: it locks each child that the
-/// effect may reach, walks below it and leaves it, and passes by those at which nothing stands. Returns the content of the node, which the stand holds still. If a record is a bar, it gives the node back.
+/// effect may reach, walks below it and leaves it, and passes by those at which nothing stands. Returns the content of the
+/// node, which the stand holds still. If a record is a bar, it gives the node back.
 pub(crate) fn walk_below<N: Named + Planted, R: Wait>(
     rt: &R,
     floor: &Floor<N>,

@@ -51,7 +51,8 @@ pub data AdviceDue (form : Form) (text : List ℕ) : Answer → Type 0 where
 -- Why the program gives an answer, before it writes anything.
 pub data AdviceCause {S : Type 0} (tells : SourceTells S) (words : List (List ℕ)) (before after : S) : Answer → Type 0 where
   -- the source gave a text, and this is the answer to it
-  text : {answer : Answer} (form : Form) (bytes : List ℕ) → IsFormMeaning words (Some form) → WasRead tells before (Ok bytes) after
+  text : {answer : Answer} (form : Form) (bytes : List ℕ) → IsFormMeaning words (Some form)
+      → WasRead tells before (Ok bytes) after
       → AdviceDue form bytes answer
       → AdviceCause tells words before after answer
   -- a read failed, or the source has more bytes than a text may have

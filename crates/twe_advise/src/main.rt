@@ -11,15 +11,19 @@ mod words;
 
 use std::process::ExitCode;
 use top::advise_top;
-use twe_io::{Status, StdSink, StdSource, words_of};
+use twe_io::{Process, Status};
 
 fn main(rt: HostRuntime) -> ExitCode {
     let alloc = rt.alloc();
-    let Ok(words) = words_of(&rt) else {
+    let Ok(mut process) = Process::start(&rt, rt.stdin(), rt.stdout(), rt.stderr()) else {
         return ExitCode::from(Status::Memory.code());
     };
-    let (mut out, mut err) = (StdSink::new(rt.stdout()), StdSink::new(rt.stderr()));
-    let mut src = StdSource::new(rt.stdin());
-    let status = advise_top(alloc, words.as_slice(), &mut src, &mut out, &mut err);
+    let status = advise_top(
+        alloc,
+        process.words.as_slice(),
+        &mut process.src,
+        &mut process.out,
+        &mut process.err,
+    );
     ExitCode::from(status.code())
 }

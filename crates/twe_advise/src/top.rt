@@ -119,8 +119,8 @@ fn answer<S: Source>(alloc: Global, words: &[Word], src: &mut S) -> Result<Answe
 }
 
 /// Reads the text of a program from the source, and after the first line that is exactly `%%` the text of a journal, and writes
-/// what the run of that journal could gain, as tables or as JSON. Without such a line the journal is empty. A journal may be unfinished or stuck, or
-/// end with a fault.
+/// what the run of that journal could gain, as tables or as JSON. Without such a line the journal is empty. A journal may be
+/// unfinished or stuck, or end with a fault.
 ///
 /// `Answers` says what each status means and what is written with it. If there are words other than `--json` alone, the answer
 /// is the usage line, and nothing is read from the source. After `Memory` nothing was written.

@@ -7,7 +7,8 @@ use std::fmt;
 
 /// There was not enough memory. Every crate uses this error for it.
 ///
-/// Outside this crate only a failed allocation can construct it, or a text too long for 32 bits to count its bytes.
+/// It comes from a failed allocation, from a count at the end of its integer type, or from a text too long for 32 bits to
+/// count its bytes.
 #[derive(Clone, Copy, Debug, PartialEq, Eq)]
 pub struct Memory {
     shortage: Shortage,

@@ -8,16 +8,20 @@ mod words;
 
 use std::process::ExitCode;
 use top::batch_top;
-use twe_io::{Status, StdSink, StdSource, words_of};
+use twe_io::{Process, Status};
 
 fn main(rt: HostRuntime) -> ExitCode {
     let alloc = rt.alloc();
-    let Ok(words) = words_of(&rt) else {
+    let Ok(mut process) = Process::start(&rt, rt.stdin(), rt.stdout(), rt.stderr()) else {
         return ExitCode::from(Status::Memory.code());
     };
-    let mut src = StdSource::new(rt.stdin());
-    let mut out = StdSink::new(rt.stdout());
-    let mut err = StdSink::new(rt.stderr());
-    let status = batch_top(&rt, alloc, words.as_slice(), &mut src, &mut out, &mut err);
+    let status = batch_top(
+        &rt,
+        alloc,
+        process.words.as_slice(),
+        &mut process.src,
+        &mut process.out,
+        &mut process.err,
+    );
     ExitCode::from(status.code())
 }

@@ -11,24 +11,21 @@ use run_gates::FreeGate;
 use std::process::ExitCode;
 use text_answers::Book;
 use top::twe;
-use twe_io::{Status, StdSink, StdSource, words_of};
+use twe_io::{Process, Status};
 
 fn main(rt: HostRuntime) -> ExitCode {
     let alloc = rt.alloc();
-    let Ok(words) = words_of(&rt) else {
+    let Ok(mut process) = Process::start(&rt, rt.stdin(), rt.stdout(), rt.stderr()) else {
         return ExitCode::from(Status::Memory.code());
     };
-    let mut src = StdSource::new(rt.stdin());
-    let mut out = StdSink::new(rt.stdout());
-    let mut err = StdSink::new(rt.stderr());
     let mut book = Book::new(alloc);
     let status = twe(
         &rt,
         alloc,
-        words.as_slice(),
-        &mut src,
-        &mut out,
-        &mut err,
+        process.words.as_slice(),
+        &mut process.src,
+        &mut process.out,
+        &mut process.err,
         &FreeGate,
         &mut book,
     );

@@ -1,5 +1,5 @@
-//! `twe_explain`: why a TWEJava program is refused, for people. It reads the text of a program from standard input, and writes the
-//! answer of `twe check` with the place, the line of the text, and what the rule asks.
+//! `twe_explain`: why a TWEJava program is refused, for people. It reads the text of a program from standard input, and
+//! writes the answer of `twe check` with the place, the line of the text, and what the rule asks.
 #![tactic(auto)]
 
 mod effects;
@@ -14,16 +14,19 @@ mod words;
 
 use std::process::ExitCode;
 use top::explain_top;
-use twe_io::{Status, StdSink, StdSource, words_of};
+use twe_io::{Process, Status};
 
 fn main(rt: HostRuntime) -> ExitCode {
     let alloc = rt.alloc();
-    let Ok(words) = words_of(&rt) else {
+    let Ok(mut process) = Process::start(&rt, rt.stdin(), rt.stdout(), rt.stderr()) else {
         return ExitCode::from(Status::Memory.code());
     };
-    let mut src = StdSource::new(rt.stdin());
-    let mut out = StdSink::new(rt.stdout());
-    let mut err = StdSink::new(rt.stderr());
-    let status = explain_top(alloc, words.as_slice(), &mut src, &mut out, &mut err);
+    let status = explain_top(
+        alloc,
+        process.words.as_slice(),
+        &mut process.src,
+        &mut process.out,
+        &mut process.err,
+    );
     ExitCode::from(status.code())
 }

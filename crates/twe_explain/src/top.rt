@@ -22,9 +22,9 @@ use twe_report::{Input, accepted_text, read_input};
 
 /// Reads the text of a program from the source, and writes the answer of `twe check` with what is said of the refusal.
 ///
-/// `AnswersExplain` says what each status means and what is written with it. The words name the text, and choose lines for editors;
-/// if they ask for anything else, the answer is the usage line, and nothing is read from the source. After `Memory` nothing was
-/// written.
+/// `AnswersExplain` says what each status means and what is written with it. The words name the text, and choose lines for
+/// editors; if they ask for anything else, the answer is the usage line, and nothing is read from the source. After `Memory`
+/// nothing was written.
 pub fn explain_top<S: Source, O: Sink, E: Sink>(
     alloc: Global,
     words: &[Word],

@@ -28,8 +28,9 @@ pub struct NodeTasks {
     pub below: Queue,
 }
 
-/// For each place in the tree of regions the enabled tasks with an effect there. The place of an effect is the solid prefix of its
-/// path: the elements before the first wildcard. There is a node for each place at which or below which an effect was entered.
+/// For each place in the tree of regions the enabled tasks with an effect there. The place of an effect is the solid prefix
+/// of its path: the elements before the first wildcard. There is a node for each place at which or below which an effect was
+/// entered.
 #[derive(Debug, Drop)]
 pub struct TaskBook {
     /// Where it gets its memory.
@@ -74,10 +75,11 @@ impl TaskBook {
         Ok(())
     }
 
-    /// Takes tasks out that are over, at the places on the way to an effect of whose path these are the elements before the star. It
-    /// takes no memory.
+    /// Takes tasks out that are over, at the places on the way to an effect of whose path these are the elements before the
+    /// star. It takes no memory.
     pub(crate) fn drop_over(&mut self, st: &State, elems: &[Elem])
-        ensures kept { (s : ℕ) (front : List Elem) → HasStatus st.now s Enabled → IsPlacedIn self.old s front → IsPlacedIn self.new s front }
+        ensures kept { (s : ℕ) (front : List Elem) → HasStatus st.now s Enabled → IsPlacedIn self.old s front
+            → IsPlacedIn self.new s front }
         ensures decided { BookIsDecided st.now.links self.old → BookIsDecided st.now.links self.new }
     {
         let mut at = self.tree.root();
@@ -99,9 +101,9 @@ impl TaskBook {
         self.tree.child(at, part(elem)?)
     }
 
-    /// Some bar to the admission of `t` among the tasks that are in the way of an effect, if there is one. These are the elements of
-    /// its path before the star, if there is a star. It looks at the places on the way there, and below if the path has a wildcard. It
-    /// takes no memory.
+    /// Some bar to the admission of `t` among the tasks that are in the way of an effect, if there is one. These are the
+    /// elements of its path before the star, if there is a star. It looks at the places on the way there, and below if the
+    /// path has a wildcard. It takes no memory.
     pub(crate) fn bar(&self, st: &State, elems: &[Elem], star: bool, t: u32) -> Option<u32>
         requires made { HasStatus st.now t Made }
         requires agree { LinksAgree st.now }
@@ -190,7 +192,8 @@ fn push_at(
 /// Makes room for the tasks at a node.
 fn reach(alloc: Global, nodes: &mut List<NodeTasks>, at: u32) -> Result<(), Memory>
     ensures there { OnOk result (at < length nodes.new) }
-    ensures kept { OnOk result ((n : ℕ) (node : NodeTasks) → slice_get nodes.old n ≡ Some node → slice_get nodes.new n ≡ Some node) }
+    ensures kept { OnOk result ((n : ℕ) (node : NodeTasks) → slice_get nodes.old n ≡ Some node
+        → slice_get nodes.new n ≡ Some node) }
     ensures decided { OnOk result ((links : List Link) → NodesAreDecided links nodes.old → NodesAreDecided links nodes.new) }
 {
     'reaching: while nodes.len() <= at as usize {

@@ -135,8 +135,8 @@ impl EnabledTasks {
         self.reads.drop_over(st, elems);
     }
 
-    /// Some bar to the admission of `t` among the tasks with an effect that interferes with one of these effects, if there is one. It
-    /// takes no memory.
+    /// Some bar to the admission of `t` among the tasks with an effect that interferes with one of these effects, if there is
+    /// one. It takes no memory.
     pub(crate) fn bar_to_all(&self, st: &State, effects: &[Effect], t: u32) -> Option<u32>
         requires made { HasStatus st.now t Made }
         requires agree { LinksAgree st.now }
@@ -154,15 +154,16 @@ impl EnabledTasks {
         None
     }
 
-    /// Some bar to the admission of `t` among the tasks with an effect that interferes with this effect, if there is one. It takes
-    /// no memory.
+    /// Some bar to the admission of `t` among the tasks with an effect that interferes with this effect, if there is one. It
+    /// takes no memory.
     fn bar_to(&self, st: &State, effect: &Effect, t: u32) -> Option<u32>
         requires made { HasStatus st.now t Made }
         requires agree { LinksAgree st.now }
         requires filled { EffectsAreFilled st.now }
         requires decided { AreDecided st.now.links self.now }
         ensures some { IfSome result (λ s. IsBar st.now s t) }
-        ensures none { IfNone result ((s : ℕ) (e : Effect) → IsEntered self.now s e → Interferes e effect.now → IsNoBar st.now t s) }
+        ensures none { IfNone result ((s : ℕ) (e : Effect) → IsEntered self.now s e → Interferes e effect.now
+            → IsNoBar st.now t s) }
     {
         let elems = effect.path.elems().as_slice();
         let star = effect.path.star();

@@ -73,7 +73,8 @@ impl Queue {
         }
     }
 
-    /// Has the last entry decide for those before it if they all wait for its task by now, as a task waits for one that it has spawned.
+    /// Has the last entry decide for those before it if they all wait for its task by now, as a task waits for one that it
+    /// has spawned.
     fn settle_last(&mut self, st: &State) -> Result<(), Memory>
         requires { IsDecided st.now.links self.old.entries }
         ensures kept { OnOk result ((s : ℕ) → IsQueued self.old.entries s → IsQueued self.new.entries s) }
@@ -97,7 +98,8 @@ impl Queue {
     fn decides_by_now(&self, st: &State, at: usize) -> bool
         requires there { at < length self.now.entries }
         requires decided { IsDecided st.now.links self.now.entries }
-        ensures { IsTrue result → (e : Queued) → slice_get self.now.entries at ≡ Some e → FirstLead st.now.links self.now.entries at e.task }
+        ensures { IsTrue result → (e : Queued) → slice_get self.now.entries at ≡ Some e
+            → FirstLead st.now.links self.now.entries at e.task }
     {
         let entry = entry_at(self.entries.as_slice(), at);
         if decides(entry, at) {

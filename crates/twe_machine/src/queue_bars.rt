@@ -38,8 +38,8 @@ impl Queue {
         None
     }
 
-    /// The last task, if it is a bar to the admission of `t`. It is looked at before the others, since it is a bar to most tasks that
-    /// it has made and does not wait for yet.
+    /// The last task, if it is a bar to the admission of `t`. It is looked at before the others, since it is a bar to most
+    /// tasks that it has made and does not wait for yet.
     fn last_bar(&self, st: &State, t: u32) -> Option<u32>
         requires there { t < length st.now.tasks }
         requires linked { length st.now.links ≡ length st.now.tasks }
@@ -54,15 +54,16 @@ impl Queue {
         }
     }
 
-    /// A place after `from`, if none of the tasks from there up to that place is a bar to the admission of `t`. It is `from` if the
-    /// first of them is one.
+    /// A place after `from`, if none of the tasks from there up to that place is a bar to the admission of `t`. It is `from`
+    /// if the first of them is one.
     fn passed_from(&self, st: &State, from: usize, t: u32) -> usize
         requires there { from < length self.now.entries }
         requires made { HasStatus st.now t Made }
         requires agree { LinksAgree st.now }
         requires filled { EffectsAreFilled st.now }
         ensures bar { result ≤ from → (e : Queued) → slice_get self.now.entries from ≡ Some e → IsBar st.now e.task t }
-        ensures passed { (i : ℕ) (e : Queued) → from ≤ i → i < result → slice_get self.now.entries i ≡ Some e → IsNoBar st.now t e.task }
+        ensures passed { (i : ℕ) (e : Queued) → from ≤ i → i < result → slice_get self.now.entries i ≡ Some e
+            → IsNoBar st.now t e.task }
     {
         // The length is read so that a proof may use that places fit.
         let _count = self.entries.len();
@@ -97,8 +98,8 @@ impl Queue {
         true
     }
 
-    /// Whether the last of so many first tasks waits for `t`, if there is one. It is looked at before the others, since it tells most
-    /// often.
+    /// Whether the last of so many first tasks waits for `t`, if there is one. It is looked at before the others, since it
+    /// tells most often.
     fn last_leads(&self, st: &State, count: usize, t: u32) -> bool {
         count == 0 || leads(st, self.task_at(count - 1), t)
     }
@@ -115,8 +116,8 @@ impl Queue {
         entry.decider
     }
 
-    /// How many of the first tasks are known to be done or to wait for `t`, by the last of those that decide and are not done. Only so
-    /// many first ones are looked at.
+    /// How many of the first tasks are known to be done or to wait for `t`, by the last of those that decide and are not
+    /// done. Only so many first ones are looked at.
     fn led_count(&self, st: &State, most: usize, t: u32) -> usize
         requires { IsDecided st.now.links self.now.entries }
         ensures { AreLed st.now.links self.now.entries 0 result t }

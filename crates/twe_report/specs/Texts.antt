@@ -203,7 +203,8 @@ unfinished_text st =
 
 -- the usage line of `twe`
 abbrev pub usage_text : List ℕ
-usage_text = line (codes "usage: twe check | run [--workers k] [--fuel f] [--tasks t] [--journal] | replay [--fuel f] [--tasks t] | load N [--workers k]")
+usage_text = line (codes "usage: twe check | run [--workers k] [--fuel f] [--tasks t] [--journal]"
+    ++ codes " | replay [--fuel f] [--tasks t] | load N [--workers k]")
 
 -- `read fault`
 abbrev pub read_fault_text : List ℕ

@@ -98,7 +98,8 @@ pub record MayWalkDown (nodes : List (List Elem)) (tree : Tree) (i : ℕ) (a : A
 
 -- Seat i may pass by node c, which has no children, if nobody has locked it and no record stands at it. The last node of its
 -- walk is the parent of c.
-pub record MayPassBy (nodes : List (List Elem)) (tree : Tree) (i : ℕ) (a : Activity) (n c : ℕ) (stack done : List ℕ) : Type 0 where
+pub record MayPassBy (nodes : List (List Elem)) (tree : Tree) (i : ℕ) (a : Activity) (n c : ℕ) (stack done : List ℕ)
+    : Type 0 where
   pub active : tree.activities i ≡ Some a
   pub stage : a.stage ≡ Walks (n ∷ stack) done
   pub child : IsParent nodes n c

@@ -22,7 +22,8 @@ use Rattle.floor_table.specs.nodes.TreeOf.{TreeTable, content_at, content_in, fl
 -- A lock word that says that no record lies at its node says the truth: the node's content is in its slot, and has no record.
 abbrev pub BareAreEmpty : Program → Bounds → List ℕ → List (core.Option TreeSlot) → Type 0
 BareAreEmpty p lim words homes =
-    (n : ℕ) → get_elem? words (lock_place p lim n) ≡ core.some bare_lock → content_at (get_elem? homes (content_place lim n)) ≡ Some []
+    (n : ℕ) → get_elem? words (lock_place p lim n) ≡ core.some bare_lock
+    → content_at (get_elem? homes (content_place lim n)) ≡ Some []
 
 -- The table has the words and slots of the program, the limits and the nodes. Its floor's part keeps the rule of the table of
 -- the floor, and the nodes that it shows keep theirs beside that floor, with the same log and some state of the core.

@@ -14,8 +14,8 @@ ghost use Rattle.floor_table.specs.nodes.Holds.{TreeKeeps};
 ghost use Rattle.floor_table.specs.nodes.Layout.{tree_slot_count};
 
 /// A seat may load a phase word, whatever it holds. If it finds that the task waits, it knows for whom, also of all that it knew
-/// to wait for the task. If it finds that the task is done, it knows its value. If it is the only one and does not have the task's
-/// turn, it finds the phase that the task's last entry has left.
+/// to wait for the task. If it finds that the task is done, it knows its value. If it is the only one and does not have the
+/// task's turn, it finds the phase that the task's last entry has left.
 pub fn a_wait_may_be_followed()
     ensures { (nodes : List (List Elem)) (p : Program) (lim : Bounds) (id u : ℕ) (v : TreeView) (mine : List (ℕ × TreeSlot))
         → v.floor.kind ≢ Spent → u < lim.tasks

@@ -52,8 +52,8 @@ pub fn a_seat_may_stop()
         (v, mine) (left_lock has.content)) }
 {}
 
-/// A seat that walks through a node may pass by a child that has no children, by a load of the child's lock word. If the word says
-/// that no record lies there, the seat has finished the child. Otherwise nothing changes.
+/// A seat that walks through a node may pass by a child that has no children, by a load of the child's lock word. If the word
+/// says that no record lies there, the seat has finished the child. Otherwise nothing changes.
 pub fn a_node_may_be_passed_by()
     ensures { (nodes : List (List Elem)) (p : Program) (lim : Bounds) (id c : ℕ) (v : TreeView) (mine : List (ℕ × TreeSlot))
         (next : Activity) → MayPass nodes v c next

@@ -3,8 +3,8 @@ use Rattle.std.specs.Prelude.{◌≡◌, ◌<◌, ◌≤◌, ◌+◌, ◌-◌, �
 use Rattle.std.specs.List.{All}
 use Rattle.schedule_bounds.specs.declared.pacing.PacedJob.{PacedJob}
 
--- The processors are free at these times. The entry takes one that is free first: it starts then, but not before it may, with this
--- delay. It is delayed so much, and ends at this time, and the processors are free at later times.
+-- The processors are free at these times. The entry takes one that is free first: it starts then, but not before it may, with
+-- this delay. It is delayed so much, and ends at this time, and the processors are free at later times.
 pub record IsPlaced (free : List ℕ) (job : PacedJob) (delay later end : ℕ) (after : List ℕ) : Type 0 where
   pub least : ℕ
   pub there : least < length free

@@ -171,7 +171,8 @@ impl Chains {
         ensures heaviest { (nodes : Nodes) → FrontHolds nodes self
             → IfOk result (λ h. IsHeaviest SharesKey weight_of nodes h.work h.span h.chain) }
         ensures earliest { (nodes : Nodes) → FrontHolds nodes self
-            → IfOk result (λ h. AreEarliest (Leads SharesKey nodes) (weight_at weight_of nodes) (length nodes) h.span h.starts h.ends) }
+            → IfOk result (λ h.
+            AreEarliest (Leads SharesKey nodes) (weight_at weight_of nodes) (length nodes) h.span h.starts h.ends) }
     {
         let Chains {
             work,

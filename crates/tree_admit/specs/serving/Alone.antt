@@ -14,8 +14,8 @@ use Rattle.task_floor.specs.declared.steps.served.Served.TheVariants as served
 use Rattle.tree_admit.specs.declared.serving.admission.Admission.{Admission}
 use Rattle.tree_admit.specs.declared.serving.admission.Admission.TheVariants as admission
 
--- If a worker with this view is the only one, it finds the turn of each made task free, and says that a task waits for another only
--- if that one is not done.
+-- If a worker with this view is the only one, it finds the turn of each made task free, and says that a task waits for
+-- another only if that one is not done.
 abbrev pub ServesIfAlone : Program → Bounds → View → ℕ → Served → Type 0
 ServesIfAlone p lim v t (served.Ran end) = Unit {0}
 ServesIfAlone p lim v t (served.Waits on) = (st : State) → IsAloneAt p lim v st → ¬ HasStatus st on status.Done
@@ -23,8 +23,8 @@ ServesIfAlone p lim v t served.Made = Unit {0}
 ServesIfAlone p lim v t served.Ended = Unit {0}
 ServesIfAlone p lim v t (served.Busy holder) = (st : State) → IsAloneAt p lim v st → ¬ IsMade st t
 
--- If a worker with this view is the only one, it finds the turn of each made task free, and says that a task is held by another only
--- if it is not legal to admit it. (That one is below the limit on tasks, which the worker does not know.)
+-- If a worker with this view is the only one, it finds the turn of each made task free, and says that a task is held by
+-- another only if it is not legal to admit it. (That one is below the limit on tasks, which the worker does not know.)
 abbrev pub AdmitsIfAlone : Program → Bounds → View → ℕ → Admission → Type 0
 AdmitsIfAlone p lim v t admission.Admitted = Unit {0}
 AdmitsIfAlone p lim v t (admission.Held by) = by < lim.tasks → (st : State) → IsAloneAt p lim v st → ¬ MayAdmit st t

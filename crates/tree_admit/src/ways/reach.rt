@@ -73,8 +73,8 @@ fn reached_by<'a>(shape: &'a Shape, node: u32, elem: Elem) -> &'a [u32]
     }
 }
 
-/// Of the nodes right below one those that the effect may reach, in increasing order. If its path goes on with a name or a literal
-/// index, that is the one by this element. If it ends without a star, there are none. It takes no memory.
+/// Of the nodes right below one those that the effect may reach, in increasing order. If its path goes on with a name or a
+/// literal index, that is the one by this element. If it ends without a star, there are none. It takes no memory.
 pub fn reached_below<'a>(shape: &'a Shape, node: u32, effect: &Effect) -> &'a [u32]
     requires { node < length shape.now }
     ensures reached { AreReached shape.now effect.now node result.now }

@@ -24,7 +24,8 @@ AnswersEachJournal form p journal answer =
 -- the answer to each input with this program in whose journal text this was found
 abbrev pub AnswersEachFound : Form → Program → JournalText → Answer → Type 0
 AnswersEachFound form p found answer =
-    (text : List ℕ) → Accepted (program_part text) p → Spells (journal_part text) found.head found.moves → AdviceDue form text answer
+    (text : List ℕ) → Accepted (program_part text) p → Spells (journal_part text) found.head found.moves
+    → AdviceDue form text answer
 
 -- the answer has this advice in this form, with the times of the paced timetables
 abbrev pub AdvisedBy : Form → List Decl → Advice → Answer → Type 0
