@@ -17,12 +17,11 @@ use top::explain_top;
 use twe_io::{Process, Status};
 
 fn main(rt: HostRuntime) -> ExitCode {
-    let alloc = rt.alloc();
     let Ok(mut process) = Process::start(&rt, rt.stdin(), rt.stdout(), rt.stderr()) else {
         return ExitCode::from(Status::Memory.code());
     };
     let status = explain_top(
-        alloc,
+        rt.alloc(),
         process.words.as_slice(),
         &mut process.src,
         &mut process.out,

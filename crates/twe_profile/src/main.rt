@@ -12,12 +12,11 @@ use top::profile_top;
 use twe_io::{Process, Status};
 
 fn main(rt: HostRuntime) -> ExitCode {
-    let alloc = rt.alloc();
     let Ok(mut process) = Process::start(&rt, rt.stdin(), rt.stdout(), rt.stderr()) else {
         return ExitCode::from(Status::Memory.code());
     };
     let status = profile_top(
-        alloc,
+        rt.alloc(),
         process.words.as_slice(),
         &mut process.src,
         &mut process.out,
