@@ -1,3 +1,2 @@
 mod Early
-pub mod Founds
 pub mod Needs

@@ -8,13 +8,12 @@ use Rattle.twe_program.specs.declared.program.Decl.{Decl}
 use Rattle.twe_program.specs.Program.{Program}
 use Rattle.effect_check.specs.declared.act.ActKind.{ActKind}
 use Rattle.effect_check.specs.Covered.{Does}
-use Rattle.refusal_causes.specs.declared.sought.Sought.TheVariants.{At}
 use Rattle.refusal_causes.specs.Causes.{NeedsAt}
-use Rattle.refusal_causes.specs.Seeking.{needs_of, seeks}
+use Rattle.refusal_causes.specs.Seeking.{needs_at, needs_of}
 
 -- the declaration needs each of them
 pub needs_here : (p : Program) (decl : Decl) (point : ℕ) (place : Place) (kind : ActKind) (needs : List Effect)
-    → Does p decl point kind → IsTrue (seeks (At place) kind) → needs ≡ needs_of kind → All (NeedsAt p decl point place) needs
+    → Does p decl point kind → IsTrue (needs_at place kind) → needs ≡ needs_of kind → All (NeedsAt p decl point place) needs
 needs_here p decl point place kind needs does there is =
     All-weaker (Contains needs) (NeedsAt p decl point place)
     (λ need inside. record { kind = kind; does = does; there = there; needs = subst (λ (xs : List Effect). Contains xs need) is inside })

@@ -13,14 +13,13 @@ use Rattle.effect_check.specs.declared.act.ActKind.TheVariants.{Make}
 use Rattle.effect_check.specs.Covered.{Does}
 use Rattle.refusal_causes.specs.declared.cause.RuleCause.{RuleCause}
 use Rattle.refusal_causes.specs.declared.cause.RuleCause.TheVariants.{Unsaid, Undeclared, Out}
-use Rattle.refusal_causes.specs.declared.sought.Sought.TheVariants.{At}
-use Rattle.refusal_causes.specs.Seeking.{seeks, needs_of}
+use Rattle.refusal_causes.specs.Seeking.{needs_at, needs_of}
 
 -- at this point the declaration does something at this place that needs the effect
 pub record NeedsAt (p : Program) (decl : Decl) (point : ℕ) (place : Place) (effect : Effect) : Type 0 where
   pub kind : ActKind
   pub does : Does p decl point kind
-  pub there : IsTrue (seeks (At place) kind)
+  pub there : IsTrue (needs_at place kind)
   pub needs : Contains (needs_of kind) effect
 
 -- the declaration needs the effect at this place, and no effect that it declares includes it

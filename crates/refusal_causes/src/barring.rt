@@ -1,16 +1,14 @@
 //! A spawned task that bars an effect: it may be out, and has an effect that interferes.
-ghost use Rattle.std.specs.Prelude.{IfOk, IfSome, IsTrue, Contains};
+ghost use Rattle.std.specs.Prelude.{◌≡◌, IfOk, IfSome, IsTrue, Contains};
 ghost use Rattle.cover_flow.specs.Flow.{IsFlowOf};
 ghost use Rattle.cover_flow.specs.Out.{MayBeOut};
 ghost use Rattle.effect_sets.specs.Interference.{statically_interferes};
 ghost use Rattle.effect_check.specs.Acts.{acts_in_all};
+ghost use Rattle.effect_check.specs.Covered.{Does};
 ghost use Rattle.refusal_causes.specs.Barring.{IsSpawnBar};
-ghost use Rattle.refusal_causes.specs.Seeking.{AreFoundIn, act_at};
-ghost use Rattle.refusal_causes.specs.declared.sought.Sought.TheVariants.{AllSpawns};
 
-use crate::doing::acts_sought;
-use crate::sought::{Sought, SoughtAct, SoughtKind};
 use cover_flow::{Points, flow};
+use effect_check::{Act, ActKind, acts_of_body};
 use effect_sets::{Effect, Summary, interferes};
 use std::alloc::Global;
 use twe_base::{Memory, Place};
@@ -53,7 +51,7 @@ fn first_interfering(
     Ok(None)
 }
 
-/// How this spawn of the task bars the effect at the point, if it does.
+/// How this act of the task bars the effect at the point, if it is a spawn that does.
 fn bar_by(
     alloc: Global,
     p: &Prog,
@@ -61,14 +59,15 @@ fn bar_by(
     points: &Points,
     point: u32,
     effect: &Effect,
-    act: &SoughtAct,
+    act: &Act,
 ) -> Result<Option<SpawnBar>, Memory>
     requires facts { IsFlowOf points.now task.now.body }
-    requires done { Contains (acts_in_all p.now task.now.body.block) (act_at act.now.point act.now.kind) }
+    requires done { Does p.now task.now act.now.point act.now.kind }
     ensures { IfOk result (λ found. IfSome found (IsSpawnBar p.now task.now point effect.now)) }
 {
     let _ = p;
-    let SoughtKind::Spawns {
+    let ActKind::Make {
+        spawned: true,
         future,
         effects,
         future_place,
@@ -92,31 +91,29 @@ fn bar_by(
     }
 }
 
-/// The first future that an act spawns into, or 0.
-fn future_of(act: &SoughtAct) -> u32 {
-    match &act.kind {
-        SoughtKind::Spawns { future, .. } => *future,
-        _ => 0,
-    }
-}
-
-/// How one of these spawns of the task bars the effect at the point, if one does. The facts of 128 futures are found at once.
+/// How one of these acts of the task bars the effect at the point, if one does. The facts of 128 futures are found at once.
 fn bar_among(
     alloc: Global,
     p: &Prog,
     task: &Decl,
     point: u32,
     effect: &Effect,
-    spawns: &[SoughtAct],
+    acts: &[Act],
 ) -> Result<Option<SpawnBar>, Memory>
-    requires { AreFoundIn (acts_in_all p.now task.now.body.block) AllSpawns spawns.now }
+    requires { acts.now ≡ acts_in_all p.now task.now.body.block }
     ensures { IfOk result (λ found. IfSome found (IsSpawnBar p.now task.now point effect.now)) }
 {
     let mut points = flow(alloc, &task.body, 0)?;
-    for act in spawns {
-        let future = future_of(act);
-        if !points.follows(future) {
-            points = flow(alloc, &task.body, future)?;
+    for act in acts {
+        if let ActKind::Make {
+            spawned: true,
+            future,
+            ..
+        } = &act.kind
+        {
+            if !points.follows(*future) {
+                points = flow(alloc, &task.body, *future)?;
+            }
         }
         let found = bar_by(alloc, p, task, &points, point, effect, act)?;
         if let Some(bar) = found {
@@ -136,6 +133,6 @@ pub fn bar_of(
 ) -> Result<Option<SpawnBar>, Memory>
     ensures { IfOk result (λ found. IfSome found (IsSpawnBar p.now task.now point effect.now)) }
 {
-    let spawns = acts_sought(alloc, p, &task.body.block, Sought::AllSpawns)?;
-    bar_among(alloc, p, task, point, effect, spawns.as_slice())
+    let acts = acts_of_body(alloc, p, &task.body.block)?;
+    bar_among(alloc, p, task, point, effect, acts.as_slice())
 }

@@ -5,11 +5,8 @@
 
 mod barring;
 mod cause;
-mod doing;
-mod evaluating;
 mod explained;
 mod needing;
-mod sought;
 
 pub use cause::RuleCause;
 pub use explained::{Explained, explain};

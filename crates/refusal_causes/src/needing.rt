@@ -1,34 +1,55 @@
 //! What a declaration needs at a place, and why it does not have it there.
 ghost use Rattle.std.specs.Prelude.{◌≡◌, IfOk, IfSome};
 ghost use Rattle.std.specs.List.{All};
-ghost use Rattle.effect_check.specs.Acts.{acts_in_all};
-ghost use Rattle.refusal_causes.specs.declared.sought.Sought.TheVariants.{At};
+ghost use Rattle.effect_check.specs.Covered.{Does};
 ghost use Rattle.refusal_causes.specs.Causes.{IsCause, IsCauseIn, IsCauseOfSome, NeedsAt};
-ghost use Rattle.refusal_causes.specs.Seeking.{AreFoundIn, act_kind_of, needs_of};
+ghost use Rattle.refusal_causes.specs.Seeking.{is_at, needs_at, needs_of};
 
 use crate::barring::{SpawnBar, bar_of};
 use crate::cause::RuleCause;
-use crate::doing::acts_sought;
-use crate::sought::{Sought, SoughtAct, SoughtKind};
+use effect_check::{Act, ActKind, acts_of_body};
 use effect_sets::{Effect, Effects, Summary, covers};
 use std::alloc::Global;
 use twe_base::{Memory, Place};
 use twe_program::{Decl, Prog};
 
-/// The effects that an act needs.
-fn needs_of(alloc: Global, kind: &SoughtKind) -> Result<Effects, Memory>
-    ensures { IfOk result (λ effects. effects ≡ needs_of (act_kind_of kind.now)) }
+/// Whether this is the other place.
+fn is_at(place: Place, other: Place) -> bool
+    ensures { result ≡ is_at place other }
+{
+    place.line == other.line && place.col == other.col
+}
+
+/// Whether this is done at the place, and needs effects.
+fn needs_at(place: Place, kind: &ActKind) -> bool
+    ensures { result ≡ needs_at place kind.now }
 {
     match kind {
-        SoughtKind::Access { effect, .. } => {
+        ActKind::Touch { place: at, .. } | ActKind::Call { place: at, .. } => is_at(*at, place),
+        ActKind::Make {
+            spawned,
+            place: at,
+            ..
+        } => *spawned && is_at(*at, place),
+        ActKind::Wait { .. } => false,
+    }
+}
+
+/// The effects that this needs.
+fn needs_of(alloc: Global, kind: &ActKind) -> Result<Effects, Memory>
+    ensures { IfOk result (λ effects. effects ≡ needs_of kind.now) }
+{
+    match kind {
+        ActKind::Touch { effect, .. } => {
             let mut effects = Effects::new(alloc);
             effects.push(effect.copy(alloc)?)?;
             Ok(effects)
         }
-        SoughtKind::Calls { effects, .. } | SoughtKind::Spawns { effects, .. } => {
+        ActKind::Call { effects, .. } | ActKind::Make { effects, .. } => {
             let Summary { effects } = effects.copy(alloc)?;
             Ok(effects)
         }
+        ActKind::Wait { .. } => Ok(Effects::new(alloc)),
     }
 }
 
@@ -90,25 +111,22 @@ fn cause_of_needs(
     Ok(None)
 }
 
-/// Why the declaration does not have one of the effects that it needs for these acts at the place, if that is so.
-fn cause_among(
+/// Why the declaration does not have one of the effects that it needs for this act, if it is done at the place.
+fn cause_of_act(
     alloc: Global,
     p: &Prog,
     decl: &Decl,
     place: Place,
-    acts: &[SoughtAct],
+    act: &Act,
 ) -> Result<Option<RuleCause>, Memory>
-    requires { AreFoundIn (acts_in_all p.now decl.now.body.block) (At place) acts.now }
+    requires { Does p.now decl.now act.now.point act.now.kind }
     ensures { IfOk result (λ found. IfSome found (IsCauseIn p.now decl.now place)) }
 {
-    for act in acts {
-        let needs = needs_of(alloc, &act.kind)?;
-        let found = cause_of_needs(alloc, p, decl, place, act.point, needs.as_slice())?;
-        if let Some(cause) = found {
-            return Ok(Some(cause));
-        }
+    if !needs_at(place, &act.kind) {
+        return Ok(None);
     }
-    Ok(None)
+    let needs = needs_of(alloc, &act.kind)?;
+    cause_of_needs(alloc, p, decl, place, act.point, needs.as_slice())
 }
 
 /// Why the declaration does not have one of the effects that it needs at the place, if that is so.
@@ -120,8 +138,14 @@ fn cause_within(
 ) -> Result<Option<RuleCause>, Memory>
     ensures { IfOk result (λ found. IfSome found (IsCauseIn p.now decl.now place)) }
 {
-    let acts = acts_sought(alloc, p, &decl.body.block, Sought::At(place))?;
-    cause_among(alloc, p, decl, place, acts.as_slice())
+    let acts = acts_of_body(alloc, p, &decl.body.block)?;
+    for act in acts.as_slice() {
+        let found = cause_of_act(alloc, p, decl, place, act)?;
+        if let Some(cause) = found {
+            return Ok(Some(cause));
+        }
+    }
+    Ok(None)
 }
 
 /// The same for one of these declarations of the program.

@@ -79,8 +79,8 @@ impl Tracked {
         ensures tracked { OnOk result (IsTracked p.now lim self.new) }
         ensures moves { OnOk result (map move_of self.new.journal ≡ map move_of self.old.journal ++ mv ∷ []) }
         ensures count { OnOk result (length self.new.journal ≡ length self.old.journal + 1) }
-        ensures number { (m : ℕ) (why : Reason) → IsErrOf result (Illegal m why) → m ≡ n }
-        ensures forbids { (m : ℕ) (why : Reason) → IsErrOf result (Illegal m why) → Forbids self.old.st mv.kind mv.task why }
+        ensures illegal { (m : ℕ) (why : Reason) → IsErrOf result (Illegal m why)
+            → (m ≡ n) × Forbids self.old.st mv.kind mv.task why }
     {
         let _main = p.main;
         let _tasks = lim.tasks;

@@ -24,7 +24,7 @@ returns-in_err-take_move-clause-illegal c = λ n why is.
     let said = c.in_err-take_move.ensures in
     let so_far = c.loop-i.invariant in
     first_at c.args.p.now c.args.lim c.args.moves.now c.loop-i.run.journal c.loop-i.run.st c.loop-i.i _ n why so_far.tracked.is_run so_far.moves so_far.count c.loop-i-test.true
-    (said.number n why (ap Err same)) (said.forbids n why (ap Err same))
+    (said.illegal n why (ap Err same)).0 (said.illegal n why (ap Err same)).1
 
 pub returns-clause-profiled : goal.returns-clause-profiled
 returns-clause-profiled c =
