@@ -1,11 +1,18 @@
 # The programs, and which words are commands of theirs. For bash, to be read by `.`: bin/twe and bin/try use it, so that nothing is proved or
 # built for words that mean nothing. docs/LANGUAGE.md has the rules, and checks/extras holds them to the cases of tests/.
 
+# The names of the programs, one a line: each crate with a `main` is one.
+programs() {
+  local each
+  for each in "$(dirname "${BASH_SOURCE[0]}")"/../crates/*/src/main.rt; do
+    each=${each%/src/main.rt}
+    each=${each##*/}
+    echo "${each/%twe_cli/twe}"
+  done
+}
+
 is_program() {
-  case ${1-} in
-    twe | twe_advise | twe_batch | twe_explain | twe_infer | twe_opt | twe_profile) true ;;
-    *) false ;;
-  esac
+  programs | grep -qxF -- "${1-}"
 }
 
 # What a program takes, as its usage line has it.
