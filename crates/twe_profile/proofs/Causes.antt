@@ -21,12 +21,6 @@ use Rattle.twe_io.specs.Ends.{SourceTells, WasRead}
 use Rattle.twe_profile.specs.Texts.{profile_text}
 use Rattle.twe_profile.specs.inner.Given.{AnswersFound}
 
--- the answer to a text that was read
-pub cause_text : {S : Type 0} (tells : SourceTells S) (before after : S) (text : List ℕ) (made : Result Answer out_of.Memory)
-    → WasRead tells before (Ok text) after → IfOk made (ProfileDue text) → IfOk made (ProfileCause tells [] before after)
-cause_text tells before after text (Ok answer) was due = ProfileCause.text text refl was due
-cause_text tells before after text (Err memory) was due = tt
-
 -- the answer to the journal of an accepted program is that to the input
 pub due_accepted : (text program journal : List ℕ) (p : Program) (made : Result Answer out_of.Memory) → program ≡ program_part text → journal ≡ journal_part text → Accepted program p
     → IfOk made (AnswersJournal p journal) → IfOk made (ProfileDue text)

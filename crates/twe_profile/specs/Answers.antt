@@ -19,6 +19,8 @@ use Rattle.span_profile.specs.Profiles.{IsProfile}
 use Rattle.twe_io.specs.declared.answer.Answer.{Answer}
 use Rattle.twe_io.specs.declared.status.Status.{Status}
 use Rattle.twe_io.specs.declared.status.Status.TheVariants.{Done, Refused, Usage, BadJournal}
+use Rattle.text_programs.specs.Causes.{TextCause, without_words}
+use Rattle.twe_profile.specs.declared.program.Profiling.{Profiling}
 use Rattle.twe_profile.specs.Texts.{profile_text, profile_usage_text}
 
 -- The answer to a journal text on an accepted program. The limits are those of the journal's head, or the default ones.
@@ -44,19 +46,13 @@ pub data ProfileDue (text : List ℕ) : Answer → Type 0 where
       → AnswersJournal p (journal_part text) answer
       → ProfileDue text answer
 
--- Why the program gives an answer, before it writes anything.
-pub data ProfileCause {S : Type 0} (tells : SourceTells S) (words : List (List ℕ))
-    (before after : S) : Answer → Type 0 where
-  -- there is a word, and nothing is read
-  usage : (first : List ℕ) (others : List (List ℕ)) → words ≡ first ∷ others → after ≡ before
-      → ProfileCause tells words before after (on_err Usage profile_usage_text)
-  -- a read failed, or the source has more bytes than a text may have
-  not_read : {answer : Answer} → words ≡ [] → FailedRead tells before after answer
-      → ProfileCause tells words before after answer
-  -- the source gave a text, and this is the answer to it
-  text : {answer : Answer} (bytes : List ℕ) → words ≡ [] → WasRead tells before (Ok bytes) after
-      → ProfileDue bytes answer
-      → ProfileCause tells words before after answer
+-- the program takes no words
+abbrev pub profile_words : List (List ℕ) → Option Profiling
+profile_words words = without_words (record {}) words
+
+-- why the program gives an answer, before it writes anything
+abbrev pub ProfileCause : {S : Type 0} → SourceTells S → List (List ℕ) → S → S → Answer → Type 0
+ProfileCause tells words = TextCause profile_words profile_usage_text (λ _. ProfileDue) tells words
 
 -- what a call of the program comes to: an answer that has its cause is written; or memory runs out, and nothing is written
 abbrev pub AnswersProfile : {S O E : Type 0} → EndsTell S O E → List (List ℕ) → Ends S O E → Ends S O E → Status

@@ -3,7 +3,9 @@
 //! heaviest chain of entries.
 #![tactic(auto)]
 
+mod answering;
 mod laws;
+mod program;
 mod text;
 mod top;
 

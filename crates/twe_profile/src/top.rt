@@ -1,21 +1,12 @@
 //! The top call: the whole program, apart from where its bytes come from and go to.
-ghost use Rattle.std.specs.Prelude.{◌≡◌, ◌≤◌, ◌+◌, [], IfOk, length};
-ghost use Rattle.seg_journal.specs.Spelling.{head_lines};
-ghost use Rattle.twe_base.specs.Language.{max_text_bytes};
 ghost use Rattle.twe_io.specs.Ends.{ends, ends_tell, sink, source};
-ghost use Rattle.twe_profile.specs.Answers.{AnswersProfile, AnswersJournal, ProfileCause, ProfileDue};
-ghost use Rattle.twe_profile.specs.inner.Given.{AnswersFound};
+ghost use Rattle.twe_profile.specs.Answers.{AnswersProfile};
 
-use crate::text::{profile_text, usage_text};
-use seg_journal::{JournalFail, JournalText, Limits, Move, read_journal};
-use span_profile::{ProfileFail, profile};
+use crate::program::Profiling;
 use std::alloc::Global;
-use text_answers::cut_input;
-use twe_base::{Memory, Word};
-use twe_frontend::{FrontFail, read_program};
-use twe_io::{Answer, Sink, Source, Status, tell};
-use twe_program::Prog;
-use twe_report::{Input, not_a_move_text, not_legal_text, read_input, refusal_text};
+use text_programs::run_text_program;
+use twe_base::Word;
+use twe_io::{Sink, Source, Status};
 
 /// Reads the text of a program from the source, and after the first line that is exactly `%%` the text of a journal. Writes the
 /// work and the span of the journal, and its heaviest chain. Without such a line the journal is empty. A journal may be
@@ -34,88 +25,5 @@ pub fn profile_top<S: Source, O: Sink, E: Sink>(
         (sink E.written E.faults E.write_gives))
         words.now (ends src.old out.old err.old) (ends src.new out.new err.new) result }
 {
-    let made = answer(alloc, words, src);
-    tell(&made, out, err)
-}
-
-/// The answer to these words.
-fn answer<S: Source>(alloc: Global, words: &[Word], src: &mut S) -> Result<Answer, Memory>
-    ensures { IfOk result (ProfileCause (source S.left S.faults S.read_gives) words.now src.old src.new) }
-{
-    match words {
-        [] => answer_source(alloc, src),
-        [_, ..] => Ok(Answer::on_err(alloc, Status::Usage, usage_text(alloc)?)),
-    }
-}
-
-/// The answer to no words: the source is read, and its text is answered.
-fn answer_source<S: Source>(alloc: Global, src: &mut S) -> Result<Answer, Memory>
-    ensures { IfOk result (ProfileCause (source S.left S.faults S.read_gives) [] src.old src.new) }
-{
-    let input = read_input(alloc, src)?;
-    match input {
-        Input::Given(text) => answer_text(alloc, text.as_slice()),
-        Input::Failed(answer) => Ok(answer),
-    }
-}
-
-/// The answer to an input.
-fn answer_text(alloc: Global, text: &[u8]) -> Result<Answer, Memory>
-    requires { length text.now ≤ max_text_bytes }
-    ensures { IfOk result (ProfileDue text.now) }
-{
-    let (program, journal) = cut_input(text);
-    match read_program(alloc, program) {
-        Ok(p) => answer_journal(alloc, &p, journal),
-        Err(FrontFail::Refused(refusal)) => Ok(Answer::on_err(
-            alloc,
-            Status::Refused,
-            refusal_text(alloc, refusal)?,
-        )),
-        Err(FrontFail::OutOfMemory(memory)) => Err(memory),
-    }
-}
-
-/// The answer to a journal text on an accepted program.
-fn answer_journal(alloc: Global, p: &Prog, text: &[u8]) -> Result<Answer, Memory>
-    ensures { IfOk result (AnswersJournal p.now text.now) }
-{
-    match read_journal(alloc, text) {
-        Ok(found) => answer_found(alloc, p, &found),
-        Err(JournalFail::BadLine(n)) => Ok(Answer::on_err(
-            alloc,
-            Status::BadJournal,
-            not_a_move_text(alloc, n)?,
-        )),
-        Err(JournalFail::OutOfMemory(memory)) => Err(memory),
-    }
-}
-
-/// The answer to what was found in a journal text.
-fn answer_found(alloc: Global, p: &Prog, found: &JournalText) -> Result<Answer, Memory>
-    ensures { IfOk result (AnswersFound p.now found.now) }
-{
-    let lim = found.head.unwrap_or(Limits::default());
-    let moves = found.moves.as_slice();
-    match profile(alloc, p, lim, moves) {
-        Ok(profile) => Ok(Answer::on_out(alloc, Status::Done, profile_text(alloc, &profile)?)),
-        Err(ProfileFail::Illegal { n, .. }) => Ok(Answer::on_err(
-            alloc,
-            Status::BadJournal,
-            not_legal_text(alloc, line_of(found.head, n, moves))?,
-        )),
-        Err(ProfileFail::OutOfMemory(memory)) => Err(memory),
-    }
-}
-
-/// The line of move `n` in a journal text with these moves, both counted from 1.
-fn line_of(head: Option<Limits>, n: u64, moves: &[Move]) -> u64
-    requires { n ≤ length moves.now }
-    ensures { result ≡ length (head_lines head) + n }
-{
-    let _lines = moves.len() + 1;
-    match head {
-        None => n,
-        Some(_) => n + 1,
-    }
+    run_text_program::<Profiling, S, O, E>(alloc, words, src, out, err)
 }

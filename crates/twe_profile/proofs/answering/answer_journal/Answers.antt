@@ -5,7 +5,7 @@ use Rattle.twe_io.specs.declared.status.Status.TheVariants.{BadJournal}
 use Rattle.twe_io.specs.Answers.{on_err}
 use Rattle.twe_profile.specs.Answers.{AnswersJournal}
 use Rattle.twe_profile.proofs.Causes.{answers_found}
-use Rattle.twe_profile.proofs.top.answer_journal.Goals as goal
+use Rattle.twe_profile.proofs.answering.answer_journal.Goals as goal
 
 -- each line is a move or the head
 pub returns-in-Ok : goal.returns-in-Ok

@@ -8,7 +8,7 @@ use Rattle.twe_io.specs.declared.status.Status.TheVariants.{Done, BadJournal}
 use Rattle.twe_io.specs.Answers.{on_err, on_out}
 use Rattle.twe_profile.specs.Texts.{profile_text}
 use Rattle.twe_profile.proofs.Causes.{found_illegal, found_profiled}
-use Rattle.twe_profile.proofs.top.answer_found.Goals as goal
+use Rattle.twe_profile.proofs.answering.answer_found.Goals as goal
 
 -- the number of the illegal move is that of a move
 pub line_of-requires : goal.line_of-requires

@@ -8,7 +8,7 @@ use Rattle.twe_io.specs.declared.status.Status.TheVariants.{Refused}
 use Rattle.twe_io.specs.Answers.{on_err}
 use Rattle.twe_profile.specs.Answers.{ProfileDue}
 use Rattle.twe_profile.proofs.Causes.{due_accepted}
-use Rattle.twe_profile.proofs.top.answer_text.Goals as goal
+use Rattle.twe_profile.proofs.answering.answer_text.Goals as goal
 
 -- the program is accepted
 pub returns-in-Ok : goal.returns-in-Ok

@@ -1,0 +1,8 @@
+//! Programs that read one text and answer it: the way from their words to the status, which is the same for all of them.
+#![tactic(auto)]
+
+mod program;
+mod run;
+
+pub use program::{TextProgram, without_words};
+pub use run::run_text_program;

@@ -1,0 +1,34 @@
+//! The program, as its words ask for it.
+ghost use Rattle.twe_profile.specs.Answers.{ProfileDue, profile_words};
+ghost use Rattle.twe_profile.specs.Texts.{profile_usage_text};
+
+use crate::answering::answer_text;
+use crate::text::usage_text;
+use std::alloc::Global;
+use text_programs::{TextProgram, without_words};
+use twe_base::{Bytes, Memory, Word};
+use twe_io::Answer;
+
+/// The profile of a journal: the one thing that the program writes.
+#[derive(Clone, Copy, Debug)]
+pub struct Profiling;
+
+impl TextProgram for Profiling {
+    ghost asked = { profile_words };
+
+    ghost usage = { profile_usage_text };
+
+    ghost due = { λ _. ProfileDue };
+
+    fn of_words(_: Global, words: &[Word]) -> Result<Option<Self>, Memory> {
+        Ok(without_words(words, Profiling))
+    }
+
+    fn usage_text(alloc: Global) -> Result<Bytes, Memory> {
+        usage_text(alloc)
+    }
+
+    fn answer_text(&self, alloc: Global, text: &[u8]) -> Result<Answer, Memory> {
+        answer_text(alloc, text)
+    }
+}
