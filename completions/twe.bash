@@ -36,6 +36,11 @@ _twe_batch() {
   done
 }
 
+_twe_annotate() {
+  COMPREPLY=()
+  if ((COMP_CWORD == 1)) && [[ matrix == "${COMP_WORDS[1]}"* ]]; then COMPREPLY=(matrix); fi
+}
+
 _twe_advise() {
   COMPREPLY=()
   if ((COMP_CWORD == 1)) && [[ --json == "${COMP_WORDS[1]}"* ]]; then COMPREPLY=(--json); fi
@@ -63,5 +68,6 @@ _twe_other() {
 complete -F _twe twe
 complete -F _twe_batch twe_batch
 complete -F _twe_advise twe_advise
+complete -F _twe_annotate twe_annotate
 complete -F _twe_explain twe_explain
 complete -F _twe_other twe_infer twe_opt twe_profile

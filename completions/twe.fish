@@ -14,6 +14,8 @@ complete -c twe -n '__fish_seen_subcommand_from run; and not __fish_contains_opt
 
 complete -c twe_advise -f
 complete -c twe_advise -n __fish_use_subcommand -a --json -d 'write JSON in place of tables'
+complete -c twe_annotate -f
+complete -c twe_annotate -n __fish_use_subcommand -a matrix -d 'a line for each two tasks'
 complete -c twe_batch -f
 complete -c twe_batch -n __fish_use_subcommand -a check -d 'check each program of a batch'
 complete -c twe_batch -n __fish_use_subcommand -a run -d 'check and run each program of a batch'

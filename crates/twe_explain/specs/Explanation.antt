@@ -2,12 +2,14 @@
 use Rattle.std.specs.Prelude.{ℕ, Bool, ◌||◌, List, [], ◌∷◌, ◌++◌, codes, if◌then◌else◌}
 use Rattle.twe_base.specs.declared.place.Place.{Place}
 use Rattle.effect_sets.specs.declared.effects.Effect.{Effect}
+use Rattle.twe_ast.specs.declared.name.Name as written
+use Rattle.text_meaning.specs.EffectTexts.{effect_text, effects_text}
 use Rattle.twe_frontend.specs.declared.refusal.Refusal.{Refusal}
 use Rattle.refusal_causes.specs.declared.cause.RuleCause.{RuleCause}
 use Rattle.refusal_causes.specs.declared.cause.RuleCause.TheVariants.{Unsaid, Undeclared, Out}
 use Rattle.twe_explain.specs.declared.explanation.Explanation.{Explanation}
 use Rattle.twe_explain.specs.declared.explanation.Note.{Note}
-use Rattle.twe_explain.specs.Effects.{effect_shown, effects_shown, has_any_index}
+use Rattle.twe_explain.specs.Effects.{has_any_index}
 use Rattle.twe_explain.specs.Sentences.{asked, wrong}
 
 -- what is said of a place
@@ -23,12 +25,12 @@ explanation_of refusal = record {
 }
 
 -- some words, and then an effect between accents
-abbrev pub with_effect : List ℕ → List (List ℕ) → List (List ℕ) → Effect → List ℕ
-with_effect words regions variables effect = words ++ (effect_shown regions variables effect ++ codes "`")
+abbrev pub with_effect : List ℕ → List (List ℕ) → List written.Name → Effect → List ℕ
+with_effect words regions variables effect = words ++ (effect_text regions variables effect ++ codes "`")
 
 -- what a declaration declares
-abbrev pub declares_text : List (List ℕ) → List (List ℕ) → List Effect → List ℕ
-declares_text regions variables effects = codes "declares `" ++ (effects_shown regions variables effects ++ codes "`")
+abbrev pub declares_text : List (List ℕ) → List written.Name → List Effect → List ℕ
+declares_text regions variables effects = codes "declares `" ++ (effects_text regions variables effects ++ codes "`")
 
 -- what `[?]` stands for, if it stands in an effect that is shown
 abbrev pub index_remarks : Bool → List (List ℕ)
@@ -55,7 +57,7 @@ out_explanation refusal future_place has needs any_index = record {
 }
 
 -- what is said of a refusal with its cause
-abbrev pub explanation_by : Refusal → RuleCause → List (List ℕ) → List (List ℕ) → Explanation
+abbrev pub explanation_by : Refusal → RuleCause → List (List ℕ) → List written.Name → Explanation
 explanation_by refusal Unsaid regions variables = explanation_of refusal
 explanation_by refusal (Undeclared need declared decl_place) regions variables =
     undeclared_explanation refusal decl_place (declares_text regions variables declared.effects)

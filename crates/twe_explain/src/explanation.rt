@@ -2,11 +2,13 @@
 ghost use Rattle.std.specs.Prelude.{◌≡◌, ◌∷◌, [], IfOk, OnOk, ◌++◌};
 ghost use Rattle.twe_explain.specs.Explanation.{declares_text, explanation_by, explanation_of, index_remarks, note_at, out_explanation, undeclared_explanation, with_effect};
 
-use crate::effects::{has_any_index, push_effect, push_effects};
+use crate::effects::has_any_index;
 use crate::sentences::{asked, wrong};
 use effect_sets::Effect;
 use refusal_causes::RuleCause;
 use std::alloc::Global;
+use text_meaning::{push_effect, push_effects};
+use twe_ast::Name;
 use twe_base::{Bytes, List, Memory, Place, Word};
 use twe_frontend::Refusal;
 
@@ -54,7 +56,7 @@ fn with_effect(
     alloc: Global,
     words: &[u8],
     regions: &[Word],
-    variables: &[Word],
+    variables: &[Name],
     effect: &Effect,
 ) -> Result<Bytes, Memory>
     ensures { IfOk result (λ text. text ≡ with_effect words.now regions.now variables.now effect.now) }
@@ -69,7 +71,7 @@ fn with_effect(
 fn declares_text(
     alloc: Global,
     regions: &[Word],
-    variables: &[Word],
+    variables: &[Name],
     effects: &[Effect],
 ) -> Result<Bytes, Memory>
     ensures { IfOk result (λ text. text ≡ declares_text regions.now variables.now effects.now) }
@@ -161,7 +163,7 @@ pub(crate) fn explanation_by(
     refusal: Refusal,
     cause: &RuleCause,
     regions: &[Word],
-    variables: &[Word],
+    variables: &[Name],
 ) -> Result<Explanation, Memory>
     ensures { IfOk result (λ explanation. explanation ≡ explanation_by refusal cause.now regions.now variables.now) }
 {

@@ -1,15 +1,14 @@
 //! The names of the variables of a body, by their numbers.
-ghost use Rattle.std.specs.Prelude.{◌≡◌, ◌∷◌, [], ◌++◌, map, IfOk, OnOk};
-ghost use Rattle.twe_ast.specs.declared.name.Name.{Name as Named};
+ghost use Rattle.std.specs.Prelude.{◌≡◌, ◌∷◌, [], ◌++◌, IfOk, OnOk};
 ghost use Rattle.twe_explain.specs.Variables.{is_same_place, locals_named, locals_named_by, locals_named_in, place_of_cause, variables_at, variables_of};
 
 use refusal_causes::RuleCause;
 use std::alloc::Global;
 use twe_ast::{Arms, Block, Decl, Item, Name, Stmt, StmtKind};
-use twe_base::{List, Memory, Place, Word};
+use twe_base::{List, Memory, Place};
 
 /// Names in order.
-pub type Names = List<Word>;
+pub type Names = List<Name>;
 
 /// Whether the places are the same.
 fn is_same_place(place: Place, other: Place) -> bool
@@ -20,9 +19,13 @@ fn is_same_place(place: Place, other: Place) -> bool
 
 /// Adds a name.
 fn add_name(names: &mut Names, alloc: Global, name: &Name) -> Result<(), Memory>
-    ensures { OnOk result (names.new ≡ names.old ++ name.now.text ∷ []) }
+    ensures { OnOk result (names.new ≡ names.old ++ name.now ∷ []) }
 {
-    names.push(name.text.copy(alloc)?)
+    let text = name.text.copy(alloc)?;
+    names.push(Name {
+        text,
+        place: name.place,
+    })
 }
 
 /// Adds the names of the locals that a statement declares.
@@ -68,7 +71,7 @@ fn add_locals_by(arms: &Arms, names: &mut Names, alloc: Global) -> Result<(), Me
 
 /// Adds the names of parameters.
 fn add_params(names: &mut Names, alloc: Global, params: &[Name]) -> Result<(), Memory>
-    ensures { OnOk result (names.new ≡ names.old ++ map (λ (name : Named). name.text) params.now) }
+    ensures { OnOk result (names.new ≡ names.old ++ params.now) }
 {
     for name in params {
         add_name(names, alloc, name)?;

@@ -7,4 +7,3 @@ pub mod OneLine
 pub mod Ordering
 pub mod SameEffects
 pub mod SameTree
-mod TreeCauses

@@ -22,7 +22,7 @@ use Rattle.twe_io.specs.declared.answer.Answer.{Answer}
 use Rattle.twe_io.specs.Answers.{on_err, on_out}
 use Rattle.twe_io.specs.declared.status.Status.TheVariants.{Done, Refused, TooMany}
 use Rattle.twe_infer.specs.Answers.{InferDue}
-use Rattle.twe_infer.specs.Meaning.{IsRefusedBefore, TextMeans}
+use Rattle.text_meaning.specs.Meaning.{IsRefusedBefore, TextMeans}
 use Rattle.twe_infer.specs.Order.{Ascend, summary_paths_of}
 use Rattle.twe_infer.specs.Texts.{clauses_text, summary_lines_of, too_many_text}
 use Rattle.twe_infer.proofs.OneLine.{clause-ascends, no-more, one-clause}

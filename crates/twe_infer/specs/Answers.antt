@@ -14,7 +14,7 @@ use Rattle.twe_io.specs.declared.status.Status.{Status}
 use Rattle.twe_io.specs.declared.status.Status.TheVariants.{Done, Refused, Usage, TooMany}
 use Rattle.twe_io.specs.Ends.{Ends, EndsTell, SourceTells, WasRead}
 use Rattle.twe_io.specs.Answers.{IsAnswered, on_err, on_out}
-use Rattle.twe_infer.specs.Meaning.{TextMeans, IsRefusedBefore}
+use Rattle.text_meaning.specs.Meaning.{TextMeans, IsRefusedBefore}
 use Rattle.twe_infer.specs.Texts.{summary_lines_of, infer_usage_text, too_many_text}
 
 -- The answer to a text that was read. Of the rules, only those of the text and of names count.

@@ -1,5 +1,3 @@
-pub mod Meaning
-pub mod Reading
 pub mod Order
 pub mod Texts
 pub mod Pasting

@@ -4,7 +4,6 @@
 
 mod laws;
 mod order;
-mod read;
 #[cfg(test)]
 mod tests;
 mod text;

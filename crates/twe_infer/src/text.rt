@@ -1,97 +1,16 @@
 //! The lines that are written.
 ghost use Rattle.std.specs.Prelude.{◌≡◌, ◌∷◌, [], ◌++◌, IfOk, OnOk};
-ghost use Rattle.twe_infer.specs.Texts.{clauses_text, element_text, in_brackets, line_of, summary_lines_of, more_elements, more_paths, name_at_number, parameter_at, path_text, paths_text, summary_text};
+ghost use Rattle.text_meaning.specs.PathTexts.{path_text};
+ghost use Rattle.twe_infer.specs.Texts.{clauses_text, line_of, summary_lines_of, more_paths, paths_text, summary_text};
 ghost use Rattle.twe_infer.specs.Texts as texts;
 
 use crate::order::paths_of;
 use effect_sets::Summary;
-use itoa::Buffer;
-use region_paths::{Elem, Elems};
+use region_paths::Elems;
 use std::alloc::Global;
+use text_meaning::push_path;
 use twe_ast::{Decl, Item, Name};
 use twe_base::{Bytes, Memory, Word};
-
-/// Appends the name of this number.
-fn push_name(text: &mut Bytes, names: &[Word], number: u32) -> Result<(), Memory>
-    ensures { OnOk result (text.new ≡ text.old ++ name_at_number names.now number) }
-{
-    match names.get(number as usize) {
-        None => Ok(()),
-        Some(name) => text.push_all(name.as_bytes()),
-    }
-}
-
-/// Appends the name of the parameter of this number.
-fn push_parameter(text: &mut Bytes, params: &[Name], number: u32) -> Result<(), Memory>
-    ensures { OnOk result (text.new ≡ text.old ++ parameter_at params.now number) }
-{
-    match params.get(number as usize) {
-        None => Ok(()),
-        Some(name) => text.push_all(name.text.as_bytes()),
-    }
-}
-
-/// Appends an element, as `D`, `[7]`, `[j]` or `[?]`.
-fn push_element(
-    text: &mut Bytes,
-    regions: &[Word],
-    params: &[Name],
-    elem: Elem,
-) -> Result<(), Memory>
-    ensures { OnOk result (text.new ≡ text.old ++ element_text regions.now params.now elem) }
-{
-    match elem {
-        Elem::Name(region) => push_name(text, regions, region),
-        Elem::Index(index) => {
-            text.push(b'[')?;
-            text.push_all(Buffer::new().format(index).as_bytes())?;
-            text.push(b']')
-        }
-        Elem::Var(param) => {
-            text.push(b'[')?;
-            push_parameter(text, params, param)?;
-            text.push(b']')
-        }
-        Elem::AnyIndex => text.push_all(b"[?]"),
-    }
-}
-
-/// Appends elements, each after `:`.
-fn push_elements(
-    text: &mut Bytes,
-    regions: &[Word],
-    params: &[Name],
-    elems: &[Elem],
-) -> Result<(), Memory>
-    ensures { OnOk result (text.new ≡ text.old ++ more_elements regions.now params.now elems.now) }
-{
-    for elem in elems {
-        text.push(b':')?;
-        push_element(text, regions, params, *elem)?;
-    }
-    Ok(())
-}
-
-/// Appends a path, from its first region or from `Root` on.
-fn push_path(
-    text: &mut Bytes,
-    regions: &[Word],
-    params: &[Name],
-    elems: &[Elem],
-) -> Result<(), Memory>
-    ensures { OnOk result (text.new ≡ text.old ++ path_text regions.now params.now elems.now) }
-{
-    match elems {
-        [Elem::Name(region), rest @ ..] => {
-            push_name(text, regions, *region)?;
-            push_elements(text, regions, params, rest)
-        }
-        _ => {
-            text.push_all(b"Root")?;
-            push_elements(text, regions, params, elems)
-        }
-    }
-}
 
 /// Appends paths, with `, ` between them.
 fn push_paths(

@@ -2,12 +2,12 @@
 ghost use Rattle.std.specs.Prelude.{[], IfOk};
 ghost use Rattle.twe_infer.specs.Answers.{AnswersInfer, InferCause, InferDue};
 ghost use Rattle.twe_io.specs.Ends.{ends, ends_tell, sink, source};
-ghost use Rattle.twe_infer.specs.Meaning.{TextMeans};
+ghost use Rattle.text_meaning.specs.Meaning.{TextMeans};
 
-use crate::read::{Meaning, read_meaning};
 use crate::text::{lines_of, too_many_text, usage_text};
 use effect_infer::{InferFail, infer};
 use std::alloc::Global;
+use text_meaning::{Meaning, read_meaning};
 use twe_base::{Memory, Word};
 use twe_frontend::FrontFail;
 use twe_io::{Answer, Sink, Source, Status, tell};

@@ -1,5 +1,6 @@
 use Rattle.std.proofs.Common.{◌≡◌, ℕ, List, ◌∙◌, sym, ap, subst}
 use Rattle.twe_ast.specs.declared.item.Item.{Item}
+use Rattle.twe_ast.specs.declared.name.Name as written
 use Rattle.twe_program.specs.Program.{Program}
 use Rattle.twe_base.specs.declared.place.Place.{Place}
 use Rattle.twe_io.specs.declared.status.Status.TheVariants.{Refused}
@@ -29,7 +30,7 @@ returns c =
     let is : c.in_ok-explanation.explanation ≡ caused_explanation refusal cause tree p =
     c.in_ok-explanation.ensures
     ∙ ap (λ (xs : List (List ℕ)). explanation_by refusal cause xs c.as_slice-2.result.now) regions
-    ∙ ap (λ (xs : List (List ℕ)). explanation_by refusal cause p.regions xs) names in
+    ∙ ap (λ (xs : List written.Name). explanation_by refusal cause p.regions xs) names in
     subst (ExplainDue wanted text)
     (sym (c.on_out.ensures ∙ ap (on_out Refused) (c.in_ok-lines.ensures
     ∙ ap (λ (explanation : Explanation). refused_text wanted text refusal explanation) is)))

@@ -1,0 +1,4 @@
+pub mod Meaning
+pub mod Reading
+pub mod PathTexts
+pub mod EffectTexts

@@ -1,0 +1,164 @@
+//! What a line says of two tasks.
+ghost use Rattle.std.specs.Prelude.{◌≡◌, ◌++◌, IfOk, OnOk, option_copied};
+ghost use Rattle.twe_annotate.specs.Texts.{equalities_text, equality_text, first_always, meeting_text, meetings_text, more_equalities, more_meetings, term_text, verdict_text};
+ghost use Rattle.twe_annotate.specs.Texts as texts;
+
+use itoa::Buffer;
+use std::alloc::Global;
+use task_matrix::{Equality, Meeting, Term};
+use text_meaning::{push_parameter, push_starred_path};
+use twe_ast::Name;
+use twe_base::{Bytes, Memory, Word};
+
+/// Appends a literal, a parameter of the first declaration, or one of the second with a prime.
+fn push_term(text: &mut Bytes, first: &[Name], second: &[Name], term: Term) -> Result<(), Memory>
+    ensures { OnOk result (text.new ≡ text.old ++ term_text first.now second.now term) }
+{
+    match term {
+        Term::Literal(value) => text.push_all(Buffer::new().format(value).as_bytes()),
+        Term::First(param) => push_parameter(text, first, param),
+        Term::Second(param) => {
+            push_parameter(text, second, param)?;
+            text.push(b'\'')
+        }
+    }
+}
+
+/// Appends an equality.
+fn push_equality(
+    text: &mut Bytes,
+    first: &[Name],
+    second: &[Name],
+    equality: Equality,
+) -> Result<(), Memory>
+    ensures { OnOk result (text.new ≡ text.old ++ equality_text first.now second.now equality) }
+{
+    push_term(text, first, second, equality.left)?;
+    text.push_all(b" = ")?;
+    push_term(text, first, second, equality.right)
+}
+
+/// Appends equalities, each after ` and `.
+fn push_more_equalities(
+    text: &mut Bytes,
+    first: &[Name],
+    second: &[Name],
+    equalities: &[Equality],
+) -> Result<(), Memory>
+    ensures { OnOk result (text.new ≡ text.old ++ more_equalities first.now second.now equalities.now) }
+{
+    for equality in equalities {
+        text.push_all(b" and ")?;
+        push_equality(text, first, second, *equality)?;
+    }
+    Ok(())
+}
+
+/// Appends equalities, with ` and ` between them.
+fn push_equalities(
+    text: &mut Bytes,
+    first: &[Name],
+    second: &[Name],
+    equalities: &[Equality],
+) -> Result<(), Memory>
+    ensures { OnOk result (text.new ≡ text.old ++ equalities_text first.now second.now equalities.now) }
+{
+    let Some((equality, others)) = equalities.split_first() else {
+        return Ok(());
+    };
+    push_equality(text, first, second, *equality)?;
+    push_more_equalities(text, first, second, others)
+}
+
+/// Appends meetings, each after ` or `.
+fn push_more_meetings(
+    text: &mut Bytes,
+    first: &[Name],
+    second: &[Name],
+    meetings: &[Meeting],
+) -> Result<(), Memory>
+    ensures { OnOk result (text.new ≡ text.old ++ more_meetings first.now second.now meetings.now) }
+{
+    for meeting in meetings {
+        text.push_all(b" or ")?;
+        push_equalities(text, first, second, meeting.equalities.as_slice())?;
+    }
+    Ok(())
+}
+
+/// Appends meetings, with ` or ` between them.
+fn push_meetings(
+    text: &mut Bytes,
+    first: &[Name],
+    second: &[Name],
+    meetings: &[Meeting],
+) -> Result<(), Memory>
+    ensures { OnOk result (text.new ≡ text.old ++ meetings_text first.now second.now meetings.now) }
+{
+    let Some((meeting, others)) = meetings.split_first() else {
+        return Ok(());
+    };
+    push_equalities(text, first, second, meeting.equalities.as_slice())?;
+    push_more_meetings(text, first, second, others)
+}
+
+/// The first meeting that has no equalities.
+fn find_always(meetings: &[Meeting]) -> Option<&Meeting>
+    ensures { option_copied result ≡ first_always meetings.now }
+{
+    for meeting in meetings {
+        if meeting.equalities.is_empty() {
+            return Some(meeting);
+        }
+    }
+    None
+}
+
+/// Appends meetings, or the path of the one that is always met, if there is one.
+fn push_meeting(
+    text: &mut Bytes,
+    regions: &[Word],
+    first: &[Name],
+    second: &[Name],
+    meetings: &[Meeting],
+    always: Option<&Meeting>,
+) -> Result<(), Memory>
+    ensures { OnOk result (text.new ≡ text.old ++ meeting_text regions.now first.now second.now meetings.now (option_copied always.entry)) }
+{
+    match always {
+        Some(meeting) => {
+            text.push_all(b"interfere on ")?;
+            push_starred_path(text, regions, first, &meeting.path)
+        }
+        None => {
+            text.push_all(b"apart unless ")?;
+            push_meetings(text, first, second, meetings)
+        }
+    }
+}
+
+/// Appends what the line says of two tasks.
+pub(crate) fn push_verdict(
+    text: &mut Bytes,
+    regions: &[Word],
+    first: &[Name],
+    second: &[Name],
+    meetings: &[Meeting],
+) -> Result<(), Memory>
+    ensures { OnOk result (text.new ≡ text.old ++ verdict_text regions.now first.now second.now meetings.now) }
+{
+    match meetings {
+        [] => text.push_all(b"apart"),
+        [_, ..] => {
+            let always = find_always(meetings);
+            push_meeting(text, regions, first, second, meetings, always)
+        }
+    }
+}
+
+/// The usage line.
+pub(crate) fn usage_text(alloc: Global) -> Result<Bytes, Memory>
+    ensures { IfOk result (λ text. text ≡ texts.annotate_usage_text) }
+{
+    Bytes::from_slice(alloc, b"usage: twe_annotate matrix\n")
+}

@@ -1,0 +1,33 @@
+//! What the words after the program's name ask for.
+ghost use Rattle.std.specs.Prelude.{◌≡◌};
+ghost use Rattle.twe_annotate.specs.Words.{request_of, requested_by};
+
+use twe_base::Word;
+
+/// What is asked for.
+#[derive(Clone, Copy, Debug, PartialEq, Eq)]
+pub enum Request {
+    /// A line for each two tasks.
+    Matrix,
+}
+
+/// What a word asks for, if it asks for something.
+fn request_of(word: &Word) -> Option<Request>
+    ensures { result ≡ request_of word.now }
+{
+    if word.as_bytes() == b"matrix".as_slice() {
+        Some(Request::Matrix)
+    } else {
+        None
+    }
+}
+
+/// What the words ask for, or `None` if they ask for nothing that the program does.
+pub(crate) fn requested_by(words: &[Word]) -> Option<Request>
+    ensures { result ≡ requested_by words.now }
+{
+    match words {
+        [word] => request_of(word),
+        _ => None,
+    }
+}
