@@ -1,5 +1,5 @@
 //! A spawned task that bars an effect: it may be out, and has an effect that interferes.
-ghost use Rattle.std.specs.Prelude.{◌≡◌, IfOk, IfSome, IsTrue, Contains};
+ghost use Rattle.std.specs.Prelude.{◌≡◌, IfOk, IfSome, IsTrue, Contains, OnOk};
 ghost use Rattle.cover_flow.specs.Flow.{IsFlowOf};
 ghost use Rattle.cover_flow.specs.Out.{MayBeOut};
 ghost use Rattle.effect_sets.specs.Interference.{statically_interferes};
@@ -91,6 +91,17 @@ fn bar_by(
     }
 }
 
+/// Finds new facts of the body, if these do not follow the future.
+fn follow(alloc: Global, body: &Body, points: &mut Points, future: u32) -> Result<(), Memory>
+    requires { IsFlowOf points.now body.now }
+    ensures { OnOk result (IsFlowOf points.new body.now) }
+{
+    if !points.follows(future) {
+        *points = flow(alloc, body, future)?;
+    }
+    Ok(())
+}
+
 /// How one of these acts of the task bars the effect at the point, if one does. The facts of 128 futures are found at once.
 fn bar_among(
     alloc: Global,
@@ -111,9 +122,7 @@ fn bar_among(
             ..
         } = &act.kind
         {
-            if !points.follows(*future) {
-                points = flow(alloc, &task.body, *future)?;
-            }
+            follow(alloc, &task.body, &mut points, *future)?;
         }
         let found = bar_by(alloc, p, task, &points, point, effect, act)?;
         if let Some(bar) = found {
