@@ -1,6 +1,7 @@
 -- A verdict says what the effects of the two tasks do.
-use Rattle.std.proofs.Common.{◌≡◌, ◌⊎◌, ◌↔◌, Bool, true, false, IsTrue, List, [], ◌∷◌, None, Some, Option, inl, inr, refl, sym, ap, ◌∙◌, subst, if◌then◌else◌}
+use Rattle.std.proofs.Common.{◌≡◌, ◌⊎◌, ◌↔◌, ℕ, suc, Bool, true, false, IsTrue, List, [], ◌∷◌, None, Some, Option, inl, inr, refl, sym, ap, ◌∙◌, subst, if◌then◌else◌}
 use Rattle.std.specs.List.{Contains}
+use Rattle.std.specs.Prelude.{slice_get}
 use Rattle.std.proofs.lemmas.Bool.{false≢true}
 use Rattle.twe_base.proofs.Members.{IsIn, contains-in, in-contains}
 use Rattle.region_paths.specs.Filled.{Valuation}
@@ -11,20 +12,20 @@ use Rattle.task_matrix.specs.Equalities.{equalities_hold}
 use Rattle.task_matrix.specs.Meetings.{AreMeetings, SomeInterfereUnder}
 use Rattle.task_matrix.specs.MeetingsOf.{meetings_of}
 use Rattle.task_matrix.proofs.Meetings.{are-meetings}
-use Rattle.twe_annotate.specs.Texts.{first_always, holds_always}
+use Rattle.twe_annotate.specs.Texts.{always_place, first_always, holds_always}
 use Rattle.twe_annotate.specs.Verdicts.{AlwaysMeet, SomeMeet, SomeMeetingHolds}
 
 -- the first of two meetings, or the one that is found after it
-chosen : (b : Bool) (m meeting : Meeting) (later : Option Meeting) → (if b then Some m else later) ≡ Some meeting
-    → ((b ≡ true) × (m ≡ meeting)) ⊎ (later ≡ Some meeting)
-chosen true m meeting later is = let same : m ≡ meeting = cc in inl (refl, same)
-chosen false m meeting later is = inr is
+chosen : (b : Bool) (m meeting : Meeting) (ms : List Meeting) (place : ℕ) → slice_get (m ∷ ms) (if b then 0 else suc place) ≡ Some meeting
+    → ((b ≡ true) × (m ≡ meeting)) ⊎ (slice_get ms place ≡ Some meeting)
+chosen true m meeting ms place is = let same : m ≡ meeting = cc in inl (refl, same)
+chosen false m meeting ms place is = inr is
 
 -- the first meeting without equalities is one of them, and has none
 first_is : (meetings : List Meeting) (meeting : Meeting) → first_always meetings ≡ Some meeting
     → IsIn meeting meetings × (holds_always meeting.equalities ≡ true)
 first_is [] meeting is = absurd (cc)
-first_is (m ∷ ms) meeting is = elim (chosen (holds_always m.equalities) m meeting (first_always ms) is) [
+first_is (m ∷ ms) meeting is = elim (chosen (holds_always m.equalities) m meeting ms (always_place ms) is) [
   | inl here ↦ (inl (sym here.1), subst (λ (n : Meeting). holds_always n.equalities ≡ true) here.1 here.0)
   | inr later ↦ let found = first_is ms meeting later in (inr found.0, found.1)
 ]

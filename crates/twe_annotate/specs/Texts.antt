@@ -1,5 +1,5 @@
 -- The lines of the matrix.
-use Rattle.std.specs.Prelude.{ℕ, Bool, true, false, List, [], ◌∷◌, ◌++◌, Option, None, Some, codes, if◌then◌else◌}
+use Rattle.std.specs.Prelude.{ℕ, Bool, true, false, List, [], ◌∷◌, ◌++◌, ◌==◌, length, suc, Option, None, Some, slice_get, codes, if◌then◌else◌}
 use Rattle.std.specs.Fmt.{signed_decimal}
 use Rattle.effect_sets.specs.declared.effects.Summary.{Summary}
 use Rattle.twe_ast.specs.declared.name.Name as written
@@ -49,10 +49,14 @@ abbrev pub holds_always : List Equality → Bool
 holds_always [] = true
 holds_always (e ∷ es) = false
 
+-- how many meetings stand before the first that has no equalities
+abbrev pub always_place : List Meeting → ℕ
+always_place [] = 0
+always_place (m ∷ ms) = if holds_always m.equalities then 0 else suc (always_place ms)
+
 -- the first meeting that has no equalities
 abbrev pub first_always : List Meeting → Option Meeting
-first_always [] = None
-first_always (m ∷ ms) = if holds_always m.equalities then Some m else first_always ms
+first_always meetings = slice_get meetings (always_place meetings)
 
 -- where there are meetings, they are written; if one has no equalities, its path is
 abbrev pub meeting_text : List (List ℕ) → List written.Name → List written.Name → List Meeting → Option Meeting → List ℕ
@@ -61,8 +65,10 @@ meeting_text regions first second meetings (Some m) = codes "interfere on " ++ s
 
 -- `apart`, if there is none
 abbrev pub verdict_text : List (List ℕ) → List written.Name → List written.Name → List Meeting → List ℕ
-verdict_text regions first second [] = codes "apart"
-verdict_text regions first second (m ∷ ms) = meeting_text regions first second (m ∷ ms) (first_always (m ∷ ms))
+verdict_text regions first second meetings =
+    if length meetings == 0
+    then codes "apart"
+    else meeting_text regions first second meetings (first_always meetings)
 
 -- `put get: apart unless i = j'`
 abbrev pub pair_line : List (List ℕ) → declared.Decl → Summary → declared.Decl → Summary → List ℕ

@@ -1,6 +1,6 @@
 //! What a line says of two tasks.
-ghost use Rattle.std.specs.Prelude.{◌≡◌, ◌++◌, IfOk, OnOk, option_copied};
-ghost use Rattle.twe_annotate.specs.Texts.{equalities_text, equality_text, first_always, meeting_text, meetings_text, more_equalities, more_meetings, term_text, verdict_text};
+ghost use Rattle.std.specs.Prelude.{◌≡◌, ◌++◌, IfOk, OnOk, slice_get};
+ghost use Rattle.twe_annotate.specs.Texts.{always_place, equalities_text, equality_text, meeting_text, meetings_text, more_equalities, more_meetings, term_text, verdict_text};
 ghost use Rattle.twe_annotate.specs.Texts as texts;
 
 use itoa::Buffer;
@@ -102,30 +102,30 @@ fn push_meetings(
     push_more_meetings(text, first, second, others)
 }
 
-/// The first meeting that has no equalities.
-fn find_always(meetings: &[Meeting]) -> Option<&Meeting>
-    ensures { option_copied result ≡ first_always meetings.now }
+/// How many meetings stand before the first that has no equalities.
+fn always_place(meetings: &[Meeting]) -> usize
+    ensures { result ≡ always_place meetings.now }
 {
-    for meeting in meetings {
+    for (at, meeting) in meetings.iter().enumerate() {
         if meeting.equalities.is_empty() {
-            return Some(meeting);
+            return at;
         }
     }
-    None
+    meetings.len()
 }
 
-/// Appends meetings, or the path of the one that is always met, if there is one.
+/// Appends meetings, or the path of the first that is always met, if there is one.
 fn push_meeting(
     text: &mut Bytes,
     regions: &[Word],
     first: &[Name],
     second: &[Name],
     meetings: &[Meeting],
-    always: Option<&Meeting>,
+    place: usize,
 ) -> Result<(), Memory>
-    ensures { OnOk result (text.new ≡ text.old ++ meeting_text regions.now first.now second.now meetings.now (option_copied always.entry)) }
+    ensures { OnOk result (text.new ≡ text.old ++ meeting_text regions.now first.now second.now meetings.now (slice_get meetings.now place)) }
 {
-    match always {
+    match meetings.get(place) {
         Some(meeting) => {
             text.push_all(b"interfere on ")?;
             push_starred_path(text, regions, first, &meeting.path)
@@ -147,13 +147,11 @@ pub(crate) fn push_verdict(
 ) -> Result<(), Memory>
     ensures { OnOk result (text.new ≡ text.old ++ verdict_text regions.now first.now second.now meetings.now) }
 {
-    match meetings {
-        [] => text.push_all(b"apart"),
-        [_, ..] => {
-            let always = find_always(meetings);
-            push_meeting(text, regions, first, second, meetings, always)
-        }
+    if meetings.is_empty() {
+        return text.push_all(b"apart");
     }
+    let place = always_place(meetings);
+    push_meeting(text, regions, first, second, meetings, place)
 }
 
 /// The usage line.

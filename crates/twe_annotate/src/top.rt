@@ -54,7 +54,8 @@ fn answer_source<S: Source>(
     ensures { IfOk result (AnnotateCause (source S.left S.faults S.read_gives) words.now src.old src.new) }
 {
     let _ = words;
-    match read_input(alloc, src)? {
+    let input = read_input(alloc, src)?;
+    match input {
         Input::Given(text) => answer_text(alloc, request, text.as_slice()),
         Input::Failed(answer) => Ok(answer),
     }
@@ -66,10 +67,11 @@ fn answer_text(alloc: Global, request: Request, text: &[u8]) -> Result<Answer, M
 {
     match read_meaning(alloc, text) {
         Ok(meaning) => answer_meaning(alloc, request, text, &meaning),
-        Err(FrontFail::Refused(refusal)) => {
-            let line = refusal_text(alloc, refusal)?;
-            Ok(Answer::on_err(alloc, Status::Refused, line))
-        }
+        Err(FrontFail::Refused(refusal)) => Ok(Answer::on_err(
+            alloc,
+            Status::Refused,
+            refusal_text(alloc, refusal)?,
+        )),
         Err(FrontFail::OutOfMemory(memory)) => Err(memory),
     }
 }

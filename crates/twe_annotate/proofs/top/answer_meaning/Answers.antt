@@ -6,18 +6,24 @@ use Rattle.twe_io.specs.declared.status.Status.TheVariants.{Done}
 use Rattle.twe_io.specs.Answers.{on_out}
 use Rattle.twe_annotate.specs.Answers.{AnnotateDue}
 use Rattle.twe_annotate.specs.Texts.{matrix_lines}
+use Rattle.twe_annotate.specs.declared.words.Request.{Request}
+use Rattle.twe_annotate.specs.declared.words.Request.TheVariants.{Matrix}
 use Rattle.twe_annotate.proofs.top.answer_meaning.Goals as goal
 
+-- there is nothing else to ask for
+is_matrix : (request : Request) → request ≡ Matrix
+is_matrix Matrix = refl
+
 -- the lines of the matrix
-pub returns-in_ok-lines-in-Matrix : goal.returns-in_ok-lines-in-Matrix
-returns-in_ok-lines-in-Matrix c =
+pub returns : goal.returns
+returns c =
     let tree = c.args.meaning.now.tree in
     let p = c.args.meaning.now.program in
     let regions = c.as_slice-regions.ensures ∙ ap (λ (q : Program). q.regions) c.p.view_is in
     let tasks = c.as_slice-tasks.ensures ∙ ap (λ (q : Program). q.tasks) c.p.view_is in
-    let is : c.in_ok-lines-in-Matrix.lines ≡ matrix_lines p.regions tree.items p.tasks =
-    c.in_ok-lines-in-Matrix.ensures ∙ ap (λ (names : List (List ℕ)). matrix_lines names c.as_slice-items.result.now c.as_slice-tasks.result.now) regions
+    let is : c.in_ok-lines.lines ≡ matrix_lines p.regions tree.items p.tasks =
+    c.in_ok-lines.ensures ∙ ap (λ (names : List (List ℕ)). matrix_lines names c.as_slice-items.result.now c.as_slice-tasks.result.now) regions
     ∙ ap (λ (items : List Item). matrix_lines p.regions items c.as_slice-tasks.result.now) c.as_slice-items.ensures
     ∙ ap (λ (ds : List Decl). matrix_lines p.regions tree.items ds) tasks in
     subst (AnnotateDue c.args.request c.args.text.now) (sym (c.on_out.ensures ∙ ap (on_out Done) is))
-    (AnnotateDue.planned tree p c.in-Matrix.is c.requires)
+    (AnnotateDue.planned tree p (is_matrix c.args.request) c.requires)

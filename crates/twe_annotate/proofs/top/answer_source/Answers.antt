@@ -10,7 +10,7 @@ use Rattle.twe_annotate.proofs.top.answer_source.Goals as goal
 pub returns-in-Given : goal.returns-in-Given
 returns-in-Given g c =
     let src = source g.S.Source.left g.S.Source.faults g.S.Source.read_gives in
-    let was = subst (λ (i : Input). IsInput src c.args.src.now c.read_input.new.src i) c.in-Given.is c.in_ok-read_input.ensures in
+    let was = subst (λ (i : Input). IsInput src c.args.src.now c.read_input.new.src i) c.in-Given.is c.in_ok-input.ensures in
     let text = subst (λ (t : List ℕ). WasRead src c.args.src.now (Ok t) c.read_input.new.src) (sym c.as_slice.ensures) was in
     cause_text src c.args.words.now c.args.request c.args.src.now c.read_input.new.src c.as_slice.result.now c.answer_text.result c.requires text c.answer_text.ensures
 
@@ -18,4 +18,4 @@ returns-in-Given g c =
 pub returns-in-Failed : goal.returns-in-Failed
 returns-in-Failed g c =
     let src = source g.S.Source.left g.S.Source.faults g.S.Source.read_gives in
-    AnnotateCause.not_read c.args.request c.requires (subst (λ (i : Input). IsInput src c.args.src.now c.read_input.new.src i) c.in-Failed.is c.in_ok-read_input.ensures)
+    AnnotateCause.not_read c.args.request c.requires (subst (λ (i : Input). IsInput src c.args.src.now c.read_input.new.src i) c.in-Failed.is c.in_ok-input.ensures)

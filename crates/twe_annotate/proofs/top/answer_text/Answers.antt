@@ -7,7 +7,7 @@ use Rattle.twe_annotate.specs.Answers.{AnnotateDue}
 use Rattle.twe_annotate.proofs.top.answer_text.Goals as goal
 
 -- the refusal of the text
-pub returns-in_ok-line-in-Err-Refused : goal.returns-in_ok-line-in-Err-Refused
-returns-in_ok-line-in-Err-Refused c =
-    subst (AnnotateDue c.args.request c.args.text.now) (sym (c.on_err.ensures ∙ ap (on_err Refused) c.in_ok-line-in-Err-Refused.ensures))
+pub returns-in_ok-refusal_text-in-Err-Refused : goal.returns-in_ok-refusal_text-in-Err-Refused
+returns-in_ok-refusal_text-in-Err-Refused c =
+    subst (AnnotateDue c.args.request c.args.text.now) (sym (c.on_err.ensures ∙ ap (on_err Refused) c.in_ok-refusal_text-in-Err-Refused.ensures))
     (AnnotateDue.refused c.in-Err-Refused.refusal (subst (λ (fail : FrontFail). ReadingHasCause c.args.text.now fail) c.in-Err-Refused.field-0-is c.in-Err-Refused.ensures.refused))
