@@ -1,0 +1,31 @@
+-- The text of a picture, in each form.
+use Rattle.std.specs.Prelude.{◌++◌, ℕ, suc, List, [], ◌∷◌, codes, length}
+use Rattle.std.specs.List.{flat_map}
+use Rattle.twe_program.specs.Program.{Program}
+use Rattle.twe_machine.specs.declared.state.TaskRow.{TaskRow}
+use Rattle.run_picture.specs.declared.bars.Mark.{Mark}
+use Rattle.twe_draw.specs.Grid.{grid_of}
+use Rattle.twe_draw.specs.Shapes.{arrows_to, mark_shown, outline_of, row_shown}
+use Rattle.twe_draw.specs.Texts.{head}
+use Rattle.twe_draw.specs.declared.grid.Grid.{Grid}
+use Rattle.twe_draw.specs.declared.words.Form.{Form}
+use Rattle.twe_draw.specs.declared.words.Form.TheVariants.{Time, Order}
+
+-- the picture of a run with this work, this span and this heaviest chain: its bars on this grid
+unfoldable pub svg_text : Form → Program → ℕ → ℕ → List ℕ → Grid → List Mark → List TaskRow → List ℕ
+svg_text form p work span chain grid bars tasks =
+    head form (length tasks) work span grid.total
+    ++ (flat_map (row_shown p grid) tasks
+    ++ (flat_map (mark_shown p tasks bars grid) bars
+    ++ (flat_map (outline_of grid bars) chain ++ (flat_map (arrows_to grid bars) bars ++ codes "</svg>\n"))))
+
+-- these bars, each in a column of its own; the first column has this number
+abbrev pub in_columns : ℕ → List Mark → List Mark
+in_columns column [] = []
+in_columns column (bar ∷ bars) = record bar { begins = column; ends = suc column } ∷ in_columns (suc column) bars
+
+-- what is written of a run in this form: along its time, or in the order of its journal
+abbrev pub picture_text : Form → Program → ℕ → ℕ → List ℕ → List Mark → List TaskRow → List ℕ
+picture_text Time p work span chain bars tasks = svg_text Time p work span chain (grid_of span (length tasks)) bars tasks
+picture_text Order p work span chain bars tasks =
+    svg_text Order p work span chain (grid_of (length bars) (length tasks)) (in_columns 0 bars) tasks

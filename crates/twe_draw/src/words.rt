@@ -1,0 +1,44 @@
+//! The words after the program's name.
+ghost use Rattle.std.specs.Prelude.{◌≡◌};
+ghost use Rattle.twe_draw.specs.Words.{AskFor};
+ghost use Rattle.twe_draw.specs.inner.Named.{form_of_word, form_of_words};
+
+use twe_base::Word;
+
+/// What stands along the axis of a picture.
+#[derive(Clone, Copy, Debug, PartialEq, Eq)]
+pub enum Form {
+    /// Virtual time.
+    Time,
+    /// The entries of the journal in their order, each in a column of its own.
+    Order,
+}
+
+/// The form that one word asks for, if it asks for one.
+fn form_of_word(word: &Word) -> Option<Form>
+    ensures { result ≡ form_of_word word.now }
+{
+    if word.as_bytes() == b"order".as_slice() {
+        Some(Form::Order)
+    } else {
+        None
+    }
+}
+
+/// The form that words ask for, if they ask for one.
+fn form_of_words(words: &[Word]) -> Option<Form>
+    ensures { result ≡ form_of_words words.now }
+{
+    match words {
+        [] => Some(Form::Time),
+        [word] => form_of_word(word),
+        _ => None,
+    }
+}
+
+/// The form that the words ask for: none asks for time, and `order` alone for the order of the journal. Other words ask for none.
+pub(crate) fn form_asked(words: &[Word]) -> Option<Form>
+    ensures { AskFor words.now result }
+{
+    form_of_words(words)
+}
