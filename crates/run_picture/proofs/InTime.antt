@@ -1,6 +1,6 @@
 -- The bars of a picture stand at the earliest times.
-use Rattle.std.proofs.Common.{◌≡◌, ◌<◌, ◌≤◌, ◌+◌, ◌-◌, ◌++◌, ◌⊎◌, inl, inr, ℕ, zero, suc, List, [], ◌∷◌, length, take, Some, refl, sym, ap, ◌∙◌, subst, arith}
-use Rattle.std.specs.Prelude.{max, slice_get, slice_index}
+use Rattle.std.proofs.Common.{◌≡◌, ◌<◌, ◌≤◌, ◌+◌, inl, inr, ℕ, zero, suc, List, [], ◌∷◌, length, take, Some, refl, sym, ap, ◌∙◌, subst, arith}
+use Rattle.std.specs.Prelude.{slice_get, slice_index}
 use Rattle.std.specs.List.{sum_by}
 use Rattle.std.proofs.lemmas.List.Sums.{sum_by-cons}
 use Rattle.std.proofs.lemmas.Option.{slice_get-get_or, slice_get_within}
@@ -18,7 +18,7 @@ use Rattle.span_profile.specs.LeadsTo.{LeadsTo}
 use Rattle.span_profile.specs.Strands.{Strand, strands, weight_of}
 use Rattle.span_profile.specs.heaviest_chain.Chains.{Leads, weight_at}
 use Rattle.span_profile.proofs.Counted.{counted_legal}
-use Rattle.run_picture.specs.Bars.{Shows, bar_length, bars_from, concerns, end_of_bars, giver_in, last_that, time_at, time_found}
+use Rattle.run_picture.specs.Bars.{Shows, bar_length, end_of_bars, time_at, time_found}
 use Rattle.run_picture.specs.Pictures.{IsPicture}
 use Rattle.run_picture.specs.declared.bars.Mark.{Mark}
 use Rattle.run_picture.proofs.Links.{giver_leads, previous_leads}
@@ -27,6 +27,9 @@ use Rattle.run_picture.proofs.Shown.{IsPlacedAt, as_many, placed, shown}
 -- a time that is there
 time_is : (times : List ℕ) (k : ℕ) → k < length times → time_at times k ≡ slice_index times k
 time_is times k below = ap time_found (slice_get-get_or times k 0 below)
+
+from_zero : (k : ℕ) → 0 + k ≡ k
+from_zero k = omega arith
 
 -- no bar ends after the last end, and that is an end if there is a bar
 ends_within : (bars : List Mark) (most : ℕ) → ((k : ℕ) (bar : Mark) → slice_get bars k ≡ Some bar → bar.ends ≤ most) → end_of_bars bars ≤ most
@@ -100,13 +103,13 @@ module _ (p : Program) (lim : Bounds) (moves : List Move) (work span : ℕ) (cha
   begins_at k bar here =
       let less = below k bar here in
       let many = earliest.starts_count in
-      (place k bar here).begins_is ∙ time_is picture.starts k (omega (arith, less, many))
+      (place k bar here).begins_is ∙ (ap (time_at picture.starts) (from_zero k) ∙ time_is picture.starts k (omega (arith, less, many)))
 
   ends_at : (k : ℕ) (bar : Mark) → slice_get bars k ≡ Some bar → bar.ends ≡ slice_index picture.ends k
   ends_at k bar here =
       let less = below k bar here in
       let many = earliest.ends_count in
-      (place k bar here).ends_is ∙ time_is picture.ends k (omega (arith, less, many))
+      (place k bar here).ends_is ∙ (ap (time_at picture.ends) (from_zero k) ∙ time_is picture.ends k (omega (arith, less, many)))
 
   pub weighs : (k : ℕ) (bar : Mark) → slice_get bars k ≡ Some bar → bar.ends ≡ bar.begins + weight_at weight_of all k
   weighs k bar here =

@@ -1,6 +1,6 @@
 -- The entries that a bar names lead to its own.
-use Rattle.std.proofs.Common.{◌≡◌, ◌<◌, ◌+◌, ◌++◌, ◌⊎◌, inl, inr, ℕ, zero, suc, Bool, true, false, List, [], ◌∷◌, length, take, Option, None, Some, refl, sym, ap, ◌∙◌, subst, arith}
-use Rattle.std.specs.Prelude.{◌==◌, ◌&&◌, ◌||◌, IsTrue, slice_get, if◌then◌else◌}
+use Rattle.std.proofs.Common.{◌≡◌, ◌<◌, ◌+◌, ◌⊎◌, inl, inr, ℕ, zero, suc, Bool, true, false, List, [], ◌∷◌, take, Option, None, Some, refl, sym, ap, ◌∙◌, subst, arith}
+use Rattle.std.specs.Prelude.{◌==◌, slice_get, if◌then◌else◌}
 use Rattle.std.specs.List.{fold}
 use Rattle.std.proofs.lemmas.Bool.{and_parts, eqb-true, or_cases}
 use Rattle.seg_journal.specs.declared.journal.End.{End}
@@ -34,11 +34,11 @@ found_in test (first ∷ bars) last number is = elim (found_in test bars (if tes
   | inr later ↦ inr (further test first bars number later)
 ]
 
-none_is : (number : ℕ) → ¬ (None {A = ℕ} ≡ Some number)
-none_is number e = absurd (cc)
+none_is : (last : Option ℕ) (number : ℕ) → last ≡ None → last ≡ Some number → ⊥
+none_is last number none some = cc
 
 passes_one : (test : Mark → Bool) (bars : List Mark) (number : ℕ) → last_that test bars ≡ Some number → Passes test bars number
-passes_one test bars number is = elim (found_in test bars None number is) [ inl none ↦ absurd (none_is number none) | inr passes ↦ passes ]
+passes_one test bars number is = elim (found_in test bars None number is) [ inl none ↦ absurd (none_is None number refl none) | inr passes ↦ passes ]
 
 -- what stands in a beginning of a list stands in it, before the end of the beginning
 taken_get : (bars : List Mark) (n k : ℕ) (bar : Mark) → slice_get (take n bars) k ≡ Some bar → (k < n) × (slice_get bars k ≡ Some bar)
@@ -46,10 +46,6 @@ taken_get bars zero k bar here = absurd (cc)
 taken_get [] (suc n) k bar here = absurd (cc)
 taken_get (first ∷ bars) (suc n) zero bar here = (omega arith, here)
 taken_get (first ∷ bars) (suc n) (suc k) bar here = let rest = taken_get bars n k bar here in (let less = rest.0 in omega (arith, less), rest.1)
-
-true_is : (b : Bool) → b ≡ true → IsTrue b
-true_is true e = tt
-true_is false e = absurd (cc)
 
 made_it : (task : ℕ) (end : End) → ends_by_making task end ≡ true → made_task end ≡ Some task
 made_it task (ends.Made child) e = let same = eqb-true task child e in ap (λ (n : ℕ). Some n) (sym same)
@@ -118,10 +114,10 @@ module _ (strands : List Strand) (bars : List Mark) (shows : Shows 0 strands bar
       let both = and_parts (is_done e.first.end) (task == e.first.task) e.passes in
       let same : task ≡ e.a.task = eqb-true task e.first.task both.1 ∙ e.shows_first.task in
       leads_by number before bar (has_done task) e
-      (LeadsTo.gives_value (true_is e.a.done (sym e.shows_first.done ∙ both.0)) (sym e.shows_second.taken ∙ (took ∙ ap (λ (n : ℕ). Some n) same)))
+      (LeadsTo.gives_value (sym e.shows_first.done ∙ both.0) (sym e.shows_second.taken ∙ (took ∙ ap (λ (n : ℕ). Some n) same)))
 
   -- and the entry that has done the task whose value it took
   pub giver_leads : (number before : ℕ) (bar : Mark) (taken : Option ℕ) → bar.taken ≡ taken → slice_get bars number ≡ Some bar → giver_in (take number bars) taken ≡ Some before
       → Leads LeadsTo strands before number
-  giver_leads number before bar None took here last = absurd (none_is before last)
+  giver_leads number before bar None took here last = absurd (none_is None before refl last)
   giver_leads number before bar (Some task) took here last = gives number before bar task here took last

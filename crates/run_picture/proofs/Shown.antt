@@ -1,5 +1,5 @@
 -- What the bars of a legal journal show.
-use Rattle.std.proofs.Common.{◌≡◌, ◌<◌, ◌+◌, ◌++◌, ℕ, zero, suc, List, [], ◌∷◌, length, take, Option, None, Some, refl, sym, ap, ◌∙◌, subst, arith, append_assoc, length-append}
+use Rattle.std.proofs.Common.{◌≡◌, ◌+◌, ◌++◌, ℕ, zero, suc, List, [], ◌∷◌, length, take, Option, None, Some, refl, sym, ap, ◌∙◌, subst, arith, append_assoc, length-append}
 use Rattle.std.specs.Prelude.{slice_get}
 use Rattle.std.proofs.lemmas.List.{append-nil}
 use Rattle.seg_journal.specs.declared.journal.End.{End}
@@ -12,7 +12,7 @@ use Rattle.twe_machine.specs.declared.state.State.{State}
 use Rattle.twe_machine.specs.declared.state.TaskRow.{TaskRow}
 use Rattle.twe_machine.specs.Moves.{move_result, ran, result_by_kind}
 use Rattle.twe_machine.specs.Runs.{LegalFrom, is_done}
-use Rattle.span_profile.specs.Strands.{Strand, made_task, strand_by_kind, strand_of, strands_from}
+use Rattle.span_profile.specs.Strands.{Strand, made_task, strand_by_kind, strands_from}
 use Rattle.run_picture.specs.Bars.{IsShown, Shows, bar_in, bars_from, concerns, giver_in, last_that, time_at}
 use Rattle.run_picture.specs.declared.bars.Mark.{Mark}
 
@@ -44,16 +44,17 @@ module _ (p : Program) (lim : Bounds) (starts ends : List ℕ) where
   shown st before (entry ∷ entries) legal =
       let next : State = (move_result p lim st entry.mv).0 in
       let bar = bar_in p starts ends st before entry in
-      let row = slice_get st.tasks entry.mv.task in
-      (record {
-        number_is = refl;
-        task = refl;
-        taken = refl;
-        made = made_so p lim st entry.mv.kind entry.mv.task row entry.end refl legal.1;
-        done = done_so p lim st entry.mv.kind entry.mv.task row entry.end refl legal.1;
-      },
-      subst (λ (n : ℕ). Shows n (strands_from p lim next entries) (bars_from p lim starts ends next (before ++ bar ∷ []) entries)) (one_longer before bar)
-      (shown next (before ++ bar ∷ []) entries legal.2))
+      let row = slice_get st.tasks entry.mv.task in (
+        record {
+          number_is = refl;
+          task = refl;
+          taken = refl;
+          made = made_so p lim st entry.mv.kind entry.mv.task row entry.end refl legal.1;
+          done = done_so p lim st entry.mv.kind entry.mv.task row entry.end refl legal.1;
+        },
+        subst (λ (n : ℕ). Shows n (strands_from p lim next entries) (bars_from p lim starts ends next (before ++ bar ∷ []) entries)) (one_longer before bar)
+            (shown next (before ++ bar ∷ []) entries legal.2),
+      )
 
   -- the times and the links of a bar
   pub record IsPlacedAt (before : List Mark) (number : ℕ) (bar : Mark) : Type 0 where

@@ -7,7 +7,7 @@ use Rattle.twe_machine.proofs.lists.Places.{below_there, set_other, set_same}
 use Rattle.run_picture.specs.Bars.{concerns, has_done, last_that}
 use Rattle.run_picture.specs.declared.bars.Bars.{Bars}
 use Rattle.run_picture.specs.declared.bars.Mark.{Mark}
-use Rattle.run_picture.specs.inner.Known.{AreKnown, KnowDone, KnowLast, number_at, number_found}
+use Rattle.run_picture.specs.inner.Known.{AreKnown, number_at, number_found}
 
 -- room for one task more changes nothing
 pub room_more : (numbers : List (Option ℕ)) (task : ℕ) → number_at (numbers ++ None ∷ []) task ≡ number_at numbers task

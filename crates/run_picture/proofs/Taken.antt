@@ -1,5 +1,5 @@
 -- The bar of an entry by its move, and by what it did.
-use Rattle.std.proofs.Common.{◌≡◌, ℕ, List, length, Option, None, Some, refl, sym, ap, ◌∙◌}
+use Rattle.std.proofs.Common.{◌≡◌, ℕ, List, length, Option, None, Some, refl, ap, ◌∙◌}
 use Rattle.std.specs.Prelude.{slice_get}
 use Rattle.seg_journal.specs.declared.journal.End.{End}
 use Rattle.seg_journal.specs.declared.moves.Kind.{Kind}
@@ -8,10 +8,9 @@ use Rattle.seg_journal.specs.declared.moves.Move.{Move}
 use Rattle.twe_program.specs.Program.{Program}
 use Rattle.twe_machine.specs.declared.state.State.{State}
 use Rattle.twe_machine.specs.declared.state.TaskRow.{TaskRow}
-use Rattle.span_profile.specs.Strands.{strand_by_kind, strand_of}
+use Rattle.span_profile.specs.Strands.{strand_by_kind}
 use Rattle.run_picture.specs.Bars.{bar_in, concerns, giver_in, last_that, time_at}
 use Rattle.run_picture.specs.declared.bars.Bars.{Bars}
-use Rattle.run_picture.specs.declared.bars.Mark.{Mark}
 use Rattle.run_picture.specs.inner.Known.{AreKnown, giver_at, number_at}
 use Rattle.run_picture.specs.inner.Taken.{taken_at, taken_found}
 
@@ -45,5 +44,13 @@ bar_is p st mv end bars starts ends number begins ends_at taken previous giver k
     let before = previous_is ∙ (known.last mv.task ∙ ap (λ (t : ℕ). last_that (concerns t) bars.marks) task) in
     let gave = giver_is ∙ (giver_known bars known taken ∙ ap (giver_in bars.marks) took) in
     λ i. record {
-      number = number_is i; task = task i; kind = mv.kind; taken = took i; end = end; begins = first i; ends = last i; previous = before i; giver = gave i
+      number = number_is i;
+      task = task i;
+      kind = mv.kind;
+      taken = took i;
+      end = end;
+      begins = first i;
+      ends = last i;
+      previous = before i;
+      giver = gave i;
     }

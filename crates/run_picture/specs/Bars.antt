@@ -1,5 +1,5 @@
 -- The bars of a picture: one for each entry of a journal, in their order.
-use Rattle.std.specs.Prelude.{◌≡◌, ◌+◌, ◌-◌, ◌++◌, ◌==◌, ◌||◌, ◌&&◌, ℕ, suc, Bool, false, List, [], ◌∷◌, Option, None, Some, length, max, if◌then◌else◌, slice_get}
+use Rattle.std.specs.Prelude.{◌≡◌, ◌-◌, ◌++◌, ◌==◌, ◌||◌, ◌&&◌, ℕ, suc, Bool, false, List, [], ◌∷◌, Option, None, Some, length, max, if◌then◌else◌, slice_get}
 use Rattle.std.specs.List.{fold}
 use Rattle.seg_journal.specs.declared.journal.End.{End}
 use Rattle.seg_journal.specs.declared.journal.End.TheVariants as ends

@@ -12,4 +12,6 @@ mod numbers;
 
 pub use bars::Mark;
 pub use drawing::{Picture, draw};
-pub use laws::{a_run_ends_at_its_span, each_entry_has_one_bar, links_are_of_entries, what_leads_ends_first};
+pub use laws::{
+    a_run_ends_at_its_span, each_entry_has_one_bar, links_are_of_entries, what_leads_ends_first,
+};

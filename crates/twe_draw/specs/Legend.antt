@@ -1,7 +1,7 @@
 -- What stands in each picture, whatever the run: the colours, and what they mean.
 use Rattle.std.specs.Prelude.{◌++◌, ℕ, List, codes}
-use Rattle.twe_draw.specs.declared.words.Form.{Form}
-use Rattle.twe_draw.specs.declared.words.Form.TheVariants.{Time, Order}
+use Rattle.twe_draw.specs.declared.words.Axis.{Axis}
+use Rattle.twe_draw.specs.declared.words.Axis.TheVariants.{Time, Order}
 
 -- the colours of texts and lines
 unfoldable pub line_style : List ℕ
@@ -29,8 +29,8 @@ patterns =
     ++ (codes "<path class='tip' d='M0 0L8 4L0 8z'/></marker><pattern id='hatch' width='6' height='6' patternUnits='userSpaceOnUse'>\n"
     ++ codes "<path class='hatch' d='M0 6L6 0'/></pattern></defs>\n")
 
--- what the axis of a form means
-unfoldable pub axis_meaning : Form → List ℕ
+-- what an axis means
+unfoldable pub axis_meaning : Axis → List ℕ
 axis_meaning Time =
     codes "<text x='6' y='42'>Time is virtual: an entry takes as long as it weighs, 1 and the fuel that it took, and begins when\n"
     ++ codes "all entries that lead to it have ended. So the picture is as long as the span.</text>\n"

@@ -7,5 +7,6 @@ pub mod Legend
 pub mod Shapes
 pub mod Texts
 pub mod Titles
+pub mod Trace
 pub mod Words
 pub mod inner

@@ -3,7 +3,7 @@ use Rattle.std.specs.Prelude.{◌-◌, ◌/◌, ◌%◌, ◌++◌, ℕ, List, []
 use Rattle.run_advice.specs.Advice.{parallelism_of}
 use Rattle.twe_draw.specs.Grid.{column_text, height_text, most_rows}
 use Rattle.twe_draw.specs.Legend.{axis_meaning, bar_legend, bar_style, dark_style, line_style, other_legend, patterns, wait_meaning}
-use Rattle.twe_draw.specs.declared.words.Form.{Form}
+use Rattle.twe_draw.specs.declared.words.Axis.{Axis}
 
 -- hundredths, as `1.33`
 abbrev pub hundredths_words : ℕ → List ℕ
@@ -52,13 +52,13 @@ tick tasks total time =
 unfoldable pub axis : ℕ → ℕ → List ℕ
 axis tasks total = tick tasks total 0 ++ (tick tasks total (total / 2) ++ tick tasks total total)
 
--- what is the same in each picture of a form
-unfoldable pub legend : Form → List ℕ
-legend form =
+-- what is the same in each picture along this axis
+unfoldable pub legend : Axis → List ℕ
+legend kind =
     line_style
-    ++ (bar_style ++ (dark_style ++ (patterns ++ (axis_meaning form ++ (wait_meaning ++ (bar_legend ++ other_legend))))))
+    ++ (bar_style ++ (dark_style ++ (patterns ++ (axis_meaning kind ++ (wait_meaning ++ (bar_legend ++ other_legend))))))
 
 -- what stands above the rows
-unfoldable pub head : Form → ℕ → ℕ → ℕ → ℕ → List ℕ
-head form tasks work span total =
-    opening tasks ++ (title_texts work span ++ (legend form ++ (left_out tasks ++ axis tasks total)))
+unfoldable pub head : Axis → ℕ → ℕ → ℕ → ℕ → List ℕ
+head kind tasks work span total =
+    opening tasks ++ (title_texts work span ++ (legend kind ++ (left_out tasks ++ axis tasks total)))

@@ -1,12 +1,15 @@
 -- What the words ask for.
 use Rattle.std.specs.Prelude.{◌≡◌, ℕ, List, [], ◌∷◌, Option, None, Some, codes}
+use Rattle.twe_draw.specs.declared.words.Axis.{Axis}
+use Rattle.twe_draw.specs.declared.words.Axis.TheVariants.{Time, Order}
 use Rattle.twe_draw.specs.declared.words.Form.{Form}
-use Rattle.twe_draw.specs.declared.words.Form.TheVariants.{Time, Order}
+use Rattle.twe_draw.specs.declared.words.Form.TheVariants.{Svg, Trace}
 
--- the words that ask for this form: none for a picture along time, and one for a picture in the order of the journal
+-- the words that ask for this form: none for a picture along time, and one for a picture in the order of the journal or for a trace
 abbrev pub words_of_form : Form → List (List ℕ)
-words_of_form Time = []
-words_of_form Order = codes "order" ∷ []
+words_of_form (Svg Time) = []
+words_of_form (Svg Order) = codes "order" ∷ []
+words_of_form Trace = codes "trace" ∷ []
 
 -- the words are exactly those that ask for this form; or they ask for none
 abbrev pub AskFor : List (List ℕ) → Option Form → Type 0
@@ -15,4 +18,4 @@ AskFor words None = (form : Form) → ¬ (words ≡ words_of_form form)
 
 -- the usage line of `twe_draw`
 abbrev pub draw_usage_text : List ℕ
-draw_usage_text = codes "usage: twe_draw [order]\n"
+draw_usage_text = codes "usage: twe_draw [order | trace]\n"

@@ -3,7 +3,7 @@ ghost use Rattle.std.specs.Prelude.{◌≡◌, ◌++◌, OnOk};
 ghost use Rattle.twe_draw.specs.Legend as legend;
 ghost use Rattle.twe_draw.specs.Texts.{legend as whole_legend};
 
-use crate::words::Form;
+use crate::words::Axis;
 use twe_base::{Bytes, Memory};
 
 /// Appends the colours of texts and lines.
@@ -60,13 +60,13 @@ fn push_patterns(text: &mut Bytes) -> Result<(), Memory>
     text.push_all(b"<path class='hatch' d='M0 6L6 0'/></pattern></defs>\n")
 }
 
-/// Appends what the axis of a form means.
+/// Appends what an axis means.
 #[tactic(auto, unfolding(crate::specs::Legend::axis_meaning))]
-fn push_axis_meaning(text: &mut Bytes, form: Form) -> Result<(), Memory>
-    ensures { OnOk result (text.new ≡ text.old ++ legend.axis_meaning form) }
+fn push_axis_meaning(text: &mut Bytes, axis: Axis) -> Result<(), Memory>
+    ensures { OnOk result (text.new ≡ text.old ++ legend.axis_meaning axis) }
 {
-    match form {
-        Form::Time => {
+    match axis {
+        Axis::Time => {
             text.push_all(
                 b"<text x='6' y='42'>Time is virtual: an entry takes as long as it weighs, 1 and the fuel that it took, and begins when\n",
             )?;
@@ -74,7 +74,7 @@ fn push_axis_meaning(text: &mut Bytes, form: Form) -> Result<(), Memory>
                 b"all entries that lead to it have ended. So the picture is as long as the span.</text>\n",
             )
         }
-        Form::Order => {
+        Axis::Order => {
             text.push_all(
                 b"<text x='6' y='42'>The entries of the journal stand in their order, each in a column of its own. So the picture is as\n",
             )?;
@@ -128,16 +128,16 @@ fn push_other_legend(text: &mut Bytes) -> Result<(), Memory>
     )
 }
 
-/// Appends what is the same in each picture of a form.
+/// Appends what is the same in each picture along this axis.
 #[tactic(auto, unfolding(crate::specs::Texts::legend))]
-pub(crate) fn push_legend(text: &mut Bytes, form: Form) -> Result<(), Memory>
-    ensures { OnOk result (text.new ≡ text.old ++ whole_legend form) }
+pub(crate) fn push_legend(text: &mut Bytes, axis: Axis) -> Result<(), Memory>
+    ensures { OnOk result (text.new ≡ text.old ++ whole_legend axis) }
 {
     push_line_style(text)?;
     push_bar_style(text)?;
     push_dark_style(text)?;
     push_patterns(text)?;
-    push_axis_meaning(text, form)?;
+    push_axis_meaning(text, axis)?;
     push_wait_meaning(text)?;
     push_bar_legend(text)?;
     push_other_legend(text)

@@ -81,7 +81,7 @@ fn bar_class(p: &Prog, tasks: &[TaskRow], bar: &Mark) -> &'static [u8]
 }
 
 /// Appends the class of a bar.
-fn push_bar_class(text: &mut Bytes, p: &Prog, tasks: &[TaskRow], bar: &Mark) -> Result<(), Memory>
+pub(crate) fn push_bar_class(text: &mut Bytes, p: &Prog, tasks: &[TaskRow], bar: &Mark) -> Result<(), Memory>
     ensures { OnOk result (text.new ≡ text.old ++ bar_class p.now (slice_get tasks.now bar.now.task) bar.now.kind) }
 {
     text.push_all(bar_class(p, tasks, bar))

@@ -9,7 +9,8 @@ use crate::arrows::push_arrows;
 use crate::grid::{Grid, push_column, push_height};
 use crate::legend::push_legend;
 use crate::shapes::{push_marks, push_outlines, push_rows};
-use crate::words::Form;
+use crate::trace::trace_text;
+use crate::words::{Axis, Form};
 use itoa::Buffer;
 use run_advice::parallelism_of;
 use run_picture::{Mark, Picture};
@@ -21,7 +22,7 @@ use twe_program::Prog;
 pub(crate) fn usage_text(alloc: Global) -> Result<Bytes, Memory>
     ensures { IfOk result (λ text. text ≡ draw_usage_text) }
 {
-    Bytes::from_slice(alloc, b"usage: twe_draw [order]\n")
+    Bytes::from_slice(alloc, b"usage: twe_draw [order | trace]\n")
 }
 
 /// Appends hundredths, as `1.33`.
@@ -44,7 +45,7 @@ fn push_parallelism(text: &mut Bytes, work: u64, span: u64) -> Result<(), Memory
 
 /// Appends the work, the span and the parallelism of a run.
 #[tactic(auto, unfolding(crate::specs::Texts::run_words))]
-fn push_run_words(text: &mut Bytes, work: u64, span: u64) -> Result<(), Memory>
+pub(crate) fn push_run_words(text: &mut Bytes, work: u64, span: u64) -> Result<(), Memory>
     ensures { OnOk result (text.new ≡ text.old ++ run_words work span) }
 {
     text.push_all(b"work ")?;
@@ -123,37 +124,37 @@ fn push_axis(text: &mut Bytes, tasks: usize, total: u64) -> Result<(), Memory>
 #[tactic(auto, unfolding(crate::specs::Texts::head))]
 fn push_head(
     text: &mut Bytes,
-    form: Form,
+    kind: Axis,
     tasks: usize,
     work: u64,
     span: u64,
     total: u64,
 ) -> Result<(), Memory>
-    ensures { OnOk result (text.new ≡ text.old ++ head form tasks work span total) }
+    ensures { OnOk result (text.new ≡ text.old ++ head kind tasks work span total) }
 {
     push_opening(text, tasks)?;
     push_titles(text, work, span)?;
-    push_legend(text, form)?;
+    push_legend(text, kind)?;
     push_left_out(text, tasks)?;
     push_axis(text, tasks, total)
 }
 
-/// The bars of a picture on this grid, in this form.
+/// The picture of these bars on this grid, along this axis.
 #[tactic(auto, unfolding(crate::specs::Forms::svg_text))]
 fn svg_text(
     alloc: Global,
-    form: Form,
+    axis: Axis,
     p: &Prog,
     picture: &Picture,
     grid: &Grid,
     bars: &[Mark],
 ) -> Result<Bytes, Memory>
-    ensures { IfOk result (λ text. text ≡ svg_text form p.now picture.now.work picture.now.span picture.now.chain
+    ensures { IfOk result (λ text. text ≡ svg_text axis p.now picture.now.work picture.now.span picture.now.chain
         grid.now bars.now picture.now.tasks) }
 {
     let tasks = picture.tasks.as_slice();
     let mut text = Bytes::new(alloc);
-    push_head(&mut text, form, tasks.len(), picture.work, picture.span, grid.total)?;
+    push_head(&mut text, axis, tasks.len(), picture.work, picture.span, grid.total)?;
     push_rows(&mut text, p, grid, tasks)?;
     push_marks(&mut text, p, tasks, grid, bars)?;
     push_outlines(&mut text, grid, bars, picture.chain.as_slice())?;
@@ -189,14 +190,15 @@ pub(crate) fn picture_text(
     let bars = picture.bars.as_slice();
     let tasks = picture.tasks.len();
     match form {
-        Form::Time => {
+        Form::Svg { axis: Axis::Time } => {
             let grid = Grid::new(alloc, picture.span, tasks)?;
-            svg_text(alloc, form, p, picture, &grid, bars)
+            svg_text(alloc, Axis::Time, p, picture, &grid, bars)
         }
-        Form::Order => {
+        Form::Svg { axis: Axis::Order } => {
             let grid = Grid::new(alloc, bars.len() as u64, tasks)?;
             let columns = in_columns(alloc, bars)?;
-            svg_text(alloc, form, p, picture, &grid, columns.as_slice())
+            svg_text(alloc, Axis::Order, p, picture, &grid, columns.as_slice())
         }
+        Form::Trace => trace_text(alloc, p, picture),
     }
 }

@@ -106,10 +106,10 @@ fn answer<S: Source>(alloc: Global, words: &[Word], src: &mut S) -> Result<Answe
 }
 
 /// Reads the text of a program from the source, and after the first line that is exactly `%%` the text of a journal, and writes a
-/// picture of the run of that journal, along virtual time or in the order of the journal. Without such a line the journal is empty.
+/// picture of the run of that journal, along virtual time or in the order of the journal, or its events. Without such a line the journal is empty.
 /// A journal may be unfinished or stuck, or end with a fault.
 ///
-/// `Answers` says what each status means and what is written with it. If there are words other than `order` alone, the answer is
+/// `Answers` says what each status means and what is written with it. If there are words other than `order` or `trace` alone, the answer is
 /// the usage line, and nothing is read from the source. After `Memory` nothing was written.
 pub fn draw_top<S: Source, O: Sink, E: Sink>(
     alloc: Global,

@@ -7,11 +7,23 @@ use twe_base::Word;
 
 /// What stands along the axis of a picture.
 #[derive(Clone, Copy, Debug, PartialEq, Eq)]
-pub enum Form {
+pub enum Axis {
     /// Virtual time.
     Time,
     /// The entries of the journal in their order, each in a column of its own.
     Order,
+}
+
+/// What is written of a run.
+#[derive(Clone, Copy, Debug, PartialEq, Eq)]
+pub enum Form {
+    /// A picture.
+    Svg {
+        /// What stands along its axis.
+        axis: Axis,
+    },
+    /// Events, for viewers of traces.
+    Trace,
 }
 
 /// The form that one word asks for, if it asks for one.
@@ -19,7 +31,9 @@ fn form_of_word(word: &Word) -> Option<Form>
     ensures { result ≡ form_of_word word.now }
 {
     if word.as_bytes() == b"order".as_slice() {
-        Some(Form::Order)
+        Some(Form::Svg { axis: Axis::Order })
+    } else if word.as_bytes() == b"trace".as_slice() {
+        Some(Form::Trace)
     } else {
         None
     }
@@ -30,13 +44,14 @@ fn form_of_words(words: &[Word]) -> Option<Form>
     ensures { result ≡ form_of_words words.now }
 {
     match words {
-        [] => Some(Form::Time),
+        [] => Some(Form::Svg { axis: Axis::Time }),
         [word] => form_of_word(word),
         _ => None,
     }
 }
 
-/// The form that the words ask for: none asks for time, and `order` alone for the order of the journal. Other words ask for none.
+/// The form that the words ask for: none asks for a picture along time, `order` alone for one in the order of the journal, and
+/// `trace` alone for events. Other words ask for none.
 pub(crate) fn form_asked(words: &[Word]) -> Option<Form>
     ensures { AskFor words.now result }
 {
