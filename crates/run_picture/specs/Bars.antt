@@ -43,8 +43,8 @@ time_found (Some time) = time
 abbrev pub time_at : List ℕ → ℕ → ℕ
 time_at times number = time_found (slice_get times number)
 
--- The bar of the entry that did this, after the bars of those before it, if entries start and end at these times. It stands in the
--- row of its task.
+-- The bar of the entry that did this, after the bars of those before it, if entries start and end at these times. It stands in
+-- the row of its task.
 abbrev pub bar_of : List ℕ → List ℕ → List Mark → Entry → Strand → Mark
 bar_of starts ends before entry strand = record {
   number = length before;
@@ -67,10 +67,11 @@ abbrev pub bars_from : Program → Bounds → List ℕ → List ℕ → State �
 bars_from p lim starts ends st before [] = []
 bars_from p lim starts ends st before (entry ∷ entries) =
     bar_in p starts ends st before entry
-    ∷ bars_from p lim starts ends (move_result p lim st entry.mv).0 (before ++ bar_in p starts ends st before entry ∷ []) entries
+    ∷ bars_from p lim starts ends (move_result p lim st entry.mv).0
+    (before ++ bar_in p starts ends st before entry ∷ []) entries
 
--- the bar has this number, stands in the row of the task of this strand, tells whose value it took, what it made, and whether its
--- task was done
+-- the bar has this number, stands in the row of the task of this strand, and says whose value it took, what it made, and whether
+-- its task was done
 pub record IsShown (number : ℕ) (strand : Strand) (bar : Mark) : Type 0 where
   pub number_is : bar.number ≡ number
   pub task : bar.task ≡ strand.task

@@ -12,10 +12,10 @@ use Rattle.span_profile.specs.Profiles.{HasEarliest, IsProfile}
 use Rattle.run_picture.specs.Bars.{bars_from}
 use Rattle.run_picture.specs.declared.bars.Mark.{Mark}
 
--- The moves are those of a legal journal. There is a bar for each entry of its part that counts, at these times, and the tasks are
--- all that the journal has made.
-pub record AreBars (p : Program) (lim : Bounds) (moves : List Move) (starts ends : List ℕ) (bars : List Mark) (tasks : List TaskRow)
-    : Type 0 where
+-- The moves are those of a legal journal. There is a bar for each entry of its part that counts, at these times, and the tasks
+-- are all that the journal has made.
+pub record AreBars (p : Program) (lim : Bounds) (moves : List Move) (starts ends : List ℕ) (bars : List Mark)
+    (tasks : List TaskRow) : Type 0 where
   pub journal : List Entry
   pub legal : Legal p lim journal
   pub has : map move_of journal ≡ moves

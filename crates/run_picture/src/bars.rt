@@ -69,7 +69,8 @@ fn time_at(times: &List<u64>, number: usize) -> u64
 
 /// Notes a bar as the last of the tasks that it concerns.
 fn note_last(lasts: &mut Numbers, bar: Mark) -> Result<(), Memory>
-    ensures { OnOk result ((t : ℕ) → number_at lasts.new t ≡ (if concerns t bar then Some bar.number else number_at lasts.old t)) }
+    ensures { OnOk result ((t : ℕ) → number_at lasts.new t
+        ≡ (if concerns t bar then Some bar.number else number_at lasts.old t)) }
 {
     put_number(lasts, bar.task, bar.number)?;
     match bar.end {
@@ -80,7 +81,8 @@ fn note_last(lasts: &mut Numbers, bar: Mark) -> Result<(), Memory>
 
 /// Notes a bar as that of the entry that has done its task, if it has.
 fn note_done(done: &mut Numbers, bar: Mark) -> Result<(), Memory>
-    ensures { OnOk result ((t : ℕ) → number_at done.new t ≡ (if has_done t bar then Some bar.number else number_at done.old t)) }
+    ensures { OnOk result ((t : ℕ) → number_at done.new t
+        ≡ (if has_done t bar then Some bar.number else number_at done.old t)) }
 {
     match bar.end {
         End::Done { .. } => put_number(done, bar.task, bar.number),

@@ -121,9 +121,9 @@ fn bars_of(
     Ok((bars.marks, st.tasks))
 }
 
-/// The picture of a run of the program under these limits that makes these moves: each entry begins as soon as all that lead to it
-/// have ended. Entries after the first fault have no bars, but their moves have to be legal too. If the moves are not all legal, it
-/// returns the number of the first that is not, counted from 1, and why it is not.
+/// The picture of a run of the program under these limits that makes these moves: each entry begins as soon as all that lead to
+/// it have ended. Entries after the first fault have no bars, but their moves have to be legal too. If the moves are not all
+/// legal, it returns the number of the first that is not, counted from 1, and why it is not.
 pub fn draw(alloc: Global, p: &Prog, lim: Limits, moves: &[Move]) -> Result<Picture, ReplayFail>
     ensures drawn { IfOk result (λ d. IsPicture p.now lim moves.now d.work d.span d.chain d.bars d.tasks) }
     ensures illegal { (n : ℕ) (why : Reason) → IsErrOf result (Illegal n why) → IsFirstIllegal p.now lim moves.now n why }

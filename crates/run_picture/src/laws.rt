@@ -13,7 +13,8 @@ ghost use Rattle.run_picture.specs.Bars.{Shows, bar_length, end_of_bars};
 ghost use Rattle.run_picture.specs.Pictures.{IsPicture};
 ghost use Rattle.run_picture.specs.declared.bars.Mark.{Mark as AnyMark};
 
-/// Each entry that counts has exactly one bar, that of its number. The bar shows what the entry did, and is as long as it weighs.
+/// Each entry that counts has exactly one bar, that of its number. The bar shows what the entry did, and is as long as it
+/// weighs.
 pub fn each_entry_has_one_bar()
     ensures shows { (p : Program) (lim : Bounds) (moves : List Move) (work span : ℕ) (chain : List ℕ) (bars : List AnyMark)
         (tasks : List TaskRow) → (picture : IsPicture p lim moves work span chain bars tasks)
@@ -27,8 +28,8 @@ pub fn each_entry_has_one_bar()
 /// What leads to another entry ends before that begins.
 pub fn what_leads_ends_first()
     ensures { (p : Program) (lim : Bounds) (moves : List Move) (work span : ℕ) (chain : List ℕ) (bars : List AnyMark)
-        (tasks : List TaskRow) → (picture : IsPicture p lim moves work span chain bars tasks) → (i j : ℕ) (first second : AnyMark)
-        → slice_get bars i ≡ Some first → slice_get bars j ≡ Some second
+        (tasks : List TaskRow) → (picture : IsPicture p lim moves work span chain bars tasks)
+        → (i j : ℕ) (first second : AnyMark) → slice_get bars i ≡ Some first → slice_get bars j ≡ Some second
         → Leads LeadsTo (strands p lim (counted picture.drawn.journal)) i j → first.ends ≤ second.begins }
 {}
 
@@ -43,11 +44,11 @@ pub fn a_run_ends_at_its_span()
 /// The entry that a bar names as the previous one, or as the giver of its value, leads to that of the bar.
 pub fn links_are_of_entries()
     ensures previous { (p : Program) (lim : Bounds) (moves : List Move) (work span : ℕ) (chain : List ℕ) (bars : List AnyMark)
-        (tasks : List TaskRow) → (picture : IsPicture p lim moves work span chain bars tasks) → (number before : ℕ) (bar : AnyMark)
-        → slice_get bars number ≡ Some bar → bar.previous ≡ Some before
+        (tasks : List TaskRow) → (picture : IsPicture p lim moves work span chain bars tasks)
+        → (number before : ℕ) (bar : AnyMark) → slice_get bars number ≡ Some bar → bar.previous ≡ Some before
         → Leads LeadsTo (strands p lim (counted picture.drawn.journal)) before number }
     ensures giver { (p : Program) (lim : Bounds) (moves : List Move) (work span : ℕ) (chain : List ℕ) (bars : List AnyMark)
-        (tasks : List TaskRow) → (picture : IsPicture p lim moves work span chain bars tasks) → (number before : ℕ) (bar : AnyMark)
-        → slice_get bars number ≡ Some bar → bar.giver ≡ Some before
+        (tasks : List TaskRow) → (picture : IsPicture p lim moves work span chain bars tasks)
+        → (number before : ℕ) (bar : AnyMark) → slice_get bars number ≡ Some bar → bar.giver ≡ Some before
         → Leads LeadsTo (strands p lim (counted picture.drawn.journal)) before number }
 {}

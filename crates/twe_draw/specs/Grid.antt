@@ -1,4 +1,5 @@
--- Where things stand in a picture, in pixels from its left and its top. Each task that is shown has a row, and time goes to the right.
+-- Where things stand in a picture, in pixels from its left and its top. Each task that is shown has a row, and time goes to the
+-- right.
 use Rattle.std.specs.Prelude.{◌+◌, ◌-◌, ◌*◌, ◌/◌, ◌++◌, ℕ, zero, suc, List, [], ◌∷◌, Option, None, Some, if◌then◌else◌, decimal, max, min, nat_lt, slice_get}
 use Rattle.twe_draw.specs.declared.grid.Grid.{Grid}
 
@@ -32,15 +33,15 @@ row_in grid task = row_found (slice_get grid.rows task)
 abbrev pub time_column : ℕ → ℕ → ℕ
 time_column total time = time * 1000 / max total 1 + 240
 
--- the top of a row, its bottom, and where its text stands; a row is 20 high, and a bar 14
+-- the top of a row, its bottom, and where its text stands; a row is 26 high, and a bar 14
 abbrev pub row_top : ℕ → ℕ
-row_top row = 114 + 20 * row
+row_top row = 114 + 26 * row
 
 abbrev pub row_bottom : ℕ → ℕ
-row_bottom row = 128 + 20 * row
+row_bottom row = 128 + 26 * row
 
 abbrev pub row_base : ℕ → ℕ
-row_base row = 125 + 20 * row
+row_base row = 125 + 26 * row
 
 -- how wide a time is from one moment to another: at least 2
 abbrev pub time_width : ℕ → ℕ → ℕ → ℕ
@@ -48,7 +49,7 @@ time_width total from to = max (time_column total to - time_column total from) 2
 
 -- the height of a picture of so many tasks
 abbrev pub picture_height : ℕ → ℕ
-picture_height tasks = 124 + 20 * min tasks most_rows
+picture_height tasks = 124 + 26 * min tasks most_rows
 
 -- where an arrow leaves a row for another one: at the bottom if it goes down, and else at the top
 abbrev pub leaves_at : ℕ → ℕ → ℕ

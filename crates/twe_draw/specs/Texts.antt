@@ -36,7 +36,7 @@ title_texts work span =
 unfoldable pub left_out : ℕ → List ℕ
 left_out tasks =
     if nat_lt most_rows tasks
-    then codes "<text class='end' x='1240' y='22'>tasks that are left out: " ++ (decimal (tasks - most_rows) ++ codes "</text>\n")
+    then codes "<text class='end' x='1240' y='22'>tasks left out: " ++ (decimal (tasks - most_rows) ++ codes "</text>\n")
     else []
 
 -- a time at the axis, with a line through all rows
@@ -46,7 +46,8 @@ tick tasks total time =
     ++ (column_text total time
     ++ (codes "'>"
     ++ (decimal time
-    ++ (codes "</text><path class='time' d='M" ++ (column_text total time ++ (codes " 108V" ++ (height_text tasks ++ codes "'/>\n")))))))
+    ++ (codes "</text><path class='time' d='M"
+    ++ (column_text total time ++ (codes " 108V" ++ (height_text tasks ++ codes "'/>\n")))))))
 
 -- the axis: its beginning, its middle, and its end
 unfoldable pub axis : ℕ → ℕ → List ℕ

@@ -13,7 +13,8 @@ use Rattle.twe_draw.specs.Labels.{end_words, label_found}
 -- what a declaration that was looked up is, and its place
 abbrev pub decl_words : Option Decl → List ℕ
 decl_words None = []
-decl_words (Some decl) = (if decl.deterministic then codes "deterministic task at " else codes "task at ") ++ place_text decl.place
+decl_words (Some decl) =
+    (if decl.deterministic then codes "deterministic task at " else codes "task at ") ++ place_text decl.place
 
 -- the declaration of a task, and its effects with its arguments, on a line of their own
 abbrev pub task_words : Program → Option TaskRow → List ℕ

@@ -1,5 +1,5 @@
--- The events of a run in the JSON that viewers of traces read: a thread for each task, a slice for each entry, and flows where an entry
--- made a task or gave a value. Names are identifiers, so nothing in them has to be escaped.
+-- The events of a run in the JSON that viewers of traces read: a thread for each task, a slice for each entry, and flows where an
+-- entry made a task or gave a value. Names are identifiers, so nothing in them has to be escaped.
 use Rattle.std.specs.Prelude.{◌-◌, ◌++◌, ◌==◌, ℕ, List, [], Option, None, Some, codes, decimal, if◌then◌else◌, slice_get}
 use Rattle.std.specs.List.{flat_map}
 use Rattle.twe_program.specs.Program.{Program}

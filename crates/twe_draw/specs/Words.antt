@@ -5,7 +5,8 @@ use Rattle.twe_draw.specs.declared.words.Axis.TheVariants.{Time, Order}
 use Rattle.twe_draw.specs.declared.words.Form.{Form}
 use Rattle.twe_draw.specs.declared.words.Form.TheVariants.{Svg, Trace}
 
--- the words that ask for this form: none for a picture along time, and one for a picture in the order of the journal or for a trace
+-- the words that ask for this form: none for a picture along time, and one for a picture in the order of the journal or for
+-- events
 abbrev pub words_of_form : Form → List (List ℕ)
 words_of_form (Svg Time) = []
 words_of_form (Svg Order) = codes "order" ∷ []

@@ -74,12 +74,7 @@ fn push_making(
 }
 
 /// Appends an arrow from the entry that gave the value which a bar takes.
-fn push_giving(
-    text: &mut Bytes,
-    grid: &Grid,
-    giver: Option<Mark>,
-    bar: &Mark,
-) -> Result<(), Memory>
+fn push_giving(text: &mut Bytes, grid: &Grid, giver: Option<Mark>, bar: &Mark) -> Result<(), Memory>
     ensures { OnOk result (text.new ≡ text.old ++ arrow_of_giving grid.now giver bar.now) }
 {
     match giver {
@@ -89,12 +84,7 @@ fn push_giving(
 }
 
 /// Appends the arrows to a bar.
-fn push_arrows_to(
-    text: &mut Bytes,
-    grid: &Grid,
-    bars: &[Mark],
-    bar: &Mark,
-) -> Result<(), Memory>
+fn push_arrows_to(text: &mut Bytes, grid: &Grid, bars: &[Mark], bar: &Mark) -> Result<(), Memory>
     ensures { OnOk result (text.new ≡ text.old ++ arrows_to grid.now bars.now bar.now) }
 {
     let before = bar_named(bars, bar.previous);

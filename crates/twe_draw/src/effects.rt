@@ -65,7 +65,11 @@ fn push_star(text: &mut Bytes, regions: &[Word], star: bool, tail: &[Elem]) -> R
 fn first_words(write: bool) -> &'static [u8]
     ensures { result.now ≡ (if write then codes ", writes Root" else codes ", reads Root") }
 {
-    if write { b", writes Root" } else { b", reads Root" }
+    if write {
+        b", writes Root"
+    } else {
+        b", reads Root"
+    }
 }
 
 /// Appends an effect.

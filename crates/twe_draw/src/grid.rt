@@ -64,21 +64,21 @@ fn time_column(total: u64, time: u64) -> u128
 fn row_top(row: u32) -> u64
     ensures { result ≡ grid.row_top row }
 {
-    114 + 20 * u64::from(row)
+    114 + 26 * u64::from(row)
 }
 
 /// The bottom of a row.
 fn row_bottom(row: u32) -> u64
     ensures { result ≡ grid.row_bottom row }
 {
-    128 + 20 * u64::from(row)
+    128 + 26 * u64::from(row)
 }
 
 /// Where the text of a row stands.
 fn row_base(row: u32) -> u64
     ensures { result ≡ grid.row_base row }
 {
-    125 + 20 * u64::from(row)
+    125 + 26 * u64::from(row)
 }
 
 /// How wide a time is from one moment to another.
@@ -94,7 +94,7 @@ fn time_width(total: u64, from: u64, to: u64) -> u128
 fn picture_height(tasks: usize) -> usize
     ensures { result ≡ grid.picture_height tasks }
 {
-    124 + 20 * tasks.min(MOST_ROWS)
+    124 + 26 * tasks.min(MOST_ROWS)
 }
 
 /// Where an arrow leaves a row for another one.

@@ -15,7 +15,7 @@ fn push_line_style(text: &mut Bytes) -> Result<(), Memory>
         b"<style>svg{background:#fff;font:12px sans-serif}text{fill:#222}.title{font-size:15px;font-weight:bold}\n",
     )?;
     text.push_all(
-        b".end{text-anchor:end}.tick{text-anchor:middle;fill:#666}.row{stroke:#ddd}.time{stroke:#bbb;stroke-dasharray:1 3}\n",
+        b".end{text-anchor:end}.tick{text-anchor:middle;fill:#666}.row{stroke:#ddd}.time{stroke:#bbb;stroke-dasharray:1}\n",
     )?;
     text.push_all(
         b".makes,.gives{fill:none;stroke:#555;marker-end:url(#tip)}.gives{stroke-dasharray:4 2}.tip{fill:#555}\n",
@@ -30,7 +30,9 @@ fn push_bar_style(text: &mut Bytes) -> Result<(), Memory>
     text.push_all(
         b".admission{fill:#e69f00}.segment{fill:#56b4e9}.deterministic{fill:#009e73}.waits{fill:#ccc}.held{fill:url(#hatch)}\n",
     )?;
-    text.push_all(b".hatch{stroke:#999}.chain{fill:none;stroke:#d55e00;stroke-width:2.5}\n")
+    text.push_all(
+        b"rect{stroke:#fff;stroke-width:.5}.hatch{stroke:#999}.chain{fill:none;stroke:#d55e00;stroke-width:2.5}\n",
+    )
 }
 
 /// Appends what differs in the dark.
@@ -39,11 +41,12 @@ fn push_dark_style(text: &mut Bytes) -> Result<(), Memory>
     ensures { OnOk result (text.new ≡ text.old ++ legend.dark_style) }
 {
     text.push_all(
-        b"@media (prefers-color-scheme:dark){svg{background:#111}text{fill:#ddd}.tick{fill:#999}.row{stroke:#333}.time{stroke:#555}\n",
+        b"@media (prefers-color-scheme:dark){svg{background:#111}text{fill:#ddd}.tick{fill:#999}.row{stroke:#333}\n",
     )?;
     text.push_all(
-        b".makes,.gives{stroke:#aaa}.tip{fill:#aaa}.waits{fill:#444}.hatch{stroke:#777}.chain{stroke:#f0e442}}</style>\n",
-    )
+        b"rect{stroke:#111}.time{stroke:#555}.makes,.gives{stroke:#aaa}.tip{fill:#aaa}.waits{fill:#444}\n",
+    )?;
+    text.push_all(b".hatch{stroke:#777}.chain{stroke:#f0e442}}</style>\n")
 }
 
 /// Appends the tip of an arrow, and what a wait is hatched with.
@@ -54,9 +57,8 @@ fn push_patterns(text: &mut Bytes) -> Result<(), Memory>
     text.push_all(
         b"<defs><marker id='tip' viewBox='0 0 8 8' refX='8' refY='4' markerWidth='6' markerHeight='6' orient='auto'>\n",
     )?;
-    text.push_all(
-        b"<path class='tip' d='M0 0L8 4L0 8z'/></marker><pattern id='hatch' width='6' height='6' patternUnits='userSpaceOnUse'>\n",
-    )?;
+    text.push_all(b"<path class='tip' d='M0 0L8 4L0 8z'/></marker>\n")?;
+    text.push_all(b"<pattern id='hatch' width='6' height='6' patternUnits='userSpaceOnUse'>\n")?;
     text.push_all(b"<path class='hatch' d='M0 6L6 0'/></pattern></defs>\n")
 }
 
@@ -68,17 +70,17 @@ fn push_axis_meaning(text: &mut Bytes, axis: Axis) -> Result<(), Memory>
     match axis {
         Axis::Time => {
             text.push_all(
-                b"<text x='6' y='42'>Time is virtual: an entry takes as long as it weighs, 1 and the fuel that it took, and begins when\n",
+                b"<text x='6' y='42'>Time is virtual: an entry takes as long as it weighs, 1 and the fuel that it took,\n",
             )?;
             text.push_all(
-                b"all entries that lead to it have ended. So the picture is as long as the span.</text>\n",
+                b"and begins when all entries that lead to it have ended. So the picture is as long as the span.</text>\n",
             )
         }
         Axis::Order => {
             text.push_all(
-                b"<text x='6' y='42'>The entries of the journal stand in their order, each in a column of its own. So the picture is as\n",
+                b"<text x='6' y='42'>The entries of the journal stand in their order, each in a column of its own.\n",
             )?;
-            text.push_all(b"long as there are entries.</text>\n")
+            text.push_all(b"So the picture is as long as there are entries.</text>\n")
         }
     }
 }
@@ -107,9 +109,8 @@ fn push_bar_legend(text: &mut Bytes) -> Result<(), Memory>
     text.push_all(
         b"<rect class='segment' x='106' y='70' width='14' height='14'/><text x='126' y='82'>segment</text>\n",
     )?;
-    text.push_all(
-        b"<rect class='deterministic' x='196' y='70' width='14' height='14'/><text x='216' y='82'>segment of a deterministic task</text>\n",
-    )
+    text.push_all(b"<rect class='deterministic' x='196' y='70' width='14' height='14'/>\n")?;
+    text.push_all(b"<text x='216' y='82'>deterministic segment</text>\n")
 }
 
 /// Appends the legend of what else is drawn.

@@ -81,7 +81,12 @@ fn bar_class(p: &Prog, tasks: &[TaskRow], bar: &Mark) -> &'static [u8]
 }
 
 /// Appends the class of a bar.
-pub(crate) fn push_bar_class(text: &mut Bytes, p: &Prog, tasks: &[TaskRow], bar: &Mark) -> Result<(), Memory>
+pub(crate) fn push_bar_class(
+    text: &mut Bytes,
+    p: &Prog,
+    tasks: &[TaskRow],
+    bar: &Mark,
+) -> Result<(), Memory>
     ensures { OnOk result (text.new ≡ text.old ++ bar_class p.now (slice_get tasks.now bar.now.task) bar.now.kind) }
 {
     text.push_all(bar_class(p, tasks, bar))
@@ -254,12 +259,7 @@ fn push_outline(text: &mut Bytes, total: u64, row: u32, bar: &Mark) -> Result<()
 }
 
 /// Appends the outline of the bar of this number, if its task has a row.
-fn push_outline_of(
-    text: &mut Bytes,
-    grid: &Grid,
-    bars: &[Mark],
-    number: u64,
-) -> Result<(), Memory>
+fn push_outline_of(text: &mut Bytes, grid: &Grid, bars: &[Mark], number: u64) -> Result<(), Memory>
     ensures { OnOk result (text.new ≡ text.old ++ outline_of grid.now bars.now number) }
 {
     match bars.get(number as usize) {

@@ -86,7 +86,7 @@ fn push_left_out(text: &mut Bytes, tasks: usize) -> Result<(), Memory>
     ensures { OnOk result (text.new ≡ text.old ++ left_out tasks) }
 {
     if 200 < tasks {
-        text.push_all(b"<text class='end' x='1240' y='22'>tasks that are left out: ")?;
+        text.push_all(b"<text class='end' x='1240' y='22'>tasks left out: ")?;
         text.push_all(Buffer::new().format(tasks - 200).as_bytes())?;
         text.push_all(b"</text>\n")
     } else {
@@ -154,7 +154,14 @@ fn svg_text(
 {
     let tasks = picture.tasks.as_slice();
     let mut text = Bytes::new(alloc);
-    push_head(&mut text, axis, tasks.len(), picture.work, picture.span, grid.total)?;
+    push_head(
+        &mut text,
+        axis,
+        tasks.len(),
+        picture.work,
+        picture.span,
+        grid.total,
+    )?;
     push_rows(&mut text, p, grid, tasks)?;
     push_marks(&mut text, p, tasks, grid, bars)?;
     push_outlines(&mut text, grid, bars, picture.chain.as_slice())?;

@@ -38,12 +38,7 @@ fn answer_text(alloc: Global, form: Form, text: &[u8]) -> Result<Answer, Memory>
 }
 
 /// The answer to a journal text, if the program is accepted.
-fn answer_journal(
-    alloc: Global,
-    form: Form,
-    p: &Prog,
-    journal: &[u8],
-) -> Result<Answer, Memory>
+fn answer_journal(alloc: Global, form: Form, p: &Prog, journal: &[u8]) -> Result<Answer, Memory>
     ensures { IfOk result (DueForJournal form p.now journal.now) }
 {
     match read_journal(alloc, journal) {
@@ -70,12 +65,7 @@ fn line_of(head: Option<Limits>, n: u64, moves: &[Move]) -> u64
 }
 
 /// The answer to what was found in a journal text.
-fn answer_found(
-    alloc: Global,
-    form: Form,
-    p: &Prog,
-    found: &JournalText,
-) -> Result<Answer, Memory>
+fn answer_found(alloc: Global, form: Form, p: &Prog, found: &JournalText) -> Result<Answer, Memory>
     ensures { IfOk result (DueForFound form p.now found.now) }
 {
     let lim = found.head.unwrap_or(Limits::default());
@@ -105,12 +95,12 @@ fn answer<S: Source>(alloc: Global, words: &[Word], src: &mut S) -> Result<Answe
     }
 }
 
-/// Reads the text of a program from the source, and after the first line that is exactly `%%` the text of a journal, and writes a
-/// picture of the run of that journal, along virtual time or in the order of the journal, or its events. Without such a line the journal is empty.
-/// A journal may be unfinished or stuck, or end with a fault.
+/// Reads the text of a program from the source, and after the first line that is exactly `%%` the text of a journal, and writes
+/// a picture of the run of that journal, along virtual time or in the order of the journal, or its events. Without such a line
+/// the journal is empty. A journal may be unfinished or stuck, or end with a fault.
 ///
-/// `Answers` says what each status means and what is written with it. If there are words other than `order` or `trace` alone, the answer is
-/// the usage line, and nothing is read from the source. After `Memory` nothing was written.
+/// `Answers` says what each status means and what is written with it. If there are words other than `order` or `trace` alone,
+/// the answer is the usage line, and nothing is read from the source. After `Memory` nothing was written.
 pub fn draw_top<S: Source, O: Sink, E: Sink>(
     alloc: Global,
     words: &[Word],

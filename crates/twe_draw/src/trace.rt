@@ -50,12 +50,7 @@ fn push_slice_times(text: &mut Bytes, bar: &Mark) -> Result<(), Memory>
 
 /// Appends the number of an entry, and what it did.
 #[tactic(auto, unfolding(crate::specs::Trace::slice_args))]
-fn push_slice_args(
-    text: &mut Bytes,
-    p: &Prog,
-    tasks: &[TaskRow],
-    bar: &Mark,
-) -> Result<(), Memory>
+fn push_slice_args(text: &mut Bytes, p: &Prog, tasks: &[TaskRow], bar: &Mark) -> Result<(), Memory>
     ensures { OnOk result (text.new ≡ text.old ++ slice_args p.now tasks.now bar.now) }
 {
     text.push_all(b"\",\"args\":{\"entry\":")?;
@@ -110,7 +105,14 @@ fn push_flow(text: &mut Bytes, class: &[u8], first: &Mark, second: &Mark) -> Res
 {
     let number = second.number;
     let last = first.ends.saturating_sub(1);
-    push_flow_end(text, b",\n{\"ph\":\"s\",\"cat\":\"", class, number, first.task, last)?;
+    push_flow_end(
+        text,
+        b",\n{\"ph\":\"s\",\"cat\":\"",
+        class,
+        number,
+        first.task,
+        last,
+    )?;
     let words = b",\n{\"ph\":\"f\",\"bp\":\"e\",\"cat\":\"";
     push_flow_end(text, words, class, number, second.task, second.begins)
 }
@@ -159,12 +161,7 @@ fn push_entry(
 }
 
 /// Appends the slices of all entries, and the flows to them.
-fn push_entries(
-    text: &mut Bytes,
-    p: &Prog,
-    tasks: &[TaskRow],
-    bars: &[Mark],
-) -> Result<(), Memory>
+fn push_entries(text: &mut Bytes, p: &Prog, tasks: &[TaskRow], bars: &[Mark]) -> Result<(), Memory>
     ensures { OnOk result (text.new ≡ text.old ++ flat_map (entry_events p.now tasks.now bars.now) bars.now) }
 {
     for bar in bars {
@@ -176,7 +173,8 @@ fn push_entries(
 /// All events of a run.
 #[tactic(auto, unfolding(crate::specs::Trace::trace_text))]
 pub(crate) fn trace_text(alloc: Global, p: &Prog, picture: &Picture) -> Result<Bytes, Memory>
-    ensures { IfOk result (λ text. text ≡ trace_text p.now picture.now.work picture.now.span picture.now.bars picture.now.tasks) }
+    ensures { IfOk result (λ text. text ≡ trace_text p.now picture.now.work picture.now.span picture.now.bars
+        picture.now.tasks) }
 {
     let tasks = picture.tasks.as_slice();
     let mut text = Bytes::new(alloc);

@@ -10,8 +10,8 @@ use Rattle.run_picture.specs.Bars.{bars_from}
 use Rattle.run_picture.specs.declared.drawing.Drawing.{Drawing}
 use Rattle.run_picture.specs.inner.Known.{AreKnown}
 
--- The journal is legal and leads to the state, whose enabled tasks are known. The bars are those of the part that counts, at these
--- times.
+-- The journal is legal and leads to the state, whose enabled tasks are known. The bars are those of the part that counts, at
+-- these times.
 pub record IsDrawn (p : Program) (lim : Bounds) (starts ends : List ℕ) (drawing : Drawing) : Type 0 where
   pub is_run : IsRun p lim drawing.journal drawing.st
   pub listing : IsListing drawing.st drawing.enabled

@@ -7,7 +7,7 @@ use Rattle.twe_draw.specs.declared.words.Form.TheVariants.{Svg, Trace}
 
 -- the form that one word asks for, if it asks for one
 abbrev pub form_of_word : List ℕ → Option Form
-form_of_word word = 
+form_of_word word =
     if bytes_eq word (codes "order") then Some (Svg Order) else if bytes_eq word (codes "trace") then Some Trace else None
 
 -- the form that words ask for: no word asks for a picture along time, and else only one word can ask for a form
