@@ -42,8 +42,12 @@ _twe_advise() {
 }
 
 _twe_draw() {
+  local form
   COMPREPLY=()
-  if ((COMP_CWORD == 1)) && [[ order == "${COMP_WORDS[1]}"* ]]; then COMPREPLY=(order); fi
+  ((COMP_CWORD == 1)) || return
+  for form in order trace; do
+    [[ $form != "${COMP_WORDS[1]}"* ]] || COMPREPLY+=("$form")
+  done
 }
 
 _twe_explain() {

@@ -5,15 +5,15 @@ use Rattle.std.proofs.lemmas.Bool.{cases_Bool, false≢true}
 use Rattle.std.proofs.lemmas.Slice.Eq.{bytes_eq-Decides}
 use Rattle.twe_draw.specs.declared.words.Axis.{Axis}
 use Rattle.twe_draw.specs.declared.words.Axis.TheVariants.{Time, Order}
-use Rattle.twe_draw.specs.declared.words.Form.{Form}
-use Rattle.twe_draw.specs.declared.words.Form.TheVariants.{Svg, Trace}
+use Rattle.twe_draw.specs.declared.words.PictureForm.{PictureForm}
+use Rattle.twe_draw.specs.declared.words.PictureForm.TheVariants.{Svg, Trace}
 use Rattle.twe_draw.specs.Words.{AskFor, words_of_form}
 use Rattle.twe_draw.specs.inner.Named.{form_of_word, form_of_words}
 
 only_word : (word other : List ℕ) → word ∷ [] ≡ other ∷ [] → word ≡ other
 only_word word other e = cc
 
-no_form : (word : List ℕ) → bytes_eq word (codes "order") ≡ false → bytes_eq word (codes "trace") ≡ false → (form : Form) → word ∷ [] ≡ words_of_form form → ⊥
+no_form : (word : List ℕ) → bytes_eq word (codes "order") ≡ false → bytes_eq word (codes "trace") ≡ false → (form : PictureForm) → word ∷ [] ≡ words_of_form form → ⊥
 no_form word not_order not_trace (Svg Time) e = cc
 no_form word not_order not_trace (Svg Order) e = false≢true (sym not_order ∙ (bytes_eq-Decides word (codes "order")).1 (only_word word (codes "order") e))
 no_form word not_order not_trace Trace e = false≢true (sym not_trace ∙ (bytes_eq-Decides word (codes "trace")).1 (only_word word (codes "trace") e))
@@ -30,7 +30,7 @@ one_word word = elim (cases_Bool (bytes_eq word (codes "order"))) [
   | inr not_order ↦ rw not_order (not_in_order word not_order)
 ]
 
-more_words : (word next : List ℕ) (others : List (List ℕ)) (form : Form) → word ∷ next ∷ others ≡ words_of_form form → ⊥
+more_words : (word next : List ℕ) (others : List (List ℕ)) (form : PictureForm) → word ∷ next ∷ others ≡ words_of_form form → ⊥
 more_words word next others (Svg Time) e = cc
 more_words word next others (Svg Order) e = cc
 more_words word next others Trace e = cc

@@ -23,29 +23,29 @@ use Rattle.run_picture.specs.declared.bars.Mark.{Mark}
 use Rattle.twe_draw.specs.Answers.{PictureCause, PictureDue}
 use Rattle.twe_draw.specs.Forms.{picture_text}
 use Rattle.twe_draw.specs.Words.{words_of_form}
-use Rattle.twe_draw.specs.declared.words.Form.{Form}
+use Rattle.twe_draw.specs.declared.words.PictureForm.{PictureForm}
 use Rattle.twe_draw.specs.inner.Given.{DueForFound, DueForJournal}
 
 -- the answer to a text that was read
-pub cause_given : {S : Type 0} (tells : SourceTells S) (form : Form) (before after : S) (text : List ℕ) (made : Result Answer out_of.Memory)
+pub cause_given : {S : Type 0} (tells : SourceTells S) (form : PictureForm) (before after : S) (text : List ℕ) (made : Result Answer out_of.Memory)
     → WasRead tells before (Ok text) after → IfOk made (PictureDue form text) → IfOk made (PictureCause tells (words_of_form form) before after)
 cause_given tells form before after text (Ok answer) was due = PictureCause.text form text refl was due
 cause_given tells form before after text (Err memory) was due = tt
 
 -- the answer to every input with this program and this journal is the answer to one of them
-pub due_accepted : (form : Form) (text program journal : List ℕ) (p : Program) (made : Result Answer out_of.Memory) → program ≡ program_part text → journal ≡ journal_part text → Accepted program p
+pub due_accepted : (form : PictureForm) (text program journal : List ℕ) (p : Program) (made : Result Answer out_of.Memory) → program ≡ program_part text → journal ≡ journal_part text → Accepted program p
     → IfOk made (DueForJournal form p journal) → IfOk made (PictureDue form text)
 due_accepted form text program journal p (Err e) before after accepted answers = tt
 due_accepted form text program journal p (Ok a) before after accepted answers = answers text (subst (λ (l : List ℕ). Accepted l p) before accepted) after
 
 -- what was found in a journal text was found in each input that has it
-pub each_found : (form : Form) (p : Program) (journal : List ℕ) (found : JournalText) (made : Result Answer out_of.Memory) → Spells journal found.head found.moves → IfOk made (DueForFound form p found)
+pub each_found : (form : PictureForm) (p : Program) (journal : List ℕ) (found : JournalText) (made : Result Answer out_of.Memory) → Spells journal found.head found.moves → IfOk made (DueForFound form p found)
     → IfOk made (DueForJournal form p journal)
 each_found form p journal found (Err e) spelled answers = tt
 each_found form p journal found (Ok a) spelled answers = λ text accepted same. answers text accepted (subst (λ (l : List ℕ). Spells l found.head found.moves) same spelled)
 
 -- a line that is no move is named
-pub each_bad_line : (form : Form) (p : Program) (journal : List ℕ) (n : ℕ) (answer : Answer) → IsFirstBadLine journal n → answer ≡ on_err BadJournal (not_a_move_text n) → DueForJournal form p journal answer
+pub each_bad_line : (form : PictureForm) (p : Program) (journal : List ℕ) (n : ℕ) (answer : Answer) → IsFirstBadLine journal n → answer ≡ on_err BadJournal (not_a_move_text n) → DueForJournal form p journal answer
 each_bad_line form p journal n answer bad is text accepted same =
     subst (PictureDue form text) (sym is) (PictureDue.not_a_move p n accepted (subst (λ (l : List ℕ). IsFirstBadLine l n) same bad))
 
@@ -54,7 +54,7 @@ abbrev LimitedBy : JournalText → Bounds → Type 0
 LimitedBy found lim = lim ≡ limits_with found.head default_limits
 
 -- legal moves have their picture written
-pub found_drawn : (form : Form) (p : Program) (found : JournalText) (lim : Bounds) (moves : List Move) (work span : ℕ) (chain : List ℕ) (bars : List Mark) (tasks : List TaskRow) (answer : Answer) → LimitedBy found lim
+pub found_drawn : (form : PictureForm) (p : Program) (found : JournalText) (lim : Bounds) (moves : List Move) (work span : ℕ) (chain : List ℕ) (bars : List Mark) (tasks : List TaskRow) (answer : Answer) → LimitedBy found lim
     → moves ≡ found.moves → IsPicture p lim moves work span chain bars tasks → answer ≡ on_out Done (picture_text form p work span chain bars tasks) → DueForFound form p found answer
 found_drawn form p found lim moves work span chain bars tasks answer limits all picture is text accepted spelled =
     subst (PictureDue form text) (sym is)
@@ -62,7 +62,7 @@ found_drawn form p found lim moves work span chain bars tasks answer limits all 
     (subst (λ (l : List Move). IsPicture p (limits_with found.head default_limits) l work span chain bars tasks) all (subst (λ (b : Bounds). IsPicture p b moves work span chain bars tasks) limits picture)))
 
 -- or the first that is not legal is named
-pub found_not_legal : (form : Form) (p : Program) (found : JournalText) (lim : Bounds) (moves : List Move) (n line : ℕ) (why : Why) (answer : Answer) → LimitedBy found lim → moves ≡ found.moves
+pub found_not_legal : (form : PictureForm) (p : Program) (found : JournalText) (lim : Bounds) (moves : List Move) (n line : ℕ) (why : Why) (answer : Answer) → LimitedBy found lim → moves ≡ found.moves
     → IsFirstIllegal p lim moves n why → line ≡ length (head_lines found.head) + n → answer ≡ on_err BadJournal (not_legal_text line) → DueForFound form p found answer
 found_not_legal form p found lim moves n line why answer limits all first number is text accepted spelled =
     subst (PictureDue form text) (sym (is ∙ ap (λ (m : ℕ). on_err BadJournal (not_legal_text m)) number))

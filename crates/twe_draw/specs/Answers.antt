@@ -23,11 +23,11 @@ use Rattle.run_picture.specs.Pictures.{IsPicture}
 use Rattle.run_picture.specs.declared.bars.Mark.{Mark}
 use Rattle.twe_draw.specs.Forms.{picture_text}
 use Rattle.twe_draw.specs.Words.{AskFor, draw_usage_text}
-use Rattle.twe_draw.specs.declared.words.Form.{Form}
+use Rattle.twe_draw.specs.declared.words.PictureForm.{PictureForm}
 
 -- The answer to an input, in this form: to the text of a program, and after the first line that is exactly `%%` the text of a
 -- journal. The limits are those of the journal's head, or the default ones.
-pub data PictureDue (form : Form) (text : List ℕ) : Answer → Type 0 where
+pub data PictureDue (form : PictureForm) (text : List ℕ) : Answer → Type 0 where
   -- the text of the program is refused
   refused : (r : Refusal) → IsRefusal (program_part text) r → PictureDue form text (on_err Refused (refusal_text r))
   -- line n of the journal is the first that is neither a head on line 1 nor a move
@@ -50,10 +50,10 @@ pub data PictureCause {S : Type 0} (tells : SourceTells S) (words : List (List �
   -- the words ask for no form, and nothing is read
   usage : AskFor words None → after ≡ before → PictureCause tells words before after (on_err Usage draw_usage_text)
   -- the source gave a text, and this is the answer to it
-  text : {answer : Answer} (form : Form) (bytes : List ℕ) → AskFor words (Some form) → WasRead tells before (Ok bytes) after
+  text : {answer : Answer} (form : PictureForm) (bytes : List ℕ) → AskFor words (Some form) → WasRead tells before (Ok bytes) after
       → PictureDue form bytes answer → PictureCause tells words before after answer
   -- a read failed, or the source has more bytes than a text may have
-  not_read : {answer : Answer} (form : Form) → AskFor words (Some form) → FailedRead tells before after answer
+  not_read : {answer : Answer} (form : PictureForm) → AskFor words (Some form) → FailedRead tells before after answer
       → PictureCause tells words before after answer
 
 -- what a call of the program comes to: an answer that has its cause is written; or memory runs out, and nothing is written

@@ -11,8 +11,8 @@ use Rattle.twe_draw.specs.Trace.{trace_text}
 use Rattle.twe_draw.specs.declared.grid.Grid.{Grid}
 use Rattle.twe_draw.specs.declared.words.Axis.{Axis}
 use Rattle.twe_draw.specs.declared.words.Axis.TheVariants.{Time, Order}
-use Rattle.twe_draw.specs.declared.words.Form.{Form}
-use Rattle.twe_draw.specs.declared.words.Form.TheVariants.{Svg, Trace}
+use Rattle.twe_draw.specs.declared.words.PictureForm.{PictureForm}
+use Rattle.twe_draw.specs.declared.words.PictureForm.TheVariants.{Svg, Trace}
 
 -- the picture of a run with this work, this span and this heaviest chain: its bars on this grid
 unfoldable pub svg_text : Axis → Program → ℕ → ℕ → List ℕ → Grid → List Mark → List TaskRow → List ℕ
@@ -28,7 +28,7 @@ in_columns column [] = []
 in_columns column (bar ∷ bars) = record bar { begins = column; ends = suc column } ∷ in_columns (suc column) bars
 
 -- what is written of a run in this form: a picture along its time or in the order of its journal, or its events
-abbrev pub picture_text : Form → Program → ℕ → ℕ → List ℕ → List Mark → List TaskRow → List ℕ
+abbrev pub picture_text : PictureForm → Program → ℕ → ℕ → List ℕ → List Mark → List TaskRow → List ℕ
 picture_text (Svg Time) p work span chain bars tasks = svg_text Time p work span chain (grid_of span (length tasks)) bars tasks
 picture_text (Svg Order) p work span chain bars tasks =
     svg_text Order p work span chain (grid_of (length bars) (length tasks)) (in_columns 0 bars) tasks

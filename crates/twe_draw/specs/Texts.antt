@@ -33,8 +33,8 @@ title_texts work span =
     ++ (codes "</title>\n<text class='title' x='6' y='22'>" ++ (run_words work span ++ codes "</text>\n")))
 
 -- how many tasks have no row, if some have none
-unfoldable pub left_out : ℕ → List ℕ
-left_out tasks =
+unfoldable pub tasks_left_out : ℕ → List ℕ
+tasks_left_out tasks =
     if nat_lt most_rows tasks
     then codes "<text class='end' x='1240' y='22'>tasks left out: " ++ (decimal (tasks - most_rows) ++ codes "</text>\n")
     else []
@@ -62,4 +62,4 @@ legend kind =
 -- what stands above the rows
 unfoldable pub head : Axis → ℕ → ℕ → ℕ → ℕ → List ℕ
 head kind tasks work span total =
-    opening tasks ++ (title_texts work span ++ (legend kind ++ (left_out tasks ++ axis tasks total)))
+    opening tasks ++ (title_texts work span ++ (legend kind ++ (tasks_left_out tasks ++ axis tasks total)))

@@ -2,7 +2,7 @@
 ghost use Rattle.std.specs.Prelude.{◌≡◌, ◌++◌, IfOk, OnOk, length};
 ghost use Rattle.twe_draw.specs.Forms.{in_columns, svg_text};
 ghost use Rattle.twe_draw.specs.Forms as forms;
-ghost use Rattle.twe_draw.specs.Texts.{axis, head, hundredths_words, left_out, opening, parallelism_words, run_words, tick, title_texts};
+ghost use Rattle.twe_draw.specs.Texts.{axis, head, hundredths_words, tasks_left_out, opening, parallelism_words, run_words, tick, title_texts};
 ghost use Rattle.twe_draw.specs.Words.{draw_usage_text};
 
 use crate::arrows::push_arrows;
@@ -10,7 +10,7 @@ use crate::grid::{Grid, push_column, push_height};
 use crate::legend::push_legend;
 use crate::shapes::{push_marks, push_outlines, push_rows};
 use crate::trace::trace_text;
-use crate::words::{Axis, Form};
+use crate::words::{Axis, PictureForm};
 use itoa::Buffer;
 use run_advice::parallelism_of;
 use run_picture::{Mark, Picture};
@@ -81,9 +81,9 @@ fn push_titles(text: &mut Bytes, work: u64, span: u64) -> Result<(), Memory>
 }
 
 /// Appends how many tasks have no row, if some have none.
-#[tactic(auto, unfolding(crate::specs::Texts::left_out))]
+#[tactic(auto, unfolding(crate::specs::Texts::tasks_left_out))]
 fn push_left_out(text: &mut Bytes, tasks: usize) -> Result<(), Memory>
-    ensures { OnOk result (text.new ≡ text.old ++ left_out tasks) }
+    ensures { OnOk result (text.new ≡ text.old ++ tasks_left_out tasks) }
 {
     if 200 < tasks {
         text.push_all(b"<text class='end' x='1240' y='22'>tasks left out: ")?;
@@ -187,7 +187,7 @@ fn in_columns(alloc: Global, bars: &[Mark]) -> Result<List<Mark>, Memory>
 /// What is written of a run in this form.
 pub(crate) fn picture_text(
     alloc: Global,
-    form: Form,
+    form: PictureForm,
     p: &Prog,
     picture: &Picture,
 ) -> Result<Bytes, Memory>
@@ -197,15 +197,15 @@ pub(crate) fn picture_text(
     let bars = picture.bars.as_slice();
     let tasks = picture.tasks.len();
     match form {
-        Form::Svg { axis: Axis::Time } => {
+        PictureForm::Svg { axis: Axis::Time } => {
             let grid = Grid::new(alloc, picture.span, tasks)?;
             svg_text(alloc, Axis::Time, p, picture, &grid, bars)
         }
-        Form::Svg { axis: Axis::Order } => {
+        PictureForm::Svg { axis: Axis::Order } => {
             let grid = Grid::new(alloc, bars.len() as u64, tasks)?;
             let columns = in_columns(alloc, bars)?;
             svg_text(alloc, Axis::Order, p, picture, &grid, columns.as_slice())
         }
-        Form::Trace => trace_text(alloc, p, picture),
+        PictureForm::Trace => trace_text(alloc, p, picture),
     }
 }

@@ -8,7 +8,7 @@ ghost use Rattle.twe_draw.specs.Words.{words_of_form};
 ghost use Rattle.twe_draw.specs.inner.Given.{DueForFound, DueForJournal};
 
 use crate::text::{picture_text, usage_text};
-use crate::words::{Form, form_asked};
+use crate::words::{PictureForm, form_asked};
 use run_picture::draw;
 use seg_journal::{JournalFail, JournalText, Limits, Move, read_journal};
 use std::alloc::Global;
@@ -20,8 +20,29 @@ use twe_machine::ReplayFail;
 use twe_program::Prog;
 use twe_report::{Input, not_a_move_text, not_legal_text, read_input, refusal_text};
 
+/// Reads the text of a program from the source, and after the first line that is exactly `%%` the text of a journal, and writes
+/// a picture of the run of that journal, along virtual time or in the order of the journal, or its events. Without such a line
+/// the journal is empty. A journal may be unfinished or stuck, or end with a fault.
+///
+/// `Answers` says what each status means and what is written with it. If there are words other than `order` or `trace` alone,
+/// the answer is the usage line, and nothing is read from the source. After `Memory` nothing was written.
+pub fn draw_top<S: Source, O: Sink, E: Sink>(
+    alloc: Global,
+    words: &[Word],
+    src: &mut S,
+    out: &mut O,
+    err: &mut E,
+) -> Status
+    ensures { IsDrawnFor (ends_tell (source S.left S.faults S.read_gives) (sink O.written O.faults O.write_gives)
+        (sink E.written E.faults E.write_gives))
+        words.now (ends src.old out.old err.old) (ends src.new out.new err.new) result }
+{
+    let made = answer(alloc, words, src);
+    tell(&made, out, err)
+}
+
 /// The answer to an input.
-fn answer_text(alloc: Global, form: Form, text: &[u8]) -> Result<Answer, Memory>
+fn answer_text(alloc: Global, form: PictureForm, text: &[u8]) -> Result<Answer, Memory>
     requires { length text.now ≤ max_text_bytes }
     ensures { IfOk result (PictureDue form text.now) }
 {
@@ -38,7 +59,12 @@ fn answer_text(alloc: Global, form: Form, text: &[u8]) -> Result<Answer, Memory>
 }
 
 /// The answer to a journal text, if the program is accepted.
-fn answer_journal(alloc: Global, form: Form, p: &Prog, journal: &[u8]) -> Result<Answer, Memory>
+fn answer_journal(
+    alloc: Global,
+    form: PictureForm,
+    p: &Prog,
+    journal: &[u8],
+) -> Result<Answer, Memory>
     ensures { IfOk result (DueForJournal form p.now journal.now) }
 {
     match read_journal(alloc, journal) {
@@ -65,7 +91,12 @@ fn line_of(head: Option<Limits>, n: u64, moves: &[Move]) -> u64
 }
 
 /// The answer to what was found in a journal text.
-fn answer_found(alloc: Global, form: Form, p: &Prog, found: &JournalText) -> Result<Answer, Memory>
+fn answer_found(
+    alloc: Global,
+    form: PictureForm,
+    p: &Prog,
+    found: &JournalText,
+) -> Result<Answer, Memory>
     ensures { IfOk result (DueForFound form p.now found.now) }
 {
     let lim = found.head.unwrap_or(Limits::default());
@@ -95,29 +126,8 @@ fn answer<S: Source>(alloc: Global, words: &[Word], src: &mut S) -> Result<Answe
     }
 }
 
-/// Reads the text of a program from the source, and after the first line that is exactly `%%` the text of a journal, and writes
-/// a picture of the run of that journal, along virtual time or in the order of the journal, or its events. Without such a line
-/// the journal is empty. A journal may be unfinished or stuck, or end with a fault.
-///
-/// `Answers` says what each status means and what is written with it. If there are words other than `order` or `trace` alone,
-/// the answer is the usage line, and nothing is read from the source. After `Memory` nothing was written.
-pub fn draw_top<S: Source, O: Sink, E: Sink>(
-    alloc: Global,
-    words: &[Word],
-    src: &mut S,
-    out: &mut O,
-    err: &mut E,
-) -> Status
-    ensures { IsDrawnFor (ends_tell (source S.left S.faults S.read_gives) (sink O.written O.faults O.write_gives)
-        (sink E.written E.faults E.write_gives))
-        words.now (ends src.old out.old err.old) (ends src.new out.new err.new) result }
-{
-    let made = answer(alloc, words, src);
-    tell(&made, out, err)
-}
-
 /// The answer to the words for this form, by the input that the source gives.
-fn answer_source<S: Source>(alloc: Global, form: Form, src: &mut S) -> Result<Answer, Memory>
+fn answer_source<S: Source>(alloc: Global, form: PictureForm, src: &mut S) -> Result<Answer, Memory>
     ensures { IfOk result (PictureCause (source S.left S.faults S.read_gives) (words_of_form form) src.old src.new) }
 {
     let input = read_input(alloc, src)?;

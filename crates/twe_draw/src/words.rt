@@ -16,7 +16,7 @@ pub enum Axis {
 
 /// What is written of a run.
 #[derive(Clone, Copy, Debug, PartialEq, Eq)]
-pub enum Form {
+pub enum PictureForm {
     /// A picture.
     Svg {
         /// What stands along its axis.
@@ -27,24 +27,24 @@ pub enum Form {
 }
 
 /// The form that one word asks for, if it asks for one.
-fn form_of_word(word: &Word) -> Option<Form>
+fn form_of_word(word: &Word) -> Option<PictureForm>
     ensures { result ≡ form_of_word word.now }
 {
     if word.as_bytes() == b"order".as_slice() {
-        Some(Form::Svg { axis: Axis::Order })
+        Some(PictureForm::Svg { axis: Axis::Order })
     } else if word.as_bytes() == b"trace".as_slice() {
-        Some(Form::Trace)
+        Some(PictureForm::Trace)
     } else {
         None
     }
 }
 
 /// The form that words ask for, if they ask for one.
-fn form_of_words(words: &[Word]) -> Option<Form>
+fn form_of_words(words: &[Word]) -> Option<PictureForm>
     ensures { result ≡ form_of_words words.now }
 {
     match words {
-        [] => Some(Form::Svg { axis: Axis::Time }),
+        [] => Some(PictureForm::Svg { axis: Axis::Time }),
         [word] => form_of_word(word),
         _ => None,
     }
@@ -52,7 +52,7 @@ fn form_of_words(words: &[Word]) -> Option<Form>
 
 /// The form that the words ask for: none asks for a picture along time, `order` alone for one in the order of the journal, and
 /// `trace` alone for events. Other words ask for none.
-pub(crate) fn form_asked(words: &[Word]) -> Option<Form>
+pub(crate) fn form_asked(words: &[Word]) -> Option<PictureForm>
     ensures { AskFor words.now result }
 {
     form_of_words(words)
