@@ -1,5 +1,5 @@
 -- The text of a picture, in each form.
-use Rattle.std.specs.Prelude.{◌++◌, ℕ, suc, List, [], ◌∷◌, codes, length}
+use Rattle.std.specs.Prelude.{◌+◌, ◌++◌, ℕ, List, [], ◌∷◌, codes, length}
 use Rattle.std.specs.List.{flat_map}
 use Rattle.twe_program.specs.Program.{Program}
 use Rattle.twe_machine.specs.declared.state.TaskRow.{TaskRow}
@@ -25,7 +25,7 @@ svg_text axis p work span chain grid bars tasks =
 -- these bars, each in a column of its own; the first column has this number
 abbrev pub in_columns : ℕ → List Mark → List Mark
 in_columns column [] = []
-in_columns column (bar ∷ bars) = record bar { begins = column; ends = suc column } ∷ in_columns (suc column) bars
+in_columns column (bar ∷ bars) = record bar { begins = column; ends = column + 1 } ∷ in_columns (column + 1) bars
 
 -- what is written of a run in this form: a picture along its time or in the order of its journal, or its events
 abbrev pub picture_text : PictureForm → Program → ℕ → ℕ → List ℕ → List Mark → List TaskRow → List ℕ
