@@ -92,21 +92,27 @@ mark_in_row p tasks bars total bar (Some row) =
 abbrev pub mark_shown : Program → List TaskRow → List Mark → Grid → Mark → List ℕ
 mark_shown p tasks bars grid bar = mark_in_row p tasks bars grid.total bar (row_in grid bar.task)
 
+-- the beginning of an arrow of this class: it leaves a row at this time for another row
+unfoldable pub arrow_begin : ℕ → List ℕ → ℕ → ℕ → ℕ → List ℕ
+arrow_begin total class from from_row to_row =
+    codes "<path class='"
+    ++ (class ++ (codes "' d='M" ++ (column_text total from ++ (codes " " ++ leaves_text from_row to_row))))
+
+-- and its end: it comes to the other row at this time
+unfoldable pub arrow_end : ℕ → ℕ → ℕ → ℕ → List ℕ
+arrow_end total from_row to to_row =
+    codes "L" ++ (column_text total to ++ (codes " " ++ (comes_text from_row to_row ++ codes "'/>\n")))
+
 -- an arrow of this class from a time in a row to a time in another row
 unfoldable pub arrow : ℕ → List ℕ → ℕ → ℕ → ℕ → ℕ → List ℕ
 arrow total class from from_row to to_row =
-    codes "<path class='"
-    ++ (class
-    ++ (codes "' d='M"
-    ++ (column_text total from
-    ++ (codes " "
-    ++ (leaves_text from_row to_row
-    ++ (codes "L" ++ (column_text total to ++ (codes " " ++ (comes_text from_row to_row ++ codes "'/>\n")))))))))
+    arrow_begin total class from from_row to_row ++ arrow_end total from_row to to_row
 
 -- an arrow from the end of a bar to the beginning of another one, if both have rows
 abbrev pub arrow_in_rows : ℕ → List ℕ → Mark → Mark → Option ℕ → Option ℕ → List ℕ
+arrow_in_rows total class first second None to = []
+arrow_in_rows total class first second (Some from) None = []
 arrow_in_rows total class first second (Some from) (Some to) = arrow total class first.ends from second.begins to
-arrow_in_rows total class first second _ _ = []
 
 abbrev pub arrow_between : Grid → List ℕ → Mark → Mark → List ℕ
 arrow_between grid class first second =

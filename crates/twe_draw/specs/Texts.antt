@@ -39,27 +39,34 @@ tasks_left_out tasks =
     then codes "<text class='end' x='1240' y='22'>tasks left out: " ++ (decimal (tasks - most_rows) ++ codes "</text>\n")
     else []
 
--- a time at the axis, with a line through all rows
+-- a time at the axis
+unfoldable pub tick_label : ℕ → ℕ → List ℕ
+tick_label total time = codes "<text class='tick' y='104' x='" ++ (column_text total time ++ (codes "'>" ++ decimal time))
+
+-- and its line through all rows
+unfoldable pub tick_line : ℕ → ℕ → ℕ → List ℕ
+tick_line tasks total time =
+    codes "</text><path class='time' d='M"
+    ++ (column_text total time ++ (codes " 108V" ++ (height_text tasks ++ codes "'/>\n")))
+
+-- both
 unfoldable pub tick : ℕ → ℕ → ℕ → List ℕ
-tick tasks total time =
-    codes "<text class='tick' y='104' x='"
-    ++ (column_text total time
-    ++ (codes "'>"
-    ++ (decimal time
-    ++ (codes "</text><path class='time' d='M"
-    ++ (column_text total time ++ (codes " 108V" ++ (height_text tasks ++ codes "'/>\n")))))))
+tick tasks total time = tick_label total time ++ tick_line tasks total time
 
 -- the axis: its beginning, its middle, and its end
 unfoldable pub axis : ℕ → ℕ → List ℕ
 axis tasks total = tick tasks total 0 ++ (tick tasks total (total / 2) ++ tick tasks total total)
 
--- what is the same in each picture along this axis
-unfoldable pub legend : Axis → List ℕ
-legend kind =
-    line_style
-    ++ (bar_style ++ (dark_style ++ (patterns ++ (axis_meaning kind ++ (wait_meaning ++ (bar_legend ++ other_legend))))))
+-- all colours
+unfoldable pub styles : List ℕ
+styles = line_style ++ (bar_style ++ (dark_style ++ patterns))
+
+-- what all means, along this axis
+unfoldable pub meanings : Axis → List ℕ
+meanings kind = axis_meaning kind ++ (wait_meaning ++ (bar_legend ++ other_legend))
 
 -- what stands above the rows
 unfoldable pub head : Axis → ℕ → ℕ → ℕ → ℕ → List ℕ
 head kind tasks work span total =
-    opening tasks ++ (title_texts work span ++ (legend kind ++ (tasks_left_out tasks ++ axis tasks total)))
+    opening tasks
+    ++ (title_texts work span ++ (styles ++ (meanings kind ++ (tasks_left_out tasks ++ axis tasks total))))

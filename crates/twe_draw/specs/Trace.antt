@@ -35,15 +35,18 @@ slice_event p tasks bar =
     ++ (decimal bar.task
     ++ (slice_times bar ++ (bar_class p (slice_get tasks bar.task) bar.kind ++ slice_args p tasks bar)))
 
--- one end of a flow of this class and number, at this time of a task; it begins with these words
+-- what is the same at both ends of a flow of this class and number, after the words that it begins with
+unfoldable pub flow_name : List ℕ → List ℕ → ℕ → List ℕ
+flow_name words class number =
+    words ++ (class ++ (codes "\",\"name\":\"" ++ (class ++ (codes "\",\"pid\":0,\"id\":" ++ decimal number))))
+
+-- where one end of a flow is: at this time of a task
+unfoldable pub flow_place : ℕ → ℕ → List ℕ
+flow_place task time = codes ",\"tid\":" ++ (decimal task ++ (codes ",\"ts\":" ++ (decimal time ++ codes "}")))
+
+-- one end of a flow
 unfoldable pub flow_end : List ℕ → List ℕ → ℕ → ℕ → ℕ → List ℕ
-flow_end words class number task time =
-    words
-    ++ (class
-    ++ (codes "\",\"name\":\""
-    ++ (class
-    ++ (codes "\",\"pid\":0,\"id\":"
-    ++ (decimal number ++ (codes ",\"tid\":" ++ (decimal task ++ (codes ",\"ts\":" ++ (decimal time ++ codes "}")))))))))
+flow_end words class number task time = flow_name words class number ++ flow_place task time
 
 -- a flow from the last moment of one slice to the first of another one; it has the number of the second entry
 unfoldable pub flow_between : List ℕ → Mark → Mark → List ℕ

@@ -1,12 +1,50 @@
 //! The arrows of a picture: from the end of what leads to a bar to the beginning of the bar.
 ghost use Rattle.std.specs.Prelude.{◌≡◌, ◌++◌, OnOk};
 ghost use Rattle.std.specs.List.{flat_map};
-ghost use Rattle.twe_draw.specs.Shapes.{arrow, arrow_between, arrow_of_giving, arrow_of_making, arrows_to};
+ghost use Rattle.twe_draw.specs.Shapes.{arrow, arrow_begin, arrow_between, arrow_end, arrow_of_giving, arrow_of_making, arrows_to};
 
 use crate::grid::{Grid, push_column, push_comes, push_leaves};
 use crate::shapes::bar_named;
 use run_picture::Mark;
 use twe_base::{Bytes, Memory};
+
+/// Appends the beginning of an arrow, which leaves a row at this time.
+#[tactic(auto, unfolding(crate::specs::Shapes::arrow_begin))]
+fn push_arrow_begin(
+    text: &mut Bytes,
+    total: u64,
+    class: &[u8],
+    from: u64,
+    from_row: u32,
+    to_row: u32,
+) -> Result<(), Memory>
+    ensures { OnOk result (text.new ≡ text.old ++ arrow_begin total class.now from from_row to_row) }
+{
+    text.push_all(b"<path class='")?;
+    text.push_all(class)?;
+    text.push_all(b"' d='M")?;
+    push_column(text, total, from)?;
+    text.push_all(b" ")?;
+    push_leaves(text, from_row, to_row)
+}
+
+/// Appends the end of an arrow, which comes to a row at this time.
+#[tactic(auto, unfolding(crate::specs::Shapes::arrow_end))]
+fn push_arrow_end(
+    text: &mut Bytes,
+    total: u64,
+    from_row: u32,
+    to: u64,
+    to_row: u32,
+) -> Result<(), Memory>
+    ensures { OnOk result (text.new ≡ text.old ++ arrow_end total from_row to to_row) }
+{
+    text.push_all(b"L")?;
+    push_column(text, total, to)?;
+    text.push_all(b" ")?;
+    push_comes(text, from_row, to_row)?;
+    text.push_all(b"'/>\n")
+}
 
 /// Appends an arrow of this class from a time in a row to a time in another row.
 #[tactic(auto, unfolding(crate::specs::Shapes::arrow))]
@@ -21,17 +59,8 @@ fn push_arrow(
 ) -> Result<(), Memory>
     ensures { OnOk result (text.new ≡ text.old ++ arrow total class.now from from_row to to_row) }
 {
-    text.push_all(b"<path class='")?;
-    text.push_all(class)?;
-    text.push_all(b"' d='M")?;
-    push_column(text, total, from)?;
-    text.push_all(b" ")?;
-    push_leaves(text, from_row, to_row)?;
-    text.push_all(b"L")?;
-    push_column(text, total, to)?;
-    text.push_all(b" ")?;
-    push_comes(text, from_row, to_row)?;
-    text.push_all(b"'/>\n")
+    push_arrow_begin(text, total, class, from, from_row, to_row)?;
+    push_arrow_end(text, total, from_row, to, to_row)
 }
 
 /// Appends an arrow from the end of a bar to the beginning of another one, if both have rows.
@@ -44,11 +73,12 @@ fn push_arrow_between(
 ) -> Result<(), Memory>
     ensures { OnOk result (text.new ≡ text.old ++ arrow_between grid.now class.now first.now second.now) }
 {
-    match (grid.row(first.task), grid.row(second.task)) {
-        (Some(from), Some(to)) => {
-            push_arrow(text, grid.total, class, first.ends, from, second.begins, to)
-        }
-        _ => Ok(()),
+    match grid.row(first.task) {
+        None => Ok(()),
+        Some(from) => match grid.row(second.task) {
+            None => Ok(()),
+            Some(to) => push_arrow(text, grid.total, class, first.ends, from, second.begins, to),
+        },
     }
 }
 

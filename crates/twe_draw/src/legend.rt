@@ -1,7 +1,7 @@
 //! What stands in each picture, whatever the run: the colours, and what they mean.
 ghost use Rattle.std.specs.Prelude.{◌≡◌, ◌++◌, OnOk};
 ghost use Rattle.twe_draw.specs.Legend as legend;
-ghost use Rattle.twe_draw.specs.Texts.{legend as whole_legend};
+ghost use Rattle.twe_draw.specs.Texts.{meanings, styles};
 
 use crate::words::Axis;
 use twe_base::{Bytes, Memory};
@@ -129,15 +129,22 @@ fn push_other_legend(text: &mut Bytes) -> Result<(), Memory>
     )
 }
 
-/// Appends what is the same in each picture along this axis.
-#[tactic(auto, unfolding(crate::specs::Texts::legend))]
-pub(crate) fn push_legend(text: &mut Bytes, axis: Axis) -> Result<(), Memory>
-    ensures { OnOk result (text.new ≡ text.old ++ whole_legend axis) }
+/// Appends all colours.
+#[tactic(auto, unfolding(crate::specs::Texts::styles))]
+pub(crate) fn push_styles(text: &mut Bytes) -> Result<(), Memory>
+    ensures { OnOk result (text.new ≡ text.old ++ styles) }
 {
     push_line_style(text)?;
     push_bar_style(text)?;
     push_dark_style(text)?;
-    push_patterns(text)?;
+    push_patterns(text)
+}
+
+/// Appends what all means, along this axis.
+#[tactic(auto, unfolding(crate::specs::Texts::meanings))]
+pub(crate) fn push_meanings(text: &mut Bytes, axis: Axis) -> Result<(), Memory>
+    ensures { OnOk result (text.new ≡ text.old ++ meanings axis) }
+{
     push_axis_meaning(text, axis)?;
     push_wait_meaning(text)?;
     push_bar_legend(text)?;

@@ -2,12 +2,12 @@
 ghost use Rattle.std.specs.Prelude.{◌≡◌, ◌++◌, IfOk, OnOk, length};
 ghost use Rattle.twe_draw.specs.Forms.{in_columns, svg_text};
 ghost use Rattle.twe_draw.specs.Forms as forms;
-ghost use Rattle.twe_draw.specs.Texts.{axis, head, hundredths_words, tasks_left_out, opening, parallelism_words, run_words, tick, title_texts};
+ghost use Rattle.twe_draw.specs.Texts.{axis, head, hundredths_words, tasks_left_out, opening, parallelism_words, run_words, tick, tick_label, tick_line, title_texts};
 ghost use Rattle.twe_draw.specs.Words.{draw_usage_text};
 
 use crate::arrows::push_arrows;
 use crate::grid::{Grid, push_column, push_height};
-use crate::legend::push_legend;
+use crate::legend::{push_meanings, push_styles};
 use crate::shapes::{push_marks, push_outlines, push_rows};
 use crate::trace::trace_text;
 use crate::words::{Axis, PictureForm};
@@ -95,19 +95,35 @@ fn push_left_out(text: &mut Bytes, tasks: usize) -> Result<(), Memory>
 }
 
 /// Appends a time at the axis.
-#[tactic(auto, unfolding(crate::specs::Texts::tick))]
-fn push_tick(text: &mut Bytes, tasks: usize, total: u64, time: u64) -> Result<(), Memory>
-    ensures { OnOk result (text.new ≡ text.old ++ tick tasks total time) }
+#[tactic(auto, unfolding(crate::specs::Texts::tick_label))]
+fn push_tick_label(text: &mut Bytes, total: u64, time: u64) -> Result<(), Memory>
+    ensures { OnOk result (text.new ≡ text.old ++ tick_label total time) }
 {
     text.push_all(b"<text class='tick' y='104' x='")?;
     push_column(text, total, time)?;
     text.push_all(b"'>")?;
-    text.push_all(Buffer::new().format(time).as_bytes())?;
+    text.push_all(Buffer::new().format(time).as_bytes())
+}
+
+/// Appends the line of a time through all rows.
+#[tactic(auto, unfolding(crate::specs::Texts::tick_line))]
+fn push_tick_line(text: &mut Bytes, tasks: usize, total: u64, time: u64) -> Result<(), Memory>
+    ensures { OnOk result (text.new ≡ text.old ++ tick_line tasks total time) }
+{
     text.push_all(b"</text><path class='time' d='M")?;
     push_column(text, total, time)?;
     text.push_all(b" 108V")?;
     push_height(text, tasks)?;
     text.push_all(b"'/>\n")
+}
+
+/// Appends both.
+#[tactic(auto, unfolding(crate::specs::Texts::tick))]
+fn push_tick(text: &mut Bytes, tasks: usize, total: u64, time: u64) -> Result<(), Memory>
+    ensures { OnOk result (text.new ≡ text.old ++ tick tasks total time) }
+{
+    push_tick_label(text, total, time)?;
+    push_tick_line(text, tasks, total, time)
 }
 
 /// Appends the axis.
@@ -134,7 +150,8 @@ fn push_head(
 {
     push_opening(text, tasks)?;
     push_titles(text, work, span)?;
-    push_legend(text, kind)?;
+    push_styles(text)?;
+    push_meanings(text, kind)?;
     push_left_out(text, tasks)?;
     push_axis(text, tasks, total)
 }

@@ -1,7 +1,7 @@
 //! The events of a run in the JSON that viewers of traces read.
 ghost use Rattle.std.specs.Prelude.{◌≡◌, ◌++◌, IfOk, OnOk};
 ghost use Rattle.std.specs.List.{flat_map};
-ghost use Rattle.twe_draw.specs.Trace.{entry_events, flow_between, flow_end, flow_of_giving, flow_of_making, slice_args, slice_event, slice_times, thread_event, trace_text};
+ghost use Rattle.twe_draw.specs.Trace.{entry_events, flow_between, flow_end, flow_name, flow_of_giving, flow_of_making, flow_place, slice_args, slice_event, slice_times, thread_event, trace_text};
 
 use crate::labels::{push_end, push_label, push_label_of};
 use crate::shapes::{bar_named, push_bar_class};
@@ -73,6 +73,31 @@ fn push_slice(text: &mut Bytes, p: &Prog, tasks: &[TaskRow], bar: &Mark) -> Resu
     push_slice_args(text, p, tasks, bar)
 }
 
+/// Appends what is the same at both ends of a flow, after the words that it begins with.
+#[tactic(auto, unfolding(crate::specs::Trace::flow_name))]
+fn push_flow_name(text: &mut Bytes, words: &[u8], class: &[u8], number: u64) -> Result<(), Memory>
+    ensures { OnOk result (text.new ≡ text.old ++ flow_name words.now class.now number) }
+{
+    text.push_all(words)?;
+    text.push_all(class)?;
+    text.push_all(b"\",\"name\":\"")?;
+    text.push_all(class)?;
+    text.push_all(b"\",\"pid\":0,\"id\":")?;
+    text.push_all(Buffer::new().format(number).as_bytes())
+}
+
+/// Appends where one end of a flow is.
+#[tactic(auto, unfolding(crate::specs::Trace::flow_place))]
+fn push_flow_place(text: &mut Bytes, task: u32, time: u64) -> Result<(), Memory>
+    ensures { OnOk result (text.new ≡ text.old ++ flow_place task time) }
+{
+    text.push_all(b",\"tid\":")?;
+    text.push_all(Buffer::new().format(task).as_bytes())?;
+    text.push_all(b",\"ts\":")?;
+    text.push_all(Buffer::new().format(time).as_bytes())?;
+    text.push_all(b"}")
+}
+
 /// Appends one end of a flow.
 #[tactic(auto, unfolding(crate::specs::Trace::flow_end))]
 fn push_flow_end(
@@ -85,17 +110,8 @@ fn push_flow_end(
 ) -> Result<(), Memory>
     ensures { OnOk result (text.new ≡ text.old ++ flow_end words.now class.now number task time) }
 {
-    text.push_all(words)?;
-    text.push_all(class)?;
-    text.push_all(b"\",\"name\":\"")?;
-    text.push_all(class)?;
-    text.push_all(b"\",\"pid\":0,\"id\":")?;
-    text.push_all(Buffer::new().format(number).as_bytes())?;
-    text.push_all(b",\"tid\":")?;
-    text.push_all(Buffer::new().format(task).as_bytes())?;
-    text.push_all(b",\"ts\":")?;
-    text.push_all(Buffer::new().format(time).as_bytes())?;
-    text.push_all(b"}")
+    push_flow_name(text, words, class, number)?;
+    push_flow_place(text, task, time)
 }
 
 /// Appends a flow from the last moment of one slice to the first of another one.
