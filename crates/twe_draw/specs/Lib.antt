@@ -1,0 +1,12 @@
+pub mod Answers
+pub mod Effects
+pub mod Forms
+pub mod Grid
+pub mod Labels
+pub mod Legend
+pub mod Shapes
+pub mod Texts
+pub mod Titles
+pub mod Trace
+pub mod Words
+pub mod inner
