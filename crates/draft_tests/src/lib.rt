@@ -7,4 +7,6 @@ mod answers;
 #[cfg(test)]
 mod held;
 #[cfg(test)]
+mod last_read;
+#[cfg(test)]
 mod passed;

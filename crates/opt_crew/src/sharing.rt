@@ -5,6 +5,7 @@ ghost use Rattle.opt_crew.specs.Keeping.{Keeps};
 use crate::access::{Lent, Locked};
 use crate::kept::Kept;
 use crate::round_core::RoundCore;
+use crate::trail::Trail;
 use opt_engine::CoreRun;
 use run_gates::FreeGate;
 use std::alloc::Global;
@@ -42,6 +43,7 @@ pub(crate) fn alone<N: RoundName, R: Wait>(
         let mut access = Lent {
             game: &game,
             core: &mut core,
+            trail: Trail::new(),
         };
         worker.work(rt, &mut access, &site);
     }
@@ -95,6 +97,7 @@ impl<'a, R: Wait, N: RoundName> Shared<'a, R, N> {
             game: self.game,
             core: self.core,
             kept: Kept::new(self.game.alloc()),
+            trail: Trail::new(),
         };
         let site = Site {
             gate: &FreeGate,

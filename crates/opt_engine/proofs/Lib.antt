@@ -8,3 +8,4 @@ pub mod Nexts
 pub mod Changes
 pub mod Committed
 pub mod Told
+pub mod NextMoves

@@ -12,6 +12,7 @@ mod draft_core;
 mod drafts;
 mod frames;
 mod judging;
+mod next_moves;
 mod notes;
 mod readiness;
 mod touch;
