@@ -58,10 +58,18 @@ always_place (m ∷ ms) = if holds_always m.equalities then 0 else suc (always_p
 abbrev pub first_always : List Meeting → Option Meeting
 first_always meetings = slice_get meetings (always_place meetings)
 
+-- `interfere on A:*`: the path of a meeting that has no equalities
+abbrev pub always_text : List (List ℕ) → List written.Name → Meeting → List ℕ
+always_text regions first meeting = codes "interfere on " ++ starred_path_text regions first meeting.path
+
+-- `apart unless i = j'`
+abbrev pub unless_text : List written.Name → List written.Name → List Meeting → List ℕ
+unless_text first second meetings = codes "apart unless " ++ meetings_text first second meetings
+
 -- where there are meetings, they are written; if one has no equalities, its path is
 abbrev pub meeting_text : List (List ℕ) → List written.Name → List written.Name → List Meeting → Option Meeting → List ℕ
-meeting_text regions first second meetings None = codes "apart unless " ++ meetings_text first second meetings
-meeting_text regions first second meetings (Some m) = codes "interfere on " ++ starred_path_text regions first m.path
+meeting_text regions first second meetings None = unless_text first second meetings
+meeting_text regions first second meetings (Some m) = always_text regions first m
 
 -- `apart`, if there is none
 abbrev pub verdict_text : List (List ℕ) → List written.Name → List written.Name → List Meeting → List ℕ

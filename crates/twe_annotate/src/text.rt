@@ -1,9 +1,11 @@
 //! What a line says of two tasks.
 ghost use Rattle.std.specs.Prelude.{◌≡◌, ◌++◌, IfOk, OnOk, slice_get};
-ghost use Rattle.twe_annotate.specs.Texts.{always_place, equalities_text, equality_text, meeting_text, meetings_text, more_equalities, more_meetings, term_text, verdict_text};
+ghost use Rattle.twe_annotate.specs.Texts.{always_place, always_text, equalities_text, equality_text, meeting_text, meetings_text, more_equalities, more_meetings, term_text, unless_text, verdict_text};
+ghost use Rattle.text_meaning.specs.PathTexts.{starred_path_text};
 ghost use Rattle.twe_annotate.specs.Texts as texts;
 
 use itoa::Buffer;
+use region_paths::Path;
 use std::alloc::Global;
 use task_matrix::{Equality, Meeting, Term};
 use text_meaning::{push_parameter, push_starred_path};
@@ -114,6 +116,58 @@ fn always_place(meetings: &[Meeting]) -> usize
     meetings.len()
 }
 
+/// Appends these words and a path.
+fn push_path_after(
+    text: &mut Bytes,
+    words: &[u8],
+    regions: &[Word],
+    params: &[Name],
+    path: &Path,
+) -> Result<(), Memory>
+    ensures { OnOk result (text.new ≡ text.old ++ (words.now ++ starred_path_text regions.now params.now path.now)) }
+{
+    text.push_all(words)?;
+    push_starred_path(text, regions, params, path)
+}
+
+/// Appends these words and meetings.
+fn push_meetings_after(
+    text: &mut Bytes,
+    words: &[u8],
+    first: &[Name],
+    second: &[Name],
+    meetings: &[Meeting],
+) -> Result<(), Memory>
+    ensures { OnOk result (text.new ≡ text.old ++ (words.now ++ meetings_text first.now second.now meetings.now)) }
+{
+    text.push_all(words)?;
+    push_meetings(text, first, second, meetings)
+}
+
+/// Appends that two tasks always interfere, and where.
+fn push_always(
+    text: &mut Bytes,
+    regions: &[Word],
+    first: &[Name],
+    meeting: &Meeting,
+) -> Result<(), Memory>
+    ensures { OnOk result (text.new ≡ text.old ++ always_text regions.now first.now meeting.now) }
+{
+    push_path_after(text, b"interfere on ", regions, first, &meeting.path)
+}
+
+/// Appends when two tasks interfere.
+fn push_unless(
+    text: &mut Bytes,
+    first: &[Name],
+    second: &[Name],
+    meetings: &[Meeting],
+) -> Result<(), Memory>
+    ensures { OnOk result (text.new ≡ text.old ++ unless_text first.now second.now meetings.now) }
+{
+    push_meetings_after(text, b"apart unless ", first, second, meetings)
+}
+
 /// Appends meetings, or the path of the first that is always met, if there is one.
 fn push_meeting(
     text: &mut Bytes,
@@ -126,14 +180,8 @@ fn push_meeting(
     ensures { OnOk result (text.new ≡ text.old ++ meeting_text regions.now first.now second.now meetings.now (slice_get meetings.now place)) }
 {
     match meetings.get(place) {
-        Some(meeting) => {
-            text.push_all(b"interfere on ")?;
-            push_starred_path(text, regions, first, &meeting.path)
-        }
-        None => {
-            text.push_all(b"apart unless ")?;
-            push_meetings(text, first, second, meetings)
-        }
+        Some(meeting) => push_always(text, regions, first, meeting),
+        None => push_unless(text, first, second, meetings),
     }
 }
 

@@ -2,7 +2,8 @@
 ghost use Rattle.std.specs.Prelude.{◌≡◌, IfOk, Some};
 ghost use Rattle.twe_annotate.specs.Answers.{AnnotateCause, AnnotateDue, AnswersAnnotate};
 ghost use Rattle.twe_annotate.specs.Words.{requested_by};
-ghost use Rattle.text_meaning.specs.Meaning.{TextMeans};
+ghost use Rattle.text_meaning.specs.Meaning.{IsRefusedBefore, TextMeans};
+ghost use Rattle.text_meaning.specs.Reading.{ReadingHasCause};
 ghost use Rattle.twe_io.specs.Ends.{ends, ends_tell, sink, source};
 
 use crate::lines::matrix_lines;
@@ -11,7 +12,7 @@ use crate::words::{Request, requested_by};
 use std::alloc::Global;
 use text_meaning::{Meaning, read_meaning};
 use twe_base::{Memory, Word};
-use twe_frontend::FrontFail;
+use twe_frontend::{FrontFail, Refusal};
 use twe_io::{Answer, Sink, Source, Status, tell};
 use twe_report::{Input, read_input, refusal_text};
 
@@ -67,13 +68,40 @@ fn answer_text(alloc: Global, request: Request, text: &[u8]) -> Result<Answer, M
 {
     match read_meaning(alloc, text) {
         Ok(meaning) => answer_meaning(alloc, request, text, &meaning),
-        Err(FrontFail::Refused(refusal)) => Ok(Answer::on_err(
-            alloc,
-            Status::Refused,
-            refusal_text(alloc, refusal)?,
-        )),
-        Err(FrontFail::OutOfMemory(memory)) => Err(memory),
+        Err(fail) => answer_fail(alloc, request, text, &fail),
     }
+}
+
+/// The answer to a text that could not be read.
+fn answer_fail(
+    alloc: Global,
+    request: Request,
+    text: &[u8],
+    fail: &FrontFail,
+) -> Result<Answer, Memory>
+    requires { ReadingHasCause text.now fail.now }
+    ensures { IfOk result (AnnotateDue request text.now) }
+{
+    match fail {
+        FrontFail::Refused(refusal) => answer_refusal(alloc, request, text, *refusal),
+        FrontFail::OutOfMemory(memory) => Err(*memory),
+    }
+}
+
+/// The answer to a text that has this refusal.
+fn answer_refusal(
+    alloc: Global,
+    request: Request,
+    text: &[u8],
+    refusal: Refusal,
+) -> Result<Answer, Memory>
+    requires { IsRefusedBefore text.now refusal }
+    ensures { IfOk result (AnnotateDue request text.now) }
+{
+    let _ = request;
+    let _ = text;
+    let line = refusal_text(alloc, refusal)?;
+    Ok(Answer::on_err(alloc, Status::Refused, line))
 }
 
 /// The answer to a text with this meaning.
