@@ -1,2 +1,8 @@
 mod Early
+-- What is needed, what bars it, and that nothing fails if no cause is found.
 pub mod Needs
+pub mod Covering
+pub mod Joins
+pub mod Complete
+-- The steps of the searches.
+pub mod Loops

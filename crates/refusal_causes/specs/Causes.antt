@@ -1,5 +1,5 @@
 -- When a cause is true of a program.
-use Rattle.std.specs.Prelude.{◌≡◌, ◌⊎◌, ℕ, Bool, true, IsTrue, List, Contains}
+use Rattle.std.specs.Prelude.{◌≡◌, ℕ, Bool, true, false, not, ◌&&◌, IsTrue, List, Contains, Option, IfSome}
 use Rattle.twe_base.specs.declared.place.Place.{Place}
 use Rattle.effect_sets.specs.declared.effects.Effect.{Effect}
 use Rattle.effect_sets.specs.declared.effects.Summary.{Summary}
@@ -7,13 +7,17 @@ use Rattle.effect_sets.specs.Covers.{covers}
 use Rattle.effect_sets.specs.Interference.{statically_interferes}
 use Rattle.twe_program.specs.declared.program.Decl.{Decl}
 use Rattle.twe_program.specs.Program.{Program}
-use Rattle.cover_flow.specs.Out.{MayBeOut}
+use Rattle.cover_flow.specs.Out.{MayBeOut, SurelyOut}
 use Rattle.effect_check.specs.declared.act.ActKind.{ActKind}
-use Rattle.effect_check.specs.declared.act.ActKind.TheVariants.{Make}
+use Rattle.effect_check.specs.declared.act.ActKind.TheVariants.{Touch, Call, Make, Wait}
+use Rattle.effect_check.specs.declared.rule.ERule.{ERule}
+use Rattle.effect_check.specs.declared.rule.ERule.TheVariants.{E4, E5, E6, E7}
 use Rattle.effect_check.specs.Covered.{Does}
+use Rattle.twe_frontend.specs.declared.refusal.RuleName.{RuleName}
+use Rattle.twe_frontend.specs.declared.refusal.RuleName.TheVariants.{Text, Name, Effect as Effects}
 use Rattle.refusal_causes.specs.declared.cause.RuleCause.{RuleCause}
-use Rattle.refusal_causes.specs.declared.cause.RuleCause.TheVariants.{Unsaid, Undeclared, Out}
-use Rattle.refusal_causes.specs.Seeking.{needs_at, needs_of}
+use Rattle.refusal_causes.specs.declared.cause.RuleCause.TheVariants.{Undeclared, Out, NotOut, OutAgain, OrderOpen, NotDeterministic}
+use Rattle.refusal_causes.specs.Seeking.{decls_for, is_at, is_of_needs, needs_at, needs_of}
 
 -- at this point the declaration does something at this place that needs the effect
 pub record NeedsAt (p : Program) (decl : Decl) (point : ℕ) (place : Place) (effect : Effect) : Type 0 where
@@ -47,19 +51,86 @@ pub record IsOut (p : Program) (task : Decl) (place : Place) (need other : Effec
   pub needs : NeedsAt p task point place need
   pub barred : IsBarred p task point need other future_place
 
--- the cause is true of what the declaration does at this place
-abbrev pub IsCauseIn : Program → Decl → Place → RuleCause → Type 0
-IsCauseIn p decl place Unsaid = Unit {0}
-IsCauseIn p decl place (Undeclared need declared decl_place) =
-    (declared ≡ decl.summary) × (decl_place ≡ decl.place) × IsUndeclared p decl place need
-IsCauseIn p decl place (Out need other future_place decl_place) =
-    (decl_place ≡ decl.place) × IsOut p decl place need other future_place
+-- the future that a task waits for is made at this place
+pub record IsMadeAt (p : Program) (task : Decl) (future : ℕ) (future_place : Place) : Type 0 where
+  pub at : ℕ
+  pub spawned : Bool
+  pub deterministic : Bool
+  pub effects : Summary
+  pub place : Place
+  pub makes : Does p task at (Make future spawned deterministic effects future_place place)
+
+-- the task joins a future at this place that is not out on some control path to it; if a place is named, the future's task
+-- is made there
+pub record IsNotOut (p : Program) (task : Decl) (place : Place) (future_place : Option Place) : Type 0 where
+  pub point : ℕ
+  pub future : ℕ
+  pub at : Place
+  pub joins : Does p task point (Wait future true at)
+  pub there : IsTrue (is_at at place)
+  pub not_out : ¬ SurelyOut task.body point future
+  pub made : IfSome future_place (IsMadeAt p task future)
+
+-- the task spawns into a future at this place that may be out already
+pub record IsOutAgain (p : Program) (task : Decl) (place : Place) : Type 0 where
+  pub point : ℕ
+  pub future : ℕ
+  pub deterministic : Bool
+  pub effects : Summary
+  pub at : Place
+  pub task_place : Place
+  pub spawns : Does p task point (Make future true deterministic effects at task_place)
+  pub there : IsTrue (is_at at place)
+  pub out : MayBeOut task.body point future
+
+-- this is an `executeLater` at the place, or a `getValue`
+abbrev pub has_open_order : Place → Bool → ActKind → Bool
+has_open_order other makes (Touch effect place) = false
+has_open_order other makes (Call effects place) = false
+has_open_order other makes (Make future spawned deterministic effects future_place place) =
+    makes && (not spawned && is_at place other)
+has_open_order other makes (Wait future join place) = not makes && (not join && is_at place other)
+
+-- this is a spawn at the place of a task that was not declared deterministic
+abbrev pub spawns_other : Place → ActKind → Bool
+spawns_other other (Touch effect place) = false
+spawns_other other (Call effects place) = false
+spawns_other other (Make future spawned deterministic effects future_place place) =
+    spawned && (not deterministic && is_at place other)
+spawns_other other (Wait future join place) = false
+
+-- the task is deterministic, and does something that is of this kind
+pub record DoesStrictly (p : Program) (task : Decl) (decl_place : Place) (test : ActKind → Bool) : Type 0 where
+  pub point : ℕ
+  pub kind : ActKind
+  pub does : Does p task point kind
+  pub is_such : IsTrue (test kind)
+  pub strict : IsTrue task.deterministic
+  pub declared : decl_place ≡ task.place
+
+-- the cause is one of this rule, and true of what the declaration does at this place
+abbrev pub IsCauseIn : Program → ERule → Place → Decl → RuleCause → Type 0
+IsCauseIn p rule place decl (Undeclared need declared decl_place) =
+    IsTrue (is_of_needs rule) × (declared ≡ decl.summary) × (decl_place ≡ decl.place) × IsUndeclared p decl place need
+IsCauseIn p rule place decl (Out need other future_place decl_place) =
+    IsTrue (is_of_needs rule) × (decl_place ≡ decl.place) × IsOut p decl place need other future_place
+IsCauseIn p rule place decl (NotOut future_place) = (rule ≡ E4) × IsNotOut p decl place future_place
+IsCauseIn p rule place decl OutAgain = (rule ≡ E5) × IsOutAgain p decl place
+IsCauseIn p rule place decl (OrderOpen makes decl_place) =
+    (rule ≡ E6) × DoesStrictly p decl decl_place (has_open_order place makes)
+IsCauseIn p rule place decl (NotDeterministic decl_place) =
+    (rule ≡ E7) × DoesStrictly p decl decl_place (spawns_other place)
 
 -- the cause is true of what one of these declarations does at this place
-abbrev pub IsCauseOfSome : Program → List Decl → Place → RuleCause → Type 0
-IsCauseOfSome p decls place cause = (decl : Decl) × Contains decls decl × IsCauseIn p decl place cause
+abbrev pub IsCauseOfSome : Program → ERule → Place → List Decl → RuleCause → Type 0
+IsCauseOfSome p rule place decls cause = (decl : Decl) × Contains decls decl × IsCauseIn p rule place decl cause
 
--- nothing is said, or the cause is true of what a task or a method of the program does at this place
-abbrev pub IsCause : Program → Place → RuleCause → Type 0
-IsCause p place cause =
-    (cause ≡ Unsaid) ⊎ (IsCauseOfSome p p.tasks place cause ⊎ IsCauseOfSome p p.methods place cause)
+-- the cause of the rule's failure is true of what a task does at this place or, of rule E8, a method
+abbrev pub IsCause : Program → ERule → Place → RuleCause → Type 0
+IsCause p rule place cause = IsCauseOfSome p rule place (decls_for p rule) cause
+
+-- the same of a rule of any class: only rules on effects have causes
+abbrev pub IsCauseOf : Program → RuleName → Place → RuleCause → Type 0
+IsCauseOf p (Text rule) place cause = ⊥
+IsCauseOf p (Name rule) place cause = ⊥
+IsCauseOf p (Effects rule) place cause = IsCause p rule place cause

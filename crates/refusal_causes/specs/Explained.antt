@@ -8,7 +8,7 @@ use Rattle.twe_frontend.specs.Accepted.{Accepted, IsMeaningOf, IsRefusal, IsTree
 use Rattle.refusal_causes.specs.declared.cause.RuleCause.{RuleCause}
 use Rattle.refusal_causes.specs.declared.explained.Explained.{Explained}
 use Rattle.refusal_causes.specs.declared.explained.Explained.TheVariants.{Kept, Early, Late}
-use Rattle.refusal_causes.specs.Causes.{IsCause}
+use Rattle.refusal_causes.specs.Causes.{IsCauseOf}
 
 -- this is the refusal of the text, which has this tree and means this program, and the cause is true of it
 pub record IsCausedBy (text : List ℕ) (refusal : Refusal) (cause : RuleCause) (tree : Ast) (p : Program) : Type 0 where
@@ -16,7 +16,7 @@ pub record IsCausedBy (text : List ℕ) (refusal : Refusal) (cause : RuleCause) 
   pub parsed : IsTreeOf text tree
   pub meant : IsMeaningOf text p
   pub of_tree : p ≡ program_of tree
-  pub caused : IsCause p refusal.place cause
+  pub caused : IsCauseOf p refusal.rule refusal.place cause
 
 -- the text is accepted, or this is its refusal
 abbrev pub IsExplained : List ℕ → Explained → Type 0

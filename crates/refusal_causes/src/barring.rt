@@ -1,47 +1,42 @@
-//! A spawned task that bars an effect: it may be out, and has an effect that interferes.
-ghost use Rattle.std.specs.Prelude.{◌≡◌, IfOk, IfSome, IsTrue, Contains, OnOk};
-ghost use Rattle.cover_flow.specs.Flow.{IsFlowOf};
+//! A spawned task that bars one of several effects: it may be out, and has an effect that interferes.
+ghost use Rattle.std.specs.Prelude.{◌≡◌, ◌<◌, false, IfNone, IfOk, IfSome, IsTrue, Contains, OnOk};
+ghost use Rattle.std.specs.List.{All};
+ghost use Rattle.twe_program.specs.WellFormed.{DeclFits};
+ghost use Rattle.cover_flow.specs.Flow.{IsFlowOf, is_among};
 ghost use Rattle.cover_flow.specs.Out.{MayBeOut};
 ghost use Rattle.effect_sets.specs.Interference.{statically_interferes};
 ghost use Rattle.effect_check.specs.Acts.{acts_in_all};
 ghost use Rattle.effect_check.specs.Covered.{Does};
-ghost use Rattle.refusal_causes.specs.Barring.{IsSpawnBar};
+ghost use Rattle.refusal_causes.specs.Barring.{IsPair, IsSpawnBar};
+ghost use Rattle.refusal_causes.specs.inner.Keeping.{AreFreeOf, BarsNone, IsFreeOf, IsNoBar};
 
 use cover_flow::{Points, flow};
-use effect_check::{Act, ActKind, acts_of_body};
+use effect_check::{Act, ActKind};
 use effect_sets::{Effect, Summary, interferes};
 use std::alloc::Global;
 use twe_base::{Memory, Place};
 use twe_program::{Body, Decl, Prog};
 
-/// An effect of a spawned task that bars another, and the place of the future's name.
+/// An effect that is needed, one of a spawned task that bars it, and the place of the future's name.
 #[derive(Debug, Drop)]
 pub struct SpawnBar {
+    /// The effect that is needed.
+    pub need: Effect,
     /// The effect of the spawned task.
     pub other: Effect,
     /// The place of the future's name.
     pub future_place: Place,
 }
 
-/// Whether the future may be out at the point, as far as these facts of the body tell.
-fn may_be_out(points: &Points, body: &Body, point: u32, future: u32) -> bool
-    requires { IsFlowOf points.now body.now }
-    ensures { IsTrue result → MayBeOut body.now point future }
-{
-    if body.points <= point || body.futures <= future || !points.follows(future) {
-        return false;
-    }
-    points.may(point, future)
-}
-
-/// The first of the other effects that interferes with the effect.
+/// The first of the other effects that interferes with the effect, if one does.
 fn first_interfering(
     alloc: Global,
     effect: &Effect,
     others: &Summary,
 ) -> Result<Option<Effect>, Memory>
-    ensures { IfOk result (λ found. IfSome found (λ other.
+    ensures found { IfOk result (λ found. IfSome found (λ other.
         Contains others.now.effects other × IsTrue (statically_interferes effect.now other))) }
+    ensures none { IfOk result (λ found. IfNone found (IsFreeOf others.now effect.now)) }
 {
     for other in others.effects.as_slice() {
         if interferes(effect, other) {
@@ -51,50 +46,35 @@ fn first_interfering(
     Ok(None)
 }
 
-/// How this act of the task bars the effect at the point, if it is a spawn that does.
-fn bar_by(
+/// The first of the needed effects that interferes with one of the others, if one does.
+fn first_pair(
     alloc: Global,
-    p: &Prog,
-    task: &Decl,
-    points: &Points,
-    point: u32,
-    effect: &Effect,
-    act: &Act,
+    needs: &[Effect],
+    others: &Summary,
+    future_place: Place,
 ) -> Result<Option<SpawnBar>, Memory>
-    requires facts { IsFlowOf points.now task.now.body }
-    requires done { Does p.now task.now act.now.point act.now.kind }
-    ensures { IfOk result (λ found. IfSome found (IsSpawnBar p.now task.now point effect.now)) }
+    ensures found { IfOk result (λ found. IfSome found (IsPair needs.now others.now future_place)) }
+    ensures none { IfOk result (λ found. IfNone found (All (IsFreeOf others.now) needs.now)) }
 {
-    let _ = p;
-    let ActKind::Make {
-        spawned: true,
-        future,
-        effects,
-        future_place,
-        ..
-    } = &act.kind
-    else {
-        return Ok(None);
-    };
-    if !may_be_out(points, &task.body, point, *future) {
-        return Ok(None);
-    }
-    match first_interfering(alloc, effect, effects)? {
-        None => Ok(None),
-        Some(other) => {
-            let future_place = *future_place;
-            Ok(Some(SpawnBar {
+    for need in needs {
+        let interfering = first_interfering(alloc, need, others)?;
+        if let Some(other) = interfering {
+            let need = need.copy(alloc)?;
+            return Ok(Some(SpawnBar {
+                need,
                 other,
                 future_place,
-            }))
+            }));
         }
     }
+    Ok(None)
 }
 
 /// Finds new facts of the body, if these do not follow the future.
 fn follow(alloc: Global, body: &Body, points: &mut Points, future: u32) -> Result<(), Memory>
     requires { IsFlowOf points.now body.now }
-    ensures { OnOk result (IsFlowOf points.new body.now) }
+    ensures facts { OnOk result (IsFlowOf points.new body.now) }
+    ensures followed { OnOk result (IsTrue (is_among points.new.first future)) }
 {
     if !points.follows(future) {
         *points = flow(alloc, body, future)?;
@@ -102,46 +82,100 @@ fn follow(alloc: Global, body: &Body, points: &mut Points, future: u32) -> Resul
     Ok(())
 }
 
-/// How one of these acts of the task bars the effect at the point, if one does. The facts of 128 futures are found at once.
-fn bar_among(
+/// How a spawn into the future, of a task with these effects, bars one of the needed ones at the point, if it does.
+fn bar_by_spawn(
+    alloc: Global,
+    body: &Body,
+    points: &Points,
+    point: u32,
+    needs: &[Effect],
+    future: u32,
+    effects: &Summary,
+    future_place: Place,
+) -> Result<Option<SpawnBar>, Memory>
+    requires facts { IsFlowOf points.now body.now }
+    requires here { point < body.now.points }
+    requires there { future < body.now.futures }
+    requires followed { IsTrue (is_among points.now.first future) }
+    ensures found { IfOk result (λ found. IfSome found (λ bar.
+        MayBeOut body.now point future × IsPair needs.now effects.now future_place bar)) }
+    ensures none { IfOk result (λ found. IfNone found (AreFreeOf body.now point needs.now future effects.now)) }
+{
+    let _ = body;
+    if !points.may(point, future) {
+        return Ok(None);
+    }
+    first_pair(alloc, needs, effects, future_place)
+}
+
+/// How this act of the task bars one of the needed effects at the point, if it is a spawn that does.
+fn bar_by(
+    alloc: Global,
+    p: &Prog,
+    task: &Decl,
+    points: &mut Points,
+    point: u32,
+    needs: &[Effect],
+    act: &Act,
+) -> Result<Option<SpawnBar>, Memory>
+    requires facts { IsFlowOf points.now task.now.body }
+    requires fits { DeclFits p.now task.now }
+    requires here { point < task.now.body.points }
+    requires done { Does p.now task.now act.now.point act.now.kind }
+    ensures facts { OnOk result (IsFlowOf points.new task.now.body) }
+    ensures found { IfOk result (λ found. IfSome found (IsSpawnBar p.now task.now point needs.now)) }
+    ensures none { IfOk result (λ found. IfNone found (BarsNone task.now point needs.now act.now.kind)) }
+{
+    let _ = p;
+    match &act.kind {
+        ActKind::Make {
+            future,
+            spawned: true,
+            effects,
+            future_place,
+            ..
+        } => {
+            follow(alloc, &task.body, points, *future)?;
+            bar_by_spawn(
+                alloc,
+                &task.body,
+                points,
+                point,
+                needs,
+                *future,
+                effects,
+                *future_place,
+            )
+        }
+        ActKind::Make { spawned: false, .. } => Ok(None),
+        ActKind::Touch { .. } => Ok(None),
+        ActKind::Call { .. } => Ok(None),
+        ActKind::Wait { .. } => Ok(None),
+    }
+}
+
+/// How one of the task's acts bars one of the needed effects at the point, if one does. The facts of 128 futures are found
+/// at once.
+pub fn bar_among(
     alloc: Global,
     p: &Prog,
     task: &Decl,
     point: u32,
-    effect: &Effect,
+    needs: &[Effect],
     acts: &[Act],
 ) -> Result<Option<SpawnBar>, Memory>
-    requires { acts.now ≡ acts_in_all p.now task.now.body.block }
-    ensures { IfOk result (λ found. IfSome found (IsSpawnBar p.now task.now point effect.now)) }
+    requires fits { DeclFits p.now task.now }
+    requires here { point < task.now.body.points }
+    requires all { acts.now ≡ acts_in_all p.now task.now.body.block }
+    ensures found { IfOk result (λ found. IfSome found (IsSpawnBar p.now task.now point needs.now)) }
+    ensures none { IfOk result (λ found. IfNone found (All (IsNoBar task.now point needs.now) acts.now)) }
 {
     let mut points = flow(alloc, &task.body, 0)?;
     for act in acts {
-        if let ActKind::Make {
-            spawned: true,
-            future,
-            ..
-        } = &act.kind
-        {
-            follow(alloc, &task.body, &mut points, *future)?;
-        }
-        let found = bar_by(alloc, p, task, &points, point, effect, act)?;
+        let found = bar_by(alloc, p, task, &mut points, point, needs, act)?;
         if let Some(bar) = found {
             return Ok(Some(bar));
         }
     }
     Ok(None)
-}
-
-/// How a spawned task bars the effect at the point of the task, if one does.
-pub fn bar_of(
-    alloc: Global,
-    p: &Prog,
-    task: &Decl,
-    point: u32,
-    effect: &Effect,
-) -> Result<Option<SpawnBar>, Memory>
-    ensures { IfOk result (λ found. IfSome found (IsSpawnBar p.now task.now point effect.now)) }
-{
-    let acts = acts_of_body(alloc, p, &task.body.block)?;
-    bar_among(alloc, p, task, point, effect, acts.as_slice())
 }

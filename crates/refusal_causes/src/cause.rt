@@ -6,8 +6,6 @@ use twe_base::Place;
 /// Why a rule fails at its place.
 #[derive(Debug, Drop)]
 pub enum RuleCause {
-    /// Nothing is said but that the rule fails.
-    Unsaid,
     /// An effect is needed that no declared one includes.
     Undeclared {
         /// The effect that is needed.
@@ -26,6 +24,25 @@ pub enum RuleCause {
         /// The place of the future's name, where the task is spawned.
         future_place: Place,
         /// The place of the name of the task that needs the effect.
+        decl_place: Place,
+    },
+    /// On some control path to a join its future is not out.
+    NotOut {
+        /// The place of the future's name, where its task is made, if there is one.
+        future_place: Option<Place>,
+    },
+    /// On some control path to a spawn its future is out already.
+    OutAgain,
+    /// A deterministic task does something whose order is open.
+    OrderOpen {
+        /// Whether it makes a task by `executeLater`, and does not wait for one by `getValue`.
+        makes: bool,
+        /// The place of the name of the deterministic task.
+        decl_place: Place,
+    },
+    /// A deterministic task spawns one that was not declared deterministic.
+    NotDeterministic {
+        /// The place of the name of the deterministic task.
         decl_place: Place,
     },
 }

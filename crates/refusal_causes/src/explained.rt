@@ -1,6 +1,5 @@
 //! From a text to its acceptance, or to its refusal with the cause.
 ghost use Rattle.std.specs.Prelude.{◌≡◌, ◌+◌, ◌<◌, ◌^◌, length, IfOk};
-ghost use Rattle.refusal_causes.specs.Causes.{IsCause};
 ghost use Rattle.refusal_causes.specs.Explained.{IsExplained};
 ghost use Rattle.twe_names.specs.Meaning.{program_of};
 ghost use Rattle.twe_names.specs.Resolves.{ResolveHasCause};
@@ -8,11 +7,11 @@ ghost use Rattle.twe_frontend.specs.Accepted.{IsMeaningOf, IsTreeOf};
 ghost use Rattle.twe_frontend.specs.Reads.{TreeHasCause};
 
 use crate::cause::RuleCause;
-use crate::needing::cause_at;
-use effect_check::{CheckFail, ERule, check};
+use crate::searching::cause_at;
+use effect_check::{CheckFail, check};
 use std::alloc::Global;
 use twe_ast::Ast;
-use twe_base::{Memory, Place};
+use twe_base::Memory;
 use twe_frontend::{FrontFail, Refusal, RuleName, parsed_trees_are_from_texts, read_tree};
 use twe_names::{NameFail, resolve};
 use twe_program::Prog;
@@ -37,16 +36,6 @@ pub enum Explained {
     },
 }
 
-/// Why the rule on effects fails at the place.
-fn cause_of(alloc: Global, p: &Prog, rule: ERule, place: Place) -> Result<RuleCause, Memory>
-    ensures { IfOk result (IsCause p.now place) }
-{
-    match rule {
-        ERule::E1 | ERule::E2 | ERule::E3 | ERule::E8 => cause_at(alloc, p, place),
-        ERule::E4 | ERule::E5 | ERule::E6 | ERule::E7 => Ok(RuleCause::Unsaid),
-    }
-}
-
 /// What is known of a text that has this tree, and means this program.
 fn explain_program(
     alloc: Global,
@@ -63,7 +52,7 @@ fn explain_program(
     match check(alloc, &program) {
         Ok(()) => Ok(Explained::Kept),
         Err(CheckFail::Rule { rule, place }) => {
-            let cause = cause_of(alloc, &program, rule, place)?;
+            let cause = cause_at(alloc, &program, rule, place)?;
             let refusal = Refusal {
                 rule: RuleName::Effect(rule),
                 place,

@@ -1,12 +1,14 @@
 //! Why a text is refused, as data: what the rule that fails needs at its place, and what is there.
 //!
-//! Each cause comes with a clause that it is true of the text. Of the rules on effects those are explained that an effect fails.
+//! Each failure of a rule on effects has a cause, which comes with a clause that it is true of the text.
 #![tactic(auto)]
 
 mod barring;
 mod cause;
 mod explained;
 mod needing;
+mod ordering;
+mod searching;
 
 pub use cause::RuleCause;
 pub use explained::{Explained, explain};

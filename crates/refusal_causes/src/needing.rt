@@ -1,20 +1,25 @@
-//! What a declaration needs at a place, and why it does not have it there.
-ghost use Rattle.std.specs.Prelude.{◌≡◌, IfOk, IfSome};
+//! Effects that a declaration needs at a place, and why it does not have one of them there.
+ghost use Rattle.std.specs.Prelude.{◌≡◌, ◌<◌, IfNone, IfOk, IfSome, IsTrue, Contains};
 ghost use Rattle.std.specs.List.{All};
-ghost use Rattle.effect_check.specs.Covered.{Does};
-ghost use Rattle.refusal_causes.specs.Causes.{IsCause, IsCauseIn, IsCauseOfSome, NeedsAt};
-ghost use Rattle.refusal_causes.specs.Seeking.{is_at, needs_at, needs_of};
+ghost use Rattle.effect_sets.specs.Covers.{covers};
+ghost use Rattle.twe_program.specs.WellFormed.{DeclFits};
+ghost use Rattle.effect_check.specs.Acts.{acts_in_all};
+ghost use Rattle.effect_check.specs.Covered.{CoveredAt, Does};
+ghost use Rattle.refusal_causes.specs.Barring.{IsLack};
+ghost use Rattle.refusal_causes.specs.Causes.{IsCauseIn};
+ghost use Rattle.refusal_causes.specs.Seeking.{is_at, is_of_needs, needs_at, needs_of};
+ghost use Rattle.refusal_causes.specs.inner.Keeping.{IsCoveredThere, IsDeclared};
 
-use crate::barring::{SpawnBar, bar_of};
+use crate::barring::{SpawnBar, bar_among};
 use crate::cause::RuleCause;
-use effect_check::{Act, ActKind, acts_of_body};
+use effect_check::{Act, ActKind, ERule};
 use effect_sets::{Effect, Effects, Summary, covers};
 use std::alloc::Global;
 use twe_base::{Memory, Place};
 use twe_program::{Decl, Prog};
 
 /// Whether this is the other place.
-fn is_at(place: Place, other: Place) -> bool
+pub fn is_at(place: Place, other: Place) -> bool
     ensures { result ≡ is_at place other }
 {
     place.line == other.line && place.col == other.col
@@ -53,41 +58,22 @@ fn needs_of(alloc: Global, kind: &ActKind) -> Result<Effects, Memory>
     }
 }
 
-/// Why the declaration does not have the effect that it needs at the point, at this place, if that is so.
-fn cause_of_need(
+/// The first of the needed effects that no declared one includes, if there is one.
+fn first_undeclared(
     alloc: Global,
-    p: &Prog,
-    decl: &Decl,
-    place: Place,
-    point: u32,
-    need: &Effect,
-) -> Result<Option<RuleCause>, Memory>
-    requires { NeedsAt p.now decl.now point place need.now }
-    ensures { IfOk result (λ found. IfSome found (IsCauseIn p.now decl.now place)) }
+    summary: &Summary,
+    needs: &[Effect],
+) -> Result<Option<Effect>, Memory>
+    ensures found { IfOk result (λ found. IfSome found (λ need.
+        Contains needs.now need × ¬ IsTrue (covers summary.now need))) }
+    ensures none { IfOk result (λ found. IfNone found (All (IsDeclared summary.now) needs.now)) }
 {
-    let _ = place;
-    let decl_place = decl.place;
-    if !covers(&decl.summary, need) {
-        return Ok(Some(RuleCause::Undeclared {
-            need: need.copy(alloc)?,
-            declared: decl.summary.copy(alloc)?,
-            decl_place,
-        }));
+    for need in needs {
+        if !covers(summary, need) {
+            return Ok(Some(need.copy(alloc)?));
+        }
     }
-    match bar_of(alloc, p, decl, point, need)? {
-        None => Ok(None),
-        Some(
-            SpawnBar {
-                other,
-                future_place,
-            },
-        ) => Ok(Some(RuleCause::Out {
-            need: need.copy(alloc)?,
-            other,
-            future_place,
-            decl_place,
-        })),
-    }
+    Ok(None)
 }
 
 /// Why the declaration does not have one of these effects, which it needs at the point, at this place, if that is so.
@@ -95,88 +81,65 @@ fn cause_of_needs(
     alloc: Global,
     p: &Prog,
     decl: &Decl,
-    place: Place,
     point: u32,
     needs: &[Effect],
+    acts: &[Act],
 ) -> Result<Option<RuleCause>, Memory>
-    requires { All (NeedsAt p.now decl.now point place) needs.now }
-    ensures { IfOk result (λ found. IfSome found (IsCauseIn p.now decl.now place)) }
+    requires fits { DeclFits p.now decl.now }
+    requires here { point < decl.now.body.points }
+    requires all { acts.now ≡ acts_in_all p.now decl.now.body.block }
+    ensures found { IfOk result (λ found. IfSome found (IsLack p.now decl.now point needs.now)) }
+    ensures none { IfOk result (λ found. IfNone found (All (CoveredAt p.now decl.now point) needs.now)) }
 {
-    for need in needs {
-        let found = cause_of_need(alloc, p, decl, place, point, need)?;
-        if let Some(cause) = found {
-            return Ok(Some(cause));
-        }
+    let decl_place = decl.place;
+    let undeclared = first_undeclared(alloc, &decl.summary, needs)?;
+    if let Some(need) = undeclared {
+        let declared = decl.summary.copy(alloc)?;
+        return Ok(Some(RuleCause::Undeclared {
+            need,
+            declared,
+            decl_place,
+        }));
     }
-    Ok(None)
+    let barred = bar_among(alloc, p, decl, point, needs, acts)?;
+    match barred {
+        None => Ok(None),
+        Some(
+            SpawnBar {
+                need,
+                other,
+                future_place,
+            },
+        ) => Ok(Some(RuleCause::Out {
+            need,
+            other,
+            future_place,
+            decl_place,
+        })),
+    }
 }
 
 /// Why the declaration does not have one of the effects that it needs for this act, if it is done at the place.
-fn cause_of_act(
+pub fn cause_of_lack(
     alloc: Global,
     p: &Prog,
     decl: &Decl,
+    rule: ERule,
     place: Place,
     act: &Act,
+    acts: &[Act],
 ) -> Result<Option<RuleCause>, Memory>
-    requires { Does p.now decl.now act.now.point act.now.kind }
-    ensures { IfOk result (λ found. IfSome found (IsCauseIn p.now decl.now place)) }
+    requires of_needs { IsTrue (is_of_needs rule) }
+    requires done { Does p.now decl.now act.now.point act.now.kind }
+    requires fits { DeclFits p.now decl.now }
+    requires all { acts.now ≡ acts_in_all p.now decl.now.body.block }
+    ensures found { IfOk result (λ found. IfSome found (IsCauseIn p.now rule place decl.now)) }
+    ensures none { IfOk result (λ found. IfNone found (IsCoveredThere p.now decl.now place act.now)) }
 {
+    let _ = rule;
     if !needs_at(place, &act.kind) {
         return Ok(None);
     }
     let needs = needs_of(alloc, &act.kind)?;
-    cause_of_needs(alloc, p, decl, place, act.point, needs.as_slice())
-}
-
-/// Why the declaration does not have one of the effects that it needs at the place, if that is so.
-fn cause_within(
-    alloc: Global,
-    p: &Prog,
-    decl: &Decl,
-    place: Place,
-) -> Result<Option<RuleCause>, Memory>
-    ensures { IfOk result (λ found. IfSome found (IsCauseIn p.now decl.now place)) }
-{
-    let acts = acts_of_body(alloc, p, &decl.body.block)?;
-    for act in acts.as_slice() {
-        let found = cause_of_act(alloc, p, decl, place, act)?;
-        if let Some(cause) = found {
-            return Ok(Some(cause));
-        }
-    }
-    Ok(None)
-}
-
-/// The same for one of these declarations of the program.
-fn cause_in_some(
-    alloc: Global,
-    p: &Prog,
-    decls: &[Decl],
-    place: Place,
-) -> Result<Option<RuleCause>, Memory>
-    ensures { IfOk result (λ found. IfSome found (IsCauseOfSome p.now decls.now place)) }
-{
-    for decl in decls {
-        let found = cause_within(alloc, p, decl, place)?;
-        if let Some(cause) = found {
-            return Ok(Some(cause));
-        }
-    }
-    Ok(None)
-}
-
-/// Why a task or a method of the program does not have an effect that it needs at the place. If none is found, nothing is said.
-pub fn cause_at(alloc: Global, p: &Prog, place: Place) -> Result<RuleCause, Memory>
-    ensures { IfOk result (IsCause p.now place) }
-{
-    let in_tasks = cause_in_some(alloc, p, p.tasks.as_slice(), place)?;
-    if let Some(cause) = in_tasks {
-        return Ok(cause);
-    }
-    let in_methods = cause_in_some(alloc, p, p.methods.as_slice(), place)?;
-    match in_methods {
-        Some(cause) => Ok(cause),
-        None => Ok(RuleCause::Unsaid),
-    }
+    cause_of_needs(alloc, p, decl, act.point, needs.as_slice(), acts)
 }

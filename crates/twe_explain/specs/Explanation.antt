@@ -6,15 +6,11 @@ use Rattle.twe_ast.specs.declared.name.Name as written
 use Rattle.text_meaning.specs.EffectTexts.{effect_text, effects_text}
 use Rattle.twe_frontend.specs.declared.refusal.Refusal.{Refusal}
 use Rattle.refusal_causes.specs.declared.cause.RuleCause.{RuleCause}
-use Rattle.refusal_causes.specs.declared.cause.RuleCause.TheVariants.{Unsaid, Undeclared, Out}
+use Rattle.refusal_causes.specs.declared.cause.RuleCause.TheVariants.{Undeclared, Out, NotOut, OutAgain, OrderOpen, NotDeterministic}
 use Rattle.twe_explain.specs.declared.explanation.Explanation.{Explanation}
-use Rattle.twe_explain.specs.declared.explanation.Note.{Note}
 use Rattle.twe_explain.specs.Effects.{has_any_index}
 use Rattle.twe_explain.specs.Sentences.{asked, wrong}
-
--- what is said of a place
-abbrev pub note_at : Place → List ℕ → Note
-note_at place caption = record { place = place; caption = caption }
+use Rattle.twe_explain.specs.Ruled.{child_explanation, join_explanation, note_at, order_explanation, spawn_explanation}
 
 -- what every failure of a rule has: the sentences of the rule, and the place
 abbrev pub explanation_of : Refusal → Explanation
@@ -58,10 +54,13 @@ out_explanation refusal future_place has needs any_index = record {
 
 -- what is said of a refusal with its cause
 abbrev pub explanation_by : Refusal → RuleCause → List (List ℕ) → List written.Name → Explanation
-explanation_by refusal Unsaid regions variables = explanation_of refusal
 explanation_by refusal (Undeclared need declared decl_place) regions variables =
     undeclared_explanation refusal decl_place (declares_text regions variables declared.effects)
     (with_effect (codes "needs `") regions variables need) (has_any_index need.path)
 explanation_by refusal (Out need other future_place decl_place) regions variables =
     out_explanation refusal future_place (with_effect (codes "is spawned with `") regions variables other)
     (with_effect (codes "needs `") regions variables need) (has_any_index need.path || has_any_index other.path)
+explanation_by refusal (NotOut future_place) regions variables = join_explanation refusal future_place
+explanation_by refusal OutAgain regions variables = spawn_explanation refusal
+explanation_by refusal (OrderOpen makes decl_place) regions variables = order_explanation refusal makes decl_place
+explanation_by refusal (NotDeterministic decl_place) regions variables = child_explanation refusal decl_place

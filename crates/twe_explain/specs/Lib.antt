@@ -4,6 +4,7 @@ pub mod Excerpt
 pub mod Sentences
 pub mod Effects
 pub mod Variables
+pub mod Ruled
 pub mod Explanation
 pub mod Page
 pub mod Answers

@@ -7,7 +7,7 @@ use Rattle.twe_ast.specs.declared.item.Item.TheVariants.{Regions, Cell, Method, 
 use Rattle.twe_ast.specs.declared.name.Name.{Name}
 use Rattle.twe_ast.specs.Statement.{Statement, Block, Let, If, While, LetWait, Statements, end_of_block, statement, Arms, arm, otherwise, no_else}
 use Rattle.refusal_causes.specs.declared.cause.RuleCause.{RuleCause}
-use Rattle.refusal_causes.specs.declared.cause.RuleCause.TheVariants.{Unsaid, Undeclared, Out}
+use Rattle.refusal_causes.specs.declared.cause.RuleCause.TheVariants.{Undeclared, Out, NotOut, OutAgain, OrderOpen, NotDeterministic}
 
 -- the places are the same
 abbrev pub is_same_place : Place → Place → Bool
@@ -50,6 +50,9 @@ variables_at (Task deterministic decl ∷ items) place = variables_if_at decl pl
 
 -- the place of the name of the declaration that a cause speaks of, if it speaks of one
 abbrev pub place_of_cause : RuleCause → Place
-place_of_cause Unsaid = record { line = 0; col = 0 }
 place_of_cause (Undeclared need declared decl_place) = decl_place
 place_of_cause (Out need other future_place decl_place) = decl_place
+place_of_cause (NotOut future_place) = record { line = 0; col = 0 }
+place_of_cause OutAgain = record { line = 0; col = 0 }
+place_of_cause (OrderOpen makes decl_place) = decl_place
+place_of_cause (NotDeterministic decl_place) = decl_place

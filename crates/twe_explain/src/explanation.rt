@@ -1,8 +1,10 @@
 //! What is said of a refusal, before it is laid out.
 ghost use Rattle.std.specs.Prelude.{◌≡◌, ◌∷◌, [], IfOk, OnOk, ◌++◌};
-ghost use Rattle.twe_explain.specs.Explanation.{declares_text, explanation_by, explanation_of, index_remarks, note_at, out_explanation, undeclared_explanation, with_effect};
+ghost use Rattle.twe_explain.specs.Explanation.{declares_text, explanation_by, explanation_of, index_remarks, out_explanation, undeclared_explanation, with_effect};
+ghost use Rattle.twe_explain.specs.Ruled.{note_at};
 
 use crate::effects::has_any_index;
+use crate::ruled::{child_explanation, join_explanation, order_explanation, spawn_explanation};
 use crate::sentences::{asked, wrong};
 use effect_sets::Effect;
 use refusal_causes::RuleCause;
@@ -168,7 +170,6 @@ pub(crate) fn explanation_by(
     ensures { IfOk result (λ explanation. explanation ≡ explanation_by refusal cause.now regions.now variables.now) }
 {
     match cause {
-        RuleCause::Unsaid => explanation_of(alloc, refusal),
         RuleCause::Undeclared {
             need,
             declared,
@@ -189,6 +190,14 @@ pub(crate) fn explanation_by(
             let needs = with_effect(alloc, b"needs `", regions, variables, need)?;
             let any_index = has_any_index(&need.path) || has_any_index(&other.path);
             out_explanation(alloc, refusal, *future_place, has, needs, any_index)
+        }
+        RuleCause::NotOut { future_place } => join_explanation(alloc, refusal, *future_place),
+        RuleCause::OutAgain => spawn_explanation(alloc, refusal),
+        RuleCause::OrderOpen { makes, decl_place } => {
+            order_explanation(alloc, refusal, *makes, *decl_place)
+        }
+        RuleCause::NotDeterministic { decl_place } => {
+            child_explanation(alloc, refusal, *decl_place)
         }
     }
 }

@@ -7,6 +7,7 @@ mod excerpt;
 mod explanation;
 mod line;
 mod page;
+mod ruled;
 mod sentences;
 mod top;
 mod variables;

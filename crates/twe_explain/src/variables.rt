@@ -111,7 +111,9 @@ pub fn place_of_cause(cause: &RuleCause) -> Place
     ensures { result ≡ place_of_cause cause.now }
 {
     match cause {
-        RuleCause::Unsaid => Place { line: 0, col: 0 },
+        RuleCause::NotOut { .. } | RuleCause::OutAgain => Place { line: 0, col: 0 },
         RuleCause::Undeclared { decl_place, .. } | RuleCause::Out { decl_place, .. } => *decl_place,
+        RuleCause::OrderOpen { decl_place, .. } | RuleCause::NotDeterministic { decl_place } =>
+            *decl_place,
     }
 }
