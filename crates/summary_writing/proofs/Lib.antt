@@ -1,0 +1,4 @@
+pub mod Accepted
+pub mod Finding
+pub mod Taking
+pub mod Whole
