@@ -46,15 +46,6 @@ _twe_advise() {
   if ((COMP_CWORD == 1)) && [[ --json == "${COMP_WORDS[1]}"* ]]; then COMPREPLY=(--json); fi
 }
 
-_twe_draw() {
-  local form
-  COMPREPLY=()
-  ((COMP_CWORD == 1)) || return
-  for form in order trace; do
-    [[ $form != "${COMP_WORDS[1]}"* ]] || COMPREPLY+=("$form")
-  done
-}
-
 _twe_explain() {
   local current=${COMP_WORDS[COMP_CWORD]} words=' --name --lines ' word given
   COMPREPLY=()
@@ -78,6 +69,5 @@ complete -F _twe twe
 complete -F _twe_batch twe_batch
 complete -F _twe_advise twe_advise
 complete -F _twe_annotate twe_annotate
-complete -F _twe_draw twe_draw
 complete -F _twe_explain twe_explain
 complete -F _twe_other twe_infer twe_opt twe_profile

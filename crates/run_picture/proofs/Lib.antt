@@ -1,6 +1,0 @@
-pub mod Drawn
-pub mod InTime
-pub mod Links
-pub mod Shown
-pub mod Tables
-pub mod Taken

@@ -1,3 +1,0 @@
--- What only private clauses cite.
-pub mod Given
-pub mod Named
