@@ -1,0 +1,152 @@
+-- The bars of a picture stand at the earliest times.
+use Rattle.std.proofs.Common.{◌≡◌, ◌<◌, ◌≤◌, ◌+◌, inl, inr, ℕ, zero, suc, List, [], ◌∷◌, length, take, Some, refl, sym, ap, ◌∙◌, subst, arith}
+use Rattle.std.specs.Prelude.{slice_get, slice_index}
+use Rattle.std.specs.List.{sum_by}
+use Rattle.std.proofs.lemmas.List.Sums.{sum_by-cons}
+use Rattle.std.proofs.lemmas.Option.{slice_get-get_or, slice_get_within}
+use Rattle.seg_journal.specs.declared.journal.Entry.{Entry}
+use Rattle.seg_journal.specs.declared.moves.Move.{Move}
+use Rattle.twe_base.specs.Limits.{Bounds}
+use Rattle.twe_program.specs.Program.{Program}
+use Rattle.twe_machine.specs.declared.state.TaskRow.{TaskRow}
+use Rattle.twe_machine.specs.Moves.{start_of}
+use Rattle.twe_machine.specs.Runs.{counted}
+use Rattle.twe_machine.proofs.lists.Places.{below_there}
+use Rattle.twe_machine.proofs.replays.Replayed.{one_from}
+use Rattle.schedule_bounds.specs.Timetables.{AreEarliest}
+use Rattle.span_profile.specs.LeadsTo.{LeadsTo}
+use Rattle.span_profile.specs.Strands.{Strand, strands, weight_of}
+use Rattle.span_profile.specs.heaviest_chain.Chains.{Leads, weight_at}
+use Rattle.span_profile.proofs.Counted.{counted_legal}
+use Rattle.run_picture.specs.Bars.{Shows, bar_length, end_of_bars, time_at, time_found}
+use Rattle.run_picture.specs.Pictures.{IsPicture}
+use Rattle.run_picture.specs.declared.bars.Mark.{Mark}
+use Rattle.run_picture.proofs.Links.{giver_leads, previous_leads}
+use Rattle.run_picture.proofs.Shown.{IsPlacedAt, as_many, placed, shown}
+
+-- a time that is there
+time_is : (times : List ℕ) (k : ℕ) → k < length times → time_at times k ≡ slice_index times k
+time_is times k below = ap time_found (slice_get-get_or times k 0 below)
+
+from_zero : (k : ℕ) → 0 + k ≡ k
+from_zero k = omega arith
+
+-- no bar ends after the last end, and that is an end if there is a bar
+ends_within : (bars : List Mark) (most : ℕ) → ((k : ℕ) (bar : Mark) → slice_get bars k ≡ Some bar → bar.ends ≤ most) → end_of_bars bars ≤ most
+ends_within [] most each = omega arith
+ends_within (bar ∷ bars) most each =
+    let first = each 0 bar refl in
+    let rest = ends_within bars most (λ k b here. each (suc k) b here) in
+    omega (arith, first, rest)
+
+one_within : (bars : List Mark) (k : ℕ) (bar : Mark) → slice_get bars k ≡ Some bar → bar.ends ≤ end_of_bars bars
+one_within [] k bar here = absurd (cc)
+one_within (first ∷ bars) zero bar here =
+    let is : first ≡ bar = cc in
+    let same = ap (λ (b : Mark). b.ends) is in
+    omega (arith, same)
+one_within (first ∷ bars) (suc k) bar here = let rest = one_within bars k bar here in omega (arith, rest)
+
+-- bars that are as long as strands weigh are as long together
+sums_same : (number : ℕ) (all : List Strand) (bars : List Mark) → Shows number all bars → ((k : ℕ) (bar : Mark) → slice_get bars k ≡ Some bar → bar.ends ≡ bar.begins + weight_at weight_of all k)
+    → sum_by bar_length bars ≡ sum_by weight_of all
+sums_same number [] [] shows each = refl
+sums_same number [] (bar ∷ bars) shows each = absurd shows
+sums_same number (strand ∷ all) [] shows each = absurd shows
+sums_same number (strand ∷ all) (bar ∷ bars) shows each =
+    let first = each 0 bar refl in
+    let rest = sums_same (suc number) all bars shows.1 (λ k b here. each (suc k) b here) in
+    let left = sum_by-cons bar_length bar bars in
+    let right = sum_by-cons weight_of strand all in
+    omega (arith, first, rest, left, right)
+
+module _ (p : Program) (lim : Bounds) (moves : List Move) (work span : ℕ) (chain : List ℕ) (bars : List Mark) (tasks : List TaskRow) (picture : IsPicture p lim moves work span chain bars tasks) where
+  abbrev journal : List Entry
+  journal = counted picture.drawn.journal
+
+  abbrev all : List Strand
+  all = strands p lim journal
+
+  pub one_bar_each : Shows 0 all bars
+  one_bar_each =
+      subst (Shows 0 all) (sym picture.drawn.bars_are)
+      (shown p lim picture.starts picture.ends (start_of p lim) [] journal (counted_legal p lim (start_of p lim) picture.drawn.journal picture.drawn.legal))
+
+  as_long : length all ≡ length bars
+  as_long = as_many 0 all bars one_bar_each
+
+  -- the times are those of this journal
+  earliest : AreEarliest (Leads LeadsTo all) (weight_at weight_of all) (length all) span picture.starts picture.ends
+  earliest =
+      let same : picture.times.journal ≡ picture.drawn.journal =
+      one_from p lim (start_of p lim) picture.times.journal picture.drawn.journal picture.times.legal picture.drawn.legal (picture.times.has ∙ sym picture.drawn.has) in
+      subst (λ (j : List Entry). AreEarliest (Leads LeadsTo (strands p lim (counted j))) (weight_at weight_of (strands p lim (counted j))) (length (strands p lim (counted j))) span picture.starts picture.ends)
+      same picture.times.earliest
+
+  work_is : work ≡ sum_by weight_of all
+  work_is =
+      let same : picture.profile.journal ≡ picture.drawn.journal =
+      one_from p lim (start_of p lim) picture.profile.journal picture.drawn.journal picture.profile.legal picture.drawn.legal (picture.profile.has ∙ sym picture.drawn.has) in
+      picture.profile.heaviest.work_is ∙ ap (λ (j : List Entry). sum_by weight_of (strands p lim (counted j))) same
+
+  -- where a bar stands
+  place : (k : ℕ) (bar : Mark) → slice_get bars k ≡ Some bar → IsPlacedAt p lim picture.starts picture.ends (take k bars) (0 + k) bar
+  place k bar here =
+      let are = picture.drawn.bars_are in
+      subst (λ (l : List Mark). IsPlacedAt p lim picture.starts picture.ends (take k l) (0 + k) bar) (sym are)
+      (placed p lim picture.starts picture.ends (start_of p lim) [] journal k bar (sym (ap (λ (l : List Mark). slice_get l k) are) ∙ here))
+
+  below : (k : ℕ) (bar : Mark) → slice_get bars k ≡ Some bar → k < length all
+  below k bar here = let less = slice_get_within bars k bar here in let same = as_long in omega (arith, less, same)
+
+  begins_at : (k : ℕ) (bar : Mark) → slice_get bars k ≡ Some bar → bar.begins ≡ slice_index picture.starts k
+  begins_at k bar here =
+      let less = below k bar here in
+      let many = earliest.starts_count in
+      (place k bar here).begins_is ∙ (ap (time_at picture.starts) (from_zero k) ∙ time_is picture.starts k (omega (arith, less, many)))
+
+  ends_at : (k : ℕ) (bar : Mark) → slice_get bars k ≡ Some bar → bar.ends ≡ slice_index picture.ends k
+  ends_at k bar here =
+      let less = below k bar here in
+      let many = earliest.ends_count in
+      (place k bar here).ends_is ∙ (ap (time_at picture.ends) (from_zero k) ∙ time_is picture.ends k (omega (arith, less, many)))
+
+  pub weighs : (k : ℕ) (bar : Mark) → slice_get bars k ≡ Some bar → bar.ends ≡ bar.begins + weight_at weight_of all k
+  weighs k bar here =
+      let begin = begins_at k bar here in
+      let end = ends_at k bar here in
+      let takes = earliest.takes k (below k bar here) in
+      omega (arith, begin, end, takes)
+
+  pub ends_first : (i j : ℕ) (first second : Mark) → slice_get bars i ≡ Some first → slice_get bars j ≡ Some second → Leads LeadsTo all i j → first.ends ≤ second.begins
+  ends_first i j first second here there leads =
+      let end = ends_at i first here in
+      let begin = begins_at j second there in
+      let order = earliest.ordered i j (below i first here) (below j second there) leads in
+      omega (arith, end, begin, order)
+
+  within_span : end_of_bars bars ≤ span
+  within_span = ends_within bars span (λ k bar here. let end = ends_at k bar here in let most = earliest.within k (below k bar here) in omega (arith, end, most))
+
+  reaches_span : (entry : ℕ) → entry < length all → slice_index picture.ends entry ≡ span → span ≤ end_of_bars bars
+  reaches_span entry less is =
+      let many = as_long in
+      let there = below_there bars entry (omega (arith, less, many)) in
+      let end = ends_at entry there.0 there.1 in
+      let most = one_within bars entry there.0 there.1 in
+      omega (arith, is, end, most)
+
+  pub ends_at_span : end_of_bars bars ≡ span
+  ends_at_span = elim earliest.reached [
+    | inl none ↦ (let most = within_span in omega (arith, none, most))
+    | inr last ↦ (let most = within_span in let least = reaches_span last.0 last.1 last.2 in omega (arith, most, least))
+  ]
+
+  pub adds_up : sum_by bar_length bars ≡ work
+  adds_up = sums_same 0 all bars one_bar_each weighs ∙ sym work_is
+
+  pub previous_is_one : (number before : ℕ) (bar : Mark) → slice_get bars number ≡ Some bar → bar.previous ≡ Some before → Leads LeadsTo all before number
+  previous_is_one number before bar here is = previous_leads all bars one_bar_each number before bar here (sym (place number bar here).previous_is ∙ is)
+
+  pub giver_is_one : (number before : ℕ) (bar : Mark) → slice_get bars number ≡ Some bar → bar.giver ≡ Some before → Leads LeadsTo all before number
+  giver_is_one number before bar here is = giver_leads all bars one_bar_each number before bar bar.taken refl here (sym (place number bar here).giver_is ∙ is)

@@ -1,0 +1,6 @@
+pub mod Drawn
+pub mod InTime
+pub mod Links
+pub mod Shown
+pub mod Tables
+pub mod Taken

@@ -1,0 +1,3 @@
+pub mod Bars
+pub mod Pictures
+pub mod inner

@@ -1,0 +1,32 @@
+-- The picture of a list of moves.
+use Rattle.std.specs.Prelude.{◌≡◌, ℕ, List, [], map}
+use Rattle.seg_journal.specs.declared.journal.Entry.{Entry}
+use Rattle.seg_journal.specs.declared.moves.Move.{Move}
+use Rattle.seg_journal.specs.Spelling.{move_of}
+use Rattle.twe_base.specs.Limits.{Bounds}
+use Rattle.twe_program.specs.Program.{Program}
+use Rattle.twe_machine.specs.declared.state.TaskRow.{TaskRow}
+use Rattle.twe_machine.specs.Moves.{start_of}
+use Rattle.twe_machine.specs.Runs.{Legal, counted, state_after}
+use Rattle.span_profile.specs.Profiles.{HasEarliest, IsProfile}
+use Rattle.run_picture.specs.Bars.{bars_from}
+use Rattle.run_picture.specs.declared.bars.Mark.{Mark}
+
+-- The moves are those of a legal journal. There is a bar for each entry of its part that counts, at these times, and the tasks
+-- are all that the journal has made.
+pub record AreBars (p : Program) (lim : Bounds) (moves : List Move) (starts ends : List ℕ) (bars : List Mark)
+    (tasks : List TaskRow) : Type 0 where
+  pub journal : List Entry
+  pub legal : Legal p lim journal
+  pub has : map move_of journal ≡ moves
+  pub bars_are : bars ≡ bars_from p lim starts ends (start_of p lim) [] (counted journal)
+  pub tasks_are : tasks ≡ (state_after p lim journal).tasks
+
+-- the bars and the tasks of the moves, with their profile; each bar stands at the earliest times of its entry
+pub record IsPicture (p : Program) (lim : Bounds) (moves : List Move) (work span : ℕ) (chain : List ℕ)
+    (bars : List Mark) (tasks : List TaskRow) : Type 0 where
+  pub starts : List ℕ
+  pub ends : List ℕ
+  pub profile : IsProfile p lim moves work span chain
+  pub times : HasEarliest p lim moves span starts ends
+  pub drawn : AreBars p lim moves starts ends bars tasks
