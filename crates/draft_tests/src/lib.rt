@@ -7,6 +7,4 @@ mod answers;
 #[cfg(test)]
 mod held;
 #[cfg(test)]
-mod last_read;
-#[cfg(test)]
 mod passed;

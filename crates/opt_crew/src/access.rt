@@ -1,11 +1,9 @@
-//! How a worker takes the moves of a task. One of several drafts the next segment, runs the draft without a lock, and commits it; a
-//! segment that is known to be brief it runs under the lock. A single worker has the core to itself and runs every segment without
-//! a draft, since it would win nothing by running ahead.
+//! How a worker takes the moves of a task: it drafts the next segment, runs the draft without a lock, and commits it. It comes to
+//! the core under its lock, or without one if it is alone. Then it does not run ahead, since it would win nothing.
 
 use crate::kept::Kept;
 use crate::named_drafted::NamedDrafted;
-use crate::round_core::{Briefly, RoundCore};
-use crate::trail::Trail;
+use crate::round_core::{RoundCore, Tried};
 use seg_journal::End;
 use std::sync::{Mutex, Wait};
 use twe_base::Memory;
@@ -16,19 +14,23 @@ use twe_rounds::{Game, Outlook, RoundAccess, RoundName, Waiting};
 pub(crate) struct Lent<'a, N: RoundName> {
     pub game: &'a Game<'a, N>,
     pub core: &'a mut RoundCore<N>,
-    pub trail: Trail,
 }
 
 impl<'a, N: RoundName> RoundAccess for Lent<'a, N> {
     fn look(&mut self, task: u32) -> Result<Outlook, Memory> {
-        let glance = self.trail.glance(task, false);
-        self.core.look(self.game, task, glance)
+        self.core.look(self.game, task, false)
     }
 
     fn run(&mut self, task: u32) -> Result<Option<End>, Memory> {
-        let end = self.core.go_on(self.game, task)?;
-        self.trail.note(task, end);
-        Ok(end)
+        let draft = self.core.draft(self.game, task)?;
+        let Some(drafted) = NamedDrafted::run(self.game, draft)? else {
+            return Ok(None);
+        };
+        match self.core.commit(self.game, drafted)? {
+            Tried::Taken(end) => Ok(Some(end)),
+            Tried::Held(_) => Ok(None),
+            Tried::Dropped => Ok(None),
+        }
     }
 
     fn tell(&mut self, waiting: &mut Waiting) -> Result<(), Memory> {
@@ -43,22 +45,26 @@ pub(crate) struct Locked<'a, R: Wait, N: RoundName> {
     pub game: &'a Game<'a, N>,
     pub core: &'a Mutex<RoundCore<N>>,
     pub kept: Kept<N>,
-    pub trail: Trail,
 }
 
 impl<'a, R: Wait, N: RoundName> RoundAccess for Locked<'a, R, N> {
     fn look(&mut self, task: u32) -> Result<Outlook, Memory> {
-        let glance = self.trail.glance(task, !self.kept.has(task));
-        self.core.lock(self.rt).look(self.game, task, glance)
+        let ahead = !self.kept.has(task);
+        self.core.lock(self.rt).look(self.game, task, ahead)
     }
 
     fn run(&mut self, task: u32) -> Result<Option<End>, Memory> {
-        let end = match self.kept.take(task) {
-            Some(drafted) => self.hand_in(task, drafted, true)?,
-            None => self.begin(task)?,
+        let drafted = match self.kept.take(task) {
+            Some(drafted) => Some(drafted),
+            None => self.new_draft(task)?,
         };
-        self.trail.note(task, end);
-        Ok(end)
+        match drafted {
+            Some(drafted) => {
+                let tried = self.core.lock(self.rt).commit(self.game, drafted)?;
+                self.kept.sort(task, tried)
+            }
+            None => Ok(None),
+        }
     }
 
     fn tell(&mut self, waiting: &mut Waiting) -> Result<(), Memory> {
@@ -67,40 +73,9 @@ impl<'a, R: Wait, N: RoundName> RoundAccess for Locked<'a, R, N> {
 }
 
 impl<'a, R: Wait, N: RoundName> Locked<'a, R, N> {
-    /// Runs a segment of a task of which no draft is kept: under the lock if it is known to be brief, and else as a draft.
-    fn begin(&mut self, task: u32) -> Result<Option<End>, Memory> {
-        let tried = self.core.lock(self.rt).go_briefly(self.game, task)?;
-        match tried {
-            Briefly::Tried(end) => Ok(end),
-            Briefly::Unknown => self.draft(task),
-        }
-    }
-
-    /// Drafts a segment of a task, runs the draft without the lock and hands it in.
-    fn draft(&mut self, task: u32) -> Result<Option<End>, Memory> {
-        match self.new_draft(task)? {
-            Some(drafted) => self.hand_in(task, drafted, false),
-            None => Ok(None),
-        }
-    }
-
     /// A new draft of a task, which is run without the lock; `None` if the task is not ready.
     fn new_draft(&self, task: u32) -> Result<Option<NamedDrafted<N>>, Memory> {
         let draft = self.core.lock(self.rt).draft(self.game, task)?;
         NamedDrafted::run(self.game, draft)
-    }
-
-    /// Hands a draft in, which was held back before or not, and keeps it if it is held back.
-    fn hand_in(
-        &mut self,
-        task: u32,
-        drafted: NamedDrafted<N>,
-        was_held: bool,
-    ) -> Result<Option<End>, Memory> {
-        let tried = self
-            .core
-            .lock(self.rt)
-            .commit(self.game, drafted, was_held)?;
-        self.kept.sort(task, tried)
     }
 }

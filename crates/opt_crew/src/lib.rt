@@ -2,21 +2,16 @@
 //! back, and its draft enters the run later if what it has read still stands.
 //!
 //! The drafts and the core to which they are committed are those of `opt_engine`; the workers and their decks are those of
-//! `twe_rounds`. A worker drafts under the lock of the core, runs the draft without it, and commits it under the lock. A brief
-//! segment is run under the lock, without a draft.
+//! `twe_rounds`. A worker drafts under the lock of the core, runs the draft without it, and commits it under the lock.
 #![tactic(auto)]
 
 mod access;
-mod at_work;
 mod crew;
 mod kept;
-mod learned;
-mod looking;
 mod named_drafted;
 mod round_core;
 mod rounds;
 mod sharing;
-mod trail;
 
 pub use crew::OptCrew;
 pub use rounds::run_ahead;

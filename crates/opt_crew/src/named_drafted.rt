@@ -54,17 +54,6 @@ impl<N: RoundName> NamedDrafted<N> {
         self.drafted.task
     }
 
-    /// The declaration of that task.
-    pub(crate) fn decl(&self) -> u32 {
-        self.drafted.before.decl
-    }
-
-    /// The fuel that the segment took, in units.
-    pub(crate) fn cost(&self) -> u64 {
-        let after = self.drafted.after.fuel;
-        self.drafted.before.fuel.saturating_sub(after)
-    }
-
     /// The draft without its name.
     pub(crate) fn into_drafted(self) -> Drafted
         ensures same { result ≡ self }

@@ -3,17 +3,13 @@ ghost use Rattle.std.specs.Prelude.{◌≡◌, IfOk, IfSome};
 ghost use Rattle.opt_engine.specs.Drafts.{IsDraftOf};
 ghost use Rattle.opt_crew.specs.Keeping.{Keeps};
 
-use crate::at_work::AtWork;
-use crate::learned::Learned;
-use crate::looking::{decl_of, fuel_of, look_at};
 use crate::named_drafted::NamedDrafted;
-use crate::trail::Glance;
 use opt_engine::{Core, CoreRun, Draft, Verdict};
 use seg_journal::End;
 use std::alloc::Global;
 use std::marker::Model;
 use twe_base::{Limits, Memory};
-use twe_machine::State;
+use twe_machine::{State, TaskStatus};
 use twe_program::Prog;
 use twe_rounds::{Game, Outlook, RoundName, Waiting, lost};
 
@@ -24,27 +20,14 @@ pub(crate) enum Tried<N: RoundName> {
     Taken(End),
     /// Its task is held back. The draft is given back.
     Held(NamedDrafted<N>),
-    /// It has read what has another value now.
-    Changed,
-    /// It is not of the next segment of its task any more, or the run has met a fault.
+    /// It does not fit any more, or the run has met a fault.
     Dropped,
-}
-
-/// What became of a segment that is run without a draft if it is brief.
-#[derive(Drop)]
-pub(crate) enum Briefly {
-    /// It is not known to be brief.
-    Unknown,
-    /// It is known to be brief. It ran and has this end, or its moves were not legal.
-    Tried(Option<End>),
 }
 
 /// The core of a round.
 #[derive(Drop)]
 pub(crate) struct RoundCore<N: RoundName> {
     core: Core<N>,
-    learned: Learned,
-    at_work: AtWork,
 }
 
 impl<N: RoundName> Model for RoundCore<N> {
@@ -65,11 +48,8 @@ impl<N: RoundName> RoundCore<N> {
         requires named { lim ≡ N.lim }
         requires keeps { Keeps N.prog N.lim N.earlier run }
     {
-        let learned = Learned::new(alloc, run.state.cells.len());
         Ok(RoundCore {
             core: Core::of(alloc, lim, run)?,
-            learned,
-            at_work: AtWork::new(alloc),
         })
     }
 
@@ -77,125 +57,40 @@ impl<N: RoundName> RoundCore<N> {
     pub(crate) fn into_run(self) -> Option<CoreRun>
         ensures { IfSome result (Keeps N.prog N.lim N.earlier) }
     {
-        let RoundCore { core, .. } = self;
+        let RoundCore { core } = self;
         core.into_run()
     }
 
-    /// What may be done next for a task. A task that is held back may run only if the worker would draft it, and if that pays.
+    /// What may be done next for a task. A task that is held back may run only if it may run ahead.
     pub(crate) fn look(
         &self,
         game: &Game<'_, N>,
         task: u32,
-        glance: Glance,
+        ahead: bool,
     ) -> Result<Outlook, Memory> {
         let run = self.core.run().ok_or(lost())?;
         if run.state.first_fault.is_some() {
             return Ok(Outlook::Over);
         }
-        let ahead = glance.ahead && self.pays_ahead(&run.state, task);
         if !ahead && let Some(by) = self.core.bar(game.prog(), task)? {
             return Ok(Outlook::Held { by });
         }
-        if let Some(by) = self.rival(&run.state, task) {
-            return Ok(Outlook::Held { by });
-        }
-        Ok(look_at(&run.state, task, glance))
+        Ok(look_at(&run.state, task))
     }
 
-    /// A task of which a draft is being run and that would likely change what this one reads, if there is one.
-    fn rival(&self, state: &State, task: u32) -> Option<u32> {
-        let decl = decl_of(state, task)?;
-        if !self.learned.changes_often(decl) {
-            return None;
-        }
-        self.at_work.rival(state, task)
-    }
-
-    /// Whether it pays to draft a task while it is held back.
-    fn pays_ahead(&self, state: &State, task: u32) -> bool {
-        match decl_of(state, task) {
-            Some(decl) => self.learned.pays_ahead(decl),
-            None => false,
-        }
-    }
-
-    /// Whether the next segment of a task is known to be brief.
-    fn is_brief(&self, task: u32) -> bool {
-        match self.core.run() {
-            Some(run) => match decl_of(&run.state, task) {
-                Some(decl) => self.learned.is_brief(decl),
-                None => false,
-            },
-            None => false,
-        }
-    }
-
-    /// Takes the moves of the next segment of a task without a draft, if the segment is known to be brief and they are legal.
-    pub(crate) fn go_briefly(&mut self, game: &Game<'_, N>, task: u32) -> Result<Briefly, Memory> {
-        if !self.is_brief(task) {
-            return Ok(Briefly::Unknown);
-        }
-        Ok(Briefly::Tried(self.go_on(game, task)?))
-    }
-
-    /// Takes the moves of the next segment of a task without a draft, if they are legal. Returns the end of the last one.
-    pub(crate) fn go_on(&mut self, game: &Game<'_, N>, task: u32) -> Result<Option<End>, Memory> {
-        let run = self.core.run().ok_or(lost())?;
-        if run.state.first_fault.is_some() {
-            return Ok(None);
-        }
-        let before = fuel_of(&run.state, task);
-        let went = self.core.go_on(game.prog(), task)?;
-        self.learn_went(task, before, went)
-    }
-
-    /// Notes what the last segment of a task cost, if its moves were taken, and returns the end of the last of them. The task had
-    /// so much fuel before.
-    fn learn_went(
-        &mut self,
-        task: u32,
-        before: u64,
-        went: Option<u64>,
-    ) -> Result<Option<End>, Memory> {
-        let Some(number) = went else {
-            return Ok(None);
-        };
-        self.note_cost(task, before)?;
-        Ok(end_at(self.core.run(), number))
-    }
-
-    /// Notes what the last segment of a task cost, which had so much fuel before it.
-    fn note_cost(&mut self, task: u32, before: u64) -> Result<(), Memory> {
-        let Some(run) = self.core.run() else {
-            return Ok(());
-        };
-        let Some(decl) = decl_of(&run.state, task) else {
-            return Ok(());
-        };
-        let cost = before.saturating_sub(fuel_of(&run.state, task));
-        self.learned.note_cost(decl, cost)
-    }
-
-    /// A draft of the next segment of a task, which is at work from now on. `None` if the task is not ready or has a rival.
-    pub(crate) fn draft(&mut self, game: &Game<'_, N>, task: u32) -> Result<Option<Draft>, Memory>
+    /// A draft of the next segment of a task, or `None` if the task is not ready.
+    pub(crate) fn draft(&self, game: &Game<'_, N>, task: u32) -> Result<Option<Draft>, Memory>
         ensures { IfOk result (λ draft. IfSome draft (IsDraftOf N.prog)) }
     {
-        let run = self.core.run().ok_or(lost())?;
-        if self.rival(&run.state, task).is_some() {
-            return Ok(None);
-        }
-        self.at_work.begin(task)?;
         self.core.draft(game.prog(), task)
     }
 
-    /// Commits a draft, unless the run has met a fault or the task is held back. Whether it was held back before is learned from.
+    /// Commits a draft, unless the run has met a fault or the task is held back.
     pub(crate) fn commit(
         &mut self,
         game: &Game<'_, N>,
         drafted: NamedDrafted<N>,
-        was_held: bool,
     ) -> Result<Tried<N>, Memory> {
-        self.at_work.end(drafted.task());
         let run = self.core.run().ok_or(lost())?;
         if run.state.first_fault.is_some() {
             return Ok(Tried::Dropped);
@@ -203,28 +98,12 @@ impl<N: RoundName> RoundCore<N> {
         if self.core.bar(game.prog(), drafted.task())?.is_some() {
             return Ok(Tried::Held(drafted));
         }
-        let decl = drafted.decl();
-        let cost = drafted.cost();
         match self.core.commit(game.prog(), drafted.into_drafted())? {
-            Verdict::Committed { number } => {
-                self.learn_taken(decl, cost, was_held)?;
-                Ok(self.taken(number))
-            }
+            Verdict::Committed { number } => Ok(self.taken(number)),
             Verdict::Held { draft, .. } => Ok(Tried::Held(NamedDrafted::new(draft))),
             Verdict::Passed => Ok(Tried::Dropped),
-            Verdict::Changed { .. } => {
-                self.learned.note_changed(decl)?;
-                Ok(Tried::Changed)
-            }
+            Verdict::Changed { .. } => Ok(Tried::Dropped),
         }
-    }
-
-    /// Notes that a draft of a task of this declaration was taken, what its segment cost, and whether it had been held back.
-    fn learn_taken(&mut self, decl: u32, cost: u64, was_held: bool) -> Result<(), Memory> {
-        if was_held {
-            self.learned.note_kept(decl)?;
-        }
-        self.learned.note_cost(decl, cost)
     }
 
     /// Tells a worker's list which tasks have ended since it was told last.
@@ -246,4 +125,28 @@ impl<N: RoundName> RoundCore<N> {
 fn end_at(run: Option<&CoreRun>, number: u64) -> Option<End> {
     let entry = run?.journal.get(number as usize)?;
     Some(entry.end)
+}
+
+/// What may be done next for a task in this state.
+fn look_at(state: &State, task: u32) -> Outlook {
+    match state.tasks.get(task as usize) {
+        None => Outlook::Over,
+        Some(row) => match row.status {
+            TaskStatus::Made => Outlook::Runs,
+            TaskStatus::Enabled => look_on(state, task),
+            TaskStatus::Done => Outlook::Over,
+            TaskStatus::Faulted => Outlook::Over,
+        },
+    }
+}
+
+/// What may be done next for an enabled task.
+fn look_on(state: &State, task: u32) -> Outlook {
+    if task >= state.links.task_count() {
+        return Outlook::Over;
+    }
+    match state.links.awaited(task) {
+        None => Outlook::Runs,
+        Some(on) => Outlook::waits(state, on),
+    }
 }

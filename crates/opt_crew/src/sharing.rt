@@ -5,7 +5,6 @@ ghost use Rattle.opt_crew.specs.Keeping.{Keeps};
 use crate::access::{Lent, Locked};
 use crate::kept::Kept;
 use crate::round_core::RoundCore;
-use crate::trail::Trail;
 use opt_engine::CoreRun;
 use run_gates::FreeGate;
 use std::alloc::Global;
@@ -43,7 +42,6 @@ pub(crate) fn alone<N: RoundName, R: Wait>(
         let mut access = Lent {
             game: &game,
             core: &mut core,
-            trail: Trail::new(),
         };
         worker.work(rt, &mut access, &site);
     }
@@ -97,7 +95,6 @@ impl<'a, R: Wait, N: RoundName> Shared<'a, R, N> {
             game: self.game,
             core: self.core,
             kept: Kept::new(self.game.alloc()),
-            trail: Trail::new(),
         };
         let site = Site {
             gate: &FreeGate,

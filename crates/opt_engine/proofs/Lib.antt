@@ -8,4 +8,3 @@ pub mod Nexts
 pub mod Changes
 pub mod Committed
 pub mod Told
-pub mod NextMoves

@@ -54,7 +54,7 @@ pub(crate) fn take_moves(
 }
 
 /// Admits a task if it waits for its admission.
-pub(crate) fn admit_if_made(
+fn admit_if_made(
     alloc: Global,
     p: &Prog,
     lim: Limits,

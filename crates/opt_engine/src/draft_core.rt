@@ -2,14 +2,12 @@
 ghost use Rattle.std.specs.Prelude.{◌≡◌, [], Some, None, IfOk, OnErr, option_copied};
 ghost use Rattle.twe_machine.specs.Moves.{start_of};
 ghost use Rattle.opt_engine.specs.Drafts.{IsDraftedOf};
-ghost use Rattle.opt_engine.specs.NextMoves.{AnswersNext};
 ghost use Rattle.opt_engine.specs.Verdicts.{AnswersCommit, Drafts, HoldsBack, RunGoesOn, IsKept};
 
 use crate::answering::answer;
 use crate::core_run::CoreRun;
 use crate::drafts::{Draft, Drafted};
 use crate::judging::some_bar;
-use crate::next_moves::go_next;
 use crate::readiness::draft_of;
 use crate::verdict::Verdict;
 use std::alloc::Global;
@@ -128,18 +126,5 @@ impl<N: RoundName> Core<N> {
         let (after, verdict) = answer(self.alloc, p, self.lim, run, &mut self.enabled, d)?;
         self.run = Some(after);
         Ok(verdict)
-    }
-
-    /// Takes the moves of the next segment of a task without a draft, if they are legal: its admission first, if it waits for
-    /// that. Returns the number of the last entry, counted from 0, or `None` if they are not legal. Then nothing has changed.
-    pub fn go_on(&mut self, p: &Prog, t: u32) -> Result<Option<u64>, Memory>
-        requires named { p.now ≡ N.prog }
-        ensures ok { IfOk result (λ number. AnswersNext N.prog N.lim N.earlier self.old t number self.new) }
-        ensures err { OnErr result (self.new ≡ None) }
-    {
-        let run = self.run.take().ok_or(lost())?;
-        let (after, number) = go_next(self.alloc, p, self.lim, run, &mut self.enabled, t)?;
-        self.run = Some(after);
-        Ok(number)
     }
 }

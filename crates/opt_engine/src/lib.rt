@@ -12,7 +12,6 @@ mod draft_core;
 mod drafts;
 mod frames;
 mod judging;
-mod next_moves;
 mod notes;
 mod readiness;
 mod touch;
