@@ -12,7 +12,8 @@ ghost use Rattle.run_advice.specs.Speed.{IsGreedyRun, IsRunSchedule, IsRunTimeta
 /// No schedule of the entries of a run that keeps their order is shorter than the least time.
 pub fn no_workers_are_faster()
     ensures { (p : Program) (lim : Bounds) (moves : List Move) (work span workers : ℕ) (chain : List ℕ) (start : ℕ → ℕ)
-        → 0 < workers → (profile : IsProfile p lim moves work span chain) → IsRunSchedule p lim (counted profile.journal) workers start
+        → 0 < workers → (profile : IsProfile p lim moves work span chain)
+        → IsRunSchedule p lim (counted profile.journal) workers start
         → least_time work span workers ≤ run_time p lim (counted profile.journal) start }
 {}
 

@@ -59,7 +59,8 @@ pub fn who_is_made_earlier_yields()
     ensures lower { (p : Program) → IsWellFormed p → (lim : Bounds) (st : State) → IsReached p lim st → KeepsEffects p
         → (s t : ℕ) → s < t → HasStatus st s Enabled → HasStatus st t Enabled → Interfere st s t → YieldsTo st.links s t }
     ensures earlier { (p : Program) → IsWellFormed p → KeepsEffects p → (lim : Bounds) (journal : List Entry)
-        → Legal p lim journal → (s t : ℕ) → HasStatus (state_after p lim journal) s Enabled → HasStatus (state_after p lim journal) t Enabled
+        → Legal p lim journal → (s t : ℕ)
+        → HasStatus (state_after p lim journal) s Enabled → HasStatus (state_after p lim journal) t Enabled
         → Interfere (state_after p lim journal) s t → (WasEnabledBefore p lim journal s t ↔ (s < t)) }
 {}
 

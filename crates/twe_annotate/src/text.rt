@@ -177,7 +177,8 @@ fn push_meeting(
     meetings: &[Meeting],
     place: usize,
 ) -> Result<(), Memory>
-    ensures { OnOk result (text.new ≡ text.old ++ meeting_text regions.now first.now second.now meetings.now (slice_get meetings.now place)) }
+    ensures { OnOk result (text.new ≡ text.old
+        ++ meeting_text regions.now first.now second.now meetings.now (slice_get meetings.now place)) }
 {
     match meetings.get(place) {
         Some(meeting) => push_always(text, regions, first, meeting),
