@@ -1,5 +1,5 @@
 -- From what the parts of a call ensure to the cause of its answer.
-use Rattle.std.proofs.Common.{◌≡◌, ◌+◌, ap, length, ℕ, List, [], Result, Ok, Err, IfOk, refl, sym, ◌∙◌, subst}
+use Rattle.std.proofs.Common.{◌≡◌, ◌+◌, ap, length, ℕ, List, Result, Ok, Err, IfOk, sym, ◌∙◌, subst}
 use Rattle.twe_base.specs.declared.memory.Memory as out_of
 use Rattle.twe_base.specs.Limits.{Bounds}
 use Rattle.seg_journal.specs.declared.moves.Move.{Move}
@@ -16,24 +16,16 @@ use Rattle.twe_report.specs.Texts.{not_a_move_text, not_legal_text}
 use Rattle.twe_io.specs.declared.answer.Answer.{Answer}
 use Rattle.twe_io.specs.declared.status.Status.TheVariants.{Done, BadJournal}
 use Rattle.twe_io.specs.Answers.{on_err, on_out}
-use Rattle.twe_io.specs.Ends.{SourceTells, WasRead}
 use Rattle.run_advice.specs.Advice.{IsAdvice}
 use Rattle.run_advice.specs.declared.advising.Advice.{Advice}
 use Rattle.span_profile.specs.Profiles.{HasEarliest}
 use Rattle.twe_program.specs.declared.program.Decl.{Decl}
 use Rattle.twe_advise.specs.declared.paces.Pace.{Pace}
 use Rattle.twe_advise.specs.Paces.{ArePaces, worker_counts}
-use Rattle.twe_advise.specs.Answers.{AdviceCause, AdviceDue}
+use Rattle.twe_advise.specs.Answers.{AdviceDue}
 use Rattle.twe_advise.specs.declared.words.Form.{Form}
 use Rattle.twe_advise.specs.Forms.{advice_text}
-use Rattle.twe_advise.specs.Words.{words_for}
 use Rattle.twe_advise.specs.inner.Given.{AdvisedBy, AnswersEachFound, AnswersEachJournal}
-
--- the answer to a text that was read
-pub cause_given : {S : Type 0} (tells : SourceTells S) (form : Form) (before after : S) (text : List ℕ) (made : Result Answer out_of.Memory)
-    → WasRead tells before (Ok text) after → IfOk made (AdviceDue form text) → IfOk made (AdviceCause tells (words_for form) before after)
-cause_given tells form before after text (Ok answer) was due = AdviceCause.text form text refl was due
-cause_given tells form before after text (Err memory) was due = tt
 
 -- the answer to every input with this program and this journal is the answer to one of them
 pub due_accepted : (form : Form) (text program journal : List ℕ) (p : Program) (made : Result Answer out_of.Memory) → program ≡ program_part text → journal ≡ journal_part text → Accepted program p

@@ -1,4 +1,3 @@
 pub mod Causes
-pub mod Named
 pub mod Pieces
 pub mod TaskRows

@@ -1,5 +1,5 @@
 -- What the program answers, and why.
-use Rattle.std.specs.Prelude.{◌≡◌, ◌+◌, ℕ, List, Option, None, Some, Ok, length}
+use Rattle.std.specs.Prelude.{◌+◌, ℕ, List, Option, length}
 use Rattle.seg_journal.specs.declared.moves.Move.{Move}
 use Rattle.seg_journal.specs.Lines.{IsFirstBadLine}
 use Rattle.seg_journal.specs.Spelling.{Spells, head_lines}
@@ -9,15 +9,15 @@ use Rattle.twe_frontend.specs.Accepted.{Accepted, IsRefusal}
 use Rattle.twe_frontend.specs.declared.refusal.Refusal.{Refusal}
 use Rattle.twe_machine.specs.declared.legal.Why.{Why}
 use Rattle.twe_machine.specs.Replays.{IsFirstIllegal}
-use Rattle.twe_report.specs.Reading.{FailedRead}
 use Rattle.twe_report.specs.Texts.{not_a_move_text, not_legal_text, refusal_text}
 use Rattle.text_answers.specs.Answers.{default_limits, limits_with}
 use Rattle.text_answers.specs.Input.{journal_part, program_part}
-use Rattle.twe_io.specs.Ends.{Ends, EndsTell, SourceTells, WasRead}
+use Rattle.text_programs.specs.Causes.{TextCause}
+use Rattle.twe_io.specs.Ends.{Ends, EndsTell, SourceTells}
 use Rattle.twe_io.specs.Answers.{IsAnswered, on_err, on_out}
 use Rattle.twe_io.specs.declared.answer.Answer.{Answer}
 use Rattle.twe_io.specs.declared.status.Status.{Status}
-use Rattle.twe_io.specs.declared.status.Status.TheVariants.{Done, Refused, Usage, BadJournal}
+use Rattle.twe_io.specs.declared.status.Status.TheVariants.{Done, Refused, BadJournal}
 use Rattle.span_profile.specs.Profiles.{HasEarliest}
 use Rattle.run_advice.specs.Advice.{IsAdvice}
 use Rattle.run_advice.specs.declared.totals.TaskWork.{TaskWork}
@@ -25,7 +25,7 @@ use Rattle.twe_advise.specs.declared.words.Form.{Form}
 use Rattle.twe_advise.specs.declared.paces.Pace.{Pace}
 use Rattle.twe_advise.specs.Forms.{advice_text}
 use Rattle.twe_advise.specs.Paces.{ArePaces, worker_counts}
-use Rattle.twe_advise.specs.Words.{IsFormMeaning, advise_usage_text}
+use Rattle.twe_advise.specs.Words.{advise_usage_text, form_of}
 
 -- The answer to an input, in this form: to the text of a program, and after the first line that is exactly `%%` the text of a
 -- journal. The limits are those of the journal's head, or the default ones.
@@ -48,18 +48,9 @@ pub data AdviceDue (form : Form) (text : List ℕ) : Answer → Type 0 where
   -- the text of the program is refused
   refused : (r : Refusal) → IsRefusal (program_part text) r → AdviceDue form text (on_err Refused (refusal_text r))
 
--- Why the program gives an answer, before it writes anything.
-pub data AdviceCause {S : Type 0} (tells : SourceTells S) (words : List (List ℕ)) (before after : S) : Answer → Type 0 where
-  -- the source gave a text, and this is the answer to it
-  text : {answer : Answer} (form : Form) (bytes : List ℕ) → IsFormMeaning words (Some form)
-      → WasRead tells before (Ok bytes) after
-      → AdviceDue form bytes answer
-      → AdviceCause tells words before after answer
-  -- a read failed, or the source has more bytes than a text may have
-  not_read : {answer : Answer} (form : Form) → IsFormMeaning words (Some form) → FailedRead tells before after answer
-      → AdviceCause tells words before after answer
-  -- the words ask for nothing, and nothing is read
-  usage : IsFormMeaning words None → after ≡ before → AdviceCause tells words before after (on_err Usage advise_usage_text)
+-- why the program gives an answer, before it writes anything
+abbrev pub AdviceCause : {S : Type 0} → SourceTells S → List (List ℕ) → S → S → Answer → Type 0
+AdviceCause tells words = TextCause form_of advise_usage_text AdviceDue tells words
 
 -- what a call of the program comes to: an answer that has its cause is written; or memory runs out, and nothing is written
 abbrev pub IsAdvised : {S O E : Type 0} → EndsTell S O E → List (List ℕ) → Ends S O E → Ends S O E → Status → Type 0

@@ -2,9 +2,11 @@
 //! text of a journal. It writes how parallel the run was, the least time with more workers, and what its tasks took.
 #![tactic(auto)]
 
+mod answering;
 mod forms;
 mod json;
 mod paces;
+mod program;
 mod text;
 mod top;
 mod words;

@@ -1,7 +1,6 @@
 //! The words after the program's name.
 ghost use Rattle.std.specs.Prelude.{◌≡◌};
-ghost use Rattle.twe_advise.specs.Words.{IsFormMeaning};
-ghost use Rattle.twe_advise.specs.inner.Named.{form_in, form_named};
+ghost use Rattle.twe_advise.specs.Words.{form_named, form_of};
 
 use twe_base::Word;
 
@@ -16,14 +15,7 @@ pub enum Form {
 
 /// What the words ask for: none asks for tables, and `--json` alone for JSON. Other words ask for nothing.
 pub(crate) fn form_of(words: &[Word]) -> Option<Form>
-    ensures { IsFormMeaning words.now result }
-{
-    form_in(words)
-}
-
-/// The same, word after word.
-fn form_in(words: &[Word]) -> Option<Form>
-    ensures { result ≡ form_in words.now }
+    ensures { result ≡ form_of words.now }
 {
     match words {
         [] => Some(Form::Tables),
@@ -32,7 +24,7 @@ fn form_in(words: &[Word]) -> Option<Form>
     }
 }
 
-/// What this one word asks for.
+/// What one word asks for.
 fn form_named(word: &Word) -> Option<Form>
     ensures { result ≡ form_named word.now }
 {

@@ -1,5 +1,5 @@
 -- What the program answers, and why.
-use Rattle.std.specs.Prelude.{◌≡◌, ℕ, List, None, Some, Ok}
+use Rattle.std.specs.Prelude.{ℕ, List}
 use Rattle.twe_ast.specs.declared.item.Ast.{Ast}
 use Rattle.twe_program.specs.Program.{Program}
 use Rattle.twe_frontend.specs.declared.refusal.Refusal.{Refusal}
@@ -7,11 +7,11 @@ use Rattle.twe_frontend.specs.Accepted.{Accepted, IsRefusal}
 use Rattle.refusal_causes.specs.declared.cause.RuleCause.{RuleCause}
 use Rattle.refusal_causes.specs.Explained.{IsCausedBy}
 use Rattle.twe_report.specs.Texts.{accepted_text}
-use Rattle.twe_report.specs.Reading.{FailedRead}
+use Rattle.text_programs.specs.Causes.{TextCause}
 use Rattle.twe_io.specs.declared.answer.Answer.{Answer}
 use Rattle.twe_io.specs.declared.status.Status.{Status}
-use Rattle.twe_io.specs.declared.status.Status.TheVariants.{Done, Refused, Usage}
-use Rattle.twe_io.specs.Ends.{Ends, EndsTell, SourceTells, WasRead}
+use Rattle.twe_io.specs.declared.status.Status.TheVariants.{Done, Refused}
+use Rattle.twe_io.specs.Ends.{Ends, EndsTell, SourceTells}
 use Rattle.twe_io.specs.Answers.{IsAnswered, on_err, on_out}
 use Rattle.twe_explain.specs.Explanation.{explanation_by, explanation_of}
 use Rattle.twe_explain.specs.declared.explanation.Explanation.{Explanation}
@@ -35,19 +35,9 @@ pub data ExplainDue (wanted : Wanted) (text : List ℕ) : Answer → Type 0 wher
   caused : (refusal : Refusal) (cause : RuleCause) (tree : Ast) (p : Program) → IsCausedBy text refusal cause tree p
       → ExplainDue wanted text (on_out Refused (refused_text wanted text refusal (caused_explanation refusal cause tree p)))
 
--- Why the program gives an answer, before it writes anything.
-pub data ExplainCause {S : Type 0} (tells : SourceTells S) (words : List (List ℕ)) (before after : S)
-    : Answer → Type 0 where
-  -- the words ask for nothing that the program does, and nothing is read
-  usage : wish_of words ≡ None → after ≡ before
-      → ExplainCause tells words before after (on_err Usage explain_usage_text)
-  -- a read failed, or the source has more bytes than a text may have
-  not_read : {answer : Answer} (wanted : Wanted) → wish_of words ≡ Some wanted → FailedRead tells before after answer
-      → ExplainCause tells words before after answer
-  -- the source gave a text, and this is the answer to it
-  text : {answer : Answer} (wanted : Wanted) (bytes : List ℕ) → wish_of words ≡ Some wanted
-      → WasRead tells before (Ok bytes) after → ExplainDue wanted bytes answer
-      → ExplainCause tells words before after answer
+-- why the program gives an answer, before it writes anything
+abbrev pub ExplainCause : {S : Type 0} → SourceTells S → List (List ℕ) → S → S → Answer → Type 0
+ExplainCause tells words = TextCause wish_of explain_usage_text ExplainDue tells words
 
 -- what a call of the program comes to: an answer that has its cause is written; or memory runs out, and nothing is written
 abbrev pub AnswersExplain : {S O E : Type 0} → EndsTell S O E → List (List ℕ) → Ends S O E → Ends S O E → Status

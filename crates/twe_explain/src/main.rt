@@ -2,11 +2,13 @@
 //! writes the answer of `twe check` with the place, the line of the text, and what the rule asks.
 #![tactic(auto)]
 
+mod answering;
 mod effects;
 mod excerpt;
 mod explanation;
 mod line;
 mod page;
+mod program;
 mod ruled;
 mod sentences;
 mod top;

@@ -1,6 +1,5 @@
 pub mod Ascending
 pub mod Blanks
-pub mod Causes
 pub mod Inserting
 pub mod OneAnswer
 pub mod OneLine

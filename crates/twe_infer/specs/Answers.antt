@@ -1,5 +1,5 @@
 -- What the program answers, and why.
-use Rattle.std.specs.Prelude.{◌≡◌, ◌<◌, ℕ, List, [], ◌∷◌, Some, Ok, slice_get}
+use Rattle.std.specs.Prelude.{◌≡◌, ℕ, List, Option, Some, slice_get}
 use Rattle.twe_ast.specs.declared.item.Ast.{Ast}
 use Rattle.effect_sets.specs.declared.effects.Summary.{Summary}
 use Rattle.twe_program.specs.declared.program.Decl.{Decl}
@@ -8,13 +8,14 @@ use Rattle.effect_infer.specs.declared.fail.InferFail.TheVariants as fails
 use Rattle.effect_infer.specs.Inferred.{AreLeast, InferHasCause}
 use Rattle.twe_frontend.specs.declared.refusal.Refusal.{Refusal}
 use Rattle.twe_report.specs.Texts.{refusal_text}
-use Rattle.twe_report.specs.Reading.{FailedRead}
 use Rattle.twe_io.specs.declared.answer.Answer.{Answer}
 use Rattle.twe_io.specs.declared.status.Status.{Status}
-use Rattle.twe_io.specs.declared.status.Status.TheVariants.{Done, Refused, Usage, TooMany}
-use Rattle.twe_io.specs.Ends.{Ends, EndsTell, SourceTells, WasRead}
+use Rattle.twe_io.specs.declared.status.Status.TheVariants.{Done, Refused, TooMany}
+use Rattle.twe_io.specs.Ends.{Ends, EndsTell, SourceTells}
 use Rattle.twe_io.specs.Answers.{IsAnswered, on_err, on_out}
 use Rattle.text_meaning.specs.Meaning.{TextMeans, IsRefusedBefore}
+use Rattle.text_programs.specs.Causes.{TextCause, without_words}
+use Rattle.twe_infer.specs.declared.program.Inferring.{Inferring}
 use Rattle.twe_infer.specs.Texts.{summary_lines_of, infer_usage_text, too_many_text}
 
 -- The answer to a text that was read. Of the rules, only those of the text and of names count.
@@ -29,19 +30,13 @@ pub data InferDue (text : List ℕ) : Answer → Type 0 where
   inferred : (tree : Ast) (p : Program) (summaries : List Summary) → TextMeans text tree p → AreLeast p summaries
       → InferDue text (on_out Done (summary_lines_of p.regions summaries tree.items))
 
--- Why the program gives an answer, before it writes anything.
-pub data InferCause {S : Type 0} (tells : SourceTells S) (words : List (List ℕ)) (before after : S)
-    : Answer → Type 0 where
-  -- there is a word, and nothing is read
-  usage : (first : List ℕ) (others : List (List ℕ)) → words ≡ first ∷ others → after ≡ before
-      → InferCause tells words before after (on_err Usage infer_usage_text)
-  -- a read failed, or the source has more bytes than a text may have
-  not_read : {answer : Answer} → words ≡ [] → FailedRead tells before after answer
-      → InferCause tells words before after answer
-  -- the source gave a text, and this is the answer to it
-  text : {answer : Answer} (bytes : List ℕ) → words ≡ [] → WasRead tells before (Ok bytes) after
-      → InferDue bytes answer
-      → InferCause tells words before after answer
+-- the program takes no words
+abbrev pub infer_words : List (List ℕ) → Option Inferring
+infer_words words = without_words (record {}) words
+
+-- why the program gives an answer, before it writes anything
+abbrev pub InferCause : {S : Type 0} → SourceTells S → List (List ℕ) → S → S → Answer → Type 0
+InferCause tells words = TextCause infer_words infer_usage_text (λ _. InferDue) tells words
 
 -- what a call of the program comes to: an answer that has its cause is written; or memory runs out, and nothing is written
 abbrev pub AnswersInfer : {S O E : Type 0} → EndsTell S O E → List (List ℕ) → Ends S O E → Ends S O E → Status

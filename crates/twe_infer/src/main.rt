@@ -2,8 +2,10 @@
 //! writes a line for each method.
 #![tactic(auto)]
 
+mod answering;
 mod laws;
 mod order;
+mod program;
 #[cfg(test)]
 mod tests;
 mod text;

@@ -114,13 +114,6 @@ pub(crate) fn lines_of(
     Ok(text)
 }
 
-/// The usage line.
-pub(crate) fn usage_text(alloc: Global) -> Result<Bytes, Memory>
-    ensures { IfOk result (λ text. text ≡ texts.infer_usage_text) }
-{
-    Bytes::from_slice(alloc, b"usage: twe_infer\n")
-}
-
 /// The line for a method whose least summary would have more than 8 effects.
 pub(crate) fn too_many_text(alloc: Global, name: &Word) -> Result<Bytes, Memory>
     ensures { IfOk result (λ text. text ≡ texts.too_many_text name.now) }

@@ -1,0 +1,31 @@
+//! The program, as its words ask for it.
+ghost use Rattle.twe_advise.specs.Answers.{AdviceDue};
+ghost use Rattle.twe_advise.specs.Words.{advise_usage_text, form_of};
+
+use crate::answering::answer_text;
+use crate::text::usage_text;
+use crate::words::{Form, form_of};
+use std::alloc::Global;
+use text_programs::TextProgram;
+use twe_base::{Bytes, Memory, Word};
+use twe_io::Answer;
+
+impl TextProgram for Form {
+    ghost asked = { form_of };
+
+    ghost usage = { advise_usage_text };
+
+    ghost due = { AdviceDue };
+
+    fn of_words(_: Global, words: &[Word]) -> Result<Option<Self>, Memory> {
+        Ok(form_of(words))
+    }
+
+    fn usage_text(alloc: Global) -> Result<Bytes, Memory> {
+        usage_text(alloc)
+    }
+
+    fn answer_text(&self, alloc: Global, text: &[u8]) -> Result<Answer, Memory> {
+        answer_text(alloc, *self, text)
+    }
+}
