@@ -1,14 +1,32 @@
 //! The program, as its words ask for it.
-ghost use Rattle.twe_advise.specs.Answers.{AdviceDue};
+ghost use Rattle.twe_advise.specs.Answers.{AdviceDue, AdviceGiven};
 ghost use Rattle.twe_advise.specs.Words.{advise_usage_text, form_of};
 
-use crate::answering::answer_text;
+use crate::answering::advice_answer;
 use crate::text::usage_text;
 use crate::words::{Form, form_of};
+use journal_programs::{JournalProgram, answer_with_journal};
+use seg_journal::{Limits, Move};
 use std::alloc::Global;
 use text_programs::TextProgram;
 use twe_base::{Bytes, Memory, Word};
 use twe_io::Answer;
+use twe_machine::ReplayFail;
+use twe_program::Prog;
+
+impl JournalProgram for Form {
+    ghost gives = { AdviceGiven };
+
+    fn answer_moves(
+        &self,
+        alloc: Global,
+        p: &Prog,
+        lim: Limits,
+        moves: &[Move],
+    ) -> Result<Answer, ReplayFail> {
+        advice_answer(alloc, *self, p, lim, moves)
+    }
+}
 
 impl TextProgram for Form {
     ghost asked = { form_of };
@@ -26,6 +44,6 @@ impl TextProgram for Form {
     }
 
     fn answer_text(&self, alloc: Global, text: &[u8]) -> Result<Answer, Memory> {
-        answer_text(alloc, *self, text)
+        answer_with_journal(alloc, self, text)
     }
 }

@@ -1,17 +1,35 @@
 //! The program, as its words ask for it.
-ghost use Rattle.twe_profile.specs.Answers.{ProfileDue, profile_words};
+ghost use Rattle.twe_profile.specs.Answers.{ProfileDue, ProfileGiven, profile_words};
 ghost use Rattle.twe_profile.specs.Texts.{profile_usage_text};
 
-use crate::answering::answer_text;
+use crate::answering::profile_answer;
 use crate::text::usage_text;
+use journal_programs::{JournalProgram, answer_with_journal};
+use seg_journal::{Limits, Move};
 use std::alloc::Global;
 use text_programs::{TextProgram, without_words};
 use twe_base::{Bytes, Memory, Word};
 use twe_io::Answer;
+use twe_machine::ReplayFail;
+use twe_program::Prog;
 
 /// The profile of a journal: the one thing that the program writes.
 #[derive(Clone, Copy, Debug)]
 pub struct Profiling;
+
+impl JournalProgram for Profiling {
+    ghost gives = { λ _. ProfileGiven };
+
+    fn answer_moves(
+        &self,
+        alloc: Global,
+        p: &Prog,
+        lim: Limits,
+        moves: &[Move],
+    ) -> Result<Answer, ReplayFail> {
+        profile_answer(alloc, p, lim, moves)
+    }
+}
 
 impl TextProgram for Profiling {
     ghost asked = { profile_words };
@@ -29,6 +47,6 @@ impl TextProgram for Profiling {
     }
 
     fn answer_text(&self, alloc: Global, text: &[u8]) -> Result<Answer, Memory> {
-        answer_text(alloc, text)
+        answer_with_journal(alloc, self, text)
     }
 }

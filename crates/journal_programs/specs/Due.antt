@@ -1,0 +1,36 @@
+-- The answer to a text and a journal.
+use Rattle.std.specs.Prelude.{◌+◌, ℕ, List, Option, length}
+use Rattle.seg_journal.specs.declared.moves.Move.{Move}
+use Rattle.seg_journal.specs.Lines.{IsFirstBadLine}
+use Rattle.seg_journal.specs.Spelling.{Spells, head_lines}
+use Rattle.twe_base.specs.Limits.{Bounds}
+use Rattle.twe_program.specs.Program.{Program}
+use Rattle.twe_frontend.specs.Accepted.{Accepted, IsRefusal}
+use Rattle.twe_frontend.specs.declared.refusal.Refusal.{Refusal}
+use Rattle.twe_machine.specs.declared.legal.Why.{Why}
+use Rattle.twe_machine.specs.Replays.{IsFirstIllegal}
+use Rattle.twe_report.specs.Texts.{not_a_move_text, not_legal_text, refusal_text}
+use Rattle.text_answers.specs.Answers.{default_limits, limits_with}
+use Rattle.text_answers.specs.Input.{journal_part, program_part}
+use Rattle.twe_io.specs.Answers.{on_err}
+use Rattle.twe_io.specs.declared.answer.Answer.{Answer}
+use Rattle.twe_io.specs.declared.status.Status.TheVariants.{Refused, BadJournal}
+
+-- The answer to an input: to the text of a program, and after the first line that is exactly `%%` the text of a journal. `Gives`
+-- says which answer is due to legal moves. The limits are those of the journal's head, or the default ones.
+pub data JournalDue (Gives : Program → Bounds → List Move → Answer → Type 0) (input : List ℕ) : Answer → Type 0 where
+  -- the text of the program is refused
+  refused : (r : Refusal) → IsRefusal (program_part input) r → JournalDue Gives input (on_err Refused (refusal_text r))
+  -- line n of the journal is the first that is neither a head on line 1 nor a move
+  not_a_move : (p : Program) (n : ℕ) → Accepted (program_part input) p → IsFirstBadLine (journal_part input) n
+      → JournalDue Gives input (on_err BadJournal (not_a_move_text n))
+  -- each line is one, and move n is the first that is not legal
+  not_legal : (p : Program) (head : Option Bounds) (moves : List Move) (n : ℕ) (why : Why)
+      → Accepted (program_part input) p → Spells (journal_part input) head moves
+      → IsFirstIllegal p (limits_with head default_limits) moves n why
+      → JournalDue Gives input (on_err BadJournal (not_legal_text (length (head_lines head) + n)))
+  -- the program is accepted, each move is legal, and this is the answer to them
+  given : {answer : Answer} (p : Program) (head : Option Bounds) (moves : List Move)
+      → Accepted (program_part input) p → Spells (journal_part input) head moves
+      → Gives p (limits_with head default_limits) moves answer
+      → JournalDue Gives input answer
