@@ -1,5 +1,5 @@
 -- Why a program that reads one text gives an answer.
-use Rattle.std.specs.Prelude.{◌≡◌, ℕ, List, [], ◌∷◌, Option, None, Some, Ok}
+use Rattle.std.specs.Prelude.{◌≡◌, ℕ, List, [], ◌∷◌, Option, None, Some, Ok, bytes_eq, if◌then◌else◌}
 use Rattle.twe_io.specs.declared.answer.Answer.{Answer}
 use Rattle.twe_io.specs.declared.status.Status.TheVariants.{Usage}
 use Rattle.twe_io.specs.Answers.{on_err}
@@ -10,6 +10,12 @@ use Rattle.twe_report.specs.Reading.{FailedRead}
 abbrev pub without_words : {W : Type 0} → W → List (List ℕ) → Option W
 without_words program [] = Some program
 without_words program (first ∷ others) = None
+
+-- no words ask for one thing, and this word alone for another
+abbrev pub by_word : {W : Type 0} → W → List ℕ → W → List (List ℕ) → Option W
+by_word plain name named [] = Some plain
+by_word plain name named (word ∷ []) = if bytes_eq word name then Some named else None
+by_word plain name named (word ∷ next ∷ others) = None
 
 -- Why the program gives an answer, before it writes anything. `asked` says what words ask for, `usage` is the usage line, and
 -- `Due` says which answer is due to a text if the words ask for this.

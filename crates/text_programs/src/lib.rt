@@ -4,5 +4,5 @@
 mod program;
 mod run;
 
-pub use program::{TextProgram, without_words};
+pub use program::{TextProgram, by_word, without_words};
 pub use run::run_text_program;

@@ -1,6 +1,6 @@
 //! What a program is that reads one text.
 ghost use Rattle.std.specs.Prelude.{◌≡◌, ◌≤◌, ℕ, List, Option, length, IfOk};
-ghost use Rattle.text_programs.specs.Causes.{without_words};
+ghost use Rattle.text_programs.specs.Causes.{by_word, without_words};
 ghost use Rattle.twe_base.specs.Language.{max_text_bytes};
 ghost use Rattle.twe_io.specs.declared.answer.Answer.{Answer};
 
@@ -42,5 +42,22 @@ pub fn without_words<P: Drop>(words: &[Word], program: P) -> Option<P>
     match words {
         [] => Some(program),
         [_, ..] => None,
+    }
+}
+
+/// One program if there are no words, and another if there is exactly this word.
+pub fn by_word<P: Drop>(words: &[Word], plain: P, name: &[u8], named: P) -> Option<P>
+    ensures { result ≡ by_word plain name.now named words.now }
+{
+    match words {
+        [] => Some(plain),
+        [word] => {
+            if word.as_bytes() == name {
+                Some(named)
+            } else {
+                None
+            }
+        }
+        _ => None,
     }
 }

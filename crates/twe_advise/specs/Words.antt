@@ -1,17 +1,12 @@
 -- What the words ask for.
-use Rattle.std.specs.Prelude.{ℕ, List, [], ◌∷◌, Option, None, Some, codes, bytes_eq, if◌then◌else◌}
+use Rattle.std.specs.Prelude.{ℕ, List, Option, codes}
+use Rattle.text_programs.specs.Causes.{by_word}
 use Rattle.twe_advise.specs.declared.words.Form.{Form}
 use Rattle.twe_advise.specs.declared.words.Form.TheVariants.{Tables, Json}
 
--- what one word asks for: `--json` for JSON, and another for nothing
-abbrev pub form_named : List ℕ → Option Form
-form_named word = if bytes_eq word (codes "--json") then Some Json else None
-
--- what the words ask for: none for tables, and one word for what it asks for
+-- what the words ask for: none for tables, and `--json` alone for JSON
 abbrev pub form_of : List (List ℕ) → Option Form
-form_of [] = Some Tables
-form_of (word ∷ []) = form_named word
-form_of (word ∷ next ∷ others) = None
+form_of words = by_word Tables (codes "--json") Json words
 
 -- the usage line of `twe_advise`
 abbrev pub advise_usage_text : List ℕ

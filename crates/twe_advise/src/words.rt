@@ -1,7 +1,8 @@
 //! The words after the program's name.
 ghost use Rattle.std.specs.Prelude.{◌≡◌};
-ghost use Rattle.twe_advise.specs.Words.{form_named, form_of};
+ghost use Rattle.twe_advise.specs.Words.{form_of};
 
+use text_programs::by_word;
 use twe_base::Word;
 
 /// How the advice is written.
@@ -17,20 +18,5 @@ pub enum Form {
 pub(crate) fn form_of(words: &[Word]) -> Option<Form>
     ensures { result ≡ form_of words.now }
 {
-    match words {
-        [] => Some(Form::Tables),
-        [word] => form_named(word),
-        _ => None,
-    }
-}
-
-/// What one word asks for.
-fn form_named(word: &Word) -> Option<Form>
-    ensures { result ≡ form_named word.now }
-{
-    if word.as_bytes() == b"--json".as_slice() {
-        Some(Form::Json)
-    } else {
-        None
-    }
+    by_word(words, Form::Tables, b"--json", Form::Json)
 }
