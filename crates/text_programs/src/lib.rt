@@ -3,6 +3,8 @@
 
 mod program;
 mod run;
+#[cfg(test)]
+mod tests;
 
 pub use program::{TextProgram, by_word, without_words};
 pub use run::run_text_program;

@@ -6,8 +6,6 @@ mod answering;
 mod laws;
 mod order;
 mod program;
-#[cfg(test)]
-mod tests;
 mod text;
 mod top;
 

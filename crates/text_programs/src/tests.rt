@@ -1,17 +1,45 @@
-//! What no run of the program shows: ends that fail. The rest is in `tests/twe_infer/`.
-use crate::top::infer_top;
+//! What no run of a program shows: ends that fail.
+ghost use Rattle.std.specs.Prelude.{◌≡◌, codes};
+ghost use Rattle.text_programs.specs.Causes.{without_words};
+ghost use Rattle.twe_io.specs.Answers.{on_out};
+ghost use Rattle.twe_io.specs.declared.status.Status.TheVariants.{Done};
+
+use crate::program::{TextProgram, without_words};
+use crate::run::run_text_program;
 use std::alloc::Global;
 use std::test::Fail;
 use twe_base::{Bytes, Calls, Memory, Word};
-use twe_io::{MemSink, MemSource};
+use twe_io::{Answer, MemSink, MemSource, Status};
 
-const TEXT: &[u8] = b"void f() pure { }\ntask void main() pure { }\n";
+const TEXT: &[u8] = b"a text\n";
 
-const LINE: &[u8] = b"f: pure\n";
-
-const USAGE: &[u8] = b"usage: twe_infer\n";
+const USAGE: &[u8] = b"usage: echo\n";
 
 const READ_FAULT: &[u8] = b"read fault\n";
+
+/// A program that writes the text that it reads.
+#[derive(Clone, Copy, Debug)]
+struct Echo;
+
+impl TextProgram for Echo {
+    ghost asked = { λ words. without_words (record {}) words };
+
+    ghost usage = { codes "usage: echo\n" };
+
+    ghost due = { λ _ text answer. answer ≡ on_out Done text };
+
+    fn of_words(_: Global, words: &[Word]) -> Result<Option<Self>, Memory> {
+        Ok(without_words(words, Echo))
+    }
+
+    fn usage_text(alloc: Global) -> Result<Bytes, Memory> {
+        Bytes::from_slice(alloc, b"usage: echo\n")
+    }
+
+    fn answer_text(&self, alloc: Global, text: &[u8]) -> Result<Answer, Memory> {
+        Ok(Answer::on_out(alloc, Status::Done, Bytes::from_slice(alloc, text)?))
+    }
+}
 
 /// What one call came to.
 #[derive(Drop)]
@@ -36,8 +64,18 @@ fn call(alloc: Global, word: bool, src: u64, out: u64, err: u64) -> Result<Ended
     let mut src = MemSource::new(text, 1, Calls::from_slice(alloc, &[src])?);
     let mut out = end(alloc, out)?;
     let mut err = end(alloc, err)?;
-    let status = infer_top(alloc, words.as_slice(), &mut src, &mut out, &mut err).code();
-    Ok(Ended { status, out, err })
+    let status = run_text_program::<Echo, MemSource, MemSink, MemSink>(
+        alloc,
+        words.as_slice(),
+        &mut src,
+        &mut out,
+        &mut err,
+    );
+    Ok(Ended {
+        status: status.code(),
+        out,
+        err,
+    })
 }
 
 #[test]
@@ -48,13 +86,13 @@ fn ends_that_fail_at_any_call_are_faults(rt: HostRuntime) -> Result<(), Fail> {
         let ended = call(rt.alloc(), false, at, 0, 0)?;
         let fails = at <= calls;
         assert_eq!(rt; ended.status, if fails { 5 } else { 0 });
-        assert_eq!(rt; ended.out.bytes(), if fails { b"" } else { LINE });
+        assert_eq!(rt; ended.out.bytes(), if fails { b"" } else { TEXT });
         assert_eq!(rt; ended.err.bytes(), if fails { READ_FAULT } else { b"" });
     }
-    for at in 1..LINE.len() + 2 {
+    for at in 1..TEXT.len() + 2 {
         let ended = call(rt.alloc(), false, 0, at as u64, 0)?;
-        assert_eq!(rt; ended.status, if at <= LINE.len() { 6 } else { 0 });
-        assert_eq!(rt; ended.out.bytes(), &LINE[..at - 1]);
+        assert_eq!(rt; ended.status, if at <= TEXT.len() { 6 } else { 0 });
+        assert_eq!(rt; ended.out.bytes(), &TEXT[..at - 1]);
         assert_eq!(rt; ended.err.bytes().len(), 0);
     }
     for at in 1..USAGE.len() + 2 {
