@@ -1,0 +1,56 @@
+-- The elements of a picture, as SVG.
+use Rattle.std.specs.Prelude.{◌==◌, ◌&&◌, ◌++◌, ℕ, Bool, not, List, [], ◌∷◌, codes, decimal, if◌then◌else◌}
+use Rattle.std.specs.List.{flat_map}
+
+-- words and a number
+abbrev pub numbered : List ℕ → ℕ → List ℕ
+numbered words number = words ++ decimal number
+
+-- a byte as it stands between tags: what could begin or end a tag or a reference is written as a reference
+abbrev pub escaped_byte : ℕ → List ℕ
+escaped_byte byte =
+    if byte == 38 then codes "&amp;" else if byte == 60 then codes "&lt;" else if byte == 62 then codes "&gt;" else byte ∷ []
+
+-- bytes as they stand between tags
+abbrev pub escaped : List ℕ → List ℕ
+escaped bytes = flat_map escaped_byte bytes
+
+-- whether a byte neither begins nor ends a tag
+abbrev pub is_no_bracket : ℕ → Bool
+is_no_bracket byte = not (byte == 60) && not (byte == 62)
+
+-- the beginning of a tag with a class
+abbrev pub classed : List ℕ → List ℕ → List ℕ
+classed tag class = tag ++ (codes " class='" ++ (class ++ codes "'"))
+
+-- where a box stands that is 14 pixels high: its left, its top and its width
+abbrev pub box_place : ℕ → ℕ → ℕ → List ℕ
+box_place left top width =
+    numbered (codes " x='") left
+    ++ (numbered (codes "' y='") top ++ (numbered (codes "' width='") width ++ (numbered (codes "' height='") 14 ++ codes "'")))
+
+-- a box of this class
+abbrev pub plain_box : List ℕ → ℕ → ℕ → ℕ → List ℕ
+plain_box class left top width = classed (codes "<rect") class ++ (box_place left top width ++ codes "/>\n")
+
+-- the same with a title, which a browser shows under the pointer
+abbrev pub titled_box : List ℕ → ℕ → ℕ → ℕ → List ℕ → List ℕ
+titled_box class left top width title =
+    classed (codes "<rect") class
+    ++ (box_place left top width ++ (codes "><title>" ++ (escaped title ++ (codes "</title>" ++ codes "</rect>\n"))))
+
+-- words at a place
+abbrev pub words_at : ℕ → ℕ → List ℕ → List ℕ
+words_at left bottom words =
+    numbered (codes "<text x='") left
+    ++ (numbered (codes "' y='") bottom ++ (codes "'>" ++ (escaped words ++ codes "</text>\n")))
+
+-- a line of this class up or down, from one height to another
+abbrev pub upright : List ℕ → ℕ → ℕ → ℕ → List ℕ
+upright class left from until =
+    classed (codes "<path") class
+    ++ (numbered (codes " d='M") left ++ (numbered (codes " ") from ++ (numbered (codes "V") until ++ codes "'/>\n")))
+
+-- the line below the row of a task
+abbrev pub row_line : ℕ → List ℕ
+row_line height = classed (codes "<path") (codes "row") ++ (numbered (codes " d='M240 ") height ++ codes "h1000'/>\n")
