@@ -9,7 +9,7 @@ use Rattle.twe_program.specs.Program.{Program}
 use Rattle.twe_machine.specs.declared.state.TaskRow.{TaskRow}
 use Rattle.run_picture.specs.declared.bars.Mark.{Mark}
 use Rattle.twe_draw.specs.declared.scale.Axis.{Axis}
-use Rattle.twe_draw.specs.Scale.{begin_of, end_of, most_rows, row_bottom, row_top, time_column, time_width}
+use Rattle.twe_draw.specs.Scale.{bar_begin, bar_end, most_rows, row_bottom, row_top, time_column, time_width}
 use Rattle.twe_draw.specs.Labels.{bar_title, task_label}
 use Rattle.twe_draw.specs.Svg.{plain_box, row_line, titled_box, words_at}
 
@@ -39,8 +39,8 @@ class_of p row Run = if is_deterministic_row p row then codes "deterministic" el
 -- the bar of an entry
 abbrev pub bar_shape : Program → List TaskRow → Axis → Mark → List ℕ
 bar_shape p tasks axis bar =
-    titled_box (class_of p (slice_get tasks bar.task) bar.kind) (time_column axis.length (begin_of axis.view bar)) (row_top bar.task)
-    (time_width axis.length (begin_of axis.view bar) (end_of axis.view bar)) (bar_title p tasks bar)
+    titled_box (class_of p (slice_get tasks bar.task) bar.kind) (time_column axis.length (bar_begin axis.kind bar)) (row_top bar.task)
+    (time_width axis.length (bar_begin axis.kind bar) (bar_end axis.kind bar)) (bar_title p tasks bar)
 
 -- whether a task that has ended a segment so waits
 abbrev pub is_waiting : End → Bool
@@ -53,8 +53,8 @@ abbrev pub wait_since : Axis → Mark → Option Mark → List ℕ
 wait_since axis bar None = []
 wait_since axis bar (Some before) =
     if (before.task == bar.task) && is_waiting before.end
-    then plain_box (codes "waits") (time_column axis.length (end_of axis.view before)) (row_top bar.task)
-        (time_width axis.length (end_of axis.view before) (begin_of axis.view bar))
+    then plain_box (codes "waits") (time_column axis.length (bar_end axis.kind before)) (row_top bar.task)
+        (time_width axis.length (bar_end axis.kind before) (bar_begin axis.kind bar))
     else []
 
 -- the grey box before the bar of an entry, if its task has waited
@@ -71,8 +71,8 @@ abbrev pub outline_found : Axis → Option Mark → List ℕ
 outline_found axis None = []
 outline_found axis (Some bar) =
     if nat_lt bar.task most_rows
-    then plain_box (codes "chain") (time_column axis.length (begin_of axis.view bar)) (row_top bar.task)
-        (time_width axis.length (begin_of axis.view bar) (end_of axis.view bar))
+    then plain_box (codes "chain") (time_column axis.length (bar_begin axis.kind bar)) (row_top bar.task)
+        (time_width axis.length (bar_begin axis.kind bar) (bar_end axis.kind bar))
     else []
 
 -- the outline of the bar of the entry of this number

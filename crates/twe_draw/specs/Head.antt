@@ -1,15 +1,15 @@
 -- What stands above the rows of a picture.
 use Rattle.std.specs.Prelude.{◌-◌, ◌/◌, ◌%◌, ◌++◌, ℕ, List, [], codes, decimal, if◌then◌else◌, nat_lt}
 use Rattle.run_advice.specs.Advice.{parallelism_of}
-use Rattle.twe_draw.specs.declared.words.View.{View}
-use Rattle.twe_draw.specs.declared.words.View.TheVariants.{Time, Order}
+use Rattle.twe_draw.specs.declared.words.AxisKind.{AxisKind}
+use Rattle.twe_draw.specs.declared.words.AxisKind.TheVariants.{Time, Order}
 use Rattle.twe_draw.specs.Scale.{most_rows, picture_height}
 use Rattle.twe_draw.specs.Style.{setting}
-use Rattle.twe_draw.specs.Svg.{escaped, numbered, plain_box, words_at}
+use Rattle.twe_draw.specs.Svg.{escaped, with_number, plain_box, words_at}
 
 -- hundredths, as `1.33`
 abbrev pub hundredths : ℕ → List ℕ
-hundredths number = decimal (number / 100) ++ (numbered (codes ".") (number / 10 % 10) ++ decimal (number % 10))
+hundredths number = decimal (number / 100) ++ (with_number (codes ".") (number / 10 % 10) ++ decimal (number % 10))
 
 -- the parallelism of a run, after these words
 abbrev pub parallelism_after : List ℕ → ℕ → ℕ → List ℕ
@@ -18,8 +18,8 @@ parallelism_after words work span = words ++ hundredths (parallelism_of work spa
 -- `work 8, span 6, parallelism 1.33`
 abbrev pub run_words : ℕ → ℕ → List ℕ
 run_words work span =
-    numbered (codes "work ") work
-    ++ (numbered (codes ", span ") span ++ parallelism_after (codes ", parallelism ") work span)
+    with_number (codes "work ") work
+    ++ (with_number (codes ", span ") span ++ parallelism_after (codes ", parallelism ") work span)
 
 -- the beginning of the tag of the whole picture
 abbrev pub opening_words : List ℕ
@@ -27,7 +27,7 @@ opening_words = codes "<svg xmlns='http://www.w3.org/2000/svg' width='1260'"
 
 -- the tag of the whole picture
 abbrev pub opening : ℕ → List ℕ
-opening tasks = opening_words ++ (numbered (codes " height='") (picture_height tasks) ++ codes "'>\n")
+opening tasks = opening_words ++ (with_number (codes " height='") (picture_height tasks) ++ codes "'>\n")
 
 -- the title, which a browser shows
 abbrev pub title_element : List ℕ → List ℕ
@@ -38,13 +38,13 @@ abbrev pub titles : List ℕ → List ℕ
 titles words = title_element words ++ words_at 6 22 words
 
 -- what the axis means
-abbrev pub axis_words : View → List ℕ
+abbrev pub axis_words : AxisKind → List ℕ
 axis_words Time = codes "Time is virtual: an entry takes as long as it weighs, and begins when all that leads to it has ended."
 axis_words Order = codes "Each entry of the journal has a column, in their order."
 
 -- the words below the title
-abbrev pub axis : View → List ℕ
-axis view = words_at 6 40 (axis_words view)
+abbrev pub axis : AxisKind → List ℕ
+axis kind = words_at 6 40 (axis_words kind)
 
 -- a colour and what it means
 abbrev pub colour : List ℕ → ℕ → List ℕ → List ℕ
@@ -69,14 +69,14 @@ abbrev pub legend : List ℕ
 legend = entry_colours ++ (deterministic_colour ++ chain_colour)
 
 -- how many tasks have no row
-abbrev pub left_out_words : ℕ → List ℕ
-left_out_words number = numbered (codes "tasks that are left out: ") number
+abbrev pub rows_left_out_words : ℕ → List ℕ
+rows_left_out_words number = with_number (codes "tasks that are left out: ") number
 
 -- the same in the picture, if some have none
-abbrev pub left_out : ℕ → List ℕ
-left_out tasks = if nat_lt most_rows tasks then words_at 246 84 (left_out_words (tasks - most_rows)) else []
+abbrev pub rows_left_out : ℕ → List ℕ
+rows_left_out tasks = if nat_lt most_rows tasks then words_at 246 84 (rows_left_out_words (tasks - most_rows)) else []
 
 -- what stands above the rows
-abbrev pub picture_head : View → ℕ → ℕ → ℕ → List ℕ
-picture_head view tasks work span =
-    opening tasks ++ (titles (run_words work span) ++ (setting ++ (axis view ++ (legend ++ left_out tasks))))
+abbrev pub picture_head : AxisKind → ℕ → ℕ → ℕ → List ℕ
+picture_head kind tasks work span =
+    opening tasks ++ (titles (run_words work span) ++ (setting ++ (axis kind ++ (legend ++ rows_left_out tasks))))

@@ -10,7 +10,7 @@ use Rattle.twe_program.specs.Program.{Program}
 use Rattle.twe_machine.specs.declared.state.TaskRow.{TaskRow}
 use Rattle.text_meaning.specs.EffectTexts.{effects_text}
 use Rattle.run_picture.specs.declared.bars.Mark.{Mark}
-use Rattle.twe_draw.specs.Svg.{numbered}
+use Rattle.twe_draw.specs.Svg.{with_number}
 
 -- arguments, each after `, `
 abbrev pub more_args : List ℤ → List ℕ
@@ -23,7 +23,7 @@ args_text (arg ∷ args) = signed_decimal arg ++ more_args args
 
 -- the number of a task of this name, and its arguments, as `3 walk(1, 2)`
 abbrev pub task_text : ℕ → List ℕ → List ℤ → List ℕ
-task_text task name args = numbered [] task ++ (codes " " ++ (name ++ (codes "(" ++ (args_text args ++ codes ")"))))
+task_text task name args = with_number [] task ++ (codes " " ++ (name ++ (codes "(" ++ (args_text args ++ codes ")"))))
 
 -- the name of a declaration that was looked up
 abbrev pub name_found : Option Decl → List ℕ
@@ -35,13 +35,13 @@ abbrev pub task_label : Program → TaskRow → List ℕ
 task_label p row = task_text row.frame.task (name_found (slice_get p.tasks row.decl)) row.args
 
 -- the place of a declaration, as ` of 4:6`
-abbrev pub place_text : Place → List ℕ
-place_text place = numbered (codes " of ") place.line ++ numbered (codes ":") place.col
+abbrev pub declared_at : Place → List ℕ
+declared_at place = with_number (codes " of ") place.line ++ with_number (codes ":") place.col
 
 -- the place of a declaration that was looked up
 abbrev pub place_found : Option Decl → List ℕ
 place_found None = []
-place_found (Some decl) = place_text decl.place
+place_found (Some decl) = declared_at decl.place
 
 -- a task with the place of its declaration and its effects, as `3 walk(1) of 4:6, writes A:[1]`
 abbrev pub task_details : Program → TaskRow → List ℕ
@@ -57,17 +57,17 @@ details_found p (Some row) = task_details p row
 -- how an entry ended
 abbrev pub end_words : End → List ℕ
 end_words ends.Admitted = codes ": admitted"
-end_words (ends.Made child) = numbered (codes ": makes ") child
-end_words (ends.Waits on) = numbered (codes ": waits for ") on
-end_words (ends.Joins on) = numbered (codes ": joins ") on
+end_words (ends.Made child) = with_number (codes ": makes ") child
+end_words (ends.Waits on) = with_number (codes ": waits for ") on
+end_words (ends.Joins on) = with_number (codes ": joins ") on
 end_words (ends.Done value) = codes ": is done"
 end_words (ends.Fault kind place) = codes ": meets a fault"
 
 -- the number of an entry, and when it begins and ends, as `entry 4, 6 to 7, `
 abbrev pub entry_words : Mark → List ℕ
 entry_words bar =
-    numbered (codes "entry ") bar.number
-    ++ (numbered (codes ", ") bar.begins ++ (numbered (codes " to ") bar.ends ++ codes ", "))
+    with_number (codes "entry ") bar.number
+    ++ (with_number (codes ", ") bar.begins ++ (with_number (codes " to ") bar.ends ++ codes ", "))
 
 -- what a bar tells: its entry, its task, and how the entry ended
 abbrev pub bar_title : Program → List TaskRow → Mark → List ℕ

@@ -2,27 +2,27 @@
 use Rattle.std.specs.Prelude.{◌+◌, ◌-◌, ◌*◌, ◌/◌, ℕ, List, length, max, min}
 use Rattle.run_picture.specs.declared.bars.Mark.{Mark}
 use Rattle.twe_draw.specs.declared.scale.Axis.{Axis}
-use Rattle.twe_draw.specs.declared.words.View.{View}
-use Rattle.twe_draw.specs.declared.words.View.TheVariants.{Time, Order}
+use Rattle.twe_draw.specs.declared.words.AxisKind.{AxisKind}
+use Rattle.twe_draw.specs.declared.words.AxisKind.TheVariants.{Time, Order}
 
 -- how many tasks have a row: those of the lowest numbers
 abbrev pub most_rows : ℕ
 most_rows = 200
 
 -- the axis of a picture: it is as long as the span, or has a column for each entry
-abbrev pub axis_of : View → ℕ → List Mark → Axis
-axis_of Time span bars = record { view = Time; length = span }
-axis_of Order span bars = record { view = Order; length = length bars }
+abbrev pub axis_of : AxisKind → ℕ → List Mark → Axis
+axis_of Time span bars = record { kind = Time; length = span }
+axis_of Order span bars = record { kind = Order; length = length bars }
 
 -- when the entry of a bar begins, or its column
-abbrev pub begin_of : View → Mark → ℕ
-begin_of Time bar = bar.begins
-begin_of Order bar = bar.number
+abbrev pub bar_begin : AxisKind → Mark → ℕ
+bar_begin Time bar = bar.begins
+bar_begin Order bar = bar.number
 
 -- when the entry of a bar ends, or the next column
-abbrev pub end_of : View → Mark → ℕ
-end_of Time bar = bar.ends
-end_of Order bar = bar.number + 1
+abbrev pub bar_end : AxisKind → Mark → ℕ
+bar_end Time bar = bar.ends
+bar_end Order bar = bar.number + 1
 
 -- where a time stands in a picture of this length, which is 1000 pixels wide; later times stand at its end
 unfoldable pub time_column : ℕ → ℕ → ℕ

@@ -3,8 +3,8 @@ use Rattle.std.specs.Prelude.{◌==◌, ◌&&◌, ◌++◌, ℕ, Bool, not, List
 use Rattle.std.specs.List.{flat_map}
 
 -- words and a number
-abbrev pub numbered : List ℕ → ℕ → List ℕ
-numbered words number = words ++ decimal number
+abbrev pub with_number : List ℕ → ℕ → List ℕ
+with_number words number = words ++ decimal number
 
 -- a byte as it stands between tags: what could begin or end a tag or a reference is written as a reference
 abbrev pub escaped_byte : ℕ → List ℕ
@@ -26,8 +26,8 @@ classed tag class = tag ++ (codes " class='" ++ (class ++ codes "'"))
 -- where a box stands that is 14 pixels high: its left, its top and its width
 abbrev pub box_place : ℕ → ℕ → ℕ → List ℕ
 box_place left top width =
-    numbered (codes " x='") left
-    ++ (numbered (codes "' y='") top ++ (numbered (codes "' width='") width ++ (numbered (codes "' height='") 14 ++ codes "'")))
+    with_number (codes " x='") left
+    ++ (with_number (codes "' y='") top ++ (with_number (codes "' width='") width ++ (with_number (codes "' height='") 14 ++ codes "'")))
 
 -- a box of this class
 abbrev pub plain_box : List ℕ → ℕ → ℕ → ℕ → List ℕ
@@ -42,15 +42,15 @@ titled_box class left top width title =
 -- words at a place
 abbrev pub words_at : ℕ → ℕ → List ℕ → List ℕ
 words_at left bottom words =
-    numbered (codes "<text x='") left
-    ++ (numbered (codes "' y='") bottom ++ (codes "'>" ++ (escaped words ++ codes "</text>\n")))
+    with_number (codes "<text x='") left
+    ++ (with_number (codes "' y='") bottom ++ (codes "'>" ++ (escaped words ++ codes "</text>\n")))
 
 -- a line of this class up or down, from one height to another
 abbrev pub upright : List ℕ → ℕ → ℕ → ℕ → List ℕ
 upright class left from until =
     classed (codes "<path") class
-    ++ (numbered (codes " d='M") left ++ (numbered (codes " ") from ++ (numbered (codes "V") until ++ codes "'/>\n")))
+    ++ (with_number (codes " d='M") left ++ (with_number (codes " ") from ++ (with_number (codes "V") until ++ codes "'/>\n")))
 
 -- the line below the row of a task
 abbrev pub row_line : ℕ → List ℕ
-row_line height = classed (codes "<path") (codes "row") ++ (numbered (codes " d='M240 ") height ++ codes "h1000'/>\n")
+row_line height = classed (codes "<path") (codes "row") ++ (with_number (codes " d='M240 ") height ++ codes "h1000'/>\n")

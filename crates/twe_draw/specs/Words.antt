@@ -1,17 +1,12 @@
 -- What the words ask for.
-use Rattle.std.specs.Prelude.{ℕ, List, [], ◌∷◌, Option, None, Some, codes, bytes_eq, if◌then◌else◌}
-use Rattle.twe_draw.specs.declared.words.View.{View}
-use Rattle.twe_draw.specs.declared.words.View.TheVariants.{Time, Order}
+use Rattle.std.specs.Prelude.{ℕ, List, Option, codes}
+use Rattle.text_programs.specs.Causes.{by_word}
+use Rattle.twe_draw.specs.declared.words.AxisKind.{AxisKind}
+use Rattle.twe_draw.specs.declared.words.AxisKind.TheVariants.{Time, Order}
 
--- what one word asks for: `order` for a column for each entry, and another for nothing
-abbrev pub view_named : List ℕ → Option View
-view_named word = if bytes_eq word (codes "order") then Some Order else None
-
--- what the words ask for: none for a picture by time, and one word for what it asks for
-abbrev pub view_of : List (List ℕ) → Option View
-view_of [] = Some Time
-view_of (word ∷ []) = view_named word
-view_of (word ∷ next ∷ others) = None
+-- what the words ask for: none for a picture by time, and `order` alone for a column for each entry
+abbrev pub asked_axis : List (List ℕ) → Option AxisKind
+asked_axis words = by_word Time (codes "order") Order words
 
 -- the usage line of `twe_draw`
 abbrev pub draw_usage_text : List ℕ

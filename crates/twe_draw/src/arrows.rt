@@ -3,7 +3,7 @@ ghost use Rattle.std.specs.Prelude.{◌≡◌, ◌++◌, OnOk, option_and_then, 
 ghost use Rattle.std.specs.List.{flat_map};
 ghost use Rattle.twe_draw.specs.Arrows.{arrow, arrows_shown, made_arrow, taken_arrow};
 
-use crate::scale::{Axis, MOST_ROWS, begin_of, end_of, row_bottom, row_top, time_column};
+use crate::scale::{Axis, MOST_ROWS, bar_begin, bar_end, row_bottom, row_top, time_column};
 use crate::svg::push_upright;
 use run_picture::Mark;
 use seg_journal::End;
@@ -27,7 +27,7 @@ fn push_made(text: &mut Bytes, axis: Axis, bar: &Mark) -> Result<(), Memory>
     match bar.end {
         End::Made { child } => {
             if child < MOST_ROWS {
-                let left = time_column(axis.length, end_of(axis.view, bar));
+                let left = time_column(axis.length, bar_end(axis.kind, bar));
                 push_arrow(text, b"makes", left, bar.task, child)
             } else {
                 Ok(())
@@ -52,7 +52,7 @@ fn push_taken(
     if giver.task >= MOST_ROWS {
         return Ok(());
     }
-    let left = time_column(axis.length, begin_of(axis.view, bar));
+    let left = time_column(axis.length, bar_begin(axis.kind, bar));
     push_arrow(text, b"gives", left, giver.task, bar.task)
 }
 

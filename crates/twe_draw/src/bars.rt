@@ -4,7 +4,7 @@ ghost use Rattle.std.specs.List.{flat_map};
 ghost use Rattle.twe_draw.specs.Bars.{bar_shape, bar_shown, class_of, is_deterministic_row, is_waiting, outline, outline_found, row_shape, row_shown, wait_shape, wait_since};
 
 use crate::labels::{bar_title, push_label};
-use crate::scale::{Axis, MOST_ROWS, begin_of, end_of, row_bottom, row_top, time_column, time_width};
+use crate::scale::{Axis, MOST_ROWS, bar_begin, bar_end, row_bottom, row_top, time_column, time_width};
 use crate::svg::{push_plain_box, push_row_line, push_titled_box, push_words_at};
 use run_picture::Mark;
 use seg_journal::{End, Kind};
@@ -91,7 +91,7 @@ fn push_bar(
     ensures { OnOk result (text.new ≡ text.old ++ bar_shape p.now tasks.now axis bar.now) }
 {
     let title = bar_title(alloc, p, tasks, bar)?;
-    let (from, until) = (begin_of(axis.view, bar), end_of(axis.view, bar));
+    let (from, until) = (bar_begin(axis.kind, bar), bar_end(axis.kind, bar));
     push_titled_box(
         text,
         class_of(p, tasks, bar),
@@ -124,7 +124,7 @@ fn push_wait_since(
     if bar.task != before.task || !is_waiting(before.end) {
         return Ok(());
     }
-    let (from, until) = (end_of(axis.view, before), begin_of(axis.view, bar));
+    let (from, until) = (bar_end(axis.kind, before), bar_begin(axis.kind, bar));
     push_plain_box(
         text,
         b"waits",
@@ -200,7 +200,7 @@ fn push_outline_of(
     if bar.task >= MOST_ROWS {
         return Ok(());
     }
-    let (from, until) = (begin_of(axis.view, bar), end_of(axis.view, bar));
+    let (from, until) = (bar_begin(axis.kind, bar), bar_end(axis.kind, bar));
     push_plain_box(
         text,
         b"chain",

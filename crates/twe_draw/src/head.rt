@@ -1,11 +1,11 @@
 //! What stands above the rows of a picture.
 ghost use Rattle.std.specs.Prelude.{◌≡◌, ◌++◌, ◌<◌, IfOk, OnOk};
-ghost use Rattle.twe_draw.specs.Head.{axis, axis_words, chain_colour, colour, deterministic_colour, entry_colours, hundredths, left_out, left_out_words, legend, opening, opening_words, parallelism_after, picture_head, run_words, title_element, titles};
+ghost use Rattle.twe_draw.specs.Head.{axis, axis_words, chain_colour, colour, deterministic_colour, entry_colours, hundredths, rows_left_out, rows_left_out_words, legend, opening, opening_words, parallelism_after, picture_head, run_words, title_element, titles};
 
 use crate::scale::picture_height;
 use crate::style::push_setting;
 use crate::svg::{push_escaped, push_measure, push_number, push_plain_box, push_words_at};
-use crate::words::View;
+use crate::words::AxisKind;
 use itoa::Buffer;
 use run_advice::parallelism_of;
 use std::alloc::Global;
@@ -73,22 +73,22 @@ fn push_titles(text: &mut Bytes, words: &[u8]) -> Result<(), Memory>
 }
 
 /// What the axis means.
-fn axis_words<'a>(view: View) -> &'a [u8]
-    ensures { result.now ≡ axis_words view }
+fn axis_words<'a>(kind: AxisKind) -> &'a [u8]
+    ensures { result.now ≡ axis_words kind }
 {
-    match view {
-        View::Time => {
+    match kind {
+        AxisKind::Time => {
             b"Time is virtual: an entry takes as long as it weighs, and begins when all that leads to it has ended."
         }
-        View::Order => b"Each entry of the journal has a column, in their order.",
+        AxisKind::Order => b"Each entry of the journal has a column, in their order.",
     }
 }
 
 /// Appends the words below the title.
-fn push_axis(text: &mut Bytes, view: View) -> Result<(), Memory>
-    ensures { OnOk result (text.new ≡ text.old ++ axis view) }
+fn push_axis(text: &mut Bytes, kind: AxisKind) -> Result<(), Memory>
+    ensures { OnOk result (text.new ≡ text.old ++ axis kind) }
 {
-    push_words_at(text, 6, 40, axis_words(view))
+    push_words_at(text, 6, 40, axis_words(kind))
 }
 
 /// Appends a colour and what it means.
@@ -132,8 +132,8 @@ fn push_legend(text: &mut Bytes) -> Result<(), Memory>
 }
 
 /// How many tasks have no row.
-fn left_out_words(alloc: Global, number: u64) -> Result<Bytes, Memory>
-    ensures { IfOk result (λ words. words ≡ left_out_words number) }
+fn rows_left_out_words(alloc: Global, number: u64) -> Result<Bytes, Memory>
+    ensures { IfOk result (λ words. words ≡ rows_left_out_words number) }
 {
     let mut words = Bytes::new(alloc);
     push_number(&mut words, b"tasks that are left out: ", number)?;
@@ -141,11 +141,11 @@ fn left_out_words(alloc: Global, number: u64) -> Result<Bytes, Memory>
 }
 
 /// Appends how many tasks have no row, if some have none.
-fn push_left_out(text: &mut Bytes, alloc: Global, tasks: usize) -> Result<(), Memory>
-    ensures { OnOk result (text.new ≡ text.old ++ left_out tasks) }
+fn push_rows_left_out(text: &mut Bytes, alloc: Global, tasks: usize) -> Result<(), Memory>
+    ensures { OnOk result (text.new ≡ text.old ++ rows_left_out tasks) }
 {
     if 200 < tasks {
-        let words = left_out_words(alloc, tasks as u64 - 200)?;
+        let words = rows_left_out_words(alloc, tasks as u64 - 200)?;
         push_words_at(text, 246, 84, words.as_slice())
     } else {
         Ok(())
@@ -156,18 +156,18 @@ fn push_left_out(text: &mut Bytes, alloc: Global, tasks: usize) -> Result<(), Me
 pub(crate) fn push_head(
     text: &mut Bytes,
     alloc: Global,
-    view: View,
+    kind: AxisKind,
     tasks: usize,
     work: u64,
     span: u64,
 ) -> Result<(), Memory>
-    ensures { OnOk result (text.new ≡ text.old ++ picture_head view tasks work span) }
+    ensures { OnOk result (text.new ≡ text.old ++ picture_head kind tasks work span) }
 {
     let words = run_words(alloc, work, span)?;
     push_opening(text, tasks)?;
     push_titles(text, words.as_slice())?;
     push_setting(text)?;
-    push_axis(text, view)?;
+    push_axis(text, kind)?;
     push_legend(text)?;
-    push_left_out(text, alloc, tasks)
+    push_rows_left_out(text, alloc, tasks)
 }

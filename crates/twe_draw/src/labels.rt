@@ -1,6 +1,6 @@
 //! What is written of tasks and of what they did.
 ghost use Rattle.std.specs.Prelude.{◌≡◌, ◌++◌, IfOk, OnOk, slice_get};
-ghost use Rattle.twe_draw.specs.Labels.{args_text, bar_title, details_found, end_words, entry_words, more_args, name_found, place_found, place_text, task_details, task_label, task_text};
+ghost use Rattle.twe_draw.specs.Labels.{args_text, bar_title, details_found, end_words, entry_words, more_args, name_found, place_found, declared_at, task_details, task_label, task_text};
 
 use crate::svg::{push_number, push_small};
 use itoa::Buffer;
@@ -68,7 +68,7 @@ pub(crate) fn push_label(text: &mut Bytes, p: &Prog, row: &TaskRow) -> Result<()
 
 /// Appends the place of a declaration.
 fn push_place(text: &mut Bytes, place: Place) -> Result<(), Memory>
-    ensures { OnOk result (text.new ≡ text.old ++ place_text place) }
+    ensures { OnOk result (text.new ≡ text.old ++ declared_at place) }
 {
     push_small(text, b" of ", place.line)?;
     push_small(text, b":", place.col)

@@ -2,7 +2,6 @@
 //! journal. It writes an SVG with a row for each task and a bar for each entry.
 #![tactic(auto)]
 
-mod answering;
 mod arrows;
 mod bars;
 mod head;

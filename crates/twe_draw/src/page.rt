@@ -6,7 +6,7 @@ use crate::arrows::push_arrows;
 use crate::bars::{push_bars, push_outlines, push_rows};
 use crate::head::push_head;
 use crate::scale::{Axis, axis_of};
-use crate::words::View;
+use crate::words::AxisKind;
 use run_picture::Picture;
 use std::alloc::Global;
 use twe_base::{Bytes, Memory};
@@ -31,19 +31,19 @@ fn push_shapes(
     push_outlines(text, bars, axis, picture.chain.as_slice())
 }
 
-/// The picture of a run, in this view.
+/// The picture of a run, in this kind.
 pub(crate) fn picture_text(
     alloc: Global,
-    view: View,
+    kind: AxisKind,
     p: &Prog,
     picture: &Picture,
 ) -> Result<Bytes, Memory>
-    ensures { IfOk result (λ text. text ≡ picture_text view p.now picture.now.work picture.now.span picture.now.chain
+    ensures { IfOk result (λ text. text ≡ picture_text kind p.now picture.now.work picture.now.span picture.now.chain
         picture.now.bars picture.now.tasks) }
 {
     let mut text = Bytes::new(alloc);
-    let axis = axis_of(view, picture.span, picture.bars.as_slice());
-    push_head(&mut text, alloc, view, picture.tasks.len(), picture.work, picture.span)?;
+    let axis = axis_of(kind, picture.span, picture.bars.as_slice());
+    push_head(&mut text, alloc, kind, picture.tasks.len(), picture.work, picture.span)?;
     push_shapes(&mut text, alloc, p, axis, picture)?;
     text.push_all(b"</svg>\n")?;
     Ok(text)

@@ -2,7 +2,7 @@
 ghost use Rattle.std.specs.Prelude.{◌≡◌};
 ghost use Rattle.twe_draw.specs.Scale as scale;
 
-use crate::words::View;
+use crate::words::AxisKind;
 use run_picture::Mark;
 
 /// How many tasks have a row.
@@ -12,39 +12,39 @@ pub(crate) const MOST_ROWS: u32 = 200;
 #[derive(Clone, Copy, Debug)]
 pub struct Axis {
     /// How the run is drawn.
-    pub view: View,
+    pub kind: AxisKind,
     /// How long it is: a time, or a number of entries.
     pub length: u64,
 }
 
 /// The axis of a picture: it is as long as the span, or has a column for each entry.
-pub(crate) fn axis_of(view: View, span: u64, bars: &[Mark]) -> Axis
-    ensures { result ≡ scale.axis_of view span bars.now }
+pub(crate) fn axis_of(kind: AxisKind, span: u64, bars: &[Mark]) -> Axis
+    ensures { result ≡ scale.axis_of kind span bars.now }
 {
-    let length = match view {
-        View::Time => span,
-        View::Order => bars.len() as u64,
+    let length = match kind {
+        AxisKind::Time => span,
+        AxisKind::Order => bars.len() as u64,
     };
-    Axis { view, length }
+    Axis { kind, length }
 }
 
 /// When the entry of a bar begins, or its column.
-pub(crate) fn begin_of(view: View, bar: &Mark) -> u128
-    ensures { result ≡ scale.begin_of view bar.now }
+pub(crate) fn bar_begin(kind: AxisKind, bar: &Mark) -> u128
+    ensures { result ≡ scale.bar_begin kind bar.now }
 {
-    match view {
-        View::Time => u128::from(bar.begins),
-        View::Order => u128::from(bar.number),
+    match kind {
+        AxisKind::Time => u128::from(bar.begins),
+        AxisKind::Order => u128::from(bar.number),
     }
 }
 
 /// When the entry of a bar ends, or the next column.
-pub(crate) fn end_of(view: View, bar: &Mark) -> u128
-    ensures { result ≡ scale.end_of view bar.now }
+pub(crate) fn bar_end(kind: AxisKind, bar: &Mark) -> u128
+    ensures { result ≡ scale.bar_end kind bar.now }
 {
-    match view {
-        View::Time => u128::from(bar.ends),
-        View::Order => u128::from(bar.number) + 1,
+    match kind {
+        AxisKind::Time => u128::from(bar.ends),
+        AxisKind::Order => u128::from(bar.number) + 1,
     }
 }
 

@@ -1,13 +1,13 @@
 //! The elements of a picture, as SVG.
 ghost use Rattle.std.specs.Prelude.{◌≡◌, ◌++◌, OnOk};
-ghost use Rattle.twe_draw.specs.Svg.{box_place, classed, escaped, escaped_byte, numbered, plain_box, row_line, titled_box, upright, words_at};
+ghost use Rattle.twe_draw.specs.Svg.{box_place, classed, escaped, escaped_byte, with_number, plain_box, row_line, titled_box, upright, words_at};
 
 use itoa::Buffer;
 use twe_base::{Bytes, Memory};
 
 /// Appends words and a number.
 pub(crate) fn push_number(text: &mut Bytes, words: &[u8], number: u64) -> Result<(), Memory>
-    ensures { OnOk result (text.new ≡ text.old ++ numbered words.now number) }
+    ensures { OnOk result (text.new ≡ text.old ++ with_number words.now number) }
 {
     text.push_all(words)?;
     text.push_all(Buffer::new().format(number).as_bytes())
@@ -15,7 +15,7 @@ pub(crate) fn push_number(text: &mut Bytes, words: &[u8], number: u64) -> Result
 
 /// Appends words and the number of a task, a line or a column.
 pub(crate) fn push_small(text: &mut Bytes, words: &[u8], number: u32) -> Result<(), Memory>
-    ensures { OnOk result (text.new ≡ text.old ++ numbered words.now number) }
+    ensures { OnOk result (text.new ≡ text.old ++ with_number words.now number) }
 {
     text.push_all(words)?;
     text.push_all(Buffer::new().format(number).as_bytes())
@@ -23,7 +23,7 @@ pub(crate) fn push_small(text: &mut Bytes, words: &[u8], number: u32) -> Result<
 
 /// Appends words and a measure.
 pub(crate) fn push_measure(text: &mut Bytes, words: &[u8], number: u128) -> Result<(), Memory>
-    ensures { OnOk result (text.new ≡ text.old ++ numbered words.now number) }
+    ensures { OnOk result (text.new ≡ text.old ++ with_number words.now number) }
 {
     text.push_all(words)?;
     text.push_all(Buffer::new().format(number).as_bytes())

@@ -2,7 +2,7 @@
 ghost use Rattle.twe_draw.specs.Answers.{IsDrawnFor};
 ghost use Rattle.twe_io.specs.Ends.{ends, ends_tell, sink, source};
 
-use crate::words::View;
+use crate::words::AxisKind;
 use std::alloc::Global;
 use text_programs::run_text_program;
 use twe_base::Word;
@@ -25,5 +25,5 @@ pub fn draw_top<S: Source, O: Sink, E: Sink>(
         (sink E.written E.faults E.write_gives))
         words.now (ends src.old out.old err.old) (ends src.new out.new err.new) result }
 {
-    run_text_program::<View, S, O, E>(alloc, words, src, out, err)
+    run_text_program::<AxisKind, S, O, E>(alloc, words, src, out, err)
 }

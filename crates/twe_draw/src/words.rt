@@ -1,40 +1,26 @@
 //! The words after the program's name.
 ghost use Rattle.std.specs.Prelude.{◌≡◌, IfOk};
-ghost use Rattle.twe_draw.specs.Words.{draw_usage_text, view_named, view_of};
+ghost use Rattle.twe_draw.specs.Words.{asked_axis, draw_usage_text};
 
 use std::alloc::Global;
+use text_programs::by_word;
 use twe_base::{Bytes, Memory, Word};
 
-/// How a run is drawn.
+/// What goes from the left of a picture to its right.
 #[derive(Clone, Copy, Debug, PartialEq, Eq)]
-pub enum View {
-    /// By virtual time.
+pub enum AxisKind {
+    /// Virtual time.
     Time,
-    /// With a column for each entry.
+    /// The entries in their order, a column for each.
     Order,
 }
 
 /// What the words ask for: none for a picture by time, and `order` alone for a column for each entry. Other words ask for
 /// nothing.
-pub(crate) fn view_of(words: &[Word]) -> Option<View>
-    ensures { result ≡ view_of words.now }
+pub(crate) fn asked_axis(words: &[Word]) -> Option<AxisKind>
+    ensures { result ≡ asked_axis words.now }
 {
-    match words {
-        [] => Some(View::Time),
-        [word] => view_named(word),
-        _ => None,
-    }
-}
-
-/// What one word asks for.
-fn view_named(word: &Word) -> Option<View>
-    ensures { result ≡ view_named word.now }
-{
-    if word.as_bytes() == b"order".as_slice() {
-        Some(View::Order)
-    } else {
-        None
-    }
+    by_word(words, AxisKind::Time, b"order", AxisKind::Order)
 }
 
 /// The usage line.
