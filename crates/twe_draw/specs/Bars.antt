@@ -54,7 +54,7 @@ wait_since axis bar None = []
 wait_since axis bar (Some before) =
     if (before.task == bar.task) && is_waiting before.end
     then plain_box (codes "waits") (time_column axis.length (bar_end axis.kind before)) (row_top bar.task)
-        (time_width axis.length (bar_end axis.kind before) (bar_begin axis.kind bar))
+    (time_width axis.length (bar_end axis.kind before) (bar_begin axis.kind bar))
     else []
 
 -- the grey box before the bar of an entry, if its task has waited
@@ -72,7 +72,7 @@ outline_found axis None = []
 outline_found axis (Some bar) =
     if nat_lt bar.task most_rows
     then plain_box (codes "chain") (time_column axis.length (bar_begin axis.kind bar)) (row_top bar.task)
-        (time_width axis.length (bar_begin axis.kind bar) (bar_end axis.kind bar))
+    (time_width axis.length (bar_begin axis.kind bar) (bar_end axis.kind bar))
     else []
 
 -- the outline of the bar of the entry of this number

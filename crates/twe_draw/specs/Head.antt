@@ -1,11 +1,11 @@
 -- What stands above the rows of a picture.
-use Rattle.std.specs.Prelude.{◌-◌, ◌/◌, ◌%◌, ◌++◌, ℕ, List, [], codes, decimal, if◌then◌else◌, nat_lt}
+use Rattle.std.specs.Prelude.{◌+◌, ◌-◌, ◌/◌, ◌%◌, ◌++◌, ℕ, List, [], codes, decimal, if◌then◌else◌, nat_lt}
 use Rattle.run_advice.specs.Advice.{parallelism_of}
 use Rattle.twe_draw.specs.declared.words.AxisKind.{AxisKind}
 use Rattle.twe_draw.specs.declared.words.AxisKind.TheVariants.{Time, Order}
 use Rattle.twe_draw.specs.Scale.{most_rows, picture_height}
 use Rattle.twe_draw.specs.Style.{setting}
-use Rattle.twe_draw.specs.Svg.{escaped, with_number, plain_box, words_at}
+use Rattle.twe_draw.specs.Svg.{plain_box, title_element, with_number, words_at}
 
 -- hundredths, as `1.33`
 abbrev pub hundredths : ℕ → List ℕ
@@ -15,27 +15,29 @@ hundredths number = decimal (number / 100) ++ (with_number (codes ".") (number /
 abbrev pub parallelism_after : List ℕ → ℕ → ℕ → List ℕ
 parallelism_after words work span = words ++ hundredths (parallelism_of work span)
 
+-- `work 8, span 6`
+abbrev pub total_words : ℕ → ℕ → List ℕ
+total_words work span = with_number (codes "work ") work ++ with_number (codes ", span ") span
+
+-- `, parallelism 1.33`
+abbrev pub parallelism_words : ℕ → ℕ → List ℕ
+parallelism_words work span = parallelism_after (codes ", parallelism ") work span
+
 -- `work 8, span 6, parallelism 1.33`
 abbrev pub run_words : ℕ → ℕ → List ℕ
-run_words work span =
-    with_number (codes "work ") work
-    ++ (with_number (codes ", span ") span ++ parallelism_after (codes ", parallelism ") work span)
+run_words work span = total_words work span ++ parallelism_words work span
 
 -- the beginning of the tag of the whole picture
-abbrev pub opening_words : List ℕ
+unfoldable pub opening_words : List ℕ
 opening_words = codes "<svg xmlns='http://www.w3.org/2000/svg' width='1260'"
 
 -- the tag of the whole picture
 abbrev pub opening : ℕ → List ℕ
 opening tasks = opening_words ++ (with_number (codes " height='") (picture_height tasks) ++ codes "'>\n")
 
--- the title, which a browser shows
-abbrev pub title_element : List ℕ → List ℕ
-title_element words = codes "<title>" ++ (escaped words ++ codes "</title>\n")
-
 -- the title, and the same words in the picture
 abbrev pub titles : List ℕ → List ℕ
-titles words = title_element words ++ words_at 6 22 words
+titles words = title_element words ++ (codes "\n" ++ words_at 6 22 words)
 
 -- what the axis means
 abbrev pub axis_words : AxisKind → List ℕ
@@ -65,7 +67,7 @@ abbrev pub chain_colour : List ℕ
 chain_colour = colour (codes "chain") 586 (codes "heaviest chain")
 
 -- what the colours mean
-abbrev pub legend : List ℕ
+unfoldable pub legend : List ℕ
 legend = entry_colours ++ (deterministic_colour ++ chain_colour)
 
 -- how many tasks have no row
@@ -76,7 +78,14 @@ rows_left_out_words number = with_number (codes "tasks that are left out: ") num
 abbrev pub rows_left_out : ℕ → List ℕ
 rows_left_out tasks = if nat_lt most_rows tasks then words_at 246 84 (rows_left_out_words (tasks - most_rows)) else []
 
+-- the tag of the whole picture and its title
+abbrev pub head_top : ℕ → List ℕ → List ℕ
+head_top tasks words = opening tasks ++ titles words
+
+-- what the axis and the colours mean, and how many tasks have no row
+abbrev pub head_key : AxisKind → ℕ → List ℕ
+head_key kind tasks = axis kind ++ (legend ++ rows_left_out tasks)
+
 -- what stands above the rows
-abbrev pub picture_head : AxisKind → ℕ → ℕ → ℕ → List ℕ
-picture_head kind tasks work span =
-    opening tasks ++ (titles (run_words work span) ++ (setting ++ (axis kind ++ (legend ++ rows_left_out tasks))))
+unfoldable pub picture_head : AxisKind → ℕ → ℕ → ℕ → List ℕ
+picture_head kind tasks work span = head_top tasks (run_words work span) ++ (setting ++ head_key kind tasks)

@@ -46,5 +46,5 @@ abbrev pub arrow_tip : List ℕ
 arrow_tip = tip_opening ++ tip_shape
 
 -- what is the same in each picture
-abbrev pub setting : List ℕ
+unfoldable pub setting : List ℕ
 setting = light_style ++ (dark_style ++ arrow_tip)

@@ -30,27 +30,31 @@ box_place left top width =
     ++ (with_number (codes "' y='") top ++ (with_number (codes "' width='") width ++ (with_number (codes "' height='") 14 ++ codes "'")))
 
 -- a box of this class
-abbrev pub plain_box : List ℕ → ℕ → ℕ → ℕ → List ℕ
+unfoldable pub plain_box : List ℕ → ℕ → ℕ → ℕ → List ℕ
 plain_box class left top width = classed (codes "<rect") class ++ (box_place left top width ++ codes "/>\n")
 
--- the same with a title, which a browser shows under the pointer
-abbrev pub titled_box : List ℕ → ℕ → ℕ → ℕ → List ℕ → List ℕ
+-- a title, which a browser shows
+abbrev pub title_element : List ℕ → List ℕ
+title_element title = codes "<title>" ++ (escaped title ++ codes "</title>")
+
+-- the same box with a title, which a browser shows under the pointer
+unfoldable pub titled_box : List ℕ → ℕ → ℕ → ℕ → List ℕ → List ℕ
 titled_box class left top width title =
     classed (codes "<rect") class
-    ++ (box_place left top width ++ (codes "><title>" ++ (escaped title ++ (codes "</title>" ++ codes "</rect>\n"))))
+    ++ (box_place left top width ++ (codes ">" ++ (title_element title ++ codes "</rect>\n")))
 
 -- words at a place
-abbrev pub words_at : ℕ → ℕ → List ℕ → List ℕ
+unfoldable pub words_at : ℕ → ℕ → List ℕ → List ℕ
 words_at left bottom words =
     with_number (codes "<text x='") left
     ++ (with_number (codes "' y='") bottom ++ (codes "'>" ++ (escaped words ++ codes "</text>\n")))
 
 -- a line of this class up or down, from one height to another
-abbrev pub upright : List ℕ → ℕ → ℕ → ℕ → List ℕ
+unfoldable pub upright : List ℕ → ℕ → ℕ → ℕ → List ℕ
 upright class left from until =
     classed (codes "<path") class
     ++ (with_number (codes " d='M") left ++ (with_number (codes " ") from ++ (with_number (codes "V") until ++ codes "'/>\n")))
 
 -- the line below the row of a task
-abbrev pub row_line : ℕ → List ℕ
+unfoldable pub row_line : ℕ → List ℕ
 row_line height = classed (codes "<path") (codes "row") ++ (with_number (codes " d='M240 ") height ++ codes "h1000'/>\n")

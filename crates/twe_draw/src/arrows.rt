@@ -1,5 +1,5 @@
 //! The arrows of a picture.
-ghost use Rattle.std.specs.Prelude.{◌≡◌, ◌++◌, OnOk, option_and_then, slice_get};
+ghost use Rattle.std.specs.Prelude.{◌≡◌, ◌++◌, OnOk, Some, option_and_then, slice_get};
 ghost use Rattle.std.specs.List.{flat_map};
 ghost use Rattle.twe_draw.specs.Arrows.{arrow, arrows_shown, made_arrow, taken_arrow};
 
@@ -37,58 +37,46 @@ fn push_made(text: &mut Bytes, axis: Axis, bar: &Mark) -> Result<(), Memory>
     }
 }
 
-/// Appends the arrow from a task whose value was taken, if it has a row.
-fn push_taken(
-    text: &mut Bytes,
-    axis: Axis,
-    bar: &Mark,
-    giver: Option<&Mark>,
-) -> Result<(), Memory>
-    ensures { OnOk result (text.new ≡ text.old ++ taken_arrow axis bar.now giver.now) }
+/// Appends the arrow from the task of a bar, whose value was taken, if it has a row.
+fn push_taken_from(text: &mut Bytes, axis: Axis, bar: &Mark, giver: &Mark) -> Result<(), Memory>
+    ensures { OnOk result (text.new ≡ text.old ++ taken_arrow axis bar.now (Some giver.now)) }
 {
-    let Some(giver) = giver else {
-        return Ok(());
-    };
-    if giver.task >= MOST_ROWS {
-        return Ok(());
+    if giver.task < MOST_ROWS {
+        let left = time_column(axis.length, bar_begin(axis.kind, bar));
+        push_arrow(text, b"gives", left, giver.task, bar.task)
+    } else {
+        Ok(())
     }
-    let left = time_column(axis.length, bar_begin(axis.kind, bar));
-    push_arrow(text, b"gives", left, giver.task, bar.task)
 }
 
-/// The bar of the entry that has done the task whose value was taken.
-fn giver_of<'a>(bars: &'a [Mark], bar: &Mark) -> Option<&'a Mark>
-    ensures { result.now ≡ option_and_then (slice_get bars.now) bar.now.giver }
+/// Appends the arrow from the task whose value was taken, if one was.
+fn push_taken(text: &mut Bytes, bars: &[Mark], axis: Axis, bar: &Mark) -> Result<(), Memory>
+    ensures { OnOk result (text.new ≡ text.old
+        ++ taken_arrow axis bar.now (option_and_then (slice_get bars.now) bar.now.giver)) }
 {
     match bar.giver {
-        None => None,
-        Some(number) => bars.get(number as usize),
+        None => Ok(()),
+        Some(number) => match bars.get(number as usize) {
+            None => Ok(()),
+            Some(giver) => push_taken_from(text, axis, bar, giver),
+        },
     }
 }
 
 /// Appends the arrows of an entry, if its bar is shown.
-fn push_arrows_shown(
-    text: &mut Bytes,
-    bars: &[Mark],
-    axis: Axis,
-    bar: &Mark,
-) -> Result<(), Memory>
+fn push_arrows_shown(text: &mut Bytes, bars: &[Mark], axis: Axis, bar: &Mark) -> Result<(), Memory>
     ensures { OnOk result (text.new ≡ text.old ++ arrows_shown bars.now axis bar.now) }
 {
     if bar.task < MOST_ROWS {
         push_made(text, axis, bar)?;
-        push_taken(text, axis, bar, giver_of(bars, bar))
+        push_taken(text, bars, axis, bar)
     } else {
         Ok(())
     }
 }
 
 /// Appends the arrows.
-pub(crate) fn push_arrows(
-    text: &mut Bytes,
-    bars: &[Mark],
-    axis: Axis,
-) -> Result<(), Memory>
+pub(crate) fn push_arrows(text: &mut Bytes, bars: &[Mark], axis: Axis) -> Result<(), Memory>
     ensures { OnOk result (text.new ≡ text.old ++ flat_map (arrows_shown bars.now axis) bars.now) }
 {
     for bar in bars {

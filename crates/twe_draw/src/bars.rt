@@ -1,10 +1,13 @@
 //! The rows and the bars of a picture.
-ghost use Rattle.std.specs.Prelude.{◌≡◌, ◌++◌, OnOk, option_and_then, slice_get};
+ghost use Rattle.std.specs.Prelude.{◌≡◌, ◌++◌, IfOk, OnOk, Some, slice_get};
 ghost use Rattle.std.specs.List.{flat_map};
+ghost use Rattle.twe_draw.specs.Labels.{task_label};
 ghost use Rattle.twe_draw.specs.Bars.{bar_shape, bar_shown, class_of, is_deterministic_row, is_waiting, outline, outline_found, row_shape, row_shown, wait_shape, wait_since};
 
 use crate::labels::{bar_title, push_label};
-use crate::scale::{Axis, MOST_ROWS, bar_begin, bar_end, row_bottom, row_top, time_column, time_width};
+use crate::scale::{
+    Axis, MOST_ROWS, bar_begin, bar_end, row_bottom, row_top, time_column, time_width,
+};
 use crate::svg::{push_plain_box, push_row_line, push_titled_box, push_words_at};
 use run_picture::Mark;
 use seg_journal::{End, Kind};
@@ -13,12 +16,20 @@ use twe_base::{Bytes, Memory};
 use twe_machine::TaskRow;
 use twe_program::Prog;
 
+/// The label of a row.
+fn row_label(alloc: Global, p: &Prog, row: &TaskRow) -> Result<Bytes, Memory>
+    ensures { IfOk result (λ label. label ≡ task_label p.now row.now) }
+{
+    let mut label = Bytes::new(alloc);
+    push_label(&mut label, p, row)?;
+    Ok(label)
+}
+
 /// Appends the row of a task.
 fn push_row(text: &mut Bytes, alloc: Global, p: &Prog, row: &TaskRow) -> Result<(), Memory>
     ensures { OnOk result (text.new ≡ text.old ++ row_shape p.now row.now) }
 {
-    let mut label = Bytes::new(alloc);
-    push_label(&mut label, p, row)?;
+    let label = row_label(alloc, p, row)?;
     let bottom = row_bottom(row.frame.task);
     push_words_at(text, 6, bottom, label.as_slice())?;
     push_row_line(text, bottom)
@@ -110,42 +121,33 @@ fn is_waiting(end: End) -> bool
 }
 
 /// Appends the grey box of a task that has waited since the entry before, if it has.
-fn push_wait_since(
-    text: &mut Bytes,
-    axis: Axis,
-    bar: &Mark,
-    before: Option<&Mark>,
-) -> Result<(), Memory>
-    ensures { OnOk result (text.new ≡ text.old ++ wait_since axis bar.now before.now) }
+fn push_wait_since(text: &mut Bytes, axis: Axis, bar: &Mark, before: &Mark) -> Result<(), Memory>
+    ensures { OnOk result (text.new ≡ text.old ++ wait_since axis bar.now (Some before.now)) }
 {
-    let Some(before) = before else {
-        return Ok(());
-    };
-    if bar.task != before.task || !is_waiting(before.end) {
-        return Ok(());
+    if before.task == bar.task && is_waiting(before.end) {
+        let (from, until) = (bar_end(axis.kind, before), bar_begin(axis.kind, bar));
+        push_plain_box(
+            text,
+            b"waits",
+            time_column(axis.length, from),
+            row_top(bar.task),
+            time_width(axis.length, from, until),
+        )
+    } else {
+        Ok(())
     }
-    let (from, until) = (bar_end(axis.kind, before), bar_begin(axis.kind, bar));
-    push_plain_box(
-        text,
-        b"waits",
-        time_column(axis.length, from),
-        row_top(bar.task),
-        time_width(axis.length, from, until),
-    )
 }
 
 /// Appends the grey box before the bar of an entry, if its task has waited.
-fn push_wait(
-    text: &mut Bytes,
-    bars: &[Mark],
-    axis: Axis,
-    bar: &Mark,
-) -> Result<(), Memory>
+fn push_wait(text: &mut Bytes, bars: &[Mark], axis: Axis, bar: &Mark) -> Result<(), Memory>
     ensures { OnOk result (text.new ≡ text.old ++ wait_shape bars.now axis bar.now) }
 {
     match bar.previous {
         None => Ok(()),
-        Some(number) => push_wait_since(text, axis, bar, bars.get(number as usize)),
+        Some(number) => match bars.get(number as usize) {
+            None => Ok(()),
+            Some(before) => push_wait_since(text, axis, bar, before),
+        },
     }
 }
 
@@ -187,27 +189,31 @@ pub(crate) fn push_bars(
 }
 
 /// Appends the outline of a bar, if its task has a row.
-fn push_outline_of(
-    text: &mut Bytes,
-    axis: Axis,
-    bar: Option<&Mark>,
-) -> Result<(), Memory>
-    ensures { OnOk result (text.new ≡ text.old ++ outline_found axis bar.now) }
+fn push_outline_of(text: &mut Bytes, axis: Axis, bar: &Mark) -> Result<(), Memory>
+    ensures { OnOk result (text.new ≡ text.old ++ outline_found axis (Some bar.now)) }
 {
-    let Some(bar) = bar else {
-        return Ok(());
-    };
-    if bar.task >= MOST_ROWS {
-        return Ok(());
+    if bar.task < MOST_ROWS {
+        let (from, until) = (bar_begin(axis.kind, bar), bar_end(axis.kind, bar));
+        push_plain_box(
+            text,
+            b"chain",
+            time_column(axis.length, from),
+            row_top(bar.task),
+            time_width(axis.length, from, until),
+        )
+    } else {
+        Ok(())
     }
-    let (from, until) = (bar_begin(axis.kind, bar), bar_end(axis.kind, bar));
-    push_plain_box(
-        text,
-        b"chain",
-        time_column(axis.length, from),
-        row_top(bar.task),
-        time_width(axis.length, from, until),
-    )
+}
+
+/// Appends the outline of the bar of the entry of this number.
+fn push_outline(text: &mut Bytes, bars: &[Mark], axis: Axis, number: u64) -> Result<(), Memory>
+    ensures { OnOk result (text.new ≡ text.old ++ outline bars.now axis number) }
+{
+    match bars.get(number as usize) {
+        None => Ok(()),
+        Some(bar) => push_outline_of(text, axis, bar),
+    }
 }
 
 /// Appends the outlines of the bars of these entries.
@@ -220,7 +226,7 @@ pub(crate) fn push_outlines(
     ensures { OnOk result (text.new ≡ text.old ++ flat_map (outline bars.now axis) chain.now) }
 {
     for number in chain {
-        push_outline_of(text, axis, bars.get(*number as usize))?;
+        push_outline(text, bars, axis, *number)?;
     }
     Ok(())
 }

@@ -1,10 +1,10 @@
 //! What stands above the rows of a picture.
 ghost use Rattle.std.specs.Prelude.{◌≡◌, ◌++◌, ◌<◌, IfOk, OnOk};
-ghost use Rattle.twe_draw.specs.Head.{axis, axis_words, chain_colour, colour, deterministic_colour, entry_colours, hundredths, rows_left_out, rows_left_out_words, legend, opening, opening_words, parallelism_after, picture_head, run_words, title_element, titles};
+ghost use Rattle.twe_draw.specs.Head.{axis, axis_words, chain_colour, colour, deterministic_colour, entry_colours, head_key, head_top, hundredths, rows_left_out, rows_left_out_words, legend, opening, opening_words, parallelism_after, parallelism_words, picture_head, run_words, titles, total_words};
 
 use crate::scale::picture_height;
 use crate::style::push_setting;
-use crate::svg::{push_escaped, push_measure, push_number, push_plain_box, push_words_at};
+use crate::svg::{push_measure, push_number, push_plain_box, push_title_element, push_words_at};
 use crate::words::AxisKind;
 use itoa::Buffer;
 use run_advice::parallelism_of;
@@ -28,18 +28,33 @@ fn push_parallelism(text: &mut Bytes, words: &[u8], work: u64, span: u64) -> Res
     push_hundredths(text, parallelism_of(work, span))
 }
 
+/// Appends the work and the span.
+fn push_total_words(text: &mut Bytes, work: u64, span: u64) -> Result<(), Memory>
+    ensures { OnOk result (text.new ≡ text.old ++ total_words work span) }
+{
+    push_number(text, b"work ", work)?;
+    push_number(text, b", span ", span)
+}
+
+/// Appends the parallelism in words.
+fn push_parallelism_words(text: &mut Bytes, work: u64, span: u64) -> Result<(), Memory>
+    ensures { OnOk result (text.new ≡ text.old ++ parallelism_words work span) }
+{
+    push_parallelism(text, b", parallelism ", work, span)
+}
+
 /// The work, the span and the parallelism.
 fn run_words(alloc: Global, work: u64, span: u64) -> Result<Bytes, Memory>
     ensures { IfOk result (λ words. words ≡ run_words work span) }
 {
     let mut words = Bytes::new(alloc);
-    push_number(&mut words, b"work ", work)?;
-    push_number(&mut words, b", span ", span)?;
-    push_parallelism(&mut words, b", parallelism ", work, span)?;
+    push_total_words(&mut words, work, span)?;
+    push_parallelism_words(&mut words, work, span)?;
     Ok(words)
 }
 
-/// The beginning of the tag of the whole picture.
+/// Appends the beginning of the tag of the whole picture.
+#[tactic(auto, unfolding(crate::specs::Head::opening_words))]
 fn push_opening_words(text: &mut Bytes) -> Result<(), Memory>
     ensures { OnOk result (text.new ≡ text.old ++ opening_words) }
 {
@@ -55,20 +70,12 @@ fn push_opening(text: &mut Bytes, tasks: usize) -> Result<(), Memory>
     text.push_all(b"'>\n")
 }
 
-/// Appends the title, which a browser shows.
-fn push_title_element(text: &mut Bytes, words: &[u8]) -> Result<(), Memory>
-    ensures { OnOk result (text.new ≡ text.old ++ title_element words.now) }
-{
-    text.push_all(b"<title>")?;
-    push_escaped(text, words)?;
-    text.push_all(b"</title>\n")
-}
-
 /// Appends the title, and the same words in the picture.
 fn push_titles(text: &mut Bytes, words: &[u8]) -> Result<(), Memory>
     ensures { OnOk result (text.new ≡ text.old ++ titles words.now) }
 {
     push_title_element(text, words)?;
+    text.push_all(b"\n")?;
     push_words_at(text, 6, 22, words)
 }
 
@@ -112,7 +119,12 @@ fn push_entry_colours(text: &mut Bytes) -> Result<(), Memory>
 fn push_deterministic_colour(text: &mut Bytes) -> Result<(), Memory>
     ensures { OnOk result (text.new ≡ text.old ++ deterministic_colour) }
 {
-    push_colour(text, b"deterministic", 226, b"segment of a deterministic task")
+    push_colour(
+        text,
+        b"deterministic",
+        226,
+        b"segment of a deterministic task",
+    )
 }
 
 /// Appends the colour of the heaviest chain.
@@ -123,6 +135,7 @@ fn push_chain_colour(text: &mut Bytes) -> Result<(), Memory>
 }
 
 /// Appends what the colours mean.
+#[tactic(auto, unfolding(crate::specs::Head::legend))]
 fn push_legend(text: &mut Bytes) -> Result<(), Memory>
     ensures { OnOk result (text.new ≡ text.old ++ legend) }
 {
@@ -152,7 +165,30 @@ fn push_rows_left_out(text: &mut Bytes, alloc: Global, tasks: usize) -> Result<(
     }
 }
 
+/// Appends the tag of the whole picture and its title.
+fn push_head_top(text: &mut Bytes, tasks: usize, words: &[u8]) -> Result<(), Memory>
+    ensures { OnOk result (text.new ≡ text.old ++ head_top tasks words.now) }
+{
+    push_opening(text, tasks)?;
+    push_titles(text, words)
+}
+
+/// Appends what the axis and the colours mean, and how many tasks have no row.
+fn push_head_key(
+    text: &mut Bytes,
+    alloc: Global,
+    kind: AxisKind,
+    tasks: usize,
+) -> Result<(), Memory>
+    ensures { OnOk result (text.new ≡ text.old ++ head_key kind tasks) }
+{
+    push_axis(text, kind)?;
+    push_legend(text)?;
+    push_rows_left_out(text, alloc, tasks)
+}
+
 /// Appends what stands above the rows.
+#[tactic(auto, unfolding(crate::specs::Head::picture_head))]
 pub(crate) fn push_head(
     text: &mut Bytes,
     alloc: Global,
@@ -164,10 +200,7 @@ pub(crate) fn push_head(
     ensures { OnOk result (text.new ≡ text.old ++ picture_head kind tasks work span) }
 {
     let words = run_words(alloc, work, span)?;
-    push_opening(text, tasks)?;
-    push_titles(text, words.as_slice())?;
+    push_head_top(text, tasks, words.as_slice())?;
     push_setting(text)?;
-    push_axis(text, kind)?;
-    push_legend(text)?;
-    push_rows_left_out(text, alloc, tasks)
+    push_head_key(text, alloc, kind, tasks)
 }

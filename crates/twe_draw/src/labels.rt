@@ -10,7 +10,7 @@ use std::alloc::Global;
 use text_meaning::push_effects;
 use twe_base::{Bytes, Memory, Place};
 use twe_machine::TaskRow;
-use twe_program::{Decl, Prog};
+use twe_program::Prog;
 
 /// Appends arguments, each after `, `.
 fn push_more_args(text: &mut Bytes, args: &[i32]) -> Result<(), Memory>
@@ -48,11 +48,11 @@ fn push_task(text: &mut Bytes, task: u32, name: &[u8], args: &[i32]) -> Result<(
     text.push_all(b")")
 }
 
-/// The name of a declaration, or nothing if there is none.
-fn name_found(decl: Option<&Decl>) -> &[u8]
-    ensures { result.now ≡ name_found decl.now }
+/// The name of the declaration of this number, or nothing if there is none.
+fn name_of(p: &Prog, decl: u32) -> &[u8]
+    ensures { result.now ≡ name_found (slice_get p.now.tasks decl) }
 {
-    match decl {
+    match p.tasks.get(decl as usize) {
         None => b"",
         Some(decl) => decl.name.as_bytes(),
     }
@@ -62,8 +62,12 @@ fn name_found(decl: Option<&Decl>) -> &[u8]
 pub(crate) fn push_label(text: &mut Bytes, p: &Prog, row: &TaskRow) -> Result<(), Memory>
     ensures { OnOk result (text.new ≡ text.old ++ task_label p.now row.now) }
 {
-    let name = name_found(p.tasks.get(row.decl as usize));
-    push_task(text, row.frame.task, name, row.args.as_slice())
+    push_task(
+        text,
+        row.frame.task,
+        name_of(p, row.decl),
+        row.args.as_slice(),
+    )
 }
 
 /// Appends the place of a declaration.
@@ -91,16 +95,16 @@ fn push_details(text: &mut Bytes, p: &Prog, row: &TaskRow) -> Result<(), Memory>
     push_label(text, p, row)?;
     push_place_of(text, p, row.decl)?;
     text.push_all(b", ")?;
-    push_effects(text, p.regions.as_slice(), &[], row.effects.effects.as_slice())
+    push_effects(
+        text,
+        p.regions.as_slice(),
+        &[],
+        row.effects.effects.as_slice(),
+    )
 }
 
 /// Appends the same of the task of this number.
-fn push_details_of(
-    text: &mut Bytes,
-    p: &Prog,
-    tasks: &[TaskRow],
-    task: u32,
-) -> Result<(), Memory>
+fn push_details_of(text: &mut Bytes, p: &Prog, tasks: &[TaskRow], task: u32) -> Result<(), Memory>
     ensures { OnOk result (text.new ≡ text.old ++ details_found p.now (slice_get tasks.now task)) }
 {
     match tasks.get(task as usize) {

@@ -43,7 +43,14 @@ pub(crate) fn picture_text(
 {
     let mut text = Bytes::new(alloc);
     let axis = axis_of(kind, picture.span, picture.bars.as_slice());
-    push_head(&mut text, alloc, kind, picture.tasks.len(), picture.work, picture.span)?;
+    push_head(
+        &mut text,
+        alloc,
+        kind,
+        picture.tasks.len(),
+        picture.work,
+        picture.span,
+    )?;
     push_shapes(&mut text, alloc, p, axis, picture)?;
     text.push_all(b"</svg>\n")?;
     Ok(text)

@@ -8,21 +8,27 @@ use twe_base::{Bytes, Memory};
 fn push_page_style(text: &mut Bytes) -> Result<(), Memory>
     ensures { OnOk result (text.new ≡ text.old ++ page_style) }
 {
-    text.push_all(b"<style>svg{background:#fff;font:12px sans-serif}text{fill:#222}rect{stroke:#fff;stroke-width:.5}\n")
+    text.push_all(
+        b"<style>svg{background:#fff;font:12px sans-serif}text{fill:#222}rect{stroke:#fff;stroke-width:.5}\n",
+    )
 }
 
 /// Appends the colours of entries.
 fn push_entry_style(text: &mut Bytes) -> Result<(), Memory>
     ensures { OnOk result (text.new ≡ text.old ++ entry_style) }
 {
-    text.push_all(b".admission{fill:#999}.segment{fill:#56b4e9}.deterministic{fill:#009e73}.waits{fill:#ddd}\n")
+    text.push_all(
+        b".admission{fill:#999}.segment{fill:#56b4e9}.deterministic{fill:#009e73}.waits{fill:#ddd}\n",
+    )
 }
 
 /// Appends the lines and the arrows.
 fn push_line_style(text: &mut Bytes) -> Result<(), Memory>
     ensures { OnOk result (text.new ≡ text.old ++ line_style) }
 {
-    text.push_all(b".row{stroke:#bbb}.makes,.gives{fill:none;stroke:#777;marker-end:url(#tip)}.gives{stroke-dasharray:4 2}\n")
+    text.push_all(
+        b".row{stroke:#bbb}.makes,.gives{fill:none;stroke:#777;marker-end:url(#tip)}.gives{stroke-dasharray:4 2}\n",
+    )
 }
 
 /// Appends the heaviest chain.
@@ -36,7 +42,9 @@ fn push_chain_style(text: &mut Bytes) -> Result<(), Memory>
 fn push_dark_page_style(text: &mut Bytes) -> Result<(), Memory>
     ensures { OnOk result (text.new ≡ text.old ++ dark_page_style) }
 {
-    text.push_all(b"@media (prefers-color-scheme:dark){svg{background:#111}text{fill:#ddd}rect{stroke:#111}\n")
+    text.push_all(
+        b"@media (prefers-color-scheme:dark){svg{background:#111}text{fill:#ddd}rect{stroke:#111}\n",
+    )
 }
 
 /// Appends what differs in the dark: the rest.
@@ -50,7 +58,9 @@ fn push_dark_entry_style(text: &mut Bytes) -> Result<(), Memory>
 fn push_tip_opening(text: &mut Bytes) -> Result<(), Memory>
     ensures { OnOk result (text.new ≡ text.old ++ tip_opening) }
 {
-    text.push_all(b"<defs><marker id='tip' viewBox='0 0 8 8' refX='8' refY='4' markerWidth='6' markerHeight='6' orient='auto'>\n")
+    text.push_all(
+        b"<defs><marker id='tip' viewBox='0 0 8 8' refX='8' refY='4' markerWidth='6' markerHeight='6' orient='auto'>\n",
+    )
 }
 
 /// Appends the tip of an arrow: its shape.
@@ -87,6 +97,7 @@ fn push_arrow_tip(text: &mut Bytes) -> Result<(), Memory>
 }
 
 /// Appends what is the same in each picture.
+#[tactic(auto, unfolding(crate::specs::Style::setting))]
 pub(crate) fn push_setting(text: &mut Bytes) -> Result<(), Memory>
     ensures { OnOk result (text.new ≡ text.old ++ setting) }
 {

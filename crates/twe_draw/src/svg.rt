@@ -1,6 +1,6 @@
 //! The elements of a picture, as SVG.
 ghost use Rattle.std.specs.Prelude.{◌≡◌, ◌++◌, OnOk};
-ghost use Rattle.twe_draw.specs.Svg.{box_place, classed, escaped, escaped_byte, with_number, plain_box, row_line, titled_box, upright, words_at};
+ghost use Rattle.twe_draw.specs.Svg.{box_place, classed, escaped, escaped_byte, with_number, plain_box, row_line, title_element, titled_box, upright, words_at};
 
 use itoa::Buffer;
 use twe_base::{Bytes, Memory};
@@ -45,7 +45,7 @@ fn push_escaped_byte(text: &mut Bytes, byte: u8) -> Result<(), Memory>
 }
 
 /// Appends bytes as they stand between tags.
-pub(crate) fn push_escaped(text: &mut Bytes, bytes: &[u8]) -> Result<(), Memory>
+fn push_escaped(text: &mut Bytes, bytes: &[u8]) -> Result<(), Memory>
     ensures { OnOk result (text.new ≡ text.old ++ escaped bytes.now) }
 {
     for byte in bytes {
@@ -76,6 +76,7 @@ fn push_box_place(text: &mut Bytes, left: u128, top: u128, width: u128) -> Resul
 }
 
 /// Appends a box of this class.
+#[tactic(auto, unfolding(crate::specs::Svg::plain_box))]
 pub(crate) fn push_plain_box(
     text: &mut Bytes,
     class: &[u8],
@@ -90,7 +91,17 @@ pub(crate) fn push_plain_box(
     text.push_all(b"/>\n")
 }
 
+/// Appends a title.
+pub(crate) fn push_title_element(text: &mut Bytes, title: &[u8]) -> Result<(), Memory>
+    ensures { OnOk result (text.new ≡ text.old ++ title_element title.now) }
+{
+    text.push_all(b"<title>")?;
+    push_escaped(text, title)?;
+    text.push_all(b"</title>")
+}
+
 /// Appends a box of this class with a title.
+#[tactic(auto, unfolding(crate::specs::Svg::titled_box))]
 pub(crate) fn push_titled_box(
     text: &mut Bytes,
     class: &[u8],
@@ -103,13 +114,13 @@ pub(crate) fn push_titled_box(
 {
     push_classed(text, b"<rect", class)?;
     push_box_place(text, left, top, width)?;
-    text.push_all(b"><title>")?;
-    push_escaped(text, title)?;
-    text.push_all(b"</title>")?;
+    text.push_all(b">")?;
+    push_title_element(text, title)?;
     text.push_all(b"</rect>\n")
 }
 
 /// Appends words at a place.
+#[tactic(auto, unfolding(crate::specs::Svg::words_at))]
 pub(crate) fn push_words_at(
     text: &mut Bytes,
     left: u128,
@@ -126,6 +137,7 @@ pub(crate) fn push_words_at(
 }
 
 /// Appends a line of this class up or down, from one height to another.
+#[tactic(auto, unfolding(crate::specs::Svg::upright))]
 pub(crate) fn push_upright(
     text: &mut Bytes,
     class: &[u8],
@@ -143,6 +155,7 @@ pub(crate) fn push_upright(
 }
 
 /// Appends the line below the row of a task.
+#[tactic(auto, unfolding(crate::specs::Svg::row_line))]
 pub(crate) fn push_row_line(text: &mut Bytes, height: u128) -> Result<(), Memory>
     ensures { OnOk result (text.new ≡ text.old ++ row_line height) }
 {
