@@ -22,6 +22,7 @@ words_for() {
     twe_advise) echo ' [--json]' ;;
     twe_annotate) echo ' matrix' ;;
     twe_batch) echo ' check | run' ;;
+    twe_draw) echo ' [order]' ;;
     twe_explain) echo ' [--name FILE] [--lines]' ;;
     twe_opt) echo ' k' ;;
   esac
@@ -58,6 +59,7 @@ is_command() {
     twe_advise) [[ $# == 0 || ($# == 1 && $1 == --json) ]] ;;
     twe_annotate) [[ $# == 1 && $1 == matrix ]] ;;
     twe_batch) (($# == 1)) && [[ $1 == check || $1 == run ]] ;;
+    twe_draw) [[ $# == 0 || ($# == 1 && $1 == order) ]] ;;
     twe_explain) is_wish "$@" ;;
     twe_opt) (($# == 1)) && is_number 1 64 "$1" ;;
     *) (($# == 0)) ;;

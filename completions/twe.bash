@@ -46,6 +46,11 @@ _twe_advise() {
   if ((COMP_CWORD == 1)) && [[ --json == "${COMP_WORDS[1]}"* ]]; then COMPREPLY=(--json); fi
 }
 
+_twe_draw() {
+  COMPREPLY=()
+  if ((COMP_CWORD == 1)) && [[ order == "${COMP_WORDS[1]}"* ]]; then COMPREPLY=(order); fi
+}
+
 _twe_explain() {
   local current=${COMP_WORDS[COMP_CWORD]} words=' --name --lines ' word given
   COMPREPLY=()
@@ -68,6 +73,7 @@ _twe_other() {
 complete -F _twe twe
 complete -F _twe_batch twe_batch
 complete -F _twe_advise twe_advise
+complete -F _twe_draw twe_draw
 complete -F _twe_annotate twe_annotate
 complete -F _twe_explain twe_explain
 complete -F _twe_other twe_infer twe_opt twe_profile

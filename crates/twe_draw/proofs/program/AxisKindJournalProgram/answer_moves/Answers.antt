@@ -1,0 +1,12 @@
+use Rattle.std.proofs.Common.{sym, ap, ◌∙◌, subst}
+use Rattle.twe_io.specs.declared.status.Status.TheVariants.{Done}
+use Rattle.twe_io.specs.Answers.{on_out}
+use Rattle.twe_draw.specs.Answers.{PictureGiven}
+use Rattle.twe_draw.proofs.program.AxisKindJournalProgram.answer_moves.Goals as goal
+
+-- the picture is written
+pub returns-clause-given : goal.returns-clause-given
+returns-clause-given c =
+    let d = c.in_ok-picture.picture in
+    subst (PictureGiven c.args.self.now c.args.p.now c.args.lim c.args.moves.now) (sym (c.on_out.ensures ∙ ap (on_out Done) c.in_ok-text.ensures))
+    (PictureGiven.drawn d.work d.span d.chain d.bars d.tasks c.in_ok-picture.ensures.drawn)

@@ -1,0 +1,38 @@
+-- What the program answers, and why.
+use Rattle.std.specs.Prelude.{ℕ, List}
+use Rattle.seg_journal.specs.declared.moves.Move.{Move}
+use Rattle.twe_base.specs.Limits.{Bounds}
+use Rattle.twe_program.specs.Program.{Program}
+use Rattle.twe_machine.specs.declared.state.TaskRow.{TaskRow}
+use Rattle.text_programs.specs.Causes.{TextCause}
+use Rattle.journal_programs.specs.Due.{JournalDue}
+use Rattle.twe_io.specs.Ends.{Ends, EndsTell, SourceTells}
+use Rattle.twe_io.specs.Answers.{IsAnswered, on_out}
+use Rattle.twe_io.specs.declared.answer.Answer.{Answer}
+use Rattle.twe_io.specs.declared.status.Status.{Status}
+use Rattle.twe_io.specs.declared.status.Status.TheVariants.{Done}
+use Rattle.run_picture.specs.Pictures.{IsPicture}
+use Rattle.run_picture.specs.declared.bars.Mark.{Mark}
+use Rattle.twe_draw.specs.declared.words.AxisKind.{AxisKind}
+use Rattle.twe_draw.specs.Pages.{picture_text}
+use Rattle.twe_draw.specs.Words.{draw_usage_text, asked_axis}
+
+-- The answer, in this kind, to legal moves of an accepted program under these limits.
+pub data PictureGiven (kind : AxisKind) (p : Program) (lim : Bounds) (moves : List Move) : Answer → Type 0 where
+  -- the picture of the run is written
+  drawn : (work span : ℕ) (chain : List ℕ) (bars : List Mark) (tasks : List TaskRow)
+      → IsPicture p lim moves work span chain bars tasks
+      → PictureGiven kind p lim moves (on_out Done (picture_text kind p work span chain bars tasks))
+
+-- the answer to an input, in this kind: to the text of a program, and after the first line that is exactly `%%` the text of a
+-- journal
+abbrev pub PictureDue : AxisKind → List ℕ → Answer → Type 0
+PictureDue kind input = JournalDue (PictureGiven kind) input
+
+-- why the program gives an answer, before it writes anything
+abbrev pub PictureCause : {S : Type 0} → SourceTells S → List (List ℕ) → S → S → Answer → Type 0
+PictureCause tells words = TextCause asked_axis draw_usage_text PictureDue tells words
+
+-- what a call of the program comes to: an answer that has its cause is written; or memory runs out, and nothing is written
+abbrev pub IsDrawnFor : {S O E : Type 0} → EndsTell S O E → List (List ℕ) → Ends S O E → Ends S O E → Status → Type 0
+IsDrawnFor tells words before after status = IsAnswered tells (PictureCause tells.src words) before after status

@@ -1,0 +1,74 @@
+-- What is written of tasks and of what they did.
+use Rattle.std.specs.Fmt.{signed_decimal}
+use Rattle.std.specs.Prelude.{◌++◌, ℕ, ℤ, List, [], ◌∷◌, Option, None, Some, codes, slice_get}
+use Rattle.std.specs.List.{flat_map}
+use Rattle.seg_journal.specs.declared.journal.End.{End}
+use Rattle.seg_journal.specs.declared.journal.End.TheVariants as ends
+use Rattle.twe_base.specs.declared.place.Place.{Place}
+use Rattle.twe_program.specs.declared.program.Decl.{Decl}
+use Rattle.twe_program.specs.Program.{Program}
+use Rattle.twe_machine.specs.declared.state.TaskRow.{TaskRow}
+use Rattle.text_meaning.specs.EffectTexts.{effects_text}
+use Rattle.run_picture.specs.declared.bars.Mark.{Mark}
+use Rattle.twe_draw.specs.Svg.{with_number}
+
+-- arguments, each after `, `
+abbrev pub more_args : List ℤ → List ℕ
+more_args args = flat_map (λ arg. codes ", " ++ signed_decimal arg) args
+
+-- arguments with `, ` between them
+abbrev pub args_text : List ℤ → List ℕ
+args_text [] = []
+args_text (arg ∷ args) = signed_decimal arg ++ more_args args
+
+-- the number of a task of this name, and its arguments, as `3 walk(1, 2)`
+abbrev pub task_text : ℕ → List ℕ → List ℤ → List ℕ
+task_text task name args = with_number [] task ++ (codes " " ++ (name ++ (codes "(" ++ (args_text args ++ codes ")"))))
+
+-- the name of a declaration that was looked up
+abbrev pub name_found : Option Decl → List ℕ
+name_found None = []
+name_found (Some decl) = decl.name
+
+-- the number of a task, its name and its arguments
+abbrev pub task_label : Program → TaskRow → List ℕ
+task_label p row = task_text row.frame.task (name_found (slice_get p.tasks row.decl)) row.args
+
+-- the place of a declaration, as ` of 4:6`
+abbrev pub declared_at : Place → List ℕ
+declared_at place = with_number (codes " of ") place.line ++ with_number (codes ":") place.col
+
+-- the place of a declaration that was looked up
+abbrev pub place_found : Option Decl → List ℕ
+place_found None = []
+place_found (Some decl) = declared_at decl.place
+
+-- a task with the place of its declaration and its effects, as `3 walk(1) of 4:6, writes A:[1]`
+abbrev pub task_details : Program → TaskRow → List ℕ
+task_details p row =
+    task_label p row
+    ++ (place_found (slice_get p.tasks row.decl) ++ (codes ", " ++ effects_text p.regions [] row.effects.effects))
+
+-- the same of a row that was looked up
+abbrev pub details_found : Program → Option TaskRow → List ℕ
+details_found p None = []
+details_found p (Some row) = task_details p row
+
+-- how an entry ended
+abbrev pub end_words : End → List ℕ
+end_words ends.Admitted = codes ": admitted"
+end_words (ends.Made child) = with_number (codes ": makes ") child
+end_words (ends.Waits on) = with_number (codes ": waits for ") on
+end_words (ends.Joins on) = with_number (codes ": joins ") on
+end_words (ends.Done value) = codes ": is done"
+end_words (ends.Fault kind place) = codes ": meets a fault"
+
+-- the number of an entry, and when it begins and ends, as `entry 4, 6 to 7, `
+abbrev pub entry_words : Mark → List ℕ
+entry_words bar =
+    with_number (codes "entry ") bar.number
+    ++ (with_number (codes ", ") bar.begins ++ (with_number (codes " to ") bar.ends ++ codes ", "))
+
+-- what a bar tells: its entry, its task, and how the entry ended
+abbrev pub bar_title : Program → List TaskRow → Mark → List ℕ
+bar_title p tasks bar = entry_words bar ++ (details_found p (slice_get tasks bar.task) ++ end_words bar.end)

@@ -1,0 +1,10 @@
+pub mod Words
+pub mod Scale
+pub mod Svg
+pub mod Style
+pub mod Labels
+pub mod Bars
+pub mod Arrows
+pub mod Head
+pub mod Pages
+pub mod Answers

@@ -1,0 +1,45 @@
+-- Where things stand in a picture, in pixels from its left and its top. Each task has a row, and time goes to the right.
+use Rattle.std.specs.Prelude.{◌+◌, ◌-◌, ◌*◌, ◌/◌, ℕ, List, length, max, min}
+use Rattle.run_picture.specs.declared.bars.Mark.{Mark}
+use Rattle.twe_draw.specs.declared.scale.Axis.{Axis}
+use Rattle.twe_draw.specs.declared.words.AxisKind.{AxisKind}
+use Rattle.twe_draw.specs.declared.words.AxisKind.TheVariants.{Time, Order}
+
+-- how many tasks have a row: those of the lowest numbers
+abbrev pub most_rows : ℕ
+most_rows = 200
+
+-- the axis of a picture: it is as long as the span, or has a column for each entry
+abbrev pub axis_of : AxisKind → ℕ → List Mark → Axis
+axis_of Time span bars = record { kind = Time; length = span }
+axis_of Order span bars = record { kind = Order; length = length bars }
+
+-- when the entry of a bar begins, or its column
+abbrev pub bar_begin : AxisKind → Mark → ℕ
+bar_begin Time bar = bar.begins
+bar_begin Order bar = bar.number
+
+-- when the entry of a bar ends, or the next column
+abbrev pub bar_end : AxisKind → Mark → ℕ
+bar_end Time bar = bar.ends
+bar_end Order bar = bar.number + 1
+
+-- where a time stands in a picture of this length, which is 1000 pixels wide; later times stand at its end
+unfoldable pub time_column : ℕ → ℕ → ℕ
+time_column whole time = min time whole * 1000 / max whole 1 + 240
+
+-- how wide it is from one time to another: at least 2
+unfoldable pub time_width : ℕ → ℕ → ℕ → ℕ
+time_width whole from until = max (time_column whole until - time_column whole from) 2
+
+-- the top of the bars of a task
+unfoldable pub row_top : ℕ → ℕ
+row_top task = 92 + 20 * task
+
+-- the bottom of the bars of a task
+unfoldable pub row_bottom : ℕ → ℕ
+row_bottom task = 106 + 20 * task
+
+-- the height of a picture of so many tasks
+unfoldable pub picture_height : ℕ → ℕ
+picture_height tasks = 120 + 20 * min tasks most_rows

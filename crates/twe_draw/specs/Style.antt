@@ -1,0 +1,50 @@
+-- What is the same in each picture: its colours, and the tip of its arrows.
+use Rattle.std.specs.Prelude.{◌++◌, ℕ, List, codes}
+
+-- the background, the words and the boxes
+abbrev pub page_style : List ℕ
+page_style = codes "<style>svg{background:#fff;font:12px sans-serif}text{fill:#222}rect{stroke:#fff;stroke-width:.5}\n"
+
+-- the colours of entries
+abbrev pub entry_style : List ℕ
+entry_style = codes ".admission{fill:#999}.segment{fill:#56b4e9}.deterministic{fill:#009e73}.waits{fill:#ddd}\n"
+
+-- the lines and the arrows
+abbrev pub line_style : List ℕ
+line_style = codes ".row{stroke:#bbb}.makes,.gives{fill:none;stroke:#777;marker-end:url(#tip)}.gives{stroke-dasharray:4 2}\n"
+
+-- the heaviest chain
+abbrev pub chain_style : List ℕ
+chain_style = codes ".chain{fill:none;stroke:#d55e00;stroke-width:3}\n"
+
+-- what differs in the dark: the background, the words and the boxes
+abbrev pub dark_page_style : List ℕ
+dark_page_style = codes "@media (prefers-color-scheme:dark){svg{background:#111}text{fill:#ddd}rect{stroke:#111}\n"
+
+-- what differs in the dark: the rest
+abbrev pub dark_entry_style : List ℕ
+dark_entry_style = codes ".waits{fill:#333}.row{stroke:#444}.chain{stroke:#e69f00}}</style>\n"
+
+-- the tip of an arrow: its size
+abbrev pub tip_opening : List ℕ
+tip_opening = codes "<defs><marker id='tip' viewBox='0 0 8 8' refX='8' refY='4' markerWidth='6' markerHeight='6' orient='auto'>\n"
+
+-- the tip of an arrow: its shape
+abbrev pub tip_shape : List ℕ
+tip_shape = codes "<path fill='#777' d='M0 0L8 4L0 8z'/></marker></defs>\n"
+
+-- the colours, which differ for the colour-blind too
+abbrev pub light_style : List ℕ
+light_style = page_style ++ (entry_style ++ (line_style ++ chain_style))
+
+-- what differs in the dark
+abbrev pub dark_style : List ℕ
+dark_style = dark_page_style ++ dark_entry_style
+
+-- the tip of an arrow
+abbrev pub arrow_tip : List ℕ
+arrow_tip = tip_opening ++ tip_shape
+
+-- what is the same in each picture
+unfoldable pub setting : List ℕ
+setting = light_style ++ (dark_style ++ arrow_tip)

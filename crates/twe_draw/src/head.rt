@@ -1,0 +1,206 @@
+//! What stands above the rows of a picture.
+ghost use Rattle.std.specs.Prelude.{◌≡◌, ◌++◌, ◌<◌, IfOk, OnOk};
+ghost use Rattle.twe_draw.specs.Head.{axis, axis_words, chain_colour, colour, deterministic_colour, entry_colours, head_key, head_top, hundredths, rows_left_out, rows_left_out_words, legend, opening, opening_words, parallelism_after, parallelism_words, picture_head, run_words, titles, total_words};
+
+use crate::scale::picture_height;
+use crate::style::push_setting;
+use crate::svg::{push_measure, push_number, push_plain_box, push_title_element, push_words_at};
+use crate::words::AxisKind;
+use itoa::Buffer;
+use run_advice::parallelism_of;
+use std::alloc::Global;
+use twe_base::{Bytes, Memory};
+
+/// Appends hundredths, as `1.33`.
+fn push_hundredths(text: &mut Bytes, number: u128) -> Result<(), Memory>
+    ensures { OnOk result (text.new ≡ text.old ++ hundredths number) }
+{
+    text.push_all(Buffer::new().format(number / 100).as_bytes())?;
+    push_measure(text, b".", number / 10 % 10)?;
+    text.push_all(Buffer::new().format(number % 10).as_bytes())
+}
+
+/// Appends the parallelism of a run, after these words.
+fn push_parallelism(text: &mut Bytes, words: &[u8], work: u64, span: u64) -> Result<(), Memory>
+    ensures { OnOk result (text.new ≡ text.old ++ parallelism_after words.now work span) }
+{
+    text.push_all(words)?;
+    push_hundredths(text, parallelism_of(work, span))
+}
+
+/// Appends the work and the span.
+fn push_total_words(text: &mut Bytes, work: u64, span: u64) -> Result<(), Memory>
+    ensures { OnOk result (text.new ≡ text.old ++ total_words work span) }
+{
+    push_number(text, b"work ", work)?;
+    push_number(text, b", span ", span)
+}
+
+/// Appends the parallelism in words.
+fn push_parallelism_words(text: &mut Bytes, work: u64, span: u64) -> Result<(), Memory>
+    ensures { OnOk result (text.new ≡ text.old ++ parallelism_words work span) }
+{
+    push_parallelism(text, b", parallelism ", work, span)
+}
+
+/// The work, the span and the parallelism.
+fn run_words(alloc: Global, work: u64, span: u64) -> Result<Bytes, Memory>
+    ensures { IfOk result (λ words. words ≡ run_words work span) }
+{
+    let mut words = Bytes::new(alloc);
+    push_total_words(&mut words, work, span)?;
+    push_parallelism_words(&mut words, work, span)?;
+    Ok(words)
+}
+
+/// Appends the beginning of the tag of the whole picture.
+#[tactic(auto, unfolding(crate::specs::Head::opening_words))]
+fn push_opening_words(text: &mut Bytes) -> Result<(), Memory>
+    ensures { OnOk result (text.new ≡ text.old ++ opening_words) }
+{
+    text.push_all(b"<svg xmlns='http://www.w3.org/2000/svg' width='1260'")
+}
+
+/// Appends the tag of the whole picture.
+fn push_opening(text: &mut Bytes, tasks: usize) -> Result<(), Memory>
+    ensures { OnOk result (text.new ≡ text.old ++ opening tasks) }
+{
+    push_opening_words(text)?;
+    push_measure(text, b" height='", picture_height(tasks))?;
+    text.push_all(b"'>\n")
+}
+
+/// Appends the title, and the same words in the picture.
+fn push_titles(text: &mut Bytes, words: &[u8]) -> Result<(), Memory>
+    ensures { OnOk result (text.new ≡ text.old ++ titles words.now) }
+{
+    push_title_element(text, words)?;
+    text.push_all(b"\n")?;
+    push_words_at(text, 6, 22, words)
+}
+
+/// What the axis means.
+fn axis_words<'a>(kind: AxisKind) -> &'a [u8]
+    ensures { result.now ≡ axis_words kind }
+{
+    match kind {
+        AxisKind::Time => {
+            b"Time is virtual: an entry takes as long as it weighs, and begins when all that leads to it has ended."
+        }
+        AxisKind::Order => b"Each entry of the journal has a column, in their order.",
+    }
+}
+
+/// Appends the words below the title.
+fn push_axis(text: &mut Bytes, kind: AxisKind) -> Result<(), Memory>
+    ensures { OnOk result (text.new ≡ text.old ++ axis kind) }
+{
+    push_words_at(text, 6, 40, axis_words(kind))
+}
+
+/// Appends a colour and what it means.
+fn push_colour(text: &mut Bytes, class: &[u8], left: u16, words: &[u8]) -> Result<(), Memory>
+    ensures { OnOk result (text.new ≡ text.old ++ colour class.now left words.now) }
+{
+    push_plain_box(text, class, u128::from(left), 52, 14)?;
+    push_words_at(text, u128::from(left) + 20, 64, words)
+}
+
+/// Appends the colours of entries.
+fn push_entry_colours(text: &mut Bytes) -> Result<(), Memory>
+    ensures { OnOk result (text.new ≡ text.old ++ entry_colours) }
+{
+    push_colour(text, b"admission", 6, b"admission")?;
+    push_colour(text, b"segment", 126, b"segment")?;
+    push_colour(text, b"waits", 486, b"waits")
+}
+
+/// Appends the colour of deterministic tasks.
+fn push_deterministic_colour(text: &mut Bytes) -> Result<(), Memory>
+    ensures { OnOk result (text.new ≡ text.old ++ deterministic_colour) }
+{
+    push_colour(
+        text,
+        b"deterministic",
+        226,
+        b"segment of a deterministic task",
+    )
+}
+
+/// Appends the colour of the heaviest chain.
+fn push_chain_colour(text: &mut Bytes) -> Result<(), Memory>
+    ensures { OnOk result (text.new ≡ text.old ++ chain_colour) }
+{
+    push_colour(text, b"chain", 586, b"heaviest chain")
+}
+
+/// Appends what the colours mean.
+#[tactic(auto, unfolding(crate::specs::Head::legend))]
+fn push_legend(text: &mut Bytes) -> Result<(), Memory>
+    ensures { OnOk result (text.new ≡ text.old ++ legend) }
+{
+    push_entry_colours(text)?;
+    push_deterministic_colour(text)?;
+    push_chain_colour(text)
+}
+
+/// How many tasks have no row.
+fn rows_left_out_words(alloc: Global, number: u64) -> Result<Bytes, Memory>
+    ensures { IfOk result (λ words. words ≡ rows_left_out_words number) }
+{
+    let mut words = Bytes::new(alloc);
+    push_number(&mut words, b"tasks that are left out: ", number)?;
+    Ok(words)
+}
+
+/// Appends how many tasks have no row, if some have none.
+fn push_rows_left_out(text: &mut Bytes, alloc: Global, tasks: usize) -> Result<(), Memory>
+    ensures { OnOk result (text.new ≡ text.old ++ rows_left_out tasks) }
+{
+    if 200 < tasks {
+        let words = rows_left_out_words(alloc, tasks as u64 - 200)?;
+        push_words_at(text, 246, 84, words.as_slice())
+    } else {
+        Ok(())
+    }
+}
+
+/// Appends the tag of the whole picture and its title.
+fn push_head_top(text: &mut Bytes, tasks: usize, words: &[u8]) -> Result<(), Memory>
+    ensures { OnOk result (text.new ≡ text.old ++ head_top tasks words.now) }
+{
+    push_opening(text, tasks)?;
+    push_titles(text, words)
+}
+
+/// Appends what the axis and the colours mean, and how many tasks have no row.
+fn push_head_key(
+    text: &mut Bytes,
+    alloc: Global,
+    kind: AxisKind,
+    tasks: usize,
+) -> Result<(), Memory>
+    ensures { OnOk result (text.new ≡ text.old ++ head_key kind tasks) }
+{
+    push_axis(text, kind)?;
+    push_legend(text)?;
+    push_rows_left_out(text, alloc, tasks)
+}
+
+/// Appends what stands above the rows.
+#[tactic(auto, unfolding(crate::specs::Head::picture_head))]
+pub(crate) fn push_head(
+    text: &mut Bytes,
+    alloc: Global,
+    kind: AxisKind,
+    tasks: usize,
+    work: u64,
+    span: u64,
+) -> Result<(), Memory>
+    ensures { OnOk result (text.new ≡ text.old ++ picture_head kind tasks work span) }
+{
+    let words = run_words(alloc, work, span)?;
+    push_head_top(text, tasks, words.as_slice())?;
+    push_setting(text)?;
+    push_head_key(text, alloc, kind, tasks)
+}

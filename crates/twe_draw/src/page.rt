@@ -1,0 +1,57 @@
+//! The picture of a run.
+ghost use Rattle.std.specs.Prelude.{◌≡◌, ◌++◌, IfOk, OnOk};
+ghost use Rattle.twe_draw.specs.Pages.{picture_shapes, picture_text};
+
+use crate::arrows::push_arrows;
+use crate::bars::{push_bars, push_outlines, push_rows};
+use crate::head::push_head;
+use crate::scale::{Axis, axis_of};
+use crate::words::AxisKind;
+use run_picture::Picture;
+use std::alloc::Global;
+use twe_base::{Bytes, Memory};
+use twe_program::Prog;
+
+/// Appends what stands in a picture: rows, bars, arrows, and the heaviest chain.
+fn push_shapes(
+    text: &mut Bytes,
+    alloc: Global,
+    p: &Prog,
+    axis: Axis,
+    picture: &Picture,
+) -> Result<(), Memory>
+    ensures { OnOk result (text.new ≡ text.old
+        ++ picture_shapes p.now axis picture.now.chain picture.now.bars picture.now.tasks) }
+{
+    let bars = picture.bars.as_slice();
+    let tasks = picture.tasks.as_slice();
+    push_rows(text, alloc, p, tasks)?;
+    push_bars(text, alloc, p, tasks, bars, axis)?;
+    push_arrows(text, bars, axis)?;
+    push_outlines(text, bars, axis, picture.chain.as_slice())
+}
+
+/// The picture of a run, in this kind.
+pub(crate) fn picture_text(
+    alloc: Global,
+    kind: AxisKind,
+    p: &Prog,
+    picture: &Picture,
+) -> Result<Bytes, Memory>
+    ensures { IfOk result (λ text. text ≡ picture_text kind p.now picture.now.work picture.now.span picture.now.chain
+        picture.now.bars picture.now.tasks) }
+{
+    let mut text = Bytes::new(alloc);
+    let axis = axis_of(kind, picture.span, picture.bars.as_slice());
+    push_head(
+        &mut text,
+        alloc,
+        kind,
+        picture.tasks.len(),
+        picture.work,
+        picture.span,
+    )?;
+    push_shapes(&mut text, alloc, p, axis, picture)?;
+    text.push_all(b"</svg>\n")?;
+    Ok(text)
+}

@@ -1,0 +1,51 @@
+//! The program, as its words ask for it.
+ghost use Rattle.twe_draw.specs.Answers.{PictureDue, PictureGiven};
+ghost use Rattle.twe_draw.specs.Words.{asked_axis, draw_usage_text};
+
+use crate::page::picture_text;
+use crate::words::{AxisKind, asked_axis, usage_text};
+use journal_programs::{JournalProgram, answer_with_journal};
+use run_picture::draw;
+use seg_journal::{Limits, Move};
+use std::alloc::Global;
+use text_programs::TextProgram;
+use twe_base::{Bytes, Memory, Word};
+use twe_io::{Answer, Status};
+use twe_machine::ReplayFail;
+use twe_program::Prog;
+
+impl TextProgram for AxisKind {
+    ghost asked = { asked_axis };
+
+    ghost usage = { draw_usage_text };
+
+    ghost due = { PictureDue };
+
+    fn of_words(_: Global, words: &[Word]) -> Result<Option<Self>, Memory> {
+        Ok(asked_axis(words))
+    }
+
+    fn usage_text(alloc: Global) -> Result<Bytes, Memory> {
+        usage_text(alloc)
+    }
+
+    fn answer_text(&self, alloc: Global, text: &[u8]) -> Result<Answer, Memory> {
+        answer_with_journal(alloc, self, text)
+    }
+}
+
+impl JournalProgram for AxisKind {
+    ghost gives = { PictureGiven };
+
+    fn answer_moves(
+        &self,
+        alloc: Global,
+        p: &Prog,
+        lim: Limits,
+        moves: &[Move],
+    ) -> Result<Answer, ReplayFail> {
+        let picture = draw(alloc, p, lim, moves)?;
+        let text = picture_text(alloc, *self, p, &picture)?;
+        Ok(Answer::on_out(alloc, Status::Done, text))
+    }
+}

@@ -1,0 +1,92 @@
+//! Where things stand in a picture.
+ghost use Rattle.std.specs.Prelude.{◌≡◌};
+ghost use Rattle.twe_draw.specs.Scale as scale;
+
+use crate::words::AxisKind;
+use run_picture::Mark;
+
+/// How many tasks have a row.
+pub(crate) const MOST_ROWS: u32 = 200;
+
+/// The axis of a picture, from its left to its right.
+#[derive(Clone, Copy, Debug)]
+pub struct Axis {
+    /// How the run is drawn.
+    pub kind: AxisKind,
+    /// How long it is: a time, or a number of entries.
+    pub length: u64,
+}
+
+/// The axis of a picture: it is as long as the span, or has a column for each entry.
+pub(crate) fn axis_of(kind: AxisKind, span: u64, bars: &[Mark]) -> Axis
+    ensures { result ≡ scale.axis_of kind span bars.now }
+{
+    let length = match kind {
+        AxisKind::Time => span,
+        AxisKind::Order => bars.len() as u64,
+    };
+    Axis { kind, length }
+}
+
+/// When the entry of a bar begins, or its column.
+pub(crate) fn bar_begin(kind: AxisKind, bar: &Mark) -> u128
+    ensures { result ≡ scale.bar_begin kind bar.now }
+{
+    match kind {
+        AxisKind::Time => u128::from(bar.begins),
+        AxisKind::Order => u128::from(bar.number),
+    }
+}
+
+/// When the entry of a bar ends, or the next column.
+pub(crate) fn bar_end(kind: AxisKind, bar: &Mark) -> u128
+    ensures { result ≡ scale.bar_end kind bar.now }
+{
+    match kind {
+        AxisKind::Time => u128::from(bar.ends),
+        AxisKind::Order => u128::from(bar.number) + 1,
+    }
+}
+
+/// Where a time stands in a picture of this length.
+#[tactic(auto, unfolding(crate::specs::Scale::time_column))]
+pub(crate) fn time_column(whole: u64, time: u128) -> u128
+    ensures { result ≡ scale.time_column whole time }
+{
+    let length = u128::from(whole.max(1));
+    time.min(u128::from(whole)) * 1000 / length + 240
+}
+
+/// How wide it is from one time to another.
+#[tactic(auto, unfolding(crate::specs::Scale::time_width))]
+pub(crate) fn time_width(whole: u64, from: u128, until: u128) -> u128
+    ensures { result ≡ scale.time_width whole from until }
+{
+    time_column(whole, until)
+        .saturating_sub(time_column(whole, from))
+        .max(2)
+}
+
+/// The top of the bars of a task.
+#[tactic(auto, unfolding(crate::specs::Scale::row_top))]
+pub(crate) fn row_top(task: u32) -> u128
+    ensures { result ≡ scale.row_top task }
+{
+    92 + 20 * u128::from(task)
+}
+
+/// The bottom of the bars of a task.
+#[tactic(auto, unfolding(crate::specs::Scale::row_bottom))]
+pub(crate) fn row_bottom(task: u32) -> u128
+    ensures { result ≡ scale.row_bottom task }
+{
+    106 + 20 * u128::from(task)
+}
+
+/// The height of a picture of so many tasks.
+#[tactic(auto, unfolding(crate::specs::Scale::picture_height))]
+pub(crate) fn picture_height(tasks: usize) -> u128
+    ensures { result ≡ scale.picture_height tasks }
+{
+    120 + 20 * (tasks as u128).min(200)
+}

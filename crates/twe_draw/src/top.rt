@@ -1,0 +1,29 @@
+//! The top call: the whole program, apart from where its bytes come from and go to.
+ghost use Rattle.twe_draw.specs.Answers.{IsDrawnFor};
+ghost use Rattle.twe_io.specs.Ends.{ends, ends_tell, sink, source};
+
+use crate::words::AxisKind;
+use std::alloc::Global;
+use text_programs::run_text_program;
+use twe_base::Word;
+use twe_io::{Sink, Source, Status};
+
+/// Reads the text of a program from the source, and after the first line that is exactly `%%` the text of a journal, and writes a
+/// picture of the run of that journal, by time or with a column for each entry. Without such a line the journal is empty. A
+/// journal may be unfinished or stuck, or end with a fault.
+///
+/// `Answers` says what each status means and what is written with it. If there are words other than `order` alone, the answer
+/// is the usage line, and nothing is read from the source. After `Memory` nothing was written.
+pub fn draw_top<S: Source, O: Sink, E: Sink>(
+    alloc: Global,
+    words: &[Word],
+    src: &mut S,
+    out: &mut O,
+    err: &mut E,
+) -> Status
+    ensures { IsDrawnFor (ends_tell (source S.left S.faults S.read_gives) (sink O.written O.faults O.write_gives)
+        (sink E.written E.faults E.write_gives))
+        words.now (ends src.old out.old err.old) (ends src.new out.new err.new) result }
+{
+    run_text_program::<AxisKind, S, O, E>(alloc, words, src, out, err)
+}
