@@ -2,7 +2,7 @@ use Rattle.std.proofs.Common.{sym, ap, ◌∙◌, subst}
 use Rattle.twe_io.specs.declared.status.Status.TheVariants.{Done}
 use Rattle.twe_io.specs.Answers.{on_out}
 use Rattle.twe_draw.specs.Answers.{PictureGiven}
-use Rattle.twe_draw.proofs.program.AxisKindJournalProgram.answer_moves.Goals as goal
+use Rattle.twe_draw.proofs.program.DrawingJournalProgram.answer_moves.Goals as goal
 
 -- the picture is written
 pub returns-clause-given : goal.returns-clause-given
