@@ -14,17 +14,18 @@ use Rattle.twe_io.specs.declared.status.Status.TheVariants.{Done}
 use Rattle.run_picture.specs.Pictures.{IsPicture}
 use Rattle.run_picture.specs.declared.bars.Mark.{Mark}
 use Rattle.twe_draw.specs.declared.words.Drawing.{Drawing}
-use Rattle.twe_draw.specs.Pages.{drawing_text}
+use Rattle.twe_draw.specs.Pages.{IsDrawing}
 use Rattle.twe_draw.specs.Words.{draw_usage_text, asked_drawing}
 
--- What is due, drawn so, to legal moves of an accepted program under these limits.
+-- The answer, drawn so, to legal moves of an accepted program under these limits.
 pub data PictureGiven (drawing : Drawing) (p : Program) (lim : Bounds) (moves : List Move) : Answer → Type 0 where
-  -- the picture of the run is written
-  drawn : (work span : ℕ) (chain : List ℕ) (bars : List Mark) (tasks : List TaskRow)
+  -- the run is drawn
+  drawn : (work span : ℕ) (chain : List ℕ) (bars : List Mark) (tasks : List TaskRow) (text : List ℕ)
       → IsPicture p lim moves work span chain bars tasks
-      → PictureGiven drawing p lim moves (on_out Done (drawing_text drawing p work span chain bars tasks))
+      → IsDrawing drawing p work span chain bars tasks text
+      → PictureGiven drawing p lim moves (on_out Done text)
 
--- the answer to an input, in this kind: to the text of a program, and after the first line that is exactly `%%` the text of a
+-- the answer to an input, drawn so: to the text of a program, and after the first line that is exactly `%%` the text of a
 -- journal
 abbrev pub PictureDue : Drawing → List ℕ → Answer → Type 0
 PictureDue drawing input = JournalDue (PictureGiven drawing) input

@@ -1,5 +1,5 @@
 -- What is written of a run.
-use Rattle.std.specs.Prelude.{◌++◌, ℕ, List, codes, length}
+use Rattle.std.specs.Prelude.{◌≡◌, ◌++◌, ℕ, List, codes, length}
 use Rattle.std.specs.List.{flat_map}
 use Rattle.twe_program.specs.Program.{Program}
 use Rattle.twe_machine.specs.declared.state.TaskRow.{TaskRow}
@@ -12,7 +12,7 @@ use Rattle.twe_draw.specs.Arrows.{arrows_shown}
 use Rattle.twe_draw.specs.Bars.{bar_shown, outline, row_shown}
 use Rattle.twe_draw.specs.Head.{picture_head}
 use Rattle.twe_draw.specs.Scale.{axis_of}
-use Rattle.twe_draw.specs.Trace.{trace_text}
+use Rattle.twe_draw.specs.Trace.{IsTrace}
 
 -- what stands in a picture: rows, bars, arrows, and the heaviest chain
 abbrev pub picture_shapes : Program → Axis → List ℕ → List Mark → List TaskRow → List ℕ
@@ -27,7 +27,7 @@ picture_text kind p work span chain bars tasks =
     picture_head kind (length tasks) work span
     ++ (picture_shapes p (axis_of kind span bars) chain bars tasks ++ codes "</svg>\n")
 
--- what is written of a run: a picture, or a trace
-abbrev pub drawing_text : Drawing → Program → ℕ → ℕ → List ℕ → List Mark → List TaskRow → List ℕ
-drawing_text (Picture kind) p work span chain bars tasks = picture_text kind p work span chain bars tasks
-drawing_text Trace p work span chain bars tasks = trace_text p bars tasks
+-- this is written of a run: a picture, or a trace
+abbrev pub IsDrawing : Drawing → Program → ℕ → ℕ → List ℕ → List Mark → List TaskRow → List ℕ → Type 0
+IsDrawing (Picture kind) p work span chain bars tasks text = text ≡ picture_text kind p work span chain bars tasks
+IsDrawing Trace p work span chain bars tasks text = IsTrace p bars tasks text

@@ -1,6 +1,7 @@
 -- A run as Chrome's trace events, which Perfetto reads: an array of JSON with a name for each row and an event for each entry.
-use Rattle.std.specs.Prelude.{◌-◌, ◌++◌, ℕ, List, [], ◌∷◌, map, Option, None, Some, codes, slice_get}
+use Rattle.std.specs.Prelude.{◌≡◌, ◌-◌, ◌++◌, ℕ, List, [], ◌∷◌, map, Option, None, Some, codes, slice_get}
 use Rattle.serde_json.specs.Data.{Data, number, unsigned, string, array, object, member, no_members}
+use Rattle.serde_json.specs.Read.{read}
 use Rattle.serde_json.specs.View.{items_of}
 use Rattle.serde_json.specs.Written.{compact_text}
 use Rattle.seg_journal.specs.declared.journal.End.{End}
@@ -59,6 +60,9 @@ bar_event p tasks bar = object
 abbrev pub trace_data : Program → List Mark → List TaskRow → Data
 trace_data p bars tasks = array (items_of (map (row_event p) tasks ++ map (bar_event p tasks) bars))
 
--- the events as JSON, with the end of a line
-abbrev pub trace_text : Program → List Mark → List TaskRow → List ℕ
-trace_text p bars tasks = compact_text (trace_data p bars tasks) ++ 10 ∷ []
+-- The text is the JSON of the events of a run, without spaces, and the end of a line. The JSON reads back to the events.
+pub record IsTrace (p : Program) (bars : List Mark) (tasks : List TaskRow) (text : List ℕ) : Type 0 where
+  pub json : List ℕ
+  pub text_is : text ≡ json ++ 10 ∷ []
+  pub json_is : json ≡ compact_text (trace_data p bars tasks)
+  pub reads_back : read json ≡ Some (trace_data p bars tasks)

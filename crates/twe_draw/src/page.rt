@@ -1,6 +1,6 @@
 //! What is written of a run.
 ghost use Rattle.std.specs.Prelude.{◌≡◌, ◌++◌, IfOk, OnOk};
-ghost use Rattle.twe_draw.specs.Pages.{drawing_text, picture_shapes, picture_text};
+ghost use Rattle.twe_draw.specs.Pages.{IsDrawing, picture_shapes, picture_text};
 
 use crate::arrows::push_arrows;
 use crate::bars::{push_bars, push_outlines, push_rows};
@@ -33,12 +33,7 @@ fn push_shapes(
 }
 
 /// The picture of a run, in this kind.
-fn picture_text(
-    alloc: Global,
-    kind: AxisKind,
-    p: &Prog,
-    picture: &Picture,
-) -> Result<Bytes, Memory>
+fn picture_text(alloc: Global, kind: AxisKind, p: &Prog, picture: &Picture) -> Result<Bytes, Memory>
     ensures { IfOk result (λ text. text ≡ picture_text kind p.now picture.now.work picture.now.span picture.now.chain
         picture.now.bars picture.now.tasks) }
 {
@@ -64,8 +59,8 @@ pub(crate) fn drawing_text(
     p: &Prog,
     picture: &Picture,
 ) -> Result<Bytes, Memory>
-    ensures { IfOk result (λ text. text ≡ drawing_text drawing p.now picture.now.work picture.now.span picture.now.chain
-        picture.now.bars picture.now.tasks) }
+    ensures { IfOk result (IsDrawing drawing p.now picture.now.work picture.now.span picture.now.chain picture.now.bars
+        picture.now.tasks) }
 {
     match drawing {
         Drawing::Picture(kind) => picture_text(alloc, kind, p, picture),

@@ -1,8 +1,9 @@
 //! A run as Chrome's trace events.
-ghost use Rattle.std.specs.Prelude.{◌≡◌, ◌++◌, IfOk, OnOk, map};
+ghost use Rattle.std.specs.Prelude.{◌≡◌, ◌++◌, IfOk, Some, map, slice_get, string_bytes};
+ghost use Rattle.serde_json.specs.Read.{read};
 ghost use Rattle.serde_json.specs.View.{view};
-ghost use Rattle.twe_draw.specs.Labels.{name_found};
-ghost use Rattle.twe_draw.specs.Trace.{bar_event, end_name, entry_args, row_event, row_name, row_name_found, trace_data, trace_text};
+ghost use Rattle.serde_json.specs.Written.{compact_text};
+ghost use Rattle.twe_draw.specs.Trace.{bar_event, end_name, entry_args, IsTrace, row_event, row_name, row_name_found, trace_data};
 
 use crate::bars::class_of;
 use run_picture::{Mark, Picture};
@@ -64,12 +65,7 @@ fn entry_args(alloc: Global, bar: &Mark) -> Result<Value, AllocError>
 }
 
 /// The event of an entry.
-fn bar_event(
-    alloc: Global,
-    p: &Prog,
-    tasks: &[TaskRow],
-    bar: &Mark,
-) -> Result<Value, AllocError>
+fn bar_event(alloc: Global, p: &Prog, tasks: &[TaskRow], bar: &Mark) -> Result<Value, AllocError>
     ensures { IfOk result (λ event. view event ≡ bar_event p.now tasks.now bar.now) }
 {
     let args = entry_args(alloc, bar)?;
@@ -107,12 +103,25 @@ fn trace_events(
     Ok(events)
 }
 
+/// The events of a run as JSON.
+fn trace_json(
+    alloc: Global,
+    p: &Prog,
+    tasks: &[TaskRow],
+    bars: &[Mark],
+) -> Result<String, AllocError>
+    ensures text { IfOk result (λ json. string_bytes json ≡ compact_text (trace_data p.now bars.now tasks.now)) }
+    ensures read { IfOk result (λ json. read (string_bytes json) ≡ Some (trace_data p.now bars.now tasks.now)) }
+{
+    let events = trace_events(alloc, p, tasks, bars)?;
+    Value::from(events).to_string(alloc)
+}
+
 /// The events of a run as JSON, with the end of a line.
 pub(crate) fn trace_text(alloc: Global, p: &Prog, picture: &Picture) -> Result<Bytes, Memory>
-    ensures { IfOk result (λ text. text ≡ trace_text p.now picture.now.bars picture.now.tasks) }
+    ensures { IfOk result (IsTrace p.now picture.now.bars picture.now.tasks) }
 {
-    let events = trace_events(alloc, p, picture.tasks.as_slice(), picture.bars.as_slice())?;
-    let json = Value::from(events).to_string(alloc)?;
+    let json = trace_json(alloc, p, picture.tasks.as_slice(), picture.bars.as_slice())?;
     let mut text = Bytes::from_slice(alloc, json.as_bytes())?;
     text.push(b'\n')?;
     Ok(text)

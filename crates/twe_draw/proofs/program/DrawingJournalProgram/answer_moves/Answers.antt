@@ -1,6 +1,4 @@
-use Rattle.std.proofs.Common.{sym, ap, ◌∙◌, subst}
-use Rattle.twe_io.specs.declared.status.Status.TheVariants.{Done}
-use Rattle.twe_io.specs.Answers.{on_out}
+use Rattle.std.proofs.Common.{sym, subst}
 use Rattle.twe_draw.specs.Answers.{PictureGiven}
 use Rattle.twe_draw.proofs.program.DrawingJournalProgram.answer_moves.Goals as goal
 
@@ -8,5 +6,5 @@ use Rattle.twe_draw.proofs.program.DrawingJournalProgram.answer_moves.Goals as g
 pub returns-clause-given : goal.returns-clause-given
 returns-clause-given c =
     let d = c.in_ok-picture.picture in
-    subst (PictureGiven c.args.self.now c.args.p.now c.args.lim c.args.moves.now) (sym (c.on_out.ensures ∙ ap (on_out Done) c.in_ok-text.ensures))
-    (PictureGiven.drawn d.work d.span d.chain d.bars d.tasks c.in_ok-picture.ensures.drawn)
+    subst (PictureGiven c.args.self.now c.args.p.now c.args.lim c.args.moves.now) (sym c.on_out.ensures)
+    (PictureGiven.drawn d.work d.span d.chain d.bars d.tasks c.in_ok-text.text c.in_ok-picture.ensures.drawn c.in_ok-text.ensures)
