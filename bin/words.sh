@@ -22,7 +22,7 @@ words_for() {
     twe_advise) echo ' [--json]' ;;
     twe_annotate) echo ' matrix' ;;
     twe_batch) echo ' check | run' ;;
-    twe_draw) echo ' [order]' ;;
+    twe_draw) echo ' [order | trace]' ;;
     twe_explain) echo ' [--name FILE] [--lines]' ;;
     twe_opt) echo ' k' ;;
   esac
@@ -59,7 +59,7 @@ is_command() {
     twe_advise) [[ $# == 0 || ($# == 1 && $1 == --json) ]] ;;
     twe_annotate) [[ $# == 1 && $1 == matrix ]] ;;
     twe_batch) (($# == 1)) && [[ $1 == check || $1 == run ]] ;;
-    twe_draw) [[ $# == 0 || ($# == 1 && $1 == order) ]] ;;
+    twe_draw) [[ $# == 0 || ($# == 1 && ($1 == order || $1 == trace)) ]] ;;
     twe_explain) is_wish "$@" ;;
     twe_opt) (($# == 1)) && is_number 1 64 "$1" ;;
     *) (($# == 0)) ;;

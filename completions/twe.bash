@@ -47,8 +47,12 @@ _twe_advise() {
 }
 
 _twe_draw() {
+  local word
   COMPREPLY=()
-  if ((COMP_CWORD == 1)) && [[ order == "${COMP_WORDS[1]}"* ]]; then COMPREPLY=(order); fi
+  ((COMP_CWORD == 1)) || return
+  for word in order trace; do
+    [[ $word != "${COMP_WORDS[1]}"* ]] || COMPREPLY+=("$word")
+  done
 }
 
 _twe_explain() {

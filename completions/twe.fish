@@ -21,6 +21,7 @@ complete -c twe_batch -n __fish_use_subcommand -a check -d 'check each program o
 complete -c twe_batch -n __fish_use_subcommand -a run -d 'check and run each program of a batch'
 complete -c twe_draw -f
 complete -c twe_draw -n __fish_use_subcommand -a order -d 'a column for each entry'
+complete -c twe_draw -n __fish_use_subcommand -a trace -d 'the events of a trace'
 complete -c twe_explain -f
 complete -c twe_explain -n 'not __fish_contains_opt name' -l name -x -d 'the name that is shown before places'
 complete -c twe_explain -n 'not __fish_contains_opt lines' -l lines -d 'one line for each note, for editors'

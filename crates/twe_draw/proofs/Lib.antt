@@ -1,2 +1,3 @@
 pub mod Escapes
 pub mod Flat
+pub mod Plain

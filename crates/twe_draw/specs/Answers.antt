@@ -13,25 +13,26 @@ use Rattle.twe_io.specs.declared.status.Status.{Status}
 use Rattle.twe_io.specs.declared.status.Status.TheVariants.{Done}
 use Rattle.run_picture.specs.Pictures.{IsPicture}
 use Rattle.run_picture.specs.declared.bars.Mark.{Mark}
-use Rattle.twe_draw.specs.declared.words.AxisKind.{AxisKind}
-use Rattle.twe_draw.specs.Pages.{picture_text}
-use Rattle.twe_draw.specs.Words.{draw_usage_text, asked_axis}
+use Rattle.twe_draw.specs.declared.words.Drawing.{Drawing}
+use Rattle.twe_draw.specs.Pages.{IsDrawing}
+use Rattle.twe_draw.specs.Words.{draw_usage_text, asked_drawing}
 
--- The answer, in this kind, to legal moves of an accepted program under these limits.
-pub data PictureGiven (kind : AxisKind) (p : Program) (lim : Bounds) (moves : List Move) : Answer → Type 0 where
-  -- the picture of the run is written
-  drawn : (work span : ℕ) (chain : List ℕ) (bars : List Mark) (tasks : List TaskRow)
+-- The answer, drawn so, to legal moves of an accepted program under these limits.
+pub data PictureGiven (drawing : Drawing) (p : Program) (lim : Bounds) (moves : List Move) : Answer → Type 0 where
+  -- the run is drawn
+  drawn : (work span : ℕ) (chain : List ℕ) (bars : List Mark) (tasks : List TaskRow) (text : List ℕ)
       → IsPicture p lim moves work span chain bars tasks
-      → PictureGiven kind p lim moves (on_out Done (picture_text kind p work span chain bars tasks))
+      → IsDrawing drawing p work span chain bars tasks text
+      → PictureGiven drawing p lim moves (on_out Done text)
 
--- the answer to an input, in this kind: to the text of a program, and after the first line that is exactly `%%` the text of a
+-- the answer to an input, drawn so: to the text of a program, and after the first line that is exactly `%%` the text of a
 -- journal
-abbrev pub PictureDue : AxisKind → List ℕ → Answer → Type 0
-PictureDue kind input = JournalDue (PictureGiven kind) input
+abbrev pub PictureDue : Drawing → List ℕ → Answer → Type 0
+PictureDue drawing input = JournalDue (PictureGiven drawing) input
 
 -- why the program gives an answer, before it writes anything
 abbrev pub PictureCause : {S : Type 0} → SourceTells S → List (List ℕ) → S → S → Answer → Type 0
-PictureCause tells words = TextCause asked_axis draw_usage_text PictureDue tells words
+PictureCause tells words = TextCause asked_drawing draw_usage_text PictureDue tells words
 
 -- what a call of the program comes to: an answer that has its cause is written; or memory runs out, and nothing is written
 abbrev pub IsDrawnFor : {S O E : Type 0} → EndsTell S O E → List (List ℕ) → Ends S O E → Ends S O E → Status → Type 0

@@ -6,5 +6,6 @@ pub mod Labels
 pub mod Bars
 pub mod Arrows
 pub mod Head
+pub mod Trace
 pub mod Pages
 pub mod Answers

@@ -75,16 +75,16 @@ fn is_deterministic(p: &Prog, tasks: &[TaskRow], task: u32) -> bool
 }
 
 /// The class of a bar.
-fn class_of<'a>(p: &Prog, tasks: &[TaskRow], bar: &Mark) -> &'a [u8]
+pub(crate) fn class_of<'a>(p: &Prog, tasks: &[TaskRow], bar: &Mark) -> &'a str
     ensures { result.now ≡ class_of p.now (slice_get tasks.now bar.now.task) bar.now.kind }
 {
     match bar.kind {
-        Kind::Admit => b"admission",
+        Kind::Admit => "admission",
         Kind::Run => {
             if is_deterministic(p, tasks, bar.task) {
-                b"deterministic"
+                "deterministic"
             } else {
-                b"segment"
+                "segment"
             }
         }
     }
@@ -105,7 +105,7 @@ fn push_bar(
     let (from, until) = (bar_begin(axis.kind, bar), bar_end(axis.kind, bar));
     push_titled_box(
         text,
-        class_of(p, tasks, bar),
+        class_of(p, tasks, bar).as_bytes(),
         time_column(axis.length, from),
         row_top(bar.task),
         time_width(axis.length, from, until),

@@ -1,12 +1,13 @@
-//! The picture of a run.
+//! What is written of a run.
 ghost use Rattle.std.specs.Prelude.{◌≡◌, ◌++◌, IfOk, OnOk};
-ghost use Rattle.twe_draw.specs.Pages.{picture_shapes, picture_text};
+ghost use Rattle.twe_draw.specs.Pages.{IsDrawing, picture_shapes, picture_text};
 
 use crate::arrows::push_arrows;
 use crate::bars::{push_bars, push_outlines, push_rows};
 use crate::head::push_head;
 use crate::scale::{Axis, axis_of};
-use crate::words::AxisKind;
+use crate::trace::trace_text;
+use crate::words::{AxisKind, Drawing};
 use run_picture::Picture;
 use std::alloc::Global;
 use twe_base::{Bytes, Memory};
@@ -32,12 +33,7 @@ fn push_shapes(
 }
 
 /// The picture of a run, in this kind.
-pub(crate) fn picture_text(
-    alloc: Global,
-    kind: AxisKind,
-    p: &Prog,
-    picture: &Picture,
-) -> Result<Bytes, Memory>
+fn picture_text(alloc: Global, kind: AxisKind, p: &Prog, picture: &Picture) -> Result<Bytes, Memory>
     ensures { IfOk result (λ text. text ≡ picture_text kind p.now picture.now.work picture.now.span picture.now.chain
         picture.now.bars picture.now.tasks) }
 {
@@ -54,4 +50,20 @@ pub(crate) fn picture_text(
     push_shapes(&mut text, alloc, p, axis, picture)?;
     text.push_all(b"</svg>\n")?;
     Ok(text)
+}
+
+/// What is written of a run: a picture, or a trace.
+pub(crate) fn drawing_text(
+    alloc: Global,
+    drawing: Drawing,
+    p: &Prog,
+    picture: &Picture,
+) -> Result<Bytes, Memory>
+    ensures { IfOk result (IsDrawing drawing p.now picture.now.work picture.now.span picture.now.chain picture.now.bars
+        picture.now.tasks) }
+{
+    match drawing {
+        Drawing::Picture(kind) => picture_text(alloc, kind, p, picture),
+        Drawing::Trace => trace_text(alloc, p, picture),
+    }
 }

@@ -1,9 +1,9 @@
 //! The program, as its words ask for it.
 ghost use Rattle.twe_draw.specs.Answers.{PictureDue, PictureGiven};
-ghost use Rattle.twe_draw.specs.Words.{asked_axis, draw_usage_text};
+ghost use Rattle.twe_draw.specs.Words.{asked_drawing, draw_usage_text};
 
-use crate::page::picture_text;
-use crate::words::{AxisKind, asked_axis, usage_text};
+use crate::page::drawing_text;
+use crate::words::{Drawing, asked_drawing, usage_text};
 use journal_programs::{JournalProgram, answer_with_journal};
 use run_picture::draw;
 use seg_journal::{Limits, Move};
@@ -14,15 +14,15 @@ use twe_io::{Answer, Status};
 use twe_machine::ReplayFail;
 use twe_program::Prog;
 
-impl TextProgram for AxisKind {
-    ghost asked = { asked_axis };
+impl TextProgram for Drawing {
+    ghost asked = { asked_drawing };
 
     ghost usage = { draw_usage_text };
 
     ghost due = { PictureDue };
 
     fn of_words(_: Global, words: &[Word]) -> Result<Option<Self>, Memory> {
-        Ok(asked_axis(words))
+        Ok(asked_drawing(words))
     }
 
     fn usage_text(alloc: Global) -> Result<Bytes, Memory> {
@@ -34,7 +34,7 @@ impl TextProgram for AxisKind {
     }
 }
 
-impl JournalProgram for AxisKind {
+impl JournalProgram for Drawing {
     ghost gives = { PictureGiven };
 
     fn answer_moves(
@@ -45,7 +45,7 @@ impl JournalProgram for AxisKind {
         moves: &[Move],
     ) -> Result<Answer, ReplayFail> {
         let picture = draw(alloc, p, lim, moves)?;
-        let text = picture_text(alloc, *self, p, &picture)?;
+        let text = drawing_text(alloc, *self, p, &picture)?;
         Ok(Answer::on_out(alloc, Status::Done, text))
     }
 }

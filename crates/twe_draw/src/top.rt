@@ -2,17 +2,17 @@
 ghost use Rattle.twe_draw.specs.Answers.{IsDrawnFor};
 ghost use Rattle.twe_io.specs.Ends.{ends, ends_tell, sink, source};
 
-use crate::words::AxisKind;
+use crate::words::Drawing;
 use std::alloc::Global;
 use text_programs::run_text_program;
 use twe_base::Word;
 use twe_io::{Sink, Source, Status};
 
 /// Reads the text of a program from the source, and after the first line that is exactly `%%` the text of a journal, and writes a
-/// picture of the run of that journal, by time or with a column for each entry. Without such a line the journal is empty. A
+/// picture of the run of that journal, by time or with a column for each entry, or its trace. Without such a line the journal is empty. A
 /// journal may be unfinished or stuck, or end with a fault.
 ///
-/// `Answers` says what each status means and what is written with it. If there are words other than `order` alone, the answer
+/// `Answers` says what each status means and what is written with it. If there are words other than `order` or `trace` alone, the answer
 /// is the usage line, and nothing is read from the source. After `Memory` nothing was written.
 pub fn draw_top<S: Source, O: Sink, E: Sink>(
     alloc: Global,
@@ -25,5 +25,5 @@ pub fn draw_top<S: Source, O: Sink, E: Sink>(
         (sink E.written E.faults E.write_gives))
         words.now (ends src.old out.old err.old) (ends src.new out.new err.new) result }
 {
-    run_text_program::<AxisKind, S, O, E>(alloc, words, src, out, err)
+    run_text_program::<Drawing, S, O, E>(alloc, words, src, out, err)
 }
