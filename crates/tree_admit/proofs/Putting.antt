@@ -23,7 +23,8 @@ use Rattle.tree_admit.proofs.Entering.{come_there, effect_is, has_effect}
 use Rattle.tree_admit.proofs.Marks.{clear_has, may_clear, may_place, may_place_child, may_remove, placed_has, removed_has}
 use Rattle.tree_admit.proofs.Steps.{may_stop}
 
-task_is : (kind : ErrandKind) (t : ℕ) (e : Effect) → record_task (purpose_for kind t e) ≡ t
+-- the task of an errand is the one that its purpose is about
+pub task_is : (kind : ErrandKind) (t : ℕ) (e : Effect) → record_task (purpose_for kind t e) ≡ t
 task_is Admission t e = refl
 task_is Placing t e = refl
 task_is Removal t e = refl

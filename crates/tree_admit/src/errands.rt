@@ -5,6 +5,7 @@ ghost use Rattle.floor_table.specs.declared.view.SeatKind.TheVariants.{Spent};
 ghost use Rattle.floor_table.specs.declared.nodes.slot.ErrandKind.TheVariants.{Admission, Removal};
 ghost use Rattle.floor_table.specs.declared.nodes.slot.TreeSlot as slots;
 ghost use Rattle.floor_table.specs.declared.nodes.view.TreeView.{TreeView};
+ghost use Rattle.floor_table.specs.nodes.Deciders.{AllWaitFor};
 ghost use Rattle.floor_table.specs.nodes.Seats.{HasOwn};
 ghost use Rattle.floor_table.specs.nodes.TreeOf.{content_in};
 ghost use Rattle.tree_admit.specs.Bars.{WasBarred};
@@ -27,8 +28,9 @@ use std::sync::Wait;
 use task_floor::{Floor, Stand};
 use twe_base::Memory;
 
-/// Places the record of an errand at its place, whose content this is, and comes back. If the record stands there already, or if
-/// memory runs out, it comes back and leaves the content as it was.
+/// Places the record of an errand at its place, whose content this is, and comes back. `decides` says whether the tasks of all
+/// records there are known to wait for the task: then it decides there for those before it. If the record stands there already,
+/// or if memory runs out, it comes back and leaves the content as it was.
 pub(crate) fn put<N: Named + Planted>(
     floor: &Floor<N>,
     stand: &mut Stand,
@@ -37,11 +39,13 @@ pub(crate) fn put<N: Named + Planted>(
     effect: &Effect,
     mut content: NodeContent,
     mine: NodeRecord,
+    decides: bool,
 ) -> Result<Attempt, Memory>
     requires here { stand.old.table_id ≡ floor.now }
     requires node { errand.place < length N.nodes }
     requires worker { worker ≡ stand.old.me.0.floor.worker }
     requires mine { mine ≡ record_of errand effect.now }
+    requires decides { IsTrue decides → AllWaitFor stand.old.me.0.waits errand.task content }
     requires may { (earlier : TreeView) × (rest : List (ℕ × slots.TreeSlot)) × (done : List ℕ)
         × MayPut N.nodes N.lim earlier rest errand effect.now done content stand.old.me }
     ensures tried { (earlier : TreeView) (rest : List (ℕ × slots.TreeSlot)) (done : List ℕ)
@@ -58,7 +62,7 @@ pub(crate) fn put<N: Named + Planted>(
     }
     match content.add(mine) {
         Ok(()) => {
-            floor.mark_placed(stand, worker, errand.place);
+            floor.mark_placed(stand, worker, errand.task, errand.place, decides);
             floor.back_out(stand, errand.place, content);
             Ok(Attempt::Placed)
         }
@@ -148,8 +152,58 @@ fn goes_below(errand: Errand, effect: &Effect) -> bool
     }
 }
 
+/// Looks at what stands at the place of an admission whose effect has a wildcard, and below it. The content of the place is this,
+/// and the stand may place the record then. If a record is a bar, it comes back.
+fn walk_around<N: Named + Planted, R: Wait>(
+    rt: &R,
+    floor: &Floor<N>,
+    shape: &Shape,
+    stand: &mut Stand,
+    footing: Footing,
+    errand: Errand,
+    effect: &Effect,
+    content: NodeContent,
+) -> Result<(NodeContent, bool), Bar>
+    requires here { stand.old.table_id ≡ floor.now }
+    requires live { stand.old.me.0.floor.kind ≢ Spent }
+    requires shape { shape.now ≡ N.nodes }
+    requires worker { footing.worker ≡ stand.old.me.0.floor.worker }
+    requires tasks { footing.tasks ≡ N.lim.tasks }
+    requires node { errand.place < length N.nodes }
+    requires kind { errand.kind ≡ Admission }
+    requires wild { ¬ IsSolid effect.now.path }
+    requires may { (earlier : TreeView) × (rest : List (ℕ × slots.TreeSlot))
+        × MayLookAround N.nodes N.lim earlier rest errand effect.now content stand.old.me }
+    ensures ready { (earlier : TreeView) (rest : List (ℕ × slots.TreeSlot))
+        → MayLookAround N.nodes N.lim earlier rest errand effect.now content stand.old.me
+        → IfOk result (λ seen. (done : List ℕ)
+        × MayPut N.nodes N.lim earlier rest errand effect.now done seen.0 stand.new.me) }
+    ensures wait { IfOk result (λ seen. IsFalse seen.1) }
+    ensures barred { (earlier : TreeView) (rest : List (ℕ × slots.TreeSlot))
+        → MayLookAround N.nodes N.lim earlier rest errand effect.now content stand.old.me
+        → IfErr result (λ bar. HasLeft earlier rest None stand.new.me × (errand.kind ≡ Admission)
+        × WasBarred N.prog N.lim earlier stand.new.me.0 errand.task effect.now bar) }
+    ensures same { (stand.new.table_id ≡ stand.old.table_id) × (stand.new.id ≡ stand.old.id) }
+{
+    match walk_below(
+        rt,
+        floor,
+        shape,
+        stand,
+        footing,
+        errand,
+        effect,
+        errand.place,
+        content,
+    ) {
+        Ok(content) => Ok((content, false)),
+        Err(bar) => Err(bar),
+    }
+}
+
 /// Looks at what stands at the place of an errand, whose content this is, and below it if that matters. Returns the content of
-/// the place, at which the stand may place the record then. If a record is a bar, it comes back.
+/// the place, at which the stand may place the record then, and whether the tasks of all records there are known to wait for the
+/// task. If a record is a bar, it comes back.
 fn look_around<N: Named + Planted, R: Wait>(
     rt: &R,
     floor: &Floor<N>,
@@ -159,7 +213,7 @@ fn look_around<N: Named + Planted, R: Wait>(
     errand: Errand,
     effect: &Effect,
     content: NodeContent,
-) -> Result<NodeContent, Bar>
+) -> Result<(NodeContent, bool), Bar>
     requires here { stand.old.table_id ≡ floor.now }
     requires live { stand.old.me.0.floor.kind ≢ Spent }
     requires shape { shape.now ≡ N.nodes }
@@ -170,8 +224,9 @@ fn look_around<N: Named + Planted, R: Wait>(
         × MayLookAround N.nodes N.lim earlier rest errand effect.now content stand.old.me }
     ensures ready { (earlier : TreeView) (rest : List (ℕ × slots.TreeSlot))
         → MayLookAround N.nodes N.lim earlier rest errand effect.now content stand.old.me
-        → IfOk result (λ content. (done : List ℕ)
-        × MayPut N.nodes N.lim earlier rest errand effect.now done content stand.new.me) }
+        → IfOk result (λ seen. (done : List ℕ)
+        × MayPut N.nodes N.lim earlier rest errand effect.now done seen.0 stand.new.me) }
+    ensures wait { IfOk result (λ seen. IsTrue seen.1 → AllWaitFor stand.new.me.0.waits errand.task seen.0) }
     ensures barred { (earlier : TreeView) (rest : List (ℕ × slots.TreeSlot))
         → MayLookAround N.nodes N.lim earlier rest errand effect.now content stand.old.me
         → IfErr result (λ bar. HasLeft earlier rest None stand.new.me × (errand.kind ≡ Admission)
@@ -179,17 +234,7 @@ fn look_around<N: Named + Planted, R: Wait>(
     ensures same { (stand.new.table_id ≡ stand.old.table_id) × (stand.new.id ≡ stand.old.id) }
 {
     if goes_below(errand, effect) {
-        return walk_below(
-            rt,
-            floor,
-            shape,
-            stand,
-            footing,
-            errand,
-            effect,
-            errand.place,
-            content,
-        );
+        return walk_around(rt, floor, shape, stand, footing, errand, effect, content);
     }
     match look_at(
         floor,
@@ -200,7 +245,7 @@ fn look_around<N: Named + Planted, R: Wait>(
         errand.place,
         &content,
     ) {
-        Ok(()) => Ok(content),
+        Ok(decides) => Ok((content, decides)),
         Err(bar) => {
             floor.back_out(stand, errand.place, content);
             Err(bar)
@@ -240,7 +285,16 @@ pub fn place_one<N: Named + Planted, R: Wait>(
         Err(bar) => return Ok(Attempt::Barred(bar)),
     };
     match look_around(rt, floor, shape, stand, footing, errand, effect, content) {
-        Ok(content) => put(floor, stand, footing.worker, errand, effect, content, mine),
+        Ok((content, decides)) => put(
+            floor,
+            stand,
+            footing.worker,
+            errand,
+            effect,
+            content,
+            mine,
+            decides,
+        ),
         Err(bar) => Ok(Attempt::Barred(bar)),
     }
 }

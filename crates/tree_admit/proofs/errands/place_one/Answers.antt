@@ -22,6 +22,9 @@ put-requires-clause-may g c =
     (record { has = c.in-Ok.ensures.there; knows = c.requires.knows.0; child = c.requires.knows.1; outside = c.requires.outside; own = c.in-Ok.ensures.own }) in
     (start.0, start.1, ready.0, ready.1)
 
+pub put-requires-clause-decides : goal.put-requires-clause-decides
+put-requires-clause-decides g c = c.in-Ok-look_around.ensures.wait
+
 pub returns-in-Ok-look_around-clause-tried : goal.returns-in-Ok-look_around-clause-tried
 returns-in-Ok-look_around-clause-tried g c =
     let start = c.args.stand.now.me in

@@ -4,7 +4,7 @@ use Rattle.admission_laws.specs.admission_core.States.{Record}
 use Rattle.floor_rule.specs.nodes.LockSteps.{stopped}
 use Rattle.tree_admit.specs.Errands.{record_of, with_placed}
 use Rattle.tree_admit.specs.Going.{HasNode}
-use Rattle.tree_admit.proofs.Putting.{at_place, marked_has, may_mark, place_stops, stopped_stops, was_found, was_missed}
+use Rattle.tree_admit.proofs.Putting.{at_place, marked_has, may_mark, place_stops, stopped_stops, task_is, was_found, was_missed}
 use Rattle.tree_admit.proofs.Owning.{stood_fresh}
 use Rattle.tree_admit.proofs.Stepping.{in_hand}
 use Rattle.tree_admit.proofs.Steps.{gave_left}
@@ -31,7 +31,8 @@ mark_placed-requires-clause-may g c =
     let e = c.args.effect.now in
     let content = c.args.content in
     let missing = was_missed (record_of errand e) content c.has.result c.has.ensures c.if-has.false in
-    (at_place errand e done, content, refl, may_mark errand e done g.N.Named.lim earlier rest content c.args.stand.now.me may.has g.N.Planted.nodes may.knows may.may missing)
+    let marks = may_mark errand e done g.N.Named.lim earlier rest content c.args.stand.now.me may.has g.N.Planted.nodes may.knows may.may missing in
+    (at_place errand e done, content, refl, task_is errand.kind errand.task e, c.requires.decides, marks)
 
 pub back_out-requires-in-Ok-clause-may : goal.back_out-requires-in-Ok-clause-may
 back_out-requires-in-Ok-clause-may g c =
