@@ -1,6 +1,6 @@
-//! How a worker marks what it has done at a node that it has locked. Each call has one atomic step. Whoever places a record says by
-//! it in the decider word of the record's task whether that task decides there; the other steps leave the lock word as it was. The
-//! content that the worker has in hand is its own: it has to change it as the mark says before it gives it back.
+//! How a worker marks what it has done at a node that it has locked. Each call has one atomic step. Whoever places a record says
+//! by it in the decider word of the record's task whether that task decides there; the other steps leave the lock word as it was.
+//! The content that the worker has in hand is its own: it has to change it as the mark says before it gives it back.
 ghost use Rattle.std.specs.Prelude.{◌≡◌, ◌<◌, ℕ, IsTrue, List, Some, length};
 ghost use Rattle.admission_laws.specs.admission_core.States.{Activity, Record};
 ghost use Rattle.floor_rule.specs.nodes.FactSteps.{FindsClear};
@@ -68,8 +68,8 @@ impl<N: Named + Planted> Floor<N> {
             .store::<MarkPlaced<N>>(stand, place, taken);
     }
 
-    /// Whether a task decides at a node for those before it, by its decider word. If it does, and the stand has the content of the
-    /// node, the stand knows from then on that the tasks of the records before the task's wait for it.
+    /// Whether a task decides at a node for those before it, by its decider word. If it does, and the stand has the content of
+    /// the node, the stand knows from then on that the tasks of the records before the task's wait for it.
     pub fn decides(&self, stand: &mut Stand, task: u32, node: u32) -> bool
         requires here { stand.old.table_id ≡ self.now }
         requires task { task < N.lim.tasks }

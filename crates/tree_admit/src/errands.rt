@@ -2,6 +2,7 @@
 ghost use Rattle.std.specs.Prelude.{◌≡◌, ◌≢◌, ◌<◌, ℕ, List, [], ◌∷◌, IfErr, IfOk, IsFalse, IsTrue, None, length};
 ghost use Rattle.effect_tree.specs.Place.{IsSolid};
 ghost use Rattle.floor_table.specs.declared.view.SeatKind.TheVariants.{Spent};
+ghost use Rattle.admission_laws.specs.admission_core.States.{IsAmong};
 ghost use Rattle.floor_table.specs.declared.nodes.slot.ErrandKind.TheVariants.{Admission, Removal};
 ghost use Rattle.floor_table.specs.declared.nodes.slot.TreeSlot as slots;
 ghost use Rattle.floor_table.specs.declared.nodes.view.TreeView.{TreeView};
@@ -28,9 +29,22 @@ use std::sync::Wait;
 use task_floor::{Floor, Stand};
 use twe_base::Memory;
 
+/// Whether the record of an errand stands at its place, whose content this is. `unplaced` says that it is known not to stand:
+/// then it is not looked for.
+fn stands(content: &NodeContent, errand: Errand, effect: &Effect, unplaced: bool) -> bool
+    requires { IsTrue unplaced → ¬ IsAmong (record_of errand effect.now) content.now }
+    ensures there { IsTrue result → IsAmong (record_of errand effect.now) content.now }
+    ensures missing { IsFalse result → ¬ IsAmong (record_of errand effect.now) content.now }
+{
+    if unplaced {
+        return false;
+    }
+    content.has(errand.task, effect, errand.place)
+}
+
 /// Places the record of an errand at its place, whose content this is, and comes back. `decides` says whether the tasks of all
 /// records there are known to wait for the task: then it decides there for those before it. If the record stands there already,
-/// or if memory runs out, it comes back and leaves the content as it was.
+/// or if memory runs out, it comes back and leaves the content as it was. `unplaced` says that it is known not to stand.
 pub(crate) fn put<N: Named + Planted>(
     floor: &Floor<N>,
     stand: &mut Stand,
@@ -40,12 +54,14 @@ pub(crate) fn put<N: Named + Planted>(
     mut content: NodeContent,
     mine: NodeRecord,
     decides: bool,
+    unplaced: bool,
 ) -> Result<Attempt, Memory>
     requires here { stand.old.table_id ≡ floor.now }
     requires node { errand.place < length N.nodes }
     requires worker { worker ≡ stand.old.me.0.floor.worker }
     requires mine { mine ≡ record_of errand effect.now }
     requires decides { IsTrue decides → AllWaitFor stand.old.me.0.waits errand.task content }
+    requires unplaced { IsTrue unplaced → ¬ IsAmong (record_of errand effect.now) content }
     requires may { (earlier : TreeView) × (rest : List (ℕ × slots.TreeSlot)) × (done : List ℕ)
         × MayPut N.nodes N.lim earlier rest errand effect.now done content stand.old.me }
     ensures tried { (earlier : TreeView) (rest : List (ℕ × slots.TreeSlot)) (done : List ℕ)
@@ -56,7 +72,7 @@ pub(crate) fn put<N: Named + Planted>(
         → IfErr result (λ _. HasLeft earlier rest None stand.new.me) }
     ensures same { (stand.new.table_id ≡ stand.old.table_id) × (stand.new.id ≡ stand.old.id) }
 {
-    if content.has(errand.task, effect, errand.place) {
+    if stands(&content, errand, effect, unplaced) {
         floor.back_out(stand, errand.place, content);
         return Ok(Attempt::Stood);
     }
@@ -98,8 +114,7 @@ pub(crate) fn take_out<N: Named + Planted>(
         → HasTakenOut earlier rest errand effect.now result stand.new.me }
     ensures same { (stand.new.table_id ≡ stand.old.table_id) × (stand.new.id ≡ stand.old.id) }
 {
-    if content.has(errand.task, effect, errand.place) {
-        content.remove(errand.task, effect, errand.place);
+    if content.remove(errand.task, effect, errand.place) {
         floor.mark_removed(stand, worker, errand.place);
         floor.back_out(stand, errand.place, content);
         true
@@ -255,6 +270,7 @@ fn look_around<N: Named + Planted, R: Wait>(
 
 /// Places the record of an effect of a task in the tree: goes down to its place, places it and comes back. The record is made
 /// before the first lock is taken. Whoever admits a task comes back without placing it if another task's record is in the way.
+/// `unplaced` says that the stand has not placed the record.
 pub fn place_one<N: Named + Planted, R: Wait>(
     rt: &R,
     alloc: Global,
@@ -264,6 +280,7 @@ pub fn place_one<N: Named + Planted, R: Wait>(
     footing: Footing,
     errand: Errand,
     effect: &Effect,
+    unplaced: bool,
 ) -> Result<Attempt, Memory>
     requires here { stand.old.table_id ≡ floor.now }
     requires live { stand.old.me.0.floor.kind ≢ Spent }
@@ -273,6 +290,7 @@ pub fn place_one<N: Named + Planted, R: Wait>(
     requires slots { footing.slots ≡ length stand.old.me.1 }
     requires outside { IsOutside stand.old.me.0 }
     requires knows { (knows : KnowsErrand N.nodes stand.old.me.0 errand effect.now) × IsOfChild errand.kind knows.turn }
+    requires unplaced { IsTrue unplaced → ¬ IsAmong (record_of errand effect.now) stand.old.me.0.fresh }
     ensures tried { IfOk result (λ attempt.
         HasTried N.prog N.lim stand.old.me.0 stand.old.me.1 errand effect.now attempt stand.new.me) }
     ensures failed { IfErr result (λ _. HasLeft stand.old.me.0 stand.old.me.1 None stand.new.me) }
@@ -294,6 +312,7 @@ pub fn place_one<N: Named + Planted, R: Wait>(
             content,
             mine,
             decides,
+            unplaced,
         ),
         Err(bar) => Ok(Attempt::Barred(bar)),
     }

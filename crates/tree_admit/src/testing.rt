@@ -132,8 +132,8 @@ fn undecided<N: Named + Planted>(
 }
 
 /// Whether the first records of a content, `first` of them, pass for an effect of a task; the content is that of this node.
-/// Otherwise one of them is a bar. The earliest is looked at first: the waits from its task lead past the tasks that were admitted
-/// after it, so a chain of tasks that wait for one another is followed once, however many of their records stand here.
+/// Otherwise one of them is a bar. The earliest is looked at first: the waits from its task lead past the tasks that were
+/// admitted after it, so a chain of tasks that wait for one another is followed once, however many of their records stand here.
 fn first_pass<N: Named + Planted>(
     floor: &Floor<N>,
     stand: &mut Stand,

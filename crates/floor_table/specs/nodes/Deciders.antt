@@ -1,5 +1,5 @@
--- Tasks that decide for those before them: each task whose record lay at a node before the one of such a task waits for it. So one
--- look at its phase tells of all of them whether they wait for another task.
+-- Tasks that decide for those before them: each task whose record lay at a node before the one of such a task waits for it. So
+-- one look at its phase tells of all of them whether they wait for another task.
 use Rattle.std.specs.Prelude.{◌≡◌, ◌⊎◌, ◌==◌, ◌<◌, ◌++◌, ℕ, zero, suc, List, [], ◌∷◌, Option, Some, None, if◌then◌else◌}
 use mathlib.Core.Option as core
 use lib.ListN.{get_elem?}
@@ -44,8 +44,8 @@ abbrev pub AllWaitFor : List WaitFact → ℕ → List Record → Type 0
 AllWaitFor waits t content =
     (r : Record) → IsAmong r content → (r.task ≡ t) ⊎ IsAmong (record { waiter = r.task; awaited = t }) waits
 
--- What a seat with this view may say in the decider word of task t when it places a record of t at node n, which has this content:
--- that t decides at no node; or that it decides here, if it does.
+-- What a seat with this view may say in the decider word of task t when it places a record of t at node n, which has this
+-- content: that t decides at no node; or that it decides here, if it does.
 abbrev pub MayDecide : TreeView → ℕ → ℕ → List Record → ℕ → Type 0
 MayDecide v t n content said = (said ≡ no_decider) ⊎ ((said ≡ decider_at n) × AllWaitFor v.waits t content)
 

@@ -1,6 +1,6 @@
 -- What the steps on records ask of the seat that takes them, in the words of the rule on nodes, and what it knows afterwards.
--- Whoever places a record says in the decider word of its task whether that task decides there from then on. The others are stores
--- to the lock word of a node that the seat has locked, and leave the word as it was.
+-- Whoever places a record says in the decider word of its task whether that task decides there from then on. The others are
+-- stores to the lock word of a node that the seat has locked, and leave the word as it was.
 use Rattle.std.specs.Prelude.{◌≡◌, ℕ, List, ◌∷◌, Some}
 use Rattle.region_paths.specs.declared.elements.Elem.{Elem}
 use Rattle.effect_sets.specs.declared.effects.Effect.{Effect}

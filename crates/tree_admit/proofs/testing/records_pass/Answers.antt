@@ -4,7 +4,7 @@ use Rattle.floor_table.specs.nodes.TreeOf.{content_in}
 use Rattle.tree_admit.proofs.Alone.{learned_served}
 use Rattle.tree_admit.proofs.Decided.{decided_kept, looked_pass, looked_waits}
 use Rattle.tree_admit.proofs.Following.{followed_trans}
-use Rattle.tree_admit.proofs.Learning.{bar_since, live_kept}
+use Rattle.tree_admit.proofs.Learning.{bar_in_since, live_kept}
 use Rattle.tree_admit.proofs.testing.records_pass.Goals as goal
 
 pub first_pass-requires-clause-live : goal.first_pass-requires-clause-live
@@ -38,9 +38,11 @@ returns-in-Err-first_pass-clause-barred g c =
     let before = c.args.stand.now.me.0 in
     let between = c.undecided.new.stand.me.0 in
     let only = c.undecided.ensures.only.learned in
-    let (node, (r, among, bar)) = c.in-Err-first_pass.ensures.barred in
-    (node, (r, among, bar_since g.N.Named.prog g.N.Named.lim c.args.task c.args.effect.now before between c.first_pass.new.stand.me.0 r c.in-Err-first_pass.bar only.looks
-    (learned_served c.args.task before between only) bar))
+    let barred = c.in-Err-first_pass.ensures.barred in (
+      barred.0,
+      bar_in_since g.N.Named.prog g.N.Named.lim c.args.task c.args.effect.now before between c.first_pass.new.stand.me.0 c.args.content.now c.in-Err-first_pass.bar only.looks
+          (learned_served c.args.task before between only) barred.1,
+    )
 
 pub returns-in-Err-first_pass-clause-only : goal.returns-in-Err-first_pass-clause-only
 returns-in-Err-first_pass-clause-only g c =
