@@ -1,5 +1,5 @@
 -- The contents of nodes: records without one, and what is found in them.
-use Rattle.std.proofs.Common.{◌≡◌, ◌↔◌, ◌⊎◌, ℕ, zero, suc, Bool, true, false, List, [], ◌∷◌, ◌++◌, reverse, None, Some, length, refl, sym, ap, subst, ◌∙◌, inl, inr, ⊎_elim, if◌then◌else◌, append-nil, arith}
+use Rattle.std.proofs.Common.{◌≡◌, ◌↔◌, ◌⊎◌, ℕ, zero, suc, Bool, true, false, List, [], ◌∷◌, ◌++◌, reverse, Option, None, Some, IsNone, length, refl, sym, ap, subst, ◌∙◌, inl, inr, ⊎_elim, if◌then◌else◌, append-nil, arith}
 use Rattle.std.specs.Prelude.{◌-◌, ◌<◌, ◌≤◌, ◌||◌, slice_get}
 use Rattle.std.specs.List.{list_any, remove}
 use Rattle.std.proofs.lemmas.Bool.{false≢true}
@@ -55,6 +55,10 @@ pub within : (r : Record) (l : List Record) (at : ℕ) → slice_get l at ≡ So
 within r [] at is = absurd (none_some is)
 within r (x ∷ xs) zero is = omega arith
 within r (x ∷ xs) (suc at) is = let later = within r xs at is in omega (arith, later)
+
+pub none_of : (at : Option ℕ) → at ≡ None → IsNone at
+none_of None is = refl
+none_of (Some k) is = cc
 
 -- without a record that is not there a list is as it was
 pub without_none : (r : Record) (l : List Record) → ¬ IsAmong r l → without_record r l ≡ l

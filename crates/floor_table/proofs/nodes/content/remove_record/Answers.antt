@@ -2,19 +2,19 @@
 use Rattle.std.proofs.Common.{◌≡◌, ◌<◌, List, Some, length, refl, sym, subst, ◌∙◌}
 use Rattle.std.specs.Prelude.{slice_get}
 use Rattle.admission_laws.specs.admission_core.States.{IsAmong, Record}
-use Rattle.floor_table.proofs.nodes.Contents.{at_among, removed_is, without_none}
+use Rattle.floor_table.proofs.nodes.Contents.{at_among, none_of, removed_is, without_none}
 use Rattle.floor_table.proofs.nodes.content.remove_record.Goals as goal
 
 pub returns-in_default-clause-found : goal.returns-in_default-clause-found
 returns-in_default-clause-found c =
     let r : Record = record { task = c.args.task; effect = c.args.effect.now; node = c.args.node } in
-    let missing = subst (λ (l : List Record). ¬ IsAmong r l) c.as_slice.ensures.value (c.place_of.ensures.none c.in_default.is) in
+    let missing = subst (λ (l : List Record). ¬ IsAmong r l) c.as_slice.ensures.value (c.place_of.ensures.none (none_of c.place_of.result c.in_default.is)) in
     (λ is. let no = is in absurd (cc (no)), λ among. absurd (missing among))
 
 pub returns-in_default-clause-rest : goal.returns-in_default-clause-rest
 returns-in_default-clause-rest c =
     let r : Record = record { task = c.args.task; effect = c.args.effect.now; node = c.args.node } in
-    let missing = subst (λ (l : List Record). ¬ IsAmong r l) c.as_slice.ensures.value (c.place_of.ensures.none c.in_default.is) in
+    let missing = subst (λ (l : List Record). ¬ IsAmong r l) c.as_slice.ensures.value (c.place_of.ensures.none (none_of c.place_of.result c.in_default.is)) in
     sym (without_none r c.args.records.now.items missing)
 
 pub remove-requires : goal.remove-requires
