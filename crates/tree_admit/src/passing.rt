@@ -55,12 +55,7 @@ fn own_or_meets(task: u32, effect: &Effect, r: &NodeRecord) -> bool
 }
 
 /// Whether each of the first records of a content, `count` of them, is of the task or may interfere with its effect.
-pub(crate) fn none_is_apart(
-    task: u32,
-    effect: &Effect,
-    content: &NodeContent,
-    count: usize,
-) -> bool
+pub(crate) fn none_is_apart(task: u32, effect: &Effect, content: &NodeContent, count: usize) -> bool
     ensures { IsTrue result → EachBetween (λ r. IsTrue (is_own_or_meets task effect.now r)) content.now 0 count }
 {
     for at in 0..count {

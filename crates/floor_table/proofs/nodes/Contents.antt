@@ -51,11 +51,6 @@ place_in r (x ∷ xs) among =
     ⊎_elim (λ (first : r ≡ x). (zero, ap (λ (y : Record). Some y) (sym first)))
     (λ (later : IsAmong r xs). let place = place_in r xs later in (suc place.0, place.1)) among
 
-pub within : (r : Record) (l : List Record) (at : ℕ) → slice_get l at ≡ Some r → at < length l
-within r [] at is = absurd (none_some is)
-within r (x ∷ xs) zero is = omega arith
-within r (x ∷ xs) (suc at) is = let later = within r xs at is in omega (arith, later)
-
 pub none_of : (at : Option ℕ) → at ≡ None → IsNone at
 none_of None is = refl
 none_of (Some k) is = cc
@@ -63,11 +58,11 @@ none_of (Some k) is = cc
 -- without a record that is not there a list is as it was
 pub without_none : (r : Record) (l : List Record) → ¬ IsAmong r l → without_record r l ≡ l
 without_none r [] missing = refl
-without_none r (x ∷ xs) missing = by (same_record x r) refl
+without_none r (x ∷ xs) missing = by (without_none r xs (λ among. missing (inr among))) (same_record x r) refl
   where
-    by : (b : Bool) → same_record x r ≡ b → (if b then without_record r xs else x ∷ without_record r xs) ≡ x ∷ xs
-    by true is = absurd (missing (inl (sym ((record_decided x r).0 is))))
-    by false is = ap (λ (l : List Record). x ∷ l) (without_none r xs (λ among. missing (inr among)))
+    by : without_record r xs ≡ xs → (b : Bool) → same_record x r ≡ b → (if b then without_record r xs else x ∷ without_record r xs) ≡ x ∷ xs
+    by rest true is = absurd (missing (inl (sym ((record_decided x r).0 is))))
+    by rest false is = ap (λ (l : List Record). x ∷ l) rest
 
 -- it is enough to take it out at its place
 pub removed_is : (r : Record) (l : List Record) (at : ℕ) → IsDistinct l → slice_get l at ≡ Some r → remove l at ≡ without_record r l
@@ -80,19 +75,19 @@ removed_is r (x ∷ xs) zero once is = by (same_record x r) refl
     by : (b : Bool) → same_record x r ≡ b → xs ≡ (if b then without_record r xs else x ∷ without_record r xs)
     by true same = sym (without_none r xs (subst (λ (y : Record). ¬ IsAmong y xs) here once.0))
     by false other = absurd (not_from_Decides (same_record x r) (record_decided x r) other here)
-removed_is r (x ∷ xs) (suc at) once is = by (same_record x r) refl
+removed_is r (x ∷ xs) (suc at) once is = by (removed_is r xs at once.1 is) (same_record x r) refl
   where
-    by : (b : Bool) → same_record x r ≡ b → x ∷ remove xs at ≡ (if b then without_record r xs else x ∷ without_record r xs)
-    by true same = absurd (once.0 (subst (λ (y : Record). IsAmong y xs) (sym ((record_decided x r).0 same)) (at_among r xs at is)))
-    by false other = ap (λ (l : List Record). x ∷ l) (removed_is r xs at once.1 is)
+    by : remove xs at ≡ without_record r xs → (b : Bool) → same_record x r ≡ b → x ∷ remove xs at ≡ (if b then without_record r xs else x ∷ without_record r xs)
+    by rest true same = absurd (once.0 (subst (λ (y : Record). IsAmong y xs) (sym ((record_decided x r).0 same)) (at_among r xs at is)))
+    by rest false other = ap (λ (l : List Record). x ∷ l) rest
 
 pub distinct_without : (r : Record) (l : List Record) → IsDistinct l → IsDistinct (without_record r l)
 distinct_without r [] once = tt
-distinct_without r (x ∷ xs) once = by (same_record x r)
+distinct_without r (x ∷ xs) once = by (distinct_without r xs once.1) (same_record x r)
   where
-    by : (b : Bool) → IsDistinct (if b then without_record r xs else x ∷ without_record r xs)
-    by true = distinct_without r xs once.1
-    by false = (λ among. once.0 ((without_is r xs x).0 among).0, distinct_without r xs once.1)
+    by : IsDistinct (without_record r xs) → (b : Bool) → IsDistinct (if b then without_record r xs else x ∷ without_record r xs)
+    by rest true = rest
+    by rest false = (λ among. once.0 ((without_is r xs x).0 among).0, rest)
 
 among_either : (r : Record) (xs ys : List Record) → IsAmong r (xs ++ ys) → IsAmong r xs ⊎ IsAmong r ys
 among_either r [] ys among = inr among

@@ -39,9 +39,7 @@ fn place_of(records: &[NodeRecord], task: u32, effect: &Effect, node: u32) -> Op
     let mut at = records.len();
     while at > 0 {
         at -= 1;
-        let Some(r) = records.get(at) else {
-            continue;
-        };
+        let r = &records[at];
         if r.is_of(task, effect, node) {
             return Some(at);
         }

@@ -1,5 +1,5 @@
 -- What is taken out at its place is the record, since it is there once.
-use Rattle.std.proofs.Common.{◌≡◌, ◌<◌, List, Some, length, refl, sym, subst, ◌∙◌}
+use Rattle.std.proofs.Common.{◌≡◌, List, Some, refl, sym, subst, ◌∙◌}
 use Rattle.std.specs.Prelude.{slice_get}
 use Rattle.admission_laws.specs.admission_core.States.{IsAmong, Record}
 use Rattle.floor_table.proofs.nodes.Contents.{at_among, none_of, removed_is, without_none}
@@ -16,9 +16,6 @@ returns-in_default-clause-rest c =
     let r : Record = record { task = c.args.task; effect = c.args.effect.now; node = c.args.node } in
     let missing = subst (λ (l : List Record). ¬ IsAmong r l) c.as_slice.ensures.value (c.place_of.ensures.none (none_of c.place_of.result c.in_default.is)) in
     sym (without_none r c.args.records.now.items missing)
-
-pub remove-requires : goal.remove-requires
-remove-requires c = subst (λ (l : List Record). c.in-Some.at < length l) c.as_slice.ensures.value c.in-Some.ensures.there.0
 
 pub returns-clause-found : goal.returns-clause-found
 returns-clause-found c =

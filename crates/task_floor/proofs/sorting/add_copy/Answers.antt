@@ -1,4 +1,0 @@
-use Rattle.std.proofs.Common.{◌≢◌}
-use Rattle.task_floor.proofs.sorting.add_copy.Goals as goal
-
-XXX
