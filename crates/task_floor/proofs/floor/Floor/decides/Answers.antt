@@ -28,4 +28,4 @@ load-found-requires g c =
 
 pub returns-clause-told : goal.returns-clause-told
 returns-clause-told g c =
-    (c.load-found.result, c.load-found.ensures.2 c.args.task c.requires.task c.decider_place-place.ensures, λ is. eqb-true c.load-found.result (c.args.node + 1) is)
+    (c.load-found.result, c.load-found.ensures.2 c.args.task c.requires.task c.decider_place-place.ensures, λ is. let same = eqb-true c.load-found.result (c.args.node + 1) is in omega (arith, same))

@@ -1,4 +1,4 @@
-use Rattle.std.proofs.Common.{◌≡◌, ◌<◌, ℕ, Bool, true, false, List, IsFalse, IsTrue, arith, refl, sym, ap, inl, inr, ◌∙◌}
+use Rattle.std.proofs.Common.{◌≡◌, ℕ, Bool, true, false, List, IsFalse, IsTrue, arith, refl, sym, ap, inl, inr, ◌∙◌}
 use Rattle.admission_laws.specs.admission_core.States.{Record}
 use Rattle.floor_table.specs.declared.nodes.view.TreeView.{TreeView}
 use Rattle.floor_table.specs.nodes.Deciders.{AllWaitFor, MayDecide}
@@ -22,10 +22,10 @@ mark_past-requires-clause-may g c =
     let may = c.requires.may in
     let tasks = c.self.invariant.2 in
     let task = may.3 in
-    (may.0, may.1, may.2, λ low. absurd (omega (arith, low, task, tasks, c.if-task-tasks.false)), may.5)
+    (may.0, may.1, may.2, λ low. absurd (omega (arith, low, task, tasks, c.if-task-self.false)), may.5)
 
-pub returns-then-task-tasks-clause-marked : goal.returns-then-task-tasks-clause-marked
-returns-then-task-tasks-clause-marked g c a content at may = c.mark_saying.ensures.marked a content may
+pub returns-then-task-self-clause-marked : goal.returns-then-task-self-clause-marked
+returns-then-task-self-clause-marked g c a content at may = c.mark_saying.ensures.marked a content may
 
-pub returns-else-task-tasks-clause-marked : goal.returns-else-task-tasks-clause-marked
-returns-else-task-tasks-clause-marked g c a content at may = c.mark_past.ensures.marked a content may
+pub returns-else-task-self-clause-marked : goal.returns-else-task-self-clause-marked
+returns-else-task-self-clause-marked g c a content at may = c.mark_past.ensures.marked a content may
