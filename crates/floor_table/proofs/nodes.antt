@@ -18,6 +18,9 @@ pub mod Unlocks
 pub mod Withouts
 -- What lies in the slot of a node.
 pub mod Contents
+-- Decider words.
+pub mod Deciders
+pub mod Onward
 -- Placing, removing, and finding that a node is clear.
 pub mod Marks
 -- The steps in the form in which the calls of the table ask for them.
@@ -27,6 +30,8 @@ pub mod MarkCalls
 pub mod Alone
 -- Loading a lock word.
 pub mod PassingBy
+-- Loading a decider word.
+pub mod Deciding
 -- Loading a phase word.
 pub mod Following
 -- Steps of the floor.

@@ -3,6 +3,7 @@ pub mod TreeOf
 pub mod Holds
 pub mod Seats
 pub mod Plays
+pub mod Deciders
 pub mod Without
 pub mod RecordSeats
 pub mod Looks

@@ -36,13 +36,14 @@ pub use lock_laws::{
 pub use quiet_laws::a_closed_tree_table_shows_the_rest;
 pub use record::{KnownWait, NodeRecord};
 pub use record_laws::{
-    a_node_may_be_marked_clear, a_record_may_be_marked_placed, a_record_may_be_marked_removed,
-    the_others_are_left,
+    a_decider_may_be_looked_up, a_node_may_be_marked_clear,
+    a_record_beyond_the_tasks_may_be_marked_placed, a_record_may_be_marked_placed,
+    a_record_may_be_marked_removed, the_others_are_left,
 };
 pub use rule::{
     BothTreeSeats, DrawAdmission, DrawTreeEntry, FollowWait, GiveTreeTurn, GoOn, LoadTreeCell,
-    MarkClear, MarkPlaced, MarkRemoved, NextTreeSeat, PassNode, Planted, StopAt, StoreTreeCell,
-    StoreTreePhase, TreeLaw, TreeStart, TryNode, TryTreeTurn,
+    LookUpDecider, MarkClear, MarkPlaced, MarkRemoved, NextTreeSeat, PassNode, Planted, StopAt,
+    StoreTreeCell, StoreTreePhase, TreeLaw, TreeStart, TryNode, TryTreeTurn,
 };
 pub use seat_laws::{a_tree_seat_may_be_split, tree_seats_may_be_joined};
 pub use slot::{Errand, ErrandKind, TreeSlot};

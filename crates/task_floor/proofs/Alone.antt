@@ -1,5 +1,5 @@
 -- What the only stand finds.
-use Rattle.std.proofs.Common.{◌≡◌, ◌≢◌, ◌∷◌, [], ℕ, ℤ, List, Option, None, Some, sym, ap, subst, ◌∙◌, arith}
+use Rattle.std.proofs.Common.{◌≡◌, ◌≢◌, ◌∷◌, [], ℕ, ℤ, List, Option, None, Some, sym, ap, subst, ◌∙◌}
 use Rattle.std.specs.Prelude.{IfNone}
 use Rattle.std.proofs.lemmas.Option.{slice_get_within}
 use Rattle.region_paths.specs.declared.elements.Elem.{Elem}
@@ -22,7 +22,6 @@ use Rattle.floor_table.specs.Layout.{phase_of_word}
 use Rattle.floor_table.specs.Tells.{Seat}
 use Rattle.floor_table.specs.declared.view.View.{View}
 use Rattle.floor_table.specs.nodes.Alone.{LearnsAlone}
-use Rattle.floor_table.specs.nodes.FloorSeats.{floor_seat}
 use Rattle.floor_table.specs.nodes.Follows.{FollowedPhase}
 use Rattle.floor_table.specs.nodes.Seats.{TreeSeat}
 use Rattle.task_floor.specs.declared.steps.readiness.Readiness.TheVariants as readiness

@@ -23,7 +23,7 @@ use Rattle.floor_rule.specs.nodes.Starts.{AreOfEnabled}
 use Rattle.floor_table.specs.declared.nodes.slot.TreeSlot.{TreeSlot}
 use Rattle.floor_table.specs.declared.nodes.slot.TreeSlot.TheVariants as kinds
 use Rattle.floor_table.specs.nodes.Holds.{HoldsContent, IsTreeLaidOut}
-use Rattle.floor_table.specs.nodes.Layout.{content_place, free_lock, lock_place, tree_slot_count, tree_word_count}
+use Rattle.floor_table.specs.nodes.Layout.{content_place, decider_place, free_lock, lock_place, no_decider, tree_slot_count, tree_word_count}
 use Rattle.task_floor.specs.steps.Opening.{ShowsRun}
 use Rattle.task_floor.proofs.steps.Laid.{get_past}
 use Rattle.task_floor.specs.Opening.{ShowsTreeRun}
@@ -43,7 +43,7 @@ records_within nodes st records are r among = (are.only r among).placed.place.th
 module _ (nodes : List (List Elem)) (p : Program) (lim : Bounds) (log : List NumberedEntry) (st : State) (records : List Record) (words : List ℕ) (held : List (Option TaskSlot))
     (contents : List (List Record)) (floor : IsLaidOut p lim log st words held) (hold : HoldRecords (length nodes) records contents) where
   abbrev all_words : List ℕ
-  all_words = words ++ replicate (length nodes) 0
+  all_words = words ++ replicate (lim.tasks + length nodes) 0
 
   abbrev all_slots : List TreeSlot
   all_slots = map kinds.Task held ++ map kinds.Node contents
@@ -61,14 +61,21 @@ module _ (nodes : List (List Elem)) (p : Program) (lim : Bounds) (log : List Num
 
   words_count : length all_words ≡ tree_word_count nodes p lim
   words_count =
-      let both = length-append words (replicate (length nodes) 0) in
+      let both = length-append words (replicate (lim.tasks + length nodes) 0) in
       let front = floor.word_count in
-      let behind = length-replicate {A = ℕ} (length nodes) 0 in
+      let behind = length-replicate {A = ℕ} (lim.tasks + length nodes) 0 in
       omega (arith, both, front, behind)
+
+  decider_there : (t : ℕ) → t < lim.tasks → get_elem? all_words (decider_place p lim t) ≡ core.some no_decider
+  decider_there t few =
+      let front = floor.word_count in
+      get_past words (replicate (lim.tasks + length nodes) 0) (decider_place p lim t) t (omega (arith, front)) ∙ all_same (lim.tasks + length nodes) t 0 (omega (arith, few))
 
   lock_there : (n : ℕ) → n < length nodes → get_elem? all_words (lock_place p lim n) ≡ core.some free_lock
   lock_there n below =
-      get_past words (replicate (length nodes) 0) (lock_place p lim n) n (ap (λ (k : ℕ). k + n) (sym floor.word_count)) ∙ all_same (length nodes) n 0 below
+      let front = floor.word_count in
+      get_past words (replicate (lim.tasks + length nodes) 0) (lock_place p lim n) (lim.tasks + n) (omega (arith, front))
+      ∙ all_same (lim.tasks + length nodes) (lim.tasks + n) 0 (omega (arith, below))
 
   content_there : (n : ℕ) → n < length nodes → HoldsContent records all_slots (content_place lim n) n
   content_there n below =
@@ -88,7 +95,8 @@ module _ (nodes : List (List Elem)) (p : Program) (lim : Bounds) (log : List Num
     all_slots = slots_count;
     tasks = held;
     task_slots = take_front (map kinds.Task held) (map kinds.Node contents) lim.tasks held_count;
-    floor = subst (λ (l : List ℕ). IsLaidOut p lim log st l held) (sym (take_front words (replicate (length nodes) 0) (word_count p lim) floor.word_count)) floor;
+    floor = subst (λ (l : List ℕ). IsLaidOut p lim log st l held) (sym (take_front words (replicate (lim.tasks + length nodes) 0) (word_count p lim) floor.word_count)) floor;
+    deciders = decider_there;
     locks = lock_there;
     contents = content_there;
   }
@@ -96,11 +104,11 @@ module _ (nodes : List (List Elem)) (p : Program) (lim : Bounds) (log : List Num
 -- a floor that shows a run does so with these nodes too
 pub shows_planted : (nodes : List (List Elem)) (p : Program) (lim : Bounds) (log : List NumberedEntry) (st : State) (records : List Record) (words : List ℕ) (held : List (Option TaskSlot))
     (contents : List (List Record)) → ShowsRun p lim log st words held → AreOfEnabled nodes st records → HoldRecords (length nodes) records contents
-    → (whole : List ℕ) (slots : List TreeSlot) → whole ≡ words ++ replicate (length nodes) 0 → slots ≡ map kinds.Task held ++ map kinds.Node contents
+    → (whole : List ℕ) (slots : List TreeSlot) → whole ≡ words ++ replicate (lim.tasks + length nodes) 0 → slots ≡ map kinds.Task held ++ map kinds.Node contents
     → ShowsTreeRun nodes p lim log st records whole slots
 shows_planted nodes p lim log st records words held contents shows enabled hold whole slots words_are slots_are =
     subst (λ (l : List ℕ). ShowsTreeRun nodes p lim log st records l slots) (sym words_are)
-    (subst (λ (l : List TreeSlot). ShowsTreeRun nodes p lim log st records (words ++ replicate (length nodes) 0) l) (sym slots_are)
+    (subst (λ (l : List TreeSlot). ShowsTreeRun nodes p lim log st records (words ++ replicate (lim.tasks + length nodes) 0) l) (sym slots_are)
     (record {
       run = shows.run;
       order = shows.order;

@@ -1,11 +1,12 @@
 -- What lies at each node has the records that stand there.
-use Rattle.std.proofs.Common.{◌≡◌, ◌≢◌, ◌⊎◌, ◌++◌, ◌<◌, ℕ, zero, suc, List, [], ◌∷◌, length, length-set, get_or, take, replicate, refl, sym, ap, subst, ◌∙◌, inl, inr, ⊎_elim, arith}
-use Rattle.std.specs.Prelude.{slice_set}
+use Rattle.std.proofs.Common.{◌≡◌, ◌≢◌, ◌++◌, ◌<◌, ℕ, zero, suc, List, [], ◌∷◌, length, length-set, get_or, take, replicate, refl, sym, ap, subst, ◌∙◌, inl, inr, ⊎_elim, arith}
+use Rattle.std.specs.Prelude.{Some, slice_get, slice_set}
 use Rattle.std.proofs.lemmas.Bool.{cases_eq}
 use Rattle.std.proofs.lemmas.List.{length-replicate}
 use mathlib.Core.Option as core
 use mathlib.Core.Option.{some-injective, some-ne-none}
 use lib.ListN.{get_elem?}
+use Rattle.floor_rule.proofs.Puts.{some_one}
 use Rattle.floor_table.proofs.Elements.{at_else, at_within}
 use Rattle.admission_laws.specs.admission_core.States.{IsAmong, Record}
 use Rattle.floor_rule.specs.nodes.Fitting.{AreRecordsAt, IsDistinct}
@@ -21,6 +22,11 @@ at_or : {A : Type 0} (l : List A) (i : ℕ) (d x : A) → get_elem? l i ≡ core
 at_or [] i d x is = absurd (some-ne-none x (sym is))
 at_or (y ∷ l) zero d x is = some-injective y x is
 at_or (y ∷ l) (suc i) d x is = at_or l i d x is
+
+at_get : {A : Type 0} (l : List A) (i : ℕ) (x : A) → get_elem? l i ≡ core.some x → Some x ≡ slice_get l i
+at_get [] i x is = absurd (some-ne-none x (sym is))
+at_get {A} (y ∷ l) zero x is = ap (λ (z : A). Some z) (sym (some-injective y x is))
+at_get (y ∷ l) (suc i) x is = at_get l i x is
 
 -- the element that a loop has come to is in the list
 pub item_among : {A : Type 0} (l : List A) (i : ℕ) (x : A) → i < length l → x ≡ get_or l i x → IsAmong x l
@@ -43,6 +49,12 @@ module _ (nodes : ℕ) (records : List Record) (contents : List (List Record)) (
 
   abbrev new : List Record
   new = r ∷ own.content
+
+  -- it does not lie at its node yet
+  pub new_here : (content : List Record) → slice_get contents r.node ≡ Some content → ¬ IsAmong r content
+  new_here content is among =
+      let same : own.content ≡ content = some_one (at_get contents r.node own.content own.there ∙ is) in
+      new_one ((own.all r).0 (subst (IsAmong r) (sym same) among)).0
 
   added_is : with_added r contents ≡ slice_set contents r.node new
   added_is = ap (λ (l : List Record). slice_set contents r.node (r ∷ l)) (at_or contents r.node [] own.content own.there)

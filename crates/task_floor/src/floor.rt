@@ -2,7 +2,7 @@
 ghost use Rattle.std.specs.Prelude.{◌≡◌, ◌<◌, ◌^◌, length};
 ghost use Rattle.twe_program.specs.Program.{cell_count};
 ghost use Rattle.floor_table.specs.Layout.{cell_place, phase_place, turn_place, word_count};
-ghost use Rattle.floor_table.specs.nodes.Layout.{content_place, lock_place, tree_slot_count, tree_word_count};
+ghost use Rattle.floor_table.specs.nodes.Layout.{content_place, decider_place, lock_place, tree_slot_count, tree_word_count};
 
 use atomic_table::{Seat, Table};
 use floor_table::Named;
@@ -17,7 +17,7 @@ pub struct Floor<N: Named + Planted> {
     pub(crate) table: Table<TreeSlot, TreeView, TreeStart, TreeLaw<N>, Global>,
     // How many cells there are.
     pub(crate) cells: usize,
-    // How many words there are before the first lock word.
+    // How many words there are before the first decider word.
     pub(crate) words: usize,
     // How many tasks may be made.
     pub(crate) tasks: usize,
@@ -99,7 +99,16 @@ impl<N: Named + Planted> Floor<N> {
         ensures { result ≡ lock_place N.prog N.lim node }
     {
         let _cells = self.cells;
-        self.words + node as usize
+        self.words + self.tasks + node as usize
+    }
+
+    /// Where the decider word of a task lies.
+    pub(crate) fn decider_place(&self, task: u32) -> usize
+        requires { task < N.lim.tasks }
+        ensures { result ≡ decider_place N.prog N.lim task }
+    {
+        let _cells = self.cells;
+        self.words + task as usize
     }
 
     /// Which slot holds the content of a node.

@@ -7,11 +7,12 @@ use floor_table::nodes::{NodeContent, TreeSlot};
 use std::alloc::Global;
 use twe_base::{List, Memory};
 
-/// Adds the lock words of so many nodes, which nobody has locked.
-pub(crate) fn add_locks(words: &mut List<u64>, nodes: u32) -> Result<(), Memory>
-    ensures { OnOk result (words.new ≡ words.old ++ replicate nodes 0) }
+/// Adds so many words that are 0: the decider words of tasks that decide at no node, and the lock words of nodes that nobody has
+/// locked.
+pub(crate) fn add_zeros(words: &mut List<u64>, count: usize) -> Result<(), Memory>
+    ensures { OnOk result (words.new ≡ words.old ++ replicate count 0) }
 {
-    for i in 0..nodes {
+    for i in 0..count {
         words.push(0)?;
     }
     Ok(())

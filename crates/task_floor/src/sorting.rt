@@ -1,5 +1,5 @@
 //! What lies at the nodes of a floor that starts.
-ghost use Rattle.std.specs.Prelude.{◌≡◌, ◌<◌, [], length, replicate, IfOk, OnOk};
+ghost use Rattle.std.specs.Prelude.{◌≡◌, ◌<◌, List, [], Some, length, replicate, slice_get, IfOk, OnOk};
 ghost use Rattle.admission_laws.specs.admission_core.States.{IsAmong, Record};
 ghost use Rattle.floor_rule.specs.nodes.Fitting.{IsDistinct};
 ghost use Rattle.task_floor.specs.inner.Recording.{HoldRecords, with_added};
@@ -36,13 +36,15 @@ fn empty_contents(alloc: Global, nodes: u32) -> Result<List<NodeContent>, Memory
     Ok(contents)
 }
 
-/// Adds a copy of a record to what lies at its node.
+/// Adds a copy of a record to what lies at its node, where it does not lie yet.
 fn add_copy(
     alloc: Global,
     contents: &mut List<NodeContent>,
     standing: &NodeRecord,
 ) -> Result<(), Memory>
-    requires { standing.now.node < length contents.old }
+    requires node { standing.now.node < length contents.old }
+    requires added { (content : List Record) → slice_get contents.old standing.now.node ≡ Some content
+        → ¬ IsAmong standing.now content }
     ensures { OnOk result (contents.new ≡ with_added standing.now contents.old) }
 {
     let effect = standing.effect().copy(alloc)?;

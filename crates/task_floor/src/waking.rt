@@ -11,7 +11,7 @@ ghost use Rattle.task_floor.specs.steps.Waking.{log_of};
 use crate::floor::{Floor, Stand};
 use crate::laying::{slots_of, words_of};
 use crate::numbering::log_of;
-use crate::planting::{add_locks, tree_slots};
+use crate::planting::{add_zeros, tree_slots};
 use crate::recording::records_of;
 use crate::sorting::contents_of;
 use crate::steps::Rest;
@@ -67,7 +67,7 @@ impl<N: Named + Planted> Floor<N> {
         let records = records_of(alloc, shape, &state)?;
         let contents = contents_of(alloc, nodes, records.as_slice())?;
         let mut words = words_of(alloc, &state, count, journal.len())?;
-        add_locks(&mut words, nodes)?;
+        add_zeros(&mut words, count as usize + nodes as usize)?;
         let State {
             cells,
             tasks,

@@ -1,7 +1,7 @@
 //! What the words of the floor mean.
-ghost use Rattle.std.specs.Prelude.{◌≡◌, ◌<◌, ◌^◌};
+ghost use Rattle.std.specs.Prelude.{◌≡◌, ◌<◌, ◌^◌, IsFalse, IsTrue};
 ghost use Rattle.floor_table.specs.Layout.{value_of_word, word_of_phase};
-ghost use Rattle.floor_table.specs.nodes.Layout.{left_lock};
+ghost use Rattle.floor_table.specs.nodes.Layout.{decider_at, left_lock, no_decider};
 
 use floor_rule::Phase;
 use floor_table::nodes::NodeContent;
@@ -42,6 +42,14 @@ pub(crate) fn word_left(content: &NodeContent) -> u64
     ensures { result ≡ left_lock content.now }
 {
     if content.len() == 0 { 1 } else { 0 }
+}
+
+/// The decider word of a task that decides at this node, or at none.
+pub(crate) fn decider_word(node: u32, decides: bool) -> u64
+    ensures here { IsTrue decides → result ≡ decider_at node }
+    ensures nowhere { IsFalse decides → result ≡ no_decider }
+{
+    if decides { node as u64 + 1 } else { 0 }
 }
 
 /// The value of a cell that has this word.

@@ -272,6 +272,12 @@ module _ (nodes : List (List Elem)) (t : ℕ) (effects : List Effect) where
             ((there.1 x).0 among);
       }
 
+  -- before the first effect it has placed no record of the task, if it had placed none
+  pub none_before : (k : ℕ) (before middle : TreeSeat) → k ≡ 0 → HasPlacedNone before.0 t → HasPlacedFirst nodes t effects k before middle → HasPlacedNone middle.0 t
+  none_before k before middle start none first = λ r among.
+      ⊎_elim (λ (old : IsAmong r before.0.fresh). none r old)
+      (λ (new : IsOneOfFirst nodes t effects k r). let low = new.1 in absurd (omega (arith, low, start))) (first.only r among)
+
   -- whoever met an obstacle has placed what it had placed
   pub placed_still : (k : ℕ) (before middle after : TreeSeat) → HasPlacedFirst nodes t effects k before middle → HasLeft middle.0 middle.1 None after
       → HasPlacedFirst nodes t effects k before after

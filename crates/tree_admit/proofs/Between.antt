@@ -20,6 +20,14 @@ one_before P content k m n next first rest = λ j r from before at.
     (λ (same : j ≡ k). first r (ap (slice_get content) (sym same) ∙ at))
     (λ (other : j ≡ k → ⊥). rest j r (omega arith) before at) (cases_eq j k)
 
+-- the record behind them too, if there is one
+pub one_after : (P : Record → Type 0) (content : List Record) (k n : ℕ) → ((r : Record) → slice_get content n ≡ Some r → P r) → EachBetween P content k n
+    → EachBetween P content k (n + 1)
+one_after P content k n last rest = λ j r from before at.
+    ⊎_elim
+    (λ (same : j ≡ n). last r (ap (slice_get content) (sym same) ∙ at))
+    (λ (other : j ≡ n → ⊥). rest j r from (omega arith) at) (cases_eq j n)
+
 pub this_record : (P : Record → Type 0) (content : List Record) (k : ℕ) (r : Record) → Some r ≡ slice_get content k → P r
     → (s : Record) → slice_get content k ≡ Some s → P s
 this_record P content k r is holds s at = subst P (some_one (is ∙ at)) holds

@@ -15,7 +15,7 @@ use Rattle.floor_table.specs.declared.view.SeatKind.TheVariants.{Spent}
 use Rattle.effect_sets.specs.declared.effects.Effect.{Effect}
 use Rattle.floor_rule.specs.nodes.LockSteps.{IsKnownToPass, apart, own, waiting}
 use Rattle.tree_admit.specs.declared.bars.Bar.{Bar}
-use Rattle.tree_admit.specs.Bars.{IsBarOf, IsLedTo, WasBarred}
+use Rattle.tree_admit.specs.Bars.{IsBarIn, IsBarOf, IsLedTo, WasBarred}
 use Rattle.tree_admit.specs.Going.{HasOnlyLearned}
 use Rattle.tree_admit.specs.inner.Served.{HasOnlyServed}
 use Rattle.tree_admit.proofs.Alone.{in_the_way_since}
@@ -104,6 +104,9 @@ module _ (p : Program) (lim : Bounds) (t : ℕ) (e : Effect) where
     followed = λ low. followed_since u.looks v.looks w.looks bar.by bar.end grown (is.followed low);
     alone = λ low. in_the_way_since p lim t r u.floor v.floor served (is.alone low);
   }
+
+  pub bar_in_since : (u v w : TreeView) (content : List Record) (bar : Bar) → HasGrown u.looks v.looks → HasOnlyServed t u.floor v.floor → IsBarIn p lim v w t e content bar → IsBarIn p lim u w t e content bar
+  bar_in_since u v w content bar grown served (r, among, is) = (r, among, bar_since u v w r bar grown served is)
 
   pub barred_kept : (since v w : TreeView) (bar : Bar) → KnowsAll v w → WasBarred p lim since v t e bar → WasBarred p lim since w t e bar
   barred_kept since v w bar h (content, added, (r, among, is)) =

@@ -11,6 +11,7 @@ pub mod Chained
 -- Records that are passed over.
 pub mod Between
 pub mod PassedOver
+pub mod Decided
 pub mod Finishing
 pub mod Taking
 pub mod Stepping

@@ -1,6 +1,6 @@
 -- What a worker may do at its place once it has looked around.
 use Rattle.std.proofs.Common.{◌≡◌, ◌⊎◌, ℕ, List, [], ◌∷◌, refl, sym, subst, ◌∙◌, inl, inr}
-use Rattle.std.specs.Prelude.{IfErr, IfOk, Result, Ok, Err}
+use Rattle.std.specs.Prelude.{IfOk, OnOk, Result, Ok, Err}
 use Rattle.region_paths.specs.declared.elements.Elem.{Elem}
 use Rattle.effect_sets.specs.declared.effects.Effect.{Effect}
 use Rattle.effect_tree.specs.Place.{IsSolid}
@@ -26,13 +26,13 @@ put_for nodes v t e turn place done content Admission child pass below = (pass, 
 put_for nodes v t e turn place done content Placing child pass below = child
 put_for nodes v t e turn place done content Removal child pass below = absurd child
 
-pub on_both : {A E : Type 0} (P Q S : A → Type 0) (r : Result A E) → ((x : A) → P x → Q x → S x) → IfOk r P → IfOk r Q → IfOk r S
-on_both P Q S (Ok x) f h k = f x h k
-on_both P Q S (Err x) f h k = h
+pub on_ok : {A E : Type 0} (P Q : A → Type 0) (r : Result A E) → ((x : A) → P x → Q x) → IfOk r P → IfOk r Q
+on_ok P Q (Ok x) f h = f x h
+on_ok P Q (Err x) f h = h
 
-pub on_err : {A E : Type 0} (P Q : E → Type 0) (r : Result A E) → ((x : E) → P x → Q x) → IfErr r P → IfErr r Q
-on_err P Q (Ok x) f h = h
-on_err P Q (Err x) f h = f x h
+pub once_ok : {A E : Type 0} (P Q : Type 0) (r : Result A E) → (P → Q) → OnOk r P → OnOk r Q
+once_ok P Q (Ok x) f h = f h
+once_ok P Q (Err x) f h = h
 
 module _ (nodes : List (List Elem)) (lim : Bounds) (earlier : TreeView) (rest : List (ℕ × TreeSlot)) (errand : Errand) (e : Effect) (content : List Record) (me : TreeSeat)
     (may : MayLookAround nodes lim earlier rest errand e content me) where

@@ -1,5 +1,5 @@
 -- What a worker may do at its place, and what it has then.
-use Rattle.std.proofs.Common.{◌≡◌, ℕ, Bool, true, false, List, [], ◌∷◌, Some, None, refl, sym, ap, subst, ◌∙◌}
+use Rattle.std.proofs.Common.{◌≡◌, ◌↔◌, ℕ, Bool, true, false, List, [], ◌∷◌, Some, None, refl, sym, ap, subst, ◌∙◌}
 use Rattle.std.specs.List.{list_any}
 use Rattle.region_paths.specs.declared.elements.Elem.{Elem}
 use Rattle.effect_sets.specs.declared.effects.Effect.{Effect}
@@ -23,7 +23,8 @@ use Rattle.tree_admit.proofs.Entering.{come_there, effect_is, has_effect}
 use Rattle.tree_admit.proofs.Marks.{clear_has, may_clear, may_place, may_place_child, may_remove, placed_has, removed_has}
 use Rattle.tree_admit.proofs.Steps.{may_stop}
 
-task_is : (kind : ErrandKind) (t : ℕ) (e : Effect) → record_task (purpose_for kind t e) ≡ t
+-- the task of an errand is the one that its purpose is about
+pub task_is : (kind : ErrandKind) (t : ℕ) (e : Effect) → record_task (purpose_for kind t e) ≡ t
 task_is Admission t e = refl
 task_is Placing t e = refl
 task_is Removal t e = refl
@@ -106,3 +107,6 @@ was_found r content found is true_is = (found_among r content).0 (sym is ∙ tru
 
 pub was_missed : (r : Record) (content : List Record) (found : Bool) → found ≡ list_any (λ x. same_record x r) content → found ≡ false → ¬ IsAmong r content
 was_missed r content found is false_is among = let true_is : found ≡ true = is ∙ (found_among r content).1 among in absurd (cc)
+
+pub not_removed : (r : Record) (content : List Record) (was : Bool) → was ≡ false → (was ≡ true ↔ IsAmong r content) → ¬ IsAmong r content
+not_removed r content was is_false there among = let is_true : was ≡ true = there.1 among in absurd (cc)

@@ -73,6 +73,7 @@ pub fn try_admit<R: Wait, N: Named + Planted>(
         ErrandKind::Admission,
         task,
         effects,
+        true,
     ) {
         Ok(()) => return Ok(Admittance::Admitted),
         Err(stopped) => stopped,

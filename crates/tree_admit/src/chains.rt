@@ -1,13 +1,12 @@
 //! Following the waits from a task, past the records of other tasks on the way.
-ghost use Rattle.std.specs.Prelude.{◌≡◌, ◌≢◌, ◌≤◌, ◌<◌, IfErr, IfOk, OnOk};
+ghost use Rattle.std.specs.Prelude.{◌≡◌, ◌≢◌, ◌≤◌, ◌<◌, ℕ, IfErr, IfOk, OnOk};
 ghost use Rattle.floor_table.specs.declared.view.SeatKind.TheVariants.{Spent};
 ghost use Rattle.admission_laws.specs.admission_core.States.{IsAmong};
-ghost use Rattle.floor_rule.specs.nodes.LockSteps.{IsKnownToPass};
 ghost use Rattle.floor_table.specs.nodes.Chains.{HasFollowedTo};
 ghost use Rattle.tree_admit.specs.Alone.{FollowedAlone};
 ghost use Rattle.tree_admit.specs.Bars.{IsLedTo};
 ghost use Rattle.tree_admit.specs.Going.{HasOnlyFollowed};
-ghost use Rattle.tree_admit.specs.Passing.{EachBetween};
+ghost use Rattle.tree_admit.specs.Passing.{EachBetween, EaseOrWaits};
 
 use crate::passing::pass_over;
 use effect_sets::Effect;
@@ -16,8 +15,9 @@ use floor_table::Named;
 use floor_table::nodes::{NodeContent, Planted};
 use task_floor::{Floor, Stand};
 
-/// Follows the waits from a task. `Ok` if they lead to the task `to`: the stand knows that from then on. Otherwise the task at
-/// which they ended: the stand has found that its phase was no wait.
+/// Follows the waits from a task. `Ok` if they lead to the task `to`: the stand knows that from then on, also of those of which
+/// it knew that they wait for the first task. Otherwise the task at which they ended: the stand has found that its phase was no
+/// wait.
 ///
 /// If they lead there, so do those from each task on the way. So of the first records of a content, `left` of them, the last ones
 /// are passed over meanwhile, as far as they stand in the order of the waits. `Ok` says how many are left.
@@ -37,7 +37,9 @@ pub(crate) fn follow_past<N: Named + Planted>(
     requires other { from ≢ to }
     ensures known { OnOk result (IsAmong (record { waiter = from; awaited = to }) stand.new.me.0.waits) }
     ensures passed { IfOk result (λ rest. (rest ≤ left)
-        × EachBetween (IsKnownToPass stand.new.me.0.waits to effect.now) content.now rest left) }
+        × EachBetween (EaseOrWaits stand.new.me.0.waits to effect.now) content.now rest left) }
+    ensures led { OnOk result ((s : ℕ) → IsAmong (record { waiter = s; awaited = from }) stand.old.me.0.waits
+        → IsAmong (record { waiter = s; awaited = to }) stand.new.me.0.waits) }
     ensures end { IfErr result (λ end. IsLedTo stand.new.me.0 from end × (end ≢ to)) }
     ensures followed { IfErr result (λ end. from < N.lim.tasks
         → HasFollowedTo stand.old.me.0.looks stand.new.me.0.looks from end) }

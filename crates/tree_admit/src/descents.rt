@@ -81,7 +81,7 @@ pub(crate) fn descend<N: Named + Planted, R: Wait>(
     let mut content = lock_root(rt, floor, stand, footing.worker, errand);
     while node != errand.place {
         match look_at(floor, stand, footing.tasks, errand, effect, node, &content) {
-            Ok(()) => {}
+            Ok(_) => {}
             Err(bar) => {
                 floor.back_out(stand, node, content);
                 return Err(bar);

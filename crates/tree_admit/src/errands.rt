@@ -2,9 +2,11 @@
 ghost use Rattle.std.specs.Prelude.{◌≡◌, ◌≢◌, ◌<◌, ℕ, List, [], ◌∷◌, IfErr, IfOk, IsFalse, IsTrue, None, length};
 ghost use Rattle.effect_tree.specs.Place.{IsSolid};
 ghost use Rattle.floor_table.specs.declared.view.SeatKind.TheVariants.{Spent};
+ghost use Rattle.admission_laws.specs.admission_core.States.{IsAmong};
 ghost use Rattle.floor_table.specs.declared.nodes.slot.ErrandKind.TheVariants.{Admission, Removal};
 ghost use Rattle.floor_table.specs.declared.nodes.slot.TreeSlot as slots;
 ghost use Rattle.floor_table.specs.declared.nodes.view.TreeView.{TreeView};
+ghost use Rattle.floor_table.specs.nodes.Deciders.{AllWaitFor};
 ghost use Rattle.floor_table.specs.nodes.Seats.{HasOwn};
 ghost use Rattle.floor_table.specs.nodes.TreeOf.{content_in};
 ghost use Rattle.tree_admit.specs.Bars.{WasBarred};
@@ -27,8 +29,22 @@ use std::sync::Wait;
 use task_floor::{Floor, Stand};
 use twe_base::Memory;
 
-/// Places the record of an errand at its place, whose content this is, and comes back. If the record stands there already, or if
-/// memory runs out, it comes back and leaves the content as it was.
+/// Whether the record of an errand stands at its place, whose content this is. `unplaced` says that it is known not to stand:
+/// then it is not looked for.
+fn stands(content: &NodeContent, errand: Errand, effect: &Effect, unplaced: bool) -> bool
+    requires { IsTrue unplaced → ¬ IsAmong (record_of errand effect.now) content.now }
+    ensures there { IsTrue result → IsAmong (record_of errand effect.now) content.now }
+    ensures missing { IsFalse result → ¬ IsAmong (record_of errand effect.now) content.now }
+{
+    if unplaced {
+        return false;
+    }
+    content.has(errand.task, effect, errand.place)
+}
+
+/// Places the record of an errand at its place, whose content this is, and comes back. `decides` says whether the tasks of all
+/// records there are known to wait for the task: then it decides there for those before it. If the record stands there already,
+/// or if memory runs out, it comes back and leaves the content as it was. `unplaced` says that it is known not to stand.
 pub(crate) fn put<N: Named + Planted>(
     floor: &Floor<N>,
     stand: &mut Stand,
@@ -37,11 +53,15 @@ pub(crate) fn put<N: Named + Planted>(
     effect: &Effect,
     mut content: NodeContent,
     mine: NodeRecord,
+    decides: bool,
+    unplaced: bool,
 ) -> Result<Attempt, Memory>
     requires here { stand.old.table_id ≡ floor.now }
     requires node { errand.place < length N.nodes }
     requires worker { worker ≡ stand.old.me.0.floor.worker }
     requires mine { mine ≡ record_of errand effect.now }
+    requires decides { IsTrue decides → AllWaitFor stand.old.me.0.waits errand.task content }
+    requires unplaced { IsTrue unplaced → ¬ IsAmong (record_of errand effect.now) content }
     requires may { (earlier : TreeView) × (rest : List (ℕ × slots.TreeSlot)) × (done : List ℕ)
         × MayPut N.nodes N.lim earlier rest errand effect.now done content stand.old.me }
     ensures tried { (earlier : TreeView) (rest : List (ℕ × slots.TreeSlot)) (done : List ℕ)
@@ -52,13 +72,13 @@ pub(crate) fn put<N: Named + Planted>(
         → IfErr result (λ _. HasLeft earlier rest None stand.new.me) }
     ensures same { (stand.new.table_id ≡ stand.old.table_id) × (stand.new.id ≡ stand.old.id) }
 {
-    if content.has(errand.task, effect, errand.place) {
+    if stands(&content, errand, effect, unplaced) {
         floor.back_out(stand, errand.place, content);
         return Ok(Attempt::Stood);
     }
     match content.add(mine) {
         Ok(()) => {
-            floor.mark_placed(stand, worker, errand.place);
+            floor.mark_placed(stand, worker, errand.task, errand.place, decides);
             floor.back_out(stand, errand.place, content);
             Ok(Attempt::Placed)
         }
@@ -94,8 +114,7 @@ pub(crate) fn take_out<N: Named + Planted>(
         → HasTakenOut earlier rest errand effect.now result stand.new.me }
     ensures same { (stand.new.table_id ≡ stand.old.table_id) × (stand.new.id ≡ stand.old.id) }
 {
-    if content.has(errand.task, effect, errand.place) {
-        content.remove(errand.task, effect, errand.place);
+    if content.remove(errand.task, effect, errand.place) {
         floor.mark_removed(stand, worker, errand.place);
         floor.back_out(stand, errand.place, content);
         true
@@ -148,8 +167,58 @@ fn goes_below(errand: Errand, effect: &Effect) -> bool
     }
 }
 
+/// Looks at what stands at the place of an admission whose effect has a wildcard, and below it. The content of the place is this,
+/// and the stand may place the record then. If a record is a bar, it comes back.
+fn walk_around<N: Named + Planted, R: Wait>(
+    rt: &R,
+    floor: &Floor<N>,
+    shape: &Shape,
+    stand: &mut Stand,
+    footing: Footing,
+    errand: Errand,
+    effect: &Effect,
+    content: NodeContent,
+) -> Result<(NodeContent, bool), Bar>
+    requires here { stand.old.table_id ≡ floor.now }
+    requires live { stand.old.me.0.floor.kind ≢ Spent }
+    requires shape { shape.now ≡ N.nodes }
+    requires worker { footing.worker ≡ stand.old.me.0.floor.worker }
+    requires tasks { footing.tasks ≡ N.lim.tasks }
+    requires node { errand.place < length N.nodes }
+    requires kind { errand.kind ≡ Admission }
+    requires wild { ¬ IsSolid effect.now.path }
+    requires may { (earlier : TreeView) × (rest : List (ℕ × slots.TreeSlot))
+        × MayLookAround N.nodes N.lim earlier rest errand effect.now content stand.old.me }
+    ensures ready { (earlier : TreeView) (rest : List (ℕ × slots.TreeSlot))
+        → MayLookAround N.nodes N.lim earlier rest errand effect.now content stand.old.me
+        → IfOk result (λ seen. (done : List ℕ)
+        × MayPut N.nodes N.lim earlier rest errand effect.now done seen.0 stand.new.me) }
+    ensures wait { IfOk result (λ seen. IsFalse seen.1) }
+    ensures barred { (earlier : TreeView) (rest : List (ℕ × slots.TreeSlot))
+        → MayLookAround N.nodes N.lim earlier rest errand effect.now content stand.old.me
+        → IfErr result (λ bar. HasLeft earlier rest None stand.new.me × (errand.kind ≡ Admission)
+        × WasBarred N.prog N.lim earlier stand.new.me.0 errand.task effect.now bar) }
+    ensures same { (stand.new.table_id ≡ stand.old.table_id) × (stand.new.id ≡ stand.old.id) }
+{
+    match walk_below(
+        rt,
+        floor,
+        shape,
+        stand,
+        footing,
+        errand,
+        effect,
+        errand.place,
+        content,
+    ) {
+        Ok(content) => Ok((content, false)),
+        Err(bar) => Err(bar),
+    }
+}
+
 /// Looks at what stands at the place of an errand, whose content this is, and below it if that matters. Returns the content of
-/// the place, at which the stand may place the record then. If a record is a bar, it comes back.
+/// the place, at which the stand may place the record then, and whether the tasks of all records there are known to wait for the
+/// task. If a record is a bar, it comes back.
 fn look_around<N: Named + Planted, R: Wait>(
     rt: &R,
     floor: &Floor<N>,
@@ -159,7 +228,7 @@ fn look_around<N: Named + Planted, R: Wait>(
     errand: Errand,
     effect: &Effect,
     content: NodeContent,
-) -> Result<NodeContent, Bar>
+) -> Result<(NodeContent, bool), Bar>
     requires here { stand.old.table_id ≡ floor.now }
     requires live { stand.old.me.0.floor.kind ≢ Spent }
     requires shape { shape.now ≡ N.nodes }
@@ -170,8 +239,9 @@ fn look_around<N: Named + Planted, R: Wait>(
         × MayLookAround N.nodes N.lim earlier rest errand effect.now content stand.old.me }
     ensures ready { (earlier : TreeView) (rest : List (ℕ × slots.TreeSlot))
         → MayLookAround N.nodes N.lim earlier rest errand effect.now content stand.old.me
-        → IfOk result (λ content. (done : List ℕ)
-        × MayPut N.nodes N.lim earlier rest errand effect.now done content stand.new.me) }
+        → IfOk result (λ seen. (done : List ℕ)
+        × MayPut N.nodes N.lim earlier rest errand effect.now done seen.0 stand.new.me) }
+    ensures wait { IfOk result (λ seen. IsTrue seen.1 → AllWaitFor stand.new.me.0.waits errand.task seen.0) }
     ensures barred { (earlier : TreeView) (rest : List (ℕ × slots.TreeSlot))
         → MayLookAround N.nodes N.lim earlier rest errand effect.now content stand.old.me
         → IfErr result (λ bar. HasLeft earlier rest None stand.new.me × (errand.kind ≡ Admission)
@@ -179,17 +249,7 @@ fn look_around<N: Named + Planted, R: Wait>(
     ensures same { (stand.new.table_id ≡ stand.old.table_id) × (stand.new.id ≡ stand.old.id) }
 {
     if goes_below(errand, effect) {
-        return walk_below(
-            rt,
-            floor,
-            shape,
-            stand,
-            footing,
-            errand,
-            effect,
-            errand.place,
-            content,
-        );
+        return walk_around(rt, floor, shape, stand, footing, errand, effect, content);
     }
     match look_at(
         floor,
@@ -200,7 +260,7 @@ fn look_around<N: Named + Planted, R: Wait>(
         errand.place,
         &content,
     ) {
-        Ok(()) => Ok(content),
+        Ok(decides) => Ok((content, decides)),
         Err(bar) => {
             floor.back_out(stand, errand.place, content);
             Err(bar)
@@ -210,6 +270,7 @@ fn look_around<N: Named + Planted, R: Wait>(
 
 /// Places the record of an effect of a task in the tree: goes down to its place, places it and comes back. The record is made
 /// before the first lock is taken. Whoever admits a task comes back without placing it if another task's record is in the way.
+/// `unplaced` says that the stand has not placed the record.
 pub fn place_one<N: Named + Planted, R: Wait>(
     rt: &R,
     alloc: Global,
@@ -219,6 +280,7 @@ pub fn place_one<N: Named + Planted, R: Wait>(
     footing: Footing,
     errand: Errand,
     effect: &Effect,
+    unplaced: bool,
 ) -> Result<Attempt, Memory>
     requires here { stand.old.table_id ≡ floor.now }
     requires live { stand.old.me.0.floor.kind ≢ Spent }
@@ -228,6 +290,7 @@ pub fn place_one<N: Named + Planted, R: Wait>(
     requires slots { footing.slots ≡ length stand.old.me.1 }
     requires outside { IsOutside stand.old.me.0 }
     requires knows { (knows : KnowsErrand N.nodes stand.old.me.0 errand effect.now) × IsOfChild errand.kind knows.turn }
+    requires unplaced { IsTrue unplaced → ¬ IsAmong (record_of errand effect.now) stand.old.me.0.fresh }
     ensures tried { IfOk result (λ attempt.
         HasTried N.prog N.lim stand.old.me.0 stand.old.me.1 errand effect.now attempt stand.new.me) }
     ensures failed { IfErr result (λ _. HasLeft stand.old.me.0 stand.old.me.1 None stand.new.me) }
@@ -240,7 +303,17 @@ pub fn place_one<N: Named + Planted, R: Wait>(
         Err(bar) => return Ok(Attempt::Barred(bar)),
     };
     match look_around(rt, floor, shape, stand, footing, errand, effect, content) {
-        Ok(content) => put(floor, stand, footing.worker, errand, effect, content, mine),
+        Ok((content, decides)) => put(
+            floor,
+            stand,
+            footing.worker,
+            errand,
+            effect,
+            content,
+            mine,
+            decides,
+            unplaced,
+        ),
         Err(bar) => Ok(Attempt::Barred(bar)),
     }
 }

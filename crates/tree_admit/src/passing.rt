@@ -1,7 +1,7 @@
 //! Passing over the records that need no walk of their own along the waits.
 ghost use Rattle.std.specs.Prelude.{◌≡◌, ◌+◌, ◌≤◌, ℕ, false, IsTrue, Some, slice_get};
 ghost use Rattle.admission_laws.specs.admission_core.States.{Record};
-ghost use Rattle.tree_admit.specs.Passing.{EachBetween, is_at_ease, is_passed_over};
+ghost use Rattle.tree_admit.specs.Passing.{EachBetween, is_at_ease, is_own_or_meets, is_passed_over};
 
 use effect_sets::{Effect, interferes};
 use floor_table::nodes::{NodeContent, NodeRecord};
@@ -45,4 +45,26 @@ pub(crate) fn pass_over(
         rest -= 1;
     }
     rest
+}
+
+/// Whether a record is of the task, or its effect may interfere with this one.
+fn own_or_meets(task: u32, effect: &Effect, r: &NodeRecord) -> bool
+    ensures { result ≡ is_own_or_meets task effect.now r.now }
+{
+    r.task() == task || interferes(r.effect(), effect)
+}
+
+/// Whether each of the first records of a content, `count` of them, is of the task or may interfere with its effect.
+pub(crate) fn none_is_apart(task: u32, effect: &Effect, content: &NodeContent, count: usize) -> bool
+    ensures { IsTrue result → EachBetween (λ r. IsTrue (is_own_or_meets task effect.now r)) content.now 0 count }
+{
+    for at in 0..count {
+        let Some(r) = content.get(at) else {
+            return false;
+        };
+        if !own_or_meets(task, effect, r) {
+            return false;
+        }
+    }
+    true
 }

@@ -60,7 +60,7 @@ pub(crate) fn walk_below<N: Named + Planted, R: Wait>(
 {
     let _count = shape.nodes();
     match look_at(floor, stand, footing.tasks, errand, effect, node, &content) {
-        Ok(()) => {}
+        Ok(_) => {}
         Err(bar) => {
             floor.back_out(stand, node, content);
             return Err(bar);

@@ -171,7 +171,7 @@ module _ (nodes : List (List Elem)) (p : Program) (lim : Bounds) (s : TreeTable)
 
   steps : StepsBeside nodes p lim s kept id v at clock_place now (admitted_view clock v t turn)
   steps =
-      grows_beside nodes p lim s kept id v at now [] view keeps keep more (after_admission f id t turn) (record kept.core { tasks = event.0 }) rule.parts
+      grows_beside nodes p lim s kept id v at now [] view keeps keep more (admission_drawn f t) refl (after_admission f id t turn) (record kept.core { tasks = event.0 }) rule.parts
       event.2
       (ap (λ (g : Floor). g.parts) tie) (ap (λ (g : Floor). g.held) tie) (ap (λ (g : Floor). g.workers) tie)
 

@@ -177,7 +177,7 @@ module _ (nodes : List (List Elem)) (p : Program) (lim : Bounds) (s : TreeTable)
           → TableKeeps p lim (stepped (floor_part p lim s) clock_place x id out w a)
           → StepsBeside nodes p lim s kept id v at clock_place x (record v { floor = w })
       beside_drawn x w a is keep =
-          grows_beside nodes p lim s kept id v at x out w a keep more after (record kept.core { tasks = event.0 }) rule.parts event.2
+          grows_beside nodes p lim s kept id v at x out w a keep more (entry_drawn lim f t frame stop) refl after (record kept.core { tasks = event.0 }) rule.parts event.2
           (seats_put part_at fs.views id v.floor w at_floor (f.parts id ++ entry_drawn lim f t frame stop ∷ [])
           (is.part ∙ ap (λ (l : List NumberedEntry). l ++ entry_drawn lim f t frame stop ∷ []) (sym part_id))
           ∙ sym is.parts)

@@ -11,8 +11,11 @@ use Rattle.atomic_table.proofs.Lists.{at_map}
 use Rattle.region_paths.specs.declared.elements.Elem.{Elem}
 use Rattle.twe_base.specs.Limits.{Bounds}
 use Rattle.twe_program.specs.Program.{Program}
+use Rattle.wait_graph.specs.Waiting.{WaitsOnUnlessDone}
+use Rattle.twe_machine.specs.Runs.{state_after}
 use Rattle.twe_machine.proofs.lists.Places.{put_before, put_last}
 use Rattle.seg_journal.specs.declared.numbered.NumberedEntry.{NumberedEntry}
+use Rattle.seg_journal.specs.Merging.{journal_of}
 use Rattle.floor_rule.specs.declared.view.TaskSlot.{TaskSlot}
 use Rattle.floor_rule.specs.Floors.{Floor}
 use Rattle.floor_rule.specs.Rule.{KeepsRule}
@@ -30,11 +33,13 @@ use Rattle.floor_rule.specs.nodes.Trees.{Tree}
 use Rattle.floor_rule.proofs.nodes.TurnEvents.{floor_same}
 use Rattle.floor_table.specs.declared.nodes.view.Look.{Look}
 use Rattle.floor_table.specs.declared.nodes.view.TreeView.{TreeView}
+use Rattle.floor_table.specs.nodes.Deciders.{DecidersAreSo}
 use Rattle.floor_table.specs.nodes.FloorSeats.{as_slot}
 use Rattle.floor_table.specs.nodes.Holds.{TreeKeeps}
-use Rattle.floor_table.specs.nodes.Layout.{content_place, lock_at, lock_place}
+use Rattle.floor_table.specs.nodes.Layout.{content_place, decider_place, lock_at, lock_place}
 use Rattle.floor_table.specs.nodes.Looks.{looked_view}
-use Rattle.floor_table.specs.nodes.TreeOf.{TreeTable, activity_at, clear_at, content_at, floor_part, floor_shown, floor_view, fresh_at, kept_at, placed_at, removed_at, tree_of, waits_at}
+use Rattle.floor_table.specs.nodes.TreeOf.{TreeTable, activity_at, clear_at, content_at, content_in, floor_part, floor_shown, floor_view, fresh_at, kept_at, placed_at, removed_at, tree_of, waits_at}
+use Rattle.floor_table.proofs.nodes.Deciders.{deciders_stay, same_come}
 use Rattle.floor_table.proofs.nodes.Elements.{elements_kept, map_put, take_there}
 use Rattle.floor_table.proofs.nodes.Lifts.{AreBelow, IsLifted, lift, lifted, take_put}
 use Rattle.floor_table.proofs.nodes.OneLog.{one_log}
@@ -71,9 +76,16 @@ module _ (nodes : List (List Elem)) (p : Program) (lim : Bounds) (s : TreeTable)
       (entries_of_clock (number_at (get_elem? (slice_set fs.words i x) clock_place)) ≡ length after)
       × ((j : ℕ) (e : NumberedEntry) → among.IsAmong e (part_at (get_elem? (slice_set fs.views id w) j)) → slice_get after e.number ≡ Some e)
 
-  -- with this log, the nodes keep their rule beside the floor if word i is x and this seat has this view
+  -- whoever waits goes on waiting up to this log
+  abbrev pub GoesOn : List NumberedEntry → Type 0
+  GoesOn after = (a b : ℕ) → WaitsOnUnlessDone (state_after p lim (journal_of log)).links a b → WaitsOnUnlessDone (state_after p lim (journal_of after)).links a b
+
+  -- With this log, the nodes keep their rule beside the floor if word i is x and this seat has this view, and whoever waits goes on
+  -- waiting. The seat has the contents that it had.
   abbrev pub StepsBeside : ℕ → ℕ → TreeView → Type 0
-  StepsBeside i x u = (after : List NumberedEntry) × IsNextLog i x u.floor after × (core_after : State) × KeepsNodes nodes p lim after (viewed u.floor) (seated u) core_after
+  StepsBeside i x u =
+      (after : List NumberedEntry) × IsNextLog i x u.floor after × (core_after : State) × KeepsNodes nodes p lim after (viewed u.floor) (seated u) core_after × GoesOn after
+      × (content_in u.kept ≡ content_in v.kept)
 
   -- no entry was drawn
   pub nothing_drawn : (i x : ℕ) (w : View) → i ≢ clock_place → w.part ≡ v.floor.part → IsNextLog i x w log
@@ -126,11 +138,11 @@ module _ (nodes : List (List Elem)) (p : Program) (lim : Bounds) (s : TreeTable)
 
   pub looks_beside : (i x : ℕ) (w : View) (look : Look) → i ≢ clock_place → w.part ≡ v.floor.part → KeepsBeside w → StepsBeside i x (record (looked_view v look) { floor = w })
   looks_beside i x w look no_clock part (core_after, nodes_keep) =
-      (log, nothing_drawn i x w no_clock part, core_after, subst (λ (t : Tree). KeepsNodes nodes p lim log (viewed w) t core_after) (sym (looking w look)) nodes_keep)
+      (log, nothing_drawn i x w no_clock part, core_after, subst (λ (t : Tree). KeepsNodes nodes p lim log (viewed w) t core_after) (sym (looking w look)) nodes_keep, λ a b waits. waits, refl)
 
   pub steps_beside : (i x : ℕ) (w : View) → i ≢ clock_place → w.part ≡ v.floor.part → KeepsBeside w → StepsBeside i x (record v { floor = w })
   steps_beside i x w no_clock part (core_after, nodes_keep) =
-      (log, nothing_drawn i x w no_clock part, core_after, subst (λ (t : Tree). KeepsNodes nodes p lim log (viewed w) t core_after) (sym (unseated w)) nodes_keep)
+      (log, nothing_drawn i x w no_clock part, core_after, subst (λ (t : Tree). KeepsNodes nodes p lim log (viewed w) t core_after) (sym (unseated w)) nodes_keep, λ a b waits. waits, refl)
 
   module _ (i x : ℕ) (low : i < word_count p lim) (mine : List (ℕ × Option TaskSlot)) (below : AreBelow lim.tasks mine) (u : TreeView) (a : Act (Option TaskSlot))
       (valid : Valid fs.homes mine a) (keep : TableKeeps p lim (stepped fs i x id mine u.floor a)) where
@@ -157,8 +169,15 @@ module _ (nodes : List (List Elem)) (p : Program) (lim : Bounds) (s : TreeTable)
         (λ k n. content_at (is_lifted.stay (content_place lim n) (omega arith) k))
         refl refl refl refl refl refl refl
 
+    deciders_next : (after : List NumberedEntry) → GoesOn after → content_in u.kept ≡ content_in v.kept
+        → DecidersAreSo p lim (slice_set s.words i x) (seated u) (state_after p lim (journal_of after)).links
+    deciders_next after on same_kept =
+        deciders_stay p lim s.words (slice_set s.words i x) tree (seated u) (state_after p lim (journal_of log)).links (state_after p lim (journal_of after)).links
+        (λ t few. at_else s.words i (decider_place p lim t) x (λ same. omega (arith, same, low)))
+        (same_come tree (seated u) refl (elements_kept kept_at s.views id v u at same_kept)) on kept.deciders
+
     next_keeps : StepsBeside i x u → TreeKeeps nodes p lim next
-    next_keeps (after, is_log, core_after, nodes_keep) =
+    next_keeps (after, is_log, core_after, nodes_keep, on, same_kept) =
         let again = same_floor p lim floor_next (floor_part p lim next) part_tie keep in
         let same : keep.log ≡ after = next_log i x mine u.floor a keep after is_log in
         record {
@@ -179,6 +198,8 @@ module _ (nodes : List (List Elem)) (p : Program) (lim : Bounds) (s : TreeTable)
           bare = λ n is.
               ap content_at (is_lifted.stay (content_place lim n) (omega arith))
               ∙ kept.bare n (sym (at_else s.words i (lock_place p lim n) x (λ same. omega (arith, same, low))) ∙ is);
+          deciders = subst (λ (l : List NumberedEntry). DecidersAreSo p lim next.words (tree_of p lim next) (state_after p lim (journal_of l)).links) (sym (again.1 ∙ same))
+              (subst (λ (t : Tree). DecidersAreSo p lim next.words t (state_after p lim (journal_of after)).links) (sym tree_next) (deciders_next after on same_kept));
         }
 
     pub next_step : StepsBeside i x u

@@ -40,6 +40,7 @@ use Rattle.floor_table.specs.declared.nodes.slot.TreeSlot.{TreeSlot}
 use Rattle.floor_table.specs.declared.nodes.view.Look.TheVariants.{AtPhase}
 use Rattle.floor_table.specs.declared.nodes.view.TreeView.{TreeView}
 use Rattle.floor_table.specs.nodes.Alone.{LearnsAlone}
+use Rattle.floor_table.specs.nodes.Deciders.{DecidersAreSo}
 use Rattle.floor_table.specs.nodes.Follows.{FollowedPhase, FollowsWait, Learns, done_view, followed, led_on, waits_view}
 use Rattle.floor_table.specs.nodes.Holds.{TreeKeeps}
 use Rattle.floor_table.specs.nodes.Layout.{tree_slot_count}
@@ -123,7 +124,7 @@ module _ (nodes : List (List Elem)) (p : Program) (lim : Bounds) (s : TreeTable)
   nothing_learned =
       let views = map_set floor_view s.views id v after_look at refl in
       let floor : floor_part p lim (with_view after_look) ≡ fs = λ k. record { words = fs.words; homes = fs.homes; views = views k } in
-      keeps_after nodes p lim s kept (with_view after_look) tree kept.core refl refl floor looked_tie kept.both.nodes_keep kept.bare
+      keeps_after nodes p lim s kept (with_view after_look) tree kept.core refl refl floor looked_tie kept.both.nodes_keep kept.bare kept.deciders
 
   -- Task u waits.
   module _ (t : ℕ) (is : phase_of_word found ≡ Waits t) where
@@ -190,7 +191,7 @@ module _ (nodes : List (List Elem)) (p : Program) (lim : Bounds) (s : TreeTable)
     waits_learned =
         let views = map_set floor_view s.views id v (waits_view after_look u t) at refl in
         let floor : floor_part p lim (with_view (waits_view after_look u t)) ≡ fs = λ k. record { words = fs.words; homes = fs.homes; views = views k } in
-        keeps_after nodes p lim s kept (with_view (waits_view after_look u t)) after_waits kept.core refl refl floor waits_tie waits_keep kept.bare
+        keeps_after nodes p lim s kept (with_view (waits_view after_look u t)) after_waits kept.core refl refl floor waits_tie waits_keep kept.bare kept.deciders
 
   -- Task u is done.
   module _ (value : ℤ) (rule : KeepsRule p lim log (after_finding_done f id u value)) where
@@ -251,6 +252,8 @@ module _ (nodes : List (List Elem)) (p : Program) (lim : Bounds) (s : TreeTable)
           both = subst (λ (l : List NumberedEntry). KeepsBoth nodes p lim l (floor_shown p lim (with_view w)) (tree_of p lim (with_view w)) kept.core) (sym again.1)
               (subst (λ (g : Table). KeepsBoth nodes p lim log (floor_of p g) (tree_of p lim (with_view w)) kept.core) (sym part_tie) both_then);
           bare = kept.bare;
+          deciders = subst (λ (l : List NumberedEntry). DecidersAreSo p lim s.words (tree_of p lim (with_view w)) (state_after p lim (journal_of l)).links) (sym again.1)
+              (subst (λ (t : Tree). DecidersAreSo p lim s.words t (state_after p lim (journal_of log)).links) (sym tree_stays) kept.deciders);
         }
 
   -- The step.

@@ -112,6 +112,8 @@ module _ (nodes : List (List Elem)) (p : Program) (lim : Bounds) (id : ℕ) (v :
               (subst (λ (x : Tree). KeepsNodes nodes p lim (log nodes p lim s kept id v at) (after_giving (floor_shown p lim s) id t turn) x (record kept.core { tasks = tasks })) (sym forgets) nodes_keep)
               (viewed nodes p lim s kept id v at given.floor)
               (held_put nodes p lim id v mine has s kept at t None given.floor refl) (worker_kept nodes p lim id v mine has s kept at given.floor refl),
+          λ a b waits. waits,
+          refl,
         )
 
   -- There is one turn to give.

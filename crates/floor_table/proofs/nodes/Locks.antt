@@ -1,5 +1,5 @@
 -- Locking a node and unlocking it keep the rule of the table.
-use Rattle.std.proofs.Common.{◌≡◌, ◌≢◌, ◌<◌, ℕ, List, [], length, map, Option, Some, refl, sym, ap, subst, ◌∙◌, inl, inr, arith, length-set}
+use Rattle.std.proofs.Common.{◌≡◌, ◌≢◌, ◌+◌, ◌<◌, ℕ, List, [], length, map, Option, None, Some, refl, sym, ap, subst, ◌∙◌, inl, inr, arith, length-set}
 use Rattle.std.specs.Prelude.{◌==◌, slice_index, slice_set}
 use mathlib.Core.Option as core
 use lib.ListN.{get_elem?}
@@ -9,10 +9,13 @@ use Rattle.atomic_table.proofs.Lists.{exchanged}
 use Rattle.region_paths.specs.declared.elements.Elem.{Elem}
 use Rattle.twe_base.specs.Limits.{Bounds}
 use Rattle.twe_program.specs.Program.{Program}
+use Rattle.wait_graph.specs.declared.tasks.Link.{Link}
+use Rattle.twe_machine.specs.Runs.{state_after}
+use Rattle.seg_journal.specs.Merging.{journal_of}
 use Rattle.floor_rule.specs.Floors.{Floor, put}
 use Rattle.floor_rule.proofs.Puts.{none_some, some_one}
 use Rattle.floor_table.specs.Layout.{word_count}
-use Rattle.floor_table.proofs.Elements.{set_same, word_at}
+use Rattle.floor_table.proofs.Elements.{at_else, set_same, word_at}
 use Rattle.admission_laws.specs.admission_core.States.{Activity, IsAmong, Record, State}
 use Rattle.floor_rule.specs.nodes.LockSteps.{LocksNode, after_locking}
 use Rattle.floor_rule.specs.nodes.Rule.{KeepsNodes}
@@ -23,11 +26,12 @@ use Rattle.floor_table.specs.declared.nodes.slot.TreeSlot.{TreeSlot}
 use Rattle.floor_table.specs.declared.nodes.slot.TreeSlot.TheVariants as kinds
 use Rattle.floor_table.specs.declared.nodes.view.TreeView.{TreeView}
 use Rattle.floor_table.specs.nodes.Holds.{TreeKeeps}
-use Rattle.floor_table.specs.nodes.Layout.{bare_lock, content_place, lock_at, lock_of_word, lock_place, taken_lock}
+use Rattle.floor_table.specs.nodes.Layout.{bare_lock, content_place, decider_place, lock_at, lock_of_word, lock_place, taken_lock}
 use Rattle.floor_table.specs.nodes.Seats.{HasOwn, MayLock, TriedNode, enters, goes_down, locked_view, walks_down}
 use Rattle.floor_table.specs.nodes.TreeOf.{TreeTable, activity_at, clear_at, content_at, floor_part, floor_shown, floor_view, fresh_at, kept_at, placed_at, removed_at, task_home, tree_of, waits_at}
 use Rattle.floor_table.proofs.nodes.Elements.{at_some, elements_kept, elements_put, map_set, places_put, take_set}
 use Rattle.floor_table.proofs.nodes.Seen.{down_seen, enter_seen, fresh_id, held_id, kept_id, walk_seen, worker_id}
+use Rattle.floor_table.proofs.nodes.Deciders.{AllCome, all_come, comes_same, contents_come, deciders_stay, kept_come}
 use Rattle.floor_table.proofs.nodes.Ties.{bare_node, keeps_after, tree_is}
 
 -- a slot that shows a content holds it
@@ -43,6 +47,9 @@ module _ (nodes : List (List Elem)) (p : Program) (lim : Bounds) (s : TreeTable)
 
   abbrev f : Floor
   f = floor_shown p lim s
+
+  abbrev links : List Link
+  links = (state_after p lim (journal_of kept.floor.log)).links
 
   -- places within the table
   pub lock_within : (n : ℕ) → n < length nodes → lock_place p lim n < length s.words
@@ -63,10 +70,12 @@ module _ (nodes : List (List Elem)) (p : Program) (lim : Bounds) (s : TreeTable)
       λ k. record { words = words k; homes = map task_home (homes k); views = views k }
 
   pub keeps_with : (n x : ℕ) (y : core.Option TreeSlot) (w : TreeView) → w.floor ≡ v.floor → (after : Tree) (last : State) → tree_of p lim (with_node n x y w) ≡ after
-      → KeepsNodes nodes p lim kept.floor.log f after last → n < length nodes → (x ≡ bare_lock → content_at (core.some y) ≡ Some []) → TreeKeeps nodes p lim (with_node n x y w)
-  keeps_with n x y w same after last shows nodes_keep below empty =
+      → KeepsNodes nodes p lim kept.floor.log f after last → n < length nodes → (x ≡ bare_lock → content_at (core.some y) ≡ Some []) → AllCome tree after → TreeKeeps nodes p lim (with_node n x y w)
+  keeps_with n x y w same after last shows nodes_keep below empty come =
       keeps_after nodes p lim s kept (with_node n x y w) after last (length-set s.words (lock_place p lim n) x) (length-set s.homes (content_place lim n) y) (floor_stays n x y w same) shows nodes_keep
       (bare_node p lim s.words s.homes n x y (lock_within n below) (content_within n below) kept.bare empty)
+      (deciders_stay p lim s.words (slice_set s.words (lock_place p lim n) x) tree after links links (λ t few. at_else s.words (lock_place p lim n) (decider_place p lim t) x (λ same. omega (arith, same, few))) come
+      (λ a b waits. waits) kept.deciders)
 
   -- Locking.
 
@@ -93,7 +102,7 @@ module _ (nodes : List (List Elem)) (p : Program) (lim : Bounds) (s : TreeTable)
     lock_tie records next =
         let w = locked_view v n records next in
         tree_is _ (after_locking f tree id n records next)
-        (places_put lock_at s.words (word_count p lim) n (taken_lock v.floor.worker) (lock_within n below)
+        (places_put lock_at s.words (word_count p lim + lim.tasks) n (taken_lock v.floor.worker) (lock_within n below)
         ∙ ap (λ (worker : ℕ). put tree.locks n (Locked worker)) (sym (worker_id nodes p lim s id v at)))
         (places_put content_at s.homes lim.tasks n core.none (content_within n below))
         (elements_put activity_at s.views id v w at (Some next) refl)
@@ -122,6 +131,12 @@ module _ (nodes : List (List Elem)) (p : Program) (lim : Bounds) (s : TreeTable)
     free_shown : (free : ℕ) → lock_of_word free ≡ Unlocked → slice_index s.words (lock_place p lim n) ≡ free → tree.locks n ≡ Unlocked
     free_shown free is found = ap lock_at (word_at s.words (lock_place p lim n) (lock_within n below)) ∙ (ap lock_of_word found ∙ is)
 
+    -- the content went from the node to the seat
+    lock_comes : (records : List Record) (next : Activity) → tree.contents n ≡ Some records → AllCome tree (after_locking f tree id n records next)
+    lock_comes records next there =
+        all_come tree (after_locking f tree id n records next) (contents_come tree n None (λ content is. absurd (none_some is)))
+        (kept_come tree id n (Some records) (λ content is. comes_same tree n content (inl (there ∙ is))))
+
     lock_done : (mine : List (ℕ × TreeSlot)) (next : Activity) (free : ℕ) → slice_index s.words (lock_place p lim n) ≡ free → LocksNode nodes p lim kept.floor.log f tree kept.core id n next
         → (w : TreeView) × (a : Act TreeSlot) × Valid s.homes mine a × TreeKeeps nodes p lim (stepped s (lock_place p lim n) (taken_lock v.floor.worker) id mine w a)
         × TriedNode lim (v, mine) n next free (slice_index s.words (lock_place p lim n)) (w, carried_after mine a)
@@ -129,7 +144,8 @@ module _ (nodes : List (List Elem)) (p : Program) (lim : Bounds) (s : TreeTable)
       locked_view v n records next,
       takes (content_place lim n) (kinds.Node records),
       home_there records there,
-      keeps_with n (taken_lock v.floor.worker) core.none (locked_view v n records next) refl (after_locking f tree id n records next) core_after (lock_tie records next) nodes_keep below (λ same. absurd (omega (arith, same))),
+      keeps_with n (taken_lock v.floor.worker) core.none (locked_view v n records next) refl (after_locking f tree id n records next) core_after (lock_tie records next) nodes_keep below (λ same. absurd (omega (arith, same)))
+          (lock_comes records next there),
       inl (found, record { records = records; own = owns records there; seat = refl }),
     )
 

@@ -76,7 +76,7 @@ module _ (nodes : List (List Elem)) (p : Program) (lim : Bounds) (s : TreeTable)
   passed_keeps (core_after, event, nodes_keep) =
       let views = map_set floor_view s.views id v w at refl in
       let floor : floor_part p lim with_view ≡ floor_part p lim s = λ k. record { words = (floor_part p lim s).words; homes = (floor_part p lim s).homes; views = views k } in
-      keeps_after nodes p lim s kept with_view (after_turning tree id (Some next)) core_after refl refl floor passed_tie nodes_keep kept.bare
+      keeps_after nodes p lim s kept with_view (after_turning tree id (Some next)) core_after refl refl floor passed_tie nodes_keep kept.bare kept.deciders
 
   pub pass_step : (mine : List (ℕ × TreeSlot))
       → (u : TreeView) × (a : Act TreeSlot) × Valid s.homes mine a × TreeKeeps nodes p lim (stepped s (lock_place p lim c) found id mine u a) × PassedNode (v, mine) next found (u, carried_after mine a)

@@ -9,7 +9,9 @@ use Rattle.atomic_table.proofs.Lists.{at_map}
 use Rattle.region_paths.specs.declared.elements.Elem.{Elem}
 use Rattle.twe_base.specs.Limits.{Bounds}
 use Rattle.twe_program.specs.Program.{Program}
+use Rattle.twe_machine.specs.Runs.{state_after}
 use Rattle.seg_journal.specs.declared.numbered.NumberedEntry.{NumberedEntry}
+use Rattle.seg_journal.specs.Merging.{journal_of}
 use Rattle.floor_rule.specs.Floors.{Floor, put}
 use Rattle.floor_rule.specs.Rule.{KeepsRule}
 use Rattle.floor_rule.specs.Steps.{after_split}
@@ -26,6 +28,7 @@ use Rattle.floor_rule.specs.nodes.Trees.{Tree}
 use Rattle.floor_rule.proofs.nodes.SeatSteps.{splits}
 use Rattle.floor_rule.proofs.nodes.TurnEvents.{floor_same}
 use Rattle.floor_table.specs.declared.nodes.view.TreeView.{TreeView}
+use Rattle.floor_table.specs.nodes.Deciders.{DecidersAreSo}
 use Rattle.floor_table.specs.nodes.Holds.{TreeKeeps, left_tree_view, right_tree_view}
 use Rattle.floor_table.specs.nodes.TreeOf.{TreeTable, activity_at, clear_at, floor_part, floor_shown, floor_view, fresh_at, kept_at, placed_at, removed_at, tree_of, waits_at}
 use Rattle.floor_table.proofs.nodes.Elements.{elements_kept, map_length, map_put}
@@ -168,6 +171,8 @@ module _ (nodes : List (List Elem)) (p : Program) (lim : Bounds) (s : TreeTable)
               nodes_keep = nodes_next;
             }));
         bare = kept.bare;
+        deciders = subst (λ (l : List NumberedEntry). DecidersAreSo p lim s.words (tree_of p lim next) (state_after p lim (journal_of l)).links) (sym (again.1 ∙ same_log))
+            (subst (λ (t : Tree). DecidersAreSo p lim s.words t (state_after p lim (journal_of log)).links) (sym tree_stays) kept.deciders);
       }
 
 pub split_tree : (nodes : List (List Elem)) (p : Program) (lim : Bounds) (id : ℕ) (v : TreeView) → v.floor.kind ≡ Main → Splits (TreeKeeps nodes p lim) id v (left_tree_view v) (right_tree_view v)

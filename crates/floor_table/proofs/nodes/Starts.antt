@@ -39,7 +39,7 @@ use Rattle.floor_table.specs.declared.nodes.slot.TreeSlot.{TreeSlot}
 use Rattle.floor_table.specs.declared.nodes.slot.TreeSlot.TheVariants as kinds
 use Rattle.floor_table.specs.declared.nodes.view.TreeView.{TreeView}
 use Rattle.floor_table.specs.nodes.Holds.{HoldsContent, IsTreeLaidOut, TreeKeeps, first_tree_view}
-use Rattle.floor_table.specs.nodes.Layout.{bare_lock, content_place, free_lock, lock_at, lock_place}
+use Rattle.floor_table.specs.nodes.Layout.{bare_lock, content_place, decider_at, decider_place, no_decider, free_lock, lock_at, lock_place}
 use Rattle.floor_table.specs.nodes.TreeOf.{TreeTable, activity_at, clear_at, content_at, fresh_at, floor_part, floor_shown, kept_at, placed_at, removed_at, task_home, tree_of, waits_at}
 use Rattle.floor_table.proofs.nodes.Elements.{below_or, beyond, map_length, take_map}
 use Rattle.floor_table.proofs.nodes.OneLog.{in_order, one_log}
@@ -181,6 +181,10 @@ module _ (nodes : List (List Elem)) (p : Program) (lim : Bounds) (log : List Num
       let none = sym (beyond words (lock_place p lim n) (omega (arith, size, past))) ∙ is in cc)
       (below_or n (length nodes))
 
+  -- no task decides
+  none_decides : (w n : ℕ) → w < lim.tasks → get_elem? words (decider_place p lim w) ≢ core.some (decider_at n)
+  none_decides w n below is = let same = some-injective no_decider (decider_at n) (sym (laid.deciders w below) ∙ is) in omega (arith, same)
+
   -- Both.
   held_same : (i t : ℕ) → f.held i t ≡ None
   held_same zero t = refl
@@ -208,4 +212,5 @@ module _ (nodes : List (List Elem)) (p : Program) (lim : Bounds) (log : List Num
             (subst (λ (g : Table). KeepsBoth nodes p lim log (floor_of p g) (tree_of p lim table) (core_at (journal_of log) st records)) (sym floor_tie)
             (record { well = well; effects = keeps; paths = paths; floor = subst (λ (l : List NumberedEntry). KeepsRule p lim l f) same_log starts.rule; nodes_keep = nodes_start }));
         bare = λ n is. absurd (none_bare n is);
+        deciders = λ w n content fact below is there among. absurd (none_decides w n below is);
       }

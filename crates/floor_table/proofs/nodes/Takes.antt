@@ -118,6 +118,8 @@ module _ (nodes : List (List Elem)) (p : Program) (lim : Bounds) (id : ℕ) (v :
                 (subst (λ (x : Tree). KeepsNodes nodes p lim (log nodes p lim s kept id v at) (after_taking f id t turn) x (record kept.core { tasks = tasks })) (sym learns) nodes_keep)
                 (viewed nodes p lim s kept id v at taken.floor) (held_put nodes p lim id v mine has s kept at t (Some turn) taken.floor refl)
                 (worker_kept nodes p lim id v mine has s kept at taken.floor refl),
+            λ a b waits. waits,
+            refl,
           )
 
       took_tree : TookTreeTurn nodes (v, mine) t (taken, map as_slot me.1)

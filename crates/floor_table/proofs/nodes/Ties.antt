@@ -8,7 +8,9 @@ use lib.ListN.{get_elem?}
 use Rattle.region_paths.specs.declared.elements.Elem.{Elem}
 use Rattle.twe_base.specs.Limits.{Bounds}
 use Rattle.twe_program.specs.Program.{Program, cell_count}
+use Rattle.twe_machine.specs.Runs.{state_after}
 use Rattle.seg_journal.specs.declared.numbered.NumberedEntry.{NumberedEntry}
+use Rattle.seg_journal.specs.Merging.{journal_of}
 use Rattle.floor_rule.specs.Floors.{Floor}
 use Rattle.floor_rule.specs.Rule.{KeepsRule}
 use Rattle.floor_table.specs.FloorOf.{Table, floor_of}
@@ -20,6 +22,7 @@ use Rattle.floor_rule.specs.nodes.Rule.{KeepsBoth, KeepsNodes}
 use Rattle.floor_rule.specs.nodes.Trees.{Tree}
 use Rattle.floor_rule.proofs.nodes.TurnEvents.{floor_same}
 use Rattle.floor_table.specs.declared.nodes.slot.TreeSlot.{TreeSlot}
+use Rattle.floor_table.specs.nodes.Deciders.{DecidersAreSo}
 use Rattle.floor_table.specs.nodes.Holds.{BareAreEmpty, TreeKeeps}
 use Rattle.floor_table.specs.nodes.Layout.{bare_lock, content_place, lock_place}
 use Rattle.floor_table.specs.nodes.TreeOf.{TreeTable, content_at, floor_part, floor_shown, tree_of}
@@ -90,8 +93,9 @@ module _ (nodes : List (List Elem)) (p : Program) (lim : Bounds) (s : TreeTable)
   -- the table after a step that leaves the floor as it was
   pub keeps_after : (next : TreeTable) (tree : Tree) (core : State) → length next.words ≡ length s.words → length next.homes ≡ length s.homes
       → floor_part p lim next ≡ floor_part p lim s → tree_of p lim next ≡ tree
-      → KeepsNodes nodes p lim kept.floor.log (floor_shown p lim s) tree core → BareAreEmpty p lim next.words next.homes → TreeKeeps nodes p lim next
-  keeps_after next tree core words slots floor shows nodes_keep bare =
+      → KeepsNodes nodes p lim kept.floor.log (floor_shown p lim s) tree core → BareAreEmpty p lim next.words next.homes
+      → DecidersAreSo p lim next.words tree (state_after p lim (journal_of kept.floor.log)).links → TreeKeeps nodes p lim next
+  keeps_after next tree core words slots floor shows nodes_keep bare deciders =
       let log = kept.floor.log in
       let again = same_floor p lim (floor_part p lim s) (floor_part p lim next) floor kept.floor in
       let f : floor_shown p lim next ≡ floor_shown p lim s = ap (floor_of p) floor in
@@ -111,4 +115,6 @@ module _ (nodes : List (List Elem)) (p : Program) (lim : Bounds) (s : TreeTable)
               nodes_keep = subst (λ (t : Tree). KeepsNodes nodes p lim log (floor_shown p lim next) t core) (sym shows) moved;
             });
         bare = bare;
+        deciders = subst (λ (l : List NumberedEntry). DecidersAreSo p lim next.words (tree_of p lim next) (state_after p lim (journal_of l)).links) (sym again.1)
+            (subst (λ (t : Tree). DecidersAreSo p lim next.words t (state_after p lim (journal_of log)).links) (sym shows) deciders);
       }

@@ -1,5 +1,5 @@
 -- Unlocking a node keeps the rule of the table.
-use Rattle.std.proofs.Common.{◌≡◌, ◌≢◌, ◌<◌, ◌≤◌, ℕ, List, [], ◌∷◌, length, Option, None, Some, refl, sym, ap, subst, ◌∙◌, ⊎_elim, arith}
+use Rattle.std.proofs.Common.{◌≡◌, ◌≢◌, ◌+◌, ◌<◌, ◌≤◌, ℕ, List, [], ◌∷◌, length, Option, None, Some, refl, sym, ap, subst, ◌∙◌, inr, ⊎_elim, arith}
 use Rattle.std.proofs.lemmas.Bool.{cases_eq}
 use mathlib.Core.Option as core
 use lib.ListN.{get_elem?}
@@ -9,7 +9,7 @@ use Rattle.twe_base.specs.Limits.{Bounds}
 use Rattle.twe_program.specs.Program.{Program}
 use Rattle.seg_journal.specs.declared.numbered.NumberedEntry.{NumberedEntry}
 use Rattle.floor_rule.specs.Floors.{Floor, put}
-use Rattle.floor_rule.proofs.Puts.{put_else, put_here, some_one}
+use Rattle.floor_rule.proofs.Puts.{none_some, put_else, put_here, some_one}
 use Rattle.floor_table.specs.Layout.{word_count}
 use Rattle.admission_laws.specs.admission_core.States.{Activity, HoldsNode, Leaves, Record, State, held}
 use Rattle.floor_rule.specs.nodes.LockSteps.{UnlocksNode, after_turning, after_unlocking, stopped}
@@ -27,6 +27,7 @@ use Rattle.floor_table.specs.nodes.TreeOf.{TreeTable, activity_at, clear_at, con
 use Rattle.floor_table.proofs.nodes.Elements.{below_or, beyond, elements_kept, elements_put, places_put}
 use Rattle.floor_table.proofs.nodes.Locks.{content_within, keeps_with, lock_within, with_node}
 use Rattle.floor_table.proofs.nodes.Seen.{activity_id, kept_id, kept_node, parent_seen, up_seen}
+use Rattle.floor_table.proofs.nodes.Deciders.{AllCome, all_come, comes_same, contents_come, kept_come}
 use Rattle.floor_table.proofs.nodes.Ties.{tree_is}
 
 -- setting a value twice
@@ -163,7 +164,7 @@ module _ (nodes : List (List Elem)) (p : Program) (lim : Bounds) (s : TreeTable)
     unlock_tie content next =
         let w = unlocked_view v n next in
         tree_is _ (after_giving tree id n content next)
-        (places_put lock_at s.words (word_count p lim) n (left_lock content) (lock_within nodes p lim s kept id v at n below)
+        (places_put lock_at s.words (word_count p lim + lim.tasks) n (left_lock content) (lock_within nodes p lim s kept id v at n below)
         ∙ ap (λ (word : LockWord). put tree.locks n word) (left_free content))
         (places_put content_at s.homes lim.tasks n (core.some (kinds.Node content)) (content_within nodes p lim s kept id v at n below))
         (elements_put activity_at s.views id v w at next refl)
@@ -174,16 +175,22 @@ module _ (nodes : List (List Elem)) (p : Program) (lim : Bounds) (s : TreeTable)
         (elements_kept clear_at s.views id v w at refl)
         (elements_kept waits_at s.views id v w at refl)
 
-    unlock_done : (rest : List (ℕ × TreeSlot)) (content : List Record) (next : Option Activity) → GivesSo n content next
+    -- the content went from the seat to the node
+    unlock_comes : (content : List Record) (next : Option Activity) → tree.kept id n ≡ Some content → AllCome tree (after_giving tree id n content next)
+    unlock_comes content next had =
+        all_come tree (after_giving tree id n content next) (contents_come tree n (Some content) (λ records is. comes_same tree n records (inr (id, had ∙ is))))
+        (kept_come tree id n None (λ records is. absurd (none_some is)))
+
+    unlock_done : (rest : List (ℕ × TreeSlot)) (content : List Record) (next : Option Activity) → tree.kept id n ≡ Some content → GivesSo n content next
         → (w : TreeView) × (a : Act TreeSlot) × Valid s.homes ((content_place lim n, kinds.Node content) ∷ rest) a
         × TreeKeeps nodes p lim (stepped s (lock_place p lim n) (left_lock content) id ((content_place lim n, kinds.Node content) ∷ rest) w a)
         × GaveNode (v, (content_place lim n, kinds.Node content) ∷ rest) n next rest (w, carried_after ((content_place lim n, kinds.Node content) ∷ rest) a)
-    unlock_done rest content next (core_after, nodes_keep) = (
+    unlock_done rest content next had (core_after, nodes_keep) = (
       unlocked_view v n next,
       gives,
       tt,
       keeps_with nodes p lim s kept id v at n (left_lock content) (core.some (kinds.Node content)) (unlocked_view v n next) refl (after_giving tree id n content next) core_after (unlock_tie content next) nodes_keep
-          below (left_bare content),
+          below (left_bare content) (unlock_comes content next had),
       refl,
     )
 
@@ -194,7 +201,7 @@ module _ (nodes : List (List Elem)) (p : Program) (lim : Bounds) (s : TreeTable)
       (λ (l : List (ℕ × TreeSlot)). (w : TreeView) × (a : Act TreeSlot) × Valid s.homes l a × TreeKeeps nodes p lim (stepped s (lock_place p lim n) (left_lock has.content) id l w a)
       × GaveNode (v, l) n next rest (w, carried_after l a))
       (sym has.slot)
-      (unlock_done n (held_below n has.content has.has) rest has.content next so)
+      (unlock_done n (held_below n has.content has.has) rest has.content next (kept_node nodes p lim s id v at n ∙ has.has) so)
 
 pub go_on_allowed : (nodes : List (List Elem)) (p : Program) (lim : Bounds) (slots id n : ℕ) (v : TreeView) (mine rest : List (ℕ × TreeSlot)) (next : Activity) → MayGoOn nodes v n next
     → (has : HasContent lim (v, mine) n rest) → Allows (TreeKeeps nodes p lim) slots id (v, mine) (lock_place p lim n) (λ x. left_lock has.content) (λ x. GaveNode (v, mine) n (Some next) rest)

@@ -6,7 +6,9 @@ use Rattle.region_paths.specs.declared.elements.Elem.{Elem}
 use Rattle.twe_base.specs.Limits.{Bounds}
 use Rattle.twe_program.specs.Program.{Program}
 use Rattle.twe_machine.specs.declared.state.State as machine
+use Rattle.twe_machine.specs.Runs.{state_after}
 use Rattle.seg_journal.specs.declared.numbered.NumberedEntry.{NumberedEntry}
+use Rattle.seg_journal.specs.Merging.{journal_of}
 use Rattle.floor_rule.specs.declared.view.TaskSlot.{TaskSlot}
 use Rattle.floor_table.specs.Holds.{IsLaidOut, TableKeeps, first_view, joined_view, left_view, right_view, spent_view}
 use Rattle.floor_table.specs.Layout.{word_count}
@@ -16,7 +18,8 @@ use Rattle.floor_rule.specs.nodes.Rule.{KeepsBoth}
 use Rattle.floor_table.specs.declared.nodes.slot.TreeSlot.{TreeSlot}
 use Rattle.floor_table.specs.declared.nodes.slot.TreeSlot.TheVariants as kinds
 use Rattle.floor_table.specs.declared.nodes.view.TreeView.{TreeView}
-use Rattle.floor_table.specs.nodes.Layout.{bare_lock, content_place, free_lock, lock_place, tree_slot_count, tree_word_count}
+use Rattle.floor_table.specs.nodes.Deciders.{DecidersAreSo}
+use Rattle.floor_table.specs.nodes.Layout.{bare_lock, content_place, decider_place, free_lock, lock_place, no_decider, tree_slot_count, tree_word_count}
 use Rattle.floor_table.specs.nodes.TreeOf.{TreeTable, content_at, content_in, floor_part, floor_shown, tree_of}
 
 -- A lock word that says that no record lies at its node says the truth: the node's content is in its slot, and has no record.
@@ -26,7 +29,8 @@ BareAreEmpty p lim words homes =
     → content_at (get_elem? homes (content_place lim n)) ≡ Some []
 
 -- The table has the words and slots of the program, the limits and the nodes. Its floor's part keeps the rule of the table of
--- the floor, and the nodes that it shows keep theirs beside that floor, with the same log and some state of the core.
+-- the floor, and the nodes that it shows keep theirs beside that floor, with the same log and some state of the core. Its decider
+-- words say the truth in the state that the log leads to.
 pub record TreeKeeps (nodes : List (List Elem)) (p : Program) (lim : Bounds) (s : TreeTable) : Type 0 where
   pub words : length s.words ≡ tree_word_count nodes p lim
   pub slots : length s.homes ≡ tree_slot_count nodes lim
@@ -34,6 +38,7 @@ pub record TreeKeeps (nodes : List (List Elem)) (p : Program) (lim : Bounds) (s 
   pub core : State
   pub both : KeepsBoth nodes p lim floor.log (floor_shown p lim s) (tree_of p lim s) core
   pub bare : BareAreEmpty p lim s.words s.homes
+  pub deciders : DecidersAreSo p lim s.words (tree_of p lim s) (state_after p lim (journal_of floor.log)).links
 
 -- a seat is split off, which does nothing in the tree and knows nothing of nodes
 abbrev pub left_tree_view : TreeView → TreeView
@@ -107,7 +112,8 @@ pub record HoldsContent (records : List Record) (slots : List TreeSlot) (place n
   pub all : AreRecordsAt records n content
   pub once : IsDistinct content
 
--- The words and slots show this state, after as many entries as the log has, and these records. Nobody has locked a node.
+-- The words and slots show this state, after as many entries as the log has, and these records. Nobody has locked a node, and no
+-- task decides at one.
 pub record IsTreeLaidOut (nodes : List (List Elem)) (p : Program) (lim : Bounds) (log : List NumberedEntry) (st : machine.State)
     (records : List Record) (words : List ℕ) (slots : List TreeSlot) : Type 0 where
   pub all_words : length words ≡ tree_word_count nodes p lim
@@ -115,5 +121,6 @@ pub record IsTreeLaidOut (nodes : List (List Elem)) (p : Program) (lim : Bounds)
   pub tasks : List (Option TaskSlot)
   pub task_slots : take lim.tasks slots ≡ map kinds.Task tasks
   pub floor : IsLaidOut p lim log st (take (word_count p lim) words) tasks
+  pub deciders : (t : ℕ) → t < lim.tasks → get_elem? words (decider_place p lim t) ≡ core.some no_decider
   pub locks : (n : ℕ) → n < length nodes → get_elem? words (lock_place p lim n) ≡ core.some free_lock
   pub contents : (n : ℕ) → n < length nodes → HoldsContent records slots (content_place lim n) n

@@ -8,13 +8,17 @@ use Rattle.floor_table.specs.Layout.{word_count}
 use Rattle.admission_laws.specs.admission_core.States.{Record}
 use Rattle.floor_rule.specs.nodes.Trees.{LockWord, Unlocked, Locked}
 
--- The words of the floor come first, as in a table of the floor. For each node its lock word follows.
-abbrev pub lock_place : Program → Bounds → ℕ → ℕ
-lock_place p lim n = word_count p lim + n
+-- The words of the floor come first, as in a table of the floor. For each task that may be made its decider word follows.
+abbrev pub decider_place : Program → Bounds → ℕ → ℕ
+decider_place p lim t = word_count p lim + t
 
--- how many words there are: those of the floor, and one lock word for each node
+-- for each node its lock word follows
+abbrev pub lock_place : Program → Bounds → ℕ → ℕ
+lock_place p lim n = word_count p lim + lim.tasks + n
+
+-- how many words there are: those of the floor, one decider word for each task, and one lock word for each node
 abbrev pub tree_word_count : List (List Elem) → Program → Bounds → ℕ
-tree_word_count nodes p lim = word_count p lim + length nodes
+tree_word_count nodes p lim = word_count p lim + lim.tasks + length nodes
 
 -- the slots of the tasks come first, and then for each node the slot of its content
 abbrev pub content_place : Bounds → ℕ → ℕ
@@ -40,6 +44,14 @@ taken_lock worker = suc (suc worker)
 abbrev pub left_lock : List Record → ℕ
 left_lock [] = bare_lock
 left_lock (r ∷ records) = free_lock
+
+-- the decider word of a task that decides at no node
+abbrev pub no_decider : ℕ
+no_decider = 0
+
+-- the decider word of a task that decides at this node
+abbrev pub decider_at : ℕ → ℕ
+decider_at n = suc n
 
 -- what a lock word says
 abbrev pub lock_of_word : ℕ → LockWord

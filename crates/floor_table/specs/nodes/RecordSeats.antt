@@ -1,5 +1,6 @@
 -- What the steps on records ask of the seat that takes them, in the words of the rule on nodes, and what it knows afterwards.
--- Each is a store to the lock word of a node that the seat has locked, and leaves the word as it was.
+-- Whoever places a record says in the decider word of its task whether that task decides there from then on. The others are
+-- stores to the lock word of a node that the seat has locked, and leave the word as it was.
 use Rattle.std.specs.Prelude.{◌≡◌, ℕ, List, ◌∷◌, Some}
 use Rattle.region_paths.specs.declared.elements.Elem.{Elem}
 use Rattle.effect_sets.specs.declared.effects.Effect.{Effect}
@@ -45,11 +46,10 @@ marked_view v a content = record v {
   clear = not_clear (record_task a.purpose) a.place v.clear;
 }
 
--- a store to the lock word of the place of the record that the seat may place says that it is placed
+-- the record that the seat may place is placed
 abbrev pub MarksPlaced : List (List Elem) → Program → Bounds → TreeStep → TreeSeat → ℕ → TreeSeat → Type 0
 MarksPlaced nodes p lim s before found after =
-    (a : Activity) (content : List Record) → s.word ≡ lock_place p lim a.place → MayMark nodes before.0 a content
-    → after ≡ (marked_view before.0 a content, before.1)
+    (a : Activity) (content : List Record) → MayMark nodes before.0 a content → after ≡ (marked_view before.0 a content, before.1)
 
 -- Removing.
 

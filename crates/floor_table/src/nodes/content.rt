@@ -1,6 +1,8 @@
 //! What lies in the slot of a node: the records that stand there.
-ghost use Rattle.std.specs.Prelude.{◌≡◌, [], ◌∷◌, OnOk, OnErr, length, option_copied, reverse, slice_get};
+ghost use Rattle.std.specs.Prelude.{◌≡◌, ◌↔◌, ◌<◌, [], ◌∷◌, IfSome, IsNone, IsTrue, OnOk, OnErr, Some, length, option_copied, reverse, slice_get};
 ghost use Rattle.std.specs.List.{list_any};
+ghost use Rattle.admission_laws.specs.admission_core.States.{IsAmong};
+ghost use Rattle.floor_rule.specs.nodes.Fitting.{IsDistinct};
 ghost use Rattle.floor_table.specs.nodes.Without.{same_record, without_record};
 
 use crate::nodes::record::NodeRecord;
@@ -9,7 +11,7 @@ use std::alloc::Global;
 use std::marker::Model;
 use twe_base::Memory;
 
-/// The records that stand at a node, the latest first.
+/// The records that stand at a node, the latest first. No record is there twice.
 #[derive(Debug, Drop)]
 pub struct NodeContent {
     // The latest is the last.
@@ -19,17 +21,44 @@ pub struct NodeContent {
 impl Model for NodeContent {
     ghost use Rattle.std.specs.Prelude.{List, reverse};
     ghost use Rattle.admission_laws.specs.admission_core.States.{Record};
+    ghost use Rattle.floor_rule.specs.nodes.Fitting.{IsDistinct};
 
     ghost Value = { List Record };
 
     ghost view = { λ content. reverse content.records.items };
+
+    ghost invariant = { λ content. IsDistinct content.records.items };
 }
 
-/// Removes the record of this effect of that task, at that node. The others stay in order.
-fn remove_record(records: &mut Vec<NodeRecord>, task: u32, effect: &Effect, node: u32)
-    ensures { records.new.items ≡ without_record (record { task = task; effect = effect.now; node = node }) records.old.items }
+/// Where the record of this effect of that task, at that node, is, if it is there. The last is looked at first.
+fn place_of(records: &[NodeRecord], task: u32, effect: &Effect, node: u32) -> Option<usize>
+    ensures there { IfSome result (λ at. (at < length records.now)
+        × (slice_get records.now at ≡ Some (record { task = task; effect = effect.now; node = node }))) }
+    ensures none { IsNone result → ¬ IsAmong (record { task = task; effect = effect.now; node = node }) records.now }
 {
-    records.retain(|r| !r.is_of(task, effect, node));
+    let mut at = records.len();
+    while at > 0 {
+        at -= 1;
+        let r = &records[at];
+        if r.is_of(task, effect, node) {
+            return Some(at);
+        }
+    }
+    None
+}
+
+/// Removes the record of this effect of that task, at that node, and returns whether it was there. The others stay in order.
+fn remove_record(records: &mut Vec<NodeRecord>, task: u32, effect: &Effect, node: u32) -> bool
+    requires { IsDistinct records.old.items }
+    ensures found { IsTrue result ↔ IsAmong (record { task = task; effect = effect.now; node = node }) records.old.items }
+    ensures rest { records.new.items
+        ≡ without_record (record { task = task; effect = effect.now; node = node }) records.old.items }
+{
+    let Some(at) = place_of(records.as_slice(), task, effect, node) else {
+        return false;
+    };
+    let _ = records.remove(at);
+    true
 }
 
 /// Whether the record of this effect of that task, at that node, is there. The last is looked at first.
@@ -68,8 +97,9 @@ impl NodeContent {
         }
     }
 
-    /// Adds a record in front of the others. If memory runs out, nothing changes, and the record is dropped.
+    /// Adds a record, which is not there, in front of the others. If memory runs out, nothing changes, and the record is dropped.
     pub fn add(&mut self, added: NodeRecord) -> Result<(), Memory>
+        requires { ¬ IsAmong added self.old }
         ensures ok { OnOk result (self.new ≡ added ∷ self.old) }
         ensures err { OnErr result (self.new ≡ self.old) }
     {
@@ -77,12 +107,13 @@ impl NodeContent {
         Ok(())
     }
 
-    /// Removes the record of this effect of that task, at that node, if it is there. The others stay in order. It takes no
-    /// memory.
-    pub fn remove(&mut self, task: u32, effect: &Effect, node: u32)
-        ensures { self.new ≡ without_record (record { task = task; effect = effect.now; node = node }) self.old }
+    /// Removes the record of this effect of that task, at that node, and returns whether it was there. The others stay in order.
+    /// The latest are looked at first, and only those are moved that are later than the record. It takes no memory.
+    pub fn remove(&mut self, task: u32, effect: &Effect, node: u32) -> bool
+        ensures found { IsTrue result ↔ IsAmong (record { task = task; effect = effect.now; node = node }) self.old }
+        ensures rest { self.new ≡ without_record (record { task = task; effect = effect.now; node = node }) self.old }
     {
-        remove_record(&mut self.records, task, effect, node);
+        remove_record(&mut self.records, task, effect, node)
     }
 
     /// How many records there are.

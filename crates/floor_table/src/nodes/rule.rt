@@ -1,4 +1,5 @@
 //! The rule of the floor with nodes, as a rule of its table.
+ghost use Rattle.floor_table.specs.nodes.Deciders.{LooksUpDecider};
 ghost use Rattle.floor_table.specs.nodes.EntrySeats.{DrewAdmission, DrewTreeEntry};
 ghost use Rattle.floor_table.specs.nodes.FloorSeats.{LoadsTreeCell, StoresTreeCell, StoresTreePhase};
 ghost use Rattle.floor_table.specs.nodes.Follows.{FollowsWait};
@@ -124,6 +125,15 @@ pub struct MarkClear<N: Named + Planted> {
 
 impl<N: Named + Planted> Play<TreeSlot, TreeView> for MarkClear<N> {
     ghost then = { MarksClear N.prog N.lim };
+}
+
+/// A decider word is loaded.
+pub struct LookUpDecider<N: Named + Planted> {
+    of: PhantomData<N>,
+}
+
+impl<N: Named + Planted> Play<TreeSlot, TreeView> for LookUpDecider<N> {
+    ghost then = { LooksUpDecider N.prog N.lim };
 }
 
 /// A phase is loaded to follow a wait.

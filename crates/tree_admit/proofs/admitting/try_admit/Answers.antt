@@ -7,6 +7,9 @@ use Rattle.tree_admit.specs.Attempts.{IsObstacle, WasBarredFor}
 use Rattle.tree_admit.proofs.Attempts.{backed_out, barred_forbids, barred_still, held_by, keeps_trans, placed_all}
 use Rattle.tree_admit.proofs.admitting.try_admit.Goals as goal
 
+pub place_all-requires-clause-unplaced : goal.place_all-requires-clause-unplaced
+place_all-requires-clause-unplaced g c = λ is. c.requires.may.none
+
 pub returns-in-Ok-clause-admitted : goal.returns-in-Ok-clause-admitted
 returns-in-Ok-clause-admitted g c = λ same. placed_all g.N.Planted.nodes c.args.task c.args.effects.now c.args.stand.now.me c.place_all.new.stand.me c.requires.may c.in-Ok.ensures.all
 

@@ -7,7 +7,7 @@ use Rattle.tree_admit.proofs.Alone.{followed_alone, leads_on}
 use Rattle.tree_admit.proofs.Following.{followed_refl, followed_trans, follows_only, led_further}
 use Rattle.tree_admit.proofs.Chained.{chain_ended, chain_longer}
 use Rattle.tree_admit.proofs.Learning.{led_kept}
-use Rattle.tree_admit.proofs.PassedOver.{arrived_pass, walked_on}
+use Rattle.tree_admit.proofs.PassedOver.{arrived_all, walked_on}
 use Rattle.tree_admit.proofs.chains.follow_past.Goals as goal
 
 pub returns-in_default-clause-end : goal.returns-in_default-clause-end
@@ -63,7 +63,13 @@ returns-then-on-to-clause-passed g c =
     let fewer : rest ≤ left = omega (arith, c.pass_over-rest.ensures.fewer, c.loop-at.invariant.fewer) in
     let passed = walked_on g.N.Named.lim c.loop-at.stand.me c.loop-at.at on after to e content rest c.loop-at.rest left
     c.in-Waits.ensures.found c.pass_over-rest.ensures.passed c.loop-at.invariant.passed in
-    (fewer, arrived_pass after.0 to e on content rest left c.if-on-to.true passed)
+    (fewer, arrived_all after.0 to e on content rest left c.if-on-to.true passed)
+
+pub returns-then-on-to-clause-led : goal.returns-then-on-to-clause-led
+returns-then-on-to-clause-led g c = λ s known.
+    let after = c.status.new.stand.me in
+    subst (λ (t : ℕ). IsAmong (record { waiter = s; awaited = t }) after.0.waits) c.if-on-to.true
+    (led_further g.N.Named.lim c.loop-at.stand.me s c.loop-at.at c.in-Waits.on after (c.loop-at.invariant.further s known) c.in-Waits.ensures.found)
 
 pub returns-then-on-to-clause-only : goal.returns-then-on-to-clause-only
 returns-then-on-to-clause-only g c =
@@ -86,6 +92,7 @@ loop-at-preserved g c =
           leads_on g.N.Named.prog lim c.args.from c.args.to at c.status.result c.args.stand.now.me before c.loop-at.invariant.only c.status.ensures.alone c.loop-at.invariant.other st alone turns on c.in-Waits.is
           (c.loop-at.invariant.alone st alone turns);
       led = inr (led_further lim before c.args.from at on after c.loop-at.invariant.led c.in-Waits.ensures.found);
+      further = λ s known. inr (led_further lim before s at on after (c.loop-at.invariant.further s known) c.in-Waits.ensures.found);
       fewer = omega (arith, c.pass_over-rest.ensures.fewer, c.loop-at.invariant.fewer);
       passed = walked_on lim before at on after c.args.to c.args.effect.now c.args.content.now c.pass_over-rest.result c.loop-at.rest c.args.left
           c.in-Waits.ensures.found c.pass_over-rest.ensures.passed c.loop-at.invariant.passed;
@@ -101,6 +108,7 @@ loop-at-init g c = record {
   other = c.requires.other;
   alone = λ st alone turns. inl none;
   led = inl refl;
+  further = λ s known. inr known;
   fewer = omega arith;
   passed = λ k r first last at. absurd (omega (arith, first, last));
   only = followed_refl c.args.stand.now.me;

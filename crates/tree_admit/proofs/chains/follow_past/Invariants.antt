@@ -1,9 +1,10 @@
--- The stand has only followed waits, as its looks say, and they led from the first task to the one that was reached. The records that were passed
--- over pass, or their tasks lead to that one too. The only stand knows that the first one waits for the one that was reached, or that its waits lead elsewhere.
-use Rattle.std.proofs.Common.{◌≡◌, ◌≢◌, ◌⊎◌, ◌≤◌, ◌<◌, ◌-◌, ◌++◌, List}
+-- The stand has only followed waits, as its looks say, and they led from the first task, and from those that were known to wait for it, to the one that
+-- was reached. The records that were passed over are at ease, or their tasks lead to that one too. The only stand knows that the first one waits for the one that was reached, or that its waits lead elsewhere.
+use Rattle.std.proofs.Common.{◌≡◌, ◌≢◌, ◌⊎◌, ◌≤◌, ◌<◌, ◌-◌, ◌++◌, ℕ, List}
 use Rattle.wait_graph.specs.Waiting.{WaitsOn}
 use Rattle.twe_machine.specs.declared.state.State.{State}
 use Rattle.floor_table.specs.Alone.{IsAloneAt}
+use Rattle.admission_laws.specs.admission_core.States.{IsAmong}
 use Rattle.floor_table.specs.declared.nodes.view.Look.{Look}
 use Rattle.floor_table.specs.nodes.Chains.{CameTo}
 use Rattle.tree_admit.specs.Alone.{HasOnlyTurnOf, LeadsElsewhere}
@@ -21,6 +22,7 @@ invariant-loop-at g l = record {
   alone : (st : State) → IsAloneAt g.N.Named.prog g.N.Named.lim l.fn.stand.me.0.floor st → HasOnlyTurnOf l.fn.stand.me.0.floor l.to
       → WaitsOn st.links l.from l.at ⊎ LeadsElsewhere st.links l.from l.to;
   led : IsLedTo l.stand.me.0 l.from l.at;
+  further : (s : ℕ) → IsAmong (record { waiter = s; awaited = l.from }) l.fn.stand.me.0.waits → IsLedTo l.stand.me.0 s l.at;
   fewer : l.rest ≤ l.left;
   passed : EachBetween (PassesOrLeads l.stand.me.0 l.to l.effect l.at) l.content l.rest l.left;
   only : HasOnlyFollowed l.fn.stand.me l.stand.me;

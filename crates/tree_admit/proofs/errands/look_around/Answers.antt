@@ -1,16 +1,11 @@
 -- The worker walks below the place, or looks at the place alone.
 use Rattle.std.proofs.Common.{[], ◌∷◌, None}
 use Rattle.tree_admit.specs.Descents.{walking}
-use Rattle.tree_admit.proofs.Looking.{around_walks, arrived_has, looked_ready, on_both, on_err, walked_ready}
+use Rattle.tree_admit.proofs.Looking.{arrived_has, looked_ready, on_ok}
 use Rattle.tree_admit.proofs.Putting.{place_stops}
 use Rattle.tree_admit.proofs.Stepping.{barred_after, in_hand}
 use Rattle.tree_admit.proofs.Steps.{followed_has, gave_left}
 use Rattle.tree_admit.proofs.errands.look_around.Goals as goal
-
-pub walk_below-requires-clause-may : goal.walk_below-requires-clause-may
-walk_below-requires-clause-may g c =
-    let (earlier, rest, may) = c.requires.may in
-    (earlier, rest, [], [], around_walks g.N.Planted.nodes g.N.Named.lim earlier rest c.args.errand c.args.effect.now c.args.content c.args.stand.now.me may)
 
 pub back_out-requires-clause-may : goal.back_out-requires-clause-may
 back_out-requires-clause-may g c =
@@ -46,24 +41,9 @@ returns-in-Err-clause-barred g c = λ earlier rest may.
       barred_after lim earlier rest a errand.place content me has g.N.Named.prog c.args.stand.now.me errand.task e c.in-Err.bar None final (may.outside.none errand.place) may.has.learned barred.1 barred.2 gave,
     )
 
-pub returns-then-goes_below-clause-ready : goal.returns-then-goes_below-clause-ready
-returns-then-goes_below-clause-ready g c = λ earlier rest may.
-    let nodes = g.N.Planted.nodes in
-    let lim = g.N.Named.lim in
-    let errand = c.args.errand in
-    let e = c.args.effect.now in
-    let content = c.args.content in
-    let me = c.args.stand.now.me in
-    on_both _ _ _ c.walk_below.result (λ then walk same. walked_ready nodes lim earlier rest errand e content me may then c.walk_below.new.stand.me walk same)
-    (c.walk_below.ensures.walked earlier rest [] [] (around_walks nodes lim earlier rest errand e content me may)) c.walk_below.ensures.unchanged
-
-pub returns-then-goes_below-clause-barred : goal.returns-then-goes_below-clause-barred
-returns-then-goes_below-clause-barred g c = λ earlier rest may.
-    let nodes = g.N.Planted.nodes in
-    let lim = g.N.Named.lim in
-    let kind = (c.goes_below.ensures.walks c.if-goes_below.true).0 in
-    on_err _ _ c.walk_below.result (λ bar barred. (barred.0, kind, barred.1))
-    (c.walk_below.ensures.barred earlier rest [] [] (around_walks nodes lim earlier rest c.args.errand c.args.effect.now c.args.content c.args.stand.now.me may))
+pub returns-then-goes_below-clause-wait : goal.returns-then-goes_below-clause-wait
+returns-then-goes_below-clause-wait g c =
+    on_ok _ _ c.walk_around.result (λ seen none is. let no = none in let yes = is in absurd (cc (no, yes))) c.walk_around.ensures.wait
 
 pub look_at-requires-clause-kept : goal.look_at-requires-clause-kept
 look_at-requires-clause-kept g c = c.requires.may.2.has.known

@@ -1,8 +1,14 @@
 -- Each errand adds a record, or meets an obstacle and leaves the records as they are.
 use Rattle.std.proofs.Common.{◌≡◌, ◌∙◌, ℕ, length, subst, arith}
 use Rattle.tree_admit.specs.Attempts.{HasPlacedFirst}
-use Rattle.tree_admit.proofs.Attempts.{met_since, placed_more, placed_still}
+use Rattle.tree_admit.proofs.Attempts.{met_since, none_before, placed_more, placed_still}
 use Rattle.tree_admit.proofs.placing.place_all.Goals as goal
+
+pub place_effect-requires-clause-unplaced : goal.place_effect-requires-clause-unplaced
+place_effect-requires-clause-unplaced g c = λ is.
+    let both = c.is_unplaced-first.ensures is in
+    none_before g.N.Planted.nodes c.args.task c.args.effects.now c.loop-number.number c.args.stand.now.me c.loop-number.stand.me both.1
+    (c.requires.unplaced both.0) c.loop-number.invariant.placed
 
 pub returns-in-Err-clause-stopped : goal.returns-in-Err-clause-stopped
 returns-in-Err-clause-stopped g c =

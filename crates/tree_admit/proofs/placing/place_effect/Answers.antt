@@ -1,5 +1,5 @@
 -- The errand is one for the effect, and its record is the effect's.
-use Rattle.std.proofs.Common.{List, subst}
+use Rattle.std.proofs.Common.{List, refl, subst}
 use Rattle.region_paths.specs.declared.elements.Elem.{Elem}
 use Rattle.admission_laws.specs.admission_core.States.{IsPlaceOf}
 use Rattle.tree_admit.specs.Descents.{IsOfChild}
@@ -17,6 +17,9 @@ place_one-requires-clause-knows g c =
     let there = subst (λ (ns : List (List Elem)). IsPlaceOf ns e c.place.result) c.requires.shape (record { there = c.place.ensures.there; place = c.place.ensures.place }) in
     let may = c.requires.may in
     errand_for nodes t effects c.args.kind k c.place.result e at there (IsOfChild c.args.kind) c.args.stand.now.me.0 may.turn may.has may.may may.child
+
+pub place_one-requires-clause-unplaced : goal.place_one-requires-clause-unplaced
+place_one-requires-clause-unplaced g c = λ is among. c.requires.unplaced is _ among refl
 
 pub returns-in-Placed-clause-stands : goal.returns-in-Placed-clause-stands
 returns-in-Placed-clause-stands g c =

@@ -1,60 +1,49 @@
--- Records that pass go on to pass while the stand learns of waits.
-use Rattle.std.proofs.Common.{◌-◌, length, ap, sym, ◌∙◌, arith}
-use Rattle.admission_laws.specs.admission_core.States.{Record}
-use Rattle.floor_rule.specs.nodes.LockSteps.{IsKnownToPass}
+-- The records that are not decided are looked at.
+use Rattle.std.proofs.Common.{length, ap, ◌∙◌}
 use Rattle.floor_table.specs.nodes.TreeOf.{content_in}
 use Rattle.tree_admit.proofs.Alone.{learned_served}
-use Rattle.tree_admit.proofs.Between.{at_is_among, both_between, each_among, one_before, this_record}
+use Rattle.tree_admit.proofs.Decided.{decided_kept, looked_pass, looked_waits}
 use Rattle.tree_admit.proofs.Following.{followed_trans}
-use Rattle.tree_admit.proofs.Learning.{bar_since}
-use Rattle.tree_admit.proofs.PassedOver.{all_pass_kept}
+use Rattle.tree_admit.proofs.Learning.{bar_in_since, live_kept}
 use Rattle.tree_admit.proofs.testing.records_pass.Goals as goal
 
-pub returns-in-Err-clause-barred : goal.returns-in-Err-clause-barred
-returns-in-Err-clause-barred g c =
-    let r = c.in-Some.r.now in (
-      c.in-Err.ensures.barred.0,
-      (
-        r,
-        at_is_among c.args.content.now (c.loop-left.left - 1) r (sym c.in-Some.ensures),
-        bar_since g.N.Named.prog g.N.Named.lim c.args.task c.args.effect.now c.args.stand.now.me.0 c.loop-left.stand.me.0 c.record_passes.new.stand.me.0 r c.in-Err.bar
-            c.loop-left.invariant.only.learned.looks (learned_served c.args.task c.args.stand.now.me.0 c.loop-left.stand.me.0 c.loop-left.invariant.only.learned) c.in-Err.ensures.barred.1,
-      ),
+pub first_pass-requires-clause-live : goal.first_pass-requires-clause-live
+first_pass-requires-clause-live g c = live_kept c.args.stand.now.me.0 c.undecided.new.stand.me.0 c.undecided.ensures.only.learned c.requires.live
+
+pub first_pass-requires-clause-kept : goal.first_pass-requires-clause-kept
+first_pass-requires-clause-kept g c = ap (λ l. content_in l c.args.node) c.undecided.ensures.only.kept ∙ c.requires.kept
+
+pub returns-in-Ok-first_pass-clause-passes : goal.returns-in-Ok-first_pass-clause-passes
+returns-in-Ok-first_pass-clause-passes g c =
+    let t = c.args.task in
+    let content = c.args.content.now in
+    let after = c.first_pass.new.stand.me.0 in
+    let decided = decided_kept c.undecided.new.stand.me.0 after t content c.in-Ok.first (length content) c.first_pass.ensures.only.learned c.in-Ok.ensures.decided in
+    looked_pass after t c.args.effect.now content c.in-Ok.first c.in-Ok-first_pass.ensures.passes decided
+
+pub returns-in-Ok-first_pass-clause-wait : goal.returns-in-Ok-first_pass-clause-wait
+returns-in-Ok-first_pass-clause-wait g c is =
+    let t = c.args.task in
+    let content = c.args.content.now in
+    let after = c.first_pass.new.stand.me.0 in
+    let decided = decided_kept c.undecided.new.stand.me.0 after t content c.in-Ok.first (length content) c.first_pass.ensures.only.learned c.in-Ok.ensures.decided in
+    looked_waits after t c.args.effect.now content c.in-Ok.first c.in-Ok-first_pass.ensures.passes decided (c.none_is_apart.ensures is)
+
+pub returns-in-Ok-first_pass-clause-only : goal.returns-in-Ok-first_pass-clause-only
+returns-in-Ok-first_pass-clause-only g c =
+    followed_trans c.args.stand.now.me c.undecided.new.stand.me c.first_pass.new.stand.me c.undecided.ensures.only c.first_pass.ensures.only
+
+pub returns-in-Err-first_pass-clause-barred : goal.returns-in-Err-first_pass-clause-barred
+returns-in-Err-first_pass-clause-barred g c =
+    let before = c.args.stand.now.me.0 in
+    let between = c.undecided.new.stand.me.0 in
+    let only = c.undecided.ensures.only.learned in
+    let barred = c.in-Err-first_pass.ensures.barred in (
+      barred.0,
+      bar_in_since g.N.Named.prog g.N.Named.lim c.args.task c.args.effect.now before between c.first_pass.new.stand.me.0 c.args.content.now c.in-Err-first_pass.bar only.looks
+          (learned_served c.args.task before between only) barred.1,
     )
 
-pub returns-in-Err-clause-only : goal.returns-in-Err-clause-only
-returns-in-Err-clause-only g c =
-    followed_trans c.args.stand.now.me c.loop-left.stand.me c.record_passes.new.stand.me c.loop-left.invariant.only
-    c.record_passes.ensures.only
-
-pub loop-left-preserved : goal.loop-left-preserved
-loop-left-preserved g c =
-    let t = c.args.task in
-    let e = c.args.effect.now in
-    let content = c.args.content.now in
-    let all = length content in
-    let k = c.loop-left.left - 1 in
-    let old = c.loop-left.stand.me in
-    let new = c.record_passes.new.stand.me in
-    let only = c.record_passes.ensures.only in
-    let pass = λ (x : Record). IsKnownToPass new.0.waits t e x in
-    let this = this_record pass content k c.in-Some.r.now c.in-Some.ensures c.in-Ok.ensures.passes in
-    let kept = all_pass_kept old.0 new.0 t e content c.loop-left.left all only.learned c.loop-left.invariant.passes in
-    let here = one_before pass content k c.loop-left.left all (omega arith) this kept in
-    record {
-      passes = both_between pass content c.in-Ok.rest k all c.in-Ok.ensures.others.1 here;
-      only = followed_trans c.args.stand.now.me old new c.loop-left.invariant.only only;
-      here = c.record_passes.ensures.same.0 ∙ c.loop-left.invariant.here;
-      id = c.record_passes.ensures.same.1 ∙ c.loop-left.invariant.id;
-    }
-
-pub returns-clause-passes : goal.returns-clause-passes
-returns-clause-passes g c =
-    let pass = λ (x : Record). IsKnownToPass c.loop-left.stand.me.0.waits c.args.task c.args.effect.now x in
-    each_among pass c.args.content.now c.loop-left.left c.loop-left-test.false c.loop-left.invariant.passes
-
-pub record_passes-requires-clause-kept : goal.record_passes-requires-clause-kept
-record_passes-requires-clause-kept g c = ap (λ l. content_in l c.args.node) c.loop-left.invariant.only.kept ∙ c.requires.kept
-
-pub record_passes-requires-clause-among : goal.record_passes-requires-clause-among
-record_passes-requires-clause-among g c = at_is_among c.args.content.now (c.loop-left.left - 1) c.in-Some.r.now (sym c.in-Some.ensures)
+pub returns-in-Err-first_pass-clause-only : goal.returns-in-Err-first_pass-clause-only
+returns-in-Err-first_pass-clause-only g c =
+    followed_trans c.args.stand.now.me c.undecided.new.stand.me c.first_pass.new.stand.me c.undecided.ensures.only c.first_pass.ensures.only

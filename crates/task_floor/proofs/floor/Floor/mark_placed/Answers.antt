@@ -1,39 +1,31 @@
-use Rattle.std.proofs.Common.{◌≡◌, ◌+◌, ℕ, arith, sym, ap, subst, ◌∙◌}
-use mathlib.Core.Option.{none}
-use Rattle.atomic_table.specs.Table.{Allows, step}
-use Rattle.floor_table.specs.nodes.Holds.{TreeKeeps}
-use Rattle.floor_table.specs.nodes.Layout.{lock_place, taken_lock, tree_slot_count}
-use Rattle.floor_table.specs.nodes.RecordSeats.{MarksPlaced}
-use Rattle.floor_table.proofs.nodes.MarkCalls as calls
+use Rattle.std.proofs.Common.{◌≡◌, ℕ, Bool, true, false, List, IsFalse, IsTrue, arith, refl, sym, ap, inl, inr, ◌∙◌}
+use Rattle.admission_laws.specs.admission_core.States.{Record}
+use Rattle.floor_table.specs.declared.nodes.view.TreeView.{TreeView}
+use Rattle.floor_table.specs.nodes.Deciders.{AllWaitFor, MayDecide}
+use Rattle.floor_table.specs.nodes.Layout.{decider_at, no_decider}
 use Rattle.task_floor.proofs.floor.Floor.mark_placed.Goals as goal
 
-pub store-requires : goal.store-requires
-store-requires g c =
-    let nodes = g.N.Planted.nodes in
-    let p = g.N.Named.prog in
-    let lim = g.N.Named.lim in
-    let me = c.args.stand.now.me in
-    let id = c.args.stand.now.id in
-    let place = c.lock_place-place.ensures in
-    let words = c.self.invariant.3 in
-    let below = c.requires.node in
-    let here = c.requires.here in
-    let same = c.self.view_is in
-    let worker = c.requires.worker in
-    let may = c.requires.may in
-    let named : taken_lock me.0.floor.worker ≡ c.args.worker + 2 = omega (arith, worker) in
-    let P : ℕ → ℕ → ℕ → Type 0 =
-    λ word slots x. Allows (TreeKeeps nodes p lim) slots id me word (λ n. x) (λ n. MarksPlaced nodes p lim (step slots word x 0 none) me x) in
-    let allowed : P (lock_place p lim may.0.place) (tree_slot_count nodes lim) (taken_lock me.0.floor.worker) =
-    calls.mark_placed nodes p lim id me.0 me.1 may.0 may.1 may.3 in
-    let there : c.lock_place-place.result ≡ lock_place p lim may.0.place = place ∙ ap (lock_place p lim) (sym may.2) in
-    let at_word : P c.lock_place-place.result (tree_slot_count nodes lim) (taken_lock me.0.floor.worker) =
-    subst (λ (w : ℕ). P w (tree_slot_count nodes lim) (taken_lock me.0.floor.worker)) (sym there) allowed in
-    let with_worker : P c.lock_place-place.result (tree_slot_count nodes lim) (c.args.worker + 2) =
-    subst (P c.lock_place-place.result (tree_slot_count nodes lim)) named at_word in
-    let with_slots = subst (λ (n : ℕ). P c.lock_place-place.result n (c.args.worker + 2)) (sym c.self.invariant.4) with_worker in
-    (cc (here, same), omega (arith, words, place, below), with_slots)
+-- what the word says is so
+may_say : (v : TreeView) (t place node : ℕ) (content : List Record) (said : ℕ) (decides : Bool) → place ≡ node → (IsTrue decides → said ≡ decider_at node)
+    → (IsFalse decides → said ≡ no_decider) → (IsTrue decides → AllWaitFor v.waits t content) → MayDecide v t place content said
+may_say v t place node content said true same here nowhere all = inr (here refl ∙ ap (λ (n : ℕ). decider_at n) (sym same), all refl)
+may_say v t place node content said false same here nowhere all = inl (nowhere refl)
 
-pub returns-clause-marked : goal.returns-clause-marked
-returns-clause-marked g c a content at may =
-    c.store.ensures.2 a content (c.lock_place-place.ensures ∙ ap (lock_place g.N.Named.prog g.N.Named.lim) (sym at)) may
+pub mark_saying-requires-clause-may : goal.mark_saying-requires-clause-may
+mark_saying-requires-clause-may g c =
+    let may = c.requires.may in
+    let says = may_say c.args.stand.now.me.0 c.args.task may.0.place c.args.node may.1 c.decider_word.result c.args.decides may.2 c.decider_word.ensures.here c.decider_word.ensures.nowhere may.4 in
+    (may.0, may.1, may.3, says, may.5)
+
+pub mark_past-requires-clause-may : goal.mark_past-requires-clause-may
+mark_past-requires-clause-may g c =
+    let may = c.requires.may in
+    let tasks = c.self.invariant.2 in
+    let task = may.3 in
+    (may.0, may.1, may.2, λ low. absurd (omega (arith, low, task, tasks, c.if-task-self.false)), may.5)
+
+pub returns-then-task-self-clause-marked : goal.returns-then-task-self-clause-marked
+returns-then-task-self-clause-marked g c a content at may = c.mark_saying.ensures.marked a content may
+
+pub returns-else-task-self-clause-marked : goal.returns-else-task-self-clause-marked
+returns-else-task-self-clause-marked g c a content at may = c.mark_past.ensures.marked a content may

@@ -1,4 +1,4 @@
-use Rattle.std.proofs.Common.{None, Some, refl, sym, ◌∙◌}
+use Rattle.std.proofs.Common.{sym, ◌∙◌}
 use Rattle.floor_table.specs.Layout.{word_of_phase}
 use Rattle.floor_table.proofs.Steps.{phase_again}
 use Rattle.floor_table.specs.nodes.FloorSeats.{floor_seat}

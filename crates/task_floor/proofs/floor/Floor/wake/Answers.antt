@@ -1,4 +1,4 @@
-use Rattle.std.proofs.Common.{◌++◌, ℕ, List, length, replicate, ◌∙◌, ap, subst, sym, arith}
+use Rattle.std.proofs.Common.{◌≡◌, ◌+◌, ◌++◌, ℕ, List, length, replicate, ◌∙◌, ap, subst, sym, arith}
 use Rattle.region_paths.specs.declared.elements.Elem.{Elem}
 use Rattle.prefix_tree.specs.Nodes.{IsTreeOfPaths}
 use Rattle.seg_journal.specs.declared.journal.Entry.{Entry}
@@ -78,7 +78,8 @@ open-requires-clause-shows g c =
     let shown =
     shows_run p lim c.requires.accepted.0 within journal st c.requires.run c.in_ok-part.part c.in_ok-words.words words.0 c.in_ok-tasks.tasks c.len.result c.lim.inside.tasks
     (c.in_ok-part.ensures ∙ ap (λ (l : List Entry). log_of l c.args.rest.state.prints) c.as_slice-2.ensures) c.len.ensures same words.1 words.2 c.in_ok-tasks.ensures in
-    let all = c.as_slice-3.ensures ∙ (c.in_ok-add_locks.ensures ∙ ap (λ (n : ℕ). c.in_ok-words.words ++ replicate n 0) many) in (
+    let count : c.lim.inside.tasks + c.nodes-nodes.result ≡ lim.tasks + length nodes = omega (arith, same, many) in
+    let all = c.as_slice-3.ensures ∙ (c.in_ok-add_zeros.ensures ∙ ap (λ (n : ℕ). c.in_ok-words.words ++ replicate n 0) count) in (
       st,
       shows_planted nodes p lim c.in_ok-part.part st c.in_ok-records.records c.in_ok-words.words c.in_ok-tasks.tasks c.in_ok-contents.contents shown enabled hold
           c.as_slice-3.result.now c.in_ok-slots.slots all c.in_ok-slots.ensures,
