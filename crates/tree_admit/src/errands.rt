@@ -179,14 +179,14 @@ fn walk_around<N: Named + Planted, R: Wait>(
     effect: &Effect,
     content: NodeContent,
 ) -> Result<(NodeContent, bool), Bar>
+    requires kind { errand.kind ≡ Admission }
+    requires wild { ¬ IsSolid effect.now.path }
     requires here { stand.old.table_id ≡ floor.now }
     requires live { stand.old.me.0.floor.kind ≢ Spent }
     requires shape { shape.now ≡ N.nodes }
     requires worker { footing.worker ≡ stand.old.me.0.floor.worker }
     requires tasks { footing.tasks ≡ N.lim.tasks }
     requires node { errand.place < length N.nodes }
-    requires kind { errand.kind ≡ Admission }
-    requires wild { ¬ IsSolid effect.now.path }
     requires may { (earlier : TreeView) × (rest : List (ℕ × slots.TreeSlot))
         × MayLookAround N.nodes N.lim earlier rest errand effect.now content stand.old.me }
     ensures ready { (earlier : TreeView) (rest : List (ℕ × slots.TreeSlot))

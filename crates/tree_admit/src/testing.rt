@@ -33,12 +33,12 @@ fn record_leads<N: Named + Planted>(
     at: usize,
     r: &NodeRecord,
 ) -> Result<usize, Bar>
+    requires uneasy { is_at_ease task effect.now r.now ≡ false }
     requires here { stand.old.table_id ≡ floor.now }
     requires live { stand.old.me.0.floor.kind ≢ Spent }
     requires tasks { tasks ≡ N.lim.tasks }
     requires kept { content_in stand.old.me.0.kept node ≡ Some content.now }
     requires among { IsAmong r.now content.now }
-    requires uneasy { is_at_ease task effect.now r.now ≡ false }
     ensures known { OnOk result (IsAmong (record { waiter = r.now.task; awaited = task }) stand.new.me.0.waits) }
     ensures others { IfOk result (λ left. (left ≤ at)
         × EachBetween (EaseOrWaits stand.new.me.0.waits task effect.now) content.now left at) }
