@@ -1,16 +1,16 @@
 -- What the program answers, and why.
-use Rattle.std.specs.Prelude.{◌≡◌, ℕ, List, None, Some, Ok}
+use Rattle.std.specs.Prelude.{◌≡◌, ℕ, List}
 use Rattle.twe_ast.specs.declared.item.Ast.{Ast}
 use Rattle.twe_program.specs.Program.{Program}
 use Rattle.twe_frontend.specs.declared.refusal.Refusal.{Refusal}
 use Rattle.twe_report.specs.Texts.{refusal_text}
-use Rattle.twe_report.specs.Reading.{FailedRead}
 use Rattle.twe_io.specs.declared.answer.Answer.{Answer}
 use Rattle.twe_io.specs.declared.status.Status.{Status}
-use Rattle.twe_io.specs.declared.status.Status.TheVariants.{Done, Refused, Usage}
-use Rattle.twe_io.specs.Ends.{Ends, EndsTell, SourceTells, WasRead}
+use Rattle.twe_io.specs.declared.status.Status.TheVariants.{Done, Refused}
+use Rattle.twe_io.specs.Ends.{Ends, EndsTell, SourceTells}
 use Rattle.twe_io.specs.Answers.{IsAnswered, on_err, on_out}
 use Rattle.text_meaning.specs.Meaning.{TextMeans, IsRefusedBefore}
+use Rattle.text_programs.specs.Causes.{TextCause}
 use Rattle.twe_annotate.specs.Texts.{annotate_usage_text, matrix_lines}
 use Rattle.twe_annotate.specs.Words.{requested_by}
 use Rattle.twe_annotate.specs.declared.words.Request.{Request}
@@ -24,19 +24,9 @@ pub data AnnotateDue (request : Request) (text : List ℕ) : Answer → Type 0 w
   planned : (tree : Ast) (p : Program) → request ≡ Matrix → TextMeans text tree p
       → AnnotateDue request text (on_out Done (matrix_lines p.regions tree.items p.tasks))
 
--- Why the program gives an answer, before it writes anything.
-pub data AnnotateCause {S : Type 0} (tells : SourceTells S) (words : List (List ℕ)) (before after : S)
-    : Answer → Type 0 where
-  -- the words ask for nothing that the program does, and nothing is read
-  usage : requested_by words ≡ None → after ≡ before
-      → AnnotateCause tells words before after (on_err Usage annotate_usage_text)
-  -- a read failed, or the source has more bytes than a text may have
-  not_read : {answer : Answer} (request : Request) → requested_by words ≡ Some request
-      → FailedRead tells before after answer → AnnotateCause tells words before after answer
-  -- the source gave a text, and this is the answer to it
-  text : {answer : Answer} (request : Request) (bytes : List ℕ) → requested_by words ≡ Some request
-      → WasRead tells before (Ok bytes) after → AnnotateDue request bytes answer
-      → AnnotateCause tells words before after answer
+-- why the program gives an answer, before it writes anything
+abbrev pub AnnotateCause : {S : Type 0} → SourceTells S → List (List ℕ) → S → S → Answer → Type 0
+AnnotateCause tells words = TextCause requested_by annotate_usage_text AnnotateDue tells words
 
 -- what a call of the program comes to: an answer that has its cause is written; or memory runs out, and nothing is written
 abbrev pub AnswersAnnotate : {S O E : Type 0} → EndsTell S O E → List (List ℕ) → Ends S O E → Ends S O E → Status

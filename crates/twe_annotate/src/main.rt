@@ -2,8 +2,10 @@
 //! input.
 #![tactic(auto)]
 
+mod answering;
 mod laws;
 mod lines;
+mod program;
 mod text;
 mod top;
 mod words;

@@ -8,7 +8,7 @@ use Rattle.twe_annotate.specs.Answers.{AnnotateDue}
 use Rattle.twe_annotate.specs.Texts.{matrix_lines}
 use Rattle.twe_annotate.specs.declared.words.Request.{Request}
 use Rattle.twe_annotate.specs.declared.words.Request.TheVariants.{Matrix}
-use Rattle.twe_annotate.proofs.top.answer_meaning.Goals as goal
+use Rattle.twe_annotate.proofs.answering.answer_meaning.Goals as goal
 
 -- there is nothing else to ask for
 is_matrix : (request : Request) → request ≡ Matrix

@@ -1,7 +1,7 @@
 use Rattle.std.proofs.Common.{subst}
 use Rattle.twe_frontend.specs.declared.read.FrontFail.{FrontFail}
 use Rattle.text_meaning.specs.Reading.{ReadingHasCause}
-use Rattle.twe_annotate.proofs.top.answer_fail.Goals as goal
+use Rattle.twe_annotate.proofs.answering.answer_fail.Goals as goal
 
 -- the text is refused
 pub answer_refusal-requires : goal.answer_refusal-requires

@@ -2,7 +2,7 @@ use Rattle.std.proofs.Common.{sym, ap, ◌∙◌, subst}
 use Rattle.twe_io.specs.declared.status.Status.TheVariants.{Refused}
 use Rattle.twe_io.specs.Answers.{on_err}
 use Rattle.twe_annotate.specs.Answers.{AnnotateDue}
-use Rattle.twe_annotate.proofs.top.answer_refusal.Goals as goal
+use Rattle.twe_annotate.proofs.answering.answer_refusal.Goals as goal
 
 -- the line of the refusal
 pub returns : goal.returns
