@@ -1,9 +1,2 @@
-pub mod Ascending
-pub mod Blanks
 pub mod Causes
-pub mod Inserting
 pub mod OneAnswer
-pub mod OneLine
-pub mod Ordering
-pub mod SameEffects
-pub mod SameTree

@@ -3,7 +3,6 @@
 #![tactic(auto)]
 
 mod laws;
-mod order;
 #[cfg(test)]
 mod tests;
 mod text;

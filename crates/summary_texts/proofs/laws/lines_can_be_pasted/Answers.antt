@@ -1,6 +1,6 @@
-use Rattle.twe_infer.proofs.Blanks.{line-clauses}
-use Rattle.twe_infer.proofs.SameEffects.{lines-same}
-use Rattle.twe_infer.proofs.laws.lines_can_be_pasted.Goals as goal
+use Rattle.summary_texts.proofs.Blanks.{line-clauses}
+use Rattle.summary_texts.proofs.SameEffects.{lines-same}
+use Rattle.summary_texts.proofs.laws.lines_can_be_pasted.Goals as goal
 
 pub returns-clause-clauses : goal.returns-clause-clauses
 returns-clause-clauses c regions params summary can = line-clauses regions params summary can

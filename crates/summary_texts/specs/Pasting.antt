@@ -3,7 +3,7 @@ use Rattle.std.specs.Prelude.{ℕ, Bool, true, false, not, ◌==◌, ◌||◌, L
 use Rattle.region_paths.specs.declared.elements.Elem.{Elem}
 use Rattle.effect_sets.specs.declared.effects.Effect.{Effect}
 use Rattle.effect_sets.specs.declared.effects.Summary.{Summary}
-use Rattle.twe_infer.specs.Order.{summary_paths_of}
+use Rattle.summary_texts.specs.Order.{summary_paths_of}
 
 -- a read or a write of the path with these elements
 abbrev pub effect_on : Bool → List Elem → Effect

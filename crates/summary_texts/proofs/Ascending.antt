@@ -7,9 +7,9 @@ use Rattle.effect_infer.specs.declared.needs.need.Need.{Need}
 use Rattle.effect_infer.specs.needs.Needs.{effect_of}
 use Rattle.effect_infer.specs.Kept.{AreDistinct}
 use Rattle.twe_base.proofs.Members.{IsIn, in-contains}
-use Rattle.twe_infer.specs.Order.{is_same, comes_before, place_in, with_path, with_paths, Ascend}
-use Rattle.twe_infer.proofs.Inserting.{inserted-in, same-is}
-use Rattle.twe_infer.proofs.Ordering.{one-path, path-itself, paths-compared, paths-follow}
+use Rattle.summary_texts.specs.Order.{is_same, comes_before, place_in, with_path, with_paths, Ascend}
+use Rattle.summary_texts.proofs.Inserting.{inserted-in, same-is}
+use Rattle.summary_texts.proofs.Ordering.{one-path, path-itself, paths-compared, paths-follow}
 
 -- a path that is not among the others and does not come before one of them comes after it
 comes-after : (path next : List Elem) → comes_before path next ≡ false → (path ≡ next → ⊥) → comes_before next path ≡ true

@@ -1,6 +1,6 @@
 use Rattle.std.proofs.Common.{◌≡◌, ◌++◌, drop}
-use Rattle.twe_infer.specs.Texts.{more_paths}
-use Rattle.twe_infer.proofs.text.push_more_paths.Given as goal
+use Rattle.summary_texts.specs.Texts.{more_paths}
+use Rattle.summary_texts.proofs.text.push_more_paths.Given as goal
 
 -- the text so far, with what is left
 abbrev pub invariant-loop-path : goal.invariant-loop-path

@@ -1,6 +1,6 @@
 use Rattle.std.proofs.Common.{◌≡◌, drop}
-use Rattle.twe_infer.specs.Order.{comes_before}
-use Rattle.twe_infer.proofs.order.comes_before.Given as goal
+use Rattle.summary_texts.specs.Order.{comes_before}
+use Rattle.summary_texts.proofs.order.comes_before.Given as goal
 
 -- what is left decides
 abbrev pub invariant-loop-at : goal.invariant-loop-at

@@ -1,6 +1,6 @@
 //! The order in which paths are written.
 ghost use Rattle.std.specs.Prelude.{◌≡◌, ◌≤◌, length, IfOk};
-ghost use Rattle.twe_infer.specs.Order.{comes_before, element_before, is_same, order_kind_of, summary_paths_of, place_in};
+ghost use Rattle.summary_texts.specs.Order.{comes_before, element_before, is_same, order_kind_of, summary_paths_of, place_in};
 
 use effect_sets::Summary;
 use region_paths::{Elem, Elems};
@@ -71,7 +71,7 @@ fn is_same(first: bool, second: bool) -> bool
 }
 
 /// The paths of the effects that write, or of those that only read, in their order.
-pub(crate) fn paths_of(alloc: Global, summary: &Summary, write: bool) -> Result<Vec<Elems>, Memory>
+pub fn paths_of(alloc: Global, summary: &Summary, write: bool) -> Result<Vec<Elems>, Memory>
     ensures { IfOk result (λ paths. paths.items ≡ summary_paths_of write summary.now.effects) }
 {
     let mut paths = Vec::new(alloc);

@@ -1,5 +1,5 @@
-use Rattle.twe_infer.proofs.Ordering.{path-itself, paths-compared, paths-follow}
-use Rattle.twe_infer.proofs.laws.paths_have_one_order.Goals as goal
+use Rattle.summary_texts.proofs.Ordering.{path-itself, paths-compared, paths-follow}
+use Rattle.summary_texts.proofs.laws.paths_have_one_order.Goals as goal
 
 pub returns-clause-strict : goal.returns-clause-strict
 returns-clause-strict c = path-itself

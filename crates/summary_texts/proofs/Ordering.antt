@@ -5,7 +5,7 @@ use Rattle.std.proofs.lemmas.Bool.{false≢true, both_ways, cases_Bool, cases_or
 use Rattle.region_paths.specs.declared.elements.Elem.{Elem}
 use Rattle.region_paths.specs.declared.elements.Elem.TheVariants.{Name, Index, Var, AnyIndex}
 use Rattle.twe_base.proofs.Members.{not-true}
-use Rattle.twe_infer.specs.Order.{element_before, order_kind_of, comes_before}
+use Rattle.summary_texts.specs.Order.{element_before, order_kind_of, comes_before}
 
 -- of two things at most one comes before the other
 one-number : (n m : ℕ) → nat_lt n m ≡ true → nat_lt m n ≡ false

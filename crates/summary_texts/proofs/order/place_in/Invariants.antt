@@ -1,6 +1,6 @@
 use Rattle.std.proofs.Common.{◌≡◌, ◌+◌, drop}
-use Rattle.twe_infer.specs.Order.{place_in}
-use Rattle.twe_infer.proofs.order.place_in.Given as goal
+use Rattle.summary_texts.specs.Order.{place_in}
+use Rattle.summary_texts.proofs.order.place_in.Given as goal
 
 -- the place among what is left, and those before it
 abbrev pub invariant-loop-at : goal.invariant-loop-at

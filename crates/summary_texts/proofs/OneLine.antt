@@ -1,15 +1,18 @@
 -- The same needs, each once, make the same lines, in whatever order they stand.
-use Rattle.std.proofs.Common.{◌≡◌, ◌≤◌, ◌⊎◌, Bool, List, [], ◌∷◌, ◌++◌, length, map, inl, inr, refl, sym, ap, ◌∙◌, subst, length-append, arith}
+use Rattle.std.proofs.Common.{◌≡◌, ◌≤◌, ◌⊎◌, ℕ, Bool, List, [], ◌∷◌, ◌++◌, length, map, inl, inr, refl, sym, ap, ◌∙◌, subst, length-append, arith}
 use Rattle.std.specs.Prelude.{Contains}
 use Rattle.region_paths.specs.declared.elements.Elem.{Elem}
+use Rattle.effect_sets.specs.declared.effects.Summary.{Summary}
+use Rattle.twe_program.specs.Program.{Program}
 use Rattle.effect_infer.specs.declared.needs.need.Need.{Need}
 use Rattle.effect_infer.specs.needs.Needs.{effect_of}
 use Rattle.effect_infer.specs.Kept.{AreDistinct}
-use Rattle.twe_base.proofs.Members.{IsIn, in-cases, in-contains, in-left, in-right}
+use Rattle.effect_infer.specs.Inferred.{IsLeast}
+use Rattle.twe_base.proofs.Members.{IsIn, contains-in, in-cases, in-contains, in-left, in-right}
 use Rattle.pasting_laws.proofs.places.Lists.{in-map, map-in}
-use Rattle.twe_infer.specs.Order.{Ascend, summary_paths_of}
-use Rattle.twe_infer.proofs.Ascending.{needs-ascend, one-list}
-use Rattle.twe_infer.proofs.Inserting.{Has, in-paths, paths-from}
+use Rattle.summary_texts.specs.Order.{Ascend, summary_paths_of}
+use Rattle.summary_texts.proofs.Ascending.{needs-ascend, one-list}
+use Rattle.summary_texts.proofs.Inserting.{Has, in-paths, paths-from}
 
 -- a clause of needs that are there once
 pub clause-ascends : (write : Bool) (needs : List Need) → AreDistinct needs → Ascend (summary_paths_of write (map effect_of needs))
@@ -59,3 +62,15 @@ no-more (need ∷ needs) others distinct all =
     without at its there (inl front) = in-left its at.before at.after front
     without at its there (inr (inl same)) = absurd (distinct.0 (subst (Contains needs) same (in-contains needs its there)))
     without at its there (inr (inr back)) = in-right its at.before at.after back
+
+-- two least summaries of one method have the same paths
+pub same-clause : (p : Program) (m : ℕ) (one other : Summary) (write : Bool) → IsLeast p m one → IsLeast p m other → summary_paths_of write one.effects ≡ summary_paths_of write other.effects
+same-clause p m one other write least also =
+    ap (λ (s : Summary). summary_paths_of write s.effects) least.3
+    ∙ one-clause write least.0 also.0 least.1.once also.1.once
+    (λ need there. contains-in also.0 need ((also.1.exact need).1 ((least.1.exact need).0 (in-contains least.0 need there))))
+    (λ need there. contains-in least.0 need ((least.1.exact need).1 ((also.1.exact need).0 (in-contains also.0 need there))))
+    ∙ sym (ap (λ (s : Summary). summary_paths_of write s.effects) also.3)
+
+pub summary-ascends : (p : Program) (m : ℕ) (summary : Summary) (write : Bool) → IsLeast p m summary → Ascend (summary_paths_of write summary.effects)
+summary-ascends p m summary write least = subst (λ (s : Summary). Ascend (summary_paths_of write s.effects)) (sym least.3) (clause-ascends write least.0 least.1.once)

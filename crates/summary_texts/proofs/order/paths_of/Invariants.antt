@@ -1,6 +1,6 @@
 use Rattle.std.proofs.Common.{◌≡◌, drop}
-use Rattle.twe_infer.specs.Order.{with_paths, summary_paths_of}
-use Rattle.twe_infer.proofs.order.paths_of.Given as goal
+use Rattle.summary_texts.specs.Order.{with_paths, summary_paths_of}
+use Rattle.summary_texts.proofs.order.paths_of.Given as goal
 
 -- the paths so far, with those of what is left
 abbrev pub invariant-loop-effect : goal.invariant-loop-effect

@@ -4,8 +4,8 @@ use Rattle.std.proofs.lemmas.Bool.{cases_lt, lt-ltb, le-ltb}
 use Rattle.std.proofs.lemmas.List.{drop_more, drop_all}
 use Rattle.region_paths.specs.declared.elements.Elem.{Elem}
 use Rattle.region_paths.specs.declared.elements.Elem.TheVariants.{AnyIndex}
-use Rattle.twe_infer.specs.Order.{comes_before}
-use Rattle.twe_infer.proofs.order.comes_before.Goals as goal
+use Rattle.summary_texts.specs.Order.{comes_before}
+use Rattle.summary_texts.proofs.order.comes_before.Goals as goal
 
 -- nothing comes before what is left if something is left
 empty-before : (n : ℕ) (xs : List Elem) → nat_lt n (length xs) ≡ comes_before [] (drop n xs)

@@ -11,9 +11,9 @@ use Rattle.effect_infer.specs.Inferred.{IsLeast, AreLeast}
 use Rattle.twe_base.proofs.Members.{IsIn, contains-in, in-contains, in-cases, in-left, in-right}
 use Rattle.pasting_laws.proofs.places.Lists.{in-map, map-in}
 use Rattle.pasting_laws.specs.Pasted.{HaveSameEffects}
-use Rattle.twe_infer.specs.Order.{summary_paths_of}
-use Rattle.twe_infer.specs.Pasting.{effect_on, in_line}
-use Rattle.twe_infer.proofs.Inserting.{paths-from, in-paths}
+use Rattle.summary_texts.specs.Order.{summary_paths_of}
+use Rattle.summary_texts.specs.Pasting.{effect_on, in_line}
+use Rattle.summary_texts.proofs.Inserting.{paths-from, in-paths}
 
 -- an effect whose path has no star
 abbrev IsPlain : Effect → Type 0

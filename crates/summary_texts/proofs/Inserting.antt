@@ -4,7 +4,7 @@ use Rattle.std.proofs.lemmas.Bool.{false≢true}
 use Rattle.region_paths.specs.declared.elements.Elem.{Elem}
 use Rattle.effect_sets.specs.declared.effects.Effect.{Effect}
 use Rattle.twe_base.proofs.Members.{IsIn, in-cases, in-left, in-right}
-use Rattle.twe_infer.specs.Order.{is_same, place_in, with_path, with_paths}
+use Rattle.summary_texts.specs.Order.{is_same, place_in, with_path, with_paths}
 
 -- a path more, in its place
 pub inserted-in : (i : ℕ) (paths : List (List Elem)) (path its : List Elem) → IsIn its (insert paths i path) → (its ≡ path) ⊎ IsIn its paths
