@@ -115,12 +115,12 @@ module _ (regions : List (List ℕ)) (params : List written.Name) where
       ∙ sym (both-words read_tokens (kinds.Fixed fixed.Writes ∷ (tokens ++ []))))
 
 -- what a line has first is only read, and the others are written
-only-reads : (reads writes : List (List Elem)) → reads_of (map (effect_on false) reads ++ map (effect_on true) writes) ≡ map (effect_on false) reads
+pub only-reads : (reads writes : List (List Elem)) → reads_of (map (effect_on false) reads ++ map (effect_on true) writes) ≡ map (effect_on false) reads
 only-reads [] [] = refl
 only-reads [] (w ∷ writes) = only-reads [] writes
 only-reads (r ∷ reads) writes = ap (λ (more : List Effect). effect_on false r ∷ more) (only-reads reads writes)
 
-only-writes : (reads writes : List (List Elem)) → writes_of (map (effect_on false) reads ++ map (effect_on true) writes) ≡ map (effect_on true) writes
+pub only-writes : (reads writes : List (List Elem)) → writes_of (map (effect_on false) reads ++ map (effect_on true) writes) ≡ map (effect_on true) writes
 only-writes [] [] = refl
 only-writes [] (w ∷ writes) = ap (λ (more : List Effect). effect_on true w ∷ more) (only-writes [] writes)
 only-writes (r ∷ reads) writes = only-writes reads writes

@@ -1,11 +1,13 @@
 //! The answer to a text.
 ghost use Rattle.std.specs.Prelude.{IfOk};
 ghost use Rattle.twe_annotate.specs.Answers.{AnnotateDue};
+ghost use Rattle.twe_annotate.specs.declared.words.Request.TheVariants.{Matrix};
 ghost use Rattle.text_meaning.specs.Meaning.{IsRefusedBefore, TextMeans};
 ghost use Rattle.text_meaning.specs.Reading.{ReadingHasCause};
 
 use crate::lines::matrix_lines;
 use crate::words::Request;
+use crate::writing::answer_write;
 use std::alloc::Global;
 use text_meaning::{Meaning, read_meaning};
 use twe_base::Memory;
@@ -22,7 +24,7 @@ pub(crate) fn answer_text(
     ensures { IfOk result (AnnotateDue request text.now) }
 {
     match read_meaning(alloc, text) {
-        Ok(meaning) => answer_meaning(alloc, request, text, &meaning),
+        Ok(meaning) => answer_meaning(alloc, request, text, meaning),
         Err(fail) => answer_fail(alloc, request, text, &fail),
     }
 }
@@ -59,25 +61,32 @@ fn answer_refusal(
     Ok(Answer::on_err(alloc, Status::Refused, line))
 }
 
-/// The answer to a text with this meaning.
-fn answer_meaning(
-    alloc: Global,
-    request: Request,
-    text: &[u8],
-    meaning: &Meaning,
-) -> Result<Answer, Memory>
+/// The answer to a text with this meaning: the matrix of its tasks.
+fn answer_matrix(alloc: Global, text: &[u8], meaning: &Meaning) -> Result<Answer, Memory>
     requires { TextMeans text.now meaning.now.tree meaning.now.program }
-    ensures { IfOk result (AnnotateDue request text.now) }
+    ensures { IfOk result (AnnotateDue Matrix text.now) }
 {
     let _ = text;
     let p = &meaning.program;
     let items = meaning.tree.items.as_slice();
     let regions = p.regions.as_slice();
     let tasks = p.tasks.as_slice();
+    let lines = matrix_lines(alloc, regions, items, tasks)?;
+    Ok(Answer::on_out(alloc, Status::Done, lines))
+}
+
+/// The answer to a text with this meaning.
+fn answer_meaning(
+    alloc: Global,
+    request: Request,
+    text: &[u8],
+    meaning: Meaning,
+) -> Result<Answer, Memory>
+    requires { TextMeans text.now meaning.tree meaning.program }
+    ensures { IfOk result (AnnotateDue request text.now) }
+{
     match request {
-        Request::Matrix => {
-            let lines = matrix_lines(alloc, regions, items, tasks)?;
-            Ok(Answer::on_out(alloc, Status::Done, lines))
-        }
+        Request::Matrix => answer_matrix(alloc, text, &meaning),
+        Request::Write => answer_write(alloc, text, meaning),
     }
 }

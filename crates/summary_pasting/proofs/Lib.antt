@@ -1,0 +1,4 @@
+pub mod LineClauses
+pub mod Writable
+pub mod Items
+pub mod Accepted
