@@ -47,7 +47,7 @@ module _ (one : OneTree) (text written : List ℕ) (tree : Ast) (p : Program) (a
   pastable : CanBePasted (map in_line all) all
   pastable = record { same = lines-same p all least; can = all-can all can }
 
-  alike : EqualButForPlaces (pasted (map in_line all) tree) is.again.tree
+  pub alike : EqualButForPlaces (pasted (map in_line all) tree) is.again.tree
   alike =
       let printed = least-printed text p meaning all (map in_line all) least pastable in
       alike-trees one written (pasted (map in_line all) tree) printed.0 is.again.tree printed.1 printed.2 is.again.means.parsed

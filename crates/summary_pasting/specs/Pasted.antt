@@ -26,11 +26,13 @@ pub record IsReadAgain (pasted : Ast) (written : List ℕ) : Type 0 where
   pub means : TextMeans written tree program
   pub alike : printed_tokens pasted ≡ printed_tokens tree
 
--- the text was written with these summaries of its methods, is not too long, and was read again
+-- The text was written with these summaries of its methods, is not too long, and was read again. With the same summaries
+-- written into it once more it stays as it is.
 pub record IsPastedText (each : List (Option Summary)) (tree : Ast) (text written : List ℕ) : Type 0 where
   pub bytes : HasSummariesOf each tree text written
   pub short : length written ≤ max_text_bytes
   pub again : IsReadAgain (tree_with each tree) written
+  pub settled : HasSummariesOf each tree written written
 
 -- Why the text was not written: with the summaries it would be too long.
 pub data IsTooLong (each : List (Option Summary)) (tree : Ast) (text : List ℕ) : Type 0 where
@@ -47,9 +49,18 @@ pub data IsOtherwise (pasted : Ast) (written : List ℕ) : Type 0 where
   unlike : (tree : Ast) (p : Program) → TextMeans written tree p → ¬ (printed_tokens pasted ≡ printed_tokens tree)
       → IsOtherwise pasted written
 
--- the text with these summaries is not the tree with them read again
-abbrev pub IsReadOtherwise : List (Option Summary) → Ast → List ℕ → Type 0
-IsReadOtherwise each tree text = (written : List ℕ) × HasSummariesOf each tree text written × IsOtherwise (tree_with each tree) written
+-- with the same summaries written into it once more the text changes
+abbrev pub Changes : List (Option (List ℕ)) → List ℕ → Type 0
+Changes news written = (twice : List ℕ) × HasSummaries news written twice × (¬ (twice ≡ written))
+
+-- Why the text was not written: with the summaries it is something else.
+pub data IsReadOtherwise (each : List (Option Summary)) (tree : Ast) (text : List ℕ) : Type 0 where
+  -- it is not the tree with them read again
+  otherwise : (written : List ℕ) → HasSummariesOf each tree text written → IsOtherwise (tree_with each tree) written
+      → IsReadOtherwise each tree text
+  -- or it changes if it is written once more
+  changes : (written : List ℕ) → HasSummariesOf each tree text written
+      → Changes (news_of (program_of tree).regions each tree.items) written → IsReadOtherwise each tree text
 
 -- the cause of a failure; nothing is said of want of memory
 abbrev pub PasteHasCause : List (Option Summary) → Ast → List ℕ → PasteFail → Type 0
@@ -68,3 +79,9 @@ abbrev pub AgainHasCause : Ast → List ℕ → PasteFail → Type 0
 AgainHasCause pasted written TooLong = ⊥
 AgainHasCause pasted written Differs = IsOtherwise pasted written
 AgainHasCause pasted written (OutOfMemory memory) = Unit {0}
+
+-- and where the summaries are written into it once more
+abbrev pub SettledHasCause : List (Option (List ℕ)) → List ℕ → PasteFail → Type 0
+SettledHasCause news written TooLong = ⊥
+SettledHasCause news written Differs = Changes news written
+SettledHasCause news written (OutOfMemory memory) = Unit {0}

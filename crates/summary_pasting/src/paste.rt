@@ -4,7 +4,11 @@ ghost use Rattle.ast_printer.specs.ItemTokens.{printed_tokens};
 ghost use Rattle.text_meaning.specs.Meaning.{TextMeans};
 ghost use Rattle.twe_names.specs.Meaning.{program_of};
 ghost use Rattle.summary_pasting.specs.Items.{tree_with};
-ghost use Rattle.summary_pasting.specs.Pasted.{AgainHasCause, IsPastedText, IsReadAgain, PasteHasCause};
+ghost use Rattle.summary_pasting.specs.Pasted.{AgainHasCause, IsPastedText, IsReadAgain, PasteHasCause, SettledHasCause};
+ghost use Rattle.summary_writing.specs.Written.{HasSummaries};
+ghost use Rattle.twe_base.specs.declared.place.Place.{Place};
+ghost use Rattle.twe_parser.specs.declared.fail.SRule.{SRule};
+ghost use Rattle.twe_parser.specs.Fails.{Fails};
 
 use crate::fail::PasteFail;
 use crate::items::items_with;
@@ -58,6 +62,24 @@ fn read_again(alloc: Global, pasted: &Ast, written: &[u8]) -> Result<(), PasteFa
     }
 }
 
+/// Writes the same summaries into a text once more, and compares what comes out.
+fn write_again(
+    alloc: Global,
+    written: &[u8],
+    news: &[Option<Bytes>],
+) -> Result<(), PasteFail>
+    requires { (rule : SRule) (place : Place) → ¬ Fails written.now rule place }
+    ensures settled { OnOk result (HasSummaries news.now written.now written.now) }
+    ensures refused { IfErr result (SettledHasCause news.now written.now) }
+{
+    let twice = write_summaries(alloc, written, news)?;
+    if twice.as_slice() == written {
+        Ok(())
+    } else {
+        Err(PasteFail::Differs)
+    }
+}
+
 /// The tree with these summaries of its methods.
 fn tree_with(
     alloc: Global,
@@ -77,9 +99,9 @@ fn tree_with(
 /// is none for it, or if a text cannot have it: with a negative literal, with a path of more than 32 elements, or with more than 8
 /// effects. A comment in a summary that is replaced stays behind the new one; all other bytes stay as they are.
 ///
-/// The text that is written was read again: its tree is that of the text with these summaries, except for places. It fails if
-/// this text would have more bytes than a text may have, if it would be another tree, or if memory runs out. It takes time and
-/// memory linear in both texts and in the summaries.
+/// The text that is written was read again: its tree is printed as that of the text with these summaries. With the same
+/// summaries written into it once more it stays as it is. It fails if this text would have more bytes than a text may have, if it
+/// would not be so, or if memory runs out. It takes time and memory linear in both texts and in the summaries.
 pub fn paste_summaries(
     alloc: Global,
     text: &[u8],
@@ -98,5 +120,6 @@ pub fn paste_summaries(
     }
     let pasted = tree_with(alloc, meaning, each)?;
     read_again(alloc, &pasted, written.as_slice())?;
+    write_again(alloc, written.as_slice(), news.as_slice())?;
     Ok(written)
 }

@@ -7,7 +7,7 @@ use Rattle.twe_program.specs.Program.{Program}
 use Rattle.effect_infer.specs.declared.needs.need.Need.{Need}
 use Rattle.effect_infer.specs.needs.Needs.{effect_of}
 use Rattle.effect_infer.specs.Kept.{AreDistinct}
-use Rattle.effect_infer.specs.Inferred.{IsLeast}
+use Rattle.effect_infer.specs.Inferred.{HasTooMany, IsLeast}
 use Rattle.twe_base.proofs.Members.{IsIn, contains-in, in-cases, in-contains, in-left, in-right}
 use Rattle.pasting_laws.proofs.places.Lists.{in-map, map-in}
 use Rattle.summary_texts.specs.Order.{Ascend, summary_paths_of}
@@ -74,3 +74,9 @@ same-clause p m one other write least also =
 
 pub summary-ascends : (p : Program) (m : ℕ) (summary : Summary) (write : Bool) → IsLeast p m summary → Ascend (summary_paths_of write summary.effects)
 summary-ascends p m summary write least = subst (λ (s : Summary). Ascend (summary_paths_of write s.effects)) (sym least.3) (clause-ascends write least.0 least.1.once)
+
+-- a method has a least summary or too many effects, not both
+pub not-least : (p : Program) (m : ℕ) (summary : Summary) → HasTooMany p m → IsLeast p m summary → ⊥
+not-least p m summary many least =
+    let fewer = no-more many.0 least.0 many.1 (λ need there. contains-in least.0 need ((least.1.exact need).1 (many.3 need (in-contains many.0 need there)))) in
+    omega (arith, fewer, many.2, least.2)

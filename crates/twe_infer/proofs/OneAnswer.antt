@@ -16,7 +16,6 @@ use Rattle.twe_frontend.specs.declared.refusal.Refusal.{Refusal}
 use Rattle.twe_frontend.specs.Accepted.{IsRefusal}
 use Rattle.effect_infer.specs.declared.fail.InferFail.TheVariants as fails
 use Rattle.effect_infer.specs.Inferred.{AreLeast, HasTooMany, InferHasCause, IsLeast}
-use Rattle.twe_base.proofs.Members.{contains-in, in-contains}
 use Rattle.twe_report.specs.Texts.{refusal_text}
 use Rattle.twe_io.specs.declared.answer.Answer.{Answer}
 use Rattle.twe_io.specs.Answers.{on_err, on_out}
@@ -26,7 +25,7 @@ use Rattle.text_meaning.specs.Meaning.{IsRefusedBefore, TextMeans}
 use Rattle.summary_texts.specs.Order.{summary_paths_of}
 use Rattle.summary_texts.specs.Texts.{clauses_text}
 use Rattle.twe_infer.specs.Texts.{summary_lines_of, too_many_text}
-use Rattle.summary_texts.proofs.OneLine.{no-more, same-clause}
+use Rattle.summary_texts.proofs.OneLine.{not-least, same-clause}
 use Rattle.summary_texts.proofs.SameTree.{OneTree, same_tree}
 
 -- The refusal, and the meaning of a text.
@@ -80,12 +79,6 @@ least-lines p one other regions items least also =
     (all-same one other (least.one_each ∙ sym also.one_each) (λ m summary its e f write. same-clause p m summary its write (least.least m summary e) (also.least m its f)))
 
 -- Too many effects.
-
--- a method has a least summary or too many effects, not both
-not-least : (p : Program) (m : ℕ) (summary : Summary) → HasTooMany p m → IsLeast p m summary → ⊥
-not-least p m summary many least =
-    let fewer = no-more many.0 least.0 many.1 (λ need there. contains-in least.0 need ((least.1.exact need).1 (many.3 need (in-contains many.0 need there)))) in
-    omega (arith, fewer, many.2, least.2)
 
 -- there is one first method with too many
 same-method : (p : Program) (m n : ℕ) → InferHasCause p (fails.TooMany m) → InferHasCause p (fails.TooMany n) → m ≡ n
