@@ -6,13 +6,8 @@ use Rattle.twe_io.specs.declared.status.Status.TheVariants.{Done}
 use Rattle.twe_io.specs.Answers.{on_out}
 use Rattle.twe_annotate.specs.Answers.{AnnotateDue}
 use Rattle.twe_annotate.specs.Texts.{matrix_lines}
-use Rattle.twe_annotate.specs.declared.words.Request.{Request}
 use Rattle.twe_annotate.specs.declared.words.Request.TheVariants.{Matrix}
-use Rattle.twe_annotate.proofs.answering.answer_meaning.Goals as goal
-
--- there is nothing else to ask for
-is_matrix : (request : Request) → request ≡ Matrix
-is_matrix Matrix = refl
+use Rattle.twe_annotate.proofs.answering.answer_matrix.Goals as goal
 
 -- the lines of the matrix
 pub returns : goal.returns
@@ -25,5 +20,5 @@ returns c =
     c.in_ok-lines.ensures ∙ ap (λ (names : List (List ℕ)). matrix_lines names c.as_slice-items.result.now c.as_slice-tasks.result.now) regions
     ∙ ap (λ (items : List Item). matrix_lines p.regions items c.as_slice-tasks.result.now) c.as_slice-items.ensures
     ∙ ap (λ (ds : List Decl). matrix_lines p.regions tree.items ds) tasks in
-    subst (AnnotateDue c.args.request c.args.text.now) (sym (c.on_out.ensures ∙ ap (on_out Done) is))
-    (AnnotateDue.planned tree p (is_matrix c.args.request) c.requires)
+    subst (AnnotateDue Matrix c.args.text.now) (sym (c.on_out.ensures ∙ ap (on_out Done) is))
+    (AnnotateDue.planned tree p refl c.requires)
