@@ -1,6 +1,7 @@
 pub mod LineClauses
 pub mod Writable
 pub mod Items
+pub mod Causes
 pub mod Accepted
 pub mod SameSteps
 pub mod SameNeeds

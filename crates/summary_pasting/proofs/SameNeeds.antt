@@ -4,6 +4,7 @@ use Rattle.std.specs.Prelude.{slice_get}
 use Rattle.std.specs.List.{Contains}
 use Rattle.std.proofs.lemmas.List.{length-map}
 use Rattle.effect_sets.specs.declared.effects.Summary.{Summary}
+use Rattle.twe_program.specs.declared.program.Body.{Body}
 use Rattle.twe_program.specs.declared.program.CellDecl.{CellDecl}
 use Rattle.twe_program.specs.declared.program.Decl.{Decl}
 use Rattle.twe_program.specs.Program.{Program}
@@ -57,7 +58,8 @@ abbrev SameBody : Decl → Decl → Type 0
 SameBody decl its = (its.params ≡ decl.params) × (its.body ≡ decl.body)
 
 other-to : (summaries : List Summary) (decls : List Decl) (m : ℕ) (decl : Decl) → slice_get decls m ≡ Some decl → (its : Decl) × (slice_get (with_each summaries decls) m ≡ Some its) × SameBody decl its
-other-to [] decls m decl e = (decl, e, refl, refl)
+other-to [] [] m decl e = absurd (cc)
+other-to [] (first ∷ decls) m decl e = (decl, e, refl, refl)
 other-to (summary ∷ summaries) [] m decl e = absurd (cc)
 other-to (summary ∷ summaries) (first ∷ decls) zero decl e =
     let is : first ≡ decl = cc in
@@ -65,7 +67,8 @@ other-to (summary ∷ summaries) (first ∷ decls) zero decl e =
 other-to (summary ∷ summaries) (first ∷ decls) (suc m) decl e = other-to summaries decls m decl e
 
 other-from : (summaries : List Summary) (decls : List Decl) (m : ℕ) (its : Decl) → slice_get (with_each summaries decls) m ≡ Some its → (decl : Decl) × (slice_get decls m ≡ Some decl) × SameBody its decl
-other-from [] decls m its e = (its, e, refl, refl)
+other-from [] [] m its e = absurd (cc)
+other-from [] (first ∷ decls) m its e = (its, e, refl, refl)
 other-from (summary ∷ summaries) [] m its e = absurd (cc)
 other-from (summary ∷ summaries) (first ∷ decls) zero its e =
     let is : record first { summary = summary } ≡ its = cc in
@@ -73,7 +76,7 @@ other-from (summary ∷ summaries) (first ∷ decls) zero its e =
 other-from (summary ∷ summaries) (first ∷ decls) (suc m) its e = other-from summaries decls m its e
 
 with-body : (cells : List CellDecl) (decl its : Decl) → SameBody decl its → HasSameSteps cells cells decl its
-with-body cells decl its same = record { params = same.0; steps = ap (λ body. steps_in_all cells body.block) same.1 }
+with-body cells decl its same = record { params = same.0; steps = ap (λ (body : Body). steps_in_all cells body.block) same.1 }
 
 module _ (p : Program) where
   to-bare : HaveSameSteps p (bare_program p)
@@ -123,7 +126,8 @@ module _ (p q : Program) (summaries : List Summary) (alike : SameButPlaces q (wi
   many-from m is = (is.0, is.1, is.2, λ need there. widest-from m need (is.3 need there))
 
   with-length : (its : List Summary) (decls : List Decl) → length (with_each its decls) ≡ length decls
-  with-length [] decls = refl
+  with-length [] [] = refl
+  with-length [] (decl ∷ decls) = refl
   with-length (summary ∷ its) [] = refl
   with-length (summary ∷ its) (decl ∷ decls) = ap suc (with-length its decls)
 

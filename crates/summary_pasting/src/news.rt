@@ -18,7 +18,7 @@ fn new_clauses(
     params: &[Name],
     summary: &Summary,
 ) -> Result<Option<Bytes>, Memory>
-    ensures { IfOk result (λ new. new ≡ new_clauses regions.now params.now summary.now) }
+    ensures { IfOk result (λ made. made ≡ new_clauses regions.now params.now summary.now) }
 {
     if !can_be_written(alloc, summary)? {
         return Ok(None);
@@ -35,7 +35,7 @@ fn new_of(
     params: &[Name],
     its: &Option<Summary>,
 ) -> Result<Option<Bytes>, Memory>
-    ensures { IfOk result (λ new. new ≡ new_of regions.now params.now its.now) }
+    ensures { IfOk result (λ made. made ≡ new_of regions.now params.now its.now) }
 {
     match its {
         None => Ok(None),
@@ -44,10 +44,10 @@ fn new_of(
 }
 
 /// How many bytes are written for a method.
-fn count_new(new: &Option<Bytes>) -> usize
-    ensures { result ≡ length (bytes_of_new new.now) }
+fn count_new(made: &Option<Bytes>) -> usize
+    ensures { result ≡ length (bytes_of_new made.now) }
 {
-    match new {
+    match made {
         None => 0,
         Some(text) => text.len(),
     }
@@ -70,12 +70,13 @@ pub(crate) fn news_of(
         if let Item::Method(decl) = item
             && let Some(its) = each.get(at)
         {
-            let new = new_of(alloc, regions, decl.params.as_slice(), its)?;
-            total += count_new(&new);
-            if total > MAX_TEXT_BYTES {
+            let made = new_of(alloc, regions, decl.params.as_slice(), its)?;
+            let count = count_new(&made);
+            if count > MAX_TEXT_BYTES - total {
                 return Err(PasteFail::TooLong);
             }
-            news.push(new)?;
+            total += count;
+            news.push(made)?;
             at += 1;
         }
     }
