@@ -21,8 +21,8 @@ use Rattle.summary_texts.proofs.SameTree.{OneTree, same_tree}
 use Rattle.summary_pasting.specs.Items.{tree_with}
 use Rattle.summary_pasting.specs.Pasted.{IsPastedText, IsReadAgain}
 use Rattle.summary_pasting.specs.Writable.{is_writable}
-use Rattle.summary_pasting.proofs.Items.{tree-pasted}
-use Rattle.summary_pasting.proofs.Writable.{all-can}
+use Rattle.summary_pasting.proofs.PastedTree.{tree-pasted}
+use Rattle.summary_pasting.proofs.Fitting.{all-can}
 
 -- the tree of a text that is printed as another text is, is that tree but for places
 as-text : (text : List ℕ) (tree : Ast) → IsTreeOf text tree → IsTextOf text tree

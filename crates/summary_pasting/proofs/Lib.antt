@@ -1,6 +1,6 @@
 pub mod LineClauses
-pub mod Writable
-pub mod Items
+pub mod Fitting
+pub mod PastedTree
 pub mod Causes
 pub mod Accepted
 pub mod SameSteps

@@ -59,20 +59,20 @@ SameBody decl its = (its.params ≡ decl.params) × (its.body ≡ decl.body)
 
 other-to : (summaries : List Summary) (decls : List Decl) (m : ℕ) (decl : Decl) → slice_get decls m ≡ Some decl → (its : Decl) × (slice_get (with_each summaries decls) m ≡ Some its) × SameBody decl its
 other-to [] [] m decl e = absurd (cc)
-other-to [] (first ∷ decls) m decl e = (decl, e, refl, refl)
+other-to [] (first ∷ decls) m decl e = (decl, e, (refl, refl))
 other-to (summary ∷ summaries) [] m decl e = absurd (cc)
 other-to (summary ∷ summaries) (first ∷ decls) zero decl e =
     let is : first ≡ decl = cc in
-    (record first { summary = summary }, refl, ap (λ (d : Decl). d.params) is, ap (λ (d : Decl). d.body) is)
+    (record first { summary = summary }, refl, (ap (λ (d : Decl). d.params) is, ap (λ (d : Decl). d.body) is))
 other-to (summary ∷ summaries) (first ∷ decls) (suc m) decl e = other-to summaries decls m decl e
 
 other-from : (summaries : List Summary) (decls : List Decl) (m : ℕ) (its : Decl) → slice_get (with_each summaries decls) m ≡ Some its → (decl : Decl) × (slice_get decls m ≡ Some decl) × SameBody its decl
 other-from [] [] m its e = absurd (cc)
-other-from [] (first ∷ decls) m its e = (its, e, refl, refl)
+other-from [] (first ∷ decls) m its e = (its, e, (refl, refl))
 other-from (summary ∷ summaries) [] m its e = absurd (cc)
 other-from (summary ∷ summaries) (first ∷ decls) zero its e =
     let is : record first { summary = summary } ≡ its = cc in
-    (first, refl, ap (λ (d : Decl). d.params) is, ap (λ (d : Decl). d.body) is)
+    (first, refl, (ap (λ (d : Decl). d.params) is, ap (λ (d : Decl). d.body) is))
 other-from (summary ∷ summaries) (first ∷ decls) (suc m) its e = other-from summaries decls m its e
 
 with-body : (cells : List CellDecl) (decl its : Decl) → SameBody decl its → HasSameSteps cells cells decl its

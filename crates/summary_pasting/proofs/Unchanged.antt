@@ -29,7 +29,7 @@ use Rattle.summary_pasting.proofs.SameNews.{WritesSame, bare-params, method_para
 -- the same is written for two least summaries of a method
 module _ (p q : Program) (summaries : List Summary) (same : SameButPlaces q (with_summaries summaries p)) where
   writes-same : (m : ℕ) (its : Option Summary) (summary : Summary) → IsLeastIfFew q m its → IsLeast p m summary → WritesSame its (Some summary)
-  writes-same m None summary many least = absurd (not-least p m summary (many-from p q summaries same m many) least)
+  writes-same m None summary many least regions params = absurd (not-least p m summary (many-from p q summaries same m many) least)
   writes-same m (Some its) summary also least regions params =
       let mine = least-from p q summaries same m its also in
       λ i. new_from regions params (same-clause p m its summary false mine least i) (same-clause p m its summary true mine least i)

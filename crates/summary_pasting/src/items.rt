@@ -38,11 +38,12 @@ fn with_summary(
 ) -> Result<Decl, Memory>
     ensures { IfOk result (λ made. made ≡ decl_with_summary regions.now summary.now decl) }
 {
-    if !can_be_written(alloc, summary)? {
-        return Ok(decl);
+    if can_be_written(alloc, summary)? {
+        let effects = clauses_of(alloc, regions, decl.params.as_slice(), summary)?;
+        Ok(with_effects(decl, effects))
+    } else {
+        Ok(decl)
     }
-    let effects = clauses_of(alloc, regions, decl.params.as_slice(), summary)?;
-    Ok(with_effects(decl, effects))
 }
 
 /// The declaration with this summary, if there is one and a text can have it.

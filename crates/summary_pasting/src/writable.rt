@@ -21,11 +21,18 @@ fn is_writable_elem(elem: Elem) -> bool
     }
 }
 
+/// Whether a text can have each of these elements.
+fn are_writable_elems(elems: &[Elem]) -> bool
+    ensures { result ≡ list_all is_writable_elem elems.now }
+{
+    elems.iter().all(|elem| is_writable_elem(*elem))
+}
+
 /// Whether a text can have a path with these elements.
 fn is_writable_path(path: &[Elem]) -> bool
     ensures { result ≡ is_writable_path path.now }
 {
-    path.len() <= MAX_PATH_ELEMENTS && path.iter().all(|elem| is_writable_elem(*elem))
+    path.len() <= MAX_PATH_ELEMENTS && are_writable_elems(path)
 }
 
 /// Whether a text can have each of these paths.
