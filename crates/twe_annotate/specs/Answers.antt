@@ -15,11 +15,14 @@ use Rattle.text_programs.specs.Causes.{TextCause}
 use Rattle.effect_infer.specs.needs.Choices.{NoRuleFails, with_summaries}
 use Rattle.effect_infer.specs.Inferred.{AreEachLeast}
 use Rattle.summary_pasting.specs.Pasted.{IsPastedText, IsReadOtherwise, IsTooLong}
+use Rattle.summary_comparing.specs.CompareTexts.{AreCompareLines}
+use Rattle.summary_comparing.specs.declared.lines.CompareLines.{CompareLines}
+use Rattle.twe_annotate.specs.Compared.{compare_answer}
 use Rattle.twe_annotate.specs.Kept.{kept_lines, long_text, otherwise_text, write_status}
 use Rattle.twe_annotate.specs.Texts.{annotate_usage_text, matrix_lines}
 use Rattle.twe_annotate.specs.Words.{requested_by}
 use Rattle.twe_annotate.specs.declared.words.Request.{Request}
-use Rattle.twe_annotate.specs.declared.words.Request.TheVariants.{Matrix, Write}
+use Rattle.twe_annotate.specs.declared.words.Request.TheVariants.{Matrix, Write, Compare}
 
 -- These are the least summaries of the methods that have one. If each has one, a program that keeps every rule on effects keeps
 -- them with these summaries.
@@ -46,6 +49,11 @@ pub data AnnotateDue (request : Request) (text : List ℕ) : Answer → Type 0 w
   otherwise : (tree : Ast) (p : Program) (each : List (Option Summary)) → request ≡ Write
       → TextMeans text tree p → AreLeastOf p each → IsReadOtherwise each tree text
       → AnnotateDue request text (on_err Refused otherwise_text)
+  -- what is declared is compared with what is needed: a line for each declaration that declares more, and one for each that needs
+  -- too many effects
+  compared : (tree : Ast) (p : Program) (lines : CompareLines) → request ≡ Compare
+      → TextMeans text tree p → AreCompareLines tree p lines
+      → AnnotateDue request text (compare_answer lines)
 
 -- why the program gives an answer, before it writes anything
 abbrev pub AnnotateCause : {S : Type 0} → SourceTells S → List (List ℕ) → S → S → Answer → Type 0

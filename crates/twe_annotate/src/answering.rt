@@ -5,6 +5,7 @@ ghost use Rattle.twe_annotate.specs.declared.words.Request.TheVariants.{Matrix};
 ghost use Rattle.text_meaning.specs.Meaning.{IsRefusedBefore, TextMeans};
 ghost use Rattle.text_meaning.specs.Reading.{ReadingHasCause};
 
+use crate::comparing::answer_compare;
 use crate::lines::matrix_lines;
 use crate::words::Request;
 use crate::writing::answer_write;
@@ -88,5 +89,6 @@ fn answer_meaning(
     match request {
         Request::Matrix => answer_matrix(alloc, text, &meaning),
         Request::Write => answer_write(alloc, text, meaning),
+        Request::Compare => answer_compare(alloc, text, meaning),
     }
 }

@@ -3,6 +3,7 @@
 #![tactic(auto)]
 
 mod answering;
+mod comparing;
 mod kept;
 mod laws;
 mod lines;

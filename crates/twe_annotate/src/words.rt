@@ -11,6 +11,8 @@ pub enum Request {
     Matrix,
     /// The text with the least summaries of its methods.
     Write,
+    /// A line for each method and each task that declares more than it needs.
+    Compare,
 }
 
 /// What a word asks for, if it asks for something.
@@ -22,6 +24,8 @@ fn request_of(word: &Word) -> Option<Request>
         Some(Request::Matrix)
     } else if word == b"write".as_slice() {
         Some(Request::Write)
+    } else if word == b"compare".as_slice() {
+        Some(Request::Compare)
     } else {
         None
     }

@@ -11,3 +11,7 @@ returns-in-Matrix c = subst (λ (request : Request). IfOk c.answer_matrix.result
 -- the text is asked for
 pub returns-in-Write : goal.returns-in-Write
 returns-in-Write c = subst (λ (request : Request). IfOk c.answer_write.result (AnnotateDue request c.args.text.now)) (sym c.in-Write.is) c.answer_write.ensures
+
+-- a comparison is asked for
+pub returns-in-Compare : goal.returns-in-Compare
+returns-in-Compare c = subst (λ (request : Request). IfOk c.answer_compare.result (AnnotateDue request c.args.text.now)) (sym c.in-Compare.is) c.answer_compare.ensures
