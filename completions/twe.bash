@@ -40,7 +40,7 @@ _twe_annotate() {
   local word
   COMPREPLY=()
   ((COMP_CWORD == 1)) || return
-  for word in matrix write; do
+  for word in matrix write compare; do
     [[ $word != "${COMP_WORDS[1]}"* ]] || COMPREPLY+=("$word")
   done
 }
