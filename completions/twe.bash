@@ -37,8 +37,12 @@ _twe_batch() {
 }
 
 _twe_annotate() {
+  local word
   COMPREPLY=()
-  if ((COMP_CWORD == 1)) && [[ matrix == "${COMP_WORDS[1]}"* ]]; then COMPREPLY=(matrix); fi
+  ((COMP_CWORD == 1)) || return
+  for word in matrix write compare; do
+    [[ $word != "${COMP_WORDS[1]}"* ]] || COMPREPLY+=("$word")
+  done
 }
 
 _twe_advise() {

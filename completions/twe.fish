@@ -16,6 +16,8 @@ complete -c twe_advise -f
 complete -c twe_advise -n __fish_use_subcommand -a --json -d 'write JSON in place of tables'
 complete -c twe_annotate -f
 complete -c twe_annotate -n __fish_use_subcommand -a matrix -d 'a line for each two tasks'
+complete -c twe_annotate -n __fish_use_subcommand -a write -d 'the text with the least summaries'
+complete -c twe_annotate -n __fish_use_subcommand -a compare -d 'a line for each summary that is wider than what is needed'
 complete -c twe_batch -f
 complete -c twe_batch -n __fish_use_subcommand -a check -d 'check each program of a batch'
 complete -c twe_batch -n __fish_use_subcommand -a run -d 'check and run each program of a batch'

@@ -7,3 +7,4 @@ pub mod RowItems
 pub mod Keeping
 pub mod Finding
 pub mod Results
+pub mod Each

@@ -128,7 +128,7 @@ module _ (p : Program) (table : List (List Need)) (wide : IsWidestTable p table)
   are-widest : (m : ℕ) → length (row table m) ≤ max_effects → AreWidest p m (row table m)
   are-widest m few = record { exact = λ need. (wide.only m need, all-there m need few); once = wide.once m }
 
-  is-least : (m : ℕ) → length (row table m) ≤ max_effects → IsLeast p m (summary_of (row table m))
+  pub is-least : (m : ℕ) → length (row table m) ≤ max_effects → IsLeast p m (summary_of (row table m))
   is-least m few = (row table m, are-widest m few, few, refl)
 
   pub too-many : (fail : InferFail) → IsFirstLong table fail → InferHasCause p fail

@@ -1,5 +1,5 @@
 -- The least summaries.
-use Rattle.std.specs.Prelude.{◌≡◌, ◌<◌, ◌≤◌, ◌↔◌, ℕ, List, length, map, Some, slice_get, Contains, IsTrue}
+use Rattle.std.specs.Prelude.{◌≡◌, ◌<◌, ◌≤◌, ◌↔◌, ℕ, List, Option, None, Some, length, map, slice_get, Contains, IsTrue}
 use Rattle.twe_base.specs.Language.{max_effects}
 use Rattle.effect_sets.specs.declared.effects.Effect.{Effect}
 use Rattle.effect_sets.specs.declared.effects.Summary.{Summary}
@@ -35,6 +35,16 @@ HasTooMany p m =
 pub record AreLeast (p : Program) (summaries : List Summary) : Type 0 where
   pub one_each : length summaries ≡ length p.methods
   pub least : (m : ℕ) (summary : Summary) → slice_get summaries m ≡ Some summary → IsLeast p m summary
+
+-- this is the method's least summary; or there is none, since it would have more than 8 effects
+abbrev pub IsLeastIfFew : Program → ℕ → Option Summary → Type 0
+IsLeastIfFew p m (Some summary) = IsLeast p m summary
+IsLeastIfFew p m None = HasTooMany p m
+
+-- a least summary for each method that has one
+pub record AreEachLeast (p : Program) (each : List (Option Summary)) : Type 0 where
+  pub one_each : length each ≡ length p.methods
+  pub least : (m : ℕ) (its : Option Summary) → slice_get each m ≡ Some its → IsLeastIfFew p m its
 
 -- with every choice of summaries that the rule on methods accepts, each of these effects is covered by the chosen summary
 -- of its method

@@ -4,6 +4,6 @@ pub mod Kept
 pub mod Spread
 pub mod Crowded
 pub mod Covered
-pub mod Table
 pub mod Inferred
+pub mod Table
 pub mod needs

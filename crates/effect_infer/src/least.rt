@@ -1,9 +1,10 @@
 //! The least summaries of a program's methods.
-ghost use Rattle.std.specs.Prelude.{◌≡◌, ◌<◌, ◌^◌, length, IfErr, IfOk};
+ghost use Rattle.std.specs.Prelude.{◌≡◌, ◌<◌, ◌^◌, length, map, List, Some, IfErr, IfOk};
+ghost use Rattle.effect_sets.specs.declared.effects.Summary.{Summary};
 ghost use Rattle.twe_program.specs.WellFormed.{IsWellFormed};
 ghost use Rattle.effect_infer.specs.needs.Choices.{NoMethodFails, NoRuleFails, with_summaries};
 ghost use Rattle.effect_infer.specs.Covered.{HasFoundAll};
-ghost use Rattle.effect_infer.specs.Inferred.{AreCoveredByAll, AreLeast, InferHasCause};
+ghost use Rattle.effect_infer.specs.Inferred.{AreCoveredByAll, AreEachLeast, AreLeast, InferHasCause};
 ghost use Rattle.effect_infer.specs.Table.{IsWidestTable};
 
 use crate::fail::InferFail;
@@ -11,7 +12,7 @@ use crate::found::AllFound;
 use crate::gather::gather;
 use crate::keep::{Table, keep_widest};
 use crate::spread::spread;
-use crate::summary::{Needs, summaries};
+use crate::summary::{EachNeeds, Needs, each_summary, summaries};
 use std::alloc::Global;
 use twe_base::Memory;
 use twe_program::Prog;
@@ -54,4 +55,18 @@ pub fn infer(alloc: Global, p: &Prog) -> Result<Needs, InferFail>
 {
     let table = widest(alloc, p)?;
     summaries(alloc, &table)
+}
+
+/// The least summary of each method, or `None` for one whose least summary would have more than 8 effects: the others have
+/// theirs then, too. If every method has one, what `infer` promises holds of them.
+pub fn infer_each(alloc: Global, p: &Prog) -> Result<EachNeeds, Memory>
+    ensures least { IfOk result (AreEachLeast p.now) }
+    ensures accepted { IfOk result (λ each. (all : List Summary) → each ≡ map Some all
+        → NoMethodFails (with_summaries all p.now)) }
+    ensures stays { IfOk result (λ each. (all : List Summary) → each ≡ map Some all
+        → NoRuleFails p.now → NoRuleFails (with_summaries all p.now)) }
+    ensures covered { IfOk result (λ each. (all : List Summary) → each ≡ map Some all → AreCoveredByAll p.now all) }
+{
+    let table = widest(alloc, p)?;
+    each_summary(alloc, &table)
 }

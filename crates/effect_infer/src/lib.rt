@@ -23,5 +23,5 @@ mod summary;
 mod widen;
 
 pub use fail::InferFail;
-pub use least::infer;
-pub use summary::Needs;
+pub use least::{infer, infer_each};
+pub use summary::{EachNeeds, Needs};

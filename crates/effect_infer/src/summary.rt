@@ -2,7 +2,7 @@
 ghost use Rattle.std.specs.Prelude.{◌≡◌, ◌<◌, ◌^◌, length, map, IfOk, IfErr};
 ghost use Rattle.effect_infer.specs.needs.Needs.{effect_of};
 ghost use Rattle.effect_infer.specs.Inferred.{summary_of};
-ghost use Rattle.effect_infer.specs.Table.{AreFew, IsFirstLong};
+ghost use Rattle.effect_infer.specs.Table.{AreFew, IsFirstLong, few_summary_of};
 
 use crate::fail::InferFail;
 use crate::keep::{Table, Widest};
@@ -18,6 +18,9 @@ const MAX_EFFECTS: usize = 8;
 
 /// For each method of a program a summary.
 pub type Needs = List<Summary>;
+
+/// For each method of a program a summary, if it has few effects enough.
+pub type EachNeeds = List<Option<Summary>>;
 
 /// A need, as an effect of a summary.
 fn effect(alloc: Global, need: &Need) -> Result<Effect, Memory>
@@ -56,4 +59,25 @@ pub(crate) fn summaries(alloc: Global, table: &Table) -> Result<Needs, InferFail
         needs.push(summary(alloc, widest)?)?;
     }
     Ok(needs)
+}
+
+/// The summary that these needs make, if they are few enough.
+fn few_summary(alloc: Global, needs: &Widest) -> Result<Option<Summary>, Memory>
+    ensures { IfOk result (λ made. made ≡ few_summary_of needs.now) }
+{
+    if needs.len() > MAX_EFFECTS {
+        return Ok(None);
+    }
+    Ok(Some(summary(alloc, needs)?))
+}
+
+/// The summaries that these needs make, each if its needs are few enough.
+pub(crate) fn each_summary(alloc: Global, table: &Table) -> Result<EachNeeds, Memory>
+    ensures { IfOk result (λ each. each ≡ map few_summary_of table.now) }
+{
+    let mut each = EachNeeds::new(alloc);
+    for widest in table.as_slice() {
+        each.push(few_summary(alloc, widest)?)?;
+    }
+    Ok(each)
 }

@@ -1,4 +1,6 @@
-pub mod Words
-pub mod Texts
-pub mod Answers
 pub mod Verdicts
+pub mod Texts
+pub mod Kept
+pub mod Compared
+pub mod Words
+pub mod Answers

@@ -1,12 +1,17 @@
-//! `twe_annotate`: what the summaries of a TWEJava program say of its tasks. It reads the text of a program from standard
-//! input.
+//! `twe_annotate`: what the summaries of a TWEJava program say of its tasks, and the program with the least summaries of its
+//! methods. It reads the text of a program from standard input.
 #![tactic(auto)]
 
+mod answering;
+mod comparing;
+mod kept;
 mod laws;
 mod lines;
+mod program;
 mod text;
 mod top;
 mod words;
+mod writing;
 
 use std::process::ExitCode;
 use top::annotate_top;

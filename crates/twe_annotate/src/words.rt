@@ -9,14 +9,23 @@ use twe_base::Word;
 pub enum Request {
     /// A line for each two tasks.
     Matrix,
+    /// The text with the least summaries of its methods.
+    Write,
+    /// A line for each method and each task that declares more than it needs.
+    Compare,
 }
 
 /// What a word asks for, if it asks for something.
 fn request_of(word: &Word) -> Option<Request>
     ensures { result ≡ request_of word.now }
 {
-    if word.as_bytes() == b"matrix".as_slice() {
+    let word = word.as_bytes();
+    if word == b"matrix".as_slice() {
         Some(Request::Matrix)
+    } else if word == b"write".as_slice() {
+        Some(Request::Write)
+    } else if word == b"compare".as_slice() {
+        Some(Request::Compare)
     } else {
         None
     }

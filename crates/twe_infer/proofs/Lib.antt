@@ -1,8 +1,1 @@
-pub mod Ascending
-pub mod Blanks
-pub mod Inserting
 pub mod OneAnswer
-pub mod OneLine
-pub mod Ordering
-pub mod SameEffects
-pub mod SameTree

@@ -16,17 +16,17 @@ use Rattle.twe_frontend.specs.declared.refusal.Refusal.{Refusal}
 use Rattle.twe_frontend.specs.Accepted.{IsRefusal}
 use Rattle.effect_infer.specs.declared.fail.InferFail.TheVariants as fails
 use Rattle.effect_infer.specs.Inferred.{AreLeast, HasTooMany, InferHasCause, IsLeast}
-use Rattle.twe_base.proofs.Members.{contains-in, in-contains}
 use Rattle.twe_report.specs.Texts.{refusal_text}
 use Rattle.twe_io.specs.declared.answer.Answer.{Answer}
 use Rattle.twe_io.specs.Answers.{on_err, on_out}
 use Rattle.twe_io.specs.declared.status.Status.TheVariants.{Done, Refused, TooMany}
 use Rattle.twe_infer.specs.Answers.{InferDue}
 use Rattle.text_meaning.specs.Meaning.{IsRefusedBefore, TextMeans}
-use Rattle.twe_infer.specs.Order.{Ascend, summary_paths_of}
-use Rattle.twe_infer.specs.Texts.{clauses_text, summary_lines_of, too_many_text}
-use Rattle.twe_infer.proofs.OneLine.{clause-ascends, no-more, one-clause}
-use Rattle.twe_infer.proofs.SameTree.{OneTree, same_tree}
+use Rattle.summary_texts.specs.Order.{summary_paths_of}
+use Rattle.summary_texts.specs.Texts.{clauses_text}
+use Rattle.twe_infer.specs.Texts.{summary_lines_of, too_many_text}
+use Rattle.summary_texts.proofs.OneLine.{not-least, same-clause}
+use Rattle.summary_texts.proofs.SameTree.{OneTree, same_tree}
 
 -- The refusal, and the meaning of a text.
 
@@ -43,18 +43,6 @@ same-program : (text : List ℕ) (tree other : Ast) (p q : Program) → tree ≡
 same-program text tree other p q same means also = means.meaning ∙ ap program_of same ∙ sym also.meaning
 
 -- The lines of least summaries.
-
--- two least summaries of one method have the same paths
-pub same-clause : (p : Program) (m : ℕ) (one other : Summary) (write : Bool) → IsLeast p m one → IsLeast p m other → summary_paths_of write one.effects ≡ summary_paths_of write other.effects
-same-clause p m one other write least also =
-    ap (λ (s : Summary). summary_paths_of write s.effects) least.3
-    ∙ one-clause write least.0 also.0 least.1.once also.1.once
-    (λ need there. contains-in also.0 need ((also.1.exact need).1 ((least.1.exact need).0 (in-contains least.0 need there))))
-    (λ need there. contains-in least.0 need ((least.1.exact need).1 ((also.1.exact need).0 (in-contains also.0 need there))))
-    ∙ sym (ap (λ (s : Summary). summary_paths_of write s.effects) also.3)
-
-pub summary-ascends : (p : Program) (m : ℕ) (summary : Summary) (write : Bool) → IsLeast p m summary → Ascend (summary_paths_of write summary.effects)
-summary-ascends p m summary write least = subst (λ (s : Summary). Ascend (summary_paths_of write s.effects)) (sym least.3) (clause-ascends write least.0 least.1.once)
 
 -- the same paths
 abbrev pub SameClauses : Summary → Summary → Type 0
@@ -91,12 +79,6 @@ least-lines p one other regions items least also =
     (all-same one other (least.one_each ∙ sym also.one_each) (λ m summary its e f write. same-clause p m summary its write (least.least m summary e) (also.least m its f)))
 
 -- Too many effects.
-
--- a method has a least summary or too many effects, not both
-not-least : (p : Program) (m : ℕ) (summary : Summary) → HasTooMany p m → IsLeast p m summary → ⊥
-not-least p m summary many least =
-    let fewer = no-more many.0 least.0 many.1 (λ need there. contains-in least.0 need ((least.1.exact need).1 (many.3 need (in-contains many.0 need there)))) in
-    omega (arith, fewer, many.2, least.2)
 
 -- there is one first method with too many
 same-method : (p : Program) (m n : ℕ) → InferHasCause p (fails.TooMany m) → InferHasCause p (fails.TooMany n) → m ≡ n

@@ -1,4 +1,2 @@
-pub mod Order
 pub mod Texts
-pub mod Pasting
 pub mod Answers

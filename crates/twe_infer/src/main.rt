@@ -4,7 +4,6 @@
 
 mod answering;
 mod laws;
-mod order;
 mod program;
 mod text;
 mod top;

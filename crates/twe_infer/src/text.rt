@@ -1,77 +1,13 @@
 //! The lines that are written.
-ghost use Rattle.std.specs.Prelude.{◌≡◌, ◌∷◌, [], ◌++◌, IfOk, OnOk};
-ghost use Rattle.text_meaning.specs.PathTexts.{path_text};
-ghost use Rattle.twe_infer.specs.Texts.{clauses_text, line_of, summary_lines_of, more_paths, paths_text, summary_text};
+ghost use Rattle.std.specs.Prelude.{◌≡◌, ◌++◌, IfOk, OnOk};
+ghost use Rattle.twe_infer.specs.Texts.{line_of, summary_lines_of};
 ghost use Rattle.twe_infer.specs.Texts as texts;
 
-use crate::order::paths_of;
 use effect_sets::Summary;
-use region_paths::Elems;
 use std::alloc::Global;
-use text_meaning::push_path;
-use twe_ast::{Decl, Item, Name};
+use summary_texts::push_summary;
+use twe_ast::{Decl, Item};
 use twe_base::{Bytes, Memory, Word};
-
-/// Appends paths, with `, ` between them.
-fn push_paths(
-    text: &mut Bytes,
-    regions: &[Word],
-    params: &[Name],
-    paths: &[Elems],
-) -> Result<(), Memory>
-    ensures { OnOk result (text.new ≡ text.old ++ paths_text regions.now params.now paths.now) }
-{
-    let Some((first, others)) = paths.split_first() else {
-        return Ok(());
-    };
-    push_path(text, regions, params, first.as_slice())?;
-    push_more_paths(text, regions, params, others)
-}
-
-/// Appends paths, each after `, `.
-fn push_more_paths(
-    text: &mut Bytes,
-    regions: &[Word],
-    params: &[Name],
-    paths: &[Elems],
-) -> Result<(), Memory>
-    ensures { OnOk result (text.new ≡ text.old ++ more_paths regions.now params.now paths.now) }
-{
-    for path in paths {
-        text.push_all(b", ")?;
-        push_path(text, regions, params, path.as_slice())?;
-    }
-    Ok(())
-}
-
-/// Appends `pure`, or the clauses of the paths that are only read and of those that are written.
-fn push_clauses(
-    text: &mut Bytes,
-    regions: &[Word],
-    params: &[Name],
-    reads: &[Elems],
-    writes: &[Elems],
-) -> Result<(), Memory>
-    ensures { OnOk result (text.new ≡ text.old ++ clauses_text regions.now params.now reads.now writes.now) }
-{
-    match (reads, writes) {
-        ([], []) => text.push_all(b"pure"),
-        (_, []) => {
-            text.push_all(b"reads ")?;
-            push_paths(text, regions, params, reads)
-        }
-        ([], _) => {
-            text.push_all(b"writes ")?;
-            push_paths(text, regions, params, writes)
-        }
-        (_, _) => {
-            text.push_all(b"reads ")?;
-            push_paths(text, regions, params, reads)?;
-            text.push_all(b" writes ")?;
-            push_paths(text, regions, params, writes)
-        }
-    }
-}
 
 /// Appends the line of a method.
 fn push_line(
@@ -83,12 +19,9 @@ fn push_line(
 ) -> Result<(), Memory>
     ensures { OnOk result (text.new ≡ text.old ++ line_of decl.now.name.text regions.now decl.now.params summary.now) }
 {
-    let reads = paths_of(alloc, summary, false)?;
-    let writes = paths_of(alloc, summary, true)?;
-    let params = decl.params.as_slice();
     text.push_all(decl.name.text.as_bytes())?;
     text.push_all(b": ")?;
-    push_clauses(text, regions, params, reads.as_slice(), writes.as_slice())?;
+    push_summary(text, alloc, regions, decl.params.as_slice(), summary)?;
     text.push(b'\n')
 }
 

@@ -28,7 +28,7 @@ abbrev pub bare_act : Act → Act
 bare_act act = record { point = act.point; kind = bare_kind act.kind }
 
 -- what the rules see of an expression has no place
-same_element : (e : Expression) → element_of_index (bare_expression e) ≡ element_of_index e
+pub same_element : (e : Expression) → element_of_index (bare_expression e) ≡ element_of_index e
 same_element (Literal value) = refl
 same_element (Truth value) = refl
 same_element (Variable var true) = refl
@@ -41,13 +41,13 @@ same_element (Negative operand) = refl
 same_element (Negation operand) = refl
 same_element (Binary op left right place) = refl
 
-same_elements : (es : Arguments) → elements_of (bare_arguments es) ≡ elements_of es
+pub same_elements : (es : Arguments) → elements_of (bare_arguments es) ≡ elements_of es
 same_elements args.no_more = refl
 same_elements (argument first others) =
     ap (λ (e : Elem). e ∷ elements_of (bare_arguments others)) (same_element first) ∙ ap (λ (es : List Elem). element_of_index first ∷ es) (same_elements others)
 
 -- nor have the paths of cells and the effects of declarations
-same_cell : (cells : List CellDecl) (n : ℕ) → elements_from (slice_get (map placeless_cell cells) n) ≡ elements_from (slice_get cells n)
+pub same_cell : (cells : List CellDecl) (n : ℕ) → elements_from (slice_get (map placeless_cell cells) n) ≡ elements_from (slice_get cells n)
 same_cell [] n = refl
 same_cell (cell ∷ cells) zero = refl
 same_cell (cell ∷ cells) (suc n) = same_cell cells n

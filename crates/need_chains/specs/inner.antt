@@ -1,0 +1,3 @@
+pub mod Standing
+pub mod Search
+pub mod Walking

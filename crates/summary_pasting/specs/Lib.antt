@@ -1,0 +1,5 @@
+pub mod Writable
+pub mod News
+pub mod Items
+pub mod Pasted
+pub mod inner

@@ -1,8 +1,0 @@
-use Rattle.std.proofs.Common.{subst}
-use Rattle.twe_frontend.specs.declared.read.FrontFail.{FrontFail}
-use Rattle.text_meaning.specs.Reading.{ReadingHasCause}
-use Rattle.twe_annotate.proofs.top.answer_fail.Goals as goal
-
--- the text is refused
-pub answer_refusal-requires : goal.answer_refusal-requires
-answer_refusal-requires c = subst (λ (fail : FrontFail). ReadingHasCause c.args.text.now fail) c.in-Refused.is c.requires

@@ -1,0 +1,42 @@
+//! The answer if the declared summaries are compared with what is needed.
+ghost use Rattle.std.specs.Prelude.{◌≡◌, IfOk};
+ghost use Rattle.text_meaning.specs.Meaning.{TextMeans};
+ghost use Rattle.twe_annotate.specs.Answers.{AnnotateDue};
+ghost use Rattle.twe_annotate.specs.Compared.{compare_status};
+ghost use Rattle.twe_annotate.specs.declared.words.Request.TheVariants.{Compare};
+
+use std::alloc::Global;
+use summary_comparing::{CompareLines, compare_lines};
+use text_meaning::Meaning;
+use twe_base::Memory;
+use twe_io::{Answer, Status};
+
+/// The status, if these are the lines of declarations that need too many effects.
+fn compare_status(many: &[u8]) -> Status
+    ensures { result ≡ compare_status many.now }
+{
+    match many {
+        [] => Status::Done,
+        [_, ..] => Status::TooMany,
+    }
+}
+
+/// The answer to a text with this meaning: what is declared beside what is needed.
+pub(crate) fn answer_compare(
+    alloc: Global,
+    text: &[u8],
+    meaning: Meaning,
+) -> Result<Answer, Memory>
+    requires { TextMeans text.now meaning.tree meaning.program }
+    ensures { IfOk result (AnnotateDue Compare text.now) }
+{
+    let _ = text;
+    let lines = compare_lines(alloc, &meaning.tree, &meaning.program)?;
+    let CompareLines { wider, many } = lines;
+    let status = compare_status(many.as_slice());
+    Ok(Answer {
+        status,
+        out: wider,
+        err: many,
+    })
+}

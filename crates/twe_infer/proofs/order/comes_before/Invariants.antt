@@ -1,7 +1,0 @@
-use Rattle.std.proofs.Common.{◌≡◌, drop}
-use Rattle.twe_infer.specs.Order.{comes_before}
-use Rattle.twe_infer.proofs.order.comes_before.Given as goal
-
--- what is left decides
-abbrev pub invariant-loop-at : goal.invariant-loop-at
-invariant-loop-at l = comes_before (drop l.at l.first) (drop l.at l.second) ≡ comes_before l.first l.second

@@ -1,7 +1,0 @@
-use Rattle.std.proofs.Common.{◌≡◌, drop}
-use Rattle.twe_infer.specs.Order.{with_paths, summary_paths_of}
-use Rattle.twe_infer.proofs.order.paths_of.Given as goal
-
--- the paths so far, with those of what is left
-abbrev pub invariant-loop-effect : goal.invariant-loop-effect
-invariant-loop-effect l = with_paths l.write l.paths.items (drop l.effect-index l.summary.effects) ≡ summary_paths_of l.write l.summary.effects
