@@ -12,6 +12,7 @@ use Rattle.twe_ast.specs.declared.item.Item.TheVariants.{Regions, Cell, Method, 
 use Rattle.twe_program.specs.Program.{Program}
 use Rattle.twe_io.specs.declared.status.Status.{Status}
 use Rattle.twe_io.specs.declared.status.Status.TheVariants.{Done, TooMany}
+use Rattle.effect_infer.specs.needs.Choices.{NoRuleFails, with_summaries}
 use Rattle.effect_infer.specs.Inferred.{AreEachLeast, AreLeast}
 use Rattle.text_meaning.specs.Meaning.{TextMeans}
 use Rattle.summary_pasting.specs.Pasted.{IsPastedText}
@@ -52,6 +53,10 @@ all-some (summary ∷ all) = all-some all
 
 pub all-done : (all : List Summary) → write_status (map Some all) ≡ Done
 all-done all = if-true (list_all (λ its. is_some its) (map Some all)) Done TooMany (all-some all)
+
+-- what was inferred
+pub are-least-of : (p : Program) (each : List (Option Summary)) → AreEachLeast p each → ((all : List Summary) → each ≡ map Some all → NoRuleFails p → NoRuleFails (with_summaries all p)) → AreLeastOf p each
+are-least-of p each least stays = record { least = least; stays = stays }
 
 -- the answer, by its parts
 pub due-written : (text : List ℕ) (tree : Ast) (p : Program) (each : List (Option Summary)) (status : Status) (out err : List ℕ) → TextMeans text tree p → AreLeastOf p each

@@ -1,5 +1,7 @@
 //! The lines of the methods that keep their clauses.
 ghost use Rattle.std.specs.Prelude.{◌≡◌, ◌++◌, IfOk, OnOk};
+ghost use Rattle.std.specs.List.{list_all};
+ghost use Rattle.std.specs.Option.{is_some};
 ghost use Rattle.twe_report.specs.Texts.{place_text};
 ghost use Rattle.twe_annotate.specs.Kept.{kept_line, kept_lines, named_line, unwritable_line, write_status};
 ghost use Rattle.twe_annotate.specs.Kept as texts;
@@ -83,11 +85,25 @@ pub(crate) fn kept_lines(
     Ok(text)
 }
 
+/// Whether there is a summary.
+fn has_summary(its: &Option<Summary>) -> bool
+    ensures { result ≡ is_some its.now }
+{
+    its.is_some()
+}
+
+/// Whether there is a summary for each method.
+fn have_summaries(each: &[Option<Summary>]) -> bool
+    ensures { result ≡ list_all (λ its. is_some its) each.now }
+{
+    each.iter().all(|its| has_summary(its))
+}
+
 /// The status if the text is written: whether a method would have too many effects.
 pub(crate) fn write_status(each: &[Option<Summary>]) -> Status
     ensures { result ≡ write_status each.now }
 {
-    if each.iter().all(|its| its.is_some()) {
+    if have_summaries(each) {
         Status::Done
     } else {
         Status::TooMany
