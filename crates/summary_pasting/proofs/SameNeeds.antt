@@ -84,11 +84,14 @@ module _ (p : Program) where
 
   from-bare : HaveSameSteps (bare_program p) p
   from-bare m its e =
-      let found = mapped-from placeless_decl p.methods m its e in
-      (found.0, found.1, record {
-        params = ap (λ (d : Decl). d.params) (sym found.2);
-        steps = sym (of-statements p.cells found.0.body.block) ∙ ap (λ (d : Decl). steps_in_all (map placeless_cell p.cells) d.body.block) (sym found.2);
-      })
+      let found = mapped-from placeless_decl p.methods m its e in (
+        found.0,
+        found.1,
+        record {
+          params = ap (λ (d : Decl). d.params) (sym found.2);
+          steps = sym (of-statements p.cells found.0.body.block) ∙ ap (λ (d : Decl). steps_in_all (map placeless_cell p.cells) d.body.block) (sym found.2);
+        },
+      )
 
   to-other : (summaries : List Summary) → HaveSameSteps p (with_summaries summaries p)
   to-other summaries m decl e = let its = other-to summaries p.methods m decl e in (its.0, its.1, with-body p.cells decl its.0 its.2)

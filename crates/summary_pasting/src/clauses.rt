@@ -75,12 +75,7 @@ fn elems_of(
 }
 
 /// A path with these elements.
-fn path_of(
-    alloc: Global,
-    regions: &[Word],
-    params: &[Name],
-    elems: &[Elem],
-) -> Result<Path, Memory>
+fn path_of(alloc: Global, regions: &[Word], params: &[Name], elems: &[Elem]) -> Result<Path, Memory>
     ensures { IfOk result (λ path. path ≡ line_path regions.now params.now elems.now) }
 {
     let elems = elems_of(alloc, regions, params, elems)?;
@@ -136,7 +131,21 @@ pub(crate) fn clauses_of(
     let reads = paths_of(alloc, summary, false)?;
     let writes = paths_of(alloc, summary, true)?;
     let mut clauses = List::new(alloc);
-    push_clause(&mut clauses, alloc, regions, params, false, reads.as_slice())?;
-    push_clause(&mut clauses, alloc, regions, params, true, writes.as_slice())?;
+    push_clause(
+        &mut clauses,
+        alloc,
+        regions,
+        params,
+        false,
+        reads.as_slice(),
+    )?;
+    push_clause(
+        &mut clauses,
+        alloc,
+        regions,
+        params,
+        true,
+        writes.as_slice(),
+    )?;
     Ok(clauses)
 }

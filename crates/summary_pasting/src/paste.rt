@@ -63,11 +63,7 @@ fn read_again(alloc: Global, pasted: &Ast, written: &[u8]) -> Result<(), PasteFa
 }
 
 /// Writes the same summaries into a text once more, and compares what comes out.
-fn write_again(
-    alloc: Global,
-    written: &[u8],
-    news: &[Option<Bytes>],
-) -> Result<(), PasteFail>
+fn write_again(alloc: Global, written: &[u8], news: &[Option<Bytes>]) -> Result<(), PasteFail>
     requires { (rule : SRule) (place : Place) → ¬ Fails written.now rule place }
     ensures settled { OnOk result (HasSummaries news.now written.now written.now) }
     ensures refused { IfErr result (SettledHasCause news.now written.now) }
@@ -81,11 +77,7 @@ fn write_again(
 }
 
 /// The tree with these summaries of its methods.
-fn tree_with(
-    alloc: Global,
-    meaning: Meaning,
-    each: &[Option<Summary>],
-) -> Result<Ast, Memory>
+fn tree_with(alloc: Global, meaning: Meaning, each: &[Option<Summary>]) -> Result<Ast, Memory>
     requires { meaning.program ≡ program_of meaning.tree }
     ensures { IfOk result (λ tree. tree ≡ tree_with each.now meaning.tree) }
 {

@@ -17,11 +17,7 @@ use twe_io::{Answer, Status};
 use twe_report::refusal_text;
 
 /// The answer to a text.
-pub(crate) fn answer_text(
-    alloc: Global,
-    request: Request,
-    text: &[u8],
-) -> Result<Answer, Memory>
+pub(crate) fn answer_text(alloc: Global, request: Request, text: &[u8]) -> Result<Answer, Memory>
     ensures { IfOk result (AnnotateDue request text.now) }
 {
     match read_meaning(alloc, text) {

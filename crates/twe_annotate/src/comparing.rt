@@ -22,11 +22,7 @@ fn compare_status(many: &[u8]) -> Status
 }
 
 /// The answer to a text with this meaning: what is declared beside what is needed.
-pub(crate) fn answer_compare(
-    alloc: Global,
-    text: &[u8],
-    meaning: Meaning,
-) -> Result<Answer, Memory>
+pub(crate) fn answer_compare(alloc: Global, text: &[u8], meaning: Meaning) -> Result<Answer, Memory>
     requires { TextMeans text.now meaning.tree meaning.program }
     ensures { IfOk result (AnnotateDue Compare text.now) }
 {
