@@ -55,8 +55,8 @@ pub fn written_texts_stay_accepted()
     pasted_texts_stay_accepted();
 }
 
-/// Let each method of a text have a least summary that a text can have. If what is written is the text that is read next, the same
-/// bytes are written.
+/// Let each method of a text have a least summary that a text can have. If what is written is read next, the same bytes are
+/// written.
 pub fn written_texts_do_not_change()
     ensures { (text bytes twice : List ℕ) (tree its : Ast) (p q : Program) (all : List Summary)
         (each : List (Option Summary)) → TextMeans text tree p
