@@ -11,5 +11,5 @@ pub returns : goal.returns
 returns c =
     let lines = c.in_ok-lines.lines in
     subst (λ (status : Status). AnnotateDue Compare c.args.text.now (record { status = status; out = lines.wider; err = lines.many }))
-    (sym (c.compare_status.ensures ∙ ap compare_status c.as_slice.ensures))
+    (sym (c.compare_status-status.ensures ∙ ap compare_status c.as_slice.ensures))
     (AnnotateDue.compared c.args.meaning.tree c.args.meaning.program lines refl c.requires c.in_ok-lines.ensures)
