@@ -23,8 +23,8 @@ abbrev pub step_places : List Act → List Place
 step_places [] = []
 step_places (act ∷ others) = step_place act.kind ++ step_places others
 
--- The body of the declaration has this step at this place: both have one number, the step among the accesses and calls of the body,
--- and the place among their places.
+-- The body of the declaration has this step at this place: both have one number, the step among the accesses and calls of the
+-- body, and the place among their places.
 pub record HasStepAt (p : Program) (decl : Decl) (step : Step) (place : Place) : Type 0 where
   pub number : ℕ
   pub step_there : slice_get (steps_in_all p.cells decl.body.block) number ≡ Some step

@@ -13,8 +13,8 @@ ghost use Rattle.effect_infer.specs.needs.Needs.{IsNeed, effect_of};
 ghost use Rattle.need_chains.specs.Chains.{LeadsToNeed};
 ghost use Rattle.need_chains.specs.Placed.{HasStepAt};
 
-/// At the place of a step the body does what the rules on effects see there: it accesses what the step accesses, or it calls a method
-/// with the effects of the summary of the method that the step calls.
+/// At the place of a step the body does what the rules on effects see there: it accesses what the step accesses, or it calls
+/// a method with the effects of the summary of the method that the step calls.
 pub fn steps_are_at_their_places()
     ensures access { (p : Program) (decl : Decl) (need : Need) (place : Place) → HasStepAt p decl (Touch need) place
         → (point : ℕ) × Does p decl point (acts.Touch (effect_of need) place) }

@@ -144,8 +144,8 @@ fn matching_step(values: &[Option<Elem>], target: &Need, steps: &[Step]) -> Opti
     None
 }
 
-/// Looks at the accesses of the state at this place. If none stands for what is looked for, the states are added in which its method
-/// calls others.
+/// Looks at the accesses of the state at this place. If none stands for what is looked for, the states are added in which its
+/// method calls others.
 fn look_at(
     states: &mut States,
     seen: &mut StatesSeen,

@@ -81,8 +81,9 @@ comparison_lines regions items methods tasks = record {
   many = decl_texts many_text items methods tasks;
 }
 
--- These are the lines of the program that the tree means: each method and each task is compared with what it needs, where a method
--- counts for those that call it with its least summary or, if that would have more than 8 effects, with the declared one.
+-- These are the lines of the program that the tree means: each method and each task is compared with what it needs, where a
+-- method counts for those that call it with its least summary or, if that would have more than 8 effects, with the declared
+-- one.
 pub record AreCompareLines (tree : Ast) (p : Program) (lines : CompareLines) : Type 0 where
   pub summaries : List Summary
   pub counted : AreCountedWith p summaries

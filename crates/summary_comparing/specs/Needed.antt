@@ -49,7 +49,8 @@ said_needs summaries params step = map (said_effect params) (step_needs summarie
 abbrev pub body_needs : Program → List Summary → Decl → List Effect
 body_needs p summaries decl = flat_map (said_needs summaries decl.params) (steps_in_all p.cells decl.body.block)
 
--- What a spawn needs: the effects that the spawned task declares. A task that is made by `executeLater` needs nothing of its maker.
+-- What a spawn needs: the effects that the spawned task declares. A task that is made by `executeLater` needs nothing of its
+-- maker.
 abbrev pub spawn_needs : ActKind → List Effect
 spawn_needs (acts.Touch effect place) = []
 spawn_needs (acts.Call effects place) = []

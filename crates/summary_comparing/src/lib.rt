@@ -1,7 +1,8 @@
 //! What methods and tasks declare beside what they need.
 //!
-//! A body needs what it reads and writes, what the methods need that it calls, and what the tasks declare that it spawns. A declared
-//! summary is compared with the widest of these needs: it may have effects that nothing needs, and effects that could be smaller.
+//! A body needs what it reads and writes, what the methods need that it calls, and what the tasks declare that it spawns. A
+//! declared summary is compared with the widest of these needs: it may have effects that nothing needs, and effects that
+//! could be smaller.
 #![tactic(auto)]
 
 mod comparing;

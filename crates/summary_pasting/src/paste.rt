@@ -87,9 +87,9 @@ fn tree_with(alloc: Global, meaning: Meaning, each: &[Option<Summary>]) -> Resul
     Ok(Ast { items, end })
 }
 
-/// The text with these summaries in the place of those of its methods, in the order of the text. A method keeps its own if there
-/// is none for it, or if a text cannot have it: with a negative literal, with a path of more than 32 elements, or with more than 8
-/// effects. A comment in a summary that is replaced stays behind the new one; all other bytes stay as they are.
+/// The text with these summaries in the place of those of its methods, in the order of the text. A method keeps its own if
+/// there is none for it, or if a text cannot have it: with a negative literal, with a path of more than 32 elements, or with
+/// more than 8 effects. A comment in a summary that is replaced stays behind the new one; all other bytes stay as they are.
 ///
 /// The text that is written was read again: its tree is printed as that of the text with these summaries. With the same
 /// summaries written into it once more it stays as it is. It fails if this text would have more bytes than a text may have, if it

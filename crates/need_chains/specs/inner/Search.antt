@@ -99,4 +99,5 @@ IsFoundAt bodies target states at step =
 -- where such an access is found, the place of a state and the number of a step; if there is none, all states are done with
 abbrev pub SearchEnds : List BodySteps → Need → List State → Option (ℕ × ℕ) → Type 0
 SearchEnds bodies target states (Some found) = IsFoundAt bodies target states found.0 found.1
-SearchEnds bodies target states None = (at : ℕ) (state : State) → slice_get states at ≡ Some state → IsDoneWith bodies target states state
+SearchEnds bodies target states None =
+    (at : ℕ) (state : State) → slice_get states at ≡ Some state → IsDoneWith bodies target states state
