@@ -1,8 +1,8 @@
 -- Equalities that are solved can hold together, and those that are not cannot.
-use Rattle.std.proofs.Common.{◌≡◌, ◌⊎◌, ℤ, pos, Bool, true, false, not, List, [], ◌∷◌, ◌++◌, if◌then◌else◌, inl, inr, refl, sym, ap, ◌∙◌, subst, eqb-true, eq-eqb, append_assoc, append-nil}
-use Rattle.std.specs.Prelude.{◌&&◌}
-use Rattle.std.specs.List.{list_all}
-use Rattle.std.proofs.lemmas.Bool.{false≢true, and_parts, and_from, and_cases}
+use Rattle.std.proofs.Common.{◌≡◌, ◌⊎◌, ℤ, pos, Bool, true, false, not, List, [], ◌∷◌, ◌++◌, if◌then◌else◌, inl, inr, refl, sym, ap, ◌∙◌, subst, int_eq, eqb-true, eq-eqb, append_assoc, append-nil}
+use Rattle.std.specs.Prelude.{◌&&◌, ◌||◌}
+use Rattle.std.specs.List.{list_all, list_any}
+use Rattle.std.proofs.lemmas.Bool.{false≢true, and_parts, and_from, and_cases, or_cases}
 use Rattle.std.proofs.lemmas.Bool.Decides.{Decides-int_eq}
 use Rattle.twe_base.proofs.Members.{IsIn, in-list_all, false-not}
 use Rattle.region_paths.specs.Filled.{Valuation}
@@ -11,7 +11,8 @@ use Rattle.task_matrix.specs.declared.equality.Term.TheVariants.{Literal, First,
 use Rattle.task_matrix.specs.declared.equality.Equality.{Equality}
 use Rattle.task_matrix.specs.Equalities.{term_value, equality_holds, equalities_hold, same_term}
 use Rattle.task_matrix.specs.PathEqualities.{equal_terms}
-use Rattle.task_matrix.specs.Solving.{replaced, after_steps, is_literal, can_hold_after, can_hold, telling}
+use Rattle.task_matrix.specs.Solving.{replaced, after_steps, is_literal, can_hold_after, can_hold, same_equality, says_nothing_new, telling_after, telling}
+use Rattle.task_matrix.proofs.Exactness.{all-two}
 
 same-true : (a b : Term) → same_term a b ≡ true → a ≡ b
 same-true (Literal i) (Literal j) h = ap Literal ((Decides-int_eq i j).0 h)
@@ -206,13 +207,67 @@ can-hold es h =
 pub cannot-hold : (es : List Equality) → can_hold es ≡ false → (v w : Valuation) → equalities_hold v w es ≡ true → ⊥
 cannot-hold es h v w holds = never-hold v w [] es h (λ t. refl) holds
 
--- what always holds says nothing
+-- an equality with the same terms holds for the same values
+same-holds : (v w : Valuation) (e f : Equality) → same_equality e f ≡ true → equality_holds v w e ≡ equality_holds v w f
+same-holds v w e f h =
+    let both = and_parts (same_term e.left f.left) (same_term e.right f.right) h in
+    ap (λ (t : Term). int_eq (term_value v w t) (term_value v w e.right)) (same-true e.left f.left both.0)
+    ∙ ap (λ (t : Term). int_eq (term_value v w f.left) (term_value v w t)) (same-true e.right f.right both.1)
+
+-- where all that is said holds, one of it does
+said-holds : (v w : Valuation) (e : Equality) (said : List Equality) → list_any (same_equality e) said ≡ true
+    → equalities_hold v w said ≡ true → equality_holds v w e ≡ true
+said-holds v w e [] among holds = absurd (false≢true among)
+said-holds v w e (f ∷ said) among holds =
+    let both = and_parts (equality_holds v w f) (equalities_hold v w said) holds in
+    elim (or_cases (same_equality e f) (list_any (same_equality e) said) among) [
+      | inl same ↦ same-holds v w e f same ∙ both.0
+      | inr later ↦ said-holds v w e said later both.1
+    ]
+
+-- where all that is said holds, what says nothing new holds
+nothing-new : (v w : Valuation) (said : List Equality) (e : Equality) → says_nothing_new said e ≡ true
+    → equalities_hold v w said ≡ true → equality_holds v w e ≡ true
+nothing-new v w said e h holds = elim (or_cases (same_term e.left e.right) (list_any (same_equality e) said) h) [
+  | inl same ↦ (Decides-int_eq (term_value v w e.left) (term_value v w e.right)).1
+      (ap (term_value v w) (same-true e.left e.right same))
+  | inr among ↦ said-holds v w e said among holds
+]
+
+left-out : (said new told all : Bool) → (said ≡ true → new ≡ true) → (said && told) ≡ (said && all)
+    → (said && told) ≡ (said && (new && all))
+left-out true new told all holds is = is ∙ ap (λ b. b && all) (sym (holds refl))
+left-out false new told all holds is = refl
+
+put-in : (said new told all : Bool) → ((said && (new && true)) && told) ≡ ((said && (new && true)) && all)
+    → (said && (new && told)) ≡ (said && (new && all))
+put-in true true told all is = is
+put-in true false told all is = refl
+put-in false new told all is = refl
+
+-- after what is said, those that say something new hold together exactly where all do
+telling-after : (v w : Valuation) (said es : List Equality)
+    → (equalities_hold v w said && equalities_hold v w (telling_after said es))
+    ≡ (equalities_hold v w said && equalities_hold v w es)
+telling-after v w said [] = refl
+telling-after v w said (e ∷ es) = by-test (λ before. telling-after v w before es) (says_nothing_new said e) refl where
+  by-test : ((before : List Equality) → (equalities_hold v w before && equalities_hold v w (telling_after before es))
+      ≡ (equalities_hold v w before && equalities_hold v w es))
+      → (b : Bool) → says_nothing_new said e ≡ b
+      → (equalities_hold v w said
+      && equalities_hold v w (if b then telling_after said es else e ∷ telling_after (said ++ e ∷ []) es))
+      ≡ (equalities_hold v w said && (equality_holds v w e && equalities_hold v w es))
+  by-test later true h =
+      left-out (equalities_hold v w said) (equality_holds v w e) (equalities_hold v w (telling_after said es))
+      (equalities_hold v w es)
+      (nothing-new v w said e h) (later said)
+  by-test later false h =
+      let more = said ++ e ∷ [] in
+      put-in (equalities_hold v w said) (equality_holds v w e) (equalities_hold v w (telling_after more es))
+      (equalities_hold v w es)
+      (subst (λ (b : Bool). (b && equalities_hold v w (telling_after more es)) ≡ (b && equalities_hold v w es))
+      (all-two v w said (e ∷ [])) (later more))
+
+-- what always holds, and what is said again, says nothing
 pub telling-same : (v w : Valuation) (es : List Equality) → equalities_hold v w (telling es) ≡ equalities_hold v w es
-telling-same v w [] = refl
-telling-same v w (e ∷ es) = by-test (same_term e.left e.right) refl (telling-same v w es) where
-  by-test : (b : Bool) → same_term e.left e.right ≡ b → equalities_hold v w (telling es) ≡ equalities_hold v w es
-      → equalities_hold v w (if not b then e ∷ telling es else telling es) ≡ (equality_holds v w e && equalities_hold v w es)
-  by-test true h later =
-      later
-      ∙ ap (λ b. b && equalities_hold v w es) (sym ((Decides-int_eq (term_value v w e.left) (term_value v w e.right)).1 (ap (term_value v w) (same-true e.left e.right h))))
-  by-test false h later = ap (λ b. equality_holds v w e && b) later
+telling-same v w es = telling-after v w [] es

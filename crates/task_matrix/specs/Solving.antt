@@ -1,6 +1,6 @@
 -- Whether equalities can hold together, by one term in the place of another.
-use Rattle.std.specs.Prelude.{Bool, true, false, not, ◌&&◌, List, [], ◌∷◌, ◌++◌, if◌then◌else◌}
-use Rattle.std.specs.List.{filter}
+use Rattle.std.specs.Prelude.{Bool, true, false, not, ◌&&◌, ◌||◌, List, [], ◌∷◌, ◌++◌, if◌then◌else◌}
+use Rattle.std.specs.List.{list_any}
 use Rattle.task_matrix.specs.declared.equality.Term.{Term}
 use Rattle.task_matrix.specs.declared.equality.Term.TheVariants.{Literal, First, Second}
 use Rattle.task_matrix.specs.declared.equality.Equality.{Equality}
@@ -38,6 +38,22 @@ can_hold_after steps (e ∷ es) =
 abbrev pub can_hold : List Equality → Bool
 can_hold es = can_hold_after [] es
 
--- the equalities but for those that always hold
+-- the equalities have the same terms, in one order
+abbrev pub same_equality : Equality → Equality → Bool
+same_equality e f = same_term e.left f.left && same_term e.right f.right
+
+-- where these equalities are said, another one says nothing new: it always holds, or it is one of them
+abbrev pub says_nothing_new : List Equality → Equality → Bool
+says_nothing_new said e = same_term e.left e.right || list_any (same_equality e) said
+
+-- those of the equalities that say something new after these, each once
+abbrev pub telling_after : List Equality → List Equality → List Equality
+telling_after said [] = []
+telling_after said (e ∷ es) =
+    if says_nothing_new said e
+    then telling_after said es
+    else e ∷ telling_after (said ++ e ∷ []) es
+
+-- the equalities but for those that always hold, each once, where it comes first
 abbrev pub telling : List Equality → List Equality
-telling es = filter (λ e. not (same_term e.left e.right)) es
+telling es = telling_after [] es

@@ -1,6 +1,7 @@
 //! Whether equalities can hold together, by one term in the place of another.
 ghost use Rattle.std.specs.Prelude.{◌≡◌, IfOk};
-ghost use Rattle.task_matrix.specs.Solving.{after_steps, can_hold, is_literal, replaced, telling};
+ghost use Rattle.std.specs.List.{list_any};
+ghost use Rattle.task_matrix.specs.Solving.{after_steps, can_hold, is_literal, replaced, same_equality, says_nothing_new, telling};
 
 use crate::equality::{Equalities, Equality, Term, is_same_term};
 use std::alloc::Global;
@@ -64,13 +65,35 @@ pub(crate) fn can_hold(alloc: Global, equalities: &[Equality]) -> Result<bool, M
     Ok(true)
 }
 
-/// The equalities but for those that always hold.
+/// Whether the equalities have the same terms, in one order.
+fn is_same_equality(equality: Equality, other: Equality) -> bool
+    ensures { result ≡ same_equality equality other }
+{
+    is_same_term(equality.left, other.left) && is_same_term(equality.right, other.right)
+}
+
+/// Whether the equality is one of these.
+fn is_among(said: &[Equality], equality: Equality) -> bool
+    ensures { result ≡ list_any (same_equality equality) said.now }
+{
+    said.iter().any(|other| is_same_equality(equality, *other))
+}
+
+/// Whether the equality says nothing new after these: it always holds, or it is one of them.
+fn says_nothing_new(said: &[Equality], equality: Equality) -> bool
+    ensures { result ≡ says_nothing_new said.now equality }
+{
+    is_same_term(equality.left, equality.right) || is_among(said, equality)
+}
+
+/// The equalities but for those that always hold, each once, where it comes first. There are few of them: a path has at most 32
+/// elements.
 pub(crate) fn telling(alloc: Global, equalities: &[Equality]) -> Result<Equalities, Memory>
     ensures { IfOk result (λ kept. kept ≡ telling equalities.now) }
 {
     let mut kept = Equalities::new(alloc);
     for equality in equalities {
-        if !is_same_term(equality.left, equality.right) {
+        if !says_nothing_new(kept.as_slice(), *equality) {
             kept.push(*equality)?;
         }
     }
