@@ -15,3 +15,4 @@ mod walk;
 pub use bodies::{Bodies, BodySteps, Places, bodies_of, body_of};
 pub use laws::{chains_lead_to_needs, steps_are_at_their_places};
 pub use search::find_chain;
+pub use standing::{same_elem, same_truth};

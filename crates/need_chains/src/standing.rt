@@ -14,7 +14,7 @@ use twe_base::{List, Memory};
 pub(crate) type Values = List<Option<Elem>>;
 
 /// Whether the elements are equal.
-fn same_elem(first: Elem, second: Elem) -> bool
+pub fn same_elem(first: Elem, second: Elem) -> bool
     ensures { result ≡ same_elem first second }
 {
     match (first, second) {
@@ -65,7 +65,7 @@ fn stand_for(values: &[Option<Elem>], elems: &[Elem], targets: &[Elem]) -> bool
 }
 
 /// Whether both are true, or both are false.
-fn same_truth(first: bool, second: bool) -> bool
+pub fn same_truth(first: bool, second: bool) -> bool
     ensures { result ≡ same_truth first second }
 {
     if first { second } else { !second }
