@@ -8,7 +8,7 @@ pub mod Variables
 pub mod Ruled
 pub mod Explanation
 pub mod Tokens
-pub mod Declared
+pub mod Declaring
 pub mod Named
 pub mod Page
 pub mod Answers

@@ -7,7 +7,7 @@ use Rattle.twe_explain.specs.declared.explanation.Explanation.{Explanation}
 use Rattle.twe_explain.specs.Sentences.{asked, wrong}
 use Rattle.twe_explain.specs.Ruled.{note_at}
 use Rattle.twe_explain.specs.Explanation.{explanation_of}
-use Rattle.twe_explain.specs.Declared.{declared_place, word_at}
+use Rattle.twe_explain.specs.Declaring.{declared_place, word_at}
 
 -- `x` is declared here
 abbrev pub declared_caption : List ℕ → List ℕ

@@ -2,7 +2,7 @@
 ghost use Rattle.std.specs.Prelude.{◌≡◌, None, IfOk};
 ghost use Rattle.std.specs.List.{prefix_len};
 ghost use Rattle.twe_lexer.specs.Lexeme.{is_word_byte};
-ghost use Rattle.twe_explain.specs.Declared.{comes_before, decl_before, declared_place, first_of, first_other, first_word, global_place, is_earlier, is_other, last_earlier, local_place, nowhere, place_in, place_of, word_at};
+ghost use Rattle.twe_explain.specs.Declaring.{comes_before, decl_before, declared_place, first_of, first_other, first_word, global_place, is_earlier, is_other, last_earlier, local_place, nowhere, place_in, place_of, word_at};
 
 use crate::line::{after_bytes, first_bytes, line_at};
 use crate::variables::{is_same_place, variables_at};

@@ -43,11 +43,7 @@ fn push_others(text: &mut Bytes, tokens: &[NextToken]) -> Result<(), Memory>
 }
 
 /// What is said of the tokens that may stand at the place.
-fn tokens_remark(
-    alloc: Global,
-    first: NextToken,
-    others: &[NextToken],
-) -> Result<Bytes, Memory>
+fn tokens_remark(alloc: Global, first: NextToken, others: &[NextToken]) -> Result<Bytes, Memory>
     ensures { IfOk result (λ text. text ≡ tokens_remark first others.now) }
 {
     let mut text = Bytes::from_slice(alloc, b"here may stand: ")?;
@@ -66,7 +62,9 @@ pub(crate) fn stray_explanation(
 {
     let mut explanation = explanation_of(alloc, refusal)?;
     if let Some((first, others)) = tokens.split_first() {
-        explanation.remarks.push(tokens_remark(alloc, *first, others)?)?;
+        explanation
+            .remarks
+            .push(tokens_remark(alloc, *first, others)?)?;
     }
     Ok(explanation)
 }

@@ -6,6 +6,9 @@ use Rattle.refusal_causes.proofs.explained.unresolved.Goals as goal
 
 -- a rule of names fails
 pub returns-in-Names : goal.returns-in-Names
-returns-in-Names c =
-    (IsRefusal.of_names c.args.tree c.in-Names.rule c.in-Names.place c.requires.parsed
-    (subst (λ (fail : NameFail). ResolveHasCause c.args.tree fail) c.in-Names.is c.requires.cause), refl, c.requires.parsed)
+returns-in-Names c = (
+  IsRefusal.of_names c.args.tree c.in-Names.rule c.in-Names.place c.requires.parsed
+      (subst (λ (fail : NameFail). ResolveHasCause c.args.tree fail) c.in-Names.is c.requires.cause),
+  refl,
+  c.requires.parsed,
+)

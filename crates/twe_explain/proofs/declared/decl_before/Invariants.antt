@@ -1,5 +1,5 @@
 use Rattle.std.proofs.Common.{◌≡◌, drop}
-use Rattle.twe_explain.specs.Declared.{decl_before, nowhere}
+use Rattle.twe_explain.specs.Declaring.{decl_before, nowhere}
 use Rattle.twe_explain.proofs.declared.decl_before.Given as goal
 
 -- what is found in all of them is found from here on

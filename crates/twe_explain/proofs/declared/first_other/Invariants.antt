@@ -1,5 +1,5 @@
 use Rattle.std.proofs.Common.{◌≡◌, drop}
-use Rattle.twe_explain.specs.Declared.{first_other}
+use Rattle.twe_explain.specs.Declaring.{first_other}
 use Rattle.twe_explain.proofs.declared.first_other.Given as goal
 
 -- what is found in all of them is found from here on

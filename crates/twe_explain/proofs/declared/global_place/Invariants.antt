@@ -1,5 +1,5 @@
 use Rattle.std.proofs.Common.{◌≡◌, drop}
-use Rattle.twe_explain.specs.Declared.{global_place}
+use Rattle.twe_explain.specs.Declaring.{global_place}
 use Rattle.twe_explain.proofs.declared.global_place.Given as goal
 
 -- what is found in all of them is found from here on

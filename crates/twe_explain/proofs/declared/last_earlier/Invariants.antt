@@ -1,5 +1,5 @@
 use Rattle.std.proofs.Common.{◌≡◌, None, drop}
-use Rattle.twe_explain.specs.Declared.{last_earlier}
+use Rattle.twe_explain.specs.Declaring.{last_earlier}
 use Rattle.twe_explain.proofs.declared.last_earlier.Given as goal
 
 -- what is found in all of them is found from here on

@@ -1,4 +1,4 @@
-use Rattle.std.proofs.Common.{refl, sym, subst}
+use Rattle.std.proofs.Common.{Ok, refl, sym, subst}
 use Rattle.twe_io.specs.Ends.{ends, ends_tell, source, sink}
 use Rattle.twe_io.proofs.Answered.{is_answered}
 use Rattle.twe_explain.specs.Answers.{ExplainCause}
@@ -13,4 +13,4 @@ returns g c =
     let cause = ExplainCause src c.args.words.now c.args.src.now c.args.src.now in
     is_answered (ends_tell src out err) (ExplainCause src c.args.words.now)
     (ends c.args.src.now c.args.out.now c.args.err.now) (ends c.args.src.now c.tell.new.out c.tell.new.err)
-    _ c.tell.result (subst cause (sym c.on_out.ensures) (ExplainCause.alone c.args.text c.requires refl)) c.tell.ensures
+    (Ok c.on_out.result) c.tell.result (subst cause (sym c.on_out.ensures) (ExplainCause.alone c.args.text c.requires refl)) c.tell.ensures
