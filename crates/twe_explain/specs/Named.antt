@@ -13,7 +13,7 @@ use Rattle.twe_explain.specs.Declaring.{declared_place, word_at}
 abbrev pub declared_caption : List ℕ → List ℕ
 declared_caption word = 96 ∷ (word ++ codes "` is declared here")
 
--- what is said if the word at the place is declared there, or nowhere
+-- what is said if the word at the place is declared there, or before_all
 abbrev pub declared_explanation : Refusal → List ℕ → Option Place → Explanation
 declared_explanation refusal word None = explanation_of refusal
 declared_explanation refusal word (Some place) = record {

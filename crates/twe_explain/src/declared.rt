@@ -2,7 +2,7 @@
 ghost use Rattle.std.specs.Prelude.{◌≡◌, None, IfOk};
 ghost use Rattle.std.specs.List.{prefix_len};
 ghost use Rattle.twe_lexer.specs.Lexeme.{is_word_byte};
-ghost use Rattle.twe_explain.specs.Declaring.{comes_before, decl_before, declared_place, first_of, first_other, first_word, global_place, is_earlier, is_other, last_earlier, local_place, nowhere, place_in, place_of, word_at};
+ghost use Rattle.twe_explain.specs.Declaring.{stands_before, decl_before, declared_place, first_place, first_other, first_word, global_place, is_earlier, is_elsewhere, last_earlier, local_place, before_all, item_place, name_place, word_at};
 
 use crate::line::{after_bytes, first_bytes, line_at};
 use crate::variables::{is_same_place, variables_at};
@@ -40,8 +40,8 @@ pub(crate) fn word_at(text: &[u8], place: Place) -> &[u8]
 }
 
 /// Whether one place comes before another.
-fn comes_before(place: Place, other: Place) -> bool
-    ensures { result ≡ comes_before place other }
+fn stands_before(place: Place, other: Place) -> bool
+    ensures { result ≡ stands_before place other }
 {
     place.line < other.line || (place.line == other.line && place.col < other.col)
 }
@@ -50,7 +50,7 @@ fn comes_before(place: Place, other: Place) -> bool
 fn is_earlier(word: &[u8], place: Place, name: &Name) -> bool
     ensures { result ≡ is_earlier word.now place name.now }
 {
-    name.text.as_bytes() == word && comes_before(name.place, place)
+    name.text.as_bytes() == word && stands_before(name.place, place)
 }
 
 /// The place of the last of the names that has this text and comes before the place.
@@ -68,13 +68,13 @@ fn last_earlier(word: &[u8], place: Place, names: &[Name]) -> Option<Place>
 
 /// The place of the name of the last method or task that is declared before the place; a place before all others if none is.
 fn decl_before(place: Place, items: &[Item]) -> Place
-    ensures { result ≡ decl_before nowhere place items.now }
+    ensures { result ≡ decl_before before_all place items.now }
 {
     let mut found = Place { line: 0, col: 0 };
     for item in items {
         match item {
             Item::Method(decl) | Item::Task { decl, .. } => {
-                if comes_before(decl.name.place, place) {
+                if stands_before(decl.name.place, place) {
                     found = decl.name.place;
                 }
             }
@@ -98,8 +98,8 @@ fn local_place(
 }
 
 /// Whether the name has this text, and stands elsewhere.
-fn is_other(word: &[u8], place: Place, name: &Name) -> bool
-    ensures { result ≡ is_other word.now place name.now }
+fn is_elsewhere(word: &[u8], place: Place, name: &Name) -> bool
+    ensures { result ≡ is_elsewhere word.now place name.now }
 {
     name.text.as_bytes() == word && !is_same_place(name.place, place)
 }
@@ -109,7 +109,7 @@ fn first_other(word: &[u8], place: Place, names: &[Name]) -> Option<Place>
     ensures { result ≡ first_other word.now place names.now }
 {
     for name in names {
-        if is_other(word, place, name) {
+        if is_elsewhere(word, place, name) {
             return Some(name.place);
         }
     }
@@ -117,8 +117,8 @@ fn first_other(word: &[u8], place: Place, names: &[Name]) -> Option<Place>
 }
 
 /// The first place, if there is one, or else the second.
-fn first_of(place: Option<Place>, other: Option<Place>) -> Option<Place>
-    ensures { result ≡ first_of place other }
+fn first_place(place: Option<Place>, other: Option<Place>) -> Option<Place>
+    ensures { result ≡ first_place place other }
 {
     match place {
         Some(place) => Some(place),
@@ -127,22 +127,22 @@ fn first_of(place: Option<Place>, other: Option<Place>) -> Option<Place>
 }
 
 /// The place of the declaration of a global name with this text, if the item is one and it stands elsewhere.
-fn place_in(word: &[u8], place: Place, item: &Item) -> Option<Place>
-    ensures { result ≡ place_in word.now place item.now }
+fn item_place(word: &[u8], place: Place, item: &Item) -> Option<Place>
+    ensures { result ≡ item_place word.now place item.now }
 {
     match item {
         Item::Regions(names) => first_other(word, place, names.as_slice()),
-        Item::Cell(cell) => place_of(word, place, &cell.name),
-        Item::Method(decl) => place_of(word, place, &decl.name),
-        Item::Task { decl, .. } => place_of(word, place, &decl.name),
+        Item::Cell(cell) => name_place(word, place, &cell.name),
+        Item::Method(decl) => name_place(word, place, &decl.name),
+        Item::Task { decl, .. } => name_place(word, place, &decl.name),
     }
 }
 
 /// The place of the name, if it has this text and stands elsewhere.
-fn place_of(word: &[u8], place: Place, name: &Name) -> Option<Place>
-    ensures { result ≡ place_of word.now place name.now }
+fn name_place(word: &[u8], place: Place, name: &Name) -> Option<Place>
+    ensures { result ≡ name_place word.now place name.now }
 {
-    if is_other(word, place, name) {
+    if is_elsewhere(word, place, name) {
         Some(name.place)
     } else {
         None
@@ -154,7 +154,7 @@ fn global_place(word: &[u8], place: Place, items: &[Item]) -> Option<Place>
     ensures { result ≡ global_place word.now place items.now }
 {
     for item in items {
-        let found = place_in(word, place, item);
+        let found = item_place(word, place, item);
         if found.is_some() {
             return found;
         }
@@ -172,5 +172,5 @@ pub(crate) fn declared_place(
     ensures { IfOk result (λ found. found ≡ declared_place word.now place items.now) }
 {
     let local = local_place(alloc, word, place, items)?;
-    Ok(first_of(local, global_place(word, place, items)))
+    Ok(first_place(local, global_place(word, place, items)))
 }

@@ -52,7 +52,7 @@ fn asked_remarks(alloc: Global, refusal: Refusal) -> Result<List<Bytes>, Memory>
     Ok(remarks)
 }
 
-/// What is said if the word at the place is declared there, or nowhere.
+/// What is said if the word at the place is declared there, or before_all.
 fn declared_explanation(
     alloc: Global,
     refusal: Refusal,
