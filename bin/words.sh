@@ -23,7 +23,7 @@ words_for() {
     twe_annotate) echo ' matrix | write | compare' ;;
     twe_batch) echo ' check | run' ;;
     twe_draw) echo ' [order | trace]' ;;
-    twe_explain) echo ' [--name FILE] [--lines]' ;;
+    twe_explain) echo ' [--name FILE] [--lines] | --help | --version' ;;
     twe_opt) echo ' k' ;;
   esac
 }
@@ -66,11 +66,11 @@ is_command() {
   esac
 }
 
-# Whether the words are `--name FILE` and `--lines`, each at most once.
+# Whether the words are `--name FILE` and `--lines`, each at most once, or `--help` or `--version` alone.
 is_wish() {
   case $# in
     0) true ;;
-    1) [[ $1 == --lines ]] ;;
+    1) [[ $1 == --lines || $1 == --help || $1 == --version ]] ;;
     2) [[ $1 == --name ]] ;;
     3) [[ $1 == --name && $3 == --lines || $1 == --lines && $2 == --name ]] ;;
     *) false ;;

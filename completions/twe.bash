@@ -64,6 +64,7 @@ _twe_explain() {
   COMPREPLY=()
   [[ $current == -* ]] || return
   [[ ${COMP_WORDS[COMP_CWORD - 1]} != --name ]] || return # a name stands here
+  ((COMP_CWORD > 1)) || words+='--help --version ' # these stand alone
   # Each option may be given once.
   for given in "${COMP_WORDS[@]:1:COMP_CWORD-1}"; do
     words=${words/ $given / }

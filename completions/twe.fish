@@ -25,6 +25,8 @@ complete -c twe_draw -f
 complete -c twe_draw -n __fish_use_subcommand -a order -d 'a column for each entry'
 complete -c twe_draw -n __fish_use_subcommand -a trace -d 'the events of a trace'
 complete -c twe_explain -f
+complete -c twe_explain -n 'test (count (commandline -opc)) -eq 1' -l help -d 'what the program does'
+complete -c twe_explain -n 'test (count (commandline -opc)) -eq 1' -l version -d 'the version'
 complete -c twe_explain -n 'not __fish_contains_opt name' -l name -x -d 'the name that is shown before places'
 complete -c twe_explain -n 'not __fish_contains_opt lines' -l lines -d 'one line for each note, for editors'
 complete -c twe_infer -f

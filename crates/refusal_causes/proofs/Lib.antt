@@ -6,3 +6,5 @@ pub mod Joins
 pub mod Complete
 -- The steps of the searches.
 pub mod Loops
+-- One token more that is tried.
+pub mod Following

@@ -1,14 +1,18 @@
 -- What is known of a text.
-use Rattle.std.specs.Prelude.{◌≡◌, ℕ, List}
+use Rattle.std.specs.Prelude.{◌≡◌, ℕ, Bool, true, false, List}
 use Rattle.twe_ast.specs.declared.item.Ast.{Ast}
 use Rattle.twe_program.specs.Program.{Program}
 use Rattle.twe_names.specs.Meaning.{program_of}
+use Rattle.twe_parser.specs.declared.fail.SRule.TheVariants.{S1, S2, S3, S4, S5, S6}
 use Rattle.twe_frontend.specs.declared.refusal.Refusal.{Refusal}
+use Rattle.twe_frontend.specs.declared.refusal.RuleName.{RuleName}
+use Rattle.twe_frontend.specs.declared.refusal.RuleName.TheVariants.{Text, Name, Effect}
 use Rattle.twe_frontend.specs.Accepted.{Accepted, IsMeaningOf, IsRefusal, IsTreeOf}
 use Rattle.refusal_causes.specs.declared.cause.RuleCause.{RuleCause}
 use Rattle.refusal_causes.specs.declared.explained.Explained.{Explained}
-use Rattle.refusal_causes.specs.declared.explained.Explained.TheVariants.{Kept, Early, Late}
+use Rattle.refusal_causes.specs.declared.explained.Explained.TheVariants.{Kept, Early, Stray, Named, Late}
 use Rattle.refusal_causes.specs.Causes.{IsCauseOf}
+use Rattle.refusal_causes.specs.NextTokens.{AreNextAt}
 
 -- this is the refusal of the text, which has this tree and means this program, and the cause is true of it
 pub record IsCausedBy (text : List ℕ) (refusal : Refusal) (cause : RuleCause) (tree : Ast) (p : Program) : Type 0 where
@@ -18,8 +22,29 @@ pub record IsCausedBy (text : List ℕ) (refusal : Refusal) (cause : RuleCause) 
   pub of_tree : p ≡ program_of tree
   pub caused : IsCauseOf p refusal.rule refusal.place cause
 
+-- the rule is the one of stray tokens, or that of texts that end too early
+abbrev pub is_of_tokens : RuleName → Bool
+is_of_tokens (Text S1) = false
+is_of_tokens (Text S2) = true
+is_of_tokens (Text S3) = true
+is_of_tokens (Text S4) = false
+is_of_tokens (Text S5) = false
+is_of_tokens (Text S6) = false
+is_of_tokens (Name rule) = false
+is_of_tokens (Effect rule) = false
+
+-- the rule is one of names
+abbrev pub is_of_names : RuleName → Bool
+is_of_names (Text rule) = false
+is_of_names (Name rule) = true
+is_of_names (Effect rule) = false
+
 -- the text is accepted, or this is its refusal
 abbrev pub IsExplained : List ℕ → Explained → Type 0
 IsExplained text Kept = (p : Program) × Accepted text p
-IsExplained text (Early refusal) = IsRefusal text refusal
+IsExplained text (Early refusal) =
+    IsRefusal text refusal × (is_of_tokens refusal.rule ≡ false) × (is_of_names refusal.rule ≡ false)
+IsExplained text (Stray refusal tokens) =
+    IsRefusal text refusal × (is_of_tokens refusal.rule ≡ true) × AreNextAt text refusal.place tokens
+IsExplained text (Named refusal tree) = IsRefusal text refusal × (is_of_names refusal.rule ≡ true) × IsTreeOf text tree
 IsExplained text (Late refusal cause tree p) = IsCausedBy text refusal cause tree p

@@ -1,5 +1,6 @@
 pub mod Seeking
 pub mod Causes
 pub mod Barring
+pub mod NextTokens
 pub mod Explained
 pub mod inner

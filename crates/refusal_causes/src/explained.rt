@@ -1,12 +1,13 @@
 //! From a text to its acceptance, or to its refusal with the cause.
 ghost use Rattle.std.specs.Prelude.{◌≡◌, ◌+◌, ◌<◌, ◌^◌, length, IfOk};
-ghost use Rattle.refusal_causes.specs.Explained.{IsExplained};
+ghost use Rattle.refusal_causes.specs.Explained.{IsExplained, is_of_tokens};
 ghost use Rattle.twe_names.specs.Meaning.{program_of};
 ghost use Rattle.twe_names.specs.Resolves.{ResolveHasCause};
 ghost use Rattle.twe_frontend.specs.Accepted.{IsMeaningOf, IsTreeOf};
-ghost use Rattle.twe_frontend.specs.Reads.{TreeHasCause};
+ghost use Rattle.twe_frontend.specs.Reads.{IsTextFailure, TreeHasCause};
 
 use crate::cause::RuleCause;
+use crate::next_tokens::{NextTokens, next_tokens};
 use crate::searching::cause_at;
 use effect_check::{CheckFail, check};
 use std::alloc::Global;
@@ -14,6 +15,7 @@ use twe_ast::Ast;
 use twe_base::Memory;
 use twe_frontend::{FrontFail, Refusal, RuleName, parsed_trees_are_from_texts, read_tree};
 use twe_names::{NameFail, resolve};
+use twe_parser::SRule;
 use twe_program::Prog;
 
 /// What is known of a text.
@@ -21,8 +23,22 @@ use twe_program::Prog;
 pub enum Explained {
     /// It is accepted.
     Kept,
-    /// It is refused by a rule of the text or of names.
+    /// It is refused by a rule of the text that is none of tokens.
     Early(Refusal),
+    /// It is refused at a token that may not stand at its place, or at its end, which comes too early.
+    Stray {
+        /// The refusal.
+        refusal: Refusal,
+        /// The tokens that may stand at its place.
+        tokens: NextTokens,
+    },
+    /// It is refused by a rule of names.
+    Named {
+        /// The refusal.
+        refusal: Refusal,
+        /// The tree of the text.
+        tree: Ast,
+    },
     /// It is refused by a rule on effects.
     Late {
         /// The refusal.
@@ -69,17 +85,17 @@ fn explain_program(
 }
 
 /// What is known of a text that has this tree, of which a rule of names fails.
-fn unresolved(text: &[u8], tree: &Ast, fail: NameFail) -> Result<Explained, Memory>
-    requires parsed { IsTreeOf text.now tree.now }
-    requires cause { ResolveHasCause tree.now fail }
+fn unresolved(text: &[u8], tree: Ast, fail: NameFail) -> Result<Explained, Memory>
+    requires parsed { IsTreeOf text.now tree }
+    requires cause { ResolveHasCause tree fail }
     ensures { IfOk result (IsExplained text.now) }
 {
     let _ = text;
-    let _ = tree;
     match fail {
         NameFail::Names { rule, place } => {
             let rule = RuleName::Name(rule);
-            Ok(Explained::Early(Refusal { rule, place }))
+            let refusal = Refusal { rule, place };
+            Ok(Explained::Named { refusal, tree })
         }
         NameFail::OutOfMemory(memory) => Err(memory),
     }
@@ -94,18 +110,41 @@ fn explain_tree(alloc: Global, text: &[u8], tree: Ast) -> Result<Explained, Memo
     parsed_trees_are_from_texts();
     match resolve(alloc, &tree) {
         Ok(program) => explain_program(alloc, text, tree, program),
-        Err(fail) => unresolved(text, &tree, fail),
+        Err(fail) => unresolved(text, tree, fail),
+    }
+}
+
+/// Whether the rule is the one of stray tokens, or that of texts that end too early.
+fn is_of_tokens(rule: RuleName) -> bool
+    ensures { result ≡ is_of_tokens rule }
+{
+    match rule {
+        RuleName::Text(SRule::S2) => true,
+        RuleName::Text(SRule::S3) => true,
+        _ => false,
+    }
+}
+
+/// What is known of a text of which this rule of the text fails first.
+fn unread_at(alloc: Global, text: &[u8], refusal: Refusal) -> Result<Explained, Memory>
+    requires { IsTextFailure text.now refusal.rule refusal.place }
+    ensures { IfOk result (IsExplained text.now) }
+{
+    if is_of_tokens(refusal.rule) {
+        let tokens = next_tokens(alloc, text, refusal.place)?;
+        Ok(Explained::Stray { refusal, tokens })
+    } else {
+        Ok(Explained::Early(refusal))
     }
 }
 
 /// What is known of a text that has no tree, for a rule of the text fails.
-fn unread(text: &[u8], fail: FrontFail) -> Result<Explained, Memory>
+fn unread(alloc: Global, text: &[u8], fail: FrontFail) -> Result<Explained, Memory>
     requires { TreeHasCause text.now fail }
     ensures { IfOk result (IsExplained text.now) }
 {
-    let _ = text;
     match fail {
-        FrontFail::Refused(refusal) => Ok(Explained::Early(refusal)),
+        FrontFail::Refused(refusal) => unread_at(alloc, text, refusal),
         FrontFail::OutOfMemory(memory) => Err(memory),
     }
 }
@@ -117,6 +156,6 @@ pub fn explain(alloc: Global, text: &[u8]) -> Result<Explained, Memory>
 {
     match read_tree(alloc, text) {
         Ok(tree) => explain_tree(alloc, text, tree),
-        Err(fail) => unread(text, fail),
+        Err(fail) => unread(alloc, text, fail),
     }
 }

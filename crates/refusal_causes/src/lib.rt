@@ -7,8 +7,10 @@ mod barring;
 mod cause;
 mod explained;
 mod needing;
+mod next_tokens;
 mod ordering;
 mod searching;
 
 pub use cause::RuleCause;
 pub use explained::{Explained, explain};
+pub use next_tokens::{NextToken, NextTokens};

@@ -1,11 +1,13 @@
 -- What the program answers, and why.
-use Rattle.std.specs.Prelude.{ℕ, List}
+use Rattle.std.specs.Prelude.{◌≡◌, ℕ, true, false, List, None, Some}
 use Rattle.twe_ast.specs.declared.item.Ast.{Ast}
 use Rattle.twe_program.specs.Program.{Program}
 use Rattle.twe_frontend.specs.declared.refusal.Refusal.{Refusal}
-use Rattle.twe_frontend.specs.Accepted.{Accepted, IsRefusal}
+use Rattle.twe_frontend.specs.Accepted.{Accepted, IsRefusal, IsTreeOf}
 use Rattle.refusal_causes.specs.declared.cause.RuleCause.{RuleCause}
-use Rattle.refusal_causes.specs.Explained.{IsCausedBy}
+use Rattle.refusal_causes.specs.declared.next_tokens.NextToken.{NextToken}
+use Rattle.refusal_causes.specs.Explained.{IsCausedBy, is_of_names, is_of_tokens}
+use Rattle.refusal_causes.specs.NextTokens.{AreNextAt}
 use Rattle.twe_report.specs.Texts.{accepted_text}
 use Rattle.text_programs.specs.Causes.{TextCause}
 use Rattle.twe_io.specs.declared.answer.Answer.{Answer}
@@ -15,8 +17,11 @@ use Rattle.twe_io.specs.Ends.{Ends, EndsTell, SourceTells}
 use Rattle.twe_io.specs.Answers.{IsAnswered, on_err, on_out}
 use Rattle.twe_explain.specs.Explanation.{explanation_by, explanation_of}
 use Rattle.twe_explain.specs.declared.explanation.Explanation.{Explanation}
+use Rattle.twe_explain.specs.Named.{named_explanation}
+use Rattle.twe_explain.specs.Tokens.{stray_explanation}
 use Rattle.twe_explain.specs.Variables.{place_of_cause, variables_at}
 use Rattle.twe_explain.specs.Page.{explain_usage_text, refused_text}
+use Rattle.twe_explain.specs.Alone.{text_alone}
 use Rattle.twe_explain.specs.Words.{wish_of}
 use Rattle.twe_explain.specs.declared.words.Wanted.{Wanted}
 
@@ -29,15 +34,28 @@ pub data ExplainDue (wanted : Wanted) (text : List ℕ) : Answer → Type 0 wher
   -- the text is accepted, as `twe check` says
   accepted : (p : Program) → Accepted text p → ExplainDue wanted text (on_out Done accepted_text)
   -- the text is refused; after the answer of `twe check` comes what every refusal by this rule has
-  refused : (refusal : Refusal) → IsRefusal text refusal
+  refused : (refusal : Refusal) → IsRefusal text refusal → is_of_tokens refusal.rule ≡ false → is_of_names refusal.rule ≡ false
       → ExplainDue wanted text (on_out Refused (refused_text wanted text refusal (explanation_of refusal)))
+  -- the text is refused at a token that may not stand at its place, or at its end; what may stand there comes last
+  stray : (refusal : Refusal) (tokens : List NextToken) → IsRefusal text refusal → is_of_tokens refusal.rule ≡ true
+      → AreNextAt text refusal.place tokens
+      → ExplainDue wanted text (on_out Refused (refused_text wanted text refusal (stray_explanation refusal tokens)))
+  -- the text is refused by a rule of names; the declaration of the name that stands at the place is shown, if it has one
+  named : (refusal : Refusal) (tree : Ast) → IsRefusal text refusal → is_of_names refusal.rule ≡ true → IsTreeOf text tree
+      → ExplainDue wanted text (on_out Refused (refused_text wanted text refusal (named_explanation text refusal tree.items)))
   -- the text is refused, and the cause is true of the program that it means; after the answer of `twe check` comes the cause
   caused : (refusal : Refusal) (cause : RuleCause) (tree : Ast) (p : Program) → IsCausedBy text refusal cause tree p
       → ExplainDue wanted text (on_out Refused (refused_text wanted text refusal (caused_explanation refusal cause tree p)))
 
--- why the program gives an answer, before it writes anything
-abbrev pub ExplainCause : {S : Type 0} → SourceTells S → List (List ℕ) → S → S → Answer → Type 0
-ExplainCause tells words = TextCause wish_of explain_usage_text ExplainDue tells words
+-- Why the program gives an answer, before it writes anything.
+pub data ExplainCause {S : Type 0} (tells : SourceTells S) (words : List (List ℕ)) (before after : S) : Answer → Type 0 where
+  -- the words ask for a text by themselves, and nothing is read
+  alone : (text : List ℕ) → text_alone words ≡ Some text → after ≡ before
+      → ExplainCause tells words before after (on_out Done text)
+  -- they ask for the answer to a text, or for nothing that the program does
+  of_text : {answer : Answer} → text_alone words ≡ None
+      → TextCause wish_of explain_usage_text ExplainDue tells words before after answer
+      → ExplainCause tells words before after answer
 
 -- what a call of the program comes to: an answer that has its cause is written; or memory runs out, and nothing is written
 abbrev pub AnswersExplain : {S O E : Type 0} → EndsTell S O E → List (List ℕ) → Ends S O E → Ends S O E → Status

@@ -1,4 +1,5 @@
 pub mod Words
+pub mod Alone
 pub mod Lines
 pub mod Excerpt
 pub mod Sentences
@@ -6,5 +7,8 @@ pub mod Effects
 pub mod Variables
 pub mod Ruled
 pub mod Explanation
+pub mod Tokens
+pub mod Declaring
+pub mod Named
 pub mod Page
 pub mod Answers

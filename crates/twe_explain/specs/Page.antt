@@ -66,4 +66,4 @@ refused_text wanted text refusal explanation =
 
 -- the usage line
 abbrev pub explain_usage_text : List ℕ
-explain_usage_text = line (codes "usage: twe_explain [--name FILE] [--lines]")
+explain_usage_text = line (codes "usage: twe_explain [--name FILE] [--lines] | --help | --version")

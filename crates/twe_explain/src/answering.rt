@@ -1,15 +1,18 @@
 //! The answer to a text.
-ghost use Rattle.std.specs.Prelude.{IfOk};
+ghost use Rattle.std.specs.Prelude.{◌≡◌, true, false, IfOk};
 ghost use Rattle.twe_explain.specs.Answers.{ExplainDue};
 ghost use Rattle.refusal_causes.specs.declared.explained.Explained.TheVariants.{Kept};
-ghost use Rattle.refusal_causes.specs.Explained.{IsCausedBy, IsExplained};
-ghost use Rattle.twe_frontend.specs.Accepted.{IsRefusal};
+ghost use Rattle.refusal_causes.specs.Explained.{IsCausedBy, IsExplained, is_of_names, is_of_tokens};
+ghost use Rattle.refusal_causes.specs.NextTokens.{AreNextAt};
+ghost use Rattle.twe_frontend.specs.Accepted.{IsRefusal, IsTreeOf};
 
 use crate::explanation::{explanation_by, explanation_of};
+use crate::named::named_explanation;
 use crate::page::refused_text;
+use crate::tokens::stray_explanation;
 use crate::variables::{place_of_cause, variables_at};
 use crate::words::Wanted;
-use refusal_causes::{Explained, RuleCause, explain};
+use refusal_causes::{Explained, NextToken, RuleCause, explain};
 use std::alloc::Global;
 use twe_ast::Ast;
 use twe_base::Memory;
@@ -26,6 +29,10 @@ pub(crate) fn answer_text(alloc: Global, wanted: &Wanted, text: &[u8]) -> Result
     match &explained {
         Explained::Kept => answer_accepted(alloc, wanted, text),
         Explained::Early(refusal) => answer_refusal(alloc, wanted, text, *refusal),
+        Explained::Stray { refusal, tokens } => {
+            answer_stray(alloc, wanted, text, *refusal, tokens.as_slice())
+        }
+        Explained::Named { refusal, tree } => answer_named(alloc, wanted, text, *refusal, tree),
         Explained::Late {
             refusal,
             cause,
@@ -53,10 +60,48 @@ fn answer_refusal(
     text: &[u8],
     refusal: Refusal,
 ) -> Result<Answer, Memory>
-    requires { IsRefusal text.now refusal }
+    requires refused { IsRefusal text.now refusal }
+    requires tokens { is_of_tokens refusal.rule ≡ false }
+    requires names { is_of_names refusal.rule ≡ false }
     ensures { IfOk result (ExplainDue wanted.now text.now) }
 {
     let explanation = explanation_of(alloc, refusal)?;
+    let lines = refused_text(alloc, wanted, text, refusal, &explanation)?;
+    Ok(Answer::on_out(alloc, Status::Refused, lines))
+}
+
+/// The answer to a text that has this refusal, at a place where these tokens may stand.
+fn answer_stray(
+    alloc: Global,
+    wanted: &Wanted,
+    text: &[u8],
+    refusal: Refusal,
+    tokens: &[NextToken],
+) -> Result<Answer, Memory>
+    requires refused { IsRefusal text.now refusal }
+    requires stray { is_of_tokens refusal.rule ≡ true }
+    requires may { AreNextAt text.now refusal.place tokens.now }
+    ensures { IfOk result (ExplainDue wanted.now text.now) }
+{
+    let explanation = stray_explanation(alloc, refusal, tokens)?;
+    let lines = refused_text(alloc, wanted, text, refusal, &explanation)?;
+    Ok(Answer::on_out(alloc, Status::Refused, lines))
+}
+
+/// The answer to a text that has this tree, and this refusal by a rule of names.
+fn answer_named(
+    alloc: Global,
+    wanted: &Wanted,
+    text: &[u8],
+    refusal: Refusal,
+    tree: &Ast,
+) -> Result<Answer, Memory>
+    requires refused { IsRefusal text.now refusal }
+    requires names { is_of_names refusal.rule ≡ true }
+    requires parsed { IsTreeOf text.now tree.now }
+    ensures { IfOk result (ExplainDue wanted.now text.now) }
+{
+    let explanation = named_explanation(alloc, text, refusal, tree.items.as_slice())?;
     let lines = refused_text(alloc, wanted, text, refusal, &explanation)?;
     Ok(Answer::on_out(alloc, Status::Refused, lines))
 }

@@ -2,15 +2,19 @@
 //! writes the answer of `twe check` with the place, the line of the text, and what the rule asks.
 #![tactic(auto)]
 
+mod alone;
 mod answering;
+mod declared;
 mod effects;
 mod excerpt;
 mod explanation;
 mod line;
+mod named;
 mod page;
 mod program;
 mod ruled;
 mod sentences;
+mod tokens;
 mod top;
 mod variables;
 mod words;

@@ -17,7 +17,10 @@ use twe_report::refusal_text;
 pub(crate) fn usage_text(alloc: Global) -> Result<Bytes, Memory>
     ensures { IfOk result (λ text. text ≡ explain_usage_text) }
 {
-    Bytes::from_slice(alloc, b"usage: twe_explain [--name FILE] [--lines]\n")
+    Bytes::from_slice(
+        alloc,
+        b"usage: twe_explain [--name FILE] [--lines] | --help | --version\n",
+    )
 }
 
 /// The answer of `twe check`, without the end of its line.

@@ -11,7 +11,7 @@ use twe_base::{List, Memory, Place};
 pub type Names = List<Name>;
 
 /// Whether the places are the same.
-fn is_same_place(place: Place, other: Place) -> bool
+pub(crate) fn is_same_place(place: Place, other: Place) -> bool
     ensures { result ≡ is_same_place place other }
 {
     place.line == other.line && place.col == other.col

@@ -1,0 +1,2 @@
+-- A call that is answered for another cause.
+pub mod Widened

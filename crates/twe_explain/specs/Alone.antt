@@ -1,0 +1,46 @@
+-- The texts that are asked for by one word.
+use Rattle.std.specs.Prelude.{ℕ, List, [], ◌∷◌, ◌++◌, Option, None, Some, codes, bytes_eq, if◌then◌else◌}
+
+-- how the program is called
+abbrev pub call_text : List ℕ
+call_text = codes "usage: twe_explain [--name FILE] [--lines] < TEXT\n       twe_explain --help | --version\n\n"
+
+-- what it does
+abbrev pub purpose_text : List ℕ
+purpose_text =
+    codes "Says why a TWEJava program is refused: the answer of twe check, the lines of the\n"
+    ++ codes "text with a caret under the place, and what the rule asks.\n\n"
+
+-- the words for a text
+abbrev pub name_option : List ℕ
+name_option = codes "  --name FILE  the name of the text; it is shown before places\n"
+
+abbrev pub lines_option : List ℕ
+lines_option = codes "  --lines      each note in one line, FILE:LINE:COLUMN: TEXT, for editors\n"
+
+-- the words that stand alone, and the status
+abbrev pub alone_text : List ℕ
+alone_text =
+    codes "  --help       this text\n  --version    the version\n\n"
+    ++ codes "The status is that of twe check: 0 if the text is accepted, 1 if it is refused.\n"
+
+-- what the program does, and its words
+unfoldable pub help_text : List ℕ
+help_text = call_text ++ (purpose_text ++ (name_option ++ (lines_option ++ alone_text)))
+
+-- the version of the program
+abbrev pub version_text : List ℕ
+version_text = codes "twe_explain 0.1\n"
+
+-- `--help` and `--version` ask for a text
+abbrev pub text_of_word : List ℕ → Option (List ℕ)
+text_of_word word =
+    if bytes_eq word (codes "--help") then Some help_text
+    else if bytes_eq word (codes "--version") then Some version_text
+    else None
+
+-- the text that one word asks for
+abbrev pub text_alone : List (List ℕ) → Option (List ℕ)
+text_alone [] = None
+text_alone (word ∷ []) = text_of_word word
+text_alone (word ∷ next ∷ others) = None
