@@ -53,7 +53,7 @@ fn cell_of<N: RoundName>(core: &Core<N>) -> Option<i32> {
 }
 
 /// The answers to a draft before the second segment of `main`, to that segment, and to the draft that was given back.
-fn follow<N: RoundName>(
+pub(crate) fn follow<N: RoundName>(
     alloc: Global,
     p: &Prog,
     core: &mut Core<N>,

@@ -22,6 +22,7 @@ use Rattle.opt_engine.specs.declared.drafts.Drafted.{Drafted}
 use Rattle.opt_engine.specs.declared.verdict.Verdict.{Verdict}
 use Rattle.opt_engine.specs.declared.verdict.Verdict.TheVariants.{Committed, Passed, Held, Changed}
 use Rattle.opt_engine.specs.Taking.{TakingSteps}
+use Rattle.opt_engine.specs.NextMoves.{AnswersNext}
 use Rattle.opt_engine.specs.Verdicts.{AnswersCommit, AreLegalFrom, entries_from, moves_of, state_from}
 use Rattle.opt_crew.specs.Keeping.{IsSound, StopsAtFault}
 
@@ -100,3 +101,16 @@ module _ (p : Program) (lim : Bounds) where
   answered_stops earlier old new run d Passed is stops clear answers = subst StopsAtFault (sym (answers.3.0 ∙ sym answers.1)) stops
   answered_stops earlier old new run d (Held by draft) is stops clear answers = subst StopsAtFault (sym (answers.3.0 ∙ sym answers.1)) stops
   answered_stops earlier old new run d (Changed cell read now) is stops clear answers = subst StopsAtFault (sym (answers.3.0 ∙ sym answers.1)) stops
+
+  -- what a core keeps after it has taken the moves of a task's next segment or not, if its run had met no fault
+  pub went_stops : (earlier : List Entry) (old new : Option CoreRun) (run : CoreRun) (t : ℕ) (number : Option ℕ) → old ≡ Some run → StopsAtFault old
+      → run.state.first_fault ≡ None → AnswersNext p lim earlier old t number new → StopsAtFault new
+  went_stops earlier old new run t (Some number) is stops clear answers =
+      let had = answers.0 in
+      let same : had ≡ run = same_Some had run (sym answers.1 ∙ is) in
+      let sound : IsSound p lim had = record { run_is = answers.2.run_is; ends = subst StopsAtFault answers.1 stops } in
+      let takes = answers.3.2 in
+      let after : IsSound p lim answers.3.0 =
+      sound_moves had answers.3.0 t takes.row takes.row.status sound (ap (λ (r : CoreRun). r.state.first_fault) same ∙ clear) takes.there takes.legal takes.journal takes.state in
+      subst StopsAtFault (sym answers.3.1) after.ends
+  went_stops earlier old new run t None is stops clear answers = subst StopsAtFault (sym (answers.3.0 ∙ sym answers.1)) stops

@@ -1,9 +1,14 @@
-//! How a worker takes the moves of a task: it drafts the next segment, runs the draft without a lock, and commits it. It comes to
-//! the core under its lock, or without one if it is alone. Then it does not run ahead, since it would win nothing.
+//! How a worker takes the moves of a task. One of several drafts the next segment: it starts the draft under the lock, runs it
+//! without the lock, and commits it under the lock. A segment that is known to be brief it runs under the lock. A single worker
+//! has the core to itself and runs every segment without a draft, since it would win nothing by running ahead.
 
 use crate::kept::Kept;
 use crate::named_drafted::NamedDrafted;
-use crate::round_core::{RoundCore, Tried};
+use crate::named_start::{NamedScratch, PlainStart};
+use crate::round_core::RoundCore;
+use crate::trail::Trail;
+use opt_engine::Hints;
+use run_gates::Gate;
 use seg_journal::End;
 use std::sync::{Mutex, Wait};
 use twe_base::Memory;
@@ -13,24 +18,21 @@ use twe_rounds::{Game, Outlook, RoundAccess, RoundName, Waiting};
 #[derive(Drop)]
 pub(crate) struct Lent<'a, N: RoundName> {
     pub game: &'a Game<'a, N>,
+    pub hints: &'a Hints,
     pub core: &'a mut RoundCore<N>,
+    pub trail: Trail,
 }
 
 impl<'a, N: RoundName> RoundAccess for Lent<'a, N> {
     fn look(&mut self, task: u32) -> Result<Outlook, Memory> {
-        self.core.look(self.game, task, false)
+        let glance = self.trail.glance(task, false);
+        self.core.look(self.game, task, glance)
     }
 
     fn run(&mut self, task: u32) -> Result<Option<End>, Memory> {
-        let draft = self.core.draft(self.game, task)?;
-        let Some(drafted) = NamedDrafted::run(self.game, draft)? else {
-            return Ok(None);
-        };
-        match self.core.commit(self.game, drafted)? {
-            Tried::Taken(end) => Ok(Some(end)),
-            Tried::Held(_) => Ok(None),
-            Tried::Dropped => Ok(None),
-        }
+        let end = self.core.go_on(self.game, self.hints, task)?;
+        self.trail.note(task, end);
+        Ok(end)
     }
 
     fn tell(&mut self, waiting: &mut Waiting) -> Result<(), Memory> {
@@ -38,33 +40,51 @@ impl<'a, N: RoundName> RoundAccess for Lent<'a, N> {
     }
 }
 
-/// The core under its lock, with the drafts that a worker keeps. Each use of the core takes the lock and gives it back.
+/// What a worker keeps while it does not hold the lock.
 #[derive(Drop)]
-pub(crate) struct Locked<'a, R: Wait, N: RoundName> {
-    pub rt: &'a R,
-    pub game: &'a Game<'a, N>,
-    pub core: &'a Mutex<RoundCore<N>>,
+pub(crate) struct Own<N: RoundName> {
+    /// The drafts whose tasks are held back.
     pub kept: Kept<N>,
+    /// The start of the segment that it runs next, if it is to be run as a draft.
+    pub start: Option<PlainStart>,
+    /// Room for its drafts, once it has run one.
+    pub scratch: Option<NamedScratch<N>>,
+    /// What it remembers of its moves.
+    pub trail: Trail,
 }
 
-impl<'a, R: Wait, N: RoundName> RoundAccess for Locked<'a, R, N> {
+/// The core under its lock, with what a worker keeps. Each use of the core takes the lock and gives it back.
+#[derive(Drop)]
+pub(crate) struct Locked<'a, R: Wait, G, N: RoundName> {
+    pub rt: &'a R,
+    pub gate: &'a G,
+    pub game: &'a Game<'a, N>,
+    pub hints: &'a Hints,
+    pub core: &'a Mutex<RoundCore<N>>,
+    pub own: Own<N>,
+}
+
+impl<'a, R: Wait, G: Gate, N: RoundName> RoundAccess for Locked<'a, R, G, N> {
     fn look(&mut self, task: u32) -> Result<Outlook, Memory> {
-        let ahead = !self.kept.has(task);
-        self.core.lock(self.rt).look(self.game, task, ahead)
+        if self.own.trail.has_ended(task) {
+            return Ok(Outlook::Over);
+        }
+        let glance = self.own.trail.glance(task, !self.own.kept.has(task));
+        if self.own.kept.has_draft(task) {
+            return self.core.lock(self.rt).look(self.game, task, glance);
+        }
+        let (outlook, start) = self.core.lock(self.rt).look_ahead(self.game, task, glance)?;
+        self.own.start = start;
+        Ok(outlook)
     }
 
     fn run(&mut self, task: u32) -> Result<Option<End>, Memory> {
-        let drafted = match self.kept.take(task) {
-            Some(drafted) => Some(drafted),
-            None => self.new_draft(task)?,
+        let end = match self.own.kept.take(task) {
+            Some(drafted) => self.hand_in(task, drafted, true)?,
+            None => self.begin(task)?,
         };
-        match drafted {
-            Some(drafted) => {
-                let tried = self.core.lock(self.rt).commit(self.game, drafted)?;
-                self.kept.sort(task, tried)
-            }
-            None => Ok(None),
-        }
+        self.own.trail.note(task, end);
+        Ok(end)
     }
 
     fn tell(&mut self, waiting: &mut Waiting) -> Result<(), Memory> {
@@ -72,10 +92,44 @@ impl<'a, R: Wait, N: RoundName> RoundAccess for Locked<'a, R, N> {
     }
 }
 
-impl<'a, R: Wait, N: RoundName> Locked<'a, R, N> {
-    /// A new draft of a task, which is run without the lock; `None` if the task is not ready.
-    fn new_draft(&self, task: u32) -> Result<Option<NamedDrafted<N>>, Memory> {
-        let draft = self.core.lock(self.rt).draft(self.game, task)?;
-        NamedDrafted::run(self.game, draft)
+impl<'a, R: Wait, G: Gate, N: RoundName> Locked<'a, R, G, N> {
+    /// Runs a segment of a task of which no draft is kept: as a draft if it was started, and else under the lock.
+    fn begin(&mut self, task: u32) -> Result<Option<End>, Memory> {
+        match self.own.start.take() {
+            Some(start) => self.draft(task, start),
+            None => self.core.lock(self.rt).go_on(self.game, self.hints, task),
+        }
+    }
+
+    /// Runs a segment of a task as a draft, without the lock, and hands it in.
+    fn draft(&mut self, task: u32, start: PlainStart) -> Result<Option<End>, Memory> {
+        let scratch = self.room()?;
+        let (drafted, scratch) = NamedDrafted::run(
+            self.game, self.hints, self.gate, start, scratch,
+        )?;
+        self.own.scratch = Some(scratch);
+        self.hand_in(task, drafted, false)
+    }
+
+    /// Room for a draft: that of the last one, or new room.
+    fn room(&mut self) -> Result<NamedScratch<N>, Memory> {
+        match self.own.scratch.take() {
+            Some(scratch) => Ok(scratch),
+            None => self.core.lock(self.rt).scratch(self.game),
+        }
+    }
+
+    /// Hands a draft in, which was held back before or not, and keeps it if it is held back.
+    fn hand_in(
+        &mut self,
+        task: u32,
+        drafted: NamedDrafted<N>,
+        was_held: bool,
+    ) -> Result<Option<End>, Memory> {
+        let tried = self
+            .core
+            .lock(self.rt)
+            .commit(self.game, self.hints, drafted, was_held)?;
+        self.own.kept.sort(task, tried)
     }
 }

@@ -12,6 +12,7 @@ ghost use Rattle.opt_crew.specs.Stepping.{IsLongerUnlessOver, StepsRun};
 use crate::sharing::{alone, together};
 use flat_sched::stuck_cycle;
 use opt_engine::CoreRun;
+use run_gates::Gate;
 use seg_journal::{Journal, Move};
 use std::alloc::Global;
 use std::marker::{Brand, Model};
@@ -84,15 +85,21 @@ impl OptCrew {
     }
 
     /// A round: the lowest legal move is taken, if the run can go on, and then the workers run drafts and commit them until they
-    /// find no more that can be committed.
-    pub fn round<R: Threads + Wait + Sync>(&mut self, rt: &R, p: &Prog) -> Result<(), Memory>
+    /// find no more that can be committed. The gate is told of each segment before it is run, and of each access of a draft to a
+    /// cell.
+    pub fn round<R: Threads + Wait + Sync, G: Gate + Sync>(
+        &mut self,
+        rt: &R,
+        p: &Prog,
+        gate: &G,
+    ) -> Result<(), Memory>
         requires { p.now ≡ self.old.prog }
+        ensures err { OnErr result (self.new ≡ lost self.old) }
         ensures ok { OnOk result (GoesOn self.old self.new) }
         ensures longer { OnOk result (IsLongerUnlessOver self.old self.new) }
-        ensures err { OnErr result (self.new ≡ lost self.old) }
     {
         let run = self.run.take().ok_or(lost())?;
-        let after = round_of(rt, self.alloc, p, self.lim, self.workers, run)?;
+        let after = round_of(rt, self.alloc, p, self.lim, self.workers, run, gate)?;
         self.run = Some(after);
         Ok(())
     }
@@ -151,13 +158,14 @@ fn take_clear(
 
 /// A round of this many workers. The lowest legal move is taken first, if the run can go on.
 #[tactic(auto, using(twe_rounds::proofs::Beginnings::begins_by_one, twe_rounds::proofs::Beginnings::longer_by_one))]
-fn round_of<R: Threads + Wait + Sync>(
+fn round_of<R: Threads + Wait + Sync, G: Gate + Sync>(
     rt: &R,
     alloc: Global,
     p: &Prog,
     lim: Limits,
     workers: u32,
     run: CoreRun,
+    gate: &G,
 ) -> Result<CoreRun, Memory>
     requires some { 1 ≤ workers }
     requires sound { IsSound p.now lim run }
@@ -173,11 +181,11 @@ fn round_of<R: Threads + Wait + Sync>(
         return Ok(run);
     };
     take_clear(alloc, p, lim, &mut run, mv)?;
-    lend(rt, alloc, p, lim, workers, run, mv.task)
+    lend(rt, alloc, p, lim, workers, run, mv.task, gate)
 }
 
 /// Lends the run to so many workers. A single one begins with the task `first`.
-fn lend<R: Threads + Wait + Sync>(
+fn lend<R: Threads + Wait + Sync, G: Gate + Sync>(
     rt: &R,
     alloc: Global,
     p: &Prog,
@@ -185,6 +193,7 @@ fn lend<R: Threads + Wait + Sync>(
     workers: u32,
     run: CoreRun,
     first: u32,
+    gate: &G,
 ) -> Result<CoreRun, Memory>
     requires some { 1 ≤ workers }
     requires sound { IsSound p.now lim run }
@@ -192,8 +201,8 @@ fn lend<R: Threads + Wait + Sync>(
     ensures begins { IfOk result (λ after. IsPrefix run.journal after.journal) }
 {
     if workers == 1 {
-        alone::<Brand, R>(rt, alloc, p, lim, run, first)
+        alone::<Brand, R, G>(rt, alloc, p, lim, run, first, gate)
     } else {
-        together::<Brand, R>(rt, alloc, p, lim, workers, run)
+        together::<Brand, R, G>(rt, alloc, p, lim, workers, run, gate)
     }
 }

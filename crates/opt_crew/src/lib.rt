@@ -2,16 +2,22 @@
 //! back, and its draft enters the run later if what it has read still stands.
 //!
 //! The drafts and the core to which they are committed are those of `opt_engine`; the workers and their decks are those of
-//! `twe_rounds`. A worker drafts under the lock of the core, runs the draft without it, and commits it under the lock.
+//! `twe_rounds`. A worker starts a draft under the lock of the core, runs it without the lock, on values that it reads from words
+//! which all share, and commits it under the lock. A brief segment is run under the lock, without a draft.
 #![tactic(auto)]
 
 mod access;
+mod at_work;
 mod crew;
 mod kept;
+mod learned;
+mod looking;
 mod named_drafted;
+mod named_start;
 mod round_core;
 mod rounds;
 mod sharing;
+mod trail;
 
 pub use crew::OptCrew;
 pub use rounds::run_ahead;

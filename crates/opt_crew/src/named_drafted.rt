@@ -1,8 +1,10 @@
 //! A draft that was run, whose program is known by its type alone.
-ghost use Rattle.std.specs.Prelude.{◌≡◌, IfSome};
-ghost use Rattle.opt_engine.specs.Drafts.{IsDraftOf, IsDraftedOf};
+ghost use Rattle.std.specs.Prelude.{◌≡◌};
+ghost use Rattle.opt_engine.specs.Drafts.{IsDraftedOf};
 
-use opt_engine::{Draft, Drafted, run_draft};
+use crate::named_start::{NamedScratch, PlainStart};
+use opt_engine::{Drafted, Hints, run_start};
+use run_gates::Gate;
 use std::marker::{Model, PhantomData};
 use twe_base::Memory;
 use twe_rounds::{Game, RoundName};
@@ -38,20 +40,33 @@ impl<N: RoundName> NamedDrafted<N> {
         }
     }
 
-    /// Runs a draft of the named program, if there is one.
-    pub(crate) fn run(game: &Game<'_, N>, draft: Option<Draft>) -> Result<Option<Self>, Memory>
-        requires { IfSome draft (IsDraftOf N.prog) }
-    {
-        let Some(draft) = draft else {
-            return Ok(None);
-        };
-        let drafted = run_draft(game.alloc(), game.prog(), draft)?;
-        Ok(Some(NamedDrafted::new(drafted)))
+    /// Runs the start of a segment of the named program as a draft, and gives the room for it back.
+    pub(crate) fn run<G: Gate>(
+        game: &Game<'_, N>,
+        hints: &Hints,
+        gate: &G,
+        start: PlainStart,
+        scratch: NamedScratch<N>,
+    ) -> Result<(Self, NamedScratch<N>), Memory> {
+        let (start, scratch) = (start.into_start(), scratch.into_scratch());
+        let (drafted, scratch) = run_start(game.alloc(), game.prog(), hints, gate, start, scratch)?;
+        Ok((NamedDrafted::new(drafted), NamedScratch::new(scratch)))
     }
 
     /// The task whose segment it is.
     pub(crate) fn task(&self) -> u32 {
         self.drafted.task
+    }
+
+    /// The declaration of that task.
+    pub(crate) fn decl(&self) -> u32 {
+        self.drafted.before.decl
+    }
+
+    /// The fuel that the segment took, in units.
+    pub(crate) fn cost(&self) -> u64 {
+        let after = self.drafted.after.fuel;
+        self.drafted.before.fuel.saturating_sub(after)
     }
 
     /// The draft without its name.

@@ -1,15 +1,18 @@
 //! The core of a round, and what workers ask of it. Nothing comes after a fault in its run.
-ghost use Rattle.std.specs.Prelude.{◌≡◌, IfOk, IfSome};
-ghost use Rattle.opt_engine.specs.Drafts.{IsDraftOf};
+ghost use Rattle.std.specs.Prelude.{◌≡◌, IfSome};
 ghost use Rattle.opt_crew.specs.Keeping.{Keeps};
 
+use crate::at_work::AtWork;
+use crate::learned::Learned;
+use crate::looking::{decl_of, fuel_of, look_at};
 use crate::named_drafted::NamedDrafted;
-use opt_engine::{Core, CoreRun, Draft, Verdict};
+use crate::named_start::{NamedScratch, PlainStart};
+use crate::trail::Glance;
+use opt_engine::{Core, CoreRun, Hints, Verdict};
 use seg_journal::End;
 use std::alloc::Global;
 use std::marker::Model;
 use twe_base::{Limits, Memory};
-use twe_machine::{State, TaskStatus};
 use twe_program::Prog;
 use twe_rounds::{Game, Outlook, RoundName, Waiting, lost};
 
@@ -20,7 +23,9 @@ pub(crate) enum Tried<N: RoundName> {
     Taken(End),
     /// Its task is held back. The draft is given back.
     Held(NamedDrafted<N>),
-    /// It does not fit any more, or the run has met a fault.
+    /// It has read what has another value now.
+    Changed,
+    /// It is not of the next segment of its task any more, or the run has met a fault.
     Dropped,
 }
 
@@ -28,6 +33,8 @@ pub(crate) enum Tried<N: RoundName> {
 #[derive(Drop)]
 pub(crate) struct RoundCore<N: RoundName> {
     core: Core<N>,
+    learned: Learned,
+    at_work: AtWork,
 }
 
 impl<N: RoundName> Model for RoundCore<N> {
@@ -50,6 +57,8 @@ impl<N: RoundName> RoundCore<N> {
     {
         Ok(RoundCore {
             core: Core::of(alloc, lim, run)?,
+            learned: Learned::new(alloc),
+            at_work: AtWork::new(alloc),
         })
     }
 
@@ -57,40 +66,154 @@ impl<N: RoundName> RoundCore<N> {
     pub(crate) fn into_run(self) -> Option<CoreRun>
         ensures { IfSome result (Keeps N.prog N.lim N.earlier) }
     {
-        let RoundCore { core } = self;
+        let RoundCore { core, .. } = self;
         core.into_run()
     }
 
-    /// What may be done next for a task. A task that is held back may run only if it may run ahead.
+    /// What may be done next for a task. A task that is held back may run only if the worker would draft it, and if that pays.
     pub(crate) fn look(
         &self,
         game: &Game<'_, N>,
         task: u32,
-        ahead: bool,
+        glance: Glance,
     ) -> Result<Outlook, Memory> {
         let run = self.core.run().ok_or(lost())?;
         if run.state.first_fault.is_some() {
             return Ok(Outlook::Over);
         }
+        let ahead = glance.ahead && self.pays_ahead(task);
         if !ahead && let Some(by) = self.core.bar(game.prog(), task)? {
             return Ok(Outlook::Held { by });
         }
-        Ok(look_at(&run.state, task))
+        Ok(look_at(&run.state, task, glance))
     }
 
-    /// A draft of the next segment of a task, or `None` if the task is not ready.
-    pub(crate) fn draft(&self, game: &Game<'_, N>, task: u32) -> Result<Option<Draft>, Memory>
-        ensures { IfOk result (λ draft. IfSome draft (IsDraftOf N.prog)) }
-    {
-        self.core.draft(game.prog(), task)
+    /// What may be done next for a task of which the worker has no draft. If the task may run and its next segment is not known
+    /// to be brief, the start of it comes too, and the task is at work from now on. If drafts of its declaration change often, a
+    /// rival that is at work holds the task back.
+    pub(crate) fn look_ahead(
+        &mut self,
+        game: &Game<'_, N>,
+        task: u32,
+        glance: Glance,
+    ) -> Result<(Outlook, Option<PlainStart>), Memory> {
+        let outlook = self.look(game, task, glance)?;
+        if outlook != Outlook::Runs || self.is_brief(task) {
+            return Ok((outlook, None));
+        }
+        let rival = self.rival(task);
+        if let Some(by) = rival
+            && self.changes_often(task)
+        {
+            return Ok((Outlook::Held { by }, None));
+        }
+        self.at_work.begin(task, rival.is_some())?;
+        Ok((outlook, self.start(game, task)?))
     }
 
-    /// Commits a draft, unless the run has met a fault or the task is held back.
+    /// The start of the next segment of a task, or `None` if the task is not ready.
+    fn start(&self, game: &Game<'_, N>, task: u32) -> Result<Option<PlainStart>, Memory> {
+        match self.core.start(game.prog(), task)? {
+            Some(start) => Ok(Some(PlainStart::new(start))),
+            None => Ok(None),
+        }
+    }
+
+    /// Room for drafts of the run.
+    pub(crate) fn scratch(&self, game: &Game<'_, N>) -> Result<NamedScratch<N>, Memory> {
+        Ok(NamedScratch::new(self.core.scratch(game.prog())?))
+    }
+
+    /// A task of which a draft is being run and that may change what this one reads, if there is one.
+    fn rival(&self, task: u32) -> Option<u32> {
+        let run = self.core.run()?;
+        self.at_work.rival(&run.state, task)
+    }
+
+    /// The declaration of a task, if there is such a task.
+    fn decl(&self, task: u32) -> Option<u32> {
+        decl_of(&self.core.run()?.state, task)
+    }
+
+    /// Whether drafts of a task's declaration often read what changes.
+    fn changes_often(&self, task: u32) -> bool {
+        match self.decl(task) {
+            Some(decl) => self.learned.changes_often(decl),
+            None => false,
+        }
+    }
+
+    /// Whether it pays to draft a task while it is held back.
+    fn pays_ahead(&self, task: u32) -> bool {
+        match self.decl(task) {
+            Some(decl) => self.learned.pays_ahead(decl),
+            None => false,
+        }
+    }
+
+    /// Whether the next segment of a task is known to be brief.
+    fn is_brief(&self, task: u32) -> bool {
+        match self.decl(task) {
+            Some(decl) => self.learned.is_brief(decl),
+            None => false,
+        }
+    }
+
+    /// Takes the moves of the next segment of a task without a draft, if they are legal. Returns the end of the last one.
+    pub(crate) fn go_on(
+        &mut self,
+        game: &Game<'_, N>,
+        hints: &Hints,
+        task: u32,
+    ) -> Result<Option<End>, Memory> {
+        let run = self.core.run().ok_or(lost())?;
+        if run.state.first_fault.is_some() {
+            return Ok(None);
+        }
+        let before = fuel_of(&run.state, task);
+        let went = self.core.go_on(game.prog(), task, hints)?;
+        self.learn_went(task, before, went)
+    }
+
+    /// Notes what the last segment of a task cost, if its moves were taken, and returns the end of the last of them. The task had
+    /// so much fuel before.
+    fn learn_went(
+        &mut self,
+        task: u32,
+        before: u64,
+        went: Option<u64>,
+    ) -> Result<Option<End>, Memory> {
+        match went {
+            None => Ok(None),
+            Some(number) => {
+                self.note_cost(task, before)?;
+                Ok(end_at(self.core.run(), number))
+            }
+        }
+    }
+
+    /// Notes what the last segment of a task cost, which had so much fuel before it.
+    fn note_cost(&mut self, task: u32, before: u64) -> Result<(), Memory> {
+        let Some(run) = self.core.run() else {
+            return Ok(());
+        };
+        let Some(decl) = decl_of(&run.state, task) else {
+            return Ok(());
+        };
+        let cost = before.saturating_sub(fuel_of(&run.state, task));
+        self.learned.note_cost(decl, cost)
+    }
+
+    /// Commits a draft, unless the run has met a fault or the task is held back. What becomes of a draft that was held back
+    /// before, or that began while a rival was at work, is learned from.
     pub(crate) fn commit(
         &mut self,
         game: &Game<'_, N>,
+        hints: &Hints,
         drafted: NamedDrafted<N>,
+        was_held: bool,
     ) -> Result<Tried<N>, Memory> {
+        let at_risk = self.at_work.end(drafted.task()) || was_held;
         let run = self.core.run().ok_or(lost())?;
         if run.state.first_fault.is_some() {
             return Ok(Tried::Dropped);
@@ -98,12 +221,32 @@ impl<N: RoundName> RoundCore<N> {
         if self.core.bar(game.prog(), drafted.task())?.is_some() {
             return Ok(Tried::Held(drafted));
         }
-        match self.core.commit(game.prog(), drafted.into_drafted())? {
-            Verdict::Committed { number } => Ok(self.taken(number)),
+        let decl = drafted.decl();
+        let cost = drafted.cost();
+        match self
+            .core
+            .commit_shown(game.prog(), drafted.into_drafted(), hints)?
+        {
+            Verdict::Committed { number } => {
+                self.learn_taken(decl, cost, at_risk)?;
+                Ok(self.taken(number))
+            }
             Verdict::Held { draft, .. } => Ok(Tried::Held(NamedDrafted::new(draft))),
             Verdict::Passed => Ok(Tried::Dropped),
-            Verdict::Changed { .. } => Ok(Tried::Dropped),
+            Verdict::Changed { .. } => {
+                self.learned.note_changed(decl)?;
+                Ok(Tried::Changed)
+            }
         }
+    }
+
+    /// Notes that a draft of a task of this declaration was taken, what its segment cost, and whether what it had read could have
+    /// changed meanwhile.
+    fn learn_taken(&mut self, decl: u32, cost: u64, at_risk: bool) -> Result<(), Memory> {
+        if at_risk {
+            self.learned.note_kept(decl)?;
+        }
+        self.learned.note_cost(decl, cost)
     }
 
     /// Tells a worker's list which tasks have ended since it was told last.
@@ -125,28 +268,4 @@ impl<N: RoundName> RoundCore<N> {
 fn end_at(run: Option<&CoreRun>, number: u64) -> Option<End> {
     let entry = run?.journal.get(number as usize)?;
     Some(entry.end)
-}
-
-/// What may be done next for a task in this state.
-fn look_at(state: &State, task: u32) -> Outlook {
-    match state.tasks.get(task as usize) {
-        None => Outlook::Over,
-        Some(row) => match row.status {
-            TaskStatus::Made => Outlook::Runs,
-            TaskStatus::Enabled => look_on(state, task),
-            TaskStatus::Done => Outlook::Over,
-            TaskStatus::Faulted => Outlook::Over,
-        },
-    }
-}
-
-/// What may be done next for an enabled task.
-fn look_on(state: &State, task: u32) -> Outlook {
-    if task >= state.links.task_count() {
-        return Outlook::Over;
-    }
-    match state.links.awaited(task) {
-        None => Outlook::Runs,
-        Some(on) => Outlook::waits(state, on),
-    }
 }

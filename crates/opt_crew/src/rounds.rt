@@ -4,6 +4,7 @@ ghost use Rattle.twe_machine.specs.LowestFirst.{IsOver};
 ghost use Rattle.twe_machine.specs.Runs.{Legal, counted, state_after};
 
 use crate::crew::OptCrew;
+use run_gates::FreeGate;
 use seg_journal::Journal;
 use std::alloc::Global;
 use std::sync::Wait;
@@ -35,7 +36,7 @@ pub fn run_ahead<R: Threads + Wait + Sync>(
         if found.is_end() {
             return crew.close();
         }
-        crew.round(rt, p)?;
+        crew.round(rt, p, &FreeGate)?;
     }
     unreachable!()
 }

@@ -2,11 +2,12 @@
 ghost use Rattle.std.specs.Prelude.{◌≡◌, ◌≤◌, IfOk};
 ghost use Rattle.opt_crew.specs.Keeping.{Keeps};
 
-use crate::access::{Lent, Locked};
+use crate::access::{Lent, Locked, Own};
 use crate::kept::Kept;
 use crate::round_core::RoundCore;
-use opt_engine::CoreRun;
-use run_gates::FreeGate;
+use crate::trail::Trail;
+use opt_engine::{CoreRun, Hints};
+use run_gates::Gate;
 use std::alloc::Global;
 use std::sync::atomic::AtomicU64;
 use std::sync::{Mutex, Wait};
@@ -17,13 +18,14 @@ use twe_program::Prog;
 use twe_rounds::{Game, RoundName, Site, Worker, deal, lost};
 
 /// The run after the moves of a single worker, which begins with the task `first`.
-pub(crate) fn alone<N: RoundName, R: Wait>(
+pub(crate) fn alone<N: RoundName, R: Wait, G: Gate>(
     rt: &R,
     alloc: Global,
     p: &Prog,
     lim: Limits,
     run: CoreRun,
     first: u32,
+    gate: &G,
 ) -> Result<CoreRun, Memory>
     requires named { (p.now ≡ N.prog) × (lim ≡ N.lim) }
     requires keeps { Keeps N.prog N.lim N.earlier run }
@@ -33,15 +35,18 @@ pub(crate) fn alone<N: RoundName, R: Wait>(
     let mut team = deal(alloc, &run.state, entries, lim.tasks, 1, Some(first))?;
     let pending = AtomicU64::new(team.pending);
     let site = Site {
-        gate: &FreeGate,
+        gate,
         pending: &pending,
     };
     let game: Game<'_, N> = Game::new(alloc, p, lim);
+    let hints = Hints::none(alloc);
     let mut core = RoundCore::new(alloc, lim, run)?;
     for worker in team.workers.iter_mut() {
         let mut access = Lent {
             game: &game,
+            hints: &hints,
             core: &mut core,
+            trail: Trail::new(),
         };
         worker.work(rt, &mut access, &site);
     }
@@ -49,13 +54,14 @@ pub(crate) fn alone<N: RoundName, R: Wait>(
 }
 
 /// The run after the moves of several workers, each on a thread of its own. Meanwhile the run lies under a lock.
-pub(crate) fn together<'a, N: RoundName + Send + Sync, R: Threads + Wait + Sync>(
+pub(crate) fn together<'a, N: RoundName + Send + Sync, R: Threads + Wait + Sync, G: Gate + Sync>(
     rt: &'a R,
     alloc: Global,
     p: &'a Prog,
     lim: Limits,
     workers: u32,
     run: CoreRun,
+    gate: &'a G,
 ) -> Result<CoreRun, Memory>
     requires some { 1 ≤ workers }
     requires named { (p.now ≡ N.prog) × (lim ≡ N.lim) }
@@ -66,11 +72,14 @@ pub(crate) fn together<'a, N: RoundName + Send + Sync, R: Threads + Wait + Sync>
     let mut team = deal(alloc, &run.state, entries, lim.tasks, workers, None)?;
     let pending = AtomicU64::new(team.pending);
     let game: Game<'_, N> = Game::new(alloc, p, lim);
+    let hints = Hints::of(alloc, &run.state.cells)?;
     let core = Mutex::new(RoundCore::new(alloc, lim, run)?);
     let shared = Shared {
         rt,
+        gate,
         pending: &pending,
         game: &game,
+        hints: &hints,
         core: &core,
     };
     let team = team.workers.as_mut_slice();
@@ -80,24 +89,33 @@ pub(crate) fn together<'a, N: RoundName + Send + Sync, R: Threads + Wait + Sync>
 
 /// What the workers of a round share.
 #[derive(Drop)]
-struct Shared<'a, R: Wait, N: RoundName> {
+struct Shared<'a, R: Wait, G, N: RoundName> {
     rt: &'a R,
+    gate: &'a G,
     pending: &'a AtomicU64,
     game: &'a Game<'a, N>,
+    hints: &'a Hints,
     core: &'a Mutex<RoundCore<N>>,
 }
 
-impl<'a, R: Wait, N: RoundName> Shared<'a, R, N> {
+impl<'a, R: Wait, G: Gate, N: RoundName> Shared<'a, R, G, N> {
     /// Sends a worker to work.
     fn send(&self, worker: &mut Worker) {
         let mut access = Locked {
             rt: self.rt,
+            gate: self.gate,
             game: self.game,
+            hints: self.hints,
             core: self.core,
-            kept: Kept::new(self.game.alloc()),
+            own: Own {
+                kept: Kept::new(self.game.alloc()),
+                start: None,
+                scratch: None,
+                trail: Trail::new(),
+            },
         };
         let site = Site {
-            gate: &FreeGate,
+            gate: self.gate,
             pending: self.pending,
         };
         worker.work(self.rt, &mut access, &site);

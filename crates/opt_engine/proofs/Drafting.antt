@@ -1,5 +1,5 @@
 -- A draft that is run gives what its segment gives.
-use Rattle.std.proofs.Common.{◌≡◌, ◌<◌, ℕ, ℤ, List, [], ◌∷◌, length, map, None, sym, ap, ◌∙◌, subst}
+use Rattle.std.proofs.Common.{◌≡◌, ◌<◌, ℕ, ℤ, List, [], ◌∷◌, length, map, Option, None, sym, ap, ◌∙◌, subst}
 use Rattle.std.specs.Prelude.{slice_get, slice_set}
 use Rattle.std.proofs.lemmas.List.{length-replicate}
 use Rattle.twe_program.specs.Program.{Program}
@@ -49,13 +49,14 @@ touched old (Prints value ∷ earlier) new is =
     let before = touched old earlier new is in
     record { agrees = before.agrees; cells = before.cells; notes = before.notes }
 
--- what may be done to a list of cells may be done to such cells
-may_touch : (t : Touching) (accesses : List Access) → length t.notes.marks ≡ length t.cells → MayAll list_ways t.cells accesses
-    → MayAll (ways_of touch_knows MayTouch MayTouch TouchFollows) t accesses
-may_touch t [] long may = tt
-may_touch t (Reads cell value ∷ earlier) long may = (record { value = may.0; mark = subst (λ (n : ℕ). cell < n) (sym long) may.0 }, may_touch t earlier long may.1)
-may_touch t (Writes cell value ∷ earlier) long may = (record { value = may.0; mark = subst (λ (n : ℕ). cell < n) (sym long) may.0 }, may_touch t earlier long may.1)
-may_touch t (Prints value ∷ earlier) long may = may_touch t earlier long may
+-- what may be done to a list of cells may be done to such cells, whatever is known of them and by whatever rule
+module _ (known : Touching → ℕ → Option ℤ) (rule : Touching → Access → Touching → Type 0) where
+  pub may_touch : (t : Touching) (accesses : List Access) → length t.notes.marks ≡ length t.cells → MayAll list_ways t.cells accesses
+      → MayAll (ways_of known MayTouch MayTouch rule) t accesses
+  may_touch t [] long may = tt
+  may_touch t (Reads cell value ∷ earlier) long may = (record { value = may.0; mark = subst (λ (n : ℕ). cell < n) (sym long) may.0 }, may_touch t earlier long may.1)
+  may_touch t (Writes cell value ∷ earlier) long may = (record { value = may.0; mark = subst (λ (n : ℕ). cell < n) (sym long) may.0 }, may_touch t earlier long may.1)
+  may_touch t (Prints value ∷ earlier) long may = may_touch t earlier long may
 
 -- each access of a segment of the program is to a cell of the draft
 pub may_access : (p : Program) (draft : Draft) (frame : Frame) → IsWellFormed p → IsDraftOf p draft → MayAll list_ways draft.cells (segment p frame draft.cells).accesses
@@ -65,7 +66,7 @@ pub may_run : (p : Program) (draft : Draft) (t : Touching) → IsWellFormed p �
     → MayCarryOut p (ways_of touch_knows MayTouch MayTouch TouchFollows) frame t
 may_run p draft t well is new frame =
     subst (λ (x : Touching). MayCarryOut p (ways_of touch_knows MayTouch MayTouch TouchFollows) frame x) (sym new)
-    (λ cells. may_touch (fresh draft.cells) (segment p frame cells).accesses (length_marks (length draft.cells)) (may_carry_out p well draft.cells is.cells frame cells)) where
+    (λ cells. may_touch touch_knows TouchFollows (fresh draft.cells) (segment p frame cells).accesses (length_marks (length draft.cells)) (may_carry_out p well draft.cells is.cells frame cells)) where
       length_marks : (n : ℕ) → length (no_notes n).marks ≡ n
       length_marks n = length-replicate n _
 

@@ -3,8 +3,11 @@ pub mod Marks
 pub mod Sameness
 pub mod Touched
 pub mod Drafting
+pub mod Hinting
+pub mod HintedRuns
 pub mod Plain
 pub mod Nexts
 pub mod Changes
 pub mod Committed
 pub mod Told
+pub mod NextMoves

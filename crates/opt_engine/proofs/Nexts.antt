@@ -16,8 +16,9 @@ use Rattle.twe_machine.proofs.lists.Places.{got_one}
 use Rattle.twe_machine.proofs.standing.ReachedStands.{reached_stands}
 use Rattle.twe_machine.proofs.standing.SettlesNext.{as_many_links}
 use Rattle.opt_engine.specs.declared.drafts.Drafted.{Drafted}
+use Rattle.opt_engine.specs.declared.starts.Start.{Start}
 use Rattle.opt_engine.specs.Drafts.{IsDraftedOf, IsNext, DraftIsReady, unreserved}
-use Rattle.opt_engine.specs.Verdicts.{IsDraftAt}
+use Rattle.opt_engine.specs.Verdicts.{IsDraftAt, IsStartAt}
 use Rattle.opt_engine.proofs.Plain.{plainly_ready}
 
 -- a ready task has met no fault
@@ -47,13 +48,23 @@ next_decided p lim st d row copy same reached drafted ready there copied says =
           says.1 (ap unreserved (is.1.2 ∙ ap (λ (r : TaskRow). ready_frame st.tasks r.frame) own) ∙ sym (ap unreserved copied)),
     )
 
--- copies of the cells and of the frame that the next segment of a ready task begins with are a draft of it
-pub draft_is : (p : Program) (lim : Bounds) (st : State) (t : ℕ) (row : TaskRow) (frame : Frame) (cells : List ℤ) → IsWellFormed p → IsReached p lim st → DraftIsReady st t → IsRow st t row
-    → frame ≡ unreserved (ready_frame st.tasks row.frame) → cells ≡ st.cells → IsDraftAt p st t (Some (record { task = t; frame = frame; cells = cells }))
-draft_is p lim st t row frame cells well reached ready there copied same = (
+-- a copy of the frame that the next segment of a ready task begins with is a start of it
+pub start_is : (p : Program) (lim : Bounds) (st : State) (t : ℕ) (row : TaskRow) (frame : Frame) → IsReached p lim st → DraftIsReady st t → IsRow st t row
+    → frame ≡ unreserved (ready_frame st.tasks row.frame) → IsStartAt st t (Some (record { task = t; frame = frame }))
+start_is p lim st t row frame reached ready there copied = (
   ready,
   refl,
   (row, there, copied ∙ sym (plainly_ready p lim st t row reached there (ready_well st t row ready there))),
+  copied ∙ sym (ap unreserved copied),
+)
+
+-- with a copy of the cells a start is a draft
+pub draft_is : (p : Program) (lim : Bounds) (st : State) (t : ℕ) (start : Start) (cells : List ℤ) → IsWellFormed p → IsReached p lim st → IsStartAt st t (Some start) → cells ≡ st.cells
+    → IsDraftAt p st t (Some (record { task = start.task; frame = start.frame; cells = cells }))
+draft_is p lim st t start cells well reached is same = (
+  is.0,
+  is.1,
+  is.2,
   same,
-  record { cells = ap length same ∙ (reached_stands p lim st well reached).cells; plain = copied ∙ sym (ap unreserved copied) },
+  record { cells = ap length same ∙ (reached_stands p lim st well reached).cells; plain = is.3 },
 )

@@ -21,7 +21,7 @@ length_after cells (Writes cell value ∷ earlier) = length-set (after cells ear
 length_after cells (Prints value ∷ earlier) = length_after cells earlier
 
 -- what stands in a place once it was set, and there is such a place
-set_there : (cells : List ℤ) (cell : ℕ) (value : ℤ) → cell < length cells → slice_get (slice_set cells cell value) cell ≡ Some value
+pub set_there : (cells : List ℤ) (cell : ℕ) (value : ℤ) → cell < length cells → slice_get (slice_set cells cell value) cell ≡ Some value
 set_there cells cell value below = let was = below_there cells cell below in set_same cells cell was.0 value was.1
 
 -- a cell has its last written value, or else the value that it had
@@ -111,7 +111,7 @@ reads_below cells (Prints value ∷ earlier) may = reads_below cells earlier may
 -- Making the writes leads to the cells after the accesses.
 
 -- the cell is in the list
-abbrev has : List ℕ → ℕ → Bool
+abbrev pub has : List ℕ → ℕ → Bool
 has [] k = false
 has (x ∷ xs) k = nat_eq x k || has xs k
 
@@ -153,7 +153,7 @@ pub length_written : (cells : List ℤ) (writes : List CellValue) → length (wi
 length_written cells [] = refl
 length_written cells (w ∷ ws) = length_written (slice_set cells w.cell w.value) ws ∙ length-set cells w.cell w.value
 
-both_same : {A : Type 0} (b : Bool) (x y : A) → y ≡ x → (if b then x else y) ≡ x
+pub both_same : {A : Type 0} (b : Bool) (x y : A) → y ≡ x → (if b then x else y) ≡ x
 both_same true x y e = refl
 both_same false x y e = e
 

@@ -2,4 +2,5 @@ pub mod Taking
 pub mod Touches
 pub mod Drafts
 pub mod Verdicts
+pub mod NextMoves
 pub mod inner

@@ -21,9 +21,10 @@ use Rattle.opt_engine.specs.declared.core_run.CoreRun.{CoreRun}
 use Rattle.opt_engine.specs.declared.touch.CellValue.{CellValue}
 use Rattle.opt_engine.specs.declared.drafts.Draft.{Draft}
 use Rattle.opt_engine.specs.declared.drafts.Drafted.{Drafted}
+use Rattle.opt_engine.specs.declared.starts.Start.{Start}
 use Rattle.opt_engine.specs.declared.verdict.Verdict.{Verdict}
 use Rattle.opt_engine.specs.declared.verdict.Verdict.TheVariants.{Committed, Passed, Held, Changed}
-use Rattle.opt_engine.specs.Drafts.{AccessesBeginWith, Fits, IsDraftOf, IsNext, DraftIsReady, StandsIn}
+use Rattle.opt_engine.specs.Drafts.{AccessesBeginWith, Fits, IsDraftOf, IsNext, DraftIsReady, StandsIn, unreserved}
 
 -- The journal is legal for the program under the limits, and leads to the state. It goes on from the earlier one.
 pub record RunGoesOn (p : Program) (lim : Bounds) (earlier : List Entry) (run : CoreRun) : Type 0 where
@@ -97,6 +98,17 @@ Judges p lim run d (Changed cell read now) new =
 abbrev pub AnswersCommit : Program → Bounds → List Entry → Option CoreRun → Drafted → Verdict → Option CoreRun → Type 0
 AnswersCommit p lim earlier old d verdict new =
     (run : CoreRun) × (old ≡ Some run) × RunGoesOn p lim earlier run × Judges p lim run d verdict new
+
+-- the start of the next segment of the task: the task is ready, and this is the frame that the segment begins with; none if the
+-- task is not ready
+abbrev pub IsStartAt : State → ℕ → Option Start → Type 0
+IsStartAt st t None = ¬ DraftIsReady st t
+IsStartAt st t (Some start) =
+    DraftIsReady st t × (start.task ≡ t) × AccessesBeginWith st t start.frame × (start.frame ≡ unreserved start.frame)
+
+-- the core had a run, and gives a start of its state
+abbrev pub Starts : Option CoreRun → ℕ → Option Start → Type 0
+Starts core t start = (run : CoreRun) × (core ≡ Some run) × IsStartAt run.state t start
 
 -- a draft of the next segment of the task: the task is ready, and the draft has the cells and the frame that the segment
 -- begins with; none if the task is not ready

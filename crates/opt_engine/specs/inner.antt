@@ -1,4 +1,5 @@
 pub mod Frames
+pub mod Hinting
 pub mod Judging
 pub mod Knowing
 pub mod Noting

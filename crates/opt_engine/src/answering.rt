@@ -9,6 +9,7 @@ ghost use Rattle.opt_engine.specs.Verdicts.{Judges};
 use crate::committing::take_moves;
 use crate::core_run::CoreRun;
 use crate::drafts::Drafted;
+use crate::hints::Hints;
 use crate::judging::{Finding, judge};
 use crate::verdict::Verdict;
 use std::alloc::Global;
@@ -17,12 +18,13 @@ use twe_machine::EnabledTasks;
 use twe_program::Prog;
 
 /// Takes the moves that a draft stands for, if it fits and they are legal, and else says why not. Then the run is as before.
-/// The enabled tasks are those of the run.
+/// The enabled tasks are those of the run. The words of the hints have what was written.
 #[tactic(auto, using(crate::proofs::Told::takes_begin, crate::proofs::Told::begins_itself, crate::proofs::Told::reached_of))]
 pub(crate) fn answer(
     alloc: Global,
     p: &Prog,
     lim: Limits,
+    hints: &Hints,
     run: CoreRun,
     enabled: &mut EnabledTasks,
     d: Drafted,
@@ -37,7 +39,7 @@ pub(crate) fn answer(
 {
     match judge(alloc, p, &run.state, enabled, &d)? {
         Finding::Fits => {
-            let (after, number) = take_moves(alloc, p, lim, run, enabled, d)?;
+            let (after, number) = take_moves(alloc, p, lim, hints, run, enabled, d)?;
             Ok((after, Verdict::Committed { number }))
         }
         Finding::Passed => Ok((run, Verdict::Passed)),

@@ -12,6 +12,7 @@ ghost use Rattle.opt_engine.specs.inner.Judging.{Admits};
 
 use crate::core_run::CoreRun;
 use crate::drafts::Drafted;
+use crate::hints::Hints;
 use crate::readiness::is_made;
 use crate::touch::CellValue;
 use seg_journal::{Entry, Kind, Move};
@@ -21,11 +22,12 @@ use twe_machine::{EnabledTasks, settle};
 use twe_program::Prog;
 
 /// Takes the moves of a draft that fits and whose task may be admitted if it waits for that. Returns the run and the number
-/// of the last entry, counted from 0. The enabled tasks are those of the run.
+/// of the last entry, counted from 0. The enabled tasks are those of the run. The words of the hints have what was written.
 pub(crate) fn take_moves(
     alloc: Global,
     p: &Prog,
     lim: Limits,
+    hints: &Hints,
     run: CoreRun,
     enabled: &mut EnabledTasks,
     d: Drafted,
@@ -47,6 +49,7 @@ pub(crate) fn take_moves(
     };
     admit_if_made(alloc, p, lim, &mut run, enabled, d.task)?;
     let before = run.state.links.task_count();
+    hints.store_all(d.writes.as_slice());
     enter(alloc, p, lim, &mut run, d)?;
     enabled.note(&run.state, mv, before)?;
     let number = run.journal.len().saturating_sub(1) as u64;
@@ -54,7 +57,7 @@ pub(crate) fn take_moves(
 }
 
 /// Admits a task if it waits for its admission.
-fn admit_if_made(
+pub(crate) fn admit_if_made(
     alloc: Global,
     p: &Prog,
     lim: Limits,

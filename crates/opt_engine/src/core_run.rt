@@ -1,11 +1,13 @@
 //! The run of a core so far, and the next move of it.
 ghost use Rattle.std.specs.Prelude.{◌≡◌, [], IfOk, OnOk};
-ghost use Rattle.twe_machine.specs.Legal.{MayMove};
+ghost use Rattle.twe_machine.specs.Legal.{MayMove, MayRun};
 ghost use Rattle.twe_machine.specs.Moves.{start_of};
 ghost use Rattle.twe_machine.specs.Runs.{IsRun};
 ghost use Rattle.opt_engine.specs.Taking.{TakingSteps};
 
-use seg_journal::{Entry, Journal, Move};
+use crate::hints::Hints;
+use crate::mirrored::run_mirrored;
+use seg_journal::{Entry, Journal, Kind, Move};
 use std::alloc::Global;
 use twe_base::{Limits, Memory};
 use twe_machine::{State, start, step};
@@ -38,6 +40,29 @@ impl CoreRun {
         ensures { OnOk result (TakingSteps p.now lim self.old mv self.new) }
     {
         let end = step(alloc, p, lim, &mut self.state, mv)?;
+        self.journal.push(Entry { mv, end })?;
+        Ok(())
+    }
+
+    /// Runs the next segment of a task that may run, and enters the move into the journal. The words of the hints have what the
+    /// segment has written. After `Memory` the run can only be dropped.
+    pub(crate) fn run_shown(
+        &mut self,
+        alloc: Global,
+        p: &Prog,
+        lim: Limits,
+        hints: &Hints,
+        t: u32,
+    ) -> Result<(), Memory>
+        requires run { IsRun p.now lim self.old.journal self.old.state }
+        requires may { MayRun self.old.state t }
+        ensures { OnOk result (TakingSteps p.now lim self.old (record { kind = Kind.Run; task = t }) self.new) }
+    {
+        let mv = Move {
+            kind: Kind::Run,
+            task: t,
+        };
+        let end = run_mirrored(alloc, p, lim, hints, &mut self.state, t)?;
         self.journal.push(Entry { mv, end })?;
         Ok(())
     }

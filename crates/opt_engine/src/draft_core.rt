@@ -1,14 +1,20 @@
 //! A run to which drafts are committed.
 ghost use Rattle.std.specs.Prelude.{◌≡◌, [], Some, None, IfOk, OnErr, option_copied};
+ghost use Rattle.twe_program.specs.Program.{cell_count};
 ghost use Rattle.twe_machine.specs.Moves.{start_of};
 ghost use Rattle.opt_engine.specs.Drafts.{IsDraftedOf};
-ghost use Rattle.opt_engine.specs.Verdicts.{AnswersCommit, Drafts, HoldsBack, RunGoesOn, IsKept};
+ghost use Rattle.opt_engine.specs.NextMoves.{AnswersNext};
+ghost use Rattle.opt_engine.specs.Verdicts.{AnswersCommit, Drafts, HoldsBack, RunGoesOn, IsKept, Starts};
 
 use crate::answering::answer;
 use crate::core_run::CoreRun;
 use crate::drafts::{Draft, Drafted};
+use crate::hints::Hints;
 use crate::judging::some_bar;
-use crate::readiness::draft_of;
+use crate::next_moves::go_next;
+use crate::readiness::{draft_of, next_start};
+use crate::scratch::{Scratch, scratch_of};
+use crate::starts::Start;
 use crate::verdict::Verdict;
 use std::alloc::Global;
 use std::marker::{Model, PhantomData};
@@ -104,6 +110,25 @@ impl<N: RoundName> Core<N> {
         draft_of(self.alloc, p, &run.state, t)
     }
 
+    /// The start of the next segment of a task: a copy of the frame that the segment begins with. None if the task is not
+    /// ready.
+    pub fn start(&self, p: &Prog, t: u32) -> Result<Option<Start>, Memory>
+        requires { p.now ≡ N.prog }
+        ensures { IfOk result (Starts self.now t) }
+    {
+        let run = self.run.as_ref().ok_or(lost())?;
+        next_start(self.alloc, p, &run.state, t)
+    }
+
+    /// Room for running starts of this run.
+    pub fn scratch(&self, p: &Prog) -> Result<Scratch, Memory>
+        requires { p.now ≡ N.prog }
+        ensures { IfOk result (λ scratch. scratch ≡ cell_count p.now) }
+    {
+        let run = self.run.as_ref().ok_or(lost())?;
+        scratch_of(self.alloc, p, &run.state)
+    }
+
     /// Some bar to the admission of a task, or `None` if nothing holds it back. It need not be the lowest one, and is looked
     /// for where the effects of the task are placed alone.
     pub fn bar(&self, p: &Prog, t: u32) -> Result<Option<u32>, Memory>
@@ -122,9 +147,33 @@ impl<N: RoundName> Core<N> {
         ensures ok { IfOk result (λ verdict. AnswersCommit N.prog N.lim N.earlier self.old d verdict self.new) }
         ensures err { OnErr result (self.new ≡ None) }
     {
+        self.commit_shown(p, d, &Hints::none(self.alloc))
+    }
+
+    /// The same, and the words of these hints have what was written.
+    pub fn commit_shown(&mut self, p: &Prog, d: Drafted, hints: &Hints) -> Result<Verdict, Memory>
+        requires named { p.now ≡ N.prog }
+        requires drafted { IsDraftedOf p.now d }
+        ensures ok { IfOk result (λ verdict. AnswersCommit N.prog N.lim N.earlier self.old d verdict self.new) }
+        ensures err { OnErr result (self.new ≡ None) }
+    {
         let run = self.run.take().ok_or(lost())?;
-        let (after, verdict) = answer(self.alloc, p, self.lim, run, &mut self.enabled, d)?;
+        let (after, verdict) = answer(self.alloc, p, self.lim, hints, run, &mut self.enabled, d)?;
         self.run = Some(after);
         Ok(verdict)
+    }
+
+    /// Takes the moves of the next segment of a task without a draft, if they are legal: its admission first, if it waits for
+    /// that. Returns the number of the last entry, counted from 0, or `None` if they are not legal. Then nothing has changed.
+    /// The words of these hints have what was written.
+    pub fn go_on(&mut self, p: &Prog, t: u32, hints: &Hints) -> Result<Option<u64>, Memory>
+        requires named { p.now ≡ N.prog }
+        ensures ok { IfOk result (λ number. AnswersNext N.prog N.lim N.earlier self.old t number self.new) }
+        ensures err { OnErr result (self.new ≡ None) }
+    {
+        let run = self.run.take().ok_or(lost())?;
+        let (after, number) = go_next(self.alloc, p, self.lim, hints, run, &mut self.enabled, t)?;
+        self.run = Some(after);
+        Ok(number)
     }
 }

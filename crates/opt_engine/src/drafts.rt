@@ -48,13 +48,13 @@ pub fn run_draft(alloc: Global, p: &Prog, draft: Draft) -> Result<Drafted, Memor
     let mut after = copy_frame(alloc, &frame)?;
     let mut touching = Touching::new(alloc, cells)?;
     let stop = run_segment(alloc, p, &mut after, &mut touching)?;
-    let (reads, writes) = touching.into_touched(alloc)?;
+    let noted = touching.into_noted(alloc)?;
     Ok(Drafted {
         task,
         before: frame,
         after,
-        reads,
-        writes,
+        reads: noted.reads,
+        writes: noted.writes,
         stop,
     })
 }

@@ -44,6 +44,7 @@ impl Notes {
     pub(crate) fn read(&mut self, cell: u32, value: i32) -> Result<(), Memory>
         requires { cell < length self.old.marks }
         ensures noted { OnOk result (self.new ≡ read_noted cell value self.old) }
+        ensures marked { self.new.marks ≡ (read_noted cell value self.old).marks }
         ensures marks { length self.new.marks ≡ length self.old.marks }
     {
         let at = cell as usize;
@@ -61,6 +62,7 @@ impl Notes {
     pub(crate) fn write(&mut self, cell: u32) -> Result<(), Memory>
         requires { cell < length self.old.marks }
         ensures noted { OnOk result (self.new ≡ write_noted cell self.old) }
+        ensures marked { self.new.marks ≡ (write_noted cell self.old).marks }
         ensures marks { length self.new.marks ≡ length self.old.marks }
     {
         let at = cell as usize;
@@ -75,6 +77,7 @@ impl Notes {
     fn first_write(&mut self, cell: u32) -> Result<(), Memory>
         requires { cell < length self.old.marks }
         ensures noted { OnOk result (self.new ≡ first_write_noted cell self.old) }
+        ensures marked { self.new.marks ≡ (first_write_noted cell self.old).marks }
         ensures marks { length self.new.marks ≡ length self.old.marks }
     {
         self.marks.set(cell as usize, Mark::Written);

@@ -6,10 +6,11 @@ ghost use Rattle.twe_machine.specs.Rows.{HasStatus};
 ghost use Rattle.twe_machine.specs.Runs.{IsReached};
 ghost use Rattle.twe_base.specs.Limits.{Bounds};
 ghost use Rattle.opt_engine.specs.Drafts.{DraftIsReady, unreserved};
-ghost use Rattle.opt_engine.specs.Verdicts.{IsDraftAt};
+ghost use Rattle.opt_engine.specs.Verdicts.{IsDraftAt, IsStartAt};
 
 use crate::drafts::Draft;
 use crate::frames::copy_frame;
+use crate::starts::Start;
 use seg_exec::Frame;
 use std::alloc::Global;
 use twe_base::{List, Memory};
@@ -57,10 +58,15 @@ pub(crate) fn ready_copy(
     Ok(frame)
 }
 
-/// A draft of the next segment of a task in a reached state; none if the task is not ready.
-pub(crate) fn draft_of(alloc: Global, p: &Prog, st: &State, t: u32) -> Result<Option<Draft>, Memory>
+/// The start of the next segment of a task in a reached state; none if the task is not ready.
+pub(crate) fn next_start(
+    alloc: Global,
+    p: &Prog,
+    st: &State,
+    t: u32,
+) -> Result<Option<Start>, Memory>
     requires { (lim : Bounds) × IsReached p.now lim st.now }
-    ensures { IfOk result (IsDraftAt p.now st.now t) }
+    ensures { IfOk result (IsStartAt st.now t) }
 {
     let _main = p.main;
     if !is_ready(st, t) {
@@ -68,9 +74,24 @@ pub(crate) fn draft_of(alloc: Global, p: &Prog, st: &State, t: u32) -> Result<Op
     }
     match st.tasks.get(t as usize) {
         None => Ok(None),
-        Some(row) => Ok(Some(Draft {
+        Some(row) => Ok(Some(Start {
             task: t,
             frame: ready_copy(alloc, &st.tasks, row)?,
+        })),
+    }
+}
+
+/// A draft of the next segment of a task in a reached state; none if the task is not ready.
+pub(crate) fn draft_of(alloc: Global, p: &Prog, st: &State, t: u32) -> Result<Option<Draft>, Memory>
+    requires { (lim : Bounds) × IsReached p.now lim st.now }
+    ensures { IfOk result (IsDraftAt p.now st.now t) }
+{
+    let _main = p.main;
+    match next_start(alloc, p, st, t)? {
+        None => Ok(None),
+        Some(start) => Ok(Some(Draft {
+            task: start.task,
+            frame: start.frame,
             cells: st.cells.copy(alloc)?,
         })),
     }

@@ -2,7 +2,7 @@
 ghost use Rattle.std.specs.Prelude.{◌≡◌, map, IfOk, None};
 ghost use Rattle.opt_engine.specs.inner.Noting.{MayTouch, TouchFollows, fresh, touch_knows, value_at};
 
-use crate::notes::Notes;
+use crate::notes::{Mark, Notes};
 use crate::touch::{CellValue, Touched};
 use seg_exec::Cells;
 use std::alloc::Global;
@@ -20,6 +20,19 @@ pub(crate) struct Touching {
     pub missing: Option<Memory>,
 }
 
+/// What is left of such cells after a segment.
+#[derive(Debug, Drop)]
+pub(crate) struct Noted {
+    /// The values.
+    pub cells: Ints,
+    /// A mark for each cell.
+    pub marks: List<Mark>,
+    /// What was read before it was written.
+    pub reads: Touched,
+    /// What was written, with the values that the cells have now.
+    pub writes: Touched,
+}
+
 impl Touching {
     /// These cells, none of which was read or written.
     pub(crate) fn new(alloc: Global, cells: Ints) -> Result<Self, Memory>
@@ -34,10 +47,12 @@ impl Touching {
     }
 
     /// What was read before it was written, and what was written, with the values that the cells have now.
-    pub(crate) fn into_touched(self, alloc: Global) -> Result<(Touched, Touched), Memory>
+    pub(crate) fn into_noted(self, alloc: Global) -> Result<Noted, Memory>
         ensures whole { IfOk result (λ _. self.missing ≡ None) }
-        ensures reads { IfOk result (λ touched. touched.0 ≡ self.notes.reads) }
-        ensures writes { IfOk result (λ touched. touched.1 ≡ map (value_at self.cells) self.notes.written) }
+        ensures cells { IfOk result (λ noted. noted.cells ≡ self.cells) }
+        ensures marks { IfOk result (λ noted. noted.marks ≡ self.notes.marks) }
+        ensures reads { IfOk result (λ noted. noted.reads ≡ self.notes.reads) }
+        ensures writes { IfOk result (λ noted. noted.writes ≡ map (value_at self.cells) self.notes.written) }
     {
         let Touching {
             cells,
@@ -47,12 +62,30 @@ impl Touching {
         if let Some(memory) = missing {
             return Err(memory);
         }
-        let mut writes = List::with_capacity(alloc, notes.written.len())?;
-        for cell in notes.written.as_slice() {
-            writes.push(value_at(&cells, *cell))?;
-        }
-        Ok((notes.reads, writes))
+        let Notes {
+            marks,
+            reads,
+            written,
+        } = notes;
+        let writes = values_of(alloc, &cells, written.as_slice())?;
+        Ok(Noted {
+            cells,
+            marks,
+            reads,
+            writes,
+        })
     }
+}
+
+/// These cells with their values.
+fn values_of(alloc: Global, cells: &Ints, written: &[u32]) -> Result<Touched, Memory>
+    ensures { IfOk result (λ values. values ≡ map (value_at cells.now) written.now) }
+{
+    let mut values = List::with_capacity(alloc, written.len())?;
+    for cell in written {
+        values.push(value_at(cells, *cell))?;
+    }
+    Ok(values)
 }
 
 /// A cell with its value.

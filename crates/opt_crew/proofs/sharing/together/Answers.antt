@@ -7,22 +7,26 @@ use Rattle.std.proofs.sync.Mutex.TheSendSync as mutex
 use Rattle.std.proofs.sync.atomic.AtomicU64.TheSendSync as word
 use Rattle.opt_crew.specs.contracts.sharing.Shared as Shared
 use Rattle.opt_crew.proofs.round_core.RoundCore.TheSendSync as core
+use Rattle.opt_engine.proofs.hints.Hints.TheSendSync as hints
 use Rattle.twe_rounds.proofs.Crossing.{game_sync, tuple_sync}
 use Rattle.opt_crew.proofs.sharing.together.Goals as goal
 
--- the workers share the program, a word and the run under its lock
+-- the workers share the gate, the program, a word, the hints and the run under its lock
 pub for_each_mut-requires-sync-F : goal.for_each_mut-requires-sync-F
 for_each_mut-requires-sync-F g c κs within =
-    param_sync 2 _ (arg_sync _ no _ (tuple_sync _ _ (shr_sync _ _ (Shared.the_row (record { mir = named 7; lft = κs.1.1.1.1.1.1.1.0 }) (param 1 g.row.R) (param 0 g.row.N) g.N.RoundName)
-    (recorded_sync (Shared.the_field (record { mir = named 7; lft = κs.1.1.1.1.1.1.1.0 }) (param 1 g.row.R) (param 0 g.row.N) g.N.RoundName).row _ _
-    (Shared.the_type (record { mir = named 7; lft = κs.1.1.1.1.1.1.1.0 }) (param 1 g.row.R) (param 0 g.row.N) g.N.RoundName).to_one
-    (struct_sync (shape (Shared.the_type (record { mir = named 7; lft = κs.1.1.1.1.1.1.1.0 }) (param 1 g.row.R) (param 0 g.row.N) g.N.RoundName)) (
+    param_sync 2 _ (arg_sync _ no _ (tuple_sync _ _ (shr_sync _ _ (Shared.the_row (record { mir = named 7; lft = κs.1.1.1.1.1.1.1.0 }) (param 1 g.row.R) (param 2 g.row.G) (param 0 g.row.N) g.N.RoundName)
+    (recorded_sync (Shared.the_field (record { mir = named 7; lft = κs.1.1.1.1.1.1.1.0 }) (param 1 g.row.R) (param 2 g.row.G) (param 0 g.row.N) g.N.RoundName).row _ _
+    (Shared.the_type (record { mir = named 7; lft = κs.1.1.1.1.1.1.1.0 }) (param 1 g.row.R) (param 2 g.row.G) (param 0 g.row.N) g.N.RoundName).to_one
+    (struct_sync (shape (Shared.the_type (record { mir = named 7; lft = κs.1.1.1.1.1.1.1.0 }) (param 1 g.row.R) (param 2 g.row.G) (param 0 g.row.N) g.N.RoundName)) (
       shr_sync _ _ _ (param_sync 1 _ c.type_bounds.sync-R),
       (
-        shr_sync _ _ _ word.the_sync,
+        shr_sync _ _ _ (param_sync 2 _ c.type_bounds.sync-G),
         (
-          shr_sync _ _ _ (game_sync _ (param 0 g.row.N) g.N.RoundName),
-          (shr_sync _ _ _ (mutex.the_sync _ (core.the_send (param 0 g.row.N) g.N.RoundName)), tt),
+          shr_sync _ _ _ word.the_sync,
+          (
+            shr_sync _ _ _ (game_sync _ (param 0 g.row.N) g.N.RoundName),
+            (shr_sync _ _ _ hints.the_sync, (shr_sync _ _ _ (mutex.the_sync _ (core.the_send (param 0 g.row.N) g.N.RoundName)), tt)),
+          ),
         ),
       ),
     ))))))

@@ -22,8 +22,8 @@ returns c =
       task = c.args.draft.task;
       before = c.args.draft.frame;
       after = new_frame;
-      reads = c.in_ok-reads.ensures.reads i;
-      writes = c.in_ok-reads.ensures.writes i;
+      reads = c.in_ok-noted.ensures.reads i;
+      writes = c.in_ok-noted.ensures.writes i;
       stop = stop;
     })
-    ∙ ran_draft p c.args.draft new_frame c.in_ok-touching.touching new stop (subst IsWellFormed c.p.view_is c.p.invariant) c.requires c.in_ok-touching.ensures carried c.in_ok-reads.ensures.whole
+    ∙ ran_draft p c.args.draft new_frame c.in_ok-touching.touching new stop (subst IsWellFormed c.p.view_is c.p.invariant) c.requires c.in_ok-touching.ensures carried c.in_ok-noted.ensures.whole

@@ -1,6 +1,6 @@
 use Rattle.std.proofs.Common.{sym, ◌∙◌}
 use Rattle.opt_engine.proofs.Told.{answer_kept}
-use Rattle.opt_engine.proofs.draft_core.Core.commit.Goals as goal
+use Rattle.opt_engine.proofs.draft_core.Core.commit_shown.Goals as goal
 
 -- the core answers as its run does
 pub returns-clause-ok : goal.returns-clause-ok
