@@ -17,6 +17,8 @@ use Rattle.twe_io.specs.Ends.{Ends, EndsTell, SourceTells}
 use Rattle.twe_io.specs.Answers.{IsAnswered, on_err, on_out}
 use Rattle.twe_explain.specs.Explanation.{explanation_by, explanation_of}
 use Rattle.twe_explain.specs.declared.explanation.Explanation.{Explanation}
+use Rattle.twe_explain.specs.declared.mends.Mend.{Mend}
+use Rattle.twe_explain.specs.Mends.{AreTried, mends_for}
 use Rattle.twe_explain.specs.Named.{named_explanation}
 use Rattle.twe_explain.specs.Tokens.{stray_explanation}
 use Rattle.twe_explain.specs.Variables.{place_of_cause, variables_at}
@@ -28,6 +30,10 @@ use Rattle.twe_explain.specs.declared.words.Wanted.{Wanted}
 -- what is said of a refusal with its cause, by the names that the text has
 abbrev pub caused_explanation : Refusal → RuleCause → Ast → Program → Explanation
 caused_explanation refusal cause tree p = explanation_by refusal cause p.regions (variables_at tree.items (place_of_cause cause))
+
+-- the edits that may mend a failure with this cause, by the names that the text has
+abbrev pub mends_of : List ℕ → Refusal → RuleCause → Ast → Program → List Mend
+mends_of text refusal cause tree p = mends_for text refusal.place cause p.regions (variables_at tree.items (place_of_cause cause))
 
 -- The answer to a text that was read. All of it is on out, and the status is that of `twe check`.
 pub data ExplainDue (wanted : Wanted) (text : List ℕ) : Answer → Type 0 where
@@ -43,9 +49,13 @@ pub data ExplainDue (wanted : Wanted) (text : List ℕ) : Answer → Type 0 wher
   -- the text is refused by a rule of names; the declaration of the name that stands at the place is shown, if it has one
   named : (refusal : Refusal) (tree : Ast) → IsRefusal text refusal → is_of_names refusal.rule ≡ true → IsTreeOf text tree
       → ExplainDue wanted text (on_out Refused (refused_text wanted text refusal (named_explanation text refusal tree.items)))
-  -- the text is refused, and the cause is true of the program that it means; after the answer of `twe check` comes the cause
-  caused : (refusal : Refusal) (cause : RuleCause) (tree : Ast) (p : Program) → IsCausedBy text refusal cause tree p
-      → ExplainDue wanted text (on_out Refused (refused_text wanted text refusal (caused_explanation refusal cause tree p)))
+  -- The text is refused, and the cause is true of the program that it means; after the answer of `twe check` comes the cause.
+  -- Edits that may mend it are tried, and what is said of those after which it is accepted comes last.
+  caused : (refusal : Refusal) (cause : RuleCause) (tree : Ast) (p : Program) (remarks : List (List ℕ))
+      → IsCausedBy text refusal cause tree p
+      → AreTried (mends_of text refusal cause tree p) (caused_explanation refusal cause tree p).remarks remarks
+      → ExplainDue wanted text (on_out Refused (refused_text wanted text refusal
+      (record (caused_explanation refusal cause tree p) { remarks = remarks })))
 
 -- Why the program gives an answer, before it writes anything.
 pub data ExplainCause {S : Type 0} (tells : SourceTells S) (words : List (List ℕ)) (before after : S) : Answer → Type 0 where

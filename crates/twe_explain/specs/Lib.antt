@@ -10,5 +10,7 @@ pub mod Explanation
 pub mod Tokens
 pub mod Declaring
 pub mod Named
+pub mod Edits
+pub mod Mends
 pub mod Page
 pub mod Answers

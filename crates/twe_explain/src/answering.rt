@@ -7,6 +7,7 @@ ghost use Rattle.refusal_causes.specs.NextTokens.{AreNextAt};
 ghost use Rattle.twe_frontend.specs.Accepted.{IsRefusal, IsTreeOf};
 
 use crate::explanation::{explanation_by, explanation_of};
+use crate::mends::{mends_for, try_mends};
 use crate::named::named_explanation;
 use crate::page::refused_text;
 use crate::tokens::stray_explanation;
@@ -121,7 +122,9 @@ fn answer_caused(
 {
     let names = variables_at(alloc, tree.items.as_slice(), place_of_cause(cause))?;
     let regions = p.regions.as_slice();
-    let explanation = explanation_by(alloc, refusal, cause, regions, names.as_slice())?;
+    let mends = mends_for(alloc, text, refusal.place, cause, regions, names.as_slice())?;
+    let mut explanation = explanation_by(alloc, refusal, cause, regions, names.as_slice())?;
+    try_mends(&mut explanation.remarks, alloc, mends.as_slice())?;
     let lines = refused_text(alloc, wanted, text, refusal, &explanation)?;
     Ok(Answer::on_out(alloc, Status::Refused, lines))
 }

@@ -11,7 +11,7 @@ pub(crate) fn line_at(text: &[u8], number: u32) -> &[u8]
 }
 
 /// The text after so many lines.
-fn after_lines(text: &[u8], count: u32) -> &[u8]
+pub(crate) fn after_lines(text: &[u8], count: u32) -> &[u8]
     ensures { result.now ≡ after_lines count text.now }
 {
     let mut rest = text;

@@ -5,10 +5,12 @@
 mod alone;
 mod answering;
 mod declared;
+mod edits;
 mod effects;
 mod excerpt;
 mod explanation;
 mod line;
+mod mends;
 mod named;
 mod page;
 mod program;

@@ -1,0 +1,5 @@
+use Rattle.twe_explain.proofs.mends.tell_accepted.Goals as goal
+
+-- by its program
+pub returns : goal.returns
+returns c = (c.args.p.now, c.requires)
