@@ -1,5 +1,5 @@
 -- Edits that may mend a text, and those of them after which it is accepted.
-use Rattle.std.specs.Prelude.{◌≡◌, ◌<◌, ℕ, Bool, true, false, List, [], ◌∷◌, ◌++◌, length, drop, codes, decimal}
+use Rattle.std.specs.Prelude.{◌≡◌, ◌<◌, ℕ, Bool, true, false, List, [], ◌∷◌, ◌++◌, length, drop, codes, decimal, if◌then◌else◌}
 use Rattle.twe_base.specs.Language.{max_text_bytes}
 use Rattle.twe_base.specs.declared.place.Place.{Place}
 use Rattle.effect_sets.specs.declared.effects.Effect.{Effect}
@@ -39,6 +39,21 @@ moved_join_mend text name place =
     (with_end text (from_statement text place.line)
     (join_text name ++ (codes " " ++ without_first (join_text name) (from_statement text place.line))))
 
+-- some bytes are left
+abbrev pub is_left : List ℕ → Bool
+is_left [] = false
+is_left (code ∷ bytes) = true
+
+-- a join of this name stands in the line of the place or after it
+abbrev pub has_join : List ℕ → List ℕ → Place → Bool
+has_join text name place = is_left (from_first (join_text name) (from_statement text place.line))
+
+-- a join before the statement of the line, and the same in place of one that stands there or after it, if one does
+abbrev pub out_mends : List ℕ → List ℕ → Place → List Mend
+out_mends text name place =
+    if has_join text name place then join_mend text name place ∷ moved_join_mend text name place ∷ []
+    else join_mend text name place ∷ []
+
 -- `writes B` with the effects of `w`
 abbrev pub effect_said : List ℕ → List ℕ → List ℕ
 effect_said effect name = codes "`" ++ (effect ++ (codes "` with the effects of `" ++ (name ++ codes "`")))
@@ -67,7 +82,7 @@ abbrev pub mends_for : List ℕ → Place → RuleCause → List (List ℕ) → 
 mends_for text place (Undeclared need declared decl_place) regions variables =
     declared_mend declared.effects text (effect_text regions variables need) (word_at text decl_place) decl_place ∷ []
 mends_for text place (Out need other future_place decl_place) regions variables =
-    join_mend text (word_at text future_place) place ∷ moved_join_mend text (word_at text future_place) place ∷ []
+    out_mends text (word_at text future_place) place
 mends_for text place (NotOut future_place) regions variables = []
 mends_for text place OutAgain regions variables = []
 mends_for text place (OrderOpen makes decl_place) regions variables = []

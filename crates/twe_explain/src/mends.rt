@@ -4,7 +4,7 @@ ghost use Rattle.text_meaning.specs.EffectTexts.{effect_text};
 ghost use Rattle.twe_frontend.specs.Accepted.{Accepted, IsRefusal};
 ghost use Rattle.twe_explain.specs.Declaring.{word_at};
 ghost use Rattle.twe_explain.specs.Edits.{from_first, from_place, from_statement, without_first};
-ghost use Rattle.twe_explain.specs.Mends.{AreTried, IsTried, TellsAcceptance, declared_mend, effect_mend, effect_said, join_mend, join_said, join_text, mend_remark, mends_for, moved_join_mend, pure_mend};
+ghost use Rattle.twe_explain.specs.Mends.{AreTried, IsTried, TellsAcceptance, declared_mend, effect_mend, effect_said, has_join, is_left, join_mend, join_said, join_text, mend_remark, mends_for, moved_join_mend, out_mends, pure_mend};
 
 use crate::declared::word_at;
 use crate::edits::{from_first, from_place, from_statement, with_end, without_first};
@@ -205,14 +205,52 @@ fn undeclared_mends(
     Ok(mends)
 }
 
-/// The edits for an effect that a spawned task may still have.
-fn out_mends(alloc: Global, text: &[u8], name: &[u8], place: Place) -> Result<Mends, Memory>
-    ensures { IfOk result (λ mends. mends ≡ join_mend text.now name.now place ∷ moved_join_mend text.now name.now place ∷ []) }
+/// Whether some bytes are left.
+fn is_left(bytes: &[u8]) -> bool
+    ensures { result ≡ is_left bytes.now }
+{
+    match bytes {
+        [] => false,
+        [_, ..] => true,
+    }
+}
+
+/// Whether a join of this name stands in the line of the place or after it.
+fn has_join(alloc: Global, text: &[u8], name: &[u8], place: Place) -> Result<bool, Memory>
+    ensures { IfOk result (λ has. has ≡ has_join text.now name.now place) }
+{
+    let join = join_text(alloc, name)?;
+    let rest = from_statement(text, place.line);
+    Ok(is_left(from_first(join.as_slice(), rest)))
+}
+
+/// A join before the statement of the line.
+fn one_join(alloc: Global, text: &[u8], name: &[u8], place: Place) -> Result<Mends, Memory>
+    ensures { IfOk result (λ mends. mends ≡ join_mend text.now name.now place ∷ []) }
 {
     let mut mends = Mends::new(alloc);
     mends.push(join_mend(alloc, text, name, place)?)?;
+    Ok(mends)
+}
+
+/// The same, and a join that is moved to there.
+fn both_joins(alloc: Global, text: &[u8], name: &[u8], place: Place) -> Result<Mends, Memory>
+    ensures { IfOk result (λ mends. mends ≡ join_mend text.now name.now place ∷ moved_join_mend text.now name.now place ∷ []) }
+{
+    let mut mends = one_join(alloc, text, name, place)?;
     mends.push(moved_join_mend(alloc, text, name, place)?)?;
     Ok(mends)
+}
+
+/// The edits for an effect that a spawned task may still have.
+fn out_mends(alloc: Global, text: &[u8], name: &[u8], place: Place) -> Result<Mends, Memory>
+    ensures { IfOk result (λ mends. mends ≡ out_mends text.now name.now place) }
+{
+    if has_join(alloc, text, name, place)? {
+        both_joins(alloc, text, name, place)
+    } else {
+        one_join(alloc, text, name, place)
+    }
 }
 
 /// The edits that may mend a failure at the place with this cause, in the order in which they are tried.
