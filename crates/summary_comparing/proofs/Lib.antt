@@ -3,3 +3,8 @@ pub mod Tops
 pub mod Keeping
 pub mod Compared
 pub mod Idle
+pub mod SameEffects
+pub mod Origins
+pub mod Ordered
+pub mod Chained
+pub mod SpawnLines

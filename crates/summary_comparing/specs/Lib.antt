@@ -4,4 +4,6 @@ pub mod Widest
 pub mod Comparisons
 pub mod EffectOrder
 pub mod CompareTexts
+pub mod Chained
+pub mod ChainTexts
 pub mod inner

@@ -1,1 +1,3 @@
 pub mod Keeping
+pub mod SameEffects
+pub mod Sources

@@ -55,7 +55,7 @@ fn is_wider(body: &[Effect], children: &[Effect], declared: &[Effect]) -> bool
 }
 
 /// How declared effects compare with what a body needs and its spawned children declare, of which these are the widest.
-fn comparison_of(
+pub(crate) fn comparison_of(
     alloc: Global,
     body: &[Effect],
     children: &[Effect],

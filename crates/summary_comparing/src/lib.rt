@@ -5,17 +5,27 @@
 //! could be smaller.
 #![tactic(auto)]
 
+mod chain;
+mod chain_lines;
 mod comparing;
 mod comparison;
 mod counted;
 mod covering;
 mod effect_order;
+mod explaining;
 mod laws;
 mod lines;
+mod named;
 mod needed;
 mod said;
+mod said_match;
+mod same_effect;
+mod sources;
+mod spawned;
 mod widest;
 
+pub use chain::NeedChain;
 pub use comparison::Comparison;
+pub use explaining::explain_lines;
 pub use laws::idle_effects_can_be_left_out;
 pub use lines::{CompareLines, compare_lines};

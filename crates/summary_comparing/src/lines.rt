@@ -114,19 +114,61 @@ fn push_name_line(text: &mut Bytes, words: &[u8], name: &Name) -> Result<(), Mem
 }
 
 /// Appends the line of a declaration that needs too many effects.
-fn push_many(text: &mut Bytes, name: &Name) -> Result<(), Memory>
+pub(crate) fn push_many(text: &mut Bytes, name: &Name) -> Result<(), Memory>
     ensures { OnOk result (text.new ≡ text.old ++ many_line name.now) }
 {
     push_name_line(text, b"too many effects: ", name)
 }
 
 /// Appends a place, as `3:8`.
-fn push_line_and_column(text: &mut Bytes, place: Place) -> Result<(), Memory>
+pub(crate) fn push_line_and_column(text: &mut Bytes, place: Place) -> Result<(), Memory>
     ensures { OnOk result (text.new ≡ text.old ++ line_and_column place) }
 {
     text.push_all(Buffer::new().format(place.line).as_bytes())?;
     text.push(b':')?;
     text.push_all(Buffer::new().format(place.col).as_bytes())
+}
+
+/// Appends the line of a declaration, if its declared summary is wider than what it needs.
+pub(crate) fn push_wider_text(
+    text: &mut Bytes,
+    alloc: Global,
+    regions: &[Word],
+    decl: &Decl,
+    comparison: &Comparison,
+) -> Result<(), Memory>
+    ensures { OnOk result (text.new ≡ text.old ++ wider_text regions.now decl.now comparison.now) }
+{
+    match comparison {
+        Comparison::Exact => Ok(()),
+        Comparison::Wider {
+            declares,
+            needed,
+            children,
+            idle,
+        } => push_wider(
+            text,
+            alloc,
+            regions,
+            decl,
+            declares.as_slice(),
+            needed.as_slice(),
+            children.as_slice(),
+            idle.as_slice(),
+        ),
+        Comparison::TooMany => Ok(()),
+    }
+}
+
+/// Appends the line of a declaration that needs too many effects, if it does.
+fn push_many_text(text: &mut Bytes, decl: &Decl, comparison: &Comparison) -> Result<(), Memory>
+    ensures { OnOk result (text.new ≡ text.old ++ many_text decl.now comparison.now) }
+{
+    match comparison {
+        Comparison::Exact => Ok(()),
+        Comparison::Wider { .. } => Ok(()),
+        Comparison::TooMany => push_many(text, &decl.name),
+    }
 }
 
 /// Appends what is written of a declaration.
@@ -140,25 +182,8 @@ fn push_comparison(
     ensures wider { OnOk result (lines.new.wider ≡ lines.old.wider ++ wider_text regions.now decl.now comparison.now) }
     ensures many { OnOk result (lines.new.many ≡ lines.old.many ++ many_text decl.now comparison.now) }
 {
-    match comparison {
-        Comparison::Exact => Ok(()),
-        Comparison::Wider {
-            declares,
-            needed,
-            children,
-            idle,
-        } => push_wider(
-            &mut lines.wider,
-            alloc,
-            regions,
-            decl,
-            declares.as_slice(),
-            needed.as_slice(),
-            children.as_slice(),
-            idle.as_slice(),
-        ),
-        Comparison::TooMany => push_many(&mut lines.many, &decl.name),
-    }
+    push_wider_text(&mut lines.wider, alloc, regions, decl, comparison)?;
+    push_many_text(&mut lines.many, decl, comparison)
 }
 
 /// What is written of each method and of each task, in the order of the declarations.

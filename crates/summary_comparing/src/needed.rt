@@ -29,7 +29,7 @@ fn push_said(
 }
 
 /// A read or a write, as an effect.
-fn touched(alloc: Global, need: &Need) -> Result<Effect, Memory>
+pub(crate) fn touched(alloc: Global, need: &Need) -> Result<Effect, Memory>
     ensures { IfOk result (λ effect. effect ≡ effect_of need.now) }
 {
     let elems = need.elems.copy(alloc)?;
@@ -110,7 +110,12 @@ pub(crate) fn body_needs(
 }
 
 /// Appends what an act needs, if it is a spawn.
-fn push_spawn(needs: &mut Effects, alloc: Global, params: u32, act: &Act) -> Result<(), Memory>
+pub(crate) fn push_spawn(
+    needs: &mut Effects,
+    alloc: Global,
+    params: u32,
+    act: &Act,
+) -> Result<(), Memory>
     ensures { OnOk result (needs.new ≡ needs.old ++ said_spawn params act.now) }
 {
     match &act.kind {

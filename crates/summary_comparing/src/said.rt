@@ -9,7 +9,7 @@ use std::alloc::{AllocError, Global};
 use twe_base::Memory;
 
 /// The element as a declaration says it that has so many parameters: a variable that is none of them becomes any index.
-fn said_elem(elem: Elem, params: u32) -> Elem
+pub(crate) fn said_elem(elem: Elem, params: u32) -> Elem
     ensures { result ≡ settled_elem params elem }
 {
     match elem {

@@ -1,0 +1,46 @@
+use Rattle.std.proofs.Common.{◌≡◌, ◌<◌, ◌≤◌, ◌∷◌, [], ℕ, List, Option, Some, None, length, inl, inr, refl, sym, ap, ◌∙◌, subst, arith}
+use Rattle.std.specs.Prelude.{slice_get}
+use Rattle.std.specs.List.{Contains}
+use Rattle.std.proofs.lemmas.Option.{slice_get_read}
+use Rattle.std.proofs.lemmas.Result.{IfOk-weaker}
+use Rattle.twe_base.specs.declared.place.Place.{Place}
+use Rattle.effect_sets.specs.declared.effects.Effect.{Effect}
+use Rattle.effect_sets.specs.declared.effects.Summary.{Summary}
+use Rattle.twe_program.specs.declared.program.Decl.{Decl}
+use Rattle.twe_program.specs.Program.{Program}
+use Rattle.effect_check.specs.declared.act.Act.{Act}
+use Rattle.effect_check.specs.Acts.{acts_in_all}
+use Rattle.effect_infer.specs.declared.needs.need.Step.{Step}
+use Rattle.effect_infer.specs.declared.needs.need.Step.TheVariants.{Touch, Call}
+use Rattle.effect_infer.specs.needs.Steps.{steps_in_all}
+use Rattle.need_chains.specs.Placed.{step_places}
+use Rattle.summary_comparing.specs.declared.chain.NeedChain.{NeedChain}
+use Rattle.summary_comparing.specs.Chained.{IsCallChain, chain_to_access}
+use Rattle.effect_infer.specs.declared.needs.need.Need.{Need}
+use Rattle.effect_infer.specs.needs.Needs.{effect_of}
+use Rattle.need_chains.specs.Chains.{LeadsToNeed}
+use Rattle.summary_comparing.proofs.Compared.{when-none, when-some}
+use Rattle.summary_comparing.proofs.chain.call_chain.Goals as goal
+
+-- the method only declares it
+pub returns-in-None : goal.returns-in-None
+returns-in-None c =
+    let p = c.args.p.now in
+    let its = c.args.its.now in
+    IfOk-weaker c.single_chain.result _ (IsCallChain p c.args.method its c.args.place)
+    (λ chain is. subst (IsCallChain p c.args.method its c.args.place) (sym is)
+    (IsCallChain.declared (when-none _ c.in_ok-found.found c.in-None.is c.in_ok-found.ensures.none)))
+    c.single_chain.ensures
+
+-- the method needs it
+pub returns-in-Some : goal.returns-in-Some
+returns-in-Some c =
+    let p = c.args.p.now in
+    let its = c.args.its.now in
+    let some = when-some (λ (places : List Place). (need : Need) × (its ≡ effect_of need) × LeadsToNeed p c.args.method need places)
+    c.in_ok-found.found c.in-Some.places c.in-Some.is c.in_ok-found.ensures.some in
+    IfOk-weaker c.access_chain.result _ (IsCallChain p c.args.method its c.args.place)
+    (λ chain is. subst (IsCallChain p c.args.method its c.args.place)
+    (sym (is ∙ ap (λ (ps : List Place). chain_to_access (c.args.place ∷ ps)) c.as_slice.ensures))
+    (IsCallChain.needed some.0 c.in-Some.places some.1 some.2))
+    c.access_chain.ensures

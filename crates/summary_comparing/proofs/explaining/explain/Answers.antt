@@ -1,0 +1,50 @@
+use Rattle.std.proofs.Common.{◌≡◌, ◌<◌, ◌≤◌, ◌∷◌, [], ℕ, List, Option, Some, None, length, inl, inr, refl, sym, ap, ◌∙◌, subst, arith}
+use Rattle.std.specs.Prelude.{slice_get}
+use Rattle.std.specs.List.{Contains}
+use Rattle.std.proofs.lemmas.Option.{slice_get_read}
+use Rattle.std.proofs.lemmas.Result.{IfOk-weaker}
+use Rattle.twe_base.specs.declared.place.Place.{Place}
+use Rattle.effect_sets.specs.declared.effects.Effect.{Effect}
+use Rattle.effect_sets.specs.declared.effects.Summary.{Summary}
+use Rattle.twe_program.specs.declared.program.Decl.{Decl}
+use Rattle.twe_program.specs.Program.{Program}
+use Rattle.effect_check.specs.declared.act.Act.{Act}
+use Rattle.effect_check.specs.Acts.{acts_in_all}
+use Rattle.effect_infer.specs.declared.needs.need.Step.{Step}
+use Rattle.effect_infer.specs.declared.needs.need.Step.TheVariants.{Touch, Call}
+use Rattle.effect_infer.specs.needs.Steps.{steps_in_all}
+use Rattle.need_chains.specs.Placed.{step_places}
+use Rattle.summary_comparing.specs.declared.chain.NeedChain.{NeedChain}
+use Rattle.summary_comparing.specs.Counted.{AreCountedWith}
+use Rattle.summary_comparing.specs.Needed.{body_needs, child_needs}
+use Rattle.summary_comparing.specs.Widest.{AreFewWidest, HasManyWidest}
+use Rattle.summary_comparing.specs.ChainTexts.{AreExplained}
+use Rattle.summary_comparing.proofs.Compared.{when-none, when-some}
+use Rattle.summary_comparing.proofs.explaining.explain.Goals as goal
+
+-- the body needs too many effects
+pub returns-in_default : goal.returns-in_default
+returns-in_default c =
+    let p = c.args.p.now in
+    let its = c.args.its.now in
+    let decl = c.args.decl.now in
+    let summaries = c.in_ok-summaries.summaries in
+    let body = c.as_slice-body.ensures ∙ (c.in_ok-body.ensures
+    ∙ ap (λ (ss : List Summary). body_needs p ss decl) c.as_slice-summaries.ensures) in
+    IfOk-weaker c.many_lines.result _ (AreExplained p its decl)
+    (λ lines is. subst (AreExplained p its decl) (sym is) (AreExplained.many summaries c.in_ok-summaries.ensures
+    (inl (subst HasManyWidest body (when-none _ c.in_ok-needed.needed c.in_default.is c.in_ok-needed.ensures.many)))))
+    c.many_lines.ensures
+
+-- the spawned children do
+pub returns-in_default-spawned : goal.returns-in_default-spawned
+returns-in_default-spawned c =
+    let p = c.args.p.now in
+    let its = c.args.its.now in
+    let decl = c.args.decl.now in
+    let summaries = c.in_ok-summaries.summaries in
+    let children = c.as_slice-children.ensures ∙ c.in_ok-children.ensures in
+    IfOk-weaker c.many_lines-in_default-spawned.result _ (AreExplained p its decl)
+    (λ lines is. subst (AreExplained p its decl) (sym is) (AreExplained.many summaries c.in_ok-summaries.ensures
+    (inr (subst HasManyWidest children (when-none _ c.in_ok-spawned.spawned c.in_default-spawned.is c.in_ok-spawned.ensures.many)))))
+    c.many_lines-in_default-spawned.ensures

@@ -1,0 +1,54 @@
+use Rattle.std.proofs.Common.{◌≡◌, ◌<◌, ◌≤◌, ◌∷◌, [], ℕ, List, Option, Some, None, length, inl, inr, refl, sym, ap, ◌∙◌, subst, arith}
+use Rattle.std.specs.Prelude.{slice_get}
+use Rattle.std.specs.List.{Contains}
+use Rattle.std.proofs.lemmas.Option.{slice_get_read}
+use Rattle.std.proofs.lemmas.Result.{IfOk-weaker}
+use Rattle.twe_base.specs.declared.place.Place.{Place}
+use Rattle.effect_sets.specs.declared.effects.Effect.{Effect}
+use Rattle.effect_sets.specs.declared.effects.Summary.{Summary}
+use Rattle.twe_program.specs.declared.program.Decl.{Decl}
+use Rattle.twe_program.specs.Program.{Program}
+use Rattle.effect_check.specs.declared.act.Act.{Act}
+use Rattle.effect_check.specs.Acts.{acts_in_all}
+use Rattle.effect_infer.specs.declared.needs.need.Step.{Step}
+use Rattle.effect_infer.specs.declared.needs.need.Step.TheVariants.{Touch, Call}
+use Rattle.effect_infer.specs.needs.Steps.{steps_in_all}
+use Rattle.need_chains.specs.Placed.{step_places}
+use Rattle.summary_comparing.specs.declared.chain.NeedChain.{NeedChain}
+use Rattle.summary_comparing.specs.Comparisons.{comparison_of}
+use Rattle.summary_comparing.specs.Needed.{body_needs, child_needs}
+use Rattle.summary_comparing.specs.EffectOrder.{in_effect_order}
+use Rattle.summary_comparing.specs.ChainTexts.{AreExplained, explained_text, its_comparison}
+use Rattle.summary_comparing.specs.declared.comparison.Comparison.{Comparison}
+use Rattle.summary_comparing.proofs.explaining.few_lines.Goals as goal
+
+-- the text on it
+pub returns : goal.returns
+returns c =
+    let p = c.args.p.now in
+    let summaries = c.args.summaries.now in
+    let its = c.args.its.now in
+    let decl = c.args.decl.now in
+    let needed = c.args.needed.now in
+    let spawned = c.args.spawned.now in
+    let children = c.args.children.now in
+    let declared = c.as_slice-declared.result.now in
+    let widest = c.in_ok-widest.widest in
+    let others = c.in_ok-others.others in
+    let is : c.in_ok-comparison.comparison ≡ its_comparison p summaries decl needed spawned =
+    c.in_ok-comparison.ensures
+    ∙ (ap (λ (es : List Effect). comparison_of es children declared widest others) c.requires.body
+    ∙ (ap (λ (es : List Effect). comparison_of (body_needs p summaries decl) es declared widest others) c.requires.children
+    ∙ (ap (λ (es : List Effect). comparison_of (body_needs p summaries decl) (child_needs p decl) es widest others) c.as_slice-declared.ensures
+    ∙ (ap (λ (es : List Effect). comparison_of (body_needs p summaries decl) (child_needs p decl) decl.summary.effects es others) c.in_ok-widest.ensures
+    ∙ ap (λ (es : List Effect). comparison_of (body_needs p summaries decl) (child_needs p decl) decl.summary.effects needed es) c.in_ok-others.ensures)))) in
+    let some = c.in_ok-wider.ensures in
+    let text : c.in_ok-wider.wider
+    ≡ explained_text p.regions its (its_comparison p summaries decl needed spawned) (in_effect_order needed) some.0 (in_effect_order spawned) some.1 =
+    some.3 ∙ ap (λ (k : Comparison). explained_text p.regions its k (in_effect_order needed) some.0 (in_effect_order spawned) some.1) is in
+    subst (λ (bytes : List ℕ). AreExplained p its decl (record { wider = bytes; many = c.new.result })) (sym text)
+    (subst (λ (bytes : List ℕ). AreExplained p its decl (record {
+      wider = explained_text p.regions its (its_comparison p summaries decl needed spawned) (in_effect_order needed) some.0 (in_effect_order spawned) some.1;
+      many = bytes;
+    })) (sym c.new.ensures)
+    (AreExplained.few summaries needed spawned some.0 some.1 c.requires.counted some.2))
