@@ -10,7 +10,9 @@ use Rattle.twe_draw.specs.Svg.{upright}
 -- an arrow of this class at this place, from the row of one task to that of another
 abbrev pub arrow : List ℕ → ℕ → ℕ → ℕ → List ℕ
 arrow class left from to =
-    if nat_lt from to then upright class left (row_bottom from) (row_top to) else upright class left (row_top from) (row_bottom to)
+    if nat_lt from to
+    then upright class left (row_bottom from) (row_top to)
+    else upright class left (row_top from) (row_bottom to)
 
 -- an arrow goes from the end of what made a task to the row of the task
 abbrev pub made_arrow : Axis → Mark → End → List ℕ
@@ -22,7 +24,9 @@ made_arrow axis bar _ = []
 abbrev pub taken_arrow : Axis → Mark → Option Mark → List ℕ
 taken_arrow axis bar None = []
 taken_arrow axis bar (Some giver) =
-    if nat_lt giver.task most_rows then arrow (codes "gives") (time_column axis.length (bar_begin axis.kind bar)) giver.task bar.task else []
+    if nat_lt giver.task most_rows
+    then arrow (codes "gives") (time_column axis.length (bar_begin axis.kind bar)) giver.task bar.task
+    else []
 
 -- the arrows of an entry whose bar is shown
 abbrev pub arrows_shown : List Mark → Axis → Mark → List ℕ

@@ -39,8 +39,8 @@ class_of p row Run = if is_deterministic_row p row then codes "deterministic" el
 -- the bar of an entry
 abbrev pub bar_shape : Program → List TaskRow → Axis → Mark → List ℕ
 bar_shape p tasks axis bar =
-    titled_box (class_of p (slice_get tasks bar.task) bar.kind) (time_column axis.length (bar_begin axis.kind bar)) (row_top bar.task)
-    (time_width axis.length (bar_begin axis.kind bar) (bar_end axis.kind bar)) (bar_title p tasks bar)
+    titled_box (class_of p (slice_get tasks bar.task) bar.kind) (time_column axis.length (bar_begin axis.kind bar))
+    (row_top bar.task) (time_width axis.length (bar_begin axis.kind bar) (bar_end axis.kind bar)) (bar_title p tasks bar)
 
 -- whether a task that has ended a segment so waits
 abbrev pub is_waiting : End → Bool

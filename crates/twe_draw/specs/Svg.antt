@@ -27,7 +27,8 @@ classed tag class = tag ++ (codes " class='" ++ (class ++ codes "'"))
 abbrev pub box_place : ℕ → ℕ → ℕ → List ℕ
 box_place left top width =
     with_number (codes " x='") left
-    ++ (with_number (codes "' y='") top ++ (with_number (codes "' width='") width ++ (with_number (codes "' height='") 14 ++ codes "'")))
+    ++ (with_number (codes "' y='") top
+    ++ (with_number (codes "' width='") width ++ (with_number (codes "' height='") 14 ++ codes "'")))
 
 -- a box of this class
 unfoldable pub plain_box : List ℕ → ℕ → ℕ → ℕ → List ℕ
