@@ -3,11 +3,11 @@ use Rattle.std.proofs.Common.{◌≡◌, ◌≤◌, ◌<◌, ◌+◌, ◌*◌, �
 use Rattle.std.specs.Prelude.{nat_lt, slice_index, slice_set}
 use Rattle.run_picture.specs.Bars.{bar_length}
 use Rattle.run_picture.specs.declared.bars.Mark.{Mark}
-use Rattle.twe_draw.specs.Shown.{with_work}
+use Rattle.twe_draw.specs.Shown.{with_entry_work}
 use Rattle.twe_draw.proofs.Lists.{either_keeps_bound, set_keeps_bound}
 
 -- they stay small
-pub small_more : (works new : List ℕ) (bar : Mark) (i task : ℕ) → new ≡ with_work works bar → bar_length bar < 2 ^ 64
+pub small_more : (works new : List ℕ) (bar : Mark) (i task : ℕ) → new ≡ with_entry_work works bar → bar_length bar < 2 ^ 64
     → ((t : ℕ) → slice_index works t ≤ i * 2 ^ 64) → slice_index new task ≤ (i + 1) * 2 ^ 64
 small_more works new bar i task is short small =
     let old = small task in

@@ -12,15 +12,15 @@ abbrev pub most_rows : ℕ
 most_rows = 200
 
 -- the works of the tasks, with that of an entry of one of them
-abbrev pub with_work : List ℕ → Mark → List ℕ
-with_work works bar =
+abbrev pub with_entry_work : List ℕ → Mark → List ℕ
+with_entry_work works bar =
     if nat_lt bar.task (length works)
     then slice_set works bar.task (slice_index works bar.task + bar_length bar)
     else works
 
 -- the work of each of so many tasks: what its entries weigh in all
 abbrev pub works_of : ℕ → List Mark → List ℕ
-works_of tasks bars = fold with_work (replicate tasks 0) bars
+works_of tasks bars = fold with_entry_work (replicate tasks 0) bars
 
 -- the flags of tasks, with that of the task of an entry that was looked up
 abbrev pub with_flag : List Bool → Option Mark → List Bool

@@ -74,8 +74,8 @@ fn push_taken_placed(
     alloc: Global,
     axis: Axis,
     bar: &Mark,
-    row: u64,
     giver: Option<u64>,
+    row: u64,
 ) -> Result<(), Memory>
     ensures { OnOk result (text.new ≡ text.old ++ taken_placed axis bar.now row giver) }
 {
@@ -106,7 +106,7 @@ fn push_taken(
         Some(number) => match bars.get(number as usize) {
             None => Ok(()),
             Some(giver) => {
-                push_taken_placed(text, alloc, axis, bar, row, row_at(rows, giver.task))
+                push_taken_placed(text, alloc, axis, bar, row_at(rows, giver.task), row)
             }
         },
     }

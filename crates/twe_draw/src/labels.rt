@@ -163,19 +163,27 @@ fn push_label_of(text: &mut Bytes, p: &Prog, tasks: &[TaskRow], task: u32) -> Re
     }
 }
 
+/// Appends words, and the label of the task of this number.
+fn push_label_after(
+    text: &mut Bytes,
+    words: &[u8],
+    p: &Prog,
+    tasks: &[TaskRow],
+    task: u32,
+) -> Result<(), Memory>
+    ensures { OnOk result (text.new ≡ text.old ++ (words.now ++ label_found p.now (slice_get tasks.now task))) }
+{
+    text.push_all(words)?;
+    push_label_of(text, p, tasks, task)
+}
+
 /// Appends whom a task waits for that has ended an entry so.
 fn push_awaited(text: &mut Bytes, p: &Prog, tasks: &[TaskRow], end: End) -> Result<(), Memory>
     ensures { OnOk result (text.new ≡ text.old ++ awaited_words p.now tasks.now end) }
 {
     match end {
-        End::Waits { on } => {
-            text.push_all(b": waits for ")?;
-            push_label_of(text, p, tasks, on)
-        }
-        End::Joins { on } => {
-            text.push_all(b": joins ")?;
-            push_label_of(text, p, tasks, on)
-        }
+        End::Waits { on } => push_label_after(text, b": waits for ", p, tasks, on),
+        End::Joins { on } => push_label_after(text, b": joins ", p, tasks, on),
         _ => Ok(()),
     }
 }

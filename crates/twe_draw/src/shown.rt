@@ -1,7 +1,7 @@
 //! Which tasks a picture shows.
 ghost use Rattle.std.specs.Prelude.{◌≡◌, ◌<◌, ◌-◌, ◌^◌, ℕ, IfOk, Some, length, slice_get, slice_index};
 ghost use Rattle.run_picture.specs.Bars.{bar_length};
-ghost use Rattle.twe_draw.specs.Shown.{AreShownTasks, chain_flags, row_at, with_flag, with_work, works_of};
+ghost use Rattle.twe_draw.specs.Shown.{AreShownTasks, chain_flags, row_at, with_flag, with_entry_work, works_of};
 
 use row_choice::choose_rows;
 use run_picture::Mark;
@@ -32,7 +32,7 @@ fn bar_length(bar: &Mark) -> u64
 /// Adds the work of an entry to that of its task, unless there are fewer tasks.
 fn add_work(works: &mut List<u128>, bar: &Mark)
     requires { (task : ℕ) → slice_index works.old task < 2 ^ 128 - 2 ^ 64 }
-    ensures same { works.new ≡ with_work works.old bar.now }
+    ensures same { works.new ≡ with_entry_work works.old bar.now }
     ensures length { length works.new ≡ length works.old }
     ensures fits { bar_length bar.now < 2 ^ 64 }
 {
