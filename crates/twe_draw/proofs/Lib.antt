@@ -1,3 +1,4 @@
-pub mod Escapes
 pub mod Flat
+pub mod Lists
 pub mod Plain
+pub mod Works

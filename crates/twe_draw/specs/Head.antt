@@ -1,11 +1,12 @@
 -- What stands above the rows of a picture.
 use Rattle.std.specs.Prelude.{◌+◌, ◌-◌, ◌/◌, ◌%◌, ◌++◌, ℕ, List, [], codes, decimal, if◌then◌else◌, nat_lt}
 use Rattle.run_advice.specs.Advice.{parallelism_of}
+use Rattle.svg_markup.specs.Shapes.{plain_box, title_element, words_at}
 use Rattle.twe_draw.specs.declared.words.AxisKind.{AxisKind}
 use Rattle.twe_draw.specs.declared.words.AxisKind.TheVariants.{Time, Order}
-use Rattle.twe_draw.specs.Scale.{most_rows, picture_height}
+use Rattle.twe_draw.specs.Numbers.{with_number}
+use Rattle.twe_draw.specs.Scale.{picture_height}
 use Rattle.twe_draw.specs.Style.{setting}
-use Rattle.twe_draw.specs.Svg.{plain_box, title_element, with_number, words_at}
 
 -- hundredths, as `1.33`
 abbrev pub hundredths : ℕ → List ℕ
@@ -31,9 +32,9 @@ run_words work span = total_words work span ++ parallelism_words work span
 unfoldable pub opening_words : List ℕ
 opening_words = codes "<svg xmlns='http://www.w3.org/2000/svg' width='1260'"
 
--- the tag of the whole picture
+-- the tag of a whole picture of so many rows
 abbrev pub opening : ℕ → List ℕ
-opening tasks = opening_words ++ (with_number (codes " height='") (picture_height tasks) ++ codes "'>\n")
+opening rows = opening_words ++ (with_number (codes " height='") (picture_height rows) ++ codes "'>\n")
 
 -- the title, and the same words in the picture
 abbrev pub titles : List ℕ → List ℕ
@@ -74,18 +75,18 @@ legend = entry_colours ++ (deterministic_colour ++ chain_colour)
 abbrev pub rows_left_out_words : ℕ → List ℕ
 rows_left_out_words number = with_number (codes "tasks that are left out: ") number
 
--- the same in the picture, if some have none
-abbrev pub rows_left_out : ℕ → List ℕ
-rows_left_out tasks = if nat_lt most_rows tasks then words_at 246 84 (rows_left_out_words (tasks - most_rows)) else []
+-- the same in the picture, if some of the tasks have no row
+abbrev pub rows_left_out : ℕ → ℕ → List ℕ
+rows_left_out tasks rows = if nat_lt rows tasks then words_at 246 84 (rows_left_out_words (tasks - rows)) else []
 
 -- the tag of the whole picture and its title
 abbrev pub head_top : ℕ → List ℕ → List ℕ
-head_top tasks words = opening tasks ++ titles words
+head_top rows words = opening rows ++ titles words
 
 -- what the axis and the colours mean, and how many tasks have no row
-abbrev pub head_key : AxisKind → ℕ → List ℕ
-head_key kind tasks = axis kind ++ (legend ++ rows_left_out tasks)
+abbrev pub head_key : AxisKind → ℕ → ℕ → List ℕ
+head_key kind tasks rows = axis kind ++ (legend ++ rows_left_out tasks rows)
 
--- what stands above the rows
-unfoldable pub picture_head : AxisKind → ℕ → ℕ → ℕ → List ℕ
-picture_head kind tasks work span = head_top tasks (run_words work span) ++ (setting ++ head_key kind tasks)
+-- what stands above the rows, if so many tasks have so many rows
+unfoldable pub picture_head : AxisKind → ℕ → ℕ → ℕ → ℕ → List ℕ
+picture_head kind tasks rows work span = head_top rows (run_words work span) ++ (setting ++ head_key kind tasks rows)

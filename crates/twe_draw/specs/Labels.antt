@@ -10,7 +10,7 @@ use Rattle.twe_program.specs.Program.{Program}
 use Rattle.twe_machine.specs.declared.state.TaskRow.{TaskRow}
 use Rattle.text_meaning.specs.EffectTexts.{effects_text}
 use Rattle.run_picture.specs.declared.bars.Mark.{Mark}
-use Rattle.twe_draw.specs.Svg.{with_number}
+use Rattle.twe_draw.specs.Numbers.{with_number}
 
 -- arguments, each after `, `
 abbrev pub more_args : List ℤ → List ℕ
@@ -72,3 +72,18 @@ entry_words bar =
 -- what a bar tells: its entry, its task, and how the entry ended
 abbrev pub bar_title : Program → List TaskRow → Mark → List ℕ
 bar_title p tasks bar = entry_words bar ++ (details_found p (slice_get tasks bar.task) ++ end_words bar.end)
+
+-- the label of a task that was looked up
+abbrev pub label_found : Program → Option TaskRow → List ℕ
+label_found p None = []
+label_found p (Some row) = task_label p row
+
+-- whom a task waits for that has ended an entry so, as `: waits for 3 walk(1)`
+abbrev pub awaited_words : Program → List TaskRow → End → List ℕ
+awaited_words p tasks (ends.Waits on) = codes ": waits for " ++ label_found p (slice_get tasks on)
+awaited_words p tasks (ends.Joins on) = codes ": joins " ++ label_found p (slice_get tasks on)
+awaited_words p tasks _ = []
+
+-- what a grey box tells after this bar: its task, and whom that waits for
+abbrev pub wait_title : Program → List TaskRow → Mark → List ℕ
+wait_title p tasks bar = label_found p (slice_get tasks bar.task) ++ awaited_words p tasks bar.end

@@ -1,6 +1,7 @@
 pub mod Words
 pub mod Scale
-pub mod Svg
+pub mod Numbers
+pub mod Shown
 pub mod Style
 pub mod Labels
 pub mod Bars

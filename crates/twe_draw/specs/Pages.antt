@@ -1,9 +1,11 @@
 -- What is written of a run.
-use Rattle.std.specs.Prelude.{◌≡◌, ◌++◌, ℕ, List, codes, length}
+use Rattle.std.specs.Prelude.{◌≡◌, ◌++◌, ℕ, Bool, List, Option, codes, length}
 use Rattle.std.specs.List.{flat_map}
 use Rattle.twe_program.specs.Program.{Program}
 use Rattle.twe_machine.specs.declared.state.TaskRow.{TaskRow}
 use Rattle.run_picture.specs.declared.bars.Mark.{Mark}
+use Rattle.row_choice.specs.Choice.{how_many}
+use Rattle.row_choice.specs.Rows.{rows_from}
 use Rattle.twe_draw.specs.declared.scale.Axis.{Axis}
 use Rattle.twe_draw.specs.declared.words.AxisKind.{AxisKind}
 use Rattle.twe_draw.specs.declared.words.Drawing.{Drawing}
@@ -12,22 +14,30 @@ use Rattle.twe_draw.specs.Arrows.{arrows_shown}
 use Rattle.twe_draw.specs.Bars.{bar_shown, outline, row_shown}
 use Rattle.twe_draw.specs.Head.{picture_head}
 use Rattle.twe_draw.specs.Scale.{axis_of}
+use Rattle.twe_draw.specs.Shown.{AreShownTasks}
 use Rattle.twe_draw.specs.Trace.{IsTrace}
 
 -- what stands in a picture: rows, bars, arrows, and the heaviest chain
-abbrev pub picture_shapes : Program → Axis → List ℕ → List Mark → List TaskRow → List ℕ
-picture_shapes p axis chain bars tasks =
-    flat_map (row_shown p) tasks
-    ++ (flat_map (bar_shown p tasks bars axis) bars
-    ++ (flat_map (arrows_shown bars axis) bars ++ flat_map (outline bars axis) chain))
+abbrev pub picture_shapes : Program → Axis → List (Option ℕ) → List ℕ → List Mark → List TaskRow → List ℕ
+picture_shapes p axis rows chain bars tasks =
+    flat_map (row_shown p rows) tasks
+    ++ (flat_map (bar_shown p tasks bars rows axis) bars
+    ++ (flat_map (arrows_shown bars rows axis) bars ++ flat_map (outline bars rows axis) chain))
 
--- the picture of a run
-abbrev pub picture_text : AxisKind → Program → ℕ → ℕ → List ℕ → List Mark → List TaskRow → List ℕ
-picture_text kind p work span chain bars tasks =
-    picture_head kind (length tasks) work span
-    ++ (picture_shapes p (axis_of kind span bars) chain bars tasks ++ codes "</svg>\n")
+-- the picture of a run, in which these tasks are shown
+abbrev pub picture_text : AxisKind → Program → List Bool → ℕ → ℕ → List ℕ → List Mark → List TaskRow → List ℕ
+picture_text kind p shown work span chain bars tasks =
+    picture_head kind (length tasks) (how_many shown) work span
+    ++ (picture_shapes p (axis_of kind span bars) (rows_from 0 shown) chain bars tasks ++ codes "</svg>\n")
+
+-- The text is the picture of a run. Each task that is shown has a row.
+pub record IsPictureText (kind : AxisKind) (p : Program) (work span : ℕ) (chain : List ℕ) (bars : List Mark)
+    (tasks : List TaskRow) (text : List ℕ) : Type 0 where
+  pub shown : List Bool
+  pub shown_are : AreShownTasks chain bars tasks shown
+  pub text_is : text ≡ picture_text kind p shown work span chain bars tasks
 
 -- this is written of a run: a picture, or a trace
 abbrev pub IsDrawing : Drawing → Program → ℕ → ℕ → List ℕ → List Mark → List TaskRow → List ℕ → Type 0
-IsDrawing (Picture kind) p work span chain bars tasks text = text ≡ picture_text kind p work span chain bars tasks
+IsDrawing (Picture kind) p work span chain bars tasks text = IsPictureText kind p work span chain bars tasks text
 IsDrawing Trace p work span chain bars tasks text = IsTrace p bars tasks text

@@ -1,13 +1,9 @@
--- Where things stand in a picture, in pixels from its left and its top. Each task has a row, and time goes to the right.
+-- Where things stand in a picture, in pixels from its left and its top. Each task that is shown has a row, and time goes to the right.
 use Rattle.std.specs.Prelude.{◌+◌, ◌-◌, ◌*◌, ◌/◌, ℕ, List, length, max, min}
 use Rattle.run_picture.specs.declared.bars.Mark.{Mark}
 use Rattle.twe_draw.specs.declared.scale.Axis.{Axis}
 use Rattle.twe_draw.specs.declared.words.AxisKind.{AxisKind}
 use Rattle.twe_draw.specs.declared.words.AxisKind.TheVariants.{Time, Order}
-
--- how many tasks have a row: those of the lowest numbers
-abbrev pub most_rows : ℕ
-most_rows = 200
 
 -- the axis of a picture: it is as long as the span, or has a column for each entry
 abbrev pub axis_of : AxisKind → ℕ → List Mark → Axis
@@ -32,14 +28,14 @@ time_column whole time = min time whole * 1000 / max whole 1 + 240
 unfoldable pub time_width : ℕ → ℕ → ℕ → ℕ
 time_width whole from until = max (time_column whole until - time_column whole from) 2
 
--- the top of the bars of a task
+-- the top of the bars of a row
 unfoldable pub row_top : ℕ → ℕ
-row_top task = 92 + 20 * task
+row_top row = 92 + 20 * row
 
--- the bottom of the bars of a task
+-- the bottom of the bars of a row
 unfoldable pub row_bottom : ℕ → ℕ
-row_bottom task = 106 + 20 * task
+row_bottom row = 106 + 20 * row
 
--- the height of a picture of so many tasks
+-- the height of a picture of so many rows
 unfoldable pub picture_height : ℕ → ℕ
-picture_height tasks = 120 + 20 * min tasks most_rows
+picture_height rows = 120 + 20 * rows

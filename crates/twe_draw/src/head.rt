@@ -2,13 +2,14 @@
 ghost use Rattle.std.specs.Prelude.{◌≡◌, ◌++◌, ◌<◌, IfOk, OnOk};
 ghost use Rattle.twe_draw.specs.Head.{axis, axis_words, chain_colour, colour, deterministic_colour, entry_colours, head_key, head_top, hundredths, rows_left_out, rows_left_out_words, legend, opening, opening_words, parallelism_after, parallelism_words, picture_head, run_words, titles, total_words};
 
+use crate::numbers::{push_number, push_wide};
 use crate::scale::picture_height;
 use crate::style::push_setting;
-use crate::svg::{push_measure, push_number, push_plain_box, push_title_element, push_words_at};
 use crate::words::AxisKind;
 use itoa::Buffer;
 use run_advice::parallelism_of;
 use std::alloc::Global;
+use svg_markup::{push_plain_box, push_title_element, push_words_at};
 use twe_base::{Bytes, Memory};
 
 /// Appends hundredths, as `1.33`.
@@ -16,7 +17,7 @@ fn push_hundredths(text: &mut Bytes, number: u128) -> Result<(), Memory>
     ensures { OnOk result (text.new ≡ text.old ++ hundredths number) }
 {
     text.push_all(Buffer::new().format(number / 100).as_bytes())?;
-    push_measure(text, b".", number / 10 % 10)?;
+    push_wide(text, b".", number / 10 % 10)?;
     text.push_all(Buffer::new().format(number % 10).as_bytes())
 }
 
@@ -62,11 +63,11 @@ fn push_opening_words(text: &mut Bytes) -> Result<(), Memory>
 }
 
 /// Appends the tag of the whole picture.
-fn push_opening(text: &mut Bytes, tasks: usize) -> Result<(), Memory>
-    ensures { OnOk result (text.new ≡ text.old ++ opening tasks) }
+fn push_opening(text: &mut Bytes, rows: usize) -> Result<(), Memory>
+    ensures { OnOk result (text.new ≡ text.old ++ opening rows) }
 {
     push_opening_words(text)?;
-    push_measure(text, b" height='", picture_height(tasks))?;
+    push_wide(text, b" height='", picture_height(rows))?;
     text.push_all(b"'>\n")
 }
 
@@ -154,11 +155,16 @@ fn rows_left_out_words(alloc: Global, number: u64) -> Result<Bytes, Memory>
 }
 
 /// Appends how many tasks have no row, if some have none.
-fn push_rows_left_out(text: &mut Bytes, alloc: Global, tasks: usize) -> Result<(), Memory>
-    ensures { OnOk result (text.new ≡ text.old ++ rows_left_out tasks) }
+fn push_rows_left_out(
+    text: &mut Bytes,
+    alloc: Global,
+    tasks: usize,
+    rows: usize,
+) -> Result<(), Memory>
+    ensures { OnOk result (text.new ≡ text.old ++ rows_left_out tasks rows) }
 {
-    if 200 < tasks {
-        let words = rows_left_out_words(alloc, tasks as u64 - 200)?;
+    if rows < tasks {
+        let words = rows_left_out_words(alloc, (tasks - rows) as u64)?;
         push_words_at(text, 246, 84, words.as_slice())
     } else {
         Ok(())
@@ -166,10 +172,10 @@ fn push_rows_left_out(text: &mut Bytes, alloc: Global, tasks: usize) -> Result<(
 }
 
 /// Appends the tag of the whole picture and its title.
-fn push_head_top(text: &mut Bytes, tasks: usize, words: &[u8]) -> Result<(), Memory>
-    ensures { OnOk result (text.new ≡ text.old ++ head_top tasks words.now) }
+fn push_head_top(text: &mut Bytes, rows: usize, words: &[u8]) -> Result<(), Memory>
+    ensures { OnOk result (text.new ≡ text.old ++ head_top rows words.now) }
 {
-    push_opening(text, tasks)?;
+    push_opening(text, rows)?;
     push_titles(text, words)
 }
 
@@ -179,12 +185,13 @@ fn push_head_key(
     alloc: Global,
     kind: AxisKind,
     tasks: usize,
+    rows: usize,
 ) -> Result<(), Memory>
-    ensures { OnOk result (text.new ≡ text.old ++ head_key kind tasks) }
+    ensures { OnOk result (text.new ≡ text.old ++ head_key kind tasks rows) }
 {
     push_axis(text, kind)?;
     push_legend(text)?;
-    push_rows_left_out(text, alloc, tasks)
+    push_rows_left_out(text, alloc, tasks, rows)
 }
 
 /// Appends what stands above the rows.
@@ -194,13 +201,14 @@ pub(crate) fn push_head(
     alloc: Global,
     kind: AxisKind,
     tasks: usize,
+    rows: usize,
     work: u64,
     span: u64,
 ) -> Result<(), Memory>
-    ensures { OnOk result (text.new ≡ text.old ++ picture_head kind tasks work span) }
+    ensures { OnOk result (text.new ≡ text.old ++ picture_head kind tasks rows work span) }
 {
     let words = run_words(alloc, work, span)?;
-    push_head_top(text, tasks, words.as_slice())?;
+    push_head_top(text, rows, words.as_slice())?;
     push_setting(text)?;
-    push_head_key(text, alloc, kind, tasks)
+    push_head_key(text, alloc, kind, tasks, rows)
 }

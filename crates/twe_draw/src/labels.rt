@@ -1,8 +1,8 @@
 //! What is written of tasks and of what they did.
 ghost use Rattle.std.specs.Prelude.{◌≡◌, ◌++◌, IfOk, OnOk, slice_get};
-ghost use Rattle.twe_draw.specs.Labels.{args_text, bar_title, details_found, end_words, entry_words, more_args, name_found, place_found, declared_at, task_details, task_label, task_text};
+ghost use Rattle.twe_draw.specs.Labels.{args_text, awaited_words, bar_title, label_found, wait_title, details_found, end_words, entry_words, more_args, name_found, place_found, declared_at, task_details, task_label, task_text};
 
-use crate::svg::{push_number, push_small};
+use crate::numbers::{push_number, push_small};
 use itoa::Buffer;
 use run_picture::Mark;
 use seg_journal::End;
@@ -150,5 +150,55 @@ pub(crate) fn bar_title(
     push_entry(&mut title, bar)?;
     push_details_of(&mut title, p, tasks, bar.task)?;
     push_end(&mut title, bar.end)?;
+    Ok(title)
+}
+
+/// Appends the label of the task of this number.
+fn push_label_of(text: &mut Bytes, p: &Prog, tasks: &[TaskRow], task: u32) -> Result<(), Memory>
+    ensures { OnOk result (text.new ≡ text.old ++ label_found p.now (slice_get tasks.now task)) }
+{
+    match tasks.get(task as usize) {
+        None => Ok(()),
+        Some(row) => push_label(text, p, row),
+    }
+}
+
+/// Appends words, and the label of the task of this number.
+fn push_label_after(
+    text: &mut Bytes,
+    words: &[u8],
+    p: &Prog,
+    tasks: &[TaskRow],
+    task: u32,
+) -> Result<(), Memory>
+    ensures { OnOk result (text.new ≡ text.old ++ (words.now ++ label_found p.now (slice_get tasks.now task))) }
+{
+    text.push_all(words)?;
+    push_label_of(text, p, tasks, task)
+}
+
+/// Appends whom a task waits for that has ended an entry so.
+fn push_awaited(text: &mut Bytes, p: &Prog, tasks: &[TaskRow], end: End) -> Result<(), Memory>
+    ensures { OnOk result (text.new ≡ text.old ++ awaited_words p.now tasks.now end) }
+{
+    match end {
+        End::Waits { on } => push_label_after(text, b": waits for ", p, tasks, on),
+        End::Joins { on } => push_label_after(text, b": joins ", p, tasks, on),
+        _ => Ok(()),
+    }
+}
+
+/// What a grey box tells after this bar: its task, and whom that waits for.
+pub(crate) fn wait_title(
+    alloc: Global,
+    p: &Prog,
+    tasks: &[TaskRow],
+    bar: &Mark,
+) -> Result<Bytes, Memory>
+    ensures { IfOk result (λ title. title ≡ wait_title p.now tasks.now bar.now) }
+{
+    let mut title = Bytes::new(alloc);
+    push_label_of(&mut title, p, tasks, bar.task)?;
+    push_awaited(&mut title, p, tasks, bar.end)?;
     Ok(title)
 }

@@ -1,17 +1,17 @@
-//! `twe_draw`: a picture of a run. It reads the text of a TWEJava program from standard input, and after a line `%%` the text of a
-//! journal. It writes an SVG with a row for each task and a bar for each entry, or a trace.
+//! `twe_draw`: a picture of a run. It reads the text of a TWEJava program from standard input, and after a line `%%` the text of
+//! a journal. It writes an SVG with a row for each task and a bar for each entry, or a trace.
 #![tactic(auto)]
 
 mod arrows;
 mod bars;
 mod head;
 mod labels;
-mod laws;
+mod numbers;
 mod page;
 mod program;
 mod scale;
+mod shown;
 mod style;
-mod svg;
 mod top;
 mod trace;
 mod words;

@@ -5,9 +5,6 @@ ghost use Rattle.twe_draw.specs.Scale as scale;
 use crate::words::AxisKind;
 use run_picture::Mark;
 
-/// How many tasks have a row.
-pub(crate) const MOST_ROWS: u32 = 200;
-
 /// The axis of a picture, from its left to its right.
 #[derive(Clone, Copy, Debug)]
 pub struct Axis {
@@ -67,26 +64,26 @@ pub(crate) fn time_width(whole: u64, from: u128, until: u128) -> u128
         .max(2)
 }
 
-/// The top of the bars of a task.
+/// The top of the bars of a row.
 #[tactic(auto, unfolding(crate::specs::Scale::row_top))]
-pub(crate) fn row_top(task: u32) -> u128
-    ensures { result ≡ scale.row_top task }
+pub(crate) fn row_top(row: u64) -> u128
+    ensures { result ≡ scale.row_top row }
 {
-    92 + 20 * u128::from(task)
+    92 + 20 * u128::from(row)
 }
 
-/// The bottom of the bars of a task.
+/// The bottom of the bars of a row.
 #[tactic(auto, unfolding(crate::specs::Scale::row_bottom))]
-pub(crate) fn row_bottom(task: u32) -> u128
-    ensures { result ≡ scale.row_bottom task }
+pub(crate) fn row_bottom(row: u64) -> u128
+    ensures { result ≡ scale.row_bottom row }
 {
-    106 + 20 * u128::from(task)
+    106 + 20 * u128::from(row)
 }
 
-/// The height of a picture of so many tasks.
+/// The height of a picture of so many rows.
 #[tactic(auto, unfolding(crate::specs::Scale::picture_height))]
-pub(crate) fn picture_height(tasks: usize) -> u128
-    ensures { result ≡ scale.picture_height tasks }
+pub(crate) fn picture_height(rows: usize) -> u128
+    ensures { result ≡ scale.picture_height rows }
 {
-    120 + 20 * (tasks as u128).min(200)
+    120 + 20 * rows as u128
 }

@@ -91,7 +91,8 @@ fn trace_events(
     tasks: &[TaskRow],
     bars: &[Mark],
 ) -> Result<Vec<Value>, AllocError>
-    ensures { IfOk result (λ events. map view events.items ≡ map (row_event p.now) tasks.now ++ map (bar_event p.now tasks.now) bars.now) }
+    ensures { IfOk result (λ events. map view events.items
+        ≡ map (row_event p.now) tasks.now ++ map (bar_event p.now tasks.now) bars.now) }
 {
     let mut events = Vec::new(alloc);
     for row in tasks {

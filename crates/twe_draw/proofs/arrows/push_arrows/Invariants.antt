@@ -5,4 +5,4 @@ use Rattle.twe_draw.proofs.arrows.push_arrows.Given as goal
 
 -- the arrows up to here were written
 abbrev pub invariant-loop-bar : goal.invariant-loop-bar
-invariant-loop-bar l = l.text ≡ l.fn.text ++ flat_map (arrows_shown l.bars l.axis) (take l.bar-index l.bars)
+invariant-loop-bar l = l.text ≡ l.fn.text ++ flat_map (arrows_shown l.bars l.rows l.axis) (take l.bar-index l.bars)

@@ -1,6 +1,6 @@
 use Rattle.std.proofs.Common.{◌≡◌, ◌++◌, take}
-use Rattle.twe_draw.specs.Svg.{escaped}
-use Rattle.twe_draw.proofs.svg.push_escaped.Given as goal
+use Rattle.svg_markup.specs.Elements.{escaped}
+use Rattle.svg_markup.proofs.elements.push_escaped.Given as goal
 
 -- the bytes up to here were written
 abbrev pub invariant-loop-byte : goal.invariant-loop-byte

@@ -1,0 +1,2 @@
+pub mod SetFlags
+pub mod Chosen

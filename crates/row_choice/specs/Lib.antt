@@ -1,0 +1,3 @@
+pub mod Choice
+pub mod Rows
+pub mod inner
