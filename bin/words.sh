@@ -20,7 +20,7 @@ words_for() {
   case $1 in
     twe) echo ' check | run [--workers k] [--fuel f] [--tasks t] [--journal] | replay [--fuel f] [--tasks t] | load N [--workers k]' ;;
     twe_advise) echo ' [--json]' ;;
-    twe_annotate) echo ' matrix | write | compare' ;;
+    twe_annotate) echo ' matrix | write | compare [NAME]' ;;
     twe_batch) echo ' check | run' ;;
     twe_draw) echo ' [order | trace]' ;;
     twe_explain) echo ' [--name FILE] [--lines] | --help | --version' ;;
@@ -57,7 +57,7 @@ is_command() {
       esac
       ;;
     twe_advise) [[ $# == 0 || ($# == 1 && $1 == --json) ]] ;;
-    twe_annotate) (($# == 1)) && [[ $1 == matrix || $1 == write || $1 == compare ]] ;;
+    twe_annotate) [[ ($# == 1 && ($1 == matrix || $1 == write)) || (($# == 1 || $# == 2) && $1 == compare) ]] ;;
     twe_batch) (($# == 1)) && [[ $1 == check || $1 == run ]] ;;
     twe_draw) [[ $# == 0 || ($# == 1 && ($1 == order || $1 == trace)) ]] ;;
     twe_explain) is_wish "$@" ;;

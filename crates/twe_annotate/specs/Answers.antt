@@ -1,5 +1,5 @@
 -- What the program answers, and why.
-use Rattle.std.specs.Prelude.{◌≡◌, ℕ, List, Option, Some, map}
+use Rattle.std.specs.Prelude.{◌≡◌, ℕ, List, Option, None, Some, map}
 use Rattle.effect_sets.specs.declared.effects.Summary.{Summary}
 use Rattle.twe_ast.specs.declared.item.Ast.{Ast}
 use Rattle.twe_program.specs.Program.{Program}
@@ -16,13 +16,14 @@ use Rattle.effect_infer.specs.needs.Choices.{NoRuleFails, with_summaries}
 use Rattle.effect_infer.specs.Inferred.{AreEachLeast}
 use Rattle.summary_pasting.specs.Pasted.{IsPastedText, IsReadOtherwise, IsTooLong}
 use Rattle.summary_comparing.specs.CompareTexts.{AreCompareLines}
+use Rattle.summary_comparing.specs.ChainTexts.{AreNamedLines}
 use Rattle.summary_comparing.specs.declared.lines.CompareLines.{CompareLines}
-use Rattle.twe_annotate.specs.Compared.{compare_answer}
+use Rattle.twe_annotate.specs.Compared.{compare_answer, unknown_text}
 use Rattle.twe_annotate.specs.Kept.{kept_lines, long_text, otherwise_text, write_status}
 use Rattle.twe_annotate.specs.Texts.{annotate_usage_text, matrix_lines}
 use Rattle.twe_annotate.specs.Words.{requested_by}
 use Rattle.twe_annotate.specs.declared.words.Request.{Request}
-use Rattle.twe_annotate.specs.declared.words.Request.TheVariants.{Matrix, Write, Compare}
+use Rattle.twe_annotate.specs.declared.words.Request.TheVariants.{Matrix, Write, Compare, Explain}
 
 -- These are the least summaries of the methods that have one. If each has one, a program that keeps every rule on effects keeps
 -- them with these summaries.
@@ -54,6 +55,14 @@ pub data AnnotateDue (request : Request) (text : List ℕ) : Answer → Type 0 w
   compared : (tree : Ast) (p : Program) (lines : CompareLines) → request ≡ Compare
       → TextMeans text tree p → AreCompareLines tree p lines
       → AnnotateDue request text (compare_answer lines)
+  -- it is asked what one declaration needs: the lines on it, with a chain of calls for each need
+  explained : (tree : Ast) (p : Program) (name : List ℕ) (lines : CompareLines) → request ≡ Explain name
+      → TextMeans text tree p → AreNamedLines tree p name (Some lines)
+      → AnnotateDue request text (compare_answer lines)
+  -- no method and no task has the name that is asked about
+  unknown : (tree : Ast) (p : Program) (name : List ℕ) → request ≡ Explain name
+      → TextMeans text tree p → AreNamedLines tree p name None
+      → AnnotateDue request text (on_err Refused (unknown_text name))
 
 -- why the program gives an answer, before it writes anything
 abbrev pub AnnotateCause : {S : Type 0} → SourceTells S → List (List ℕ) → S → S → Answer → Type 0

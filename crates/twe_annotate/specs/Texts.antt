@@ -106,4 +106,4 @@ matrix_lines regions (Task deterministic decl ∷ items) (task ∷ tasks) =
 
 -- the usage line of `twe_annotate`
 abbrev pub annotate_usage_text : List ℕ
-annotate_usage_text = codes "usage: twe_annotate matrix | write | compare" ++ 10 ∷ []
+annotate_usage_text = codes "usage: twe_annotate matrix | write | compare [NAME]" ++ 10 ∷ []

@@ -6,6 +6,7 @@ ghost use Rattle.text_meaning.specs.Meaning.{IsRefusedBefore, TextMeans};
 ghost use Rattle.text_meaning.specs.Reading.{ReadingHasCause};
 
 use crate::comparing::answer_compare;
+use crate::explaining::answer_explain;
 use crate::lines::matrix_lines;
 use crate::words::Request;
 use crate::writing::answer_write;
@@ -17,8 +18,8 @@ use twe_io::{Answer, Status};
 use twe_report::refusal_text;
 
 /// The answer to a text.
-pub(crate) fn answer_text(alloc: Global, request: Request, text: &[u8]) -> Result<Answer, Memory>
-    ensures { IfOk result (AnnotateDue request text.now) }
+pub(crate) fn answer_text(alloc: Global, request: &Request, text: &[u8]) -> Result<Answer, Memory>
+    ensures { IfOk result (AnnotateDue request.now text.now) }
 {
     match read_meaning(alloc, text) {
         Ok(meaning) => answer_meaning(alloc, request, text, meaning),
@@ -29,12 +30,12 @@ pub(crate) fn answer_text(alloc: Global, request: Request, text: &[u8]) -> Resul
 /// The answer to a text that could not be read.
 fn answer_fail(
     alloc: Global,
-    request: Request,
+    request: &Request,
     text: &[u8],
     fail: &FrontFail,
 ) -> Result<Answer, Memory>
     requires { ReadingHasCause text.now fail.now }
-    ensures { IfOk result (AnnotateDue request text.now) }
+    ensures { IfOk result (AnnotateDue request.now text.now) }
 {
     match fail {
         FrontFail::Refused(refusal) => answer_refusal(alloc, request, text, *refusal),
@@ -45,12 +46,12 @@ fn answer_fail(
 /// The answer to a text that has this refusal.
 fn answer_refusal(
     alloc: Global,
-    request: Request,
+    request: &Request,
     text: &[u8],
     refusal: Refusal,
 ) -> Result<Answer, Memory>
     requires { IsRefusedBefore text.now refusal }
-    ensures { IfOk result (AnnotateDue request text.now) }
+    ensures { IfOk result (AnnotateDue request.now text.now) }
 {
     let _ = request;
     let _ = text;
@@ -75,16 +76,17 @@ fn answer_matrix(alloc: Global, text: &[u8], meaning: &Meaning) -> Result<Answer
 /// The answer to a text with this meaning.
 fn answer_meaning(
     alloc: Global,
-    request: Request,
+    request: &Request,
     text: &[u8],
     meaning: Meaning,
 ) -> Result<Answer, Memory>
     requires { TextMeans text.now meaning.tree meaning.program }
-    ensures { IfOk result (AnnotateDue request text.now) }
+    ensures { IfOk result (AnnotateDue request.now text.now) }
 {
     match request {
         Request::Matrix => answer_matrix(alloc, text, &meaning),
         Request::Write => answer_write(alloc, text, meaning),
         Request::Compare => answer_compare(alloc, text, meaning),
+        Request::Explain(name) => answer_explain(alloc, text, meaning, name),
     }
 }

@@ -2,7 +2,7 @@
 ghost use Rattle.std.specs.Prelude.{◌≡◌, IfOk};
 ghost use Rattle.text_meaning.specs.Meaning.{TextMeans};
 ghost use Rattle.twe_annotate.specs.Answers.{AnnotateDue};
-ghost use Rattle.twe_annotate.specs.Compared.{compare_status};
+ghost use Rattle.twe_annotate.specs.Compared.{compare_answer, compare_status};
 ghost use Rattle.twe_annotate.specs.declared.words.Request.TheVariants.{Compare};
 
 use std::alloc::Global;
@@ -21,6 +21,19 @@ fn compare_status(many: &[u8]) -> Status
     }
 }
 
+/// The answer that has these lines.
+pub(crate) fn answer_lines(lines: CompareLines) -> Answer
+    ensures { result ≡ compare_answer lines }
+{
+    let CompareLines { wider, many } = lines;
+    let status = compare_status(many.as_slice());
+    Answer {
+        status,
+        out: wider,
+        err: many,
+    }
+}
+
 /// The answer to a text with this meaning: what is declared beside what is needed.
 pub(crate) fn answer_compare(alloc: Global, text: &[u8], meaning: Meaning) -> Result<Answer, Memory>
     requires { TextMeans text.now meaning.tree meaning.program }
@@ -28,11 +41,5 @@ pub(crate) fn answer_compare(alloc: Global, text: &[u8], meaning: Meaning) -> Re
 {
     let _ = text;
     let lines = compare_lines(alloc, &meaning.tree, &meaning.program)?;
-    let CompareLines { wider, many } = lines;
-    let status = compare_status(many.as_slice());
-    Ok(Answer {
-        status,
-        out: wider,
-        err: many,
-    })
+    Ok(answer_lines(lines))
 }

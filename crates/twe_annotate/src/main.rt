@@ -4,6 +4,7 @@
 
 mod answering;
 mod comparing;
+mod explaining;
 mod kept;
 mod laws;
 mod lines;

@@ -18,8 +18,8 @@ impl TextProgram for Request {
 
     ghost due = { AnnotateDue };
 
-    fn of_words(_: Global, words: &[Word]) -> Result<Option<Self>, Memory> {
-        Ok(requested_by(words))
+    fn of_words(alloc: Global, words: &[Word]) -> Result<Option<Self>, Memory> {
+        requested_by(alloc, words)
     }
 
     fn usage_text(alloc: Global) -> Result<Bytes, Memory> {
@@ -27,6 +27,6 @@ impl TextProgram for Request {
     }
 
     fn answer_text(&self, alloc: Global, text: &[u8]) -> Result<Answer, Memory> {
-        answer_text(alloc, *self, text)
+        answer_text(alloc, self, text)
     }
 }

@@ -207,5 +207,8 @@ pub(crate) fn push_verdict(
 pub(crate) fn usage_text(alloc: Global) -> Result<Bytes, Memory>
     ensures { IfOk result (λ text. text ≡ texts.annotate_usage_text) }
 {
-    Bytes::from_slice(alloc, b"usage: twe_annotate matrix | write | compare\n")
+    Bytes::from_slice(
+        alloc,
+        b"usage: twe_annotate matrix | write | compare [NAME]\n",
+    )
 }

@@ -1,11 +1,12 @@
 //! What the words after the program's name ask for.
-ghost use Rattle.std.specs.Prelude.{◌≡◌};
-ghost use Rattle.twe_annotate.specs.Words.{request_of, requested_by};
+ghost use Rattle.std.specs.Prelude.{◌≡◌, IfOk};
+ghost use Rattle.twe_annotate.specs.Words.{request_of, request_on, requested_by};
 
-use twe_base::Word;
+use std::alloc::Global;
+use twe_base::{Memory, Word};
 
 /// What is asked for.
-#[derive(Clone, Copy, Debug, PartialEq, Eq)]
+#[derive(Debug, Drop)]
 pub enum Request {
     /// A line for each two tasks.
     Matrix,
@@ -13,6 +14,8 @@ pub enum Request {
     Write,
     /// A line for each method and each task that declares more than it needs.
     Compare,
+    /// What the method or the task with this name needs, with a chain of calls for each need.
+    Explain(Word),
 }
 
 /// What a word asks for, if it asks for something.
@@ -31,12 +34,25 @@ fn request_of(word: &Word) -> Option<Request>
     }
 }
 
+/// What a word with a name after it asks for, if it asks for something.
+fn request_on(alloc: Global, word: &Word, name: &Word) -> Result<Option<Request>, Memory>
+    ensures { IfOk result (λ request. request ≡ request_on word.now name.now) }
+{
+    if word.as_bytes() == b"compare".as_slice() {
+        let name = Word::from_text(alloc, name.as_str())?;
+        Ok(Some(Request::Explain(name)))
+    } else {
+        Ok(None)
+    }
+}
+
 /// What the words ask for, or `None` if they ask for nothing that the program does.
-pub(crate) fn requested_by(words: &[Word]) -> Option<Request>
-    ensures { result ≡ requested_by words.now }
+pub(crate) fn requested_by(alloc: Global, words: &[Word]) -> Result<Option<Request>, Memory>
+    ensures { IfOk result (λ request. request ≡ requested_by words.now) }
 {
     match words {
-        [word] => request_of(word),
-        _ => None,
+        [word] => Ok(request_of(word)),
+        [word, name] => request_on(alloc, word, name),
+        _ => Ok(None),
     }
 }

@@ -15,3 +15,9 @@ returns-in-Write c = subst (λ (request : Request). IfOk c.answer_write.result (
 -- a comparison is asked for
 pub returns-in-Compare : goal.returns-in-Compare
 returns-in-Compare c = subst (λ (request : Request). IfOk c.answer_compare.result (AnnotateDue request c.args.text.now)) (sym c.in-Compare.is) c.answer_compare.ensures
+
+-- a declaration is asked about
+pub returns-in-Explain : goal.returns-in-Explain
+returns-in-Explain c =
+    subst (λ (request : Request). IfOk c.answer_explain.result (AnnotateDue request c.args.text.now)) (sym c.in-Explain.is)
+    c.answer_explain.ensures

@@ -7,5 +7,5 @@ use Rattle.twe_annotate.proofs.answering.answer_refusal.Goals as goal
 -- the line of the refusal
 pub returns : goal.returns
 returns c =
-    subst (AnnotateDue c.args.request c.args.text.now) (sym (c.on_err.ensures ∙ ap (on_err Refused) c.in_ok-line.ensures))
+    subst (AnnotateDue c.args.request.now c.args.text.now) (sym (c.on_err.ensures ∙ ap (on_err Refused) c.in_ok-line.ensures))
     (AnnotateDue.refused c.args.refusal c.requires)
