@@ -66,8 +66,8 @@ spawn_lines regions params (effect ∷ effects) (place ∷ places) =
 
 -- the line of a declaration whose summary is wider than what it needs, if it is, and the lines on what it needs and on what its
 -- children declare
-unfoldable pub explained_text : List (List ℕ) → declared.Decl → Comparison → List Effect → List NeedChain → List Effect → List Place
-    → List ℕ
+unfoldable pub explained_text : List (List ℕ) → declared.Decl → Comparison
+    → List Effect → List NeedChain → List Effect → List Place → List ℕ
 explained_text regions its comparison needed chains spawned places =
     wider_text regions its comparison
     ++ (need_lines regions its.params needed chains ++ spawn_lines regions its.params spawned places)
