@@ -42,7 +42,8 @@ titles_nest words =
     (IsMarkup.both (codes "\n") (words_at 6 22 words) line_nests (words_nest words 6 22))
 
 style_nests : IsMarkup (element (codes "style") [] style_words)
-style_nests = IsMarkup.around (codes "style") [] style_words refl refl (IsMarkup.text style_words (plain_is_text style_words refl))
+style_nests =
+    IsMarkup.around (codes "style") [] style_words refl refl (IsMarkup.text style_words (plain_is_text style_words refl))
 
 abbrev tip_attributes : List Attribute
 tip_attributes =
