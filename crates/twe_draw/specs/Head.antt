@@ -67,9 +67,13 @@ deterministic_colour = colour (codes "deterministic") 226 (codes "segment of a d
 abbrev pub chain_colour : List ℕ
 chain_colour = colour (codes "chain") 586 (codes "heaviest chain")
 
--- what the colours mean
+-- what the arrows mean
+abbrev pub arrow_words : List ℕ
+arrow_words = words_at 726 64 (codes "arrow: makes a task; dashed: gives a value")
+
+-- what the colours and the arrows mean
 unfoldable pub legend : List ℕ
-legend = entry_colours ++ (deterministic_colour ++ chain_colour)
+legend = entry_colours ++ (deterministic_colour ++ (chain_colour ++ arrow_words))
 
 -- how many tasks have no row
 abbrev pub rows_left_out_words : ℕ → List ℕ
@@ -83,7 +87,7 @@ rows_left_out tasks rows = if nat_lt rows tasks then words_at 246 84 (rows_left_
 abbrev pub head_top : ℕ → List ℕ → List ℕ
 head_top rows words = opening rows ++ titles words
 
--- what the axis and the colours mean, and how many tasks have no row
+-- what the axis, the colours and the arrows mean, and how many tasks have no row
 abbrev pub head_key : AxisKind → ℕ → ℕ → List ℕ
 head_key kind tasks rows = axis kind ++ (legend ++ rows_left_out tasks rows)
 

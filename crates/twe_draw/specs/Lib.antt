@@ -5,6 +5,7 @@ pub mod Shown
 pub mod Style
 pub mod Labels
 pub mod Bars
+pub mod Marks
 pub mod Arrows
 pub mod Head
 pub mod Trace

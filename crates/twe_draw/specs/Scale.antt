@@ -1,5 +1,5 @@
--- Where things stand in a picture, in pixels from its left and its top. Each task that is shown has a row, and time goes to
--- the right.
+-- Where things stand in a picture, in pixels from its left and its top. Each task that is shown has a row, and time goes to the
+-- right.
 use Rattle.std.specs.Prelude.{◌+◌, ◌-◌, ◌*◌, ◌/◌, ℕ, List, length, max, min}
 use Rattle.run_picture.specs.declared.bars.Mark.{Mark}
 use Rattle.twe_draw.specs.declared.scale.Axis.{Axis}

@@ -3,7 +3,7 @@ use Rattle.std.specs.Prelude.{◌++◌, ℕ, List, codes}
 
 -- the background, the words and the boxes
 abbrev pub page_style : List ℕ
-page_style = codes "<style>svg{background:#fff;font:12px sans-serif}text{fill:#222}rect{stroke:#fff;stroke-width:.5}\n"
+page_style = codes "svg{background:#fff;font:12px sans-serif}text{fill:#222}rect{stroke:#fff;stroke-width:.5}\n"
 
 -- the colours of entries
 abbrev pub entry_style : List ℕ
@@ -15,7 +15,7 @@ line_style = codes ".row{stroke:#bbb}.makes,.gives{fill:none;stroke:#777;marker-
 
 -- the heaviest chain
 abbrev pub chain_style : List ℕ
-chain_style = codes ".chain{fill:none;stroke:#d55e00;stroke-width:3}\n"
+chain_style = codes ".chain{fill:none;stroke:#d55e00;stroke-width:3;pointer-events:none}\n"
 
 -- what differs in the dark: the background, the words and the boxes
 abbrev pub dark_page_style : List ℕ
@@ -23,7 +23,7 @@ dark_page_style = codes "@media (prefers-color-scheme:dark){svg{background:#111}
 
 -- what differs in the dark: the rest
 abbrev pub dark_entry_style : List ℕ
-dark_entry_style = codes ".waits{fill:#333}.row{stroke:#444}.chain{stroke:#e69f00}}</style>\n"
+dark_entry_style = codes ".waits{fill:#333}.row{stroke:#444}.chain{stroke:#e69f00}}"
 
 -- the tip of an arrow: its size
 abbrev pub tip_opening : List ℕ
@@ -45,6 +45,10 @@ dark_style = dark_page_style ++ dark_entry_style
 abbrev pub arrow_tip : List ℕ
 arrow_tip = tip_opening ++ tip_shape
 
+-- the whole style
+abbrev pub style_words : List ℕ
+style_words = light_style ++ dark_style
+
 -- what is the same in each picture
 unfoldable pub setting : List ℕ
-setting = light_style ++ (dark_style ++ arrow_tip)
+setting = codes "<style>" ++ (style_words ++ (codes "</style>\n" ++ arrow_tip))

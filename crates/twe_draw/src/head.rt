@@ -1,6 +1,6 @@
 //! What stands above the rows of a picture.
 ghost use Rattle.std.specs.Prelude.{◌≡◌, ◌++◌, ◌<◌, IfOk, OnOk};
-ghost use Rattle.twe_draw.specs.Head.{axis, axis_words, chain_colour, colour, deterministic_colour, entry_colours, head_key, head_top, hundredths, rows_left_out, rows_left_out_words, legend, opening, opening_words, parallelism_after, parallelism_words, picture_head, run_words, titles, total_words};
+ghost use Rattle.twe_draw.specs.Head.{arrow_words, axis, axis_words, chain_colour, colour, deterministic_colour, entry_colours, head_key, head_top, hundredths, rows_left_out, rows_left_out_words, legend, opening, opening_words, parallelism_after, parallelism_words, picture_head, run_words, titles, total_words};
 
 use crate::numbers::{push_number, push_wide};
 use crate::scale::picture_height;
@@ -135,14 +135,22 @@ fn push_chain_colour(text: &mut Bytes) -> Result<(), Memory>
     push_colour(text, b"chain", 586, b"heaviest chain")
 }
 
-/// Appends what the colours mean.
+/// Appends what the arrows mean.
+fn push_arrow_words(text: &mut Bytes) -> Result<(), Memory>
+    ensures { OnOk result (text.new ≡ text.old ++ arrow_words) }
+{
+    push_words_at(text, 726, 64, b"arrow: makes a task; dashed: gives a value")
+}
+
+/// Appends what the colours and the arrows mean.
 #[tactic(auto, unfolding(crate::specs::Head::legend))]
 fn push_legend(text: &mut Bytes) -> Result<(), Memory>
     ensures { OnOk result (text.new ≡ text.old ++ legend) }
 {
     push_entry_colours(text)?;
     push_deterministic_colour(text)?;
-    push_chain_colour(text)
+    push_chain_colour(text)?;
+    push_arrow_words(text)
 }
 
 /// How many tasks have no row.
@@ -179,7 +187,7 @@ fn push_head_top(text: &mut Bytes, rows: usize, words: &[u8]) -> Result<(), Memo
     push_titles(text, words)
 }
 
-/// Appends what the axis and the colours mean, and how many tasks have no row.
+/// Appends what the axis, the colours and the arrows mean, and how many tasks have no row.
 fn push_head_key(
     text: &mut Bytes,
     alloc: Global,

@@ -6,6 +6,7 @@ mod arrows;
 mod bars;
 mod head;
 mod labels;
+mod laws;
 mod numbers;
 mod page;
 mod program;

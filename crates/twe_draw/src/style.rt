@@ -1,6 +1,6 @@
 //! What is the same in each picture: its colours, and the tip of its arrows.
 ghost use Rattle.std.specs.Prelude.{◌≡◌, ◌++◌, OnOk};
-ghost use Rattle.twe_draw.specs.Style.{arrow_tip, chain_style, dark_entry_style, dark_page_style, dark_style, entry_style, light_style, line_style, page_style, setting, tip_opening, tip_shape};
+ghost use Rattle.twe_draw.specs.Style.{arrow_tip, chain_style, dark_entry_style, dark_page_style, dark_style, entry_style, light_style, line_style, page_style, setting, style_words, tip_opening, tip_shape};
 
 use twe_base::{Bytes, Memory};
 
@@ -9,7 +9,7 @@ fn push_page_style(text: &mut Bytes) -> Result<(), Memory>
     ensures { OnOk result (text.new ≡ text.old ++ page_style) }
 {
     text.push_all(
-        b"<style>svg{background:#fff;font:12px sans-serif}text{fill:#222}rect{stroke:#fff;stroke-width:.5}\n",
+        b"svg{background:#fff;font:12px sans-serif}text{fill:#222}rect{stroke:#fff;stroke-width:.5}\n",
     )
 }
 
@@ -35,7 +35,7 @@ fn push_line_style(text: &mut Bytes) -> Result<(), Memory>
 fn push_chain_style(text: &mut Bytes) -> Result<(), Memory>
     ensures { OnOk result (text.new ≡ text.old ++ chain_style) }
 {
-    text.push_all(b".chain{fill:none;stroke:#d55e00;stroke-width:3}\n")
+    text.push_all(b".chain{fill:none;stroke:#d55e00;stroke-width:3;pointer-events:none}\n")
 }
 
 /// Appends what differs in the dark: the background, the words and the boxes.
@@ -51,7 +51,7 @@ fn push_dark_page_style(text: &mut Bytes) -> Result<(), Memory>
 fn push_dark_entry_style(text: &mut Bytes) -> Result<(), Memory>
     ensures { OnOk result (text.new ≡ text.old ++ dark_entry_style) }
 {
-    text.push_all(b".waits{fill:#333}.row{stroke:#444}.chain{stroke:#e69f00}}</style>\n")
+    text.push_all(b".waits{fill:#333}.row{stroke:#444}.chain{stroke:#e69f00}}")
 }
 
 /// Appends the tip of an arrow: its size.
@@ -88,6 +88,14 @@ fn push_dark_style(text: &mut Bytes) -> Result<(), Memory>
     push_dark_entry_style(text)
 }
 
+/// Appends the whole style.
+fn push_style_words(text: &mut Bytes) -> Result<(), Memory>
+    ensures { OnOk result (text.new ≡ text.old ++ style_words) }
+{
+    push_light_style(text)?;
+    push_dark_style(text)
+}
+
 /// Appends the tip of an arrow.
 fn push_arrow_tip(text: &mut Bytes) -> Result<(), Memory>
     ensures { OnOk result (text.new ≡ text.old ++ arrow_tip) }
@@ -101,7 +109,8 @@ fn push_arrow_tip(text: &mut Bytes) -> Result<(), Memory>
 pub(crate) fn push_setting(text: &mut Bytes) -> Result<(), Memory>
     ensures { OnOk result (text.new ≡ text.old ++ setting) }
 {
-    push_light_style(text)?;
-    push_dark_style(text)?;
+    text.push_all(b"<style>")?;
+    push_style_words(text)?;
+    text.push_all(b"</style>\n")?;
     push_arrow_tip(text)
 }

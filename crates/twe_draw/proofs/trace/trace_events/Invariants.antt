@@ -9,4 +9,5 @@ invariant-loop-row l = map view l.events.items ≡ map (row_event l.p) (take l.r
 
 -- so have all rows, and the bars up to here
 abbrev pub invariant-loop-bar : goal.invariant-loop-bar
-invariant-loop-bar l = map view l.events.items ≡ map (row_event l.p) l.tasks ++ map (bar_event l.p l.tasks) (take l.bar-index l.bars)
+invariant-loop-bar l =
+    map view l.events.items ≡ map (row_event l.p) l.tasks ++ map (bar_event l.p l.tasks) (take l.bar-index l.bars)

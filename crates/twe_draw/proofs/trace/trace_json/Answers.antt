@@ -1,7 +1,7 @@
-use Rattle.std.proofs.Common.{◌≡◌, ◌≤◌, ℕ, false, List, Some, string_bytes, ap, ◌∙◌, sym, subst}
+use Rattle.std.proofs.Common.{◌≡◌, ◌≤◌, false, List, Some, ap, ◌∙◌, sym, subst}
 use Rattle.std.proofs.lemmas.Result.{IfOk-weaker}
 use Rattle.serde_json.specs.Data.{Data, array, depth}
-use Rattle.serde_json.specs.Read.{max_depth, read}
+use Rattle.serde_json.specs.Read.{max_depth}
 use Rattle.serde_json.specs.View.{items_of, view}
 use Rattle.serde_json.specs.Written.{compact_text, has_float}
 use Rattle.twe_draw.specs.Trace.{trace_data}
@@ -13,7 +13,8 @@ pub returns-clause-text : goal.returns-clause-text
 returns-clause-text c =
     let is : view c.from.result ≡ trace_data c.args.p.now c.args.bars.now c.args.tasks.now =
     c.from.ensures ∙ ap (λ (ds : List Data). array (items_of ds)) c.in_ok-events.ensures in
-    let plain : has_float (view c.from.result) ≡ false = ap has_float is ∙ events_are_plain c.args.p.now c.args.tasks.now c.args.tasks.now c.args.bars.now in
+    let plain : has_float (view c.from.result) ≡ false =
+    ap has_float is ∙ events_are_plain c.args.p.now c.args.tasks.now c.args.tasks.now c.args.bars.now in
     IfOk-weaker c.to_string.result _ _ (λ s text. text plain ∙ ap compact_text is) c.to_string.ensures.text
 
 -- and they nest little, so it reads back
