@@ -24,8 +24,8 @@ returns-in-None c =
     c.unknown_answer.ensures
 
 -- the lines on the declaration
-pub returns-in-Some : goal.returns-in-Some
-returns-in-Some c =
+pub returns : goal.returns
+returns c =
     let tree = c.args.meaning.tree in
     let p = c.args.meaning.program in
     let name = c.args.name.now in
