@@ -1,6 +1,6 @@
 -- Chains of one effect more, and the parts of a chain.
 use Rattle.std.proofs.Common.{◌≡◌, ◌<◌, ℕ, zero, suc, true, false, List, [], ◌∷◌, ◌++◌, get_or, length, refl, sym, ap, ◌∙◌, subst}
-use Rattle.std.specs.List.{Contains}
+use Rattle.std.specs.List.{Contains, flat_map}
 use Rattle.std.proofs.lemmas.Bool.{false≢true}
 use Rattle.effect_sets.specs.declared.effects.Effect.{Effect}
 use Rattle.effect_infer.specs.declared.needs.need.Need.{Need}
@@ -33,6 +33,8 @@ use Rattle.need_chains.proofs.Places.{body-place}
 use Rattle.summary_comparing.specs.Needed.{body_needs, child_needs, said_spawn}
 use Rattle.summary_comparing.specs.Chained.{IsNeedChain, IsSpawnPlace, act_place}
 use Rattle.summary_comparing.specs.inner.Sources.{acts_before, steps_before}
+use Rattle.summary_comparing.specs.inner.Differing.{HasEach, HaveSame, numbered_needs}
+use Rattle.summary_comparing.proofs.Numbered.{numbered-same}
 use Rattle.summary_comparing.proofs.Origins.{its-found, source-found}
 
 pub each-more : {X Y : Type 0} (R : X → Y → Type 0) (xs : List X) (ys : List Y) (x : X) (y : Y) → AreEach R xs ys → R x y
@@ -123,34 +125,27 @@ module _ (p : Program) (decl : Decl) (effect : Effect) where
     leads = leads;
   }
 
-  -- some step needs what the body needs
-  need-step : (summaries : List Summary) → Contains (body_needs p summaries decl) effect
-      → (step : Step) × (slice_get (steps_in_all p.cells decl.body.block)
-      (steps_before summaries decl.params (steps_in_all p.cells decl.body.block) effect) ≡ Some step)
-      × IsIn effect (said_needs summaries decl.params step)
-  need-step summaries there =
-      source-found (said_needs summaries decl.params) (steps_in_all p.cells decl.body.block) effect
-      (contains-in (body_needs p summaries decl) effect there)
+  -- some step needs what the body needs, or an equal one does, by its number
+  module _ (summaries : List Summary) (steps : List Step) (numbers : List ℕ) (all : steps ≡ steps_in_all p.cells decl.body.block)
+      (each : HasEach steps numbers) (there : Contains (body_needs p summaries decl) effect) where
+    some-number : (number : ℕ) × (slice_get numbers (steps_before summaries decl.params steps numbers effect) ≡ Some number)
+        × IsIn effect (numbered_needs summaries decl.params steps number)
+    some-number =
+        let needs = flat_map (numbered_needs summaries decl.params steps) numbers in
+        source-found (numbered_needs summaries decl.params steps) numbers effect
+        (contains-in needs effect ((numbered-same summaries decl.params steps numbers each).in_these effect
+        (subst (λ (xs : List Step). Contains (flat_map (said_needs summaries decl.params) xs) effect) (sym all) there)))
 
-  pub step-within : (summaries : List Summary) (at : ℕ) → Contains (body_needs p summaries decl) effect
-      → at ≡ steps_before summaries decl.params (steps_in_all p.cells decl.body.block) effect
-      → at < length (steps_in_all p.cells decl.body.block)
-  step-within summaries at there is =
-      let found = need-step summaries there in
-      slice_get_within (steps_in_all p.cells decl.body.block) at found.0
-      (ap (slice_get (steps_in_all p.cells decl.body.block)) is ∙ found.1)
+    pub number-within : (at : ℕ) → at ≡ steps_before summaries decl.params steps numbers effect → at < length numbers
+    number-within at is = slice_get_within numbers at some-number.0 (ap (slice_get numbers) is ∙ some-number.1)
 
-  pub step-needs : (summaries : List Summary) (at : ℕ) (step : Step) → Contains (body_needs p summaries decl) effect
-      → at ≡ steps_before summaries decl.params (steps_in_all p.cells decl.body.block) effect
-      → slice_get (steps_in_all p.cells decl.body.block) at ≡ Some step
-      → Contains (said_needs summaries decl.params step) effect
-  step-needs summaries at step there is here =
-      let found = need-step summaries there in
-      let also : slice_get (steps_in_all p.cells decl.body.block) at ≡ Some found.0 =
-      ap (slice_get (steps_in_all p.cells decl.body.block)) is ∙ found.1 in
-      let same : found.0 ≡ step = cc in
-      subst (λ (s : Step). Contains (said_needs summaries decl.params s) effect) same
-      (in-contains (said_needs summaries decl.params found.0) effect found.2)
+    pub number-needs : (at number : ℕ) → at ≡ steps_before summaries decl.params steps numbers effect
+        → slice_get numbers at ≡ Some number → Contains (numbered_needs summaries decl.params steps number) effect
+    number-needs at number is here =
+        let also : slice_get numbers at ≡ Some some-number.0 = ap (slice_get numbers) is ∙ some-number.1 in
+        let same : some-number.0 ≡ number = cc in
+        subst (λ (n : ℕ). Contains (numbered_needs summaries decl.params steps n) effect) same
+        (in-contains (numbered_needs summaries decl.params steps some-number.0) effect some-number.2)
 
   -- some spawn needs what the children declare
   spawn-act : Contains (child_needs p decl) effect

@@ -5,6 +5,7 @@ pub mod Compared
 pub mod Idle
 pub mod SameEffects
 pub mod Origins
+pub mod Numbered
 pub mod Ordered
 pub mod Chained
 pub mod SpawnLines

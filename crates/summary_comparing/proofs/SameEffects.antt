@@ -21,7 +21,7 @@ elems-refl : (xs : List Elem) → same_elems xs xs ≡ true
 elems-refl [] = refl
 elems-refl (x ∷ xs) = and_from (same_elem x x) (same_elems xs xs) (same-elem-refl x) (elems-refl xs)
 
-elems-eq : (xs ys : List Elem) → same_elems xs ys ≡ true → xs ≡ ys
+pub elems-eq : (xs ys : List Elem) → same_elems xs ys ≡ true → xs ≡ ys
 elems-eq [] [] h = refl
 elems-eq [] (y ∷ ys) h = absurd (false≢true h)
 elems-eq (x ∷ xs) [] h = absurd (false≢true h)

@@ -1,3 +1,4 @@
+pub mod Differing
 pub mod Keeping
 pub mod SameEffects
 pub mod Sources

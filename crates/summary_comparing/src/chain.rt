@@ -10,8 +10,10 @@ ghost use Rattle.effect_check.specs.Acts.{acts_in_all};
 ghost use Rattle.effect_infer.specs.needs.Steps.{steps_in_all};
 ghost use Rattle.need_chains.specs.Placed.{all_bodies, step_places};
 ghost use Rattle.summary_comparing.specs.Needed.{body_needs, called_needs, said_effect, said_needs};
+ghost use Rattle.summary_comparing.specs.inner.Differing.{HasEach, numbered_needs};
 ghost use Rattle.summary_comparing.specs.Chained.{AreEach, IsCallChain, IsNeedChain, IsStepChain, chain_to_access};
 
+use crate::differing::differing_steps;
 use crate::sources::{effects_before, steps_before};
 use effect_infer::needs::{Need, Step};
 use effect_sets::{Effect, Summary};
@@ -217,8 +219,8 @@ fn placed_chain(
     }
 }
 
-/// A chain from the body of the declaration, which accesses and calls this, to an effect that it needs.
-fn need_chain(
+/// The same, from the step with this number.
+fn numbered_chain(
     alloc: Global,
     p: &Prog,
     bodies: &[BodySteps],
@@ -226,18 +228,49 @@ fn need_chain(
     decl: &Decl,
     steps: &[Step],
     places: &[Place],
+    number: usize,
     effect: &Effect,
 ) -> Result<NeedChain, Memory>
     requires all { bodies.now ≡ all_bodies p.now }
     requires steps { steps.now ≡ steps_in_all p.now.cells decl.now.body.block }
     requires its { places.now ≡ step_places (acts_in_all p.now decl.now.body.block) }
+    requires there { Contains (numbered_needs summaries.now decl.now.params steps.now number) effect.now }
+    ensures { IfOk result (IsNeedChain p.now summaries.now decl.now effect.now) }
+{
+    match steps.get(number) {
+        None => single_chain(alloc, decl.place, true),
+        Some(step) => placed_chain(
+            alloc, p, bodies, summaries, decl, places, number, step, effect,
+        ),
+    }
+}
+
+/// A chain from the body of the declaration, which accesses and calls this, to an effect that it needs. Each step has one of
+/// these numbers, or an equal one has.
+fn need_chain(
+    alloc: Global,
+    p: &Prog,
+    bodies: &[BodySteps],
+    summaries: &[Summary],
+    decl: &Decl,
+    steps: &[Step],
+    numbers: &[usize],
+    places: &[Place],
+    effect: &Effect,
+) -> Result<NeedChain, Memory>
+    requires all { bodies.now ≡ all_bodies p.now }
+    requires steps { steps.now ≡ steps_in_all p.now.cells decl.now.body.block }
+    requires each { HasEach steps.now numbers.now }
+    requires its { places.now ≡ step_places (acts_in_all p.now decl.now.body.block) }
     requires needed { Contains (body_needs p.now summaries.now decl.now) effect.now }
     ensures { IfOk result (IsNeedChain p.now summaries.now decl.now effect.now) }
 {
-    let at = steps_before(alloc, summaries, decl.params, steps, effect)?;
-    match steps.get(at) {
+    let at = steps_before(alloc, summaries, decl.params, steps, numbers, effect)?;
+    match numbers.get(at) {
         None => single_chain(alloc, decl.place, true),
-        Some(step) => placed_chain(alloc, p, bodies, summaries, decl, places, at, step, effect),
+        Some(number) => numbered_chain(
+            alloc, p, bodies, summaries, decl, steps, places, *number, effect,
+        ),
     }
 }
 
@@ -258,9 +291,13 @@ pub(crate) fn chains_of(
     let body = body_of(alloc, p, decl)?;
     let steps = body.steps.as_slice();
     let places = body.places.as_slice();
+    let numbers = differing_steps(alloc, steps)?;
+    let numbers = numbers.as_slice();
     let mut chains = Chains::new(alloc);
     for effect in effects {
-        let chain = need_chain(alloc, p, bodies, summaries, decl, steps, places, effect)?;
+        let chain = need_chain(
+            alloc, p, bodies, summaries, decl, steps, numbers, places, effect,
+        )?;
         chains.push(chain)?;
     }
     Ok(chains)

@@ -9,6 +9,7 @@ ghost use Rattle.summary_comparing.specs.EffectOrder.{in_effect_order};
 ghost use Rattle.summary_comparing.specs.Counted.{AreCountedWith};
 ghost use Rattle.summary_comparing.specs.Needed.{body_needs, child_needs};
 ghost use Rattle.summary_comparing.specs.Widest.{AreFewWidest};
+ghost use Rattle.summary_comparing.specs.inner.Differing.{HaveSame};
 
 use crate::chain::{NeedChain, chains_of};
 use crate::chain_lines::{push_need_lines, push_spawn_lines};
@@ -110,7 +111,7 @@ fn few_lines(
     spawned: &[Effect],
 ) -> Result<CompareLines, Memory>
     requires counted { AreCountedWith p.now summaries.now }
-    requires body { body.now ≡ body_needs p.now summaries.now decl.now }
+    requires body { HaveSame body.now (body_needs p.now summaries.now decl.now) }
     requires children { children.now ≡ child_needs p.now decl.now }
     requires few_needed { AreFewWidest (body_needs p.now summaries.now decl.now) needed.now }
     requires few_spawned { AreFewWidest (child_needs p.now decl.now) spawned.now }

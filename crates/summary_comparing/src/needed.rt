@@ -3,7 +3,9 @@ ghost use Rattle.std.specs.Prelude.{◌≡◌, ◌++◌, IfOk, OnOk, map, slice_
 ghost use Rattle.std.specs.List.{flat_map};
 ghost use Rattle.effect_infer.specs.needs.Needs.{effect_of};
 ghost use Rattle.summary_comparing.specs.Needed.{body_needs, called_needs, child_needs, said_effect, said_needs, said_spawn, spawn_needs};
+ghost use Rattle.summary_comparing.specs.inner.Differing.{HaveSame, numbered_needs};
 
+use crate::differing::differing_steps;
 use crate::said::said_effect;
 use effect_check::{Act, ActKind, acts_of_body};
 use effect_infer::needs::{Need, Step, steps_of_body};
@@ -80,33 +82,54 @@ fn push_step(
     }
 }
 
-/// Appends what each of the steps needs.
+/// Appends what the step with this number needs, if there is one.
+fn push_numbered(
+    needs: &mut Effects,
+    alloc: Global,
+    summaries: &[Summary],
+    params: u32,
+    steps: &[Step],
+    number: usize,
+) -> Result<(), Memory>
+    ensures { OnOk result (needs.new ≡ needs.old ++ numbered_needs summaries.now params steps.now number) }
+{
+    match steps.get(number) {
+        None => Ok(()),
+        Some(step) => push_step(needs, alloc, summaries, params, step),
+    }
+}
+
+/// What each of the steps with these numbers needs.
 fn steps_needs(
     alloc: Global,
     summaries: &[Summary],
     params: u32,
     steps: &[Step],
+    numbers: &[usize],
 ) -> Result<Effects, Memory>
-    ensures { IfOk result (λ needs. needs ≡ flat_map (said_needs summaries.now params) steps.now) }
+    ensures { IfOk result (λ needs. needs ≡ flat_map (numbered_needs summaries.now params steps.now) numbers.now) }
 {
     let mut needs = Effects::new(alloc);
-    for step in steps {
-        push_step(&mut needs, alloc, summaries, params, step)?;
+    for number in numbers {
+        push_numbered(&mut needs, alloc, summaries, params, steps, *number)?;
     }
     Ok(needs)
 }
 
 /// What the body of the declaration reads and writes, and what the methods need that it calls, of which these are the summaries.
+/// What equal calls need is there once.
 pub(crate) fn body_needs(
     alloc: Global,
     p: &Prog,
     summaries: &[Summary],
     decl: &Decl,
 ) -> Result<Effects, Memory>
-    ensures { IfOk result (λ needs. needs ≡ body_needs p.now summaries.now decl.now) }
+    ensures { IfOk result (λ needs. HaveSame needs (body_needs p.now summaries.now decl.now)) }
 {
     let steps = steps_of_body(alloc, p.cells.as_slice(), &decl.body.block)?;
-    steps_needs(alloc, summaries, decl.params, steps.as_slice())
+    let numbers = differing_steps(alloc, steps.as_slice())?;
+    let numbers = numbers.as_slice();
+    steps_needs(alloc, summaries, decl.params, steps.as_slice(), numbers)
 }
 
 /// Appends what an act needs, if it is a spawn.

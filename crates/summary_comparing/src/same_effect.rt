@@ -7,7 +7,7 @@ use need_chains::{same_elem, same_truth};
 use region_paths::{Elem, Path};
 
 /// Whether the elements are equal, one by one. Each call is for elements fewer, of which a path has at most 32.
-fn are_same_elems(first: &[Elem], second: &[Elem]) -> bool
+pub(crate) fn are_same_elems(first: &[Elem], second: &[Elem]) -> bool
     ensures { result ≡ same_elems first.now second.now }
 {
     match (first.split_first(), second.split_first()) {

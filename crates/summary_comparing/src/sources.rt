@@ -2,6 +2,7 @@
 ghost use Rattle.std.specs.Prelude.{◌≡◌, IfOk, map, slice_get};
 ghost use Rattle.effect_infer.specs.needs.Needs.{effect_of};
 ghost use Rattle.summary_comparing.specs.Needed.{called_needs, said_effect, said_needs, said_spawn};
+ghost use Rattle.summary_comparing.specs.inner.Differing.{numbered_needs};
 ghost use Rattle.summary_comparing.specs.inner.SameEffects.{same_effect};
 ghost use Rattle.summary_comparing.specs.inner.Sources.{acts_before, effects_before, has_effect, steps_before};
 
@@ -71,22 +72,41 @@ fn step_needs_it(
     }
 }
 
-/// How many steps stand before the first that needs the effect.
+/// Whether there is a step with this number, and it needs the effect.
+fn numbered_needs_it(
+    alloc: Global,
+    summaries: &[Summary],
+    params: u32,
+    steps: &[Step],
+    number: usize,
+    effect: &Effect,
+) -> Result<bool, Memory>
+    ensures { IfOk result (λ needs. needs
+        ≡ has_effect (numbered_needs summaries.now params steps.now number) effect.now) }
+{
+    match steps.get(number) {
+        None => Ok(false),
+        Some(step) => step_needs_it(alloc, summaries, params, step, effect),
+    }
+}
+
+/// How many of the numbers stand before the first whose step needs the effect.
 pub(crate) fn steps_before(
     alloc: Global,
     summaries: &[Summary],
     params: u32,
     steps: &[Step],
+    numbers: &[usize],
     effect: &Effect,
 ) -> Result<usize, Memory>
-    ensures { IfOk result (λ count. count ≡ steps_before summaries.now params steps.now effect.now) }
+    ensures { IfOk result (λ count. count ≡ steps_before summaries.now params steps.now numbers.now effect.now) }
 {
-    for (at, step) in steps.iter().enumerate() {
-        if step_needs_it(alloc, summaries, params, step, effect)? {
+    for (at, number) in numbers.iter().enumerate() {
+        if numbered_needs_it(alloc, summaries, params, steps, *number, effect)? {
             return Ok(at);
         }
     }
-    Ok(steps.len())
+    Ok(numbers.len())
 }
 
 /// How many effects of a called method stand before the first that is this one, as the caller says it.

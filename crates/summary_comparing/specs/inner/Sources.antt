@@ -7,7 +7,8 @@ use Rattle.effect_sets.specs.declared.effects.Summary.{Summary}
 use Rattle.effect_sets.specs.Filled.{fill_effect}
 use Rattle.effect_check.specs.declared.act.Act.{Act}
 use Rattle.effect_infer.specs.declared.needs.need.Step.{Step}
-use Rattle.summary_comparing.specs.Needed.{said_effect, said_needs, said_spawn}
+use Rattle.summary_comparing.specs.Needed.{said_effect, said_spawn}
+use Rattle.summary_comparing.specs.inner.Differing.{numbered_needs}
 use Rattle.summary_comparing.specs.inner.SameEffects.{same_effect}
 
 -- the effect is one of these
@@ -19,10 +20,10 @@ abbrev pub before_first : {X : Type 0} → (X → Bool) → List X → ℕ
 before_first test [] = 0
 before_first test (x ∷ xs) = if test x then 0 else suc (before_first test xs)
 
--- how many steps stand before the first that needs the effect
-abbrev pub steps_before : List Summary → ℕ → List Step → Effect → ℕ
-steps_before summaries params steps effect =
-    before_first (λ step. has_effect (said_needs summaries params step) effect) steps
+-- how many of the numbers stand before the first whose step needs the effect
+abbrev pub steps_before : List Summary → ℕ → List Step → List ℕ → Effect → ℕ
+steps_before summaries params steps numbers effect =
+    before_first (λ number. has_effect (numbered_needs summaries params steps number) effect) numbers
 
 -- how many effects of a called method stand before the first that is this one, as the caller says it
 abbrev pub effects_before : ℕ → List Elem → List Effect → Effect → ℕ

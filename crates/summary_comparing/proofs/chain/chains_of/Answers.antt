@@ -3,6 +3,7 @@ use Rattle.std.proofs.lemmas.List.{take_more}
 use Rattle.effect_sets.specs.declared.effects.Effect.{Effect}
 use Rattle.need_chains.specs.declared.bodies.BodySteps.{BodySteps}
 use Rattle.summary_comparing.specs.Chained.{AreEach, IsNeedChain}
+use Rattle.summary_comparing.specs.inner.Differing.{HasEach}
 use Rattle.summary_comparing.proofs.Chained.{each-more}
 use Rattle.summary_comparing.proofs.chain.chains_of.Goals as goal
 
@@ -31,3 +32,8 @@ need_chain-requires-clause-steps c = c.as_slice-steps.ensures ∙ ap (λ (b : Bo
 
 pub need_chain-requires-clause-its : goal.need_chain-requires-clause-its
 need_chain-requires-clause-its c = c.as_slice-places.ensures ∙ ap (λ (b : BodySteps). b.places) c.in_ok-body.ensures
+
+-- each step has a number
+pub need_chain-requires-clause-each : goal.need_chain-requires-clause-each
+need_chain-requires-clause-each c =
+    subst (HasEach c.as_slice-steps.result.now) (sym c.as_slice-numbers.ensures) c.in_ok-numbers.ensures

@@ -20,6 +20,7 @@ use Rattle.summary_comparing.specs.Needed.{body_needs, child_needs}
 use Rattle.summary_comparing.specs.EffectOrder.{in_effect_order}
 use Rattle.summary_comparing.specs.ChainTexts.{AreExplained, explained_text, its_comparison}
 use Rattle.summary_comparing.specs.declared.comparison.Comparison.{Comparison}
+use Rattle.summary_comparing.proofs.Numbered.{comparison-same}
 use Rattle.summary_comparing.proofs.explaining.few_lines.Goals as goal
 
 -- the text on it
@@ -37,7 +38,7 @@ returns c =
     let others = c.in_ok-others.others in
     let is : c.in_ok-comparison.comparison ≡ its_comparison p summaries decl needed spawned =
     c.in_ok-comparison.ensures
-    ∙ (ap (λ (es : List Effect). comparison_of es children declared widest others) c.requires.body
+    ∙ (comparison-same c.args.body.now (body_needs p summaries decl) c.requires.body children declared widest others
     ∙ (ap (λ (es : List Effect). comparison_of (body_needs p summaries decl) es declared widest others) c.requires.children
     ∙ (ap (λ (es : List Effect). comparison_of (body_needs p summaries decl) (child_needs p decl) es widest others) c.as_slice-declared.ensures
     ∙ (ap (λ (es : List Effect). comparison_of (body_needs p summaries decl) (child_needs p decl) decl.summary.effects es others) c.in_ok-widest.ensures
