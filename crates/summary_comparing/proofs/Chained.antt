@@ -1,7 +1,6 @@
 -- Chains of one effect more, and the parts of a chain.
-use Rattle.std.proofs.Common.{◌≡◌, ◌<◌, ℕ, zero, suc, true, false, List, [], ◌∷◌, ◌++◌, get_or, length, refl, sym, ap, ◌∙◌, subst}
+use Rattle.std.proofs.Common.{◌≡◌, ◌<◌, ℕ, List, [], ◌∷◌, ◌++◌, length, refl, sym, ap, ◌∙◌, subst}
 use Rattle.std.specs.List.{Contains, flat_map}
-use Rattle.std.proofs.lemmas.Bool.{false≢true}
 use Rattle.effect_sets.specs.declared.effects.Effect.{Effect}
 use Rattle.effect_infer.specs.declared.needs.need.Need.{Need}
 use Rattle.effect_infer.specs.needs.Needs.{effect_of}
@@ -18,7 +17,6 @@ use Rattle.effect_infer.specs.declared.needs.need.Step.{Step}
 use Rattle.effect_infer.specs.declared.needs.need.Step.TheVariants.{Touch, Call}
 use Rattle.effect_infer.specs.needs.Needs.{IsNeed}
 use Rattle.effect_infer.proofs.needs.Relation.{get-in}
-use Rattle.need_chains.specs.Chains.{LeadsToNeed}
 use Rattle.summary_comparing.specs.Needed.{called_needs, said_effect, said_needs}
 use Rattle.summary_comparing.specs.Chained.{AreEach, IsCallChain, IsStepChain, chain_to_access}
 use Rattle.summary_comparing.specs.declared.chain.NeedChain.{NeedChain}
@@ -33,7 +31,7 @@ use Rattle.need_chains.proofs.Places.{body-place}
 use Rattle.summary_comparing.specs.Needed.{body_needs, child_needs, said_spawn}
 use Rattle.summary_comparing.specs.Chained.{IsNeedChain, IsSpawnPlace, act_place}
 use Rattle.summary_comparing.specs.inner.Sources.{acts_before, steps_before}
-use Rattle.summary_comparing.specs.inner.Differing.{HasEach, HaveSame, numbered_needs}
+use Rattle.summary_comparing.specs.inner.Differing.{HasEach, numbered_needs}
 use Rattle.summary_comparing.proofs.Numbered.{numbered-same}
 use Rattle.summary_comparing.proofs.Origins.{its-found, source-found}
 

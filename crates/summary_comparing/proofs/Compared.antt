@@ -1,5 +1,5 @@
 -- Comparisons of one declaration more, and texts that are appended.
-use Rattle.std.proofs.Common.{◌≡◌, ◌⊎◌, ℕ, List, [], ◌∷◌, ◌++◌, Option, None, Some, sym, ap, ◌∙◌, subst, append_assoc}
+use Rattle.std.proofs.Common.{◌≡◌, ℕ, List, [], ◌∷◌, ◌++◌, Option, None, Some, ap, ◌∙◌, subst, append_assoc}
 use Rattle.std.specs.Prelude.{IfNone, IfSome}
 use Rattle.effect_sets.specs.declared.effects.Summary.{Summary}
 use Rattle.twe_program.specs.declared.program.Decl.{Decl}

@@ -2,7 +2,7 @@
 use Rattle.std.proofs.Common.{◌≡◌, ◌<◌, ◌≤◌, ◌+◌, ℕ, Bool, true, false, ◌||◌, ◌&&◌, not, List, [], ◌∷◌, ◌++◌, length, if◌then◌else◌, Option, None, Some, inl, inr, refl, sym, ap, ◌∙◌, subst, arith}
 use Rattle.std.specs.Prelude.{slice_get}
 use Rattle.std.specs.List.{Contains, flat_map, list_any}
-use Rattle.std.proofs.lemmas.Bool.{cases_Bool, cases_eq, false≢true}
+use Rattle.std.proofs.lemmas.Bool.{cases_eq}
 use Rattle.std.proofs.lemmas.Option.{same_Some, slice_get_read, slice_get_within}
 use Rattle.std.proofs.lemmas.List.Elements.{Contains-append_left, Contains-push}
 use Rattle.twe_base.proofs.Members.{IsIn, contains-in, in-contains, flat_map-in, in-flat_map, in-list_any, list_any-in}
@@ -16,7 +16,7 @@ use Rattle.summary_comparing.specs.Needed.{said_needs}
 use Rattle.summary_comparing.specs.Widest.{AreFewWidest, HasManyWidest, is_over, is_under}
 use Rattle.summary_comparing.specs.declared.comparison.Comparison.{Comparison}
 use Rattle.summary_comparing.specs.declared.comparison.Comparison.TheVariants.{Exact, Wider}
-use Rattle.summary_comparing.specs.inner.Differing.{HasEach, HasFirst, HasNumber, HaveSame, needs_if, numbered_needs}
+use Rattle.summary_comparing.specs.inner.Differing.{HasEach, HasFirst, HaveSame, needs_if, numbered_needs}
 
 -- one step more, with its number
 pub first-more : (count : ℕ) (steps : List Step) (numbers : List ℕ) (step : Step) → slice_get steps count ≡ Some step

@@ -1,4 +1,4 @@
-use Rattle.std.proofs.Common.{◌≡◌, ◌<◌, ◌≤◌, ℕ, length, refl, arith}
+use Rattle.std.proofs.Common.{length, refl, arith}
 use Rattle.std.proofs.lemmas.Option.{slice_get_read}
 use Rattle.summary_comparing.proofs.Chained.{number-needs, number-within}
 use Rattle.summary_comparing.proofs.chain.need_chain.Goals as goal

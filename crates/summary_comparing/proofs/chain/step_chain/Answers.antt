@@ -1,9 +1,7 @@
-use Rattle.std.proofs.Common.{◌≡◌, ◌<◌, ◌≤◌, ◌∷◌, [], ℕ, List, Option, Some, None, length, refl, sym, ap, ◌∙◌, subst, arith}
-use Rattle.std.proofs.lemmas.Option.{slice_get_read}
+use Rattle.std.proofs.Common.{◌∷◌, [], sym, subst}
 use Rattle.std.proofs.lemmas.Result.{IfOk-weaker}
 use Rattle.std.specs.List.{Contains}
 use Rattle.effect_infer.specs.declared.needs.need.Step.{Step}
-use Rattle.effect_infer.specs.declared.needs.need.Step.TheVariants.{Touch}
 use Rattle.summary_comparing.specs.Needed.{said_needs}
 use Rattle.summary_comparing.specs.Chained.{IsStepChain, chain_to_access}
 use Rattle.summary_comparing.proofs.Chained.{touch-chain}

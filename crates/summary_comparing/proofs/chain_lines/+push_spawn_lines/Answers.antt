@@ -1,4 +1,4 @@
-use Rattle.std.proofs.Common.{◌≡◌, ◌∷◌, ap, subst}
+use Rattle.std.proofs.Common.{◌≡◌, ◌∷◌}
 use Rattle.std.proofs.lemmas.Result.{on_ok_weaker}
 use Rattle.summary_comparing.proofs.SpawnLines.{spawn-more}
 use Rattle.summary_comparing.proofs.chain_lines.+push_spawn_lines.Goals as goal

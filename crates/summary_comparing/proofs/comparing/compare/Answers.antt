@@ -1,4 +1,4 @@
-use Rattle.std.proofs.Common.{◌≡◌, List, inl, inr, sym, ap, ◌∙◌, subst}
+use Rattle.std.proofs.Common.{List, inl, inr, sym, ap, ◌∙◌, subst}
 use Rattle.std.proofs.lemmas.Result.{IfOk-weaker}
 use Rattle.effect_sets.specs.declared.effects.Effect.{Effect}
 use Rattle.summary_comparing.specs.Widest.{AreFewWidest, HasManyWidest}

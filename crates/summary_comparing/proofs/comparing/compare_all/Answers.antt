@@ -1,7 +1,6 @@
 use Rattle.std.proofs.Common.{◌≡◌, ◌∷◌, [], ◌++◌, List, get_or, take, sym, ap, ◌∙◌, subst}
 use Rattle.std.proofs.lemmas.List.{take_more}
 use Rattle.twe_program.specs.declared.program.Decl.{Decl}
-use Rattle.summary_comparing.specs.declared.comparison.Comparison.{Comparison}
 use Rattle.summary_comparing.specs.Comparisons.{AreComparisons}
 use Rattle.summary_comparing.proofs.Compared.{one-compared-more}
 use Rattle.summary_comparing.proofs.comparing.compare_all.Goals as goal

@@ -1,4 +1,4 @@
-use Rattle.std.proofs.Common.{◌≡◌, ◌∙◌, List, Option, sym, ap}
+use Rattle.std.proofs.Common.{◌∙◌, List, Option, ap}
 use Rattle.std.proofs.lemmas.Result.{IfOk-weaker}
 use Rattle.effect_sets.specs.declared.effects.Summary.{Summary}
 use Rattle.twe_program.specs.declared.program.Decl.{Decl}

@@ -1,4 +1,4 @@
-use Rattle.std.proofs.Common.{◌≡◌, sym, ap, ◌∙◌}
+use Rattle.std.proofs.Common.{◌≡◌, sym, ◌∙◌}
 use Rattle.summary_comparing.proofs.SameEffects.{elems-eq}
 use Rattle.summary_comparing.proofs.differing.is_call.Goals as goal
 

@@ -1,11 +1,11 @@
-use Rattle.std.proofs.Common.{◌≡◌, List, ℕ, sym, ap, ◌∙◌, subst}
+use Rattle.std.proofs.Common.{◌≡◌, List, sym, ap, ◌∙◌, subst}
 use Rattle.std.specs.List.{flat_map}
 use Rattle.std.proofs.lemmas.Result.{IfOk-weaker}
 use Rattle.effect_sets.specs.declared.effects.Effect.{Effect}
 use Rattle.twe_program.specs.Program.{Program}
 use Rattle.effect_infer.specs.declared.needs.need.Step.{Step}
 use Rattle.effect_infer.specs.needs.Steps.{steps_in_all}
-use Rattle.summary_comparing.specs.Needed.{body_needs, said_needs}
+use Rattle.summary_comparing.specs.Needed.{body_needs}
 use Rattle.summary_comparing.specs.inner.Differing.{HasEach, HaveSame, numbered_needs}
 use Rattle.summary_comparing.proofs.Numbered.{numbered-same}
 use Rattle.summary_comparing.proofs.needed.body_needs.Goals as goal

@@ -1,8 +1,7 @@
-use Rattle.std.proofs.Common.{◌≡◌, ◌++◌, List, Option, None, Some, length, refl, sym, ap, ◌∙◌, subst}
-use Rattle.std.specs.Prelude.{slice_get, OnOk}
+use Rattle.std.proofs.Common.{◌≡◌, ◌++◌, Option, length, refl, sym, ap, ◌∙◌, subst}
+use Rattle.std.specs.Prelude.{OnOk}
 use Rattle.std.proofs.lemmas.List.{append-nil}
 use Rattle.std.proofs.lemmas.Option.{slice_get_past, slice_get_read}
-use Rattle.effect_sets.specs.declared.effects.Effect.{Effect}
 use Rattle.effect_infer.specs.declared.needs.need.Step.{Step}
 use Rattle.summary_comparing.specs.inner.Differing.{needs_if}
 use Rattle.summary_comparing.proofs.needed.push_numbered.Goals as goal

@@ -1,20 +1,7 @@
-use Rattle.std.proofs.Common.{◌≡◌, ◌<◌, ◌≤◌, ◌∷◌, [], ℕ, List, Option, Some, None, length, inl, inr, refl, sym, ap, ◌∙◌, subst, arith}
+use Rattle.std.proofs.Common.{◌≡◌, ◌≤◌, List, Some, length, refl, sym, ap, ◌∙◌, subst, arith}
 use Rattle.std.specs.Prelude.{slice_get}
-use Rattle.std.specs.List.{Contains}
 use Rattle.std.proofs.lemmas.Option.{slice_get_read}
-use Rattle.std.proofs.lemmas.Result.{IfOk-weaker}
-use Rattle.twe_base.specs.declared.place.Place.{Place}
-use Rattle.effect_sets.specs.declared.effects.Effect.{Effect}
-use Rattle.effect_sets.specs.declared.effects.Summary.{Summary}
-use Rattle.twe_program.specs.declared.program.Decl.{Decl}
-use Rattle.twe_program.specs.Program.{Program}
 use Rattle.effect_check.specs.declared.act.Act.{Act}
-use Rattle.effect_check.specs.Acts.{acts_in_all}
-use Rattle.effect_infer.specs.declared.needs.need.Step.{Step}
-use Rattle.effect_infer.specs.declared.needs.need.Step.TheVariants.{Touch, Call}
-use Rattle.effect_infer.specs.needs.Steps.{steps_in_all}
-use Rattle.need_chains.specs.Placed.{step_places}
-use Rattle.summary_comparing.specs.declared.chain.NeedChain.{NeedChain}
 use Rattle.summary_comparing.specs.Chained.{IsSpawnPlace}
 use Rattle.summary_comparing.specs.inner.Sources.{acts_before}
 use Rattle.summary_comparing.proofs.Chained.{act-within, spawned-at}
