@@ -22,8 +22,9 @@ use twe_rounds::Outlook;
 /// How often an admission is tried again at once.
 const MOST_TRIES: u32 = 16;
 
-/// How many waits are followed from one task.
-const MOST_WAITS: u32 = u32::MAX;
+/// How many waits are followed from one task. A number that a worker takes from a deck may be of a task that waits since long, in
+/// the middle of a chain of thousands. Whoever made the last move of the chain has looked at its end already.
+const MOST_WAITS: u32 = 64;
 
 /// The floor of a round.
 #[derive(Drop)]
@@ -150,7 +151,7 @@ impl<'a, N: Named + Planted, F: Located> Ground<'a, N, F> {
     }
 
     /// Whether what held a task back is no bar any more, or will not be one for long: it is done, it is still to be admitted
-    /// itself, or the chain of its waits leads to the task.
+    /// itself, or the chain of its waits is short and leads to the task.
     fn may_go_soon(&self, worker: &mut TreeWorker, by: u32, task: u32) -> bool
         requires { IsOtherOn F.table worker.old }
         ensures { IsOtherOn F.table worker.new }
@@ -172,8 +173,8 @@ impl<'a, N: Named + Planted, F: Located> Ground<'a, N, F> {
         false
     }
 
-    /// What may be done next for a task that waits for `on`. If the chain of waits from there ends at a task that is still to be
-    /// admitted, that one is to be looked at next.
+    /// What may be done next for a task that waits for `on`. If the chain of waits from there is short and ends at a task that is
+    /// still to be admitted, that one is to be looked at next.
     fn look_at_wait(&self, worker: &mut TreeWorker, on: u32) -> Outlook
         requires { IsOtherOn F.table worker.old }
         ensures { IsOtherOn F.table worker.new }
