@@ -66,13 +66,13 @@ write_there cells (Reads n value ∷ earlier) cell may r = elim (contains_cases 
 write_there cells (Prints value ∷ earlier) cell may r = elim (contains_cases (Prints value) (Writes cell r.0) earlier r.1) [ inl same ↦ absurd (cc) | inr later ↦ write_there cells earlier cell may (r.0, later) ]
 
 -- whether something was printed
-print_contained : (accesses : List CellAccess) → has_print accesses ≡ true → (value : ℤ) × Contains accesses (Prints value)
+pub print_contained : (accesses : List CellAccess) → has_print accesses ≡ true → (value : ℤ) × Contains accesses (Prints value)
 print_contained [] e = absurd (cc)
 print_contained (Reads n value ∷ earlier) e = let rest = print_contained earlier e in (rest.0, contains_later (Reads n value) (Prints rest.0) earlier rest.1)
 print_contained (Writes n value ∷ earlier) e = let rest = print_contained earlier e in (rest.0, contains_later (Writes n value) (Prints rest.0) earlier rest.1)
 print_contained (Prints value ∷ earlier) e = (value, contains_first (Prints value) earlier)
 
-contained_print : (accesses : List CellAccess) (value : ℤ) → Contains accesses (Prints value) → has_print accesses ≡ true
+pub contained_print : (accesses : List CellAccess) (value : ℤ) → Contains accesses (Prints value) → has_print accesses ≡ true
 contained_print [] value has = absurd (contains_none (Prints value) has)
 contained_print (Reads n other ∷ earlier) value has = elim (contains_cases (Reads n other) (Prints value) earlier has) [ inl same ↦ absurd (cc) | inr later ↦ contained_print earlier value later ]
 contained_print (Writes n other ∷ earlier) value has = elim (contains_cases (Writes n other) (Prints value) earlier has) [ inl same ↦ absurd (cc) | inr later ↦ contained_print earlier value later ]

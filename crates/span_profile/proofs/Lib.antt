@@ -1,11 +1,16 @@
 pub mod Agreeing
 pub mod Counted
+pub mod Explained
 pub mod FuelTaken
 pub mod Keyed
+pub mod Linked
 pub mod Lists
+pub mod Noted
 pub mod NumberSets
 pub mod Numbers
 pub mod OneProfile
+pub mod PathReasons
 pub mod Ran
-pub mod Watching
 pub mod Tracking
+pub mod TrailSteps
+pub mod Watching

@@ -77,7 +77,7 @@ new_set size capacity fits = record { listed = none_found size; room = omega (ar
     length_replicate (suc size) = ap (λ (n : ℕ). suc n) (length_replicate size)
 
 -- the elements of a set after a number was added
-in_contains : (items : List ℕ) (n : ℕ) → is_in items n ≡ true → Contains items n
+pub in_contains : (items : List ℕ) (n : ℕ) → is_in items n ≡ true → Contains items n
 in_contains [] n e = absurd (cc)
 in_contains (item ∷ items) n e = elim (or_cases (item == n) (is_in items n) e) [
   | inl same ↦ subst (Contains (item ∷ items)) (eqb-true item n same) (contains_first item items)

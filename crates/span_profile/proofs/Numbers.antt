@@ -48,7 +48,7 @@ length_decl_paths decl (suc n) =
     omega (arith, length-append (decl_paths decl n) ((decl_parts decl ++ parts_at decl.dims n) ∷ []), before)
 
 -- the element of two lists joined
-get_left : {X : Type 0} (xs ys : List X) (i : ℕ) → i < length xs → slice_get (xs ++ ys) i ≡ slice_get xs i
+pub get_left : {X : Type 0} (xs ys : List X) (i : ℕ) → i < length xs → slice_get (xs ++ ys) i ≡ slice_get xs i
 get_left [] ys i below = absurd (omega (arith, below))
 get_left (x ∷ xs) ys zero below = refl
 get_left (x ∷ xs) ys (suc i) below = get_left xs ys i (omega (arith, below))
@@ -57,7 +57,7 @@ get_right : {X : Type 0} (xs ys : List X) (i : ℕ) → slice_get (xs ++ ys) (le
 get_right [] ys i = let e : 0 + i ≡ i = omega arith in ap (slice_get ys) e
 get_right (x ∷ xs) ys i = let e : length (x ∷ xs) + i ≡ suc (length xs + i) = omega arith in ap (slice_get (x ∷ xs ++ ys)) e ∙ get_right xs ys i
 
-get_at : {X : Type 0} (xs : List X) (x : X) (i : ℕ) → i ≡ length xs → slice_get (xs ++ x ∷ []) i ≡ Some x
+pub get_at : {X : Type 0} (xs : List X) (x : X) (i : ℕ) → i ≡ length xs → slice_get (xs ++ x ∷ []) i ≡ Some x
 get_at [] x zero is = refl
 get_at [] x (suc i) is = absurd (omega (arith, is))
 get_at (y ∷ ys) x zero is = absurd (omega (arith, is))

@@ -1,5 +1,5 @@
 -- A run goes on by one move, and so do the chains of its entries.
-use Rattle.std.proofs.Common.{◌≡◌, ◌<◌, ◌++◌, ℕ, Bool, true, false, List, [], ◌∷◌, length, Option, None, Some, refl, sym, ap, ◌∙◌, subst, arith}
+use Rattle.std.proofs.Common.{◌≡◌, ◌<◌, ◌++◌, ℕ, suc, Bool, true, false, List, [], ◌∷◌, length, Option, None, Some, refl, sym, ap, ◌∙◌, subst, arith}
 use Rattle.std.specs.Prelude.{◌||◌, slice_get, sum_by}
 use Rattle.std.specs.List.{AllZip}
 use Rattle.std.proofs.lemmas.List.Sums.{sum_by_push}
@@ -9,6 +9,7 @@ use Rattle.span_profile.specs.heaviest_chain.Chains.{IsHeaviest, Leads, weight_a
 use Rattle.span_profile.specs.heaviest_chain.Nodes.{Node, SharesKey}
 use Rattle.span_profile.specs.heaviest_chain.Nodes as chain_nodes
 use Rattle.span_profile.specs.declared.heaviest_chain.chains.Chains.{Chains}
+use Rattle.prefix_tree.specs.declared.part.Part.{Part}
 use Rattle.region_paths.specs.Concrete.{region}
 use Rattle.seg_journal.specs.declared.journal.End.{End}
 use Rattle.seg_journal.specs.declared.journal.Entry.{Entry}
@@ -34,14 +35,16 @@ use Rattle.twe_machine.proofs.replays.Replayed.{run_more}
 use Rattle.span_profile.specs.declared.deed.Deed.{Deed}
 use Rattle.span_profile.specs.declared.places.Places.{Places}
 use Rattle.span_profile.specs.declared.profiling.Tracked.{Tracked}
+use Rattle.span_profile.specs.declared.trail.Trail.{Trail}
 use Rattle.span_profile.specs.declared.watched.Watched.{Watched}
 use Rattle.span_profile.specs.LeadsTo.{LeadsTo}
-use Rattle.span_profile.specs.Strands.{admission, made_task, segment_strand, strand_by_kind, strand_of, strands, weight_of}
+use Rattle.span_profile.specs.Strands.{Strand, admission, made_task, segment_strand, strand_by_kind, strand_of, strands, strands_from, weight_of}
 use Rattle.span_profile.specs.inner.Deeds.{DidKind, DidMove, HasAdmitted, HasDone, admission_deed, node_of}
 use Rattle.span_profile.specs.inner.Numbering.{ArePlaces, IsNumber, parts_of, place_of}
 use Rattle.span_profile.specs.inner.Sets.{NumberSet, no_cells}
 use Rattle.span_profile.specs.inner.Shows.{Shows}
 use Rattle.span_profile.specs.inner.Tracked.{IsTracked, has_fault}
+use Rattle.span_profile.specs.inner.Trails.{IsEntryOf, IsTrail}
 use Rattle.span_profile.specs.inner.Watch.{read_by, written_by}
 use Rattle.span_profile.proofs.Agreeing.{earliest_forth, heaviest_forth, sum_same}
 use Rattle.span_profile.proofs.Counted.{all_counted, counted_legal, counted_more, counted_stays, has_fault_more, strands_more}
@@ -74,6 +77,46 @@ module _ (p : Program) (well : IsWellFormed p) where
       λ i. record { task = did.task i; weight = did.weight i; made = made_task deed.end; taken = did.taken i; done = is_done deed.end; accesses = (segment_strand p t row left deed.end).accesses } in
       subst (λ (n : Node). Shows are.nodes n (segment_strand p t row left deed.end)) (node_same places deed watched (read_by left.accesses (no_cells (cell_count p))) (written_by left.accesses (no_cells (cell_count p))) did.reads did.writes)
       (subst (Shows are.nodes (node_of places deed (record watched { reads = read_by left.accesses (no_cells (cell_count p)); writes = written_by left.accesses (no_cells (cell_count p)) }))) same shown)
+
+  -- what an entry did, over its cells
+  entry_admission : (places : Places) (st : State) (t : ℕ) (deed : Deed) (watched : Watched) → length st.cells ≡ cell_count p → HasAdmitted p t deed watched → IsEntryOf p places deed watched (admission t)
+  entry_admission places st t deed watched many did = record {
+    accesses = [];
+    values = st.cells;
+    many = many;
+    may = tt;
+    task = sym (ap (λ (d : Deed). d.task) did.deed_is);
+    made = sym (ap (λ (d : Deed). made_task d.end) did.deed_is);
+    taken = sym (ap (λ (d : Deed). d.taken) did.deed_is);
+    done = sym (ap (λ (d : Deed). is_done d.end) did.deed_is);
+    are = refl;
+    printed = ap (λ (d : Deed). d.printed) did.deed_is;
+    reads = ap (λ (s : NumberSet). s.items) did.reads;
+    writes = ap (λ (s : NumberSet). s.items) did.writes;
+  }
+
+  entry_segment : (places : Places) (st : State) (t : ℕ) (row : TaskRow) (deed : Deed) (watched : Watched) → length st.cells ≡ cell_count p → HasDone p st t row deed watched
+      → IsEntryOf p places deed watched (segment_strand p t row (next_segment p st row) deed.end)
+  entry_segment places st t row deed watched many did = record {
+    accesses = (next_segment p st row).accesses;
+    values = st.cells;
+    many = many;
+    may = may_carry_out p well st.cells many (ready_frame st.tasks row.frame) st.cells;
+    task = sym did.task;
+    made = refl;
+    taken = sym did.taken;
+    done = refl;
+    are = refl;
+    printed = did.printed;
+    reads = ap (λ (s : NumberSet). s.items) did.reads;
+    writes = ap (λ (s : NumberSet). s.items) did.writes;
+  }
+
+  entry_kind : (places : Places) (st : State) (kind : Kind) (t : ℕ) (found : Option TaskRow) → slice_get st.tasks t ≡ found → (row : TaskRow) → found ≡ Some row
+      → (deed : Deed) (watched : Watched) → length st.cells ≡ cell_count p → DidKind p st kind t deed watched → IsEntryOf p places deed watched (strand_by_kind p st kind t found deed.end)
+  entry_kind places st Admit t found e row is deed watched many did = entry_admission places st t deed watched many did
+  entry_kind places st Run t None e row is deed watched many did = absurd (cc)
+  entry_kind places st Run t (Some other) e row is deed watched many did = entry_segment places st t other deed watched many (did other e)
 
   shows_kind : (places : Places) (are : ArePlaces p places) (st : State) (kind : Kind) (t : ℕ) (found : Option TaskRow) → slice_get st.tasks t ≡ found → (row : TaskRow) → found ≡ Some row
       → (deed : Deed) (watched : Watched) → length st.cells ≡ cell_count p → DidKind p st kind t deed watched → Shows are.nodes (node_of places deed watched) (strand_by_kind p st kind t found deed.end)
@@ -119,11 +162,16 @@ noted p st Run t row there deed watched did =
       writes = ap (λ (s : NumberSet). s.size) done.writes ∙ written_size accesses (no_cells (cell_count p));
     }
 
+-- there is a strand for each entry
+strand_count : (p : Program) (lim : Bounds) (st : State) (entries : List Entry) → length (strands_from p lim st entries) ≡ length entries
+strand_count p lim st [] = refl
+strand_count p lim st (entry ∷ entries) = ap (λ (n : ℕ). suc n) (strand_count p lim (move_result p lim st entry.mv).0 entries)
+
 -- The start of a run.
 pub tracked_start : (p : Program) (lim : Bounds) (next : Tracked) → next.st ≡ start_of p lim → next.journal ≡ [] → next.over ≡ false → ArePlaces p next.places
     → next.watched.reads ≡ no_cells (cell_count p) → next.watched.writes ≡ no_cells (cell_count p) → FrontHolds [] next.chains
-    → IsListing (start_of p lim) next.enabled → IsTracked p lim next
-tracked_start p lim next st_is journal_is over places reads writes holds listing = record {
+    → IsListing (start_of p lim) next.enabled → ((tree : List (List Part)) → IsTrail p tree [] next.trail) → IsTracked p lim next
+tracked_start p lim next st_is journal_is over places reads writes holds listing trail = record {
   is_run = subst (λ (j : List Entry). IsRun p lim j next.st) (sym journal_is) (record { legal = tt; same = st_is });
   listing = subst (λ (st : State). IsListing st next.enabled) (sym st_is) listing;
   over = over ∙ sym (ap has_fault journal_is);
@@ -133,6 +181,7 @@ tracked_start p lim next st_is journal_is over places reads writes holds listing
   nodes = [];
   holds = holds;
   shows = subst (λ (j : List Entry). AllZip (Shows places.nodes) [] (strands p lim (counted j))) (sym journal_is) tt;
+  trail = subst (λ (j : List Entry). IsTrail p places.nodes (strands p lim (counted j)) next.trail) (sym journal_is) (trail places.nodes);
 }
 
 pub start_cells : (p : Program) (lim : Bounds) → IsWellFormed p → (size : ℕ) (st : State) → st ≡ start_of p lim → size ≡ length st.cells → size ≡ cell_count p
@@ -167,6 +216,9 @@ module _ (p : Program) (lim : Bounds) (well : IsWellFormed p) (within : IsWithin
   many_cells : length run.st.cells ≡ cell_count p
   many_cells = (reached_stands p lim run.st well (record { journal = run.journal; legal = t.is_run.legal; same = t.is_run.same })).cells
 
+  entered : IsEntryOf p run.places deed watched (strand_of p run.st entry)
+  entered = entry_kind p well run.places run.st mv.kind mv.task (slice_get run.st.tasks mv.task) refl m.row m.there deed watched many_cells m.did
+
   shown : Shows t.places.nodes (node_of run.places deed watched) (strand_of p run.st entry)
   shown = shows_kind p well run.places t.places run.st mv.kind mv.task (slice_get run.st.tasks mv.task) refl m.row m.there deed watched many_cells m.did
 
@@ -199,11 +251,25 @@ module _ (p : Program) (lim : Bounds) (well : IsWellFormed p) (within : IsWithin
         subst (AllZip (Shows t.places.nodes) (t.nodes ++ node_of run.places deed watched ∷ [])) (sym strands_are)
         (zip_push (Shows t.places.nodes) t.nodes (strands p lim (counted run.journal)) (node_of run.places deed watched) (strand_of p run.st entry) t.shows shown)
 
+    count : length (strands p lim (counted run.journal)) ≡ length run.journal
+    count = strand_count p lim (start_of p lim) (counted run.journal) ∙ ap (λ (l : List Entry). length l) (all_counted run.journal no_fault)
+
+    pub trail_more : (trail : Trail) (number : ℕ) → number ≡ length run.journal
+        → ((strands : List Strand) (b : Strand) → IsEntryOf p run.places deed watched b → Shows t.places.nodes (node_of run.places deed watched) b → length strands ≡ number
+        → IsTrail p t.places.nodes strands run.trail → run.over ≡ false → IsTrail p t.places.nodes (strands ++ b ∷ []) trail)
+        → IsTrail p t.places.nodes (strands p lim (counted all)) trail
+    trail_more trail number number_is follow =
+        subst (λ (l : List Strand). IsTrail p t.places.nodes l trail) (sym strands_are)
+        (follow (strands p lim (counted run.journal)) (strand_of p run.st entry) entered shown (count ∙ sym number_is) t.trail going)
+
   -- so the run is tracked on
   module _ (chains : Chains) (ended : Bool) (over : ended ≡ (run.over || is_fault deed.end)) (kept : run.over ≡ true → chains ≡ run.chains)
       (added : run.over ≡ false → FrontHolds (t.nodes ++ node_of run.places deed watched ∷ []) chains) (next : Tracked)
       (st_is : next.st ≡ after) (journal_is : next.journal ≡ all) (over_is : next.over ≡ ended) (places_are : next.places ≡ run.places) (reads : next.watched.reads ≡ no_cells (cell_count p))
-      (writes : next.watched.writes ≡ no_cells (cell_count p)) (chains_are : next.chains ≡ chains) (listing : IsListing next.st next.enabled) where
+      (writes : next.watched.writes ≡ no_cells (cell_count p)) (chains_are : next.chains ≡ chains) (listing : IsListing next.st next.enabled)
+      (trail : Trail) (number : ℕ) (number_is : number ≡ length run.journal) (trail_is : next.trail ≡ trail) (trail_kept : run.over ≡ true → trail ≡ run.trail)
+      (follow : (strands : List Strand) (b : Strand) → IsEntryOf p run.places deed watched b → Shows t.places.nodes (node_of run.places deed watched) b → length strands ≡ number
+      → IsTrail p t.places.nodes strands run.trail → run.over ≡ false → IsTrail p t.places.nodes (strands ++ b ∷ []) trail) where
     places_next : ArePlaces p next.places
     places_next = subst (ArePlaces p) (sym places_are) t.places
 
@@ -211,8 +277,9 @@ module _ (p : Program) (lim : Bounds) (well : IsWellFormed p) (within : IsWithin
     over_next =
         over_is ∙ (over ∙ (ap (λ (b : Bool). b || is_fault deed.end) t.over ∙ (sym (has_fault_more run.journal entry) ∙ ap has_fault (sym journal_is))))
 
-    tracked_with : (nodes : List Node) → FrontHolds nodes chains → AllZip (Shows t.places.nodes) nodes (strands p lim (counted all)) → IsTracked p lim next
-    tracked_with nodes holds show = record {
+    tracked_with : (nodes : List Node) → FrontHolds nodes chains → AllZip (Shows t.places.nodes) nodes (strands p lim (counted all))
+        → IsTrail p t.places.nodes (strands p lim (counted all)) trail → IsTracked p lim next
+    tracked_with nodes holds show trails = record {
       is_run = subst (λ (j : List Entry). IsRun p lim j next.st) (sym journal_is) (subst (IsRun p lim all) (sym st_is) runs_on);
       listing = listing;
       over = over_next;
@@ -222,6 +289,8 @@ module _ (p : Program) (lim : Bounds) (well : IsWellFormed p) (within : IsWithin
       nodes = nodes;
       holds = subst (FrontHolds nodes) (sym chains_are) holds;
       shows = subst (λ (j : List Entry). AllZip (Shows t.places.nodes) nodes (strands p lim (counted j))) (sym journal_is) show;
+      trail = subst (λ (j : List Entry). IsTrail p t.places.nodes (strands p lim (counted j)) next.trail) (sym journal_is)
+          (subst (IsTrail p t.places.nodes (strands p lim (counted all))) (sym trail_is) trails);
     } where
       places_cell : (cell : ℕ) → cell < cell_count p → IsNumber t.places.nodes (place_of next.places cell) (parts_of (path_of_cell p cell))
       places_cell cell below = subst (λ (q : Places). IsNumber t.places.nodes (place_of q cell) (parts_of (path_of_cell p cell))) (sym places_are) (t.places.cells cell below)
@@ -234,7 +303,9 @@ module _ (p : Program) (lim : Bounds) (well : IsWellFormed p) (within : IsWithin
         let faulty : has_fault run.journal ≡ true = sym t.over ∙ e in
         tracked_with t.nodes (subst (FrontHolds t.nodes) (sym (kept e)) t.holds)
         (subst (AllZip (Shows t.places.nodes) t.nodes) (ap (strands p lim) (sym (counted_stays run.journal entry faulty))) t.shows)
-    tracked_by false e = tracked_with (t.nodes ++ node_of run.places deed watched ∷ []) (added e) (shows_more e)
+        (subst (IsTrail p t.places.nodes (strands p lim (counted all))) (sym (trail_kept e))
+        (subst (λ (l : List Strand). IsTrail p t.places.nodes l run.trail) (ap (strands p lim) (sym (counted_stays run.journal entry faulty))) t.trail))
+    tracked_by false e = tracked_with (t.nodes ++ node_of run.places deed watched ∷ []) (added e) (shows_more e) (trail_more e trail number number_is follow)
 
     pub tracked_on : IsTracked p lim next
     tracked_on = tracked_by run.over refl

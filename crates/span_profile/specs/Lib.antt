@@ -1,5 +1,6 @@
 pub mod LeadsTo
 pub mod Profiles
+pub mod Reasons
 pub mod Strands
 pub mod inner
 pub mod heaviest_chain

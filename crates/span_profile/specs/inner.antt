@@ -4,4 +4,5 @@ pub mod Numbering
 pub mod Sets
 pub mod Shows
 pub mod Tracked
+pub mod Trails
 pub mod Watch

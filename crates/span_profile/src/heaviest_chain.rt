@@ -6,9 +6,9 @@
 //! crate above.
 
 mod chains;
-mod fronts;
-mod key;
-mod top;
+pub(crate) mod fronts;
+pub(crate) mod key;
+pub(crate) mod top;
 
 pub use chains::{Chains, Heaviest};
 pub use key::Key;

@@ -11,10 +11,13 @@ mod keys;
 mod laws;
 mod places;
 mod profiling;
+mod reasons;
 mod running;
+mod trail;
 mod watched;
 
 pub use crate::heaviest_chain::Heaviest as Profile;
-pub use laws::one_profile;
-pub use profiling::profile;
+pub use laws::{each_link_has_a_reason, one_profile};
+pub use profiling::{explain_chain, profile};
+pub use reasons::{ChainStep, LinkReason};
 pub use twe_machine::ReplayFail as ProfileFail;

@@ -9,6 +9,7 @@ ghost use Rattle.twe_machine.specs.Replays.{IsFirstIllegal};
 ghost use Rattle.twe_machine.specs.Runs.{IsReached, is_fault};
 ghost use Rattle.twe_program.specs.Program.{cell_count};
 ghost use Rattle.span_profile.specs.Profiles.{HasEarliest, IsProfile};
+ghost use Rattle.span_profile.specs.Reasons.{HasSteps};
 ghost use Rattle.span_profile.specs.heaviest_chain.Built.{HasRoom, FrontHolds};
 ghost use Rattle.span_profile.specs.heaviest_chain.Nodes.{Nodes};
 ghost use Rattle.span_profile.specs.inner.Deeds.{DidMove, node_of};
@@ -20,15 +21,17 @@ use crate::deed::{Deed, admission};
 use crate::heaviest_chain::{Chains, Heaviest};
 use crate::keys::{asked, given};
 use crate::places::{Places, number_places};
+use crate::reasons::ChainStep;
 use crate::running::run;
+use crate::trail::Trail;
 use crate::watched::Watched;
 use seg_journal::{End, Entry, Journal, Kind, Limits, Move};
 use std::alloc::Global;
-use twe_base::{Ints, Memory};
+use twe_base::{Ints, List, Memory};
 use twe_machine::{EnabledTasks, ReplayFail, State, start, step};
 use twe_program::Prog;
 
-/// A run with its journal so far, and the chains of the entries of its counted part.
+/// A run with its journal so far, the chains of the entries of its counted part, and the steps of a chain of them.
 #[derive(Debug, Drop)]
 struct Tracked {
     st: State,
@@ -40,12 +43,14 @@ struct Tracked {
     places: Places,
     watched: Watched,
     chains: Chains,
+    trail: Trail,
 }
 
 impl Tracked {
-    /// The start of a run.
-    fn start(alloc: Global, p: &Prog, lim: Limits) -> Result<Self, Memory>
+    /// The start of a run, with the chain of entries that is followed.
+    fn start(alloc: Global, p: &Prog, lim: Limits, chain: List<u64>) -> Result<Self, Memory>
         ensures tracked { IfOk result (IsTracked p.now lim) }
+        ensures chain { IfOk result (λ run. run.trail.chain ≡ chain) }
         ensures empty { IfOk result (λ run. run.journal ≡ []) }
     {
         let _main = p.main;
@@ -63,6 +68,7 @@ impl Tracked {
                 writes: CellSet::new(alloc, size)?,
             },
             chains: Chains::new(alloc),
+            trail: Trail::new(alloc, chain),
         })
     }
 
@@ -77,6 +83,7 @@ impl Tracked {
     ) -> Result<(), ReplayFail>
         requires { IsTracked p.now lim self.old }
         ensures tracked { OnOk result (IsTracked p.now lim self.new) }
+        ensures chain { OnOk result (self.new.trail.chain ≡ self.old.trail.chain) }
         ensures moves { OnOk result (map move_of self.new.journal ≡ map move_of self.old.journal ++ mv ∷ []) }
         ensures count { OnOk result (length self.new.journal ≡ length self.old.journal + 1) }
         ensures illegal { (m : ℕ) (why : Reason) → IsErrOf result (Illegal m why)
@@ -88,9 +95,11 @@ impl Tracked {
             return Err(ReplayFail::Illegal { n, why });
         }
         let before = self.st.links.task_count();
+        let number = self.journal.len() as u64;
         let deed = advance(alloc, p, lim, &mut self.st, mv, &mut self.watched)?;
         self.journal.push(Entry { mv, end: deed.end })?;
         self.enabled.note(&self.st, mv, before)?;
+        self.trail.follow(alloc, self.over, number, &self.places, &deed, &self.watched)?;
         let chains = &mut self.chains;
         self.over = count_entry(alloc, self.over, chains, &self.places, &self.watched, &deed)?;
         self.watched.reads.clear();
@@ -176,6 +185,27 @@ fn advance(
     }
 }
 
+/// The run of these moves, with the steps of this chain of its entries. If the moves are not all legal, it returns the number of
+/// the first that is not, counted from 1, and why it is not.
+fn track(
+    alloc: Global,
+    p: &Prog,
+    lim: Limits,
+    moves: &[Move],
+    chain: List<u64>,
+) -> Result<Tracked, ReplayFail>
+    ensures tracked { IfOk result (IsTracked p.now lim) }
+    ensures chain { IfOk result (λ run. run.trail.chain ≡ chain) }
+    ensures moves { IfOk result (λ run. map move_of run.journal ≡ moves.now) }
+    ensures illegal { (n : ℕ) (why : Reason) → IsErrOf result (Illegal n why) → IsFirstIllegal p.now lim moves.now n why }
+{
+    let mut run = Tracked::start(alloc, p, lim, chain)?;
+    for (i, mv) in moves.iter().enumerate() {
+        run.take_move(alloc, p, lim, *mv, i as u64 + 1)?;
+    }
+    Ok(run)
+}
+
 /// The work and the span of a run of the program under these limits that makes these moves, its heaviest chain, and the earliest
 /// times of its entries. Entries are numbered from 0. Those after the first fault do not count, but their moves have to be
 /// legal too. If the moves are not all legal, it returns the number of the first that is not, counted from 1, and why it is
@@ -185,9 +215,26 @@ pub fn profile(alloc: Global, p: &Prog, lim: Limits, moves: &[Move]) -> Result<H
     ensures earliest { IfOk result (λ h. HasEarliest p.now lim moves.now h.span h.starts h.ends) }
     ensures illegal { (n : ℕ) (why : Reason) → IsErrOf result (Illegal n why) → IsFirstIllegal p.now lim moves.now n why }
 {
-    let mut run = Tracked::start(alloc, p, lim)?;
-    for (i, mv) in moves.iter().enumerate() {
-        run.take_move(alloc, p, lim, *mv, i as u64 + 1)?;
-    }
+    let run = track(alloc, p, lim, moves, List::new(alloc))?;
     Ok(run.chains.heaviest(alloc)?)
+}
+
+/// Why the entries of the heaviest chain of these moves follow one another, which is the chain that `profile` finds. If the moves
+/// are not all legal, it returns the number of the first that is not, counted from 1, and why it is not.
+pub fn explain_chain(
+    alloc: Global,
+    p: &Prog,
+    lim: Limits,
+    moves: &[Move],
+    chain: &[u64],
+) -> Result<List<ChainStep>, ReplayFail>
+    ensures steps { (work span : ℕ) → IsProfile p.now lim moves.now work span chain.now
+        → IfOk result (HasSteps p.now lim moves.now chain.now) }
+    ensures illegal { (n : ℕ) (why : Reason) → IsErrOf result (Illegal n why) → IsFirstIllegal p.now lim moves.now n why }
+{
+    let followed = List::from_slice(alloc, chain)?;
+    let run = track(alloc, p, lim, moves, followed)?;
+    let Tracked { trail, .. } = run;
+    let Trail { steps, .. } = trail;
+    Ok(steps)
 }

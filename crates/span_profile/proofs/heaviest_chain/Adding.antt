@@ -54,14 +54,14 @@ contains_cases : {X : Type 0} (x y : X) (xs : List X) → Contains (x ∷ xs) y 
 contains_cases x y xs (zero, below, is) = inl is
 contains_cases x y xs (suc n, below, is) = inr (n, omega (arith, below), is)
 
-any_contains : (key : Key) (keys : List Key) → list_any (key_eq key) keys ≡ true → Contains keys key
+pub any_contains : (key : Key) (keys : List Key) → list_any (key_eq key) keys ≡ true → Contains keys key
 any_contains key [] e = absurd (cc)
 any_contains key (first ∷ others) e = elim (or_cases (key_eq key first) (list_any (key_eq key) others) e) [
   | inl this ↦ subst (Contains (first ∷ others)) (sym (key_same key first this)) (contains_first first others)
   | inr later ↦ contains_later first key others (any_contains key others later)
 ]
 
-contains_any : (key : Key) (keys : List Key) → Contains keys key → list_any (key_eq key) keys ≡ true
+pub contains_any : (key : Key) (keys : List Key) → Contains keys key → list_any (key_eq key) keys ≡ true
 contains_any key [] has = absurd (omega (arith, has.1))
 contains_any key (first ∷ others) has = elim (contains_cases first key others has) [
   | inl same ↦ or_left (key_eq key first) (list_any (key_eq key) others) (subst (λ (k : Key). key_eq key k ≡ true) (sym same) (key_itself key))

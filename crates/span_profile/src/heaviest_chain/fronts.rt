@@ -68,7 +68,7 @@ impl Fronts {
     }
 
     /// The highest of the nodes that gave a key.
-    fn front(&self, key: Key) -> Option<Top>
+    pub(crate) fn front(&self, key: Key) -> Option<Top>
         ensures { result ≡ front_at self.now key }
     {
         match key {

@@ -1,49 +1,24 @@
-use Rattle.std.proofs.Common.{◌+◌, ◌++◌, ℕ, List, [], ◌∷◌, Err, get_or, sym, ap, ◌∙◌}
-use Rattle.std.proofs.lemmas.List.{take_all, take_more}
-use Rattle.seg_journal.specs.declared.moves.Move.{Move}
-use Rattle.seg_journal.specs.declared.moves.Kind.TheVariants.{Admit}
-use Rattle.twe_machine.proofs.replays.Replayed.{first_at, passed_on}
 use Rattle.span_profile.proofs.Tracking.{earliest_is, profile_is}
 use Rattle.span_profile.proofs.profiling.profile.Goals as goal
 
-pub loop-i-preserved : goal.loop-i-preserved
-loop-i-preserved c =
-    let moves = c.args.moves.now in
-    let first : Move = record { kind = Admit; task = 0 } in
-    let taken = c.in_ok-take_move.ensures in
-    record {
-      tracked = taken.tracked;
-      moves = taken.moves ∙ (ap (λ (l : List Move). l ++ get_or moves c.loop-i.i first ∷ []) c.loop-i.invariant.moves ∙ sym (take_more moves c.loop-i.i first c.loop-i-test.true));
-      count = taken.count ∙ ap (λ (n : ℕ). n + 1) c.loop-i.invariant.count;
-    }
-
--- the move that was not taken is the first that is not legal
-pub returns-in_err-take_move-clause-illegal : goal.returns-in_err-take_move-clause-illegal
-returns-in_err-take_move-clause-illegal c = λ n why is.
-    let same = passed_on _ _ _ c.from_residual-in_err-take_move.ensures.1 is in
-    let said = c.in_err-take_move.ensures in
-    let so_far = c.loop-i.invariant in
-    first_at c.args.p.now c.args.lim c.args.moves.now c.loop-i.run.journal c.loop-i.run.st c.loop-i.i _ n why so_far.tracked.is_run so_far.moves so_far.count c.loop-i-test.true
-    (said.illegal n why (ap Err same)).0 (said.illegal n why (ap Err same)).1
-
 pub returns-clause-profiled : goal.returns-clause-profiled
 returns-clause-profiled c =
-    let t = c.loop-i.invariant.tracked in
+    let t = c.in_ok-run.ensures.tracked in
     let h = c.in_ok-heaviest.field-0 in
     record {
-      journal = c.loop-i.run.journal;
+      journal = c.in_ok-run.run'.journal;
       legal = t.is_run.legal;
-      has = c.loop-i.invariant.moves ∙ take_all c.loop-i.i c.args.moves.now c.loop-i-test.false;
-      heaviest = profile_is c.args.p.now c.args.lim c.loop-i.run t h.work h.span h.chain (c.in_ok-heaviest.ensures.heaviest t.nodes t.holds);
+      has = c.in_ok-run.ensures.moves;
+      heaviest = profile_is c.args.p.now c.args.lim c.in_ok-run.run' t h.work h.span h.chain (c.in_ok-heaviest.ensures.heaviest t.nodes t.holds);
     }
 
 pub returns-clause-earliest : goal.returns-clause-earliest
 returns-clause-earliest c =
-    let t = c.loop-i.invariant.tracked in
+    let t = c.in_ok-run.ensures.tracked in
     let h = c.in_ok-heaviest.field-0 in
     record {
-      journal = c.loop-i.run.journal;
+      journal = c.in_ok-run.run'.journal;
       legal = t.is_run.legal;
-      has = c.loop-i.invariant.moves ∙ take_all c.loop-i.i c.args.moves.now c.loop-i-test.false;
-      earliest = earliest_is c.args.p.now c.args.lim c.loop-i.run t h.span h.starts h.ends (c.in_ok-heaviest.ensures.earliest t.nodes t.holds);
+      has = c.in_ok-run.ensures.moves;
+      earliest = earliest_is c.args.p.now c.args.lim c.in_ok-run.run' t h.span h.starts h.ends (c.in_ok-heaviest.ensures.earliest t.nodes t.holds);
     }

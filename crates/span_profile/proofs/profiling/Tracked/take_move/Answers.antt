@@ -45,3 +45,4 @@ returns-clause-tracked c =
     (record { may = may; row = row.0; there = row.1; moved = c.in_ok-deed.ensures.moved; did = c.in_ok-deed.ensures.did })
     c.count_entry.new.chains c.in_ok-self.field-0 c.in_ok-self.ensures.over c.in_ok-self.ensures.kept (c.in_ok-self.ensures.added c.requires.nodes c.requires.holds) _ refl c.in_ok-push.ensures.ok refl refl
     (c.clear.ensures ∙ ap no_cells did.reads) (c.clear-2.ensures ∙ ap no_cells did.writes) refl c.in_ok-note.ensures
+    c.follow.new.self c.len-number.result c.len-number.ensures refl c.in_ok-follow.ensures.kept (λ strands b. c.in_ok-follow.ensures.trail c.args.p.now c.requires.places strands b)

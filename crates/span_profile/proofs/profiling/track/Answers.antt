@@ -1,0 +1,30 @@
+use Rattle.std.proofs.Common.{◌+◌, ◌++◌, ℕ, List, [], ◌∷◌, Err, get_or, sym, ap, ◌∙◌}
+use Rattle.std.proofs.lemmas.List.{take_all, take_more}
+use Rattle.seg_journal.specs.declared.moves.Move.{Move}
+use Rattle.seg_journal.specs.declared.moves.Kind.TheVariants.{Admit}
+use Rattle.twe_machine.proofs.replays.Replayed.{first_at, passed_on}
+use Rattle.span_profile.proofs.profiling.track.Goals as goal
+
+pub loop-i-preserved : goal.loop-i-preserved
+loop-i-preserved c =
+    let moves = c.args.moves.now in
+    let first : Move = record { kind = Admit; task = 0 } in
+    let taken = c.in_ok-take_move.ensures in
+    record {
+      tracked = taken.tracked;
+      chain = taken.chain ∙ c.loop-i.invariant.chain;
+      moves = taken.moves ∙ (ap (λ (l : List Move). l ++ get_or moves c.loop-i.i first ∷ []) c.loop-i.invariant.moves ∙ sym (take_more moves c.loop-i.i first c.loop-i-test.true));
+      count = taken.count ∙ ap (λ (n : ℕ). n + 1) c.loop-i.invariant.count;
+    }
+
+-- the move that was not taken is the first that is not legal
+pub returns-in_err-take_move-clause-illegal : goal.returns-in_err-take_move-clause-illegal
+returns-in_err-take_move-clause-illegal c = λ n why is.
+    let same = passed_on _ _ _ c.from_residual-in_err-take_move.ensures.1 is in
+    let said = c.in_err-take_move.ensures in
+    let so_far = c.loop-i.invariant in
+    first_at c.args.p.now c.args.lim c.args.moves.now c.loop-i.run.journal c.loop-i.run.st c.loop-i.i _ n why so_far.tracked.is_run so_far.moves so_far.count c.loop-i-test.true
+    (said.illegal n why (ap Err same)).0 (said.illegal n why (ap Err same)).1
+
+pub returns-clause-moves : goal.returns-clause-moves
+returns-clause-moves c = c.loop-i.invariant.moves ∙ take_all c.loop-i.i c.args.moves.now c.loop-i-test.false
