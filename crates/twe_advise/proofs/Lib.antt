@@ -1,3 +1,4 @@
 pub mod Causes
 pub mod Pieces
+pub mod Steps
 pub mod TaskRows
