@@ -1,4 +1,3 @@
 pub mod Causes
 pub mod Pieces
-pub mod Steps
 pub mod TaskRows

@@ -38,10 +38,14 @@ reason_words p before (Printed wrote) = write_words (codes "Console") before wro
 reason_words p before (Wrote cell wrote) = write_words (cell_text p cell) before wrote
 reason_words p before Unlinked = []
 
--- a task that was looked up: its number, its name, its arguments and the place of its declaration, as `1 part(0) of 4:11`
+-- a task by its number, its name, its arguments and the place of its declaration, as `1 part(0) of 4:11`
+abbrev pub task_placed : Program → TaskRow → List ℕ
+task_placed p row = task_words p row ++ decl_place_text (slice_get p.tasks row.decl)
+
+-- the same of a task that was looked up
 abbrev pub task_found : Program → Option TaskRow → List ℕ
 task_found p None = []
-task_found p (Some row) = task_words p row ++ decl_place_text (slice_get p.tasks row.decl)
+task_found p (Some row) = task_placed p row
 
 -- a time that was looked up
 abbrev pub begin_found : Option ℕ → ℕ

@@ -1,7 +1,7 @@
 //! The heaviest chain as it is written for people.
 ghost use Rattle.std.specs.Prelude.{◌≡◌, ◌++◌, OnOk, codes, decimal, slice_get};
 ghost use Rattle.run_texts.specs.CellTexts.{cell_text};
-ghost use Rattle.twe_advise.specs.Chains.{access_words, after_words, begin_of, chain_text, read_words, reason_words, step_line, step_lines, step_text, task_found, write_words};
+ghost use Rattle.twe_advise.specs.Chains.{access_words, after_words, begin_of, chain_text, read_words, reason_words, step_line, step_lines, step_text, task_found, task_placed, write_words};
 
 use crate::text::push_small_column;
 use itoa::Buffer;
@@ -89,16 +89,21 @@ fn push_reason(
     }
 }
 
-/// Appends the task of this number, if there is one, with its arguments and the place of its declaration.
+/// Appends the number of a task, its name, its arguments and the place of its declaration.
+fn push_task_placed(text: &mut Bytes, p: &Prog, row: &TaskRow) -> Result<(), Memory>
+    ensures { OnOk result (text.new ≡ text.old ++ task_placed p.now row.now) }
+{
+    push_task_words(text, p, row)?;
+    push_decl_place(text, p, row.decl)
+}
+
+/// Appends the same of the task of this number, if there is one.
 fn push_task_found(text: &mut Bytes, p: &Prog, tasks: &[TaskRow], task: u32) -> Result<(), Memory>
     ensures { OnOk result (text.new ≡ text.old ++ task_found p.now (slice_get tasks.now task)) }
 {
     match tasks.get(task as usize) {
         None => Ok(()),
-        Some(row) => {
-            push_task_words(text, p, row)?;
-            push_decl_place(text, p, row.decl)
-        }
+        Some(row) => push_task_placed(text, p, row),
     }
 }
 
