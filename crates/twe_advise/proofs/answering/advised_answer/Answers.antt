@@ -1,4 +1,3 @@
-use Rattle.std.proofs.Common.{ap, ◌∙◌}
 use Rattle.twe_advise.proofs.Causes.{advised_by}
 use Rattle.twe_advise.proofs.answering.advised_answer.Goals as goal
 
