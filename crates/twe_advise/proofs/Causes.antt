@@ -26,8 +26,8 @@ advised_by form p advice starts ends paces slice text answer starts_are ends_are
   paces,
   subst (λ (s : List ℕ). ArePaces s advice.profile.ends worker_counts paces) starts_are (subst (λ (e : List ℕ). ArePaces starts e worker_counts paces) ends_are are),
   answer_is
-  ∙ ap (on_out Done)
-  (is ∙ ap (λ (l : List Pace). advice_text form p advice.profile.work advice.profile.span l advice.works advice.tasks advice.profile.starts advice.steps) same),
+      ∙ ap (on_out Done)
+      (is ∙ ap (λ (l : List Pace). advice_text form p advice.profile.work advice.profile.span l advice.works advice.tasks advice.profile.starts advice.steps) same),
 )
 
 -- an answer with the advice of these moves is the one that is due to them

@@ -54,13 +54,7 @@ fn push_printed(text: &mut Bytes, before: u32, wrote: bool) -> Result<(), Memory
 }
 
 /// Appends that an entry writes the path of a cell, which the one before accessed.
-fn push_wrote(
-    text: &mut Bytes,
-    p: &Prog,
-    before: u32,
-    cell: u32,
-    wrote: bool,
-) -> Result<(), Memory>
+fn push_wrote(text: &mut Bytes, p: &Prog, before: u32, cell: u32, wrote: bool) -> Result<(), Memory>
     ensures { OnOk result (text.new ≡ text.old ++ write_words (cell_text p.now cell) before wrote) }
 {
     text.push_all(b", writes ")?;
@@ -69,12 +63,7 @@ fn push_wrote(
 }
 
 /// Appends why an entry comes after one of this task.
-fn push_reason(
-    text: &mut Bytes,
-    p: &Prog,
-    before: u32,
-    reason: LinkReason,
-) -> Result<(), Memory>
+fn push_reason(text: &mut Bytes, p: &Prog, before: u32, reason: LinkReason) -> Result<(), Memory>
     ensures { OnOk result (text.new ≡ text.old ++ reason_words p.now before reason) }
 {
     match reason {

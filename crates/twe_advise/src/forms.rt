@@ -27,7 +27,7 @@ pub(crate) fn advice_text(
     requires some { All (λ pace. 0 < pace.workers) paces.now }
     ensures { IfOk result (λ text. text
         ≡ forms.advice_text form p.now advice.now.profile.work advice.now.profile.span paces.now advice.now.works
-            advice.now.tasks advice.now.profile.starts advice.now.steps) }
+        advice.now.tasks advice.now.profile.starts advice.now.steps) }
 {
     let (work, span) = (advice.profile.work, advice.profile.span);
     let (works, decls) = (advice.works.as_slice(), p.tasks.as_slice());

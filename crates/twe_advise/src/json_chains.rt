@@ -7,7 +7,7 @@ ghost use Rattle.twe_advise.specs.Texts.{word_number};
 use crate::chains::begin_of;
 use crate::json::{push_comma, push_small};
 use itoa::Buffer;
-use run_texts::{push_listed_args, push_cell_path, task_name};
+use run_texts::{push_cell_path, push_listed_args, task_name};
 use span_profile::{ChainStep, LinkReason};
 use twe_base::{Bytes, Memory, Place};
 use twe_machine::TaskRow;
@@ -25,7 +25,11 @@ fn push_short(text: &mut Bytes, word: &[u8], number: u32) -> Result<(), Memory>
 fn json_wrote(wrote: bool) -> &'static [u8]
     ensures { result.now ≡ json_wrote wrote }
 {
-    if wrote { b"\",\"wrote\":true" } else { b"\",\"wrote\":false" }
+    if wrote {
+        b"\",\"wrote\":true"
+    } else {
+        b"\",\"wrote\":false"
+    }
 }
 
 /// Appends that an entry reads the path of a cell, which the one before wrote.
@@ -105,7 +109,12 @@ fn push_json_label(text: &mut Bytes, p: &Prog, row: &TaskRow) -> Result<(), Memo
 }
 
 /// Appends the same of the task of this number, if there is one.
-fn push_json_label_of(text: &mut Bytes, p: &Prog, tasks: &[TaskRow], task: u32) -> Result<(), Memory>
+fn push_json_label_of(
+    text: &mut Bytes,
+    p: &Prog,
+    tasks: &[TaskRow],
+    task: u32,
+) -> Result<(), Memory>
     ensures { OnOk result (text.new ≡ text.old ++ json_label_found p.now (slice_get tasks.now task)) }
 {
     match tasks.get(task as usize) {
