@@ -6,6 +6,7 @@ use Rattle.seg_journal.specs.Spelling.{move_of}
 use Rattle.twe_base.specs.Limits.{Bounds}
 use Rattle.twe_program.specs.Program.{Program}
 use Rattle.twe_machine.specs.declared.state.State.{State}
+use Rattle.twe_machine.specs.declared.state.TaskRow.{TaskRow}
 use Rattle.twe_machine.specs.Runs.{Legal, counted, state_after}
 use Rattle.span_profile.specs.Profiles.{IsProfile}
 use Rattle.run_advice.specs.Totals.{works_from}
@@ -29,6 +30,13 @@ pub record AreWorks (p : Program) (lim : Bounds) (moves : List Move) (works : Li
   pub st : State
   pub run : IsCountedRun p lim moves journal st
   pub works_are : works ≡ works_from lim.fuel journal 0 st.tasks
+
+-- the tasks that the run that counts has made
+pub record AreMadeTasks (p : Program) (lim : Bounds) (moves : List Move) (tasks : List TaskRow) : Type 0 where
+  pub journal : List Entry
+  pub st : State
+  pub run : IsCountedRun p lim moves journal st
+  pub tasks_are : tasks ≡ st.tasks
 
 -- The work and the span of the moves, their heaviest chain, and the work of each task. The moves after the first fault do not
 -- count.

@@ -4,16 +4,17 @@ ghost use Rattle.twe_machine.specs.Replays.{IsFirstIllegal};
 ghost use Rattle.twe_machine.specs.declared.legal.Why.{Why as Reason};
 ghost use Rattle.twe_machine.specs.declared.replaying.ReplayFail.TheVariants.{Illegal};
 ghost use Rattle.span_profile.specs.Profiles.{HasEarliest};
-ghost use Rattle.run_advice.specs.Advice.{IsAdvice, parallelism_of};
+ghost use Rattle.span_profile.specs.Reasons.{HasSteps};
+ghost use Rattle.run_advice.specs.Advice.{AreMadeTasks, IsAdvice, parallelism_of};
 ghost use Rattle.run_advice.specs.Totals.{CanBeSummed};
 
 use crate::counting::counted_run;
 use crate::totals::{TaskWork, task_works};
 use seg_journal::{Limits, Move};
-use span_profile::{Profile, profile};
+use span_profile::{ChainStep, Profile, explain_chain, profile};
 use std::alloc::Global;
 use twe_base::List;
-use twe_machine::ReplayFail;
+use twe_machine::{ReplayFail, State, TaskRow};
 use twe_program::Prog;
 
 /// What a run could gain.
@@ -23,6 +24,10 @@ pub struct Advice {
     pub profile: Profile,
     /// What each task took, in the order in which they were made.
     pub works: List<TaskWork>,
+    /// Why the entries of the heaviest chain follow one another.
+    pub steps: List<ChainStep>,
+    /// The tasks that were made.
+    pub tasks: List<TaskRow>,
 }
 
 /// The work by the span, in hundredths, rounded down, and 0 if nothing was done.
@@ -42,6 +47,8 @@ pub fn parallelism_of(work: u64, span: u64) -> u128
 pub fn advise(alloc: Global, p: &Prog, lim: Limits, moves: &[Move]) -> Result<Advice, ReplayFail>
     ensures advised { IfOk result (λ a. IsAdvice p.now lim moves.now a.profile.work a.profile.span a.profile.chain a.works) }
     ensures earliest { IfOk result (λ a. HasEarliest p.now lim moves.now a.profile.span a.profile.starts a.profile.ends) }
+    ensures steps { IfOk result (λ a. HasSteps p.now lim moves.now a.profile.chain a.steps) }
+    ensures tasks { IfOk result (λ a. AreMadeTasks p.now lim moves.now a.tasks) }
     ensures few { IfOk result (λ a. CanBeSummed a.works) }
     ensures illegal { (n : ℕ) (why : Reason) → IsErrOf result (Illegal n why) → IsFirstIllegal p.now lim moves.now n why }
 {
@@ -50,8 +57,12 @@ pub fn advise(alloc: Global, p: &Prog, lim: Limits, moves: &[Move]) -> Result<Ad
     let profiled = profile(alloc, p, lim, moves)?;
     let (journal, st) = counted_run(alloc, p, lim, moves)?;
     let works = task_works(alloc, lim.fuel, journal.as_slice(), st.tasks.as_slice())?;
+    let steps = explain_chain(alloc, p, lim, moves, profiled.chain.as_slice())?;
+    let State { tasks, .. } = st;
     Ok(Advice {
         profile: profiled,
         works,
+        steps,
+        tasks,
     })
 }

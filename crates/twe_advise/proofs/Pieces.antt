@@ -4,6 +4,14 @@ use Rattle.std.proofs.Common.{◌≡◌, ◌++◌, ℕ, List, ap, ◌∙◌, app
 pub two_pieces : (old a b first last : List ℕ) → first ≡ old ++ a → last ≡ first ++ b → last ≡ old ++ (a ++ b)
 two_pieces old a b first last is_first is_last = is_last ∙ (ap (λ (l : List ℕ). l ++ b) is_first ∙ append_assoc old a b)
 
+pub three_right : (old a b c first second last : List ℕ) → first ≡ old ++ a → second ≡ first ++ b → last ≡ second ++ c → last ≡ old ++ (a ++ (b ++ c))
+three_right old a b c first second last is_first is_second is_last =
+    two_pieces old a (b ++ c) first last is_first (two_pieces first b c second last is_second is_last)
+
+pub four_right : (old a b c d first second third last : List ℕ) → first ≡ old ++ a → second ≡ first ++ b → third ≡ second ++ c → last ≡ third ++ d → last ≡ old ++ (a ++ (b ++ (c ++ d)))
+four_right old a b c d first second third last is_first is_second is_third is_last =
+    two_pieces old a (b ++ (c ++ d)) first last is_first (three_right first b c d second third last is_second is_third is_last)
+
 pub four_pieces : (old a b c d first second third last : List ℕ) → first ≡ old ++ a → second ≡ first ++ b → third ≡ second ++ c → last ≡ third ++ d → last ≡ old ++ ((a ++ b) ++ (c ++ d))
 four_pieces old a b c d first second third last is_first is_second is_third is_last =
     two_pieces old (a ++ b) (c ++ d) second last (two_pieces old a b first second is_first is_second) (two_pieces second c d third last is_third is_last)

@@ -1,14 +1,21 @@
 -- The text of what a run could gain, in each form.
-use Rattle.std.specs.Prelude.{ℕ, List}
-use Rattle.twe_program.specs.declared.program.Decl.{Decl}
+use Rattle.std.specs.Prelude.{◌++◌, ℕ, List}
+use Rattle.twe_program.specs.Program.{Program}
+use Rattle.twe_machine.specs.declared.state.TaskRow.{TaskRow}
 use Rattle.run_advice.specs.declared.totals.TaskWork.{TaskWork}
+use Rattle.span_profile.specs.declared.reasons.ChainStep.{ChainStep}
+use Rattle.twe_advise.specs.Chains.{chain_text}
 use Rattle.twe_advise.specs.Json.{json_text}
+use Rattle.twe_advise.specs.JsonChains.{json_steps}
 use Rattle.twe_advise.specs.Texts.{tables_text}
 use Rattle.twe_advise.specs.declared.paces.Pace.{Pace}
 use Rattle.twe_advise.specs.declared.words.Form.{Form}
 use Rattle.twe_advise.specs.declared.words.Form.TheVariants.{Tables, Json}
 
--- what is written of a run with this work and this span, whose paced timetables and whose tasks took this
-abbrev pub advice_text : Form → List Decl → ℕ → ℕ → List Pace → List TaskWork → List ℕ
-advice_text Tables decls work span paces works = tables_text decls work span paces works
-advice_text Json decls work span paces works = json_text decls work span paces works
+-- What is written of a run with this work and this span, whose paced timetables and whose tasks took this, which has made these tasks,
+-- whose entries begin at these times at the earliest, and the entries of whose heaviest chain follow one another so.
+abbrev pub advice_text : Form → Program → ℕ → ℕ → List Pace → List TaskWork → List TaskRow → List ℕ → List ChainStep → List ℕ
+advice_text Tables p work span paces works tasks starts steps =
+    tables_text p.tasks work span paces works ++ chain_text p tasks starts steps
+advice_text Json p work span paces works tasks starts steps =
+    json_text p.tasks work span paces works (json_steps p tasks starts 0 steps)

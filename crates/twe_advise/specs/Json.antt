@@ -53,7 +53,8 @@ json_task_of works number decl = comma_before number ++ json_task (total_of numb
 abbrev pub json_tasks : List TaskWork → ℕ → List Decl → List ℕ
 json_tasks works number decls = rows_by (json_task_of works) number decls
 
--- the object
-abbrev pub json_text : List Decl → ℕ → ℕ → List Pace → List TaskWork → List ℕ
-json_text decls work span paces works =
-    (((json_head work span ++ json_times work span paces) ++ codes "],\"tasks\":[") ++ json_tasks works 0 decls) ++ codes "]}\n"
+-- the object, with these objects of the chain
+abbrev pub json_text : List Decl → ℕ → ℕ → List Pace → List TaskWork → List ℕ → List ℕ
+json_text decls work span paces works chain =
+    (((((json_head work span ++ json_times work span paces) ++ codes "],\"tasks\":[") ++ json_tasks works 0 decls)
+    ++ codes "],\"chain\":[") ++ chain) ++ codes "]}\n"

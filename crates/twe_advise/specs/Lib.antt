@@ -1,6 +1,8 @@
 pub mod Answers
+pub mod Chains
 pub mod Forms
 pub mod Json
+pub mod JsonChains
 pub mod Paces
 pub mod Texts
 pub mod Words

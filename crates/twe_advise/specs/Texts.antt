@@ -1,5 +1,5 @@
 -- The texts that are written. Each line ends with byte 10.
-use Rattle.std.specs.Prelude.{◌+◌, ◌/◌, ◌%◌, ◌++◌, ℕ, suc, List, [], ◌∷◌, codes, decimal, drop, length, min}
+use Rattle.std.specs.Prelude.{◌/◌, ◌%◌, ◌++◌, ℕ, suc, List, [], ◌∷◌, codes, decimal, drop, length, min}
 use Rattle.std.specs.List.{flat_map}
 use Rattle.twe_program.specs.declared.program.Decl.{Decl}
 use Rattle.schedule_bounds.specs.Schedules.{least_time}

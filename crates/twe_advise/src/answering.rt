@@ -38,7 +38,7 @@ pub(crate) fn advice_answer(
 fn advised_answer(alloc: Global, form: Form, p: &Prog, advice: &Advice) -> Result<Answer, Memory>
     requires few { CanBeSummed advice.now.works }
     requires both { length advice.now.profile.ends ≡ length advice.now.profile.starts }
-    ensures { IfOk result (AdvisedBy form p.now.tasks advice.now) }
+    ensures { IfOk result (AdvisedBy form p.now advice.now) }
 {
     let starts = advice.profile.starts.as_slice();
     let ends = advice.profile.ends.as_slice();

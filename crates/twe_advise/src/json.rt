@@ -14,7 +14,7 @@ use twe_base::{Bytes, Memory};
 use twe_program::Decl;
 
 /// Appends a word and a number.
-fn push_small(text: &mut Bytes, word: &[u8], number: u64) -> Result<(), Memory>
+pub(crate) fn push_small(text: &mut Bytes, word: &[u8], number: u64) -> Result<(), Memory>
     ensures { OnOk result (text.new ≡ text.old ++ word_number word.now number) }
 {
     push_number(text, word, u128::from(number))
@@ -90,7 +90,7 @@ pub(crate) fn push_json_times(
 }
 
 /// Appends a comma, unless this is the first one.
-fn push_comma(text: &mut Bytes, number: usize) -> Result<(), Memory>
+pub(crate) fn push_comma(text: &mut Bytes, number: usize) -> Result<(), Memory>
     ensures { OnOk result (text.new ≡ text.old ++ comma_before number) }
 {
     if number == 0 {

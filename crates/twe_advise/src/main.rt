@@ -1,10 +1,13 @@
 //! `twe_advise`: what a run could gain. It reads the text of a TWEJava program from standard input, and after a line `%%` the
-//! text of a journal. It writes how parallel the run was, the least time with more workers, and what its tasks took.
+//! text of a journal. It writes how parallel the run was, the least time with more workers, what its tasks took, and
+//! why the entries of its heaviest chain come one after another.
 #![tactic(auto)]
 
 mod answering;
+mod chains;
 mod forms;
 mod json;
+mod json_chains;
 mod paces;
 mod program;
 mod text;

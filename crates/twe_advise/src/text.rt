@@ -62,7 +62,7 @@ pub(crate) fn push_head(text: &mut Bytes, work: u64, span: u64) -> Result<(), Me
 }
 
 /// Appends a number of 64 bits at the right of a column.
-fn push_small_column(text: &mut Bytes, number: u64) -> Result<(), Memory>
+pub(crate) fn push_small_column(text: &mut Bytes, number: u64) -> Result<(), Memory>
     ensures { OnOk result (text.new ≡ text.old ++ number_column number) }
 {
     push_column(text, u128::from(number))

@@ -1,0 +1,2 @@
+pub mod CellTexts
+pub mod TaskLabels
