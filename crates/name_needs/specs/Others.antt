@@ -1,5 +1,5 @@
--- What a text needs beside names and types: limits that are kept, bodies that end with a `return`, paths with one star, global names that
--- are new, and a `main`.
+-- What a text needs beside names and types: limits that are kept, bodies that end with a `return`, paths with one star, and a
+-- `main`.
 use Rattle.std.specs.Prelude.{false, List, [], ◌∷◌, ◌++◌, Option, None, Some, codes, length, slice_get, if◌then◌else◌}
 use Rattle.std.specs.List.{flat_map}
 use Rattle.twe_base.specs.declared.place.Place.{Place}
@@ -61,7 +61,8 @@ needs_of_end decl = if is_void decl.returns then [] else placed (close_of decl.b
 abbrev pub needs_of_decl : Decl → List PlacedNeed
 needs_of_decl decl =
     need_there (parameter_over_limit decl.params) (Over Parameters (length decl.params))
-    ++ (need_there (slice_get (places_of_effects decl.effects) max_effects) (Over Effects (length (places_of_effects decl.effects)))
+    ++ (need_there (slice_get (places_of_effects decl.effects) max_effects)
+    (Over Effects (length (places_of_effects decl.effects)))
     ++ (flat_map needs_of_clause decl.effects ++ needs_of_end decl))
 
 -- the same of an item
