@@ -1,6 +1,9 @@
 -- What is known of a text.
 use Rattle.std.specs.Prelude.{◌≡◌, ℕ, Bool, true, false, List}
+use Rattle.twe_base.specs.declared.place.Place.{Place}
 use Rattle.twe_ast.specs.declared.item.Ast.{Ast}
+use Rattle.name_needs.specs.declared.need.NameNeed.{NameNeed}
+use Rattle.name_needs.specs.Causes.{IsNameCause}
 use Rattle.twe_program.specs.Program.{Program}
 use Rattle.twe_names.specs.Meaning.{program_of}
 use Rattle.twe_parser.specs.declared.fail.SRule.TheVariants.{S1, S2, S3, S4, S5, S6}
@@ -39,6 +42,12 @@ is_of_names (Text rule) = false
 is_of_names (Name rule) = true
 is_of_names (Effect rule) = false
 
+-- the need is the cause of the failure of a rule of names at the place
+abbrev pub IsNameCauseOf : Ast → RuleName → Place → NameNeed → Type 0
+IsNameCauseOf tree (Text rule) place cause = ⊥
+IsNameCauseOf tree (Name rule) place cause = IsNameCause tree rule place cause
+IsNameCauseOf tree (Effect rule) place cause = ⊥
+
 -- the text is accepted, or this is its refusal
 abbrev pub IsExplained : List ℕ → Explained → Type 0
 IsExplained text Kept = (p : Program) × Accepted text p
@@ -46,5 +55,7 @@ IsExplained text (Early refusal) =
     IsRefusal text refusal × (is_of_tokens refusal.rule ≡ false) × (is_of_names refusal.rule ≡ false)
 IsExplained text (Stray refusal tokens) =
     IsRefusal text refusal × (is_of_tokens refusal.rule ≡ true) × AreNextAt text refusal.place tokens
-IsExplained text (Named refusal tree) = IsRefusal text refusal × (is_of_names refusal.rule ≡ true) × IsTreeOf text tree
+IsExplained text (Named refusal cause tree) =
+    IsRefusal text refusal × (is_of_names refusal.rule ≡ true) × IsTreeOf text tree
+    × IsNameCauseOf tree refusal.rule refusal.place cause
 IsExplained text (Late refusal cause tree p) = IsCausedBy text refusal cause tree p

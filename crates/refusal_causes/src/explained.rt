@@ -1,6 +1,8 @@
 //! From a text to its acceptance, or to its refusal with the cause.
 ghost use Rattle.std.specs.Prelude.{◌≡◌, ◌+◌, ◌<◌, ◌^◌, length, IfOk};
 ghost use Rattle.refusal_causes.specs.Explained.{IsExplained, is_of_tokens};
+ghost use Rattle.name_check.specs.FailsName.{IsFirstNameFailure};
+ghost use Rattle.twe_names.specs.FromText.{IsFromText};
 ghost use Rattle.twe_names.specs.Meaning.{program_of};
 ghost use Rattle.twe_names.specs.Resolves.{ResolveHasCause};
 ghost use Rattle.twe_frontend.specs.Accepted.{IsMeaningOf, IsTreeOf};
@@ -10,9 +12,11 @@ use crate::cause::RuleCause;
 use crate::next_tokens::{NextTokens, next_tokens};
 use crate::searching::cause_at;
 use effect_check::{CheckFail, check};
+use name_check::NRule;
+use name_needs::{NameNeed, name_cause};
 use std::alloc::Global;
 use twe_ast::Ast;
-use twe_base::Memory;
+use twe_base::{Memory, Place};
 use twe_frontend::{FrontFail, Refusal, RuleName, parsed_trees_are_from_texts, read_tree};
 use twe_names::{NameFail, resolve};
 use twe_parser::SRule;
@@ -36,6 +40,8 @@ pub enum Explained {
     Named {
         /// The refusal.
         refusal: Refusal,
+        /// What is needed at its place, and what is there.
+        cause: NameNeed,
         /// The tree of the text.
         tree: Ast,
     },
@@ -84,19 +90,39 @@ fn explain_program(
     }
 }
 
-/// What is known of a text that has this tree, of which a rule of names fails.
-fn unresolved(text: &[u8], tree: Ast, fail: NameFail) -> Result<Explained, Memory>
+/// What is known of a text that has this tree, of which this rule of names fails first.
+fn misnamed(
+    alloc: Global,
+    text: &[u8],
+    tree: Ast,
+    rule: NRule,
+    place: Place,
+) -> Result<Explained, Memory>
     requires parsed { IsTreeOf text.now tree }
-    requires cause { ResolveHasCause tree fail }
+    requires readable { IsFromText tree }
+    requires first { IsFirstNameFailure tree rule place }
     ensures { IfOk result (IsExplained text.now) }
 {
     let _ = text;
+    let cause = name_cause(alloc, &tree, rule, place)?;
+    let rule = RuleName::Name(rule);
+    let refusal = Refusal { rule, place };
+    Ok(Explained::Named {
+        refusal,
+        cause,
+        tree,
+    })
+}
+
+/// What is known of a text that has this tree, of which a rule of names fails.
+fn unresolved(alloc: Global, text: &[u8], tree: Ast, fail: NameFail) -> Result<Explained, Memory>
+    requires parsed { IsTreeOf text.now tree }
+    requires readable { IsFromText tree }
+    requires cause { ResolveHasCause tree fail }
+    ensures { IfOk result (IsExplained text.now) }
+{
     match fail {
-        NameFail::Names { rule, place } => {
-            let rule = RuleName::Name(rule);
-            let refusal = Refusal { rule, place };
-            Ok(Explained::Named { refusal, tree })
-        }
+        NameFail::Names { rule, place } => misnamed(alloc, text, tree, rule, place),
         NameFail::OutOfMemory(memory) => Err(memory),
     }
 }
@@ -110,7 +136,7 @@ fn explain_tree(alloc: Global, text: &[u8], tree: Ast) -> Result<Explained, Memo
     parsed_trees_are_from_texts();
     match resolve(alloc, &tree) {
         Ok(program) => explain_program(alloc, text, tree, program),
-        Err(fail) => unresolved(text, tree, fail),
+        Err(fail) => unresolved(alloc, text, tree, fail),
     }
 }
 

@@ -6,7 +6,8 @@ use Rattle.twe_frontend.specs.declared.refusal.Refusal.{Refusal}
 use Rattle.twe_frontend.specs.Accepted.{Accepted, IsRefusal, IsTreeOf}
 use Rattle.refusal_causes.specs.declared.cause.RuleCause.{RuleCause}
 use Rattle.refusal_causes.specs.declared.next_tokens.NextToken.{NextToken}
-use Rattle.refusal_causes.specs.Explained.{IsCausedBy, is_of_names, is_of_tokens}
+use Rattle.name_needs.specs.declared.need.NameNeed.{NameNeed}
+use Rattle.refusal_causes.specs.Explained.{IsCausedBy, IsNameCauseOf, is_of_names, is_of_tokens}
 use Rattle.refusal_causes.specs.NextTokens.{AreNextAt}
 use Rattle.twe_report.specs.Texts.{accepted_text}
 use Rattle.text_programs.specs.Causes.{TextCause}
@@ -46,9 +47,11 @@ pub data ExplainDue (wanted : Wanted) (text : List ℕ) : Answer → Type 0 wher
   stray : (refusal : Refusal) (tokens : List NextToken) → IsRefusal text refusal → is_of_tokens refusal.rule ≡ true
       → AreNextAt text refusal.place tokens
       → ExplainDue wanted text (on_out Refused (refused_text wanted text refusal (stray_explanation refusal tokens)))
-  -- the text is refused by a rule of names; the declaration of the name that stands at the place is shown, if it has one
-  named : (refusal : Refusal) (tree : Ast) → IsRefusal text refusal → is_of_names refusal.rule ≡ true → IsTreeOf text tree
-      → ExplainDue wanted text (on_out Refused (refused_text wanted text refusal (named_explanation text refusal tree.items)))
+  -- The text is refused by a rule of names, and the cause is true of its tree: what is needed at the place, and what is there. The
+  -- declaration of the name that stands there is shown, too, if it has one.
+  named : (refusal : Refusal) (cause : NameNeed) (tree : Ast) → IsRefusal text refusal → is_of_names refusal.rule ≡ true
+      → IsTreeOf text tree → IsNameCauseOf tree refusal.rule refusal.place cause
+      → ExplainDue wanted text (on_out Refused (refused_text wanted text refusal (named_explanation text refusal cause tree.items)))
   -- The text is refused, and the cause is true of the program that it means; after the answer of `twe check` comes the cause.
   -- Edits that may mend it are tried, and what is said of those after which it is accepted comes last.
   caused : (refusal : Refusal) (cause : RuleCause) (tree : Ast) (p : Program) (remarks : List (List ℕ))

@@ -9,6 +9,7 @@ pub mod Ruled
 pub mod Explanation
 pub mod Tokens
 pub mod Declaring
+pub mod Needed
 pub mod Named
 pub mod Edits
 pub mod Mends

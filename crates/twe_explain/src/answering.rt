@@ -2,7 +2,7 @@
 ghost use Rattle.std.specs.Prelude.{◌≡◌, true, false, IfOk};
 ghost use Rattle.twe_explain.specs.Answers.{ExplainDue};
 ghost use Rattle.refusal_causes.specs.declared.explained.Explained.TheVariants.{Kept};
-ghost use Rattle.refusal_causes.specs.Explained.{IsCausedBy, IsExplained, is_of_names, is_of_tokens};
+ghost use Rattle.refusal_causes.specs.Explained.{IsCausedBy, IsExplained, IsNameCauseOf, is_of_names, is_of_tokens};
 ghost use Rattle.refusal_causes.specs.NextTokens.{AreNextAt};
 ghost use Rattle.twe_frontend.specs.Accepted.{IsRefusal, IsTreeOf};
 
@@ -13,6 +13,7 @@ use crate::page::refused_text;
 use crate::tokens::stray_explanation;
 use crate::variables::{place_of_cause, variables_at};
 use crate::words::Wanted;
+use name_needs::NameNeed;
 use refusal_causes::{Explained, NextToken, RuleCause, explain};
 use std::alloc::Global;
 use twe_ast::Ast;
@@ -33,7 +34,11 @@ pub(crate) fn answer_text(alloc: Global, wanted: &Wanted, text: &[u8]) -> Result
         Explained::Stray { refusal, tokens } => {
             answer_stray(alloc, wanted, text, *refusal, tokens.as_slice())
         }
-        Explained::Named { refusal, tree } => answer_named(alloc, wanted, text, *refusal, tree),
+        Explained::Named {
+            refusal,
+            cause,
+            tree,
+        } => answer_named(alloc, wanted, text, *refusal, *cause, tree),
         Explained::Late {
             refusal,
             cause,
@@ -89,20 +94,22 @@ fn answer_stray(
     Ok(Answer::on_out(alloc, Status::Refused, lines))
 }
 
-/// The answer to a text that has this tree, and this refusal by a rule of names.
+/// The answer to a text that has this tree, and this refusal by a rule of names with this cause.
 fn answer_named(
     alloc: Global,
     wanted: &Wanted,
     text: &[u8],
     refusal: Refusal,
+    cause: NameNeed,
     tree: &Ast,
 ) -> Result<Answer, Memory>
     requires refused { IsRefusal text.now refusal }
     requires names { is_of_names refusal.rule ≡ true }
     requires parsed { IsTreeOf text.now tree.now }
+    requires caused { IsNameCauseOf tree.now refusal.rule refusal.place cause }
     ensures { IfOk result (ExplainDue wanted.now text.now) }
 {
-    let explanation = named_explanation(alloc, text, refusal, tree.items.as_slice())?;
+    let explanation = named_explanation(alloc, text, refusal, cause, tree.items.as_slice())?;
     let lines = refused_text(alloc, wanted, text, refusal, &explanation)?;
     Ok(Answer::on_out(alloc, Status::Refused, lines))
 }

@@ -12,6 +12,7 @@ mod explanation;
 mod line;
 mod mends;
 mod named;
+mod needed;
 mod page;
 mod program;
 mod ruled;

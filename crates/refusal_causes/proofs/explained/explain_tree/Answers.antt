@@ -6,6 +6,11 @@ resolve-requires c =
     let parsed = c.requires.parsed in
     c.parsed_trees_are_from_texts.ensures c.args.text.now parsed.tokens c.args.tree c.requires.countable parsed.cut parsed.writes parsed.keeps
 
+pub unresolved-requires-clause-readable : goal.unresolved-requires-clause-readable
+unresolved-requires-clause-readable c =
+    let parsed = c.requires.parsed in
+    c.parsed_trees_are_from_texts.ensures c.args.text.now parsed.tokens c.args.tree c.requires.countable parsed.cut parsed.writes parsed.keeps
+
 -- no rule of names fails
 pub explain_program-requires-clause-meant : goal.explain_program-requires-clause-meant
 explain_program-requires-clause-meant c = record {

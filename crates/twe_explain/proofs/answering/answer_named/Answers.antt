@@ -16,5 +16,5 @@ returns c =
     subst (ExplainDue wanted text)
     (sym (c.on_out.ensures ∙ ap (on_out Refused) (c.in_ok-lines.ensures
     ∙ ap (λ (explanation : Explanation). refused_text wanted text c.args.refusal explanation)
-    (c.in_ok-explanation.ensures ∙ ap (λ (items : List Item). named_explanation text c.args.refusal items) c.as_slice.ensures))))
-    (ExplainDue.named c.args.refusal c.args.tree.now c.requires.refused c.requires.names c.requires.parsed)
+    (c.in_ok-explanation.ensures ∙ ap (λ (items : List Item). named_explanation text c.args.refusal c.args.cause items) c.as_slice.ensures))))
+    (ExplainDue.named c.args.refusal c.args.cause c.args.tree.now c.requires.refused c.requires.names c.requires.parsed c.requires.caused)

@@ -42,6 +42,10 @@ pub answer_named-requires-clause-parsed : goal.answer_named-requires-clause-pars
 answer_named-requires-clause-parsed c =
     (subst (λ (e : Explained). IsExplained c.args.text.now e) c.in-Named.is c.in_ok-explained.ensures).2
 
+pub answer_named-requires-clause-caused : goal.answer_named-requires-clause-caused
+answer_named-requires-clause-caused c =
+    (subst (λ (e : Explained). IsExplained c.args.text.now e) c.in-Named.is c.in_ok-explained.ensures).3
+
 -- the text is refused by a rule on effects
 pub answer_caused-requires : goal.answer_caused-requires
 answer_caused-requires c = subst (λ (e : Explained). IsExplained c.args.text.now e) c.in-Late.is c.in_ok-explained.ensures

@@ -1,0 +1,5 @@
+pub mod Needs
+pub mod Breaking
+pub mod Others
+pub mod Causes
+pub mod inner
