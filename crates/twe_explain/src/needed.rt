@@ -1,5 +1,7 @@
 //! What people read of what a text needs at a place, and of what is there.
-ghost use Rattle.std.specs.Prelude.{◌≡◌, ◌++◌, OnOk, IfOk};
+ghost use Rattle.std.specs.Prelude.{◌≡◌, ◌++◌, OnOk, IfOk, codes, nat_lt};
+ghost use Rattle.std.specs.Fmt.{decimal};
+ghost use Rattle.twe_base.specs.Language.{max_cells};
 ghost use Rattle.name_check.specs.declared.binding.NameUse.TheVariants.{Future as FutureUse, Method as MethodUse};
 ghost use Rattle.twe_explain.specs.Needed.{binding_words, cells_caption, cells_words, counts_caption, future_words, given_caption, global_words, indexed_words, local_words, main_caption, need_caption, new_caption, over_caption, over_words, params_words, returns_words, task_words, type_words, typed_caption, use_caption, use_words, used_caption, value_words, variable_words};
 
@@ -136,6 +138,14 @@ fn cells_words(indexes: u8) -> &'static [u8]
     }
 }
 
+/// Appends these words, and what is returned.
+fn push_returning(text: &mut Bytes, words: &[u8], returns: ReturnType) -> Result<(), Memory>
+    ensures { OnOk result (text.new ≡ text.old ++ (words.now ++ returns_words returns)) }
+{
+    text.push_all(words)?;
+    text.push_all(returns_words(returns))
+}
+
 /// Appends what is bound to a global name.
 fn push_global(text: &mut Bytes, global: GlobalKind) -> Result<(), Memory>
     ensures { OnOk result (text.new ≡ text.old ++ global_words global) }
@@ -143,14 +153,8 @@ fn push_global(text: &mut Bytes, global: GlobalKind) -> Result<(), Memory>
     match global {
         GlobalKind::Region(_) => text.push_all(b"a region"),
         GlobalKind::Cells { indexes, .. } => text.push_all(cells_words(indexes)),
-        GlobalKind::Method { returns, .. } => {
-            text.push_all(b"a method that ")?;
-            text.push_all(returns_words(returns))
-        }
-        GlobalKind::Task { returns, .. } => {
-            text.push_all(b"a task that ")?;
-            text.push_all(returns_words(returns))
-        }
+        GlobalKind::Method { returns, .. } => push_returning(text, b"a method that ", returns),
+        GlobalKind::Task { returns, .. } => push_returning(text, b"a task that ", returns),
     }
 }
 
@@ -179,14 +183,21 @@ fn push_used(text: &mut Bytes, name_use: NameUse, found: Option<Binding>) -> Res
     }
 }
 
+/// Appends how many parameters there are.
+fn push_parameters(text: &mut Bytes, params: usize) -> Result<(), Memory>
+    ensures { OnOk result (text.new ≡ text.old ++ (codes ", parameters: " ++ decimal params)) }
+{
+    text.push_all(b", parameters: ")?;
+    text.push_all(Buffer::new().format(params).as_bytes())
+}
+
 /// Appends how many arguments are given, and how many parameters there are.
 fn push_counts(text: &mut Bytes, args: usize, params: usize) -> Result<(), Memory>
     ensures { OnOk result (text.new ≡ text.old ++ counts_caption args params) }
 {
     text.push_all(b"arguments: ")?;
     text.push_all(Buffer::new().format(args).as_bytes())?;
-    text.push_all(b", parameters: ")?;
-    text.push_all(Buffer::new().format(params).as_bytes())
+    push_parameters(text, params)
 }
 
 /// Appends what is given to a method or a task that is called or made.
@@ -218,16 +229,21 @@ fn push_typed(text: &mut Bytes, need: LocalType, found: Option<LocalType>) -> Re
     }
 }
 
+/// Appends that a new name is needed, and what this one is bound to.
+fn push_taken(text: &mut Bytes, found: Binding) -> Result<(), Memory>
+    ensures { OnOk result (text.new ≡ text.old ++ (codes "needs a new name, and this is " ++ binding_words found)) }
+{
+    text.push_all(b"needs a new name, and this is ")?;
+    push_binding(text, found)
+}
+
 /// Appends what a new name is bound to already.
 fn push_new(text: &mut Bytes, found: Option<Binding>) -> Result<(), Memory>
     ensures { OnOk result (text.new ≡ text.old ++ new_caption found) }
 {
     match found {
         None => text.push_all(b"needs a new name"),
-        Some(found) => {
-            text.push_all(b"needs a new name, and this is ")?;
-            push_binding(text, found)
-        }
+        Some(found) => push_taken(text, found),
     }
 }
 
@@ -242,22 +258,44 @@ fn value_words(valued: bool) -> &'static [u8]
     }
 }
 
+/// Appends how many there may be.
+fn push_most(text: &mut Bytes, most: u64) -> Result<(), Memory>
+    ensures { OnOk result (text.new ≡ text.old ++ (codes ", and at most " ++ decimal most)) }
+{
+    text.push_all(b", and at most ")?;
+    text.push_all(Buffer::new().format(most).as_bytes())
+}
+
+/// Appends how many there are, and how many there may be.
+fn push_of_most(text: &mut Bytes, count: u64, most: u64) -> Result<(), Memory>
+    ensures { OnOk result (text.new ≡ text.old
+        ++ (codes ": " ++ (decimal count ++ (codes ", and at most " ++ decimal most)))) }
+{
+    text.push_all(b": ")?;
+    text.push_all(Buffer::new().format(count).as_bytes())?;
+    push_most(text, most)
+}
+
 /// Appends how many there are, and how many there may be.
 fn push_over_words(text: &mut Bytes, words: &[u8], count: u64, most: u64) -> Result<(), Memory>
     ensures { OnOk result (text.new ≡ text.old ++ over_words words.now count most) }
 {
     text.push_all(words)?;
-    text.push_all(b": ")?;
-    text.push_all(Buffer::new().format(count).as_bytes())?;
-    text.push_all(b", and at most ")?;
-    text.push_all(Buffer::new().format(most).as_bytes())
+    push_of_most(text, count, most)
+}
+
+/// Whether there are more cells than a program may have.
+fn has_many_cells(count: u64) -> bool
+    ensures { result ≡ nat_lt max_cells count }
+{
+    count > u64::from(MAX_CELLS)
 }
 
 /// Appends how many cells there are, or that there are too many nodes.
 fn push_cells(text: &mut Bytes, count: u64) -> Result<(), Memory>
     ensures { OnOk result (text.new ≡ text.old ++ cells_caption count) }
 {
-    if count > u64::from(MAX_CELLS) {
+    if has_many_cells(count) {
         push_over_words(text, b"cells up to here", count, u64::from(MAX_CELLS))
     } else {
         text.push_all(b"nodes up to here: more than 131072")
@@ -286,11 +324,10 @@ fn push_params(text: &mut Bytes, global: GlobalKind) -> Result<(), Memory>
     ensures { OnOk result (text.new ≡ text.old ++ params_words global) }
 {
     match global {
-        GlobalKind::Method { params, .. } | GlobalKind::Task { params, .. } => {
-            text.push_all(b", parameters: ")?;
-            text.push_all(Buffer::new().format(params).as_bytes())
-        }
-        GlobalKind::Region(_) | GlobalKind::Cells { .. } => Ok(()),
+        GlobalKind::Method { params, .. } => push_parameters(text, params),
+        GlobalKind::Task { params, .. } => push_parameters(text, params),
+        GlobalKind::Region(_) => Ok(()),
+        GlobalKind::Cells { .. } => Ok(()),
     }
 }
 
