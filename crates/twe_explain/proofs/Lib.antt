@@ -1,3 +1,4 @@
+pub mod Appended
 -- A call that is answered for another cause.
 pub mod Widened
 -- One edit more is tried.
