@@ -26,8 +26,8 @@ decl_name None = []
 decl_name (Some decl) = decl.name
 
 -- the number of a task, its name and its arguments
-abbrev pub task_words : Program → TaskRow → List ℕ
-task_words p row = numbered_call row.frame.task (decl_name (slice_get p.tasks row.decl)) row.args
+abbrev pub task_call : Program → TaskRow → List ℕ
+task_call p row = numbered_call row.frame.task (decl_name (slice_get p.tasks row.decl)) row.args
 
 -- the place of a declaration, as ` of 4:6`
 abbrev pub place_words : Place → List ℕ

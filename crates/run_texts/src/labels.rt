@@ -1,6 +1,6 @@
 //! What is written of a task.
 ghost use Rattle.std.specs.Prelude.{◌≡◌, ◌++◌, OnOk, slice_get};
-ghost use Rattle.run_texts.specs.TaskLabels.{decl_name, decl_place_text, later_args, listed_args, numbered_call, place_words, task_words};
+ghost use Rattle.run_texts.specs.TaskLabels.{decl_name, decl_place_text, later_args, listed_args, numbered_call, place_words, task_call};
 
 use itoa::Buffer;
 use twe_base::{Bytes, Memory, Place};
@@ -54,8 +54,8 @@ pub fn task_name(p: &Prog, decl: u32) -> &[u8]
 }
 
 /// Appends the number of a task, its name and its arguments, as `3 walk(1, 2)`.
-pub fn push_task_words(text: &mut Bytes, p: &Prog, row: &TaskRow) -> Result<(), Memory>
-    ensures { OnOk result (text.new ≡ text.old ++ task_words p.now row.now) }
+pub fn push_task_call(text: &mut Bytes, p: &Prog, row: &TaskRow) -> Result<(), Memory>
+    ensures { OnOk result (text.new ≡ text.old ++ task_call p.now row.now) }
 {
     push_numbered_call(
         text,

@@ -8,4 +8,4 @@ mod cells;
 mod labels;
 
 pub use cells::push_cell_path;
-pub use labels::{push_decl_place, push_listed_args, push_task_words, task_name};
+pub use labels::{push_decl_place, push_listed_args, push_task_call, task_name};

@@ -4,7 +4,7 @@ use Rattle.std.specs.Prelude.{◌++◌, ℕ, Bool, true, false, List, [], ◌∷
 use Rattle.twe_program.specs.Program.{Program}
 use Rattle.twe_machine.specs.declared.state.TaskRow.{TaskRow}
 use Rattle.run_texts.specs.CellTexts.{cell_text}
-use Rattle.run_texts.specs.TaskLabels.{decl_place_text, task_words}
+use Rattle.run_texts.specs.TaskLabels.{decl_place_text, task_call}
 use Rattle.span_profile.specs.declared.reasons.ChainStep.{ChainStep}
 use Rattle.span_profile.specs.declared.reasons.LinkReason.{LinkReason}
 use Rattle.span_profile.specs.declared.reasons.LinkReason.TheVariants.{First, GoesOn, Made, Took, Read, Printed, Wrote, Unlinked}
@@ -40,7 +40,7 @@ reason_words p before Unlinked = []
 
 -- a task by its number, its name, its arguments and the place of its declaration, as `1 part(0) of 4:11`
 abbrev pub task_placed : Program → TaskRow → List ℕ
-task_placed p row = task_words p row ++ decl_place_text (slice_get p.tasks row.decl)
+task_placed p row = task_call p row ++ decl_place_text (slice_get p.tasks row.decl)
 
 -- the same of a task that was looked up
 abbrev pub task_found : Program → Option TaskRow → List ℕ

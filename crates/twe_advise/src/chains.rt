@@ -5,7 +5,7 @@ ghost use Rattle.twe_advise.specs.Chains.{access_words, after_words, begin_of, c
 
 use crate::text::push_small_column;
 use itoa::Buffer;
-use run_texts::{push_cell_path, push_decl_place, push_task_words};
+use run_texts::{push_cell_path, push_decl_place, push_task_call};
 use span_profile::{ChainStep, LinkReason};
 use twe_base::{Bytes, Memory};
 use twe_machine::TaskRow;
@@ -82,7 +82,7 @@ fn push_reason(text: &mut Bytes, p: &Prog, before: u32, reason: LinkReason) -> R
 fn push_task_placed(text: &mut Bytes, p: &Prog, row: &TaskRow) -> Result<(), Memory>
     ensures { OnOk result (text.new ≡ text.old ++ task_placed p.now row.now) }
 {
-    push_task_words(text, p, row)?;
+    push_task_call(text, p, row)?;
     push_decl_place(text, p, row.decl)
 }
 
