@@ -10,12 +10,10 @@ use twe_rounds::Waiting;
 pub(crate) struct Ended {
     // The tasks that were found done since the worker's list was told last.
     done: Vec<u32>,
-    // The awaited tasks that were not found done yet, each once.
-    awaited: Vec<u32>,
-    // The same tasks.
-    listed: BTreeMap<u32, ()>,
-    // Which of them is looked at next.
-    at: usize,
+    // The awaited tasks that were not found done yet.
+    awaited: BTreeMap<u32, ()>,
+    // The one that was looked at last on the way through all of them, from the latest to the earliest.
+    at: Option<u32>,
 }
 
 impl Ended {
@@ -23,48 +21,43 @@ impl Ended {
     pub(crate) fn new(alloc: Global) -> Self {
         Ended {
             done: Vec::new(alloc),
-            awaited: Vec::new(alloc),
-            listed: BTreeMap::new(alloc),
-            at: 0,
+            awaited: BTreeMap::new(alloc),
+            at: None,
         }
     }
 
     /// A task has ended with a value.
     pub(crate) fn end(&mut self, task: u32) -> Result<(), Memory> {
+        self.awaited.remove(&task);
         self.done.push(task)?;
         Ok(())
     }
 
     /// Some task waits for this one, or is held back by it.
     pub(crate) fn await_end(&mut self, task: u32) -> Result<(), Memory> {
-        if self.listed.insert(task, ())?.is_none() {
-            self.awaited.push(task)?;
-        }
+        self.awaited.insert(task, ())?;
         Ok(())
     }
 
-    /// The awaited task that is looked at next, the latest first.
-    pub(crate) fn next_awaited(&mut self) -> Option<u32> {
-        if self.awaited.is_empty() {
-            return None;
+    /// The latest awaited task that was made before this one, or the latest of all.
+    pub(crate) fn latest_before(&self, task: Option<u32>) -> Option<u32> {
+        match task {
+            None => self.awaited.last_key_value().map(|(task, _)| *task),
+            Some(task) => self
+                .awaited
+                .range(..task)
+                .next_back()
+                .map(|(task, _)| *task),
         }
-        if self.at == 0 || self.at > self.awaited.len() {
-            self.at = self.awaited.len();
-        }
-        self.at -= 1;
-        self.awaited.get(self.at).copied()
     }
 
-    /// Notes what was found of the awaited task that was looked at last.
-    pub(crate) fn note(&mut self, task: u32, done: bool) -> Result<(), Memory> {
-        if !done {
-            return Ok(());
+    /// The awaited task that is next on the way through all of them, from the latest to the earliest and then once more.
+    pub(crate) fn next_awaited(&mut self) -> Option<u32> {
+        self.at = self.latest_before(self.at);
+        if self.at.is_none() {
+            self.at = self.latest_before(None);
         }
-        if self.at < self.awaited.len() {
-            self.awaited.swap_remove(self.at);
-        }
-        self.listed.remove(&task);
-        self.end(task)
+        self.at
     }
 
     /// Tells a worker's list which tasks were found done since it was told last.

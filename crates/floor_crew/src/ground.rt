@@ -17,14 +17,10 @@ use task_floor::Floor;
 use task_floor::steps::Served;
 use tree_admit::serving::{Admission, TreeWorker, Workshop};
 use twe_base::Memory;
-use twe_rounds::Outlook;
+use twe_rounds::{MOST_WAITS, Outlook};
 
 /// How often an admission is tried again at once.
 const MOST_TRIES: u32 = 16;
-
-/// How many waits are followed from one task. A number that a worker takes from a deck may be of a task that waits since long, in
-/// the middle of a chain of thousands. Whoever made the last move of the chain has looked at its end already.
-const MOST_WAITS: u32 = 64;
 
 /// The floor of a round.
 #[derive(Drop)]

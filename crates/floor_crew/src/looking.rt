@@ -7,6 +7,7 @@ ghost use Rattle.floor_crew.specs.inner.GoingOn.{IsFound};
 
 use twe_machine::{EnabledTasks, State, TaskStatus};
 use twe_program::Prog;
+use twe_rounds::next_to_admit;
 
 /// What was found of a task.
 #[derive(Clone, Copy, Debug, PartialEq, Eq)]
@@ -17,7 +18,8 @@ pub(crate) enum Found {
     Held { by: u32 },
     /// It may run.
     Runs,
-    /// It waits for the task `on`. If the chain of waits from there ends at a task that is still to be admitted, that is `next`.
+    /// It waits for the task `on`. If the chain of waits from there is short and ends at a task that is still to be admitted, that
+    /// is `next`.
     Waits { on: u32, next: Option<u32> },
     /// Nothing is left to do for it.
     Over,
@@ -64,21 +66,8 @@ fn look_at_enabled(st: &State, task: u32) -> Found
     match st.links.awaited(task) {
         Some(on) => Found::Waits {
             on,
-            next: end_to_admit(st, on),
+            next: next_to_admit(st, on),
         },
         None => Found::Runs,
-    }
-}
-
-/// The task at which the chain of waits from a task ends, if it is still to be admitted.
-fn end_to_admit(st: &State, task: u32) -> Option<u32> {
-    if task >= st.links.task_count() {
-        return None;
-    }
-    let end = st.links.end_of_waits(task);
-    let row = st.tasks.get(end as usize)?;
-    match row.status {
-        TaskStatus::Made => Some(end),
-        _ => None,
     }
 }

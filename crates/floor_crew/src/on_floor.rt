@@ -17,8 +17,11 @@ use tree_admit::serving::TreeWorker;
 use twe_base::Memory;
 use twe_rounds::{Outlook, RoundAccess, Waiting, lost};
 
-/// How many awaited tasks a worker looks at before it goes on.
-const GLANCES: usize = 64;
+/// How many of the latest awaited tasks a worker looks at before it goes on: in a chain of waits these end first.
+const LATEST: usize = 8;
+
+/// How many other awaited tasks it looks at then.
+const GLANCES: usize = 24;
 
 /// A worker's way to the floor.
 #[derive(Drop)]
@@ -77,16 +80,32 @@ impl<'a, R: Wait, N: Named + Planted, F: Located, G: Gate> OnFloor<'a, R, N, F, 
     /// Looks at a few of the tasks for which others of this worker's list wait or by which they are held back, and notes which of
     /// them have ended.
     fn glance(&mut self) -> Result<(), Memory> {
+        let mut last = None;
+        for _ in 0..LATEST {
+            last = self.ended.latest_before(last);
+            let Some(task) = last else {
+                return Ok(());
+            };
+            self.glance_at(task)?;
+        }
         for _ in 0..GLANCES {
             let Some(task) = self.ended.next_awaited() else {
-                break;
+                return Ok(());
             };
-            let Some(mut worker) = self.worker.take() else {
-                return Err(lost());
-            };
-            let phase = self.ground.phase(&mut worker, task);
-            self.worker = Some(worker);
-            self.ended.note(task, phase == Phase::Done)?;
+            self.glance_at(task)?;
+        }
+        Ok(())
+    }
+
+    /// Looks at a task, and notes whether it has ended.
+    fn glance_at(&mut self, task: u32) -> Result<(), Memory> {
+        let Some(mut worker) = self.worker.take() else {
+            return Err(lost());
+        };
+        let phase = self.ground.phase(&mut worker, task);
+        self.worker = Some(worker);
+        if phase == Phase::Done {
+            self.ended.end(task)?;
         }
         Ok(())
     }

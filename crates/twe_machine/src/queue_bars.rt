@@ -157,14 +157,15 @@ impl Queue {
     {
         let mut at = self.task_at(from);
         let mut next = self.past(from, at);
-        'walking: while at != t {
+        // A task waits only for tasks with higher numbers.
+        'walking: while at < t {
             let Some(on) = awaited_by(st, at) else {
                 return from;
             };
             at = on;
             next = self.past(next, at);
         }
-        next
+        if at == t { next } else { from }
     }
 
     /// The place after `place`, if this task is there, and else that place.
@@ -203,13 +204,14 @@ fn leads(st: &State, s: u32, t: u32) -> bool
     ensures { IsTrue result → WaitsOn st.now.links s t }
 {
     let mut at = s;
-    'walking: while at != t {
+    // A task waits only for tasks with higher numbers.
+    'walking: while at < t {
         let Some(on) = awaited_by(st, at) else {
             return false;
         };
         at = on;
     }
-    true
+    at == t
 }
 
 /// The task that a task waits for, if there is one.

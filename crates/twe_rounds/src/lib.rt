@@ -21,6 +21,6 @@ pub use crew::Quietly;
 pub use dealing::{Team, deal};
 pub use game::Game;
 pub use named::RoundName;
-pub use outlook::Outlook;
+pub use outlook::{MOST_WAITS, Outlook, next_to_admit};
 pub use waiting::Waiting;
 pub use worker::{Site, Worker};

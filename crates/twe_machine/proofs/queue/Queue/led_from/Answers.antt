@@ -20,5 +20,8 @@ walking-preserved c = λ i e from low at.
 pub returns-in_default : goal.returns-in_default
 returns-in_default c = λ i e from low at. absurd (omega (arith, from, low))
 
-pub returns : goal.returns
-returns c = λ i e from low at. inr (subst (λ (u : ℕ). WaitsOn c.args.st.now.links e.task u) c.walking-test.false (c.walking.invariant i e from low at))
+pub returns-then-at-t : goal.returns-then-at-t
+returns-then-at-t c = λ i e from low at. inr (subst (λ (u : ℕ). WaitsOn c.args.st.now.links e.task u) c.if-at-t.true (c.walking.invariant i e from low at))
+
+pub returns-else-at-t : goal.returns-else-at-t
+returns-else-at-t c = λ i e from low at. absurd (omega (arith, from, low))
