@@ -4,6 +4,7 @@ ghost use Rattle.floor_crew.specs.inner.Lent.{IsOtherOn};
 
 use crate::located::Located;
 use crate::setup::Setup;
+use crate::waiters::Waiters;
 use floor_rule::Phase;
 use floor_table::Named;
 use floor_table::nodes::Planted;
@@ -29,6 +30,8 @@ pub(crate) struct Ground<'a, N: Named + Planted, F: Located> {
     floor: &'a Floor<N>,
     // Whether some task has met a fault. Then no worker begins another segment.
     faulted: AtomicBool,
+    /// Which tasks were found to wait.
+    pub(crate) waiters: Waiters,
     of: PhantomData<F>,
 }
 
@@ -46,7 +49,7 @@ impl<'a, N: Named + Planted, F: Located> Model for Ground<'a, N, F> {
 
 impl<'a, N: Named + Planted, F: Located> Ground<'a, N, F> {
     /// The ground of a round on this floor.
-    pub(crate) fn new(setup: &'a Setup<'a>, floor: &'a Floor<N>) -> Self
+    pub(crate) fn new(setup: &'a Setup<'a>, floor: &'a Floor<N>, waiters: Waiters) -> Self
         requires located { floor.now ≡ F.table }
         requires named { (setup.now.p.now ≡ N.prog) × (setup.now.lim ≡ N.lim) × (setup.now.shape.now ≡ N.nodes) }
     {
@@ -54,6 +57,7 @@ impl<'a, N: Named + Planted, F: Located> Ground<'a, N, F> {
             setup,
             floor,
             faulted: AtomicBool::new(false),
+            waiters,
             of: PhantomData,
         }
     }

@@ -21,6 +21,7 @@ mod round;
 mod rounds;
 mod setup;
 mod stands;
+mod waiters;
 
 pub use crew::FloorCrew;
 pub use rounds::run_on_floor;

@@ -17,11 +17,11 @@ use tree_admit::serving::TreeWorker;
 use twe_base::Memory;
 use twe_rounds::{Outlook, RoundAccess, Waiting, lost};
 
-/// How many of the latest awaited tasks a worker looks at before it goes on: in a chain of waits these end first.
-const LATEST: usize = 8;
+/// How many of the latest awaited tasks a worker looks at before it goes on. In a chain of waits these end first.
+const LATEST: usize = 4;
 
-/// How many other awaited tasks it looks at then.
-const GLANCES: usize = 24;
+/// How many others of them it looks at then.
+const GLANCES: usize = 28;
 
 /// A worker's way to the floor.
 #[derive(Drop)]
@@ -80,40 +80,42 @@ impl<'a, R: Wait, N: Named + Planted, F: Located, G: Gate> OnFloor<'a, R, N, F, 
     /// Looks at a few of the tasks for which others of this worker's list wait or by which they are held back, and notes which of
     /// them have ended.
     fn glance(&mut self) -> Result<(), Memory> {
-        let mut last = None;
+        let mut back = 0;
         for _ in 0..LATEST {
-            last = self.ended.latest_before(last);
-            let Some(task) = last else {
+            let Some(task) = self.ended.latest_awaited(back) else {
                 return Ok(());
             };
-            self.glance_at(task)?;
+            if !self.has_ended(task)? {
+                back += 1;
+            }
         }
         for _ in 0..GLANCES {
             let Some(task) = self.ended.next_awaited() else {
                 return Ok(());
             };
-            self.glance_at(task)?;
+            self.has_ended(task)?;
         }
         Ok(())
     }
 
-    /// Looks at a task, and notes whether it has ended.
-    fn glance_at(&mut self, task: u32) -> Result<(), Memory> {
+    /// Looks whether an awaited task has ended, and notes it if so.
+    fn has_ended(&mut self, task: u32) -> Result<bool, Memory> {
         let Some(mut worker) = self.worker.take() else {
             return Err(lost());
         };
-        let phase = self.ground.phase(&mut worker, task);
+        let ended = self.ground.phase(&mut worker, task) == Phase::Done;
         self.worker = Some(worker);
-        if phase == Phase::Done {
-            self.ended.end(task)?;
-        }
-        Ok(())
+        self.ended.note(task, ended)?;
+        Ok(ended)
     }
 
     /// Notes for which task one waits, or which task holds it back.
-    fn await_end(&mut self, look: Outlook) -> Result<(), Memory> {
+    fn await_end(&mut self, task: u32, look: Outlook) -> Result<(), Memory> {
         match look {
-            Outlook::Waits { on, .. } => self.ended.await_end(on),
+            Outlook::Waits { on, .. } => {
+                self.ground.waiters.note(task, on);
+                self.ended.await_end(on)
+            }
             Outlook::Held { by } => self.ended.await_end(by),
             _ => Ok(()),
         }
@@ -122,7 +124,7 @@ impl<'a, R: Wait, N: Named + Planted, F: Located, G: Gate> OnFloor<'a, R, N, F, 
     /// Notes how a segment of a task has ended.
     fn note(&mut self, task: u32, end: End) -> Result<(), Memory> {
         match end {
-            End::Done { .. } => self.ended.end(task),
+            End::Done { .. } => self.ended.end(task, self.ground.waiters.of(task)),
             End::Fault { .. } => {
                 self.ground.stop();
                 Ok(())
@@ -142,7 +144,7 @@ impl<'a, R: Wait, N: Named + Planted, F: Located, G: Gate> RoundAccess for OnFlo
         };
         let (worker, look) = self.ground.look(self.rt, worker, task)?;
         self.worker = Some(worker);
-        self.await_end(look)?;
+        self.await_end(task, look)?;
         Ok(look)
     }
 

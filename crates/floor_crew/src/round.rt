@@ -11,19 +11,19 @@ use crate::hand::Hand;
 use crate::located::Located;
 use crate::setup::Setup;
 use crate::stands::{join_all, split_all};
+use crate::waiters::Waiters;
 use floor_table::Named;
 use floor_table::nodes::Planted;
 use run_gates::Gate;
 use seg_journal::JournalPart;
 use std::marker::Brand;
 use std::sync::Wait;
-use std::sync::atomic::AtomicU64;
 use std::thread;
 use std::thread::Threads;
 use task_floor::steps::Rest;
 use task_floor::{Floor, Stand};
 use twe_base::{List, Memory};
-use twe_rounds::{Site, Team, deal};
+use twe_rounds::{Progress, Site, Team, deal};
 
 /// A round of so many workers: the run goes on a floor, on which they admit tasks and run segments at the same time, until they
 /// find no task that may go on. Returns the run after that, whose journal begins with the one from before.
@@ -78,13 +78,14 @@ fn lend<
     ensures kept { IfOk result (λ _. IsPrefix parts.old parts.new) }
 {
     let mut stand = stand;
-    let pending = AtomicU64::new(team.pending);
+    let waiters = Waiters::new(setup.alloc, setup.lim.tasks)?;
+    let progress = Progress::new(team.pending);
     let mut hands = split_all::<N, F>(setup.alloc, floor, &mut stand, team.workers, workers)?;
-    let ground: Ground<'_, N, F> = Ground::new(setup, floor);
+    let ground: Ground<'_, N, F> = Ground::new(setup, floor, waiters);
     let shared = Shared {
         rt,
         gate,
-        pending: &pending,
+        progress: &progress,
         ground: &ground,
     };
     let lent = hands.as_mut_slice();
@@ -98,7 +99,7 @@ fn lend<
 struct Shared<'a, R: Wait, G, N: Named + Planted, F: Located> {
     rt: &'a R,
     gate: &'a G,
-    pending: &'a AtomicU64,
+    progress: &'a Progress,
     ground: &'a Ground<'a, N, F>,
 }
 
@@ -107,7 +108,7 @@ impl<'a, R: Wait, G: Gate, N: Named + Planted, F: Located> Shared<'a, R, G, N, F
     fn send(&self, hand: &mut Hand<F>) {
         let site = Site {
             gate: self.gate,
-            pending: self.pending,
+            progress: self.progress,
         };
         hand.work(self.rt, self.ground, &site);
     }

@@ -9,13 +9,12 @@ use crate::trail::Trail;
 use opt_engine::{CoreRun, Hints};
 use run_gates::Gate;
 use std::alloc::Global;
-use std::sync::atomic::AtomicU64;
 use std::sync::{Mutex, Wait};
 use std::thread;
 use std::thread::Threads;
 use twe_base::{Limits, Memory};
 use twe_program::Prog;
-use twe_rounds::{Game, RoundName, Site, Worker, deal, lost};
+use twe_rounds::{Game, Progress, RoundName, Site, Worker, deal, lost};
 
 /// The run after the moves of a single worker, which begins with the task `first`.
 pub(crate) fn alone<N: RoundName, R: Wait, G: Gate>(
@@ -33,10 +32,10 @@ pub(crate) fn alone<N: RoundName, R: Wait, G: Gate>(
 {
     let entries = run.journal.len();
     let mut team = deal(alloc, &run.state, entries, lim.tasks, 1, Some(first))?;
-    let pending = AtomicU64::new(team.pending);
+    let progress = Progress::new(team.pending);
     let site = Site {
         gate,
-        pending: &pending,
+        progress: &progress,
     };
     let game: Game<'_, N> = Game::new(alloc, p, lim);
     let hints = Hints::none(alloc);
@@ -70,14 +69,14 @@ pub(crate) fn together<'a, N: RoundName + Send + Sync, R: Threads + Wait + Sync,
 {
     let entries = run.journal.len();
     let mut team = deal(alloc, &run.state, entries, lim.tasks, workers, None)?;
-    let pending = AtomicU64::new(team.pending);
+    let progress = Progress::new(team.pending);
     let game: Game<'_, N> = Game::new(alloc, p, lim);
     let hints = Hints::of(alloc, &run.state.cells)?;
     let core = Mutex::new(RoundCore::new(alloc, lim, run)?);
     let shared = Shared {
         rt,
         gate,
-        pending: &pending,
+        progress: &progress,
         game: &game,
         hints: &hints,
         core: &core,
@@ -92,7 +91,7 @@ pub(crate) fn together<'a, N: RoundName + Send + Sync, R: Threads + Wait + Sync,
 struct Shared<'a, R: Wait, G, N: RoundName> {
     rt: &'a R,
     gate: &'a G,
-    pending: &'a AtomicU64,
+    progress: &'a Progress,
     game: &'a Game<'a, N>,
     hints: &'a Hints,
     core: &'a Mutex<RoundCore<N>>,
@@ -116,7 +115,7 @@ impl<'a, R: Wait, G: Gate, N: RoundName> Shared<'a, R, G, N> {
         };
         let site = Site {
             gate: self.gate,
-            pending: self.pending,
+            progress: self.progress,
         };
         worker.work(self.rt, &mut access, &site);
     }

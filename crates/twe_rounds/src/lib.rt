@@ -13,6 +13,7 @@ mod game;
 mod named;
 mod outlook;
 mod own_deck;
+mod progress;
 mod waiting;
 mod worker;
 
@@ -22,5 +23,6 @@ pub use dealing::{Team, deal};
 pub use game::Game;
 pub use named::RoundName;
 pub use outlook::{MOST_WAITS, Outlook, next_to_admit};
+pub use progress::Progress;
 pub use waiting::Waiting;
 pub use worker::{Site, Worker};

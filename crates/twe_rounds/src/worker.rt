@@ -3,26 +3,22 @@
 use crate::access::RoundAccess;
 use crate::outlook::Outlook;
 use crate::own_deck::OwnDeck;
+use crate::progress::Progress;
 use crate::waiting::Waiting;
 use crossbeam_utils::Backoff;
 use run_gates::Gate;
 use seg_journal::End;
 use std::alloc::Global;
 use std::sync::Wait;
-use std::sync::atomic::{AtomicU64, Ordering};
-use std::time::Duration;
 use twe_base::Memory;
-
-/// How many microseconds a worker that finds nothing to do sleeps before it tries again, once it has yielded a few times.
-const NAP: u64 = 100;
 
 /// What all workers of a round share beside the core and the decks.
 #[derive(Drop)]
 pub struct Site<'a, G> {
     /// Where a worker passes before each segment.
     pub gate: &'a G,
-    /// How many numbers were dealt, pushed or made ready and are not dealt with yet.
-    pub pending: &'a AtomicU64,
+    /// How the round stands.
+    pub progress: &'a Progress,
 }
 
 /// Everything that a worker owns.
@@ -32,10 +28,22 @@ pub struct Worker {
     // A number that lies on no deck and comes first.
     first: Option<u32>,
     waiting: Waiting,
-    // Whether it could run some segment since it looked at its whole list last.
+    // Whether it ran a segment for the number that it deals with.
     moved: bool,
+    // The last stage of the round to which it came.
+    stage: Option<u64>,
     // Whether it found no memory. Then it runs nothing more.
     stopped: bool,
+}
+
+/// What a worker does that has found nothing to do.
+enum Idle {
+    /// It waits for the others.
+    Waits,
+    /// It looks at all tasks of its list once more, and comes to this stage if it can run none.
+    Looks { stage: u64 },
+    /// It leaves the round.
+    Leaves,
 }
 
 impl Worker {
@@ -45,7 +53,8 @@ impl Worker {
             deck,
             first: None,
             waiting: Waiting::new(alloc, entries),
-            moved: true,
+            moved: false,
+            stage: None,
             stopped: false,
         }
     }
@@ -60,7 +69,7 @@ impl Worker {
         self.deck.push(number)
     }
 
-    /// Works until no number is left to be dealt with.
+    /// Works until no worker of the round finds anything to do.
     pub fn work<R: Wait, A: RoundAccess, G: Gate>(
         &mut self,
         rt: &R,
@@ -68,24 +77,31 @@ impl Worker {
         site: &Site<'_, G>,
     ) {
         let backoff = Backoff::new();
+        site.progress.enter();
         for _ in rt.forever() {
-            // It is read before the list is looked at, and again after it.
-            let left = site.pending.load(Ordering::SeqCst);
+            // It is read before the decks and the list are looked at, and again after it.
+            let before = site.progress.read();
             if let Some(number) = self.take(rt) {
                 self.serve(rt, access, site, Some(number));
-                site.pending.fetch_sub(1, Ordering::SeqCst);
                 backoff.reset();
-            } else if self.finds_ready(access, left) {
-                site.pending.fetch_add(1, Ordering::SeqCst);
+                continue;
+            }
+            if self.finds_ready(access) {
+                site.progress.add();
                 self.serve(rt, access, site, None);
-                site.pending.fetch_sub(1, Ordering::SeqCst);
                 backoff.reset();
-            } else if left == 0 && site.pending.load(Ordering::SeqCst) == 0 {
-                break;
-            } else {
-                pause(rt, &backoff, site.pending);
+                continue;
+            }
+            match self.idle(site.progress, before) {
+                Idle::Waits => pause(rt, &backoff, site.progress, before),
+                Idle::Looks { stage } => {
+                    self.look_again(rt, access, site, stage);
+                    backoff.reset();
+                }
+                Idle::Leaves => break,
             }
         }
+        site.progress.leave();
     }
 
     /// The next number: the one that was handed to the worker, or else one from the decks.
@@ -96,25 +112,53 @@ impl Worker {
         }
     }
 
-    /// Whether a task of the list may be tried again: one whose wait has ended, or any of them if nothing was left to be
-    /// dealt with and a segment ran since the worker tried all of them.
-    fn finds_ready<A: RoundAccess>(&mut self, access: &mut A, left: u64) -> bool {
+    /// Whether a task of the list is to be tried again, since its wait or its bar has ended.
+    fn finds_ready<A: RoundAccess>(&mut self, access: &mut A) -> bool {
         self.hear(access);
-        if self.stopped {
-            return false;
-        }
-        if self.waiting.is_ready() {
-            return true;
-        }
-        if !self.moved || left > 0 {
-            return false;
-        }
-        self.moved = false;
-        self.stopped = self.waiting.ready_all().is_err();
-        self.waiting.is_ready()
+        !self.stopped && self.waiting.is_ready()
     }
 
-    /// Deals with a number, if there is one, and then with each task whose wait has ended.
+    /// What it does next, if it has found nothing to do since the round stood so.
+    fn idle(&mut self, progress: &Progress, before: u64) -> Idle {
+        let Some(stage) = progress.stage_since(before) else {
+            return Idle::Waits;
+        };
+        match self.stage {
+            Some(own) if own == stage && progress.all_came_to(own) => Idle::Looks {
+                stage: after(stage),
+            },
+            Some(own) if own == after(stage) && progress.all_came_to(own) => Idle::Leaves,
+            Some(own) if own == stage || own == after(stage) => Idle::Waits,
+            _ => {
+                self.come_to(progress, stage);
+                Idle::Waits
+            }
+        }
+    }
+
+    /// Tries all tasks of its list once more, and comes to this stage if it can run none.
+    fn look_again<R: Wait, A: RoundAccess, G: Gate>(
+        &mut self,
+        rt: &R,
+        access: &mut A,
+        site: &Site<'_, G>,
+        stage: u64,
+    ) {
+        self.stopped = self.stopped || self.waiting.ready_all().is_err();
+        site.progress.add();
+        self.serve(rt, access, site, None);
+        if !self.moved {
+            self.come_to(site.progress, stage);
+        }
+    }
+
+    /// Comes to a stage of the round.
+    fn come_to(&mut self, progress: &Progress, stage: u64) {
+        progress.come_to(stage);
+        self.stage = Some(stage);
+    }
+
+    /// Deals with a number, if there is one, and then with each task whose wait has ended. Then that is dealt with.
     fn serve<R: Wait, A: RoundAccess, G: Gate>(
         &mut self,
         rt: &R,
@@ -122,6 +166,7 @@ impl Worker {
         site: &Site<'_, G>,
         number: Option<u32>,
     ) {
+        self.moved = false;
         let mut next = number;
         for _ in rt.forever() {
             if self.stopped {
@@ -133,6 +178,7 @@ impl Worker {
             self.stopped = self.follow(rt, access, site, task).is_err();
             self.hear(access);
         }
+        site.progress.finish(self.moved);
     }
 
     /// Hears which tasks have ended.
@@ -172,20 +218,24 @@ impl Worker {
         self.moved = true;
         site.gate.pass(task);
         if let Some(End::Made { child }) = access.run(task)? {
-            site.pending.fetch_add(1, Ordering::SeqCst);
+            site.progress.add();
             if !self.deck.push(child) {
-                site.pending.fetch_sub(1, Ordering::SeqCst);
+                site.progress.finish(false);
             }
         }
         Ok(())
     }
 }
 
+/// The stage after this one.
+fn after(stage: u64) -> u64 {
+    stage.saturating_add(1)
+}
+
 /// Waits a little before another try.
-fn pause<R: Wait>(rt: &R, backoff: &Backoff, pending: &AtomicU64) {
+fn pause<R: Wait>(rt: &R, backoff: &Backoff, progress: &Progress, before: u64) {
     if backoff.is_completed() {
-        let seen = pending.load(Ordering::SeqCst);
-        pending.park_timeout(rt, (seen & 0xffff_ffff) as u32, Duration::from_micros(NAP));
+        progress.nap(rt, before);
     } else {
         backoff.snooze();
     }
