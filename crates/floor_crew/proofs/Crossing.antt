@@ -1,4 +1,5 @@
--- The ground of a round may be shared by threads: its floor, its program, its shape and its mark of a fault are.
+-- The ground of a round may be shared by threads: its floor, its program, its shape and its mark of a fault are, and so are
+-- the waiters that were found.
 use denote.Param.Send.{IsSync, recorded_sync, shr_sync, struct_sync, view_sync}
 use denote.Ref.{NamedLft}
 use denote.RattleType.{RattleType}
@@ -15,6 +16,7 @@ use Rattle.twe_program.specs.contracts.program.Prog as Prog
 use Rattle.twe_rounds.proofs.Crossing.{prog_sync}
 use Rattle.floor_table.specs.declared.rule.Named as Named
 use Rattle.floor_table.specs.declared.nodes.rule.Planted as Planted
+use Rattle.floor_crew.proofs.waiters.Waiters.TheSendSync as waiters
 use Rattle.floor_crew.specs.declared.located.Located as Located
 use Rattle.floor_crew.specs.contracts.setup.Setup as Setup
 use Rattle.floor_crew.specs.contracts.ground.Ground as Ground
@@ -35,5 +37,5 @@ ground_sync ℓ N F n t f =
     (recorded_sync (inside.the_field ℓ N F n t f).row _ _ (inside.the_type ℓ N F n t f).to_one
     (struct_sync (shape (inside.the_type ℓ N F n t f)) (
       shr_sync _ _ (Setup.the_row ℓ) (setup_sync ℓ),
-      (shr_sync _ _ (Floor.the_row N n t) (floor.the_sync N n t), (flag.the_field_sync, (phantom.the_field_sync F, tt))),
+      (shr_sync _ _ (Floor.the_row N n t) (floor.the_sync N n t), (flag.the_field_sync, (waiters.the_field_sync, (phantom.the_field_sync F, tt)))),
     )))

@@ -30,8 +30,8 @@ pub(crate) struct Ground<'a, N: Named + Planted, F: Located> {
     floor: &'a Floor<N>,
     // Whether some task has met a fault. Then no worker begins another segment.
     faulted: AtomicBool,
-    /// Which tasks were found to wait.
-    pub(crate) waiters: Waiters,
+    // Which tasks were found to wait.
+    waiters: Waiters,
     of: PhantomData<F>,
 }
 
@@ -219,6 +219,16 @@ impl<'a, N: Named + Planted, F: Located> Ground<'a, N, F> {
         }
         let (worker, served) = self.shop().serve(rt, worker, task, gate)?;
         Ok((worker, Some(served)))
+    }
+
+    /// A task was found to wait for `on`.
+    pub(crate) fn note_wait(&self, task: u32, on: u32) {
+        self.waiters.note(task, on);
+    }
+
+    /// The task that was found to wait for this one, if one was.
+    pub(crate) fn waiter_of(&self, task: u32) -> Option<u32> {
+        self.waiters.of(task)
     }
 
     /// No worker begins another segment.

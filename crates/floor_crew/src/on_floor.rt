@@ -80,20 +80,26 @@ impl<'a, R: Wait, N: Named + Planted, F: Located, G: Gate> OnFloor<'a, R, N, F, 
     /// Looks at a few of the tasks for which others of this worker's list wait or by which they are held back, and notes which of
     /// them have ended.
     fn glance(&mut self) -> Result<(), Memory> {
-        let mut back = 0;
-        for _ in 0..LATEST {
-            let Some(task) = self.ended.latest_awaited(back) else {
-                return Ok(());
-            };
-            if !self.has_ended(task)? {
-                back += 1;
-            }
-        }
+        self.glance_at_latest()?;
         for _ in 0..GLANCES {
             let Some(task) = self.ended.next_awaited() else {
                 return Ok(());
             };
             self.has_ended(task)?;
+        }
+        Ok(())
+    }
+
+    /// Looks at the latest awaited tasks. If one has ended, the one before it takes its place.
+    fn glance_at_latest(&mut self) -> Result<(), Memory> {
+        let mut back = 0usize;
+        for _ in 0..LATEST {
+            let Some(task) = self.ended.latest_awaited(back) else {
+                return Ok(());
+            };
+            if !self.has_ended(task)? {
+                back = back.saturating_add(1);
+            }
         }
         Ok(())
     }
@@ -113,7 +119,7 @@ impl<'a, R: Wait, N: Named + Planted, F: Located, G: Gate> OnFloor<'a, R, N, F, 
     fn await_end(&mut self, task: u32, look: Outlook) -> Result<(), Memory> {
         match look {
             Outlook::Waits { on, .. } => {
-                self.ground.waiters.note(task, on);
+                self.ground.note_wait(task, on);
                 self.ended.await_end(on)
             }
             Outlook::Held { by } => self.ended.await_end(by),
@@ -124,7 +130,7 @@ impl<'a, R: Wait, N: Named + Planted, F: Located, G: Gate> OnFloor<'a, R, N, F, 
     /// Notes how a segment of a task has ended.
     fn note(&mut self, task: u32, end: End) -> Result<(), Memory> {
         match end {
-            End::Done { .. } => self.ended.end(task, self.ground.waiters.of(task)),
+            End::Done { .. } => self.ended.end(task, self.ground.waiter_of(task)),
             End::Fault { .. } => {
                 self.ground.stop();
                 Ok(())
