@@ -92,18 +92,27 @@ impl<'a, N: Named + Planted, F: Located> Ground<'a, N, F> {
         if self.faulted.load(Ordering::SeqCst) {
             return Ok((worker, Outlook::Over));
         }
-        match self.phase(&mut worker, task) {
-            Phase::Running => Ok((worker, Outlook::Runs)),
-            Phase::Made => self.admit(rt, worker, task),
-            Phase::Waits { on } => {
-                let look = self.look_at_wait(&mut worker, on);
-                Ok((worker, look))
-            }
-            _ => Ok((worker, Outlook::Over)),
+        if self.phase(&mut worker, task) == Phase::Made {
+            return self.admit(rt, worker, task);
+        }
+        let look = self.look_at_admitted(&mut worker, task);
+        Ok((worker, look))
+    }
+
+    /// What may be done next for a task that was admitted.
+    fn look_at_admitted(&self, worker: &mut TreeWorker, task: u32) -> Outlook
+        requires { IsOtherOn F.table worker.old }
+        ensures { IsOtherOn F.table worker.new }
+    {
+        match self.phase(worker, task) {
+            Phase::Running => Outlook::Runs,
+            Phase::Waits { on } => self.look_at_wait(worker, on),
+            _ => Outlook::Over,
         }
     }
 
-    /// Admits a task if it may be admitted. One that was held back is tried again if what held it is about to go.
+    /// Admits a task if it may be admitted. One that was held back is tried again if what held it is about to go, and one whose turn
+    /// another worker has if that one is about to give it back.
     fn admit<R: Wait>(
         &self,
         rt: &R,
@@ -117,36 +126,49 @@ impl<'a, N: Named + Planted, F: Located> Ground<'a, N, F> {
         'tries: for _ in 0..MOST_TRIES {
             let (other, look) = self.try_once(rt, worker, task)?;
             worker = other;
-            let Outlook::Held { by } = look else {
-                return Ok((worker, look));
-            };
-            if !self.may_go_soon(&mut worker, by, task) {
+            if let Some(look) = look
+                && !self.is_soon_other(&mut worker, look, task)
+            {
                 return Ok((worker, look));
             }
             thread::yield_now();
         }
-        self.try_once(rt, worker, task)
+        let (worker, look) = self.try_once(rt, worker, task)?;
+        Ok((worker, look.unwrap_or(Outlook::Over)))
     }
 
-    /// Tries once to admit a task. If another worker has its turn, that one goes on with it.
+    /// Tries once to admit a task. `None` if another worker has its turn.
     fn try_once<R: Wait>(
         &self,
         rt: &R,
         worker: TreeWorker,
         task: u32,
-    ) -> Result<(TreeWorker, Outlook), Memory>
+    ) -> Result<(TreeWorker, Option<Outlook>), Memory>
         requires { IsOtherOn F.table worker }
         ensures { IfOk result (λ looked. IsOtherOn F.table looked.0) }
     {
         if task >= self.most_tasks() {
-            return Ok((worker, Outlook::Over));
+            return Ok((worker, Some(Outlook::Over)));
         }
-        let (worker, admission) = self.shop().admit(rt, worker, task)?;
-        match admission {
-            Admission::Admitted => Ok((worker, Outlook::Runs)),
-            Admission::Held { by } => Ok((worker, Outlook::Held { by })),
-            Admission::Over => Ok((worker, Outlook::Over)),
-            Admission::Busy { .. } => Ok((worker, Outlook::Over)),
+        let (mut worker, admission) = self.shop().admit(rt, worker, task)?;
+        let look = match admission {
+            Admission::Admitted => Some(Outlook::Runs),
+            Admission::Held { by } => Some(Outlook::Held { by }),
+            // This worker had the turn for a moment, and whoever wanted to go on with the task then has left it to this one.
+            Admission::Over => Some(self.look_at_admitted(&mut worker, task)),
+            Admission::Busy { .. } => None,
+        };
+        Ok((worker, look))
+    }
+
+    /// Whether what was found of a task that is still to be admitted is about to change, since what held it is about to go.
+    fn is_soon_other(&self, worker: &mut TreeWorker, look: Outlook, task: u32) -> bool
+        requires { IsOtherOn F.table worker.old }
+        ensures { IsOtherOn F.table worker.new }
+    {
+        match look {
+            Outlook::Held { by } => self.may_go_soon(worker, by, task),
+            _ => false,
         }
     }
 
