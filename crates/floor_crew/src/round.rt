@@ -23,7 +23,7 @@ use std::thread::Threads;
 use task_floor::steps::Rest;
 use task_floor::{Floor, Stand};
 use twe_base::{List, Memory};
-use twe_rounds::{Progress, Site, Team, deal};
+use twe_rounds::{RoundProgress, Site, Team, deal};
 
 /// A round of so many workers: the run goes on a floor, on which they admit tasks and run segments at the same time, until they
 /// find no task that may go on. Returns the run after that, whose journal begins with the one from before.
@@ -79,7 +79,7 @@ fn lend<
 {
     let mut stand = stand;
     let waiters = Waiters::new(setup.alloc, setup.lim.tasks)?;
-    let progress = Progress::new(team.pending);
+    let progress = RoundProgress::new(team.pending);
     let mut hands = split_all::<N, F>(setup.alloc, floor, &mut stand, team.workers, workers)?;
     let ground: Ground<'_, N, F> = Ground::new(setup, floor, waiters);
     let shared = Shared {
@@ -99,7 +99,7 @@ fn lend<
 struct Shared<'a, R: Wait, G, N: Named + Planted, F: Located> {
     rt: &'a R,
     gate: &'a G,
-    progress: &'a Progress,
+    progress: &'a RoundProgress,
     ground: &'a Ground<'a, N, F>,
 }
 

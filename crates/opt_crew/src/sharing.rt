@@ -14,7 +14,7 @@ use std::thread;
 use std::thread::Threads;
 use twe_base::{Limits, Memory};
 use twe_program::Prog;
-use twe_rounds::{Game, Progress, RoundName, Site, Worker, deal, lost};
+use twe_rounds::{Game, RoundName, RoundProgress, Site, Worker, deal, lost};
 
 /// The run after the moves of a single worker, which begins with the task `first`.
 pub(crate) fn alone<N: RoundName, R: Wait, G: Gate>(
@@ -32,7 +32,7 @@ pub(crate) fn alone<N: RoundName, R: Wait, G: Gate>(
 {
     let entries = run.journal.len();
     let mut team = deal(alloc, &run.state, entries, lim.tasks, 1, Some(first))?;
-    let progress = Progress::new(team.pending);
+    let progress = RoundProgress::new(team.pending);
     let site = Site {
         gate,
         progress: &progress,
@@ -69,7 +69,7 @@ pub(crate) fn together<'a, N: RoundName + Send + Sync, R: Threads + Wait + Sync,
 {
     let entries = run.journal.len();
     let mut team = deal(alloc, &run.state, entries, lim.tasks, workers, None)?;
-    let progress = Progress::new(team.pending);
+    let progress = RoundProgress::new(team.pending);
     let game: Game<'_, N> = Game::new(alloc, p, lim);
     let hints = Hints::of(alloc, &run.state.cells)?;
     let core = Mutex::new(RoundCore::new(alloc, lim, run)?);
@@ -91,7 +91,7 @@ pub(crate) fn together<'a, N: RoundName + Send + Sync, R: Threads + Wait + Sync,
 struct Shared<'a, R: Wait, G, N: RoundName> {
     rt: &'a R,
     gate: &'a G,
-    progress: &'a Progress,
+    progress: &'a RoundProgress,
     game: &'a Game<'a, N>,
     hints: &'a Hints,
     core: &'a Mutex<RoundCore<N>>,

@@ -23,6 +23,6 @@ pub use dealing::{Team, deal};
 pub use game::Game;
 pub use named::RoundName;
 pub use outlook::{MOST_WAITS, Outlook, next_to_admit};
-pub use progress::Progress;
+pub use progress::RoundProgress;
 pub use waiting::Waiting;
 pub use worker::{Site, Worker};

@@ -15,7 +15,7 @@ const COUNT_BITS: u32 = 16;
 
 /// What the workers of a round share to find when it is over.
 #[derive(Drop)]
-pub struct Progress {
+pub struct RoundProgress {
     // In the lower half how many numbers were dealt, pushed or made ready and are not dealt with yet, and in the upper half how
     // often numbers were dealt with for which a segment was run.
     word: AtomicU64,
@@ -25,10 +25,10 @@ pub struct Progress {
     workers: AtomicU64,
 }
 
-impl Progress {
+impl RoundProgress {
     /// That of a round that begins with so many numbers.
     pub fn new(pending: u64) -> Self {
-        Progress {
+        RoundProgress {
             word: AtomicU64::new(pending),
             stage: AtomicU64::new(0),
             workers: AtomicU64::new(0),

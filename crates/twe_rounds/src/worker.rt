@@ -3,7 +3,7 @@
 use crate::access::RoundAccess;
 use crate::outlook::Outlook;
 use crate::own_deck::OwnDeck;
-use crate::progress::Progress;
+use crate::progress::RoundProgress;
 use crate::waiting::Waiting;
 use crossbeam_utils::Backoff;
 use run_gates::Gate;
@@ -18,7 +18,7 @@ pub struct Site<'a, G> {
     /// Where a worker passes before each segment.
     pub gate: &'a G,
     /// How the round stands.
-    pub progress: &'a Progress,
+    pub progress: &'a RoundProgress,
 }
 
 /// Everything that a worker owns.
@@ -119,7 +119,7 @@ impl Worker {
     }
 
     /// What it does next, if it has found nothing to do since the round stood so.
-    fn idle(&mut self, progress: &Progress, before: u64) -> Idle {
+    fn idle(&mut self, progress: &RoundProgress, before: u64) -> Idle {
         let Some(stage) = progress.stage_since(before) else {
             return Idle::Waits;
         };
@@ -153,7 +153,7 @@ impl Worker {
     }
 
     /// Comes to a stage of the round.
-    fn come_to(&mut self, progress: &Progress, stage: u64) {
+    fn come_to(&mut self, progress: &RoundProgress, stage: u64) {
         progress.come_to(stage);
         self.stage = Some(stage);
     }
@@ -233,7 +233,7 @@ fn after(stage: u64) -> u64 {
 }
 
 /// Waits a little before another try.
-fn pause<R: Wait>(rt: &R, backoff: &Backoff, progress: &Progress, before: u64) {
+fn pause<R: Wait>(rt: &R, backoff: &Backoff, progress: &RoundProgress, before: u64) {
     if backoff.is_completed() {
         progress.nap(rt, before);
     } else {

@@ -3,7 +3,7 @@ use denote.Param.{param}
 use denote.Param.Send.{arg_sync, param_sync, recorded_sync, shr_sync, struct_sync}
 use denote.Struct.Declared.{shape}
 use mir.Syntax.{named}
-use Rattle.twe_rounds.proofs.progress.Progress.TheSendSync as progress
+use Rattle.twe_rounds.proofs.progress.RoundProgress.TheSendSync as progress
 use Rattle.floor_crew.specs.contracts.round.Shared as Shared
 use Rattle.twe_rounds.proofs.Crossing.{tuple_sync}
 use Rattle.floor_crew.proofs.Crossing.{ground_sync}
