@@ -1,5 +1,5 @@
--- The heaviest chain as it is written for people: a line for each of its entries that begins a task or comes back to it, and why it
--- comes after the one before. The entry before is always of the task of the line above.
+-- The heaviest chain as it is written for people: a line for each of its entries that begins a task or comes back to it, and why
+-- it comes after the one before. The entry before is always of the task of the line above.
 use Rattle.std.specs.Prelude.{◌++◌, ℕ, Bool, true, false, List, [], ◌∷◌, Option, None, Some, codes, decimal, slice_get}
 use Rattle.twe_program.specs.Program.{Program}
 use Rattle.twe_machine.specs.declared.state.TaskRow.{TaskRow}

@@ -12,8 +12,8 @@ use Rattle.twe_advise.specs.declared.paces.Pace.{Pace}
 use Rattle.twe_advise.specs.declared.words.Form.{Form}
 use Rattle.twe_advise.specs.declared.words.Form.TheVariants.{Tables, Json}
 
--- What is written of a run with this work and this span, whose paced timetables and whose tasks took this, which has made these tasks,
--- whose entries begin at these times at the earliest, and the entries of whose heaviest chain follow one another so.
+-- What is written of a run with this work and this span, whose paced timetables and whose tasks took this, which has made these
+-- tasks, whose entries begin at these times at the earliest, and the entries of whose heaviest chain follow one another so.
 abbrev pub advice_text : Form → Program → ℕ → ℕ → List Pace → List TaskWork → List TaskRow → List ℕ → List ChainStep → List ℕ
 advice_text Tables p work span paces works tasks starts steps =
     tables_text p.tasks work span paces works ++ chain_text p tasks starts steps

@@ -1,5 +1,5 @@
--- The heaviest chain as JSON: an object for each of its entries. Names of tasks and of regions are identifiers, so nothing in them has
--- to be escaped.
+-- The heaviest chain as JSON: an object for each of its entries. Names of tasks and of regions are identifiers, so nothing in
+-- them has to be escaped.
 use Rattle.std.specs.Prelude.{◌++◌, ℕ, suc, Bool, true, false, List, [], ◌∷◌, Option, None, Some, codes, slice_get}
 use Rattle.twe_base.specs.declared.place.Place.{Place}
 use Rattle.twe_program.specs.declared.program.Decl.{Decl}

@@ -9,13 +9,14 @@ use Rattle.seg_journal.specs.declared.moves.Kind.{Kind}
 use Rattle.seg_journal.specs.declared.moves.Kind.TheVariants.{Admit, Run}
 use Rattle.twe_program.specs.Program.{Program}
 use Rattle.twe_machine.specs.declared.state.TaskRow.{TaskRow}
+use Rattle.run_texts.specs.TaskLabels.{task_call}
 use Rattle.run_picture.specs.declared.bars.Mark.{Mark}
 use Rattle.svg_markup.specs.Markup.{IsMarkup, IsText, is_value_byte}
 use Rattle.svg_markup.specs.Shapes.{row_line, titled_box, upright, words_at}
 use Rattle.svg_markup.proofs.Nest.{plain_box_nests, row_line_nests, titled_box_nests, upright_nests, words_nest}
 use Rattle.twe_draw.specs.declared.scale.Axis.{Axis}
 use Rattle.twe_draw.specs.Scale.{bar_begin, bar_end, row_bottom, row_top, time_column, time_width}
-use Rattle.twe_draw.specs.Labels.{bar_title, task_label, wait_title}
+use Rattle.twe_draw.specs.Labels.{bar_title, wait_title}
 use Rattle.twe_draw.specs.Shown.{row_at}
 use Rattle.twe_draw.specs.Arrows.{arrow, arrows_placed, arrows_shown, made_arrow, made_placed, taken_arrow, taken_placed}
 use Rattle.twe_draw.specs.Bars.{bar_placed, bar_shape, bar_shown, class_of, is_deterministic_row, is_waiting, outline, outline_found, outline_placed, row_placed, row_shown, wait_shape, wait_since}
@@ -37,8 +38,8 @@ all_nest f (x ∷ xs) each =
 row_nests : (p : Program) (task : TaskRow) (row : Option ℕ) → IsMarkup (row_placed p task row)
 row_nests p task None = nothing_nests
 row_nests p task (Some row) =
-    IsMarkup.both (words_at 6 (row_bottom row) (task_label p task)) (row_line (row_bottom row))
-    (words_nest (task_label p task) 6 (row_bottom row)) (row_line_nests (row_bottom row))
+    IsMarkup.both (words_at 6 (row_bottom row) (task_call p task)) (row_line (row_bottom row))
+    (words_nest (task_call p task) 6 (row_bottom row)) (row_line_nests (row_bottom row))
 
 shade_is_value : (b : Bool) → list_all is_value_byte (if b then codes "deterministic" else codes "segment") ≡ true
 shade_is_value true = refl

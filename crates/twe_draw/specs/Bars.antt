@@ -7,16 +7,17 @@ use Rattle.seg_journal.specs.declared.moves.Kind.TheVariants.{Admit, Run}
 use Rattle.twe_program.specs.declared.program.Decl.{Decl}
 use Rattle.twe_program.specs.Program.{Program}
 use Rattle.twe_machine.specs.declared.state.TaskRow.{TaskRow}
+use Rattle.run_texts.specs.TaskLabels.{task_call}
 use Rattle.run_picture.specs.declared.bars.Mark.{Mark}
 use Rattle.svg_markup.specs.Shapes.{plain_box, row_line, titled_box, words_at}
 use Rattle.twe_draw.specs.declared.scale.Axis.{Axis}
 use Rattle.twe_draw.specs.Scale.{bar_begin, bar_end, row_bottom, row_top, time_column, time_width}
-use Rattle.twe_draw.specs.Labels.{bar_title, task_label, wait_title}
+use Rattle.twe_draw.specs.Labels.{bar_title, wait_title}
 use Rattle.twe_draw.specs.Shown.{row_at}
 
 -- a row: the label of its task, and a line
 abbrev pub row_shape : Program → TaskRow → ℕ → List ℕ
-row_shape p task row = words_at 6 (row_bottom row) (task_label p task) ++ row_line (row_bottom row)
+row_shape p task row = words_at 6 (row_bottom row) (task_call p task) ++ row_line (row_bottom row)
 
 -- the row of a task, if it has one
 abbrev pub row_placed : Program → TaskRow → Option ℕ → List ℕ

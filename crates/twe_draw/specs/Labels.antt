@@ -1,53 +1,19 @@
 -- What is written of tasks and of what they did.
-use Rattle.std.specs.Fmt.{signed_decimal}
-use Rattle.std.specs.Prelude.{◌++◌, ℕ, ℤ, List, [], ◌∷◌, Option, None, Some, codes, slice_get}
-use Rattle.std.specs.List.{flat_map}
+use Rattle.std.specs.Prelude.{◌++◌, ℕ, List, [], Option, None, Some, codes, slice_get}
 use Rattle.seg_journal.specs.declared.journal.End.{End}
 use Rattle.seg_journal.specs.declared.journal.End.TheVariants as ends
-use Rattle.twe_base.specs.declared.place.Place.{Place}
-use Rattle.twe_program.specs.declared.program.Decl.{Decl}
 use Rattle.twe_program.specs.Program.{Program}
 use Rattle.twe_machine.specs.declared.state.TaskRow.{TaskRow}
 use Rattle.text_meaning.specs.EffectTexts.{effects_text}
+use Rattle.run_texts.specs.TaskLabels.{decl_place_text, task_call}
 use Rattle.run_picture.specs.declared.bars.Mark.{Mark}
 use Rattle.twe_draw.specs.Numbers.{with_number}
-
--- arguments, each after `, `
-abbrev pub more_args : List ℤ → List ℕ
-more_args args = flat_map (λ arg. codes ", " ++ signed_decimal arg) args
-
--- arguments with `, ` between them
-abbrev pub args_text : List ℤ → List ℕ
-args_text [] = []
-args_text (arg ∷ args) = signed_decimal arg ++ more_args args
-
--- the number of a task of this name, and its arguments, as `3 walk(1, 2)`
-abbrev pub task_text : ℕ → List ℕ → List ℤ → List ℕ
-task_text task name args = with_number [] task ++ (codes " " ++ (name ++ (codes "(" ++ (args_text args ++ codes ")"))))
-
--- the name of a declaration that was looked up
-abbrev pub name_found : Option Decl → List ℕ
-name_found None = []
-name_found (Some decl) = decl.name
-
--- the number of a task, its name and its arguments
-abbrev pub task_label : Program → TaskRow → List ℕ
-task_label p row = task_text row.frame.task (name_found (slice_get p.tasks row.decl)) row.args
-
--- the place of a declaration, as ` of 4:6`
-abbrev pub declared_at : Place → List ℕ
-declared_at place = with_number (codes " of ") place.line ++ with_number (codes ":") place.col
-
--- the place of a declaration that was looked up
-abbrev pub place_found : Option Decl → List ℕ
-place_found None = []
-place_found (Some decl) = declared_at decl.place
 
 -- a task with the place of its declaration and its effects, as `3 walk(1) of 4:6, writes A:[1]`
 abbrev pub task_details : Program → TaskRow → List ℕ
 task_details p row =
-    task_label p row
-    ++ (place_found (slice_get p.tasks row.decl) ++ (codes ", " ++ effects_text p.regions [] row.effects.effects))
+    task_call p row
+    ++ (decl_place_text (slice_get p.tasks row.decl) ++ (codes ", " ++ effects_text p.regions [] row.effects.effects))
 
 -- the same of a row that was looked up
 abbrev pub details_found : Program → Option TaskRow → List ℕ
@@ -76,7 +42,7 @@ bar_title p tasks bar = entry_words bar ++ (details_found p (slice_get tasks bar
 -- the label of a task that was looked up
 abbrev pub label_found : Program → Option TaskRow → List ℕ
 label_found p None = []
-label_found p (Some row) = task_label p row
+label_found p (Some row) = task_call p row
 
 -- whom a task waits for that has ended an entry so, as `: waits for 3 walk(1)`
 abbrev pub awaited_words : Program → List TaskRow → End → List ℕ

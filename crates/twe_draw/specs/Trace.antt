@@ -8,13 +8,13 @@ use Rattle.seg_journal.specs.declared.journal.End.{End}
 use Rattle.seg_journal.specs.declared.journal.End.TheVariants as ends
 use Rattle.twe_program.specs.Program.{Program}
 use Rattle.twe_machine.specs.declared.state.TaskRow.{TaskRow}
+use Rattle.run_texts.specs.TaskLabels.{decl_name}
 use Rattle.run_picture.specs.declared.bars.Mark.{Mark}
 use Rattle.twe_draw.specs.Bars.{class_of}
-use Rattle.twe_draw.specs.Labels.{name_found}
 
 -- the name of the declaration of a row
 abbrev pub row_name : Program → TaskRow → List ℕ
-row_name p row = name_found (slice_get p.tasks row.decl)
+row_name p row = decl_name (slice_get p.tasks row.decl)
 
 -- the same of a row that was looked up
 abbrev pub row_name_found : Program → Option TaskRow → List ℕ

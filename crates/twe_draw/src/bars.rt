@@ -1,13 +1,14 @@
 //! The rows and the bars of a picture.
 ghost use Rattle.std.specs.Prelude.{◌≡◌, ◌++◌, IfOk, OnOk, Some, option_and_then, slice_get};
 ghost use Rattle.std.specs.List.{flat_map};
-ghost use Rattle.twe_draw.specs.Labels.{task_label};
+ghost use Rattle.run_texts.specs.TaskLabels.{task_call};
 ghost use Rattle.twe_draw.specs.Bars.{bar_placed, bar_shape, bar_shown, class_of, is_deterministic_row, is_waiting, outline, outline_placed, row_placed, row_shape, row_shown, wait_shape, wait_since};
 
-use crate::labels::{bar_title, push_label, wait_title};
+use crate::labels::{bar_title, wait_title};
 use crate::scale::{Axis, bar_begin, bar_end, row_bottom, row_top, time_column, time_width};
 use crate::shown::row_at;
 use run_picture::Mark;
+use run_texts::push_task_call;
 use seg_journal::{End, Kind};
 use std::alloc::Global;
 use svg_markup::{push_plain_box, push_row_line, push_titled_box, push_words_at};
@@ -17,10 +18,10 @@ use twe_program::Prog;
 
 /// The label of a task.
 fn task_label(alloc: Global, p: &Prog, task: &TaskRow) -> Result<Bytes, Memory>
-    ensures { IfOk result (λ label. label ≡ task_label p.now task.now) }
+    ensures { IfOk result (λ label. label ≡ task_call p.now task.now) }
 {
     let mut label = Bytes::new(alloc);
-    push_label(&mut label, p, task)?;
+    push_task_call(&mut label, p, task)?;
     Ok(label)
 }
 

@@ -1,99 +1,24 @@
 //! What is written of tasks and of what they did.
 ghost use Rattle.std.specs.Prelude.{◌≡◌, ◌++◌, IfOk, OnOk, slice_get};
-ghost use Rattle.twe_draw.specs.Labels.{args_text, awaited_words, bar_title, label_found, wait_title, details_found, end_words, entry_words, more_args, name_found, place_found, declared_at, task_details, task_label, task_text};
+ghost use Rattle.run_texts.specs.TaskLabels.{task_call};
+ghost use Rattle.twe_draw.specs.Labels.{awaited_words, bar_title, label_found, wait_title, details_found, end_words, entry_words, task_details};
 
 use crate::numbers::{push_number, push_small};
-use itoa::Buffer;
 use run_picture::Mark;
+use run_texts::{push_decl_place, push_task_call};
 use seg_journal::End;
 use std::alloc::Global;
 use text_meaning::push_effects;
-use twe_base::{Bytes, Memory, Place};
+use twe_base::{Bytes, Memory};
 use twe_machine::TaskRow;
 use twe_program::Prog;
-
-/// Appends arguments, each after `, `.
-fn push_more_args(text: &mut Bytes, args: &[i32]) -> Result<(), Memory>
-    ensures { OnOk result (text.new ≡ text.old ++ more_args args.now) }
-{
-    for arg in args {
-        text.push_all(b", ")?;
-        text.push_all(Buffer::new().format(*arg).as_bytes())?;
-    }
-    Ok(())
-}
-
-/// Appends arguments with `, ` between them.
-fn push_args(text: &mut Bytes, args: &[i32]) -> Result<(), Memory>
-    ensures { OnOk result (text.new ≡ text.old ++ args_text args.now) }
-{
-    match args {
-        [arg, others @ ..] => {
-            text.push_all(Buffer::new().format(*arg).as_bytes())?;
-            push_more_args(text, others)
-        }
-        [] => Ok(()),
-    }
-}
-
-/// Appends the number of a task of this name, and its arguments.
-fn push_task(text: &mut Bytes, task: u32, name: &[u8], args: &[i32]) -> Result<(), Memory>
-    ensures { OnOk result (text.new ≡ text.old ++ task_text task name.now args.now) }
-{
-    push_small(text, b"", task)?;
-    text.push_all(b" ")?;
-    text.push_all(name)?;
-    text.push_all(b"(")?;
-    push_args(text, args)?;
-    text.push_all(b")")
-}
-
-/// The name of the declaration of this number, or nothing if there is none.
-fn name_of(p: &Prog, decl: u32) -> &[u8]
-    ensures { result.now ≡ name_found (slice_get p.now.tasks decl) }
-{
-    match p.tasks.get(decl as usize) {
-        None => b"",
-        Some(decl) => decl.name.as_bytes(),
-    }
-}
-
-/// Appends the number of a task, its name and its arguments.
-pub(crate) fn push_label(text: &mut Bytes, p: &Prog, row: &TaskRow) -> Result<(), Memory>
-    ensures { OnOk result (text.new ≡ text.old ++ task_label p.now row.now) }
-{
-    push_task(
-        text,
-        row.frame.task,
-        name_of(p, row.decl),
-        row.args.as_slice(),
-    )
-}
-
-/// Appends the place of a declaration.
-fn push_place(text: &mut Bytes, place: Place) -> Result<(), Memory>
-    ensures { OnOk result (text.new ≡ text.old ++ declared_at place) }
-{
-    push_small(text, b" of ", place.line)?;
-    push_small(text, b":", place.col)
-}
-
-/// Appends the place of the declaration of this number.
-fn push_place_of(text: &mut Bytes, p: &Prog, decl: u32) -> Result<(), Memory>
-    ensures { OnOk result (text.new ≡ text.old ++ place_found (slice_get p.now.tasks decl)) }
-{
-    match p.tasks.get(decl as usize) {
-        None => Ok(()),
-        Some(decl) => push_place(text, decl.place),
-    }
-}
 
 /// Appends a task with the place of its declaration and its effects.
 fn push_details(text: &mut Bytes, p: &Prog, row: &TaskRow) -> Result<(), Memory>
     ensures { OnOk result (text.new ≡ text.old ++ task_details p.now row.now) }
 {
-    push_label(text, p, row)?;
-    push_place_of(text, p, row.decl)?;
+    push_task_call(text, p, row)?;
+    push_decl_place(text, p, row.decl)?;
     text.push_all(b", ")?;
     push_effects(
         text,
@@ -159,7 +84,7 @@ fn push_label_of(text: &mut Bytes, p: &Prog, tasks: &[TaskRow], task: u32) -> Re
 {
     match tasks.get(task as usize) {
         None => Ok(()),
-        Some(row) => push_label(text, p, row),
+        Some(row) => push_task_call(text, p, row),
     }
 }
 

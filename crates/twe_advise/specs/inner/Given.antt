@@ -14,5 +14,5 @@ use Rattle.twe_advise.specs.declared.words.Form.{Form}
 abbrev pub AdvisedBy : Form → Program → Advice → Answer → Type 0
 AdvisedBy form p advice answer =
     (paces : List Pace) × ArePaces advice.profile.starts advice.profile.ends worker_counts paces
-    × (answer ≡ on_out Done
-    (advice_text form p advice.profile.work advice.profile.span paces advice.works advice.tasks advice.profile.starts advice.steps))
+    × (answer ≡ on_out Done (advice_text form p advice.profile.work advice.profile.span paces
+    advice.works advice.tasks advice.profile.starts advice.steps))
