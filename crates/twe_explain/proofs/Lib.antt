@@ -5,3 +5,5 @@ pub mod Widened
 pub mod Trying
 -- Words that are looked for in bytes.
 pub mod Finding
+-- The moves before the first that is not legal.
+pub mod FirstIllegal

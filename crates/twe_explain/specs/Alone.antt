@@ -24,9 +24,13 @@ alone_text =
     codes "  --help       this text\n  --version    the version\n\n"
     ++ codes "The status is that of twe check: 0 if the text is accepted, 1 if it is refused.\n"
 
+-- the status if there is a journal
+abbrev pub replay_text : List ℕ
+replay_text = codes "If a line %% and a journal come after the text, it is that of twe replay.\n"
+
 -- what the program does, and its words
 unfoldable pub help_text : List ℕ
-help_text = call_text ++ (purpose_text ++ (name_option ++ (lines_option ++ alone_text)))
+help_text = call_text ++ (purpose_text ++ (name_option ++ (lines_option ++ (alone_text ++ replay_text))))
 
 -- the version of the program
 abbrev pub version_text : List ℕ

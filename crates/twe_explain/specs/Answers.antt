@@ -1,5 +1,5 @@
--- What the program answers, and why.
-use Rattle.std.specs.Prelude.{◌≡◌, ℕ, true, false, List, None, Some}
+-- What the program answers to a text.
+use Rattle.std.specs.Prelude.{◌≡◌, ℕ, true, false, List}
 use Rattle.twe_ast.specs.declared.item.Ast.{Ast}
 use Rattle.twe_program.specs.Program.{Program}
 use Rattle.twe_frontend.specs.declared.refusal.Refusal.{Refusal}
@@ -10,12 +10,9 @@ use Rattle.name_needs.specs.declared.need.NameNeed.{NameNeed}
 use Rattle.refusal_causes.specs.Explained.{IsCausedBy, IsNameCauseOf, is_of_names, is_of_tokens}
 use Rattle.refusal_causes.specs.NextTokens.{AreNextAt}
 use Rattle.twe_report.specs.Texts.{accepted_text}
-use Rattle.text_programs.specs.Causes.{TextCause}
 use Rattle.twe_io.specs.declared.answer.Answer.{Answer}
-use Rattle.twe_io.specs.declared.status.Status.{Status}
 use Rattle.twe_io.specs.declared.status.Status.TheVariants.{Done, Refused}
-use Rattle.twe_io.specs.Ends.{Ends, EndsTell, SourceTells}
-use Rattle.twe_io.specs.Answers.{IsAnswered, on_err, on_out}
+use Rattle.twe_io.specs.Answers.{on_out}
 use Rattle.twe_explain.specs.Explanation.{explanation_by, explanation_of}
 use Rattle.twe_explain.specs.declared.explanation.Explanation.{Explanation}
 use Rattle.twe_explain.specs.declared.mends.Mend.{Mend}
@@ -23,9 +20,7 @@ use Rattle.twe_explain.specs.Mends.{AreTried, mends_for}
 use Rattle.twe_explain.specs.Named.{named_explanation}
 use Rattle.twe_explain.specs.Tokens.{stray_explanation}
 use Rattle.twe_explain.specs.Variables.{place_of_cause, variables_at}
-use Rattle.twe_explain.specs.Page.{explain_usage_text, refused_text}
-use Rattle.twe_explain.specs.Alone.{text_alone}
-use Rattle.twe_explain.specs.Words.{wish_of}
+use Rattle.twe_explain.specs.Page.{refused_text}
 use Rattle.twe_explain.specs.declared.words.Wanted.{Wanted}
 
 -- what is said of a refusal with its cause, by the names that the text has
@@ -59,18 +54,3 @@ pub data ExplainDue (wanted : Wanted) (text : List ℕ) : Answer → Type 0 wher
       → AreTried (mends_of text refusal cause tree p) (caused_explanation refusal cause tree p).remarks remarks
       → ExplainDue wanted text (on_out Refused (refused_text wanted text refusal
       (record (caused_explanation refusal cause tree p) { remarks = remarks })))
-
--- Why the program gives an answer, before it writes anything.
-pub data ExplainCause {S : Type 0} (tells : SourceTells S) (words : List (List ℕ)) (before after : S) : Answer → Type 0 where
-  -- the words ask for a text by themselves, and nothing is read
-  alone : (text : List ℕ) → text_alone words ≡ Some text → after ≡ before
-      → ExplainCause tells words before after (on_out Done text)
-  -- they ask for the answer to a text, or for nothing that the program does
-  of_text : {answer : Answer} → text_alone words ≡ None
-      → TextCause wish_of explain_usage_text ExplainDue tells words before after answer
-      → ExplainCause tells words before after answer
-
--- what a call of the program comes to: an answer that has its cause is written; or memory runs out, and nothing is written
-abbrev pub AnswersExplain : {S O E : Type 0} → EndsTell S O E → List (List ℕ) → Ends S O E → Ends S O E → Status
-    → Type 0
-AnswersExplain tells words before after status = IsAnswered tells (ExplainCause tells.src words) before after status

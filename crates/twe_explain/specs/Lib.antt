@@ -15,3 +15,12 @@ pub mod Edits
 pub mod Mends
 pub mod Page
 pub mod Answers
+pub mod TaskTexts
+pub mod RunPage
+pub mod Faulted
+pub mod Waits
+pub mod Cycles
+pub mod NextShown
+pub mod NotLegal
+pub mod Journals
+pub mod Inputs

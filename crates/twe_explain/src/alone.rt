@@ -1,6 +1,6 @@
 //! The texts that are asked for by one word, and for which nothing is read.
 ghost use Rattle.std.specs.Prelude.{◌≡◌, ◌++◌, IfOk, OnOk};
-ghost use Rattle.twe_explain.specs.Alone.{alone_text, call_text, help_text, lines_option, name_option, purpose_text, text_alone, text_of_word, version_text};
+ghost use Rattle.twe_explain.specs.Alone.{alone_text, call_text, help_text, lines_option, name_option, purpose_text, replay_text, text_alone, text_of_word, version_text};
 
 use std::alloc::Global;
 use twe_base::{Bytes, Memory, Word};
@@ -48,6 +48,13 @@ fn push_alone(text: &mut Bytes) -> Result<(), Memory>
     )
 }
 
+/// Appends what the status is if there is a journal.
+fn push_replay(text: &mut Bytes) -> Result<(), Memory>
+    ensures { OnOk result (text.new ≡ text.old ++ replay_text) }
+{
+    text.push_all(b"If a line %% and a journal come after the text, it is that of twe replay.\n")
+}
+
 /// What the program does, and its words.
 #[tactic(auto, unfolding(crate::specs::Alone::help_text))]
 fn help_text(alloc: Global) -> Result<Bytes, Memory>
@@ -59,6 +66,7 @@ fn help_text(alloc: Global) -> Result<Bytes, Memory>
     push_name_option(&mut text)?;
     push_lines_option(&mut text)?;
     push_alone(&mut text)?;
+    push_replay(&mut text)?;
     Ok(text)
 }
 

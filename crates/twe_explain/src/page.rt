@@ -65,7 +65,7 @@ fn push_name(text: &mut Bytes, name: &[u8]) -> Result<(), Memory>
 }
 
 /// Appends a place with the name of the text, as `race.twe:6:14`.
-fn push_spot(text: &mut Bytes, name: &[u8], place: Place) -> Result<(), Memory>
+pub(crate) fn push_spot(text: &mut Bytes, name: &[u8], place: Place) -> Result<(), Memory>
     ensures { OnOk result (text.new ≡ text.old ++ spot_text name.now place) }
 {
     push_name(text, name)?;
@@ -93,7 +93,7 @@ fn push_spot_line(text: &mut Bytes, name: &[u8], place: Place, said: &[u8]) -> R
 }
 
 /// Appends each place with what is said of it, as one line.
-fn push_spot_lines(text: &mut Bytes, name: &[u8], notes: &[Note]) -> Result<(), Memory>
+pub(crate) fn push_spot_lines(text: &mut Bytes, name: &[u8], notes: &[Note]) -> Result<(), Memory>
     ensures { OnOk result (text.new ≡ text.old ++ spot_lines name.now notes.now) }
 {
     for note in notes {
@@ -103,7 +103,7 @@ fn push_spot_lines(text: &mut Bytes, name: &[u8], notes: &[Note]) -> Result<(), 
 }
 
 /// Appends each place with its line of the text.
-fn push_excerpts(
+pub(crate) fn push_excerpts(
     text: &mut Bytes,
     alloc: Global,
     program: &[u8],
@@ -118,7 +118,7 @@ fn push_excerpts(
 }
 
 /// Appends each remark, as one line at this place.
-fn push_remark_lines(
+pub(crate) fn push_remark_lines(
     text: &mut Bytes,
     name: &[u8],
     place: Place,
@@ -141,7 +141,7 @@ fn push_line(text: &mut Bytes, bytes: &[u8]) -> Result<(), Memory>
 }
 
 /// Appends each remark, as a line.
-fn push_remarks(text: &mut Bytes, remarks: &[Bytes]) -> Result<(), Memory>
+pub(crate) fn push_remarks(text: &mut Bytes, remarks: &[Bytes]) -> Result<(), Memory>
     ensures { OnOk result (text.new ≡ text.old ++ flat_map line remarks.now) }
 {
     for remark in remarks {

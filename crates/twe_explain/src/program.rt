@@ -1,9 +1,9 @@
 //! The program, as its words ask for it.
-ghost use Rattle.twe_explain.specs.Answers.{ExplainDue};
+ghost use Rattle.twe_explain.specs.Inputs.{InputDue};
 ghost use Rattle.twe_explain.specs.Page.{explain_usage_text};
 ghost use Rattle.twe_explain.specs.Words.{wish_of};
 
-use crate::answering::answer_text;
+use crate::inputs::answer_input;
 use crate::page::usage_text;
 use crate::words::{Wanted, wanted_by};
 use std::alloc::Global;
@@ -16,7 +16,7 @@ impl TextProgram for Wanted {
 
     ghost usage = { explain_usage_text };
 
-    ghost due = { ExplainDue };
+    ghost due = { InputDue };
 
     fn of_words(alloc: Global, words: &[Word]) -> Result<Option<Self>, Memory> {
         wanted_by(alloc, words)
@@ -27,6 +27,6 @@ impl TextProgram for Wanted {
     }
 
     fn answer_text(&self, alloc: Global, text: &[u8]) -> Result<Answer, Memory> {
-        answer_text(alloc, self, text)
+        answer_input(alloc, self, text)
     }
 }

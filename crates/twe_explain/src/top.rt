@@ -1,7 +1,7 @@
 //! The top call: the whole program, apart from where its bytes come from and go to.
 ghost use Rattle.std.specs.Prelude.{◌≡◌, None, Some};
 ghost use Rattle.twe_explain.specs.Alone.{text_alone};
-ghost use Rattle.twe_explain.specs.Answers.{AnswersExplain};
+ghost use Rattle.twe_explain.specs.Inputs.{AnswersExplain};
 ghost use Rattle.twe_io.specs.Ends.{ends, ends_tell, sink, source};
 
 use crate::alone::text_alone;

@@ -1,7 +1,7 @@
 use Rattle.std.proofs.Common.{Ok, refl, sym, subst}
 use Rattle.twe_io.specs.Ends.{ends, ends_tell, source, sink}
 use Rattle.twe_io.proofs.Answered.{is_answered}
-use Rattle.twe_explain.specs.Answers.{ExplainCause}
+use Rattle.twe_explain.specs.Inputs.{ExplainCause}
 use Rattle.twe_explain.proofs.top.tell_alone.Goals as goal
 
 -- the text is written

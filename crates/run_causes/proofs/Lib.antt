@@ -1,0 +1,6 @@
+-- A beginning of a journal, and its makings.
+pub mod Beginnings
+-- The first effect that clashes.
+pub mod Clashing
+-- The legal moves that were found up to a task.
+pub mod Found

@@ -1,0 +1,4 @@
+pub mod LastBegun
+pub mod Makings
+pub mod Clashes
+pub mod NextMoves

@@ -1,0 +1,38 @@
+-- What the program answers to an input, and why.
+use Rattle.std.specs.Prelude.{◌≡◌, ℕ, List, None, Some, false, true}
+use Rattle.text_answers.specs.Input.{has_mark, journal_part, program_part}
+use Rattle.text_programs.specs.Causes.{TextCause}
+use Rattle.twe_io.specs.declared.answer.Answer.{Answer}
+use Rattle.twe_io.specs.declared.status.Status.{Status}
+use Rattle.twe_io.specs.declared.status.Status.TheVariants.{Done}
+use Rattle.twe_io.specs.Ends.{Ends, EndsTell, SourceTells}
+use Rattle.twe_io.specs.Answers.{IsAnswered, on_out}
+use Rattle.twe_explain.specs.Alone.{text_alone}
+use Rattle.twe_explain.specs.Answers.{ExplainDue}
+use Rattle.twe_explain.specs.Journals.{PartsDue}
+use Rattle.twe_explain.specs.Page.{explain_usage_text}
+use Rattle.twe_explain.specs.Words.{wish_of}
+use Rattle.twe_explain.specs.declared.words.Wanted.{Wanted}
+
+-- The answer to an input that was read. All of it is on out.
+pub data InputDue (wanted : Wanted) (input : List ℕ) : Answer → Type 0 where
+  -- no line is exactly `%%`, and the input is a text; the status is that of `twe check`
+  whole : {answer : Answer} → has_mark input ≡ false → ExplainDue wanted input answer → InputDue wanted input answer
+  -- after the first line that is exactly `%%` comes a journal; the status is that of `twe replay`
+  parts : {answer : Answer} → has_mark input ≡ true → PartsDue wanted (program_part input) (journal_part input) answer
+      → InputDue wanted input answer
+
+-- Why the program gives an answer, before it writes anything.
+pub data ExplainCause {S : Type 0} (tells : SourceTells S) (words : List (List ℕ)) (before after : S) : Answer → Type 0 where
+  -- the words ask for a text by themselves, and nothing is read
+  alone : (text : List ℕ) → text_alone words ≡ Some text → after ≡ before
+      → ExplainCause tells words before after (on_out Done text)
+  -- they ask for the answer to a text, or for nothing that the program does
+  of_text : {answer : Answer} → text_alone words ≡ None
+      → TextCause wish_of explain_usage_text InputDue tells words before after answer
+      → ExplainCause tells words before after answer
+
+-- what a call of the program comes to: an answer that has its cause is written; or memory runs out, and nothing is written
+abbrev pub AnswersExplain : {S O E : Type 0} → EndsTell S O E → List (List ℕ) → Ends S O E → Ends S O E → Status
+    → Type 0
+AnswersExplain tells words before after status = IsAnswered tells (ExplainCause tells.src words) before after status
