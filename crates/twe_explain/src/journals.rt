@@ -149,7 +149,7 @@ fn answer_run(
             answer_fault(alloc, wanted, text, p, lim, journal, st, fault)
         }
         Outcome::Stuck => answer_stuck(alloc, wanted, text, p, lim, journal, st),
-        Outcome::Unfinished => answer_unfinished(alloc, wanted, text, p, lim, journal, st),
+        Outcome::Unfinished => answer_unfinished(alloc, wanted, text, p, st, journal, lim),
     }
 }
 
@@ -210,9 +210,9 @@ fn answer_unfinished(
     wanted: &Wanted,
     text: &[u8],
     p: &Prog,
-    lim: Limits,
-    journal: &Journal,
     st: &State,
+    journal: &Journal,
+    lim: Limits,
 ) -> Result<Answer, Memory>
     requires run { IsRun p.now lim journal.now st.now }
     requires unfinished { IsOutcome st.now outcomes.Unfinished }

@@ -117,8 +117,8 @@ fn moves_notes(
     alloc: Global,
     p: &Prog,
     st: &State,
-    makings: &[Making],
     moves: &[Move],
+    makings: &[Making],
 ) -> Result<List<Note>, Memory>
     ensures { IfOk result (λ notes. notes ≡ flat_map (next_notes p.now st.now makings.now) moves.now) }
 {
@@ -154,7 +154,7 @@ pub(crate) fn next_explanation(
     let headline = b"the journal ends here, and each of these moves may come next";
     Ok(Explanation {
         headline: Bytes::from_slice(alloc, headline)?,
-        notes: moves_notes(alloc, p, st, makings, moves)?,
+        notes: moves_notes(alloc, p, st, moves, makings)?,
         remarks: next_remarks(alloc, moves.len())?,
     })
 }
