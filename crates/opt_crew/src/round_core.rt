@@ -122,15 +122,29 @@ impl<N: RoundName> RoundCore<N> {
 
     /// Whether a single worker leaves the run to several, when it finds that a task may run. It does if these may gain by it.
     fn leaves_at(&mut self, task: u32) -> bool {
-        let Some(run) = self.core.run() else {
-            return false;
-        };
-        let waited = has_waited(&run.state, task);
-        if !self.pace.may_gain(self.is_brief(task), waited) {
-            return false;
+        let may_gain = self.may_gain(task);
+        if may_gain {
+            self.leave();
         }
-        self.pace.leave(&run.state);
-        true
+        may_gain
+    }
+
+    /// Whether several workers may gain by the run, in which this task may run.
+    fn may_gain(&self, task: u32) -> bool {
+        match self.core.run() {
+            Some(run) => {
+                let waited = has_waited(&run.state, task);
+                self.pace.may_gain(self.is_brief(task), waited)
+            }
+            None => false,
+        }
+    }
+
+    /// Leaves the run to several workers.
+    fn leave(&mut self) {
+        if let Some(run) = self.core.run() {
+            self.pace.leave(&run.state);
+        }
     }
 
     /// What one of several workers may do next for a task of which it has no draft. If the task may run and its next segment is
