@@ -8,7 +8,7 @@ use Rattle.opt_crew.specs.contracts.sharing.Shared as Shared
 use Rattle.opt_crew.proofs.round_core.RoundCore.TheSendSync as core
 use Rattle.opt_engine.proofs.hints.Hints.TheSendSync as hints
 use Rattle.twe_rounds.proofs.Crossing.{game_sync, tuple_sync}
-use Rattle.twe_rounds.proofs.progress.Progress.TheSendSync as progress
+use Rattle.twe_rounds.proofs.progress.RoundProgress.TheSendSync as progress
 use Rattle.opt_crew.proofs.sharing.together.Goals as goal
 
 -- the workers share the gate, the program, the progress, the hints and the run under its lock
