@@ -2,8 +2,8 @@
 //!
 //! Each of several workers needs a thread, and the tasks that are not done are dealt to them. While all segments are brief, they
 //! keep one another waiting. So a single worker has the run as long as its segments are brief. Several get it once a task may run
-//! whose next segment may be long, beside another one that may go on. They give it back after some brief segments beside which no
-//! draft was run or kept. Work pays for each change, so that changes cost no more than the work. All that is counted here is an
+//! whose next segment may be long, beside another one that may go on, or that has made one that may be long. They give it back after
+//! some brief segments beside which no draft was run or kept. Work pays for each change, so that changes cost no more than the work. All that is counted here is an
 //! estimate, on which no clause rests.
 
 use seg_journal::End;
@@ -21,9 +21,6 @@ const PER_TASK: u64 = 64;
 /// After how many brief segments several workers give the run back.
 const CALM: u32 = 32;
 
-/// How many tasks that may be long a task makes before several workers get the run.
-const MANY: u32 = 16;
-
 /// How a run has gone so far.
 #[derive(Clone, Copy, Debug)]
 pub(crate) struct Pace {
@@ -37,8 +34,8 @@ pub(crate) struct Pace {
     going: u32,
     /// The task that has run last.
     runs: Option<u32>,
-    /// How many tasks that may be long it has made since another one ran.
-    made: u32,
+    /// Whether it has made a task that may be long since another one ran.
+    made: bool,
     /// How many brief segments were run one after another, beside which no draft was run or kept.
     calm: u32,
 }
@@ -52,7 +49,7 @@ impl Pace {
             left: false,
             going: 0,
             runs: None,
-            made: 0,
+            made: false,
             calm: 0,
         }
     }
@@ -62,7 +59,7 @@ impl Pace {
         self.left = false;
         self.going = count_going(state);
         self.runs = None;
-        self.made = 0;
+        self.made = false;
         self.calm = 0;
     }
 
@@ -87,7 +84,7 @@ impl Pace {
     /// comes after a wait or not.
     pub(crate) fn may_gain(&self, is_brief: bool, waited: bool) -> bool {
         let is_paid = self.work >= self.due;
-        is_paid && (self.made >= MANY || (!is_brief && self.has_others(waited)))
+        is_paid && (self.made || (!is_brief && self.has_others(waited)))
     }
 
     /// Whether a task may go on beside one whose next segment comes after a wait or not.
@@ -109,9 +106,9 @@ impl Pace {
     pub(crate) fn note(&mut self, task: u32, waited: bool, end: End, may_be_long: bool) {
         if self.runs != Some(task) {
             self.runs = Some(task);
-            self.made = 0;
+            self.made = false;
         }
-        self.made = self.made.saturating_add(may_be_long as u32);
+        self.made = self.made || may_be_long;
         let going = self.going.saturating_add(waited as u32);
         self.going = match end {
             End::Made { .. } => going.saturating_add(1),
