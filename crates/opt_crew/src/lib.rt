@@ -14,10 +14,8 @@ mod learned;
 mod looking;
 mod named_drafted;
 mod named_start;
-mod pace;
 mod round_core;
 mod rounds;
-mod seen;
 mod sharing;
 mod trail;
 

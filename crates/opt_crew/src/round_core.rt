@@ -3,12 +3,10 @@ ghost use Rattle.std.specs.Prelude.{◌≡◌, IfSome};
 ghost use Rattle.opt_crew.specs.Keeping.{Keeps};
 
 use crate::at_work::AtWork;
-use crate::learned::{Learned, is_brief_cost};
+use crate::learned::Learned;
 use crate::looking::{decl_of, fuel_of, look_at};
 use crate::named_drafted::NamedDrafted;
 use crate::named_start::{NamedScratch, PlainStart};
-use crate::pace::{Pace, has_waited};
-use crate::seen::Seen;
 use crate::trail::Glance;
 use opt_engine::{Core, CoreRun, Hints, Verdict};
 use seg_journal::End;
@@ -36,10 +34,7 @@ pub(crate) enum Tried<N: RoundName> {
 pub(crate) struct RoundCore<N: RoundName> {
     core: Core<N>,
     learned: Learned,
-    pace: Pace,
     at_work: AtWork,
-    // How many drafts workers keep because their tasks are held back.
-    kept: u32,
 }
 
 impl<N: RoundName> Model for RoundCore<N> {
@@ -55,33 +50,23 @@ impl<N: RoundName> Model for RoundCore<N> {
 }
 
 impl<N: RoundName> RoundCore<N> {
-    /// The core of a round that begins with this run, of which so much was seen.
-    pub(crate) fn new(alloc: Global, lim: Limits, run: CoreRun, seen: Seen) -> Result<Self, Memory>
+    /// The core of a round that begins with this run.
+    pub(crate) fn new(alloc: Global, lim: Limits, run: CoreRun) -> Result<Self, Memory>
         requires named { lim ≡ N.lim }
         requires keeps { Keeps N.prog N.lim N.earlier run }
     {
-        let Seen { learned, mut pace } = seen;
-        pace.begin(&run.state);
         Ok(RoundCore {
             core: Core::of(alloc, lim, run)?,
-            learned,
-            pace,
+            learned: Learned::new(alloc),
             at_work: AtWork::new(alloc),
-            kept: 0,
         })
     }
 
-    /// The run after the round, or `None` if it is lost, with what was seen of it.
-    pub(crate) fn into_run(self, seen: &mut Seen) -> Option<CoreRun>
+    /// The run after the round, or `None` if it is lost.
+    pub(crate) fn into_run(self) -> Option<CoreRun>
         ensures { IfSome result (Keeps N.prog N.lim N.earlier) }
     {
-        let RoundCore {
-            core,
-            learned,
-            pace,
-            ..
-        } = self;
-        *seen = Seen { learned, pace };
+        let RoundCore { core, .. } = self;
         core.into_run()
     }
 
@@ -103,62 +88,15 @@ impl<N: RoundName> RoundCore<N> {
         Ok(look_at(&run.state, task, glance))
     }
 
-    /// What a single worker that has others may do next for a task. If it leaves the run to them, it gives up all tasks.
-    pub(crate) fn look_alone(
-        &mut self,
-        game: &Game<'_, N>,
-        task: u32,
-        glance: Glance,
-    ) -> Result<Outlook, Memory> {
-        if self.pace.was_left() {
-            return Ok(Outlook::Over);
-        }
-        let outlook = self.look(game, task, glance)?;
-        if outlook == Outlook::Runs && self.leaves_at(task) {
-            return Ok(Outlook::Over);
-        }
-        Ok(outlook)
-    }
-
-    /// Whether a single worker leaves the run to several, when it finds that a task may run. It does if these may gain by it.
-    fn leaves_at(&mut self, task: u32) -> bool {
-        let may_gain = self.may_gain(task);
-        if may_gain {
-            self.leave();
-        }
-        may_gain
-    }
-
-    /// Whether several workers may gain by the run, in which this task may run.
-    fn may_gain(&self, task: u32) -> bool {
-        match self.core.run() {
-            Some(run) => {
-                let waited = has_waited(&run.state, task);
-                self.pace.may_gain(self.is_brief(task), waited)
-            }
-            None => false,
-        }
-    }
-
-    /// Leaves the run to several workers.
-    fn leave(&mut self) {
-        if let Some(run) = self.core.run() {
-            self.pace.leave(&run.state);
-        }
-    }
-
-    /// What one of several workers may do next for a task of which it has no draft. If the task may run and its next segment is
-    /// not known to be brief, the start of it comes too, and the task is at work from now on. If drafts of its declaration change
-    /// often, a rival that is at work holds the task back. If the workers leave the run to a single one, they give up all tasks.
+    /// What may be done next for a task of which the worker has no draft. If the task may run and its next segment is not known
+    /// to be brief, the start of it comes too, and the task is at work from now on. If drafts of its declaration change often, a
+    /// rival that is at work holds the task back.
     pub(crate) fn look_ahead(
         &mut self,
         game: &Game<'_, N>,
         task: u32,
         glance: Glance,
     ) -> Result<(Outlook, Option<PlainStart>), Memory> {
-        if self.pace.leaves() {
-            return Ok((Outlook::Over, None));
-        }
         let outlook = self.look(game, task, glance)?;
         if outlook != Outlook::Runs || self.is_brief(task) {
             return Ok((outlook, None));
@@ -233,41 +171,25 @@ impl<N: RoundName> RoundCore<N> {
             return Ok(None);
         }
         let before = fuel_of(&run.state, task);
-        let waited = has_waited(&run.state, task);
         let went = self.core.go_on(game.prog(), task, hints)?;
-        self.learn_went(task, before, waited, went)
+        self.learn_went(task, before, went)
     }
 
     /// Notes what the last segment of a task cost, if its moves were taken, and returns the end of the last of them. The task had
-    /// so much fuel before it, and had waited or not.
+    /// so much fuel before.
     fn learn_went(
         &mut self,
         task: u32,
         before: u64,
-        waited: bool,
         went: Option<u64>,
     ) -> Result<Option<End>, Memory> {
         match went {
             None => Ok(None),
             Some(number) => {
                 self.note_cost(task, before)?;
-                let end = end_at(self.core.run(), number);
-                self.note_end(task, waited, end);
-                Ok(end)
+                Ok(end_at(self.core.run(), number))
             }
         }
-    }
-
-    /// Notes the end of a segment of a task, which had waited before it or not.
-    fn note_end(&mut self, task: u32, waited: bool, end: Option<End>) {
-        let Some(end) = end else {
-            return;
-        };
-        let may_be_long = match end {
-            End::Made { child } => !self.is_brief(child),
-            _ => false,
-        };
-        self.pace.note(task, waited, end, may_be_long);
     }
 
     /// Notes what the last segment of a task cost, which had so much fuel before it.
@@ -279,8 +201,6 @@ impl<N: RoundName> RoundCore<N> {
             return Ok(());
         };
         let cost = before.saturating_sub(fuel_of(&run.state, task));
-        let is_calm = is_brief_cost(cost) && self.kept == 0 && self.at_work.is_empty();
-        self.pace.count(cost, is_calm);
         self.learned.note_cost(decl, cost)
     }
 
@@ -294,13 +214,12 @@ impl<N: RoundName> RoundCore<N> {
         was_held: bool,
     ) -> Result<Tried<N>, Memory> {
         let at_risk = self.at_work.end(drafted.task()) || was_held;
-        self.kept = self.kept.saturating_sub(was_held as u32);
         let run = self.core.run().ok_or(lost())?;
         if run.state.first_fault.is_some() {
             return Ok(Tried::Dropped);
         }
         if self.core.bar(game.prog(), drafted.task())?.is_some() {
-            return Ok(self.keep(drafted));
+            return Ok(Tried::Held(drafted));
         }
         let decl = drafted.decl();
         let cost = drafted.cost();
@@ -312,7 +231,7 @@ impl<N: RoundName> RoundCore<N> {
                 self.learn_taken(decl, cost, at_risk)?;
                 Ok(self.taken(number))
             }
-            Verdict::Held { draft, .. } => Ok(self.keep(NamedDrafted::new(draft))),
+            Verdict::Held { draft, .. } => Ok(Tried::Held(NamedDrafted::new(draft))),
             Verdict::Passed => Ok(Tried::Dropped),
             Verdict::Changed { .. } => {
                 self.learned.note_changed(decl)?;
@@ -321,19 +240,12 @@ impl<N: RoundName> RoundCore<N> {
         }
     }
 
-    /// Gives a draft back whose task is held back, and counts it.
-    fn keep(&mut self, drafted: NamedDrafted<N>) -> Tried<N> {
-        self.kept = self.kept.saturating_add(1);
-        Tried::Held(drafted)
-    }
-
     /// Notes that a draft of a task of this declaration was taken, what its segment cost, and whether what it had read could have
     /// changed meanwhile.
     fn learn_taken(&mut self, decl: u32, cost: u64, at_risk: bool) -> Result<(), Memory> {
         if at_risk {
             self.learned.note_kept(decl)?;
         }
-        self.pace.count(cost, false);
         self.learned.note_cost(decl, cost)
     }
 
