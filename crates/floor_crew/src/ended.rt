@@ -33,8 +33,8 @@ impl Ended {
         }
     }
 
-    /// A task has ended with a value. If it is known which one waited for it, this worker goes on with that one, whoever has it on
-    /// his list.
+    /// A task has ended with a value. If it is known which one waited for it, this worker goes on with that one, whoever has it
+    /// on his list.
     pub(crate) fn end(&mut self, task: u32, waiter: Option<u32>) -> Result<(), Memory> {
         self.done.push((task, waiter))?;
         Ok(())

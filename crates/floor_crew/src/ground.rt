@@ -111,8 +111,8 @@ impl<'a, N: Named + Planted, F: Located> Ground<'a, N, F> {
         }
     }
 
-    /// Admits a task if it may be admitted. One that was held back is tried again if what held it is about to go, and one whose turn
-    /// another worker has if that one is about to give it back.
+    /// Admits a task if it may be admitted. One that was held back is tried again if what held it is about to go, and one whose
+    /// turn another worker has if that one is about to give it back.
     fn admit<R: Wait>(
         &self,
         rt: &R,

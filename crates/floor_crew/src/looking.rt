@@ -18,8 +18,8 @@ pub(crate) enum Found {
     Held { by: u32 },
     /// It may run.
     Runs,
-    /// It waits for the task `on`. If the chain of waits from there is short and ends at a task that is still to be admitted, that
-    /// is `next`.
+    /// It waits for the task `on`. If the chain of waits from there is short and ends at a task that is still to be admitted,
+    /// that is `next`.
     Waits { on: u32, next: Option<u32> },
     /// Nothing is left to do for it.
     Over,

@@ -4,8 +4,8 @@ use std::alloc::Global;
 use std::sync::atomic::{AtomicU32, Ordering};
 use twe_base::Memory;
 
-/// The tasks that were found to wait in a round, beside those that they wait for. What is read here only says where to look: whether
-/// a task may run is found on the floor.
+/// The tasks that were found to wait in a round, beside those that they wait for. What is read here only says where to look:
+/// whether a task may run is found on the floor.
 #[derive(Drop)]
 pub(crate) struct Waiters {
     // By the number of a task one more than that of the task that waits for it, or 0 if none was found.

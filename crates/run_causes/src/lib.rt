@@ -1,5 +1,5 @@
-//! Why a run goes no further, as data: where its tasks stand, who made them, which effects of two tasks interfere, and which moves
-//! are legal next.
+//! Why a run goes no further, as data: where its tasks stand, who made them, which effects of two tasks interfere, and which
+//! moves are legal next.
 //!
 //! What is found here is true of the state that a journal leads to. How it is written for people is left to the crate above.
 #![tactic(auto)]

@@ -2,12 +2,16 @@
 
 -- One stretch of steps after another.
 pub mod Strides
+pub mod Moving
 -- What is done at once for a continuation frame.
 pub mod Performing
 pub mod Returning
+pub mod GivenBack
 -- Expressions and assignments that call no method.
 pub mod Evaluating
 pub mod Assigning
--- Statements, and arguments, one after another.
+-- Statements, arguments and the arms of an `if`, one after another.
 pub mod GoingOn
 pub mod Gathering
+pub mod Picking
+pub mod Branching

@@ -1,9 +1,8 @@
 //! The body of a declaration: its statements, and its variables at its start.
-ghost use Rattle.std.specs.Prelude.{◌≡◌, IfOk, option_copied};
+ghost use Rattle.std.specs.Prelude.{◌≡◌, ◌++◌, pos, replicate, IfOk, OnOk, option_copied};
 ghost use Rattle.twe_program.specs.Statement.{statements_of};
 ghost use Rattle.seg_exec.specs.Meaning.{body_of, var_count_of, vars_at_start};
 
-use std::alloc::Global;
 use twe_base::{Ints, Memory};
 use twe_program::{Decl, Stmt};
 
@@ -29,17 +28,24 @@ fn var_count(decl: Option<&Decl>) -> usize
     }
 }
 
+/// Appends zeros to a list.
+#[inline(always)]
+fn push_zeros(vars: &mut Ints, count: usize) -> Result<(), Memory>
+    ensures { OnOk result (vars.new ≡ vars.old ++ replicate count (pos 0)) }
+{
+    for _ in 0..count {
+        vars.push(0)?;
+    }
+    Ok(())
+}
+
 /// The variables of a body at its start: the arguments, and then 0 for each local.
 #[inline(always)]
-pub(crate) fn vars_at_start(alloc: Global, decl: Option<&Decl>, args: Ints) -> Result<Ints, Memory>
+pub(crate) fn vars_at_start(decl: Option<&Decl>, args: Ints) -> Result<Ints, Memory>
     ensures { IfOk result (λ vars. vars ≡ vars_at_start (option_copied decl.entry) args) }
 {
-    let locals = var_count(decl).saturating_sub(args.len());
-    if locals == 0 {
-        return Ok(args);
-    }
-    let zeros = vec![in alloc; 0i32; locals]?;
     let mut vars = args;
-    vars.push_all(zeros.as_slice())?;
+    let locals = var_count(decl).saturating_sub(vars.len());
+    push_zeros(&mut vars, locals)?;
     Ok(vars)
 }

@@ -164,6 +164,7 @@ fn machine_at<'a>(alloc: Global, p: &'a Prog, frame: &Frame) -> Result<Option<Ma
         vars: body.vars.copy(alloc)?,
         fuel: frame.fuel,
         calls: 0,
+        spare: Pushdown::new(alloc),
     };
     let decl = p.tasks.get(frame.decl as usize);
     machine.unfold(statements(decl), body.open_blocks.as_slice())?;

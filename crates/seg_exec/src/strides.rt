@@ -1,12 +1,18 @@
 //! Strides: several steps of the machine at once. What calls no method is evaluated or assigned at once, by recursion over the
-//! expression, and with the same accesses in the same order as the steps make. All else is done by a step of the machine.
+//! expression, and with the same accesses in the same order as the steps make. A branch and a turn of a loop come next without a
+//! frame of their own. All else is done by a step of the machine.
 
 mod assign;
+mod branch;
 mod choose;
 mod evaluate;
 mod gather;
+mod give;
+pub(crate) mod onward;
 mod perform;
+mod pick;
 mod plain;
 pub(crate) mod run;
 mod serve;
+mod turn;
 pub(crate) mod value;

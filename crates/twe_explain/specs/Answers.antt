@@ -42,11 +42,12 @@ pub data ExplainDue (wanted : Wanted) (text : List ℕ) : Answer → Type 0 wher
   stray : (refusal : Refusal) (tokens : List NextToken) → IsRefusal text refusal → is_of_tokens refusal.rule ≡ true
       → AreNextAt text refusal.place tokens
       → ExplainDue wanted text (on_out Refused (refused_text wanted text refusal (stray_explanation refusal tokens)))
-  -- The text is refused by a rule of names, and the cause is true of its tree: what is needed at the place, and what is there. The
-  -- declaration of the name that stands there is shown, too, if it has one.
+  -- The text is refused by a rule of names, and the cause is true of its tree: what is needed at the place, and what is there.
+  -- The declaration of the name that stands there is shown, too, if it has one.
   named : (refusal : Refusal) (cause : NameNeed) (tree : Ast) → IsRefusal text refusal → is_of_names refusal.rule ≡ true
       → IsTreeOf text tree → IsNameCauseOf tree refusal.rule refusal.place cause
-      → ExplainDue wanted text (on_out Refused (refused_text wanted text refusal (named_explanation text refusal cause tree.items)))
+      → ExplainDue wanted text
+          (on_out Refused (refused_text wanted text refusal (named_explanation text refusal cause tree.items)))
   -- The text is refused, and the cause is true of the program that it means; after the answer of `twe check` comes the cause.
   -- Edits that may mend it are tried, and what is said of those after which it is accepted comes last.
   caused : (refusal : Refusal) (cause : RuleCause) (tree : Ast) (p : Program) (remarks : List (List ℕ))

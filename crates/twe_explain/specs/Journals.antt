@@ -32,7 +32,8 @@ use Rattle.twe_explain.specs.NotLegal.{IllegalTold}
 use Rattle.twe_explain.specs.RunPage.{run_text}
 use Rattle.twe_explain.specs.declared.words.Wanted.{Wanted}
 
--- The answer to a run of the program of a text with this journal, which has led to this state. Its status is that of `twe replay`.
+-- The answer to a run of the program of a text with this journal, which has led to this state. Its status is that of `twe
+-- replay`.
 pub data RunTold (wanted : Wanted) (text : List ℕ) (p : Program) (lim : Bounds) (journal : List Entry) (st : State)
     : Answer → Type 0 where
   -- all tasks are done, and there is the result

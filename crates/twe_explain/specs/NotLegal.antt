@@ -59,7 +59,8 @@ forbidden_notes p st makings task (WaitsFor other) = wait_notes p st task other
 
 -- what would have to be so
 abbrev pub forbidden_remark : State → Why → List ℕ
-forbidden_remark st NoTask = codes "tasks are numbered from 0 as they are made; so many there are before this move: " ++ decimal (length st.tasks)
+forbidden_remark st NoTask =
+  codes "tasks are numbered from 0 as they are made; so many there are before this move: " ++ decimal (length st.tasks)
 forbidden_remark st NotMade = codes "a task is admitted once; a spawned one is enabled as it is made"
 forbidden_remark st (HeldBy holder) = held_rule
 forbidden_remark st NotEnabled = codes "a task runs after its admission, and until it is done"
@@ -73,8 +74,8 @@ forbidden_explanation p st makings task why = record {
   remarks = forbidden_remark st why ∷ [];
 }
 
--- This is written of the first of the moves that is not legal, whose line of `twe replay` is the answer: what is said of it in the
--- state before it.
+-- This is written of the first of the moves that is not legal, whose line of `twe replay` is the answer: what is said of it in
+-- the state before it.
 pub record IllegalTold (wanted : Wanted) (text : List ℕ) (p : Program) (lim : Bounds) (moves : List Move) (n : ℕ) (why : Why)
     (answer page : List ℕ) : Type 0 where
   pub first : IsFirstIllegal p lim moves n why

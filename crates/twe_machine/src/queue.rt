@@ -10,6 +10,9 @@ use crate::state::State;
 use std::alloc::Global;
 use twe_base::{List, Memory};
 
+/// How many waits are followed from one entry whenever another one is entered.
+const SHORT_WALK: usize = 64;
+
 /// A task of a queue.
 #[derive(Clone, Copy, Debug)]
 pub struct Queued {
@@ -29,6 +32,8 @@ pub struct Queue {
     pub entries: List<Queued>,
     /// With so many entries those that are over are taken out.
     pub full: usize,
+    /// How many were entered since walks of any length were made to find whether all wait for the one that is entered.
+    pub unpaid: usize,
 }
 
 impl Queue {
@@ -39,6 +44,7 @@ impl Queue {
         Queue {
             entries: List::new(alloc),
             full: 8,
+            unpaid: 0,
         }
     }
 
@@ -52,19 +58,33 @@ impl Queue {
     {
         self.drop_over(st);
         self.sift(alloc, st)?;
-        self.settle_last(st)?;
-        let decider = self.decider_of(st, t);
+        let most = self.next_walk();
+        self.settle_last(st, most)?;
+        let decider = self.decider_of(st, t, most);
         self.entries.push(Queued { task: t, decider })?;
         Ok(())
     }
 
+    /// How many waits are followed from one entry while another one is entered: a few, and all of them once so many were entered
+    /// since the last time that this costs each of them no more than a few.
+    fn next_walk(&mut self) -> usize
+        ensures { self.new.entries ≡ self.old.entries }
+    {
+        self.unpaid = self.unpaid.saturating_add(1);
+        if self.unpaid <= self.entries.len() / SHORT_WALK {
+            return SHORT_WALK;
+        }
+        self.unpaid = 0;
+        usize::MAX
+    }
+
     /// The place that the entry of a task that comes after the others names.
-    fn decider_of(&self, st: &State, t: u32) -> Option<usize>
+    fn decider_of(&self, st: &State, t: u32, most: usize) -> Option<usize>
         requires { IsDecided st.now.links self.now.entries }
         ensures { IfSome result (MayName st.now.links self.now.entries t) }
     {
         let count = self.entries.len();
-        if self.all_lead(st, count, t) {
+        if self.all_lead(st, count, t, most) {
             return Some(count);
         }
         match self.decider_before(count) {
@@ -75,13 +95,13 @@ impl Queue {
 
     /// Has the last entry decide for those before it if they all wait for its task by now, as a task waits for one that it
     /// has spawned.
-    fn settle_last(&mut self, st: &State) -> Result<(), Memory>
+    fn settle_last(&mut self, st: &State, most: usize) -> Result<(), Memory>
         requires { IsDecided st.now.links self.old.entries }
         ensures kept { OnOk result ((s : ℕ) → IsQueued self.old.entries s → IsQueued self.new.entries s) }
         ensures decided { OnOk result (IsDecided st.now.links self.new.entries) }
     {
         let count = self.entries.len();
-        if count == 0 || !self.decides_by_now(st, count - 1) {
+        if count == 0 || !self.decides_by_now(st, count - 1, most) {
             return Ok(());
         }
         let last = count - 1;
@@ -95,7 +115,7 @@ impl Queue {
     }
 
     /// Whether the entry at a place does not decide yet, and all before it are found to be done or to wait for its task.
-    fn decides_by_now(&self, st: &State, at: usize) -> bool
+    fn decides_by_now(&self, st: &State, at: usize, most: usize) -> bool
         requires there { at < length self.now.entries }
         requires decided { IsDecided st.now.links self.now.entries }
         ensures { IsTrue result → (e : Queued) → slice_get self.now.entries at ≡ Some e
@@ -105,7 +125,7 @@ impl Queue {
         if decides(entry, at) {
             return false;
         }
-        self.all_lead(st, at, entry.task)
+        self.all_lead(st, at, entry.task, most)
     }
 
     /// Takes the tasks at the end out that are over. It takes no memory.

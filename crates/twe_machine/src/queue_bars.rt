@@ -27,7 +27,7 @@ impl Queue {
         if let Some(s) = self.last_bar(st, t) {
             return Some(s);
         }
-        let mut at = self.led_count(st, self.entries.len(), t);
+        let mut at = self.led_count(st, self.entries.len(), t, usize::MAX);
         'looking: while at < self.entries.len() {
             let led = self.passed_from(st, at, t);
             if led <= at {
@@ -71,25 +71,26 @@ impl Queue {
         if !meets(st, s, t) {
             return from + 1;
         }
-        let led = self.led_from(st, from, t);
+        let led = self.led_from(st, from, t, usize::MAX);
         if led > from {
             return led;
         }
         if bars(st, s, t) { from } else { from + 1 }
     }
 
-    /// Whether the tasks of so many first entries are all found to be done or to wait for `t`.
-    pub(crate) fn all_lead(&self, st: &State, count: usize, t: u32) -> bool
+    /// Whether the tasks of so many first entries are all found to be done or to wait for `t`, where so many waits at most are
+    /// followed from one of them.
+    pub(crate) fn all_lead(&self, st: &State, count: usize, t: u32, most: usize) -> bool
         requires most { count ≤ length self.now.entries }
         requires decided { IsDecided st.now.links self.now.entries }
         ensures { IsTrue result → AreLed st.now.links self.now.entries 0 count t }
     {
-        if !self.last_leads(st, count, t) {
+        if !self.last_leads(st, count, t, most) {
             return false;
         }
-        let mut at = self.led_count(st, count, t);
+        let mut at = self.led_count(st, count, t, most);
         'leading: while at < count {
-            let led = self.led_from(st, at, t);
+            let led = self.led_from(st, at, t, most);
             if led <= at {
                 return false;
             }
@@ -100,8 +101,8 @@ impl Queue {
 
     /// Whether the last of so many first tasks waits for `t`, if there is one. It is looked at before the others, since it
     /// tells most often.
-    fn last_leads(&self, st: &State, count: usize, t: u32) -> bool {
-        count == 0 || leads(st, self.task_at(count - 1), t)
+    fn last_leads(&self, st: &State, count: usize, t: u32, most: usize) -> bool {
+        count == 0 || leads(st, self.task_at(count - 1), t, most)
     }
 
     /// The place of the last entry among so many first ones that decides for those before it, if one does.
@@ -117,18 +118,18 @@ impl Queue {
     }
 
     /// How many of the first tasks are known to be done or to wait for `t`, by the last of those that decide and are not
-    /// done. Only so many first ones are looked at.
-    fn led_count(&self, st: &State, most: usize, t: u32) -> usize
+    /// done. Only so many first ones are looked at, and so many waits at most are followed.
+    fn led_count(&self, st: &State, among: usize, t: u32, most: usize) -> usize
         requires { IsDecided st.now.links self.now.entries }
         ensures { AreLed st.now.links self.now.entries 0 result t }
     {
-        let mut count = most;
+        let mut count = among;
         'deciding: while let Some(at) = self.decider_before(count) {
             if at >= count || at >= self.entries.len() {
                 return 0;
             }
             if !is_done(st, self.task_at(at)) {
-                return self.led_up_to(st, at, t);
+                return self.led_up_to(st, at, t, most);
             }
             count = at;
         }
@@ -136,7 +137,7 @@ impl Queue {
     }
 
     /// How many of the first tasks are known to be done or to wait for `t`, by one that decides.
-    fn led_up_to(&self, st: &State, at: usize, t: u32) -> usize
+    fn led_up_to(&self, st: &State, at: usize, t: u32, most: usize) -> usize
         requires there { at < length self.now.entries }
         requires decides { DecidesAt st.now.links self.now.entries at }
         ensures { AreLed st.now.links self.now.entries 0 result t }
@@ -147,23 +148,26 @@ impl Queue {
         if is_done(st, s) {
             return 0;
         }
-        if leads(st, s, t) { at + 1 } else { 0 }
+        if leads(st, s, t, most) { at + 1 } else { 0 }
     }
 
-    /// The first place from `from` on whose task is not found to wait for `t` on a walk along the waits from the task at `from`.
-    fn led_from(&self, st: &State, from: usize, t: u32) -> usize
+    /// The first place from `from` on whose task is not found to wait for `t` on a walk along the waits from the task at
+    /// `from`, of so many waits at most.
+    fn led_from(&self, st: &State, from: usize, t: u32, most: usize) -> usize
         requires { from < length self.now.entries }
         ensures { AreLed st.now.links self.now.entries from result t }
     {
         let mut at = self.task_at(from);
         let mut next = self.past(from, at);
+        let mut left = most;
         // A task waits only for tasks with higher numbers.
-        'walking: while at < t {
+        'walking: while at < t && left > 0 {
             let Some(on) = awaited_by(st, at) else {
                 return from;
             };
             at = on;
             next = self.past(next, at);
+            left -= 1;
         }
         if at == t { next } else { from }
     }
@@ -199,17 +203,19 @@ fn is_done(st: &State, t: u32) -> bool
     t < st.links.task_count() && st.links.link(t).done
 }
 
-/// Whether a task is found to wait for `t`, directly or through others, or is `t`.
-fn leads(st: &State, s: u32, t: u32) -> bool
+/// Whether a task is found to wait for `t`, directly or through others, or is `t`, where so many waits at most are followed.
+fn leads(st: &State, s: u32, t: u32, most: usize) -> bool
     ensures { IsTrue result → WaitsOn st.now.links s t }
 {
     let mut at = s;
+    let mut left = most;
     // A task waits only for tasks with higher numbers.
-    'walking: while at < t {
+    'walking: while at < t && left > 0 {
         let Some(on) = awaited_by(st, at) else {
             return false;
         };
         at = on;
+        left -= 1;
     }
     at == t
 }

@@ -30,8 +30,8 @@ impl Outlook {
     }
 }
 
-/// The task at which the chain of waits from a task ends, if it is still to be admitted and no more than `MOST_WAITS` tasks wait on
-/// the way to it.
+/// The task at which the chain of waits from a task ends, if it is still to be admitted and no more than `MOST_WAITS` tasks
+/// wait on the way to it.
 pub fn next_to_admit(state: &State, task: u32) -> Option<u32> {
     let mut at = task;
     for _ in 0..MOST_WAITS {

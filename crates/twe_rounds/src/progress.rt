@@ -64,9 +64,9 @@ impl RoundProgress {
         self.word.load(Ordering::SeqCst)
     }
 
-    /// The stage of the round if it stood so before the caller looked for something to do, and still stands so with no number left.
-    /// At an even stage a worker has found nothing to do since the last segment was run, and at the next one it has looked at all
-    /// tasks of its list since then.
+    /// The stage of the round if it stood so before the caller looked for something to do, and still stands so with no number
+    /// left. At an even stage a worker has found nothing to do since the last segment was run, and at the next one it has
+    /// looked at all tasks of its list since then.
     pub(crate) fn stage_since(&self, before: u64) -> Option<u64> {
         if before % UPPER != 0 || self.read() != before {
             return None;

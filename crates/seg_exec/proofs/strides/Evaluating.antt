@@ -5,12 +5,13 @@ use Rattle.twe_base.specs.declared.place.Place.{Place}
 use Rattle.twe_base.specs.declared.fault.FaultKind.TheVariants.{Index}
 use Rattle.twe_ast.specs.declared.expr.BinOp.{BinOp}
 use Rattle.twe_program.specs.Program.{Program}
-use Rattle.twe_program.specs.Expression.{Expression, Literal, Truth, Variable, CellValue, ArrayElement, GridElement, Negative, Negation, Binary}
+use Rattle.twe_program.specs.Expression.{Expression, Literal, Truth, Variable, CellValue, ArrayElement, GridElement, CallValue, Negative, Negation, Binary}
 use Rattle.seg_exec.specs.declared.strides.value.Fault.{Fault}
 use Rattle.seg_exec.specs.Access.{HasRead, Ways, value_in}
 use Rattle.seg_exec.specs.Arithmetic.{decided, is_true, negation, negative, number_of, operated}
 use Rattle.seg_exec.specs.Cells.{cell_number, element_number, grid_element_number}
 use Rattle.seg_exec.specs.inner.steps.Continuations.{Continuation, Config, Apply, Evaluate, Invert, Negate, ReadElement, ReadGridElement, Right}
+use Rattle.seg_exec.specs.inner.strides.Leaves.{leaf_value}
 use Rattle.seg_exec.specs.inner.strides.Plainly.{is_plain}
 use Rattle.seg_exec.specs.inner.steps.Reached.{MayRequest, Served, Standing}
 use Rattle.seg_exec.specs.inner.steps.Steps.{Step, applied, read_at, right_by, step_of}
@@ -34,6 +35,20 @@ module _ {C : Type 0} (p : Program) (ways : Ways C) (vars : List ℤ) where
   cell_read cell place old new value has work operands fuel calls prints =
       one_step p ways (stand (Evaluate (CellValue cell place) ∷ work) operands vars fuel calls old prints) (stand work (value ∷ operands) vars fuel calls new prints)
       (value, refl, refl, has, refl)
+
+  -- a literal or a variable
+  pub leaf : (e : Expression) (value : ℤ) (cells : C) → leaf_value e vars ≡ Some value → EvaluatesTo p ways e vars cells (Ok value) cells
+  leaf (Literal found) value cells is = subst (λ (v : ℤ). EvaluatesTo p ways (Literal found) vars cells (Ok v) cells) (let same : found ≡ value = cc in same) (literal found cells)
+  leaf (Variable var fixed) value cells is =
+      subst (λ (v : ℤ). EvaluatesTo p ways (Variable var fixed) vars cells (Ok v) cells) (let same : value_in (slice_get vars var) ≡ value = cc in same) (variable var fixed cells)
+  leaf (Truth found) value cells is = absurd (cc)
+  leaf (CellValue cell place) value cells is = absurd (cc)
+  leaf (ArrayElement array index place) value cells is = absurd (cc)
+  leaf (GridElement array row column place) value cells is = absurd (cc)
+  leaf (CallValue method args place) value cells is = absurd (cc)
+  leaf (Negative operand) value cells is = absurd (cc)
+  leaf (Negation operand) value cells is = absurd (cc)
+  leaf (Binary op left right place) value cells is = absurd (cc)
 
   -- what comes after some steps
   gives_after : (from mid : Standing C) (work : List Continuation) (operands : List ℤ) (fuel calls : ℕ) (prints : List ℤ) (result : Result ℤ Fault) (new : C)

@@ -9,7 +9,7 @@ use Rattle.seg_exec.specs.Access.{Ways}
 use Rattle.seg_exec.specs.inner.strides.Assignments.{Does, MayDo, executing}
 use Rattle.seg_exec.specs.inner.steps.Continuations.{Config, Execute, Rest, to_do}
 use Rattle.seg_exec.specs.inner.steps.Reached.{Standing}
-use Rattle.seg_exec.specs.inner.steps.Steps.{rested}
+use Rattle.seg_exec.specs.inner.steps.Steps.{executed, on, rested}
 use Rattle.seg_exec.specs.inner.strides.Strides.{Ends, Goes, MayGo, Nears, doing, fault_ending}
 use Rattle.seg_exec.proofs.strides.Performing.{placed}
 use Rattle.seg_exec.proofs.strides.Strides.{ends_alike, may_then, silent, then_ends, then_goes}
@@ -41,6 +41,14 @@ module _ {C : Type 0} (p : Program) (ways : Ways C) (block at : ℕ) (stmts : Li
     first config cells prints =
         silent p ways (rest_at block at stmts (placed config cells prints)) (to_do (Execute s) (to_do (Rest block (at + 1) (statements_of (drop (at + 1) stmts))) config))
         (ap (λ (l : List Statement). rested block at (statements_of l) config) is)
+
+    -- the first step of the statement
+    pub into : (tasks : Config → Config) → ((c : Config) → executed s c ≡ on (tasks c)) → (config : Config) (cells : C) (prints : List ℤ)
+        → Goes p ways (rest_at block at stmts (placed config cells prints)) (placed (tasks (to_do (Rest block (at + 1) (statements_of (drop (at + 1) stmts))) config)) cells prints)
+    into tasks is-first config cells prints =
+        then_goes p ways _ _ _ (first config cells prints)
+        (silent p ways (doing (Execute s) (rest_at block (at + 1) stmts (placed config cells prints))) (tasks (to_do (Rest block (at + 1) (statements_of (drop (at + 1) stmts))) config))
+        (is-first (to_do (Rest block (at + 1) (statements_of (drop (at + 1) stmts))) config)))
 
     pub may_first : (config : Config) (cells : C) (prints : List ℤ) → MayGo p ways (rest_at block at stmts (placed config cells prints)) → MayDo p ways (executing s) config.vars cells
     may_first config cells prints may = record {

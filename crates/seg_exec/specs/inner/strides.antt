@@ -1,3 +1,6 @@
 pub mod Assignments
+pub mod Leaves
+pub mod Moving
+pub mod Picking
 pub mod Plainly
 pub mod Strides

@@ -103,7 +103,7 @@ impl<'a> Machine<'a> {
         match goal {
             Goal::Enter { method, place } => {
                 let decl = p.methods.get(method as usize);
-                self.enter(alloc, decl, args, place)
+                self.enter(decl, args, place)
             }
             Goal::Make {
                 future,
@@ -126,13 +126,7 @@ impl<'a> Machine<'a> {
     /// Enters a method, which takes a unit of fuel. It is a fault if no fuel is left, or if `MAX_ACTIVE_CALLS` calls are
     /// active already.
     #[inline(always)]
-    fn enter(
-        &mut self,
-        alloc: Global,
-        decl: Option<&'a Decl>,
-        args: Ints,
-        place: Place,
-    ) -> Result<Request, Memory>
+    fn enter(&mut self, decl: Option<&'a Decl>, args: Ints, place: Place) -> Result<Request, Memory>
         ensures { IfOk result (λ request. (request, config_of self.new) ≡
             entering (option_copied decl.entry) args place (config_of self.old)) }
     {
@@ -144,7 +138,7 @@ impl<'a> Machine<'a> {
             return Ok(fault(FaultKind::Depth, place));
         }
         self.calls += 1;
-        let vars = vars_at_start(alloc, decl, args)?;
+        let vars = vars_at_start(decl, args)?;
         let caller = mem::replace(&mut self.vars, vars);
         self.push(Continuation::Leave(caller))?;
         self.push(Continuation::Rest {

@@ -1,5 +1,5 @@
 //! The state of the evaluator: its continuation, its operand stack, the variables and the counts.
-ghost use Rattle.std.specs.Prelude.{◌≡◌, IfOk};
+ghost use Rattle.std.specs.Prelude.{◌≡◌, [], IfOk};
 ghost use Rattle.seg_exec.specs.inner.steps.Continuations.{Evaluate, to_do, top, with_operand, without_operand};
 ghost use Rattle.seg_exec.specs.inner.steps.Steps.{on};
 ghost use Rattle.seg_exec.specs.declared.steps.request.Request.TheVariants.{End};
@@ -9,6 +9,7 @@ ghost use Rattle.seg_exec.specs.inner.steps.Views.{continuation_of, config_of, u
 use crate::steps::continuation::{Continuation, ValueUse};
 use crate::steps::pushdown::Pushdown;
 use crate::steps::request::{Ending, Request};
+use std::alloc::Global;
 use twe_base::{FaultKind, Ints, Memory, Place};
 use twe_program::Expr;
 
@@ -32,6 +33,8 @@ pub(crate) struct Machine<'a> {
     pub(crate) fuel: u64,
     /// How many method calls are active.
     pub(crate) calls: u32,
+    /// Lists that no call uses any more. A call takes one for its variables, so that most calls take no memory.
+    pub(crate) spare: Pushdown<Ints>,
 }
 
 impl<'a> Machine<'a> {
@@ -72,6 +75,22 @@ impl<'a> Machine<'a> {
         self.push(Continuation::UseValue(then))?;
         self.push(Continuation::Evaluate(expr))?;
         Ok(Request::Nothing)
+    }
+
+    /// An empty list: a spare one, or else a new one with memory for `room` items.
+    #[inline(always)]
+    pub(crate) fn empty_list(&mut self, alloc: Global, room: usize) -> Result<Ints, Memory>
+        ensures list { IfOk result (λ list. list ≡ []) }
+        ensures config { config_of self.new ≡ config_of self.old }
+    {
+        match self.spare.pop() {
+            None => Ints::with_capacity(alloc, room),
+            Some(spare) => {
+                let mut list = spare;
+                list.truncate(0);
+                Ok(list)
+            }
+        }
     }
 
     /// Pops the latest value; returns 0 if there is none.

@@ -10,6 +10,7 @@ use crate::steps::continuation::{Continuation, Recovered, ValueUse};
 use crate::steps::held::Held;
 use crate::steps::machine::{Machine, fault};
 use crate::steps::request::{Ending, Request};
+use std::mem;
 use twe_base::{FaultKind, Ints, Memory, Place};
 use twe_program::{Arm, Block, Stmt};
 
@@ -127,7 +128,8 @@ impl<'a> Machine<'a> {
         ensures { IfOk result (λ _. config_of self.new ≡ back_with value vars (config_of self.old)) }
     {
         self.push_operand(value)?;
-        self.vars = vars;
+        let spare = mem::replace(&mut self.vars, vars);
+        self.spare.push(spare)?;
         self.calls = self.calls.saturating_sub(1);
         Ok(())
     }

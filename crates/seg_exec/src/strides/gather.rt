@@ -95,7 +95,7 @@ pub(crate) fn call<'a, C: Cells>(
     ensures { IfOk result (Strides p.now C.known C.may_read C.may_write C.rule (Gather [] args.now (Enter method place))
         machine.old cells.old prints.old machine.new cells.new prints.new) }
 {
-    let taken = Ints::with_capacity(alloc, args.items.len())?;
+    let taken = machine.empty_list(alloc, args.items.len())?;
     let goal = Goal::Enter { method, place };
     gather(
         alloc,

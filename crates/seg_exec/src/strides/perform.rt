@@ -2,6 +2,7 @@
 ghost use Rattle.std.specs.Prelude.{◌<◌, IfOk, drop, length};
 ghost use Rattle.twe_program.specs.Statement.{statements_of};
 ghost use Rattle.seg_exec.specs.inner.steps.Continuations.{Execute, Rest};
+ghost use Rattle.seg_exec.specs.inner.strides.Moving.{MovesOn};
 ghost use Rattle.seg_exec.specs.inner.strides.Strides.{MayStride, Strides};
 ghost use Rattle.seg_exec.specs.inner.steps.Views.{continuation_of};
 
@@ -10,10 +11,15 @@ use crate::steps::continuation::{Continuation, Gathering, ValueUse};
 use crate::steps::machine::Machine;
 use crate::steps::request::Ending;
 use crate::strides::assign::{Carried, assign};
+use crate::strides::branch::branch;
 use crate::strides::choose::{choose, choose_first};
 use crate::strides::evaluate::{evaluate, evaluate_then, right_of};
 use crate::strides::gather::gather;
+use crate::strides::give::give;
+use crate::strides::onward::{Onward, passed};
+use crate::strides::plain::is_plain;
 use crate::strides::serve::{serve, step, use_value};
+use crate::strides::turn::turn;
 use std::alloc::Global;
 use twe_base::{Ints, Memory};
 use twe_program::{Prog, Stmt, StmtKind};
@@ -72,22 +78,48 @@ fn execute<'a, C: Cells>(
     }
 }
 
-/// Executes the next statement of a block as far as its expressions call no method.
+/// Executes a statement as far as its expressions call no method; a loop up to its first turn.
 #[inline(always)]
-fn begin_statement<'a, C: Cells>(
+fn begin_execution<'a, C: Cells>(
     alloc: Global,
     p: &'a Prog,
     machine: &mut Machine<'a>,
     cells: &mut C,
     prints: &mut Ints,
+    stmt: &'a Stmt,
+) -> Result<Onward<'a>, Memory>
+    requires { MayStride p.now C.known C.may_read C.may_write C.rule (Execute stmt.now) machine.old cells.old prints.old }
+    ensures { IfOk result (MovesOn p.now C.known C.may_read C.may_write C.rule (Execute stmt.now) machine.old cells.old prints.old
+        machine.new cells.new prints.new) }
+{
+    match &stmt.kind {
+        StmtKind::While {
+            condition,
+            body,
+            place,
+        } => turn(
+            alloc, p, machine, cells, prints, stmt, condition, body, *place,
+        ),
+        _ => passed(execute(alloc, p, machine, cells, prints, stmt)),
+    }
+}
+
+/// Executes the next statement of a block as far as its expressions call no method; a loop up to its first turn.
+#[inline(always)]
+fn begin_statement<'a, C: Cells>(
+    alloc: Global,
+    p: &'a Prog,
     block: usize,
     at: usize,
     stmts: &'a [Stmt],
-) -> Result<Option<Ending>, Memory>
+    machine: &mut Machine<'a>,
+    cells: &mut C,
+    prints: &mut Ints,
+) -> Result<Onward<'a>, Memory>
     requires within { at < length stmts.now }
     requires may { MayStride p.now C.known C.may_read C.may_write C.rule (Rest block at (statements_of (drop at stmts.now)))
         machine.old cells.old prints.old }
-    ensures { IfOk result (Strides p.now C.known C.may_read C.may_write C.rule (Rest block at (statements_of (drop at stmts.now)))
+    ensures { IfOk result (MovesOn p.now C.known C.may_read C.may_write C.rule (Rest block at (statements_of (drop at stmts.now)))
         machine.old cells.old prints.old machine.new cells.new prints.new) }
 {
     machine.push(Continuation::Rest {
@@ -95,12 +127,12 @@ fn begin_statement<'a, C: Cells>(
         at: at + 1,
         stmts,
     })?;
-    execute(alloc, p, machine, cells, prints, &stmts[at])
+    begin_execution(alloc, p, machine, cells, prints, &stmts[at])
 }
 
-/// Executes the statements of a block from the one at `at` on: assignments at once, up to the first other statement.
+/// Executes the next statement of a block: the branch of an `if` comes next, and a value that calls no method is returned.
 #[inline(always)]
-fn go_on<'a, C: Cells>(
+fn enter_statement<'a, C: Cells>(
     alloc: Global,
     p: &'a Prog,
     machine: &mut Machine<'a>,
@@ -109,26 +141,60 @@ fn go_on<'a, C: Cells>(
     block: usize,
     at: usize,
     stmts: &'a [Stmt],
-) -> Result<Option<Ending>, Memory>
+) -> Result<Onward<'a>, Memory>
+    requires within { at < length stmts.now }
+    requires may { MayStride p.now C.known C.may_read C.may_write C.rule (Rest block at (statements_of (drop at stmts.now)))
+        machine.old cells.old prints.old }
+    ensures { IfOk result (MovesOn p.now C.known C.may_read C.may_write C.rule (Rest block at (statements_of (drop at stmts.now)))
+        machine.old cells.old prints.old machine.new cells.new prints.new) }
+{
+    let stmt = &stmts[at];
+    match &stmt.kind {
+        StmtKind::If(arms) => {
+            branch(alloc, p, machine, cells, prints, arms, block, at + 1, stmts)
+        }
+        StmtKind::Return(Some(value)) => {
+            if is_plain(value) {
+                give(p, machine, cells, prints, value, block, at + 1, stmts)
+            } else {
+                begin_statement(alloc, p, block, at, stmts, machine, cells, prints)
+            }
+        }
+        _ => begin_statement(alloc, p, block, at, stmts, machine, cells, prints),
+    }
+}
+
+/// Executes the statements of a block from the one at `at` on: assignments at once, up to the first other statement.
+#[inline(always)]
+pub(crate) fn go_on<'a, C: Cells>(
+    alloc: Global,
+    p: &'a Prog,
+    machine: &mut Machine<'a>,
+    cells: &mut C,
+    prints: &mut Ints,
+    block: usize,
+    at: usize,
+    stmts: &'a [Stmt],
+) -> Result<Onward<'a>, Memory>
     requires { MayStride p.now C.known C.may_read C.may_write C.rule (Rest block at (statements_of (drop at stmts.now)))
         machine.old cells.old prints.old }
-    ensures { IfOk result (Strides p.now C.known C.may_read C.may_write C.rule (Rest block at (statements_of (drop at stmts.now)))
+    ensures { IfOk result (MovesOn p.now C.known C.may_read C.may_write C.rule (Rest block at (statements_of (drop at stmts.now)))
         machine.old cells.old prints.old machine.new cells.new prints.new) }
 {
     let mut next = at;
     while next < stmts.len() {
         match assign(&stmts[next], p, &mut machine.vars, cells) {
             Carried::Done => next += 1,
-            Carried::Faulted(fault) => return Ok(Some(fault.ending())),
+            Carried::Faulted(fault) => return Ok(Onward::End(fault.ending())),
             Carried::Left => {
-                return begin_statement(alloc, p, machine, cells, prints, block, next, stmts);
+                return enter_statement(alloc, p, machine, cells, prints, block, next, stmts);
             }
         }
     }
-    Ok(None)
+    Ok(Onward::Work)
 }
 
-/// Does what a continuation frame is for, in one step or in several. Returns the ending if the last of them is the end.
+/// Does what a continuation frame is for, in one step or in several. Returns what comes next.
 #[inline(always)]
 pub(crate) fn perform<'a, C: Cells>(
     alloc: Global,
@@ -137,28 +203,28 @@ pub(crate) fn perform<'a, C: Cells>(
     cells: &mut C,
     prints: &mut Ints,
     work: Continuation<'a>,
-) -> Result<Option<Ending>, Memory>
+) -> Result<Onward<'a>, Memory>
     requires { MayStride p.now C.known C.may_read C.may_write C.rule (continuation_of work) machine.old cells.old prints.old }
-    ensures { IfOk result (Strides p.now C.known C.may_read C.may_write C.rule (continuation_of work.entry)
+    ensures { IfOk result (MovesOn p.now C.known C.may_read C.may_write C.rule (continuation_of work.entry)
         machine.old cells.old prints.old machine.new cells.new prints.new) }
 {
     match work {
-        Continuation::Evaluate(expr) => evaluate(alloc, p, machine, cells, prints, expr),
-        Continuation::Execute(stmt) => execute(alloc, p, machine, cells, prints, stmt),
+        Continuation::Evaluate(expr) => { passed(evaluate(alloc, p, machine, cells, prints, expr)) }
+        Continuation::Execute(stmt) => begin_execution(alloc, p, machine, cells, prints, stmt),
         Continuation::Rest { block, at, stmts } => {
             go_on(alloc, p, machine, cells, prints, block, at, stmts)
         }
         Continuation::Choose { block, arms, last } => {
-            choose(alloc, p, machine, cells, prints, block, arms, last)
+            passed(choose(alloc, p, machine, cells, prints, block, arms, last))
         }
         Continuation::UseValue(ValueUse::Right { op, right, place }) => {
-            right_of(alloc, p, machine, cells, prints, op, right, place)
+            passed(right_of(alloc, p, machine, cells, prints, op, right, place))
         }
-        Continuation::UseValue(then) => use_value(p, machine, cells, prints, &then),
+        Continuation::UseValue(then) => passed(use_value(p, machine, cells, prints, &then)),
         Continuation::Gather(gathering) => {
             let Gathering { taken, args, goal } = Box::into_inner(gathering);
-            gather(alloc, p, machine, cells, prints, taken, args, goal)
+            passed(gather(alloc, p, machine, cells, prints, taken, args, goal))
         }
-        work => step(alloc, p, machine, cells, prints, work),
+        work => passed(step(alloc, p, machine, cells, prints, work)),
     }
 }

@@ -1,11 +1,39 @@
 //! Expressions that call no method.
-ghost use Rattle.std.specs.Prelude.{◌≡◌};
+ghost use Rattle.std.specs.Prelude.{◌≡◌, IfSome};
 ghost use Rattle.seg_exec.specs.inner.strides.Plainly.{is_plain};
 
 use twe_program::{Expr, ExprKind};
 
-/// Whether an expression calls no method.
+/// Whether an expression calls no method, if its kind alone says so: a leaf calls none, and a call does.
+#[inline(always)]
+fn is_plain_by_kind(expr: &Expr) -> Option<bool>
+    ensures { IfSome result (λ plain. plain ≡ is_plain expr.now) }
+{
+    match &expr.kind {
+        ExprKind::Lit(_) => Some(true),
+        ExprKind::Truth(_) => Some(true),
+        ExprKind::Var { .. } => Some(true),
+        ExprKind::Cell { .. } => Some(true),
+        ExprKind::Call { .. } => Some(false),
+        _ => None,
+    }
+}
+
+/// Whether an expression calls no method. It is inlined, so that leaves cost no call.
+#[cycle(plain)]
+#[inline(always)]
 pub(crate) fn is_plain(expr: &Expr) -> bool
+    ensures { result ≡ is_plain expr.now }
+{
+    match is_plain_by_kind(expr) {
+        Some(plain) => plain,
+        None => is_plain_inside(expr),
+    }
+}
+
+/// Whether an expression calls no method, by its parts.
+#[cycle(plain)]
+fn is_plain_inside(expr: &Expr) -> bool
     ensures { result ≡ is_plain expr.now }
 {
     match &expr.kind {

@@ -1,18 +1,20 @@
 //! A run of the evaluator up to its end.
 ghost use Rattle.std.specs.Prelude.{IfOk};
 ghost use Rattle.seg_exec.specs.inner.steps.Reached.{Finishes, MayGoOn, standing};
-ghost use Rattle.seg_exec.specs.inner.strides.Strides.{Carries, MayGo};
+ghost use Rattle.seg_exec.specs.inner.strides.Moving.{Moves, ahead};
+ghost use Rattle.seg_exec.specs.inner.strides.Strides.{MayGo};
 ghost use Rattle.seg_exec.specs.Access.{ways_of};
 
 use crate::cells::Cells;
 use crate::steps::machine::Machine;
 use crate::steps::request::Ending;
-use crate::strides::perform::perform;
+use crate::strides::onward::{Onward, OpenBlock};
+use crate::strides::perform::{go_on, perform};
 use std::alloc::Global;
 use twe_base::{Ints, Memory};
 use twe_program::Prog;
 
-/// Does what the next continuation frame is for. Returns the ending if that ends the run.
+/// Does what comes next. Returns what comes after that.
 #[inline(always)]
 fn advance<'a, C: Cells>(
     alloc: Global,
@@ -20,14 +22,21 @@ fn advance<'a, C: Cells>(
     machine: &mut Machine<'a>,
     cells: &mut C,
     prints: &mut Ints,
-) -> Result<Option<Ending>, Memory>
-    requires { MayGo p.now (ways_of C.known C.may_read C.may_write C.rule) (standing machine.old cells.old prints.old) }
-    ensures { IfOk result (λ ending. Carries p.now (ways_of C.known C.may_read C.may_write C.rule)
-        (standing machine.old cells.old prints.old) ending (standing machine.new cells.new prints.new)) }
+    next: Option<OpenBlock<'a>>,
+) -> Result<Onward<'a>, Memory>
+    requires { MayGo p.now (ways_of C.known C.may_read C.may_write C.rule)
+        (ahead next (standing machine.old cells.old prints.old)) }
+    ensures { IfOk result (λ onward. Moves p.now (ways_of C.known C.may_read C.may_write C.rule)
+        (ahead next.entry (standing machine.old cells.old prints.old)) onward (standing machine.new cells.new prints.new)) }
 {
-    match machine.work.pop() {
-        None => Ok(Some(Ending::Returned(0))),
-        Some(work) => perform(alloc, p, machine, cells, prints, work),
+    match next {
+        Some(OpenBlock { block, at, stmts }) => {
+            go_on(alloc, p, machine, cells, prints, block, at, stmts)
+        }
+        None => match machine.work.pop() {
+            None => Ok(Onward::End(Ending::Returned(0))),
+            Some(work) => perform(alloc, p, machine, cells, prints, work),
+        },
     }
 }
 
@@ -43,12 +52,15 @@ pub(crate) fn run<'a, C: Cells>(
     ensures { IfOk result (λ ending. Finishes p.now (ways_of C.known C.may_read C.may_write C.rule)
         (standing machine.old cells.old prints.old) ending (standing machine.new cells.new prints.new)) }
 {
+    let mut next = None;
     'units: loop {
         let fuel = machine.fuel;
         while machine.fuel == fuel {
-            match advance(alloc, p, machine, cells, prints)? {
-                Some(ending) => return Ok(ending),
-                None => {}
+            match advance(alloc, p, machine, cells, prints, next) {
+                Err(memory) => return Err(memory),
+                Ok(Onward::Work) => next = None,
+                Ok(Onward::Block(open_block)) => next = Some(open_block),
+                Ok(Onward::End(ending)) => return Ok(ending),
             }
         }
     }

@@ -2,6 +2,7 @@
 ghost use Rattle.std.specs.Prelude.{◌≡◌, true, slice_get};
 ghost use Rattle.seg_exec.specs.Access.{value_in, ways_of};
 ghost use Rattle.seg_exec.specs.Arithmetic.{operated};
+ghost use Rattle.seg_exec.specs.inner.strides.Leaves.{leaf_value};
 ghost use Rattle.seg_exec.specs.inner.strides.Plainly.{is_plain};
 ghost use Rattle.seg_exec.specs.inner.strides.Strides.{EvaluatesTo, MayEvaluate, MayReadAt, ReadsAt, fault_ending, quotient_or};
 
@@ -59,7 +60,20 @@ fn read<C: Cells>(cells: &mut C, cell: Option<u32>, place: Place) -> Result<i32,
     }
 }
 
+/// The value of an expression that is an integer literal or a variable; none of another.
+#[inline(always)]
+fn leaf_value(expr: &Expr, vars: &[i32]) -> Option<i32>
+    ensures { result ≡ leaf_value expr.now vars.now }
+{
+    match &expr.kind {
+        ExprKind::Lit(value) => Some(*value),
+        ExprKind::Var { var, .. } => Some(var_in(vars, *var)),
+        _ => None,
+    }
+}
+
 /// Applies an operator to its operands. It is a fault if the operator divides by zero.
+#[inline(always)]
 fn apply(op: BinOp, left: i32, right: i32, place: Place) -> Result<i32, Fault>
     ensures { result ≡ quotient_or (operated op left right) place }
 {
@@ -72,8 +86,28 @@ fn apply(op: BinOp, left: i32, right: i32, place: Place) -> Result<i32, Fault>
     }
 }
 
-/// Evaluates an expression that calls no method. The recursion is as deep as the expression.
+/// Evaluates an expression that calls no method. It is inlined, so that literals and variables cost no call.
+#[cycle(value)]
+#[inline(always)]
 pub(crate) fn value_of<C: Cells>(
+    expr: &Expr,
+    p: &Prog,
+    vars: &[i32],
+    cells: &mut C,
+) -> Result<i32, Fault>
+    requires plain { is_plain expr.now ≡ true }
+    requires may { MayEvaluate p.now (ways_of C.known C.may_read C.may_write C.rule) expr.now vars.now cells.old }
+    ensures { EvaluatesTo p.now (ways_of C.known C.may_read C.may_write C.rule) expr.now vars.now cells.old result cells.new }
+{
+    match leaf_value(expr, vars) {
+        Some(value) => Ok(value),
+        None => value_by_parts(expr, p, vars, cells),
+    }
+}
+
+/// Evaluates an expression that calls no method, by the values of its parts. The recursion is as deep as the expression.
+#[cycle(value)]
+fn value_by_parts<C: Cells>(
     expr: &Expr,
     p: &Prog,
     vars: &[i32],

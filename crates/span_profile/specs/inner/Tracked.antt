@@ -19,8 +19,8 @@ use Rattle.span_profile.specs.inner.Trails.{IsTrail}
 abbrev pub has_fault : List Entry → Bool
 has_fault entries = list_any (λ (entry : Entry). is_fault entry.end) entries
 
--- A run under way: the state is the one that the journal leads to, and its enabled tasks are known. The chains hold a
--- node for each entry of the counted part, which shows what the entry did, and the entries of the chain that have come have steps.
+-- A run under way: the state is the one that the journal leads to, and its enabled tasks are known. The chains hold a node for
+-- each entry of the counted part, which shows what the entry did, and the entries of the chain that have come have steps.
 pub record IsTracked (p : Program) (lim : Bounds) (run : Tracked) : Type 0 where
   pub is_run : IsRun p lim run.journal run.st
   pub listing : IsListing run.st run.enabled

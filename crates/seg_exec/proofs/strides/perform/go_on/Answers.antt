@@ -6,6 +6,7 @@ use Rattle.seg_exec.specs.inner.steps.Reached.{standing}
 use Rattle.seg_exec.specs.inner.strides.Strides.{Ends}
 use Rattle.seg_exec.specs.inner.steps.Views.{config_of}
 use Rattle.seg_exec.proofs.strides.GoingOn.{done_first, faulted_first, left_first, may_first, next_is, none_left, rest_at, with_vars}
+use Rattle.seg_exec.proofs.strides.Moving.{near_moves}
 use Rattle.seg_exec.proofs.strides.Performing.{placed}
 use Rattle.seg_exec.proofs.Segments.{if_ok_map}
 use Rattle.seg_exec.proofs.strides.Strides.{may_near, near_carries, near_goes, nears_more}
@@ -41,8 +42,8 @@ returns-in-Faulted g c =
     (subst (λ (e : Ending). Ends c.args.p.now ways now e after) (sym c.ending.ensures)
     (faulted_first c.args.p.now ways c.args.block c.loop-next.next c.args.stmts.now c.index-stmts-next.result is (config_of c.loop-next.machine) c.assign.new.vars c.loop-next.cells c.assign.new.cells c.loop-next.prints c.in-Faulted.fault c.in-Faulted.ensures))
 
-pub begin_statement-requires-clause-may : goal.begin_statement-requires-clause-may
-begin_statement-requires-clause-may g c =
+pub enter_statement-requires-clause-may : goal.enter_statement-requires-clause-may
+enter_statement-requires-clause-may g c =
     let ways = ways_of g.C.Cells.known g.C.Cells.may_read g.C.Cells.may_write g.C.Cells.rule in
     let from = rest_at c.args.block c.args.at c.args.stmts.now (standing c.args.machine.now c.args.cells.now c.args.prints.now) in
     let now = rest_at c.args.block c.loop-next.next c.args.stmts.now (placed (with_vars c.assign.new.vars (config_of c.loop-next.machine)) c.assign.new.cells c.loop-next.prints) in
@@ -55,7 +56,7 @@ returns-in-Left g c =
     let from = rest_at c.args.block c.args.at c.args.stmts.now (standing c.args.machine.now c.args.cells.now c.args.prints.now) in
     let now = rest_at c.args.block c.loop-next.next c.args.stmts.now (placed (with_vars c.assign.new.vars (config_of c.loop-next.machine)) c.assign.new.cells c.loop-next.prints) in
     let came = left_first c.args.p.now ways c.args.block c.loop-next.next c.args.stmts.now from (config_of c.loop-next.machine) c.assign.new.vars c.loop-next.cells c.assign.new.cells c.loop-next.prints c.in-Left.ensures c.loop-next.invariant in
-    if_ok_map c.begin_statement.result (λ ending rest. near_carries c.args.p.now (ways_of g.C.Cells.known g.C.Cells.may_read g.C.Cells.may_write g.C.Cells.rule) from now (standing c.begin_statement.new.machine c.begin_statement.new.cells c.begin_statement.new.prints) ending came rest) c.begin_statement.ensures
+    if_ok_map c.enter_statement.result (λ onward rest. near_moves c.args.p.now (ways_of g.C.Cells.known g.C.Cells.may_read g.C.Cells.may_write g.C.Cells.rule) from now (standing c.enter_statement.new.machine c.enter_statement.new.cells c.enter_statement.new.prints) onward came rest) c.enter_statement.ensures
 
 pub returns : goal.returns
 returns g c =

@@ -18,7 +18,8 @@ pub returns-clause-kept : goal.returns-clause-kept
 returns-clause-kept c = λ s has h.
     subst (λ (es : List Queued). IsQueued es s) (sym c.in_ok-push.ensures.ok)
     (task_before c.settle_last.new.self.entries (record { task = c.args.t; decider = c.decider_of-decider.result }) s
-    (c.in_ok-settle_last.ensures.kept s (c.in_ok-sift.ensures.kept s has (c.drop_over.ensures.kept s has h))))
+    (c.in_ok-settle_last.ensures.kept s
+    (subst (λ (es : List Queued). IsQueued es s) (sym c.next_walk-most.ensures) (c.in_ok-sift.ensures.kept s has (c.drop_over.ensures.kept s has h)))))
 
 pub returns-clause-decided : goal.returns-clause-decided
 returns-clause-decided c =
