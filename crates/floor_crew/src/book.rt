@@ -164,18 +164,20 @@ impl Book {
     }
 
     /// The task whose next segment is run while the others lie still: one whose segment ends at once, or else one that may run,
-    /// if it is the only one or no floor is paid for yet.
+    /// if it is the only one or no floor is worth its cost.
     pub(crate) fn next_alone(&mut self) -> Option<u32> {
         match self.brief.pop() {
             Some(task) => Some(task),
-            None if self.running.len() == 1 || !self.account.is_paid() => self.running.pop(),
+            None if self.running.len() == 1 || !self.account.is_worth_a_floor() => self
+                .running
+                .pop(),
             None => None,
         }
     }
 
-    /// Whether two tasks may run beside each other, and a floor for them is paid for.
+    /// Whether two tasks may run beside each other, and a floor for them is worth its cost.
     pub(crate) fn has_two(&self) -> bool {
-        self.running.len() >= 2 && self.account.is_paid()
+        self.running.len() >= 2 && self.account.is_worth_a_floor()
     }
 
     /// Whether all tasks that are held back are to be looked at once more, since nothing else is left to do. So they are if an

@@ -28,8 +28,10 @@ const MOST_TRIES: u32 = 16;
 pub(crate) struct Ground<'a, N: Named + Planted, F: Located> {
     setup: &'a Setup<'a>,
     floor: &'a Floor<N>,
-    // Whether some task has met a fault. Then no worker begins another segment.
-    faulted: AtomicBool,
+    // Whether the round is to end: some task has met a fault, or a worker has run enough segments. Then no worker begins another.
+    is_over: AtomicBool,
+    // How many segments are enough.
+    segments: u64,
     // Which tasks were found to wait.
     waiters: Waiters,
     of: PhantomData<F>,
@@ -48,15 +50,21 @@ impl<'a, N: Named + Planted, F: Located> Model for Ground<'a, N, F> {
 }
 
 impl<'a, N: Named + Planted, F: Located> Ground<'a, N, F> {
-    /// The ground of a round on this floor.
-    pub(crate) fn new(setup: &'a Setup<'a>, floor: &'a Floor<N>, waiters: Waiters) -> Self
+    /// The ground of a round on this floor, in which a worker runs so many segments.
+    pub(crate) fn new(
+        setup: &'a Setup<'a>,
+        floor: &'a Floor<N>,
+        waiters: Waiters,
+        segments: u64,
+    ) -> Self
         requires located { floor.now ≡ F.table }
         requires named { (setup.now.p.now ≡ N.prog) × (setup.now.lim ≡ N.lim) × (setup.now.shape.now ≡ N.nodes) }
     {
         Ground {
             setup,
             floor,
-            faulted: AtomicBool::new(false),
+            is_over: AtomicBool::new(false),
+            segments,
             waiters,
             of: PhantomData,
         }
@@ -89,7 +97,7 @@ impl<'a, N: Named + Planted, F: Located> Ground<'a, N, F> {
         ensures { IfOk result (λ looked. IsOtherOn F.table looked.0) }
     {
         let mut worker = worker;
-        if self.faulted.load(Ordering::SeqCst) {
+        if self.is_over.load(Ordering::SeqCst) {
             return Ok((worker, Outlook::Over));
         }
         if self.phase(&mut worker, task) == Phase::Made {
@@ -253,9 +261,14 @@ impl<'a, N: Named + Planted, F: Located> Ground<'a, N, F> {
         self.waiters.of(task)
     }
 
-    /// No worker begins another segment.
+    /// Whether so many segments of one worker are enough for the round.
+    pub(crate) fn are_enough(&self, segments: u64) -> bool {
+        segments >= self.segments
+    }
+
+    /// The round is to end: no worker begins another segment.
     pub(crate) fn stop(&self) {
-        self.faulted.store(true, Ordering::SeqCst);
+        self.is_over.store(true, Ordering::SeqCst);
     }
 
     /// Where memory comes from.

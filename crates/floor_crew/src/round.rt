@@ -26,11 +26,13 @@ use twe_base::{List, Memory};
 use twe_rounds::{RoundProgress, Site, Team, deal};
 
 /// A round of so many workers: the run goes on a floor, on which they admit tasks and run segments at the same time, until they
-/// find no task that may go on. Returns the run after that, whose journal begins with the one from before.
+/// find no task that may go on or one of them has run so many segments. Returns the run after that, whose journal begins with the one
+/// from before.
 pub(crate) fn round<'a, N: Named + Planted + Send + Sync, R: Threads + Wait + Sync, G: Gate + Sync>(
     rt: &'a R,
     setup: &'a Setup<'a>,
     workers: u32,
+    segments: u64,
     rest: Rest,
     gate: &'a G,
 ) -> Result<Rest, Memory>
@@ -47,7 +49,9 @@ pub(crate) fn round<'a, N: Named + Planted + Send + Sync, R: Threads + Wait + Sy
     let (floor, stand, part) = Floor::<N>::wake(alloc, setup.shape, lim, rest)?;
     let mut parts = List::new(alloc);
     parts.push(part)?;
-    let stand = lend::<N, Brand, R, G>(rt, setup, workers, &floor, stand, team, gate, &mut parts)?;
+    let stand = lend::<N, Brand, R, G>(
+        rt, setup, workers, segments, &floor, stand, team, gate, &mut parts,
+    )?;
     floor.rest(alloc, stand, parts.as_slice())
 }
 
@@ -62,6 +66,7 @@ fn lend<
     rt: &'a R,
     setup: &'a Setup<'a>,
     workers: u32,
+    segments: u64,
     floor: &'a Floor<N>,
     stand: Stand,
     team: Team,
@@ -81,7 +86,7 @@ fn lend<
     let waiters = Waiters::new(setup.alloc, setup.lim.tasks)?;
     let progress = RoundProgress::new(team.pending);
     let mut hands = split_all::<N, F>(setup.alloc, floor, &mut stand, team.workers, workers)?;
-    let ground: Ground<'_, N, F> = Ground::new(setup, floor, waiters);
+    let ground: Ground<'_, N, F> = Ground::new(setup, floor, waiters, segments);
     let shared = Shared {
         rt,
         gate,
