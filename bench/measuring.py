@@ -3,6 +3,8 @@
 None of these scripts is part of the gate. They need the built programs, which bin/build makes, and their times mean something only on a
 machine that does nothing else.
 """
+import importlib.machinery
+import importlib.util
 import os
 import pathlib
 import resource
@@ -65,6 +67,14 @@ def least(command, text, times):
     """The last of so many runs, with the least time by the clock and the least processor time of all."""
     made = [done(command, text) for _ in range(times)]
     return Run(0, made[-1].out, made[-1].err, min(it.clock for it in made), min(it.spent for it in made), max(it.memory for it in made))
+
+
+def growth_shapes():
+    """The shapes of bench/growth, by name."""
+    loader = importlib.machinery.SourceFileLoader('growth', str(TOP / 'bench' / 'growth'))
+    growth = importlib.util.module_from_spec(importlib.util.spec_from_loader('growth', loader))
+    loader.exec_module(growth)
+    return growth.SHAPES
 
 
 # Texts. `tasks` is how many tasks `main` makes, or a chain has.
