@@ -89,14 +89,15 @@ task void main() pure {{
 '''.encode()
 
 
-def adding(tasks, cells):
-    """Tasks that add to one of so many cells each, all made first."""
+def adding(tasks, cells, turns=0):
+    """Tasks that add to one of so many cells each, after a loop of so many turns, all made first."""
+    loop = f'int i = 0; while (i < {turns}) {{ i = i + 1; }} ' if turns else ''
     return f'''region D;
 int d[{cells}] in D;
-task void add(int j) writes D:[j] {{ d[j] = d[j] + 1; }}
+task void add(int j) writes D:[j] {{ {loop}d[j] = d[j] + 1; }}
 task void main() pure {{
-  int i = 0;
-  while (i < {tasks}) {{ final int j = i % {cells}; future f = add.executeLater(j); i = i + 1; }}
+  int t = 0;
+  while (t < {tasks}) {{ final int j = t % {cells}; future f = add.executeLater(j); t = t + 1; }}
 }}
 '''.encode()
 
