@@ -14,11 +14,11 @@ use twe_machine::State;
 const PER_MOVE: u64 = 8;
 
 /// How much fuel a segment takes that is worth a worker.
-const LONG: u64 = 100;
+const LONG: u64 = 150;
 
 /// How much fuel the moves on a floor take on average if their tasks are worth a worker. To make a task, to admit it and to run it
 /// are three moves.
-const LONG_MOVES: u64 = 25;
+const LONG_MOVES: u64 = 50;
 
 /// How many segments a worker runs on the first floor, and on one after a floor whose segments were short.
 const FIRST_SEGMENTS: u64 = 64;
