@@ -2,3 +2,5 @@
 pub mod Faultless
 -- a quiet step and a round of a run, as those of the crew that has the run
 pub mod QuietSteps
+-- a run that is lent to workers again and again
+pub mod Lending

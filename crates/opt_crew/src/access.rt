@@ -21,12 +21,18 @@ pub(crate) struct Lent<'a, N: RoundName> {
     pub hints: &'a Hints,
     pub core: &'a mut RoundCore<N>,
     pub trail: Trail,
+    /// Whether there are others, to whom the worker leaves the run if they may gain by it.
+    pub has_others: bool,
 }
 
 impl<'a, N: RoundName> RoundAccess for Lent<'a, N> {
     fn look(&mut self, task: u32) -> Result<Outlook, Memory> {
         let glance = self.trail.glance(task, false);
-        self.core.look(self.game, task, glance)
+        if self.has_others {
+            self.core.look_alone(self.game, task, glance)
+        } else {
+            self.core.look(self.game, task, glance)
+        }
     }
 
     fn run(&mut self, task: u32) -> Result<Option<End>, Memory> {

@@ -28,6 +28,11 @@ impl AtWork {
         }
     }
 
+    /// Whether there are none.
+    pub(crate) fn is_empty(&self) -> bool {
+        self.tasks.is_empty()
+    }
+
     /// Notes that a draft of a task is begun, and whether a rival of the task is at work.
     pub(crate) fn begin(&mut self, task: u32, beside: bool) -> Result<(), Memory> {
         self.tasks.insert(task, Work { task, beside })?;

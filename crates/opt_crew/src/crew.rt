@@ -6,9 +6,10 @@ ghost use Rattle.twe_machine.specs.Legal.{MayMove};
 ghost use Rattle.twe_machine.specs.Runs.{IsOutcome, Legal, counted};
 ghost use Rattle.twe_rounds.specs.Crews.{CrewRun, GoesOn, StepsQuietly, lost, state_of};
 ghost use Rattle.opt_engine.specs.Taking.{TakingSteps};
-ghost use Rattle.opt_crew.specs.Keeping.{IsSound};
+ghost use Rattle.opt_crew.specs.Keeping.{IsSound, Keeps};
 ghost use Rattle.opt_crew.specs.Stepping.{IsLongerUnlessOver, StepsRun};
 
+use crate::seen::Seen;
 use crate::sharing::{alone, together};
 use flat_sched::stuck_cycle;
 use opt_engine::CoreRun;
@@ -33,6 +34,7 @@ pub struct OptCrew {
     lim: Limits,
     workers: u32,
     run: Option<CoreRun>,
+    seen: Seen,
 }
 
 impl Model for OptCrew {
@@ -68,6 +70,7 @@ impl OptCrew {
             lim,
             workers,
             run: Some(run),
+            seen: Seen::new(alloc),
         })
     }
 
@@ -99,7 +102,8 @@ impl OptCrew {
         ensures longer { OnOk result (IsLongerUnlessOver self.old self.new) }
     {
         let run = self.run.take().ok_or(lost())?;
-        let after = round_of(rt, self.alloc, p, self.lim, self.workers, run, gate)?;
+        let seen = &mut self.seen;
+        let after = round_of(rt, self.alloc, p, self.lim, self.workers, run, seen, gate)?;
         self.run = Some(after);
         Ok(())
     }
@@ -165,6 +169,7 @@ fn round_of<R: Threads + Wait + Sync, G: Gate + Sync>(
     lim: Limits,
     workers: u32,
     run: CoreRun,
+    seen: &mut Seen,
     gate: &G,
 ) -> Result<CoreRun, Memory>
     requires some { 1 ≤ workers }
@@ -181,10 +186,12 @@ fn round_of<R: Threads + Wait + Sync, G: Gate + Sync>(
         return Ok(run);
     };
     take_clear(alloc, p, lim, &mut run, mv)?;
-    lend(rt, alloc, p, lim, workers, run, mv.task, gate)
+    lend(rt, alloc, p, lim, workers, run, seen, mv.task, gate)
 }
 
-/// Lends the run to so many workers. A single one begins with the task `first`.
+/// Lends the run to a single worker, which begins with the task `first`, and to so many workers in turn, until they find no more
+/// that can be committed.
+#[tactic(auto, using(crate::proofs::Lending::still_kept, crate::proofs::Lending::kept_on))]
 fn lend<R: Threads + Wait + Sync, G: Gate + Sync>(
     rt: &R,
     alloc: Global,
@@ -192,6 +199,7 @@ fn lend<R: Threads + Wait + Sync, G: Gate + Sync>(
     lim: Limits,
     workers: u32,
     run: CoreRun,
+    seen: &mut Seen,
     first: u32,
     gate: &G,
 ) -> Result<CoreRun, Memory>
@@ -200,9 +208,40 @@ fn lend<R: Threads + Wait + Sync, G: Gate + Sync>(
     ensures sound { IfOk result (IsSound p.now lim) }
     ensures begins { IfOk result (λ after. IsPrefix run.journal after.journal) }
 {
-    if workers == 1 {
-        alone::<Brand, R, G>(rt, alloc, p, lim, run, first, gate)
-    } else {
-        together::<Brand, R, G>(rt, alloc, p, lim, workers, run, gate)
+    let mut run = run;
+    let mut first = Some(first);
+    'turns: for _ in 0..u64::MAX {
+        let begin = first.take();
+        run = turn(rt, alloc, p, lim, workers, run, seen, begin, gate)?;
+        if !seen.pace.was_left() {
+            return Ok(run);
+        }
     }
+    Ok(run)
+}
+
+/// Lends the run to a single worker, which begins with the task `first`, if there is one, and then to so many workers, if it
+/// leaves the run to them.
+#[tactic(auto, using(crate::proofs::Lending::still_kept, crate::proofs::Lending::kept_on))]
+fn turn<R: Threads + Wait + Sync, G: Gate + Sync>(
+    rt: &R,
+    alloc: Global,
+    p: &Prog,
+    lim: Limits,
+    workers: u32,
+    run: CoreRun,
+    seen: &mut Seen,
+    first: Option<u32>,
+    gate: &G,
+) -> Result<CoreRun, Memory>
+    requires some { 1 ≤ workers }
+    requires sound { IsSound p.now lim run }
+    ensures { IfOk result (Keeps p.now lim run.journal) }
+{
+    let has_others = workers > 1;
+    let after = alone::<Brand, R, G>(rt, alloc, p, lim, run, seen, first, has_others, gate)?;
+    if !seen.pace.was_left() {
+        return Ok(after);
+    }
+    together::<Brand, R, G>(rt, alloc, p, lim, workers, after, seen, gate)
 }

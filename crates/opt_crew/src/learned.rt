@@ -39,7 +39,7 @@ impl Learned {
     /// it.
     pub(crate) fn is_brief(&self, decl: u32) -> bool {
         match self.tally(decl).cost {
-            Some(cost) => cost <= BRIEF,
+            Some(cost) => is_brief_cost(cost),
             None => false,
         }
     }
@@ -109,6 +109,11 @@ fn unseen() -> Tally {
         kept: 0,
         changed: 0,
     }
+}
+
+/// Whether a segment that costs so much is brief.
+pub(crate) fn is_brief_cost(fuel: u64) -> bool {
+    fuel <= BRIEF
 }
 
 /// What the next segment is expected to cost, if it was this before and the last one took so much fuel.

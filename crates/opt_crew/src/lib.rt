@@ -12,10 +12,13 @@ mod crew;
 mod kept;
 mod learned;
 mod looking;
+mod makers;
 mod named_drafted;
 mod named_start;
+mod pace;
 mod round_core;
 mod rounds;
+mod seen;
 mod sharing;
 mod trail;
 

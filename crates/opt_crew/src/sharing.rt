@@ -5,6 +5,7 @@ ghost use Rattle.opt_crew.specs.Keeping.{Keeps};
 use crate::access::{Lent, Locked, Own};
 use crate::kept::Kept;
 use crate::round_core::RoundCore;
+use crate::seen::Seen;
 use crate::trail::Trail;
 use opt_engine::{CoreRun, Hints};
 use run_gates::Gate;
@@ -16,14 +17,17 @@ use twe_base::{Limits, Memory};
 use twe_program::Prog;
 use twe_rounds::{Game, RoundName, RoundProgress, Site, Worker, deal, lost};
 
-/// The run after the moves of a single worker, which begins with the task `first`.
+/// The run after the moves of a single worker, which begins with the task `first`, if there is one. If there are others, it
+/// leaves the run to them once they may gain by it.
 pub(crate) fn alone<N: RoundName, R: Wait, G: Gate>(
     rt: &R,
     alloc: Global,
     p: &Prog,
     lim: Limits,
     run: CoreRun,
-    first: u32,
+    seen: &mut Seen,
+    first: Option<u32>,
+    has_others: bool,
     gate: &G,
 ) -> Result<CoreRun, Memory>
     requires named { (p.now ≡ N.prog) × (lim ≡ N.lim) }
@@ -31,7 +35,7 @@ pub(crate) fn alone<N: RoundName, R: Wait, G: Gate>(
     ensures { IfOk result (Keeps N.prog N.lim N.earlier) }
 {
     let entries = run.journal.len();
-    let mut team = deal(alloc, &run.state, entries, lim.tasks, 1, Some(first))?;
+    let mut team = deal(alloc, &run.state, entries, lim.tasks, 1, first)?;
     let progress = RoundProgress::new(team.pending);
     let site = Site {
         gate,
@@ -39,17 +43,18 @@ pub(crate) fn alone<N: RoundName, R: Wait, G: Gate>(
     };
     let game: Game<'_, N> = Game::new(alloc, p, lim);
     let hints = Hints::none(alloc);
-    let mut core = RoundCore::new(alloc, lim, run)?;
+    let mut core = RoundCore::new(alloc, lim, run, seen.take(alloc))?;
     for worker in team.workers.iter_mut() {
         let mut access = Lent {
             game: &game,
             hints: &hints,
             core: &mut core,
             trail: Trail::new(),
+            has_others,
         };
         worker.work(rt, &mut access, &site);
     }
-    core.into_run().ok_or(lost())
+    core.into_run(seen).ok_or(lost())
 }
 
 /// The run after the moves of several workers, each on a thread of its own. Meanwhile the run lies under a lock.
@@ -60,6 +65,7 @@ pub(crate) fn together<'a, N: RoundName + Send + Sync, R: Threads + Wait + Sync,
     lim: Limits,
     workers: u32,
     run: CoreRun,
+    seen: &mut Seen,
     gate: &'a G,
 ) -> Result<CoreRun, Memory>
     requires some { 1 ≤ workers }
@@ -72,7 +78,7 @@ pub(crate) fn together<'a, N: RoundName + Send + Sync, R: Threads + Wait + Sync,
     let progress = RoundProgress::new(team.pending);
     let game: Game<'_, N> = Game::new(alloc, p, lim);
     let hints = Hints::of(alloc, &run.state.cells)?;
-    let core = Mutex::new(RoundCore::new(alloc, lim, run)?);
+    let core = Mutex::new(RoundCore::new(alloc, lim, run, seen.take(alloc))?);
     let shared = Shared {
         rt,
         gate,
@@ -83,7 +89,7 @@ pub(crate) fn together<'a, N: RoundName + Send + Sync, R: Threads + Wait + Sync,
     };
     let team = team.workers.as_mut_slice();
     thread::for_each_mut(rt, team, workers as usize, &|_, worker| shared.send(worker));
-    core.into_inner().into_run().ok_or(lost())
+    core.into_inner().into_run(seen).ok_or(lost())
 }
 
 /// What the workers of a round share.

@@ -1,8 +1,6 @@
+use Rattle.opt_crew.specs.Keeping.{Keeps}
 use Rattle.opt_crew.proofs.crew.lend.Given as goal
 
--- the round is about the program and the limits, and the journal with the first move
-abbrev pub ghosts-alone : goal.ghosts-alone
-ghosts-alone g a = record { prog = a.p.now; lim = a.lim; earlier = a.run.journal }
-
-abbrev pub ghosts-together : goal.ghosts-together
-ghosts-together g a = record { prog = a.p.now; lim = a.lim; earlier = a.run.journal }
+-- the run goes on from the one that was lent first
+abbrev pub invariant-turns : goal.invariant-turns
+invariant-turns g l = Keeps l.p l.fn.lim l.fn.run.journal l.run

@@ -4,14 +4,14 @@ use denote.Param.Send.{arg_sync, param_sync, recorded_sync, shr_sync, struct_syn
 use denote.Struct.Declared.{shape}
 use mir.Syntax.{named}
 use Rattle.std.proofs.sync.Mutex.TheSendSync as mutex
-use Rattle.twe_rounds.proofs.progress.RoundProgress.TheSendSync as progress
 use Rattle.opt_crew.specs.contracts.sharing.Shared as Shared
 use Rattle.opt_crew.proofs.round_core.RoundCore.TheSendSync as core
 use Rattle.opt_engine.proofs.hints.Hints.TheSendSync as hints
 use Rattle.twe_rounds.proofs.Crossing.{game_sync, tuple_sync}
+use Rattle.twe_rounds.proofs.progress.RoundProgress.TheSendSync as progress
 use Rattle.opt_crew.proofs.sharing.together.Goals as goal
 
--- the workers share the gate, the program, the progress of the round, the hints and the run under its lock
+-- the workers share the gate, the program, the progress, the hints and the run under its lock
 pub for_each_mut-requires-sync-F : goal.for_each_mut-requires-sync-F
 for_each_mut-requires-sync-F g c κs within =
     param_sync 2 _ (arg_sync _ no _ (tuple_sync _ _ (shr_sync _ _ (Shared.the_row (record { mir = named 7; lft = κs.1.1.1.1.1.1.1.0 }) (param 1 g.row.R) (param 2 g.row.G) (param 0 g.row.N) g.N.RoundName)
