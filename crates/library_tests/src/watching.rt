@@ -19,8 +19,8 @@ const TURNS: u64 = 256;
 const NINE: &[u8] = b"task void c() pure { }\n\
 task void main() pure { int i = 0; while (i < 9) { future f = c.executeLater(); i = i + 1; } }\n";
 
-/// `main` makes more tasks than one worker has room for on a floor.
-const MANY: &[u8] = b"task void c() pure { }\n\
+/// `main` makes more tasks than one worker has room for on a floor, and each is worth one.
+const MANY: &[u8] = b"task void c() pure { int i = 0; while (i < 2000) { i = i + 1; } }\n\
 task void main() pure { int i = 0; while (i < 1200) { future f = c.executeLater(); i = i + 1; } }\n";
 
 /// A gate at which tasks come together by threes, in the order in which they come. A task waits there until its three are
@@ -117,7 +117,8 @@ fn three_workers_share_the_tasks_that_one_makes(rt: HostRuntime) -> Result<(), F
 
 #[test]
 fn a_second_floor_is_laid_out(rt: HostRuntime) -> Result<(), Fail> {
-    // A worker has room for 1,024 new tasks on a floor. The last ones run on a floor that the work on the first one has paid for.
+    // A worker has room for 1,024 new tasks on a floor, and runs 64 segments on the first one. The last tasks run on a floor that
+    // the work before it has paid for.
     let gate = Threes::new(1198, 0);
     let ran = step_and_round(&rt, rt.alloc(), MANY, 3, &gate)?;
     assert_eq!(rt; ran, all_done(1201));
