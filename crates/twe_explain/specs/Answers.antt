@@ -47,7 +47,7 @@ pub data ExplainDue (wanted : Wanted) (text : List ℕ) : Answer → Type 0 wher
   named : (refusal : Refusal) (cause : NameNeed) (tree : Ast) → IsRefusal text refusal → is_of_names refusal.rule ≡ true
       → IsTreeOf text tree → IsNameCauseOf tree refusal.rule refusal.place cause
       → ExplainDue wanted text
-          (on_out Refused (refused_text wanted text refusal (named_explanation text refusal cause tree.items)))
+      (on_out Refused (refused_text wanted text refusal (named_explanation text refusal cause tree.items)))
   -- The text is refused, and the cause is true of the program that it means; after the answer of `twe check` comes the cause.
   -- Edits that may mend it are tried, and what is said of those after which it is accepted comes last.
   caused : (refusal : Refusal) (cause : RuleCause) (tree : Ast) (p : Program) (remarks : List (List ℕ))

@@ -46,7 +46,7 @@ next_notes p st makings mv = next_notes_at p st makings mv (place_of_row p (slic
 -- at most 20 legal moves are shown
 abbrev pub next_remarks : ℕ → List (List ℕ)
 next_remarks count =
-  if count == 20 then codes "no more than 20 moves are shown, of the tasks with the lowest numbers" ∷ [] else []
+    if count == 20 then codes "no more than 20 moves are shown, of the tasks with the lowest numbers" ∷ [] else []
 
 -- what is said of a run that goes on with one of these moves
 abbrev pub next_explanation : Program → State → List Making → List Move → Explanation

@@ -60,7 +60,7 @@ forbidden_notes p st makings task (WaitsFor other) = wait_notes p st task other
 -- what would have to be so
 abbrev pub forbidden_remark : State → Why → List ℕ
 forbidden_remark st NoTask =
-  codes "tasks are numbered from 0 as they are made; so many there are before this move: " ++ decimal (length st.tasks)
+    codes "tasks are numbered from 0 as they are made; so many there are before this move: " ++ decimal (length st.tasks)
 forbidden_remark st NotMade = codes "a task is admitted once; a spawned one is enabled as it is made"
 forbidden_remark st (HeldBy holder) = held_rule
 forbidden_remark st NotEnabled = codes "a task runs after its admission, and until it is done"
