@@ -7,6 +7,7 @@ import importlib.machinery
 import importlib.util
 import os
 import pathlib
+import re
 import resource
 import subprocess
 import sys
@@ -67,6 +68,12 @@ def least(command, text, times):
     """The last of so many runs, with the least time by the clock and the least processor time of all."""
     made = [done(command, text) for _ in range(times)]
     return Run(0, made[-1].out, made[-1].err, min(it.clock for it in made), min(it.spent for it in made), max(it.memory for it in made))
+
+
+def instructions(command, text):
+    """How many instructions a command takes on a text, which has to end with status 0, as valgrind counts them."""
+    counted = done(['valgrind', '--tool=cachegrind', '--cache-sim=no', '--cachegrind-out-file=/dev/null', *command], text)
+    return int(re.search(r'I\s+refs:\s+([\d,]+)', counted.err.decode())[1].replace(',', ''))
 
 
 def growth_shapes():

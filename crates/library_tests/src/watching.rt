@@ -21,7 +21,7 @@ task void main() pure { int i = 0; while (i < 9) { future f = c.executeLater(); 
 
 /// `main` makes more tasks than one worker has room for on a floor, and each is worth one.
 const MANY: &[u8] = b"task void c() pure { int i = 0; while (i < 2000) { i = i + 1; } }\n\
-task void main() pure { int i = 0; while (i < 1200) { future f = c.executeLater(); i = i + 1; } }\n";
+task void main() pure { int i = 0; while (i < 1300) { future f = c.executeLater(); i = i + 1; } }\n";
 
 /// A gate at which tasks come together by threes, in the order in which they come. A task waits there until its three are
 /// complete, and its worker runs nothing else meanwhile. Once a task has waited in vain, no other one waits.
@@ -119,9 +119,9 @@ fn three_workers_share_the_tasks_that_one_makes(rt: HostRuntime) -> Result<(), F
 fn a_second_floor_is_laid_out(rt: HostRuntime) -> Result<(), Fail> {
     // A worker has room for 1,024 new tasks on a floor, and runs 64 segments on the first one. The last tasks run on a floor that
     // the work before it has paid for.
-    let gate = Threes::new(1198, 0);
+    let gate = Threes::new(1298, 0);
     let ran = step_and_round(&rt, rt.alloc(), MANY, 3, &gate)?;
-    assert_eq!(rt; ran, all_done(1201));
+    assert_eq!(rt; ran, all_done(1301));
     assert_eq!(rt; gate.met(), 3);
     Ok(())
 }
