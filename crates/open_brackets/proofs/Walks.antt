@@ -18,12 +18,12 @@ use Rattle.twe_parser.specs.inner.Reading.{concat}
 use Rattle.twe_parser.proofs.Cuts.{cut_split, cut_append, tokens_from_append}
 use Rattle.twe_parser.proofs.Located.{concat_append, token_of}
 use Rattle.open_brackets.specs.Open.{AreOpenAt, open_after, open_of}
-use Rattle.open_brackets.specs.inner.Walked.{HasWalked}
+use Rattle.open_brackets.specs.inner.Walked.{HasWalked, open_if}
 use Rattle.open_brackets.specs.declared.walk.Walk.{Walk}
 
 -- nothing is passed yet
-pub not_begun : (text : List ℕ) (walk : Walk) → walk.place ≡ place_after [] → walk.open ≡ [] → HasWalked text text walk
-not_begun text walk place open = record { lexemes = []; cut = refl; place_is = place; open_is = open }
+pub not_begun : (text : List ℕ) (walk : Walk) → walk.place ≡ place_after [] → walk.places ≡ [] → HasWalked text text walk
+not_begun text walk place places = record { lexemes = []; cut = refl; place_is = place; open_is = places }
 
 -- lines and columns can be counted
 pub lines_fit : (text rest : List ℕ) (walk : Walk) → HasWalked text rest walk → walk.place.line + length rest ≤ length text + 1
@@ -53,7 +53,7 @@ concat_snoc : (lexemes : List (List ℕ)) (bytes : List ℕ) → concat (lexemes
 concat_snoc lexemes bytes = concat_append lexemes (bytes ∷ []) ∙ ap (λ (more : List ℕ). concat lexemes ++ more) (append-nil bytes)
 
 module _ (text rest : List ℕ) (walk : Walk) (walked : HasWalked text rest walk) (lexeme : Lexeme) (front : Opens lexeme rest) where
-  bytes : List ℕ
+  abbrev pub bytes : List ℕ
   bytes = take lexeme.len rest
 
   cut_more : AreFirstLexemes (walked.lexemes ++ bytes ∷ []) text (drop lexeme.len rest)
@@ -67,8 +67,8 @@ module _ (text rest : List ℕ) (walk : Walk) (walked : HasWalked text rest walk
   next_is next moves = moves (concat walked.lexemes) walked.place_is ∙ ap place_after (sym (concat_snoc walked.lexemes bytes))
 
   -- one more blank or comment
-  pub gap_passed : (after : Walk) → Moves after.place → lexeme.token ≡ None → after.open ≡ walk.open → HasWalked text (drop lexeme.len rest) after
-  gap_passed after moves none open =
+  pub gap_passed : (after : Walk) → Moves after.place → lexeme.token ≡ None → after.places ≡ walk.places → HasWalked text (drop lexeme.len rest) after
+  gap_passed after moves none places =
       let gap = no_kind bytes (is_gap bytes) refl (sym none ∙ front.token) in
       let same : tokens_from [] (walked.lexemes ++ bytes ∷ []) ≡ tokens_from [] walked.lexemes =
       tokens_from_append [] walked.lexemes (bytes ∷ [])
@@ -77,13 +77,13 @@ module _ (text rest : List ℕ) (walk : Walk) (walked : HasWalked text rest walk
         lexemes = walked.lexemes ++ bytes ∷ [];
         cut = cut_more;
         place_is = next_is after.place moves;
-        open_is = open ∙ walked.open_is ∙ ap open_of (sym same);
+        open_is = places ∙ walked.open_is ∙ ap open_of (sym same);
       }
 
   -- one more token
   pub token_passed : (after : Walk) → Moves after.place → (kind : TokenKind) → lexeme.token ≡ Some kind
-      → after.open ≡ open_after walk.open (record { kind = kind; place = walk.place }) → HasWalked text (drop lexeme.len rest) after
-  token_passed after moves kind is open =
+      → after.places ≡ open_after walk.places (record { kind = kind; place = walk.place }) → HasWalked text (drop lexeme.len rest) after
+  token_passed after moves kind is places =
       let the = some_kind bytes (is_gap bytes) kind refl (sym is ∙ front.token) in
       let here : Token = token_of (concat walked.lexemes) bytes in
       let token : ◌≡◌ {A = Token} (record { kind = kind; place = walk.place }) here = λ i. record { kind = the.1 i; place = walked.place_is i } in
@@ -95,12 +95,18 @@ module _ (text rest : List ℕ) (walk : Walk) (walked : HasWalked text rest walk
         lexemes = walked.lexemes ++ bytes ∷ [];
         cut = cut_more;
         place_is = next_is after.place moves;
-        open_is = open ∙ ap (λ (t : Token). open_after walk.open t) token ∙ ap (λ (o : List Place). open_after o here) walked.open_is
+        open_is = places ∙ ap (λ (t : Token). open_after walk.places t) token ∙ ap (λ (o : List Place). open_after o here) walked.open_is
             ∙ sym folded ∙ ap open_of (sym same);
       }
 
+  -- one more lexeme
+  pub passed : (after : Walk) → Moves after.place → (token : Option TokenKind) → lexeme.token ≡ token
+      → after.places ≡ open_if walk.places token walk.place → HasWalked text (drop lexeme.len rest) after
+  passed after moves None is places = gap_passed after moves is places
+  passed after moves (Some kind) is places = token_passed after moves kind is places
+
 -- what is open where the walk stands
-pub stands : (text rest : List ℕ) (walk : Walk) (place : Place) → HasWalked text rest walk → walk.place ≡ place → AreOpenAt text place walk.open
+pub stands : (text rest : List ℕ) (walk : Walk) (place : Place) → HasWalked text rest walk → walk.place ≡ place → AreOpenAt text place walk.places
 stands text rest walk place walked is = record {
   before = concat walked.lexemes;
   rest = rest;

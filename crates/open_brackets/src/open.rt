@@ -2,6 +2,7 @@
 ghost use Rattle.std.specs.Prelude.{◌≡◌, OnOk};
 ghost use Rattle.twe_parser.specs.Limits.{closes, opens};
 ghost use Rattle.open_brackets.specs.Open.{open_after};
+ghost use Rattle.open_brackets.specs.inner.Walked.{open_if};
 
 use twe_base::{List, Memory, Place};
 use twe_lexer::{Fixed, TokenKind};
@@ -34,7 +35,7 @@ fn closes(kind: &TokenKind) -> bool
 }
 
 /// Takes one more token: an opening bracket is open, and a closing one closes the last that is open.
-pub(crate) fn take_token(places: &mut Places, kind: &TokenKind, place: Place) -> Result<(), Memory>
+fn take_token(places: &mut Places, kind: &TokenKind, place: Place) -> Result<(), Memory>
     ensures { OnOk result (places.new ≡ open_after places.old (record { kind = kind.now; place = place })) }
 {
     if opens(kind) {
@@ -45,4 +46,18 @@ pub(crate) fn take_token(places: &mut Places, kind: &TokenKind, place: Place) ->
         places.truncate(count.saturating_sub(1));
     }
     Ok(())
+}
+
+/// Takes one more lexeme, which is a token of this kind, or none.
+pub(crate) fn take_if(
+    places: &mut Places,
+    token: &Option<TokenKind>,
+    place: Place,
+) -> Result<(), Memory>
+    ensures { OnOk result (places.new ≡ open_if places.old token.now place) }
+{
+    match token {
+        None => Ok(()),
+        Some(kind) => take_token(places, kind, place),
+    }
 }

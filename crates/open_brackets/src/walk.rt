@@ -4,7 +4,7 @@ ghost use Rattle.twe_lexer.specs.Front.{Opens};
 ghost use Rattle.open_brackets.specs.Open.{AreOpenAt};
 ghost use Rattle.open_brackets.specs.inner.Walked.{HasWalked};
 
-use crate::open::{Places, take_token};
+use crate::open::{Places, take_if};
 use std::alloc::Global;
 use twe_base::{Memory, Place};
 use twe_lexer::{Lexeme, LexemeFail, first_lexeme, first_place, place_past};
@@ -15,7 +15,7 @@ pub(crate) struct Walk {
     /// The place of the next byte.
     pub place: Place,
     /// The places of the brackets that are open, the outermost first.
-    pub open: Places,
+    pub places: Places,
 }
 
 /// The first lexeme of a text, if it has one that may stand in a program.
@@ -40,9 +40,7 @@ fn pass_lexeme(walk: &mut Walk, rest: &[u8], lexeme: &Lexeme) -> Result<(), Memo
         → HasWalked text (drop lexeme.now.len rest.now) walk.new) }
 {
     let (bytes, _) = rest.split_at(lexeme.len);
-    if let Some(kind) = &lexeme.token {
-        take_token(&mut walk.open, kind, walk.place)?;
-    }
+    take_if(&mut walk.places, &lexeme.token, walk.place)?;
     walk.place = place_past(walk.place, bytes);
     Ok(())
 }
@@ -54,7 +52,7 @@ fn first_walk(alloc: Global, text: &[u8]) -> Walk
     let _ = text;
     Walk {
         place: first_place(),
-        open: Places::new(alloc),
+        places: Places::new(alloc),
     }
 }
 
@@ -68,7 +66,7 @@ pub fn open_at(alloc: Global, text: &[u8], place: Place) -> Result<Option<Places
     let mut rest = text;
     while !rest.is_empty() {
         if walk.place == place {
-            return Ok(Some(walk.open));
+            return Ok(Some(walk.places));
         }
         let Some(lexeme) = front_of(alloc, rest)? else {
             return Ok(None);
@@ -77,7 +75,7 @@ pub fn open_at(alloc: Global, text: &[u8], place: Place) -> Result<Option<Places
         rest = rest.split_at(lexeme.len).1;
     }
     if walk.place == place {
-        Ok(Some(walk.open))
+        Ok(Some(walk.places))
     } else {
         Ok(None)
     }

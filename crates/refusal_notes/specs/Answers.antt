@@ -1,5 +1,7 @@
 -- What the program answers to a text.
-use Rattle.std.specs.Prelude.{◌≡◌, ℕ, true, false, List}
+use Rattle.std.specs.Prelude.{◌≡◌, ℕ, true, false, List, Option, IfSome}
+use Rattle.twe_base.specs.declared.place.Place.{Place}
+use Rattle.open_brackets.specs.Open.{AreOpenAt}
 use Rattle.twe_ast.specs.declared.item.Ast.{Ast}
 use Rattle.twe_program.specs.Program.{Program}
 use Rattle.twe_frontend.specs.declared.refusal.Refusal.{Refusal}
@@ -13,14 +15,13 @@ use Rattle.twe_report.specs.Texts.{accepted_text}
 use Rattle.twe_io.specs.declared.answer.Answer.{Answer}
 use Rattle.twe_io.specs.declared.status.Status.TheVariants.{Done, Refused}
 use Rattle.twe_io.specs.Answers.{on_out}
-use Rattle.refusal_notes.specs.Explanation.{explanation_by, explanation_of}
+use Rattle.refusal_notes.specs.Explanation.{explanation_by, place_of_cause}
 use Rattle.place_notes.specs.declared.note.Explanation.{Explanation}
 use Rattle.refusal_notes.specs.declared.mends.Mend.{Mend}
 use Rattle.refusal_notes.specs.Mends.{AreTried, mends_for}
 use Rattle.name_notes.specs.Named.{named_explanation}
-use Rattle.refusal_notes.specs.Tokens.{stray_explanation}
+use Rattle.refusal_notes.specs.Unclosed.{unclosed_explanation}
 use Rattle.name_notes.specs.Variables.{variables_at}
-use Rattle.refusal_notes.specs.Explanation.{place_of_cause}
 use Rattle.explain_pages.specs.Page.{refused_text}
 use Rattle.explain_pages.specs.declared.wanted.Wanted.{Wanted}
 
@@ -36,13 +37,14 @@ mends_of text refusal cause tree p = mends_for text refusal.place cause p.region
 pub data ExplainDue (wanted : Wanted) (text : List ℕ) : Answer → Type 0 where
   -- the text is accepted, as `twe check` says
   accepted : (p : Program) → Accepted text p → ExplainDue wanted text (on_out Done accepted_text)
-  -- the text is refused; after the answer of `twe check` comes what every refusal by this rule has
+  -- the text is refused at a byte, a number, a bracket, an operator or a comment, of which it is said what fails
   refused : (refusal : Refusal) → IsRefusal text refusal → is_of_tokens refusal.rule ≡ false → is_of_names refusal.rule ≡ false
-      → ExplainDue wanted text (on_out Refused (refused_text wanted text refusal (explanation_of refusal)))
-  -- the text is refused at a token that may not stand at its place, or at its end; what may stand there comes last
-  stray : (refusal : Refusal) (tokens : List NextToken) → IsRefusal text refusal → is_of_tokens refusal.rule ≡ true
-      → AreNextAt text refusal.place tokens
-      → ExplainDue wanted text (on_out Refused (refused_text wanted text refusal (stray_explanation refusal tokens)))
+      → ExplainDue wanted text (on_out Refused (refused_text wanted text refusal (early_explanation text refusal)))
+  -- the text is refused at a token that may not stand at its place, or at its end, with the brackets that are open there if they
+  -- are looked for; what may stand there comes last
+  stray : (refusal : Refusal) (tokens : List NextToken) (places : Option (List Place)) → IsRefusal text refusal
+      → is_of_tokens refusal.rule ≡ true → AreNextAt text refusal.place tokens → IfSome places (AreOpenAt text refusal.place)
+      → ExplainDue wanted text (on_out Refused (refused_text wanted text refusal (unclosed_explanation refusal tokens places)))
   -- The text is refused by a rule of names, and the cause is true of its tree: what is needed at the place, and what is there.
   -- The declaration of the name that stands there is shown, too, if it has one.
   named : (refusal : Refusal) (cause : NameNeed) (tree : Ast) → IsRefusal text refusal → is_of_names refusal.rule ≡ true

@@ -3,5 +3,7 @@ pub mod Ruled
 pub mod Explanation
 pub mod Tokens
 pub mod Edits
+pub mod Early
+pub mod Unclosed
 pub mod Mends
 pub mod Answers

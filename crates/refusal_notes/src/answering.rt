@@ -6,9 +6,10 @@ ghost use Rattle.refusal_causes.specs.Explained.{IsCausedBy, IsExplained, IsName
 ghost use Rattle.refusal_causes.specs.NextTokens.{AreNextAt};
 ghost use Rattle.twe_frontend.specs.Accepted.{IsRefusal, IsTreeOf};
 
-use crate::explanation::{explanation_by, explanation_of, place_of_cause};
+use crate::early::early_explanation;
+use crate::explanation::{explanation_by, place_of_cause};
 use crate::mends::{mends_for, try_mends};
-use crate::tokens::stray_explanation;
+use crate::unclosed::{unclosed_at, unclosed_explanation};
 use explain_pages::{Wanted, refused_text};
 use name_needs::NameNeed;
 use name_notes::{named_explanation, variables_at};
@@ -69,7 +70,7 @@ fn answer_refusal(
     requires names { is_of_names refusal.rule ≡ false }
     ensures { IfOk result (ExplainDue wanted.now text.now) }
 {
-    let explanation = explanation_of(alloc, refusal)?;
+    let explanation = early_explanation(alloc, text, refusal)?;
     let lines = refused_text(alloc, wanted, text, refusal, &explanation)?;
     Ok(Answer::on_out(alloc, Status::Refused, lines))
 }
@@ -87,7 +88,8 @@ fn answer_stray(
     requires may { AreNextAt text.now refusal.place tokens.now }
     ensures { IfOk result (ExplainDue wanted.now text.now) }
 {
-    let explanation = stray_explanation(alloc, refusal, tokens)?;
+    let places = unclosed_at(alloc, text, refusal)?;
+    let explanation = unclosed_explanation(alloc, refusal, tokens, &places)?;
     let lines = refused_text(alloc, wanted, text, refusal, &explanation)?;
     Ok(Answer::on_out(alloc, Status::Refused, lines))
 }

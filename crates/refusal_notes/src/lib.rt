@@ -2,11 +2,13 @@
 #![tactic(auto)]
 
 mod answering;
+mod early;
 mod edits;
 mod effects;
 mod explanation;
 mod mends;
 mod ruled;
 mod tokens;
+mod unclosed;
 
 pub use answering::explain_text;

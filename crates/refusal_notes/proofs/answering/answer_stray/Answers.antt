@@ -14,4 +14,4 @@ returns c =
     subst (ExplainDue wanted text)
     (sym (c.on_out.ensures ∙ ap (on_out Refused) (c.in_ok-lines.ensures
     ∙ ap (λ (explanation : Explanation). refused_text wanted text c.args.refusal explanation) c.in_ok-explanation.ensures)))
-    (ExplainDue.stray c.args.refusal c.args.tokens.now c.requires.refused c.requires.stray c.requires.may)
+    (ExplainDue.stray c.args.refusal c.args.tokens.now c.in_ok-places.places c.requires.refused c.requires.stray c.requires.may c.in_ok-places.ensures)
