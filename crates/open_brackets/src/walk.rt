@@ -1,5 +1,5 @@
 //! The walk through a text up to a place.
-ghost use Rattle.std.specs.Prelude.{◌≡◌, ◌+◌, ◌<◌, ◌^◌, ℕ, List as Codes, drop, length, IfOk, IfSome, OnOk};
+ghost use Rattle.std.specs.Prelude.{◌≡◌, ◌+◌, ◌<◌, ◌^◌, ℕ, List as Codes, drop, length, true, IfOk, IfSome, OnOk};
 ghost use Rattle.twe_lexer.specs.Front.{Opens};
 ghost use Rattle.open_brackets.specs.Open.{AreOpenAt};
 ghost use Rattle.open_brackets.specs.inner.Walked.{HasWalked};
@@ -45,6 +45,13 @@ fn pass_lexeme(walk: &mut Walk, rest: &[u8], lexeme: &Lexeme) -> Result<(), Memo
     Ok(())
 }
 
+/// Whether the walk has come to the place.
+fn is_at(walk: &Walk, place: Place) -> bool
+    ensures { result ≡ true → walk.now.place ≡ place }
+{
+    walk.place == place
+}
+
 /// A walk that has not begun.
 fn first_walk(alloc: Global, text: &[u8]) -> Walk
     ensures { HasWalked text.now text.now result }
@@ -65,7 +72,7 @@ pub fn open_at(alloc: Global, text: &[u8], place: Place) -> Result<Option<Places
     let mut walk = first_walk(alloc, text);
     let mut rest = text;
     while !rest.is_empty() {
-        if walk.place == place {
+        if is_at(&walk, place) {
             return Ok(Some(walk.places));
         }
         let Some(lexeme) = front_of(alloc, rest)? else {
@@ -74,7 +81,7 @@ pub fn open_at(alloc: Global, text: &[u8], place: Place) -> Result<Option<Places
         pass_lexeme(&mut walk, rest, &lexeme)?;
         rest = rest.split_at(lexeme.len).1;
     }
-    if walk.place == place {
+    if is_at(&walk, place) {
         Ok(Some(walk.places))
     } else {
         Ok(None)

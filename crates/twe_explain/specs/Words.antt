@@ -1,10 +1,9 @@
 -- What the words after the program's name ask for: `--name FILE`, `--lines`, and `--run`, beside which `--fuel N` and `--tasks N`
 -- may stand. Each stands at most once, and they may stand in any order. Other words ask for nothing.
 use Rattle.std.specs.Prelude.{ℕ, Bool, true, false, ◌&&◌, ◌||◌, not, List, [], Option, None, Some, unwrap_or, is_some, codes, bytes_eq, fold, if◌then◌else◌}
-use Rattle.twe_base.specs.Language.{default_fuel, default_tasks}
+use Rattle.twe_base.specs.Language.{default_fuel, default_tasks, max_fuel, max_tasks}
 use Rattle.twe_base.specs.Limits.{Bounds}
-use Rattle.command_line.specs.Options.{number_for}
-use Rattle.command_line.specs.declared.setting.Setting.TheVariants as settings
+use Rattle.command_line.specs.Numbers.{number_between}
 use Rattle.explain_pages.specs.declared.wanted.Wanted.{Wanted}
 use Rattle.twe_explain.specs.declared.words.Asked.{Asked}
 use Rattle.twe_explain.specs.declared.words.NextWord.{NextWord}
@@ -49,8 +48,8 @@ tasks_taken asked (Some tasks) =
 abbrev pub word_taken_as : NextWord → Asked → List ℕ → Asked
 word_taken_as AnOption asked word = option_taken asked word
 word_taken_as Name asked word = record asked { name = Some word; next = AnOption }
-word_taken_as Fuel asked word = fuel_taken asked (number_for settings.Fuel word)
-word_taken_as Tasks asked word = tasks_taken asked (number_for settings.Tasks word)
+word_taken_as Fuel asked word = fuel_taken asked (number_between 0 max_fuel word)
+word_taken_as Tasks asked word = tasks_taken asked (number_between 1 max_tasks word)
 word_taken_as Nothing asked word = asked
 
 abbrev pub word_taken : Asked → List ℕ → Asked

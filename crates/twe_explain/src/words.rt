@@ -1,7 +1,7 @@
 //! What the words after the program's name ask for.
 ghost use Rattle.std.specs.Prelude.{◌≡◌, IfOk, OnOk};
-ghost use Rattle.command_line.specs.Options.{number_for};
-ghost use Rattle.command_line.specs.declared.setting.Setting.TheVariants as settings;
+ghost use Rattle.command_line.specs.Numbers.{number_between as between};
+ghost use Rattle.twe_base.specs.Language.{max_fuel, max_tasks};
 ghost use Rattle.twe_explain.specs.declared.words.NextWord.TheVariants.{Name};
 ghost use Rattle.twe_explain.specs.Words.{asked_in, asked_first, fuel_taken, is_option, is_whole, option_taken, run_of, tasks_taken, wish_made, wish_of, word_taken, word_taken_as};
 
@@ -99,7 +99,7 @@ fn take_name(asked: &mut Asked, alloc: Global, word: &Word) -> Result<(), Memory
 
 /// Takes the number that a word gives as the fuel of each task.
 fn take_fuel(asked: &mut Asked, word: &Word)
-    ensures { asked.new ≡ fuel_taken asked.old (number_for settings.Fuel word.now) }
+    ensures { asked.new ≡ fuel_taken asked.old (between 0 max_fuel word.now) }
 {
     match number_between(0, Limits::MAX_FUEL, word.as_bytes()) {
         None => asked.next = NextWord::Nothing,
@@ -113,7 +113,7 @@ fn take_fuel(asked: &mut Asked, word: &Word)
 
 /// Takes the number that a word gives as that of the tasks that may be made.
 fn take_tasks(asked: &mut Asked, word: &Word)
-    ensures { asked.new ≡ tasks_taken asked.old (number_for settings.Tasks word.now) }
+    ensures { asked.new ≡ tasks_taken asked.old (between 1 max_tasks word.now) }
 {
     match number_between(1, u64::from(Limits::MAX_TASKS), word.as_bytes()) {
         None => asked.next = NextWord::Nothing,
