@@ -4,7 +4,6 @@ use Rattle.std.specs.Prelude.{ℕ, Bool, true, false, ◌&&◌, ◌||◌, not, L
 use Rattle.twe_base.specs.Language.{default_fuel, default_tasks, max_fuel, max_tasks}
 use Rattle.twe_base.specs.Limits.{Bounds}
 use Rattle.command_line.specs.Numbers.{number_between}
-use Rattle.explain_pages.specs.declared.wanted.Wanted.{Wanted}
 use Rattle.twe_explain.specs.declared.words.Asked.{Asked}
 use Rattle.twe_explain.specs.declared.words.NextWord.{NextWord}
 use Rattle.twe_explain.specs.declared.words.NextWord.TheVariants.{Option as AnOption, Name, Fuel, Tasks, Nothing}

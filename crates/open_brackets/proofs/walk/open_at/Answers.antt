@@ -1,4 +1,4 @@
-use Rattle.std.proofs.Common.{◌+◌, ◌<◌, ◌^◌, length, arith}
+use Rattle.std.proofs.Common.{arith}
 use Rattle.open_brackets.proofs.Walks.{columns_fit, lines_fit, stands}
 use Rattle.open_brackets.proofs.walk.open_at.Goals as goal
 
