@@ -4,5 +4,5 @@
 mod open;
 mod walk;
 
-pub use open::Places;
+pub use open::OpenPlaces;
 pub use walk::open_at;

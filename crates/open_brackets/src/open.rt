@@ -7,8 +7,8 @@ ghost use Rattle.open_brackets.specs.inner.Walked.{open_if};
 use twe_base::{List, Memory, Place};
 use twe_lexer::{Fixed, TokenKind};
 
-/// Places, one after another.
-pub type Places = List<Place>;
+/// OpenPlaces, one after another.
+pub type OpenPlaces = List<Place>;
 
 /// Whether it is an opening bracket.
 fn opens(kind: &TokenKind) -> bool
@@ -35,7 +35,7 @@ fn closes(kind: &TokenKind) -> bool
 }
 
 /// Takes one more token: an opening bracket is open, and a closing one closes the last that is open.
-fn take_token(places: &mut Places, kind: &TokenKind, place: Place) -> Result<(), Memory>
+fn take_token(places: &mut OpenPlaces, kind: &TokenKind, place: Place) -> Result<(), Memory>
     ensures { OnOk result (places.new ≡ open_after places.old (record { kind = kind.now; place = place })) }
 {
     if opens(kind) {
@@ -50,7 +50,7 @@ fn take_token(places: &mut Places, kind: &TokenKind, place: Place) -> Result<(),
 
 /// Takes one more lexeme, which is a token of this kind, or none.
 pub(crate) fn take_if(
-    places: &mut Places,
+    places: &mut OpenPlaces,
     token: &Option<TokenKind>,
     place: Place,
 ) -> Result<(), Memory>

@@ -4,7 +4,7 @@ ghost use Rattle.twe_lexer.specs.Front.{Opens};
 ghost use Rattle.open_brackets.specs.Open.{AreOpenAt};
 ghost use Rattle.open_brackets.specs.inner.Walked.{HasWalked};
 
-use crate::open::{Places, take_if};
+use crate::open::{OpenPlaces, take_if};
 use std::alloc::Global;
 use twe_base::{Memory, Place};
 use twe_lexer::{Lexeme, LexemeFail, first_lexeme, first_place, place_past};
@@ -15,7 +15,7 @@ pub(crate) struct Walk {
     /// The place of the next byte.
     pub place: Place,
     /// The places of the brackets that are open, the outermost first.
-    pub places: Places,
+    pub places: OpenPlaces,
 }
 
 /// The first lexeme of a text, if it has one that may stand in a program.
@@ -59,13 +59,13 @@ fn first_walk(alloc: Global, text: &[u8]) -> Walk
     let _ = text;
     Walk {
         place: first_place(),
-        places: Places::new(alloc),
+        places: OpenPlaces::new(alloc),
     }
 }
 
 /// The places of the brackets that are open at a place of a text, the outermost first; nothing if no lexeme ends there, or
 /// something before it may not stand in a program.
-pub fn open_at(alloc: Global, text: &[u8], place: Place) -> Result<Option<Places>, Memory>
+pub fn open_at(alloc: Global, text: &[u8], place: Place) -> Result<Option<OpenPlaces>, Memory>
     requires { length text.now + 1 < 2 ^ 32 }
     ensures { IfOk result (λ found. IfSome found (AreOpenAt text.now place)) }
 {

@@ -6,7 +6,7 @@ ghost use Rattle.refusal_causes.specs.NextTokens.{is_of_end};
 ghost use Rattle.refusal_notes.specs.Unclosed.{bracket_notes, unclosed_explanation, unclosed_notes};
 
 use crate::tokens::stray_explanation;
-use open_brackets::{Places, open_at};
+use open_brackets::{OpenPlaces, open_at};
 use place_notes::{Explanation, Note};
 use refusal_causes::NextToken;
 use std::alloc::Global;
@@ -32,7 +32,7 @@ pub(crate) fn unclosed_at(
     alloc: Global,
     text: &[u8],
     refusal: Refusal,
-) -> Result<Option<Places>, Memory>
+) -> Result<Option<OpenPlaces>, Memory>
     ensures { IfOk result (λ found. IfSome found (AreOpenAt text.now refusal.place)) }
 {
     if !is_of_end(refusal.rule) || text.len() >= u32::MAX as usize {
@@ -70,7 +70,7 @@ fn brackets_notes(alloc: Global, places: &[Place]) -> Result<List<Note>, Memory>
 }
 
 /// What is said of the brackets that were found.
-fn unclosed_notes(alloc: Global, places: &Option<Places>) -> Result<List<Note>, Memory>
+fn unclosed_notes(alloc: Global, places: &Option<OpenPlaces>) -> Result<List<Note>, Memory>
     ensures { IfOk result (λ notes. notes ≡ unclosed_notes places.now) }
 {
     match places {
@@ -84,7 +84,7 @@ pub(crate) fn unclosed_explanation(
     alloc: Global,
     refusal: Refusal,
     tokens: &[NextToken],
-    places: &Option<Places>,
+    places: &Option<OpenPlaces>,
 ) -> Result<Explanation, Memory>
     ensures { IfOk result (λ explanation. explanation ≡ unclosed_explanation refusal tokens.now places.now) }
 {
