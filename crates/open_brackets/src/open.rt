@@ -7,7 +7,7 @@ ghost use Rattle.open_brackets.specs.inner.Walked.{open_if};
 use twe_base::{List, Memory, Place};
 use twe_lexer::{Fixed, TokenKind};
 
-/// OpenPlaces, one after another.
+/// Places of open brackets, the outermost first.
 pub type OpenPlaces = List<Place>;
 
 /// Whether it is an opening bracket.
