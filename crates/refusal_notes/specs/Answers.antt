@@ -15,6 +15,7 @@ use Rattle.twe_report.specs.Texts.{accepted_text}
 use Rattle.twe_io.specs.declared.answer.Answer.{Answer}
 use Rattle.twe_io.specs.declared.status.Status.TheVariants.{Done, Refused}
 use Rattle.twe_io.specs.Answers.{on_out}
+use Rattle.refusal_notes.specs.Early.{early_explanation}
 use Rattle.refusal_notes.specs.Explanation.{explanation_by, place_of_cause}
 use Rattle.place_notes.specs.declared.note.Explanation.{Explanation}
 use Rattle.refusal_notes.specs.declared.mends.Mend.{Mend}

@@ -13,8 +13,8 @@ tell_run-requires c =
     record { legal = ran.legal; same = ran.state }
 
 -- and has what accepted runs have
-pub returns-in_ok-answer : goal.returns-in_ok-answer
-returns-in_ok-answer c =
+pub returns : goal.returns
+returns c =
     let p = c.args.p.now in
     let lim = c.args.lim in
     let ran = c.in_ok-journal.ensures in
