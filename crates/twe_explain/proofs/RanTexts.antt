@@ -37,6 +37,7 @@ pub due_of_run : (wanted : Wanted) (text : List ℕ) (p : Program) (lim : Bounds
     → EachAtMostOnce journal → AlwaysIsolated p lim journal → AlwaysCovered p lim journal
     → DeterministicTasksHaveResults p lim journal → MainHasItsResult p lim journal
     → RunTold wanted text p lim journal st answer → RunDue wanted text lim answer
+unfolding book_of
 due_of_run wanted text p lim journal st answer accepted run lowest over once most isolated covered results of_main told =
     let ended = outcome_of wanted text p lim journal st answer told in
     let book = book_of p journal ended.0 in

@@ -2,12 +2,18 @@
 use Rattle.twe_report.specs.Texts.{line}
 use Rattle.std.specs.Prelude.{ℕ, List, [], ◌∷◌, ◌++◌, Option, None, Some, codes, bytes_eq, if◌then◌else◌}
 
--- how the program is called
+-- how the program is called, for a text or a journal, for a run, and for a text by itself
+abbrev pub call_of_text : List ℕ
+call_of_text = codes "usage: twe_explain [--name FILE] [--lines] < TEXT\n"
+
+abbrev pub call_of_run : List ℕ
+call_of_run = codes "       twe_explain --run [--fuel N] [--tasks N] [--name FILE] [--lines] < TEXT\n"
+
+abbrev pub call_alone : List ℕ
+call_alone = codes "       twe_explain --help | --version\n\n"
+
 abbrev pub call_text : List ℕ
-call_text =
-    codes "usage: twe_explain [--name FILE] [--lines] < TEXT\n"
-    ++ (codes "       twe_explain --run [--fuel N] [--tasks N] [--name FILE] [--lines] < TEXT\n"
-    ++ codes "       twe_explain --help | --version\n\n")
+call_text = call_of_text ++ (call_of_run ++ call_alone)
 
 -- what it does
 abbrev pub purpose_text : List ℕ
@@ -36,10 +42,14 @@ alone_text =
     ++ codes "The status is that of twe check: 0 if the text is accepted, 1 if it is refused.\n"
 
 -- the status if there is a journal, and if the text is run
+abbrev pub journal_status : List ℕ
+journal_status = codes "If a line %% and a journal come after the text, it is that of twe replay.\n"
+
+abbrev pub run_status : List ℕ
+run_status = codes "With --run it is that of twe run without workers.\n"
+
 abbrev pub replay_text : List ℕ
-replay_text =
-    codes "If a line %% and a journal come after the text, it is that of twe replay.\n"
-    ++ codes "With --run it is that of twe run without workers.\n"
+replay_text = journal_status ++ run_status
 
 -- what the program does, and its words
 unfoldable pub help_text : List ℕ
