@@ -23,7 +23,7 @@ words_for() {
     twe_annotate) echo ' matrix | write | compare [NAME]' ;;
     twe_batch) echo ' check | run' ;;
     twe_draw) echo ' [order | trace]' ;;
-    twe_explain) echo ' [--name FILE] [--lines] | --help | --version' ;;
+    twe_explain) echo ' [--name FILE] [--lines] [--run [--fuel N] [--tasks N]] | --help | --version' ;;
     twe_opt) echo ' k' ;;
   esac
 }
@@ -66,15 +66,24 @@ is_command() {
   esac
 }
 
-# Whether the words are `--name FILE` and `--lines`, each at most once, or `--help` or `--version` alone.
+# Whether the words are `--name FILE`, `--lines` and `--run`, with `--fuel N` and `--tasks N` beside the last, each at most once, or
+# `--help` or `--version` alone.
 is_wish() {
-  case $# in
-    0) true ;;
-    1) [[ $1 == --lines || $1 == --help || $1 == --version ]] ;;
-    2) [[ $1 == --name ]] ;;
-    3) [[ $1 == --name && $3 == --lines || $1 == --lines && $2 == --name ]] ;;
-    *) false ;;
-  esac
+  local given=' ' name
+  [[ $# != 1 || ($1 != --help && $1 != --version) ]] || return 0
+  while (($#)); do
+    name=${1#--}
+    [[ $given != *" $name "* ]] || return 1
+    case $1 in
+      --lines | --run) ;;
+      --name) (($# > 1)) && shift || return 1 ;;
+      --fuel | --tasks) fits "$name" "${2-}" && shift || return 1 ;;
+      *) return 1 ;;
+    esac
+    given+="$name "
+    shift
+  done
+  [[ ($given != *' fuel '* && $given != *' tasks '*) || $given == *' run '* ]]
 }
 
 # Whether the words after the first one are options that it names, each at most once, and the size of a load exactly once.

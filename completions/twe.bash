@@ -60,10 +60,12 @@ _twe_draw() {
 }
 
 _twe_explain() {
-  local current=${COMP_WORDS[COMP_CWORD]} words=' --name --lines ' word given
+  local current=${COMP_WORDS[COMP_CWORD]} words=' --name --lines --run --fuel --tasks ' word given
   COMPREPLY=()
   [[ $current == -* ]] || return
-  [[ ${COMP_WORDS[COMP_CWORD - 1]} != --name ]] || return # a name stands here
+  case ${COMP_WORDS[COMP_CWORD - 1]} in
+    --name | --fuel | --tasks) return ;; # a name or a number stands here
+  esac
   ((COMP_CWORD > 1)) || words+='--help --version ' # these stand alone
   # Each option may be given once.
   for given in "${COMP_WORDS[@]:1:COMP_CWORD-1}"; do

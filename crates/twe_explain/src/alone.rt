@@ -1,6 +1,6 @@
 //! The texts that are asked for by one word, and for which nothing is read.
 ghost use Rattle.std.specs.Prelude.{◌≡◌, ◌++◌, IfOk, OnOk};
-ghost use Rattle.twe_explain.specs.Alone.{alone_text, call_text, help_text, lines_option, name_option, purpose_text, replay_text, text_alone, text_of_word, version_text};
+ghost use Rattle.twe_explain.specs.Alone.{alone_text, call_text, explain_usage_text, help_text, lines_option, name_option, purpose_text, replay_text, run_options, text_alone, text_of_word, version_text};
 
 use std::alloc::Global;
 use twe_base::{Bytes, Memory, Word};
@@ -9,9 +9,11 @@ use twe_base::{Bytes, Memory, Word};
 fn push_call(text: &mut Bytes) -> Result<(), Memory>
     ensures { OnOk result (text.new ≡ text.old ++ call_text) }
 {
+    text.push_all(b"usage: twe_explain [--name FILE] [--lines] < TEXT\n")?;
     text.push_all(
-        b"usage: twe_explain [--name FILE] [--lines] < TEXT\n       twe_explain --help | --version\n\n",
-    )
+        b"       twe_explain --run [--fuel N] [--tasks N] [--name FILE] [--lines] < TEXT\n",
+    )?;
+    text.push_all(b"       twe_explain --help | --version\n\n")
 }
 
 /// Appends what it does.
@@ -38,6 +40,17 @@ fn push_lines_option(text: &mut Bytes) -> Result<(), Memory>
     text.push_all(b"  --lines      each note in one line, FILE:LINE:COLUMN: TEXT, for editors\n")
 }
 
+/// Appends what the words for a run ask for.
+fn push_run_options(text: &mut Bytes) -> Result<(), Memory>
+    ensures { OnOk result (text.new ≡ text.old ++ run_options) }
+{
+    text.push_all(b"  --run        runs the text, and says why the run goes no further\n")?;
+    text.push_all(
+        b"  --fuel N     with --run: how much fuel each task has, from 0 to 100000000\n",
+    )?;
+    text.push_all(b"  --tasks N    with --run: how many tasks may be made, from 1 to 100000\n")
+}
+
 /// Appends the words that stand alone, and what the status is.
 fn push_alone(text: &mut Bytes) -> Result<(), Memory>
     ensures { OnOk result (text.new ≡ text.old ++ alone_text) }
@@ -48,11 +61,12 @@ fn push_alone(text: &mut Bytes) -> Result<(), Memory>
     )
 }
 
-/// Appends what the status is if there is a journal.
+/// Appends what the status is if there is a journal, and if the text is run.
 fn push_replay(text: &mut Bytes) -> Result<(), Memory>
     ensures { OnOk result (text.new ≡ text.old ++ replay_text) }
 {
-    text.push_all(b"If a line %% and a journal come after the text, it is that of twe replay.\n")
+    text.push_all(b"If a line %% and a journal come after the text, it is that of twe replay.\n")?;
+    text.push_all(b"With --run it is that of twe run without workers.\n")
 }
 
 /// What the program does, and its words.
@@ -65,6 +79,7 @@ fn help_text(alloc: Global) -> Result<Bytes, Memory>
     push_purpose(&mut text)?;
     push_name_option(&mut text)?;
     push_lines_option(&mut text)?;
+    push_run_options(&mut text)?;
     push_alone(&mut text)?;
     push_replay(&mut text)?;
     Ok(text)
@@ -99,4 +114,14 @@ pub(crate) fn text_alone(alloc: Global, words: &[Word]) -> Result<Option<Bytes>,
         [word] => text_of_word(alloc, word),
         _ => Ok(None),
     }
+}
+
+/// The usage line.
+pub(crate) fn usage_text(alloc: Global) -> Result<Bytes, Memory>
+    ensures { IfOk result (λ text. text ≡ explain_usage_text) }
+{
+    Bytes::from_slice(
+        alloc,
+        b"usage: twe_explain [--name FILE] [--lines] [--run [--fuel N] [--tasks N]] | --help | --version\n",
+    )
 }

@@ -2,26 +2,44 @@
 ghost use Rattle.std.specs.Prelude.{◌≡◌, ◌≤◌, length, true, IfOk};
 ghost use Rattle.text_answers.specs.Input.{has_mark, journal_part, program_part};
 ghost use Rattle.twe_base.specs.Language.{max_text_bytes};
-ghost use Rattle.twe_explain.specs.Inputs.{InputDue};
-ghost use Rattle.twe_explain.specs.Journals.{PartsDue};
+ghost use Rattle.twe_explain.specs.Inputs.{InputDue, PartsDue, WishDue};
 
-use crate::answering::answer_text;
-use crate::journals::answer_journal;
-use crate::words::Wanted;
+use crate::running::explain_run;
+use crate::words::Wish;
+use explain_pages::Wanted;
+use refusal_notes::explain_text;
+use run_notes::answer_journal;
 use std::alloc::Global;
 use text_answers::cut_at_mark;
 use twe_base::Memory;
 use twe_frontend::{FrontFail, read_program};
 use twe_io::Answer;
 
+/// The answer to an input, if this is asked for.
+pub(crate) fn answer_wish(alloc: Global, wish: &Wish, input: &[u8]) -> Result<Answer, Memory>
+    requires { length input.now ≤ max_text_bytes }
+    ensures { IfOk result (WishDue wish.now input.now) }
+{
+    match wish.run {
+        None => {
+            let answer = answer_input(alloc, &wish.wanted, input)?;
+            Ok(answer)
+        }
+        Some(lim) => {
+            let answer = explain_run(alloc, &wish.wanted, lim, input)?;
+            Ok(answer)
+        }
+    }
+}
+
 /// The answer to an input: to the text of a program, and if it has a line that is exactly `%%`, to the journal after it.
-pub(crate) fn answer_input(alloc: Global, wanted: &Wanted, input: &[u8]) -> Result<Answer, Memory>
+fn answer_input(alloc: Global, wanted: &Wanted, input: &[u8]) -> Result<Answer, Memory>
     requires { length input.now ≤ max_text_bytes }
     ensures { IfOk result (InputDue wanted.now input.now) }
 {
     match cut_at_mark(input) {
         None => {
-            let answer = answer_text(alloc, wanted, input)?;
+            let answer = explain_text(alloc, wanted, input)?;
             Ok(answer)
         }
         Some(parts) => answer_cut(alloc, wanted, input, parts),
@@ -61,7 +79,7 @@ fn answer_parts(
         }
         Err(FrontFail::Refused(refusal)) => {
             let _ = refusal;
-            let answer = answer_text(alloc, wanted, text)?;
+            let answer = explain_text(alloc, wanted, text)?;
             Ok(answer)
         }
         Err(FrontFail::OutOfMemory(memory)) => Err(memory),

@@ -5,7 +5,7 @@ ghost use Rattle.twe_explain.specs.Inputs.{AnswersExplain};
 ghost use Rattle.twe_io.specs.Ends.{ends, ends_tell, sink, source};
 
 use crate::alone::text_alone;
-use crate::words::Wanted;
+use crate::words::Wish;
 use std::alloc::Global;
 use text_programs::run_text_program;
 use twe_base::{Bytes, Word};
@@ -44,7 +44,7 @@ fn tell_of_text<S: Source, O: Sink, E: Sink>(
         (sink E.written E.faults E.write_gives))
         words.now (ends src.old out.old err.old) (ends src.new out.new err.new) result }
 {
-    run_text_program::<Wanted, S, O, E>(alloc, words, src, out, err)
+    run_text_program::<Wish, S, O, E>(alloc, words, src, out, err)
 }
 
 /// Reads the text of a program from the source, and writes the answer of `twe check` with what is said of the refusal.

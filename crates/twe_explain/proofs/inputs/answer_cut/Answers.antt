@@ -1,7 +1,7 @@
 use Rattle.std.proofs.Common.{ℕ, List, subst}
 use Rattle.text_answers.specs.Input.{program_part}
 use Rattle.twe_explain.specs.Inputs.{InputDue}
-use Rattle.twe_explain.specs.Journals.{PartsDue}
+use Rattle.twe_explain.specs.Inputs.{PartsDue}
 use Rattle.twe_explain.proofs.inputs.answer_cut.Goals as goal
 
 -- these are its parts

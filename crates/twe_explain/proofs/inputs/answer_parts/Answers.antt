@@ -1,7 +1,7 @@
 use Rattle.std.proofs.Common.{subst}
 use Rattle.twe_frontend.specs.Reads.{HasCause}
 use Rattle.twe_frontend.specs.declared.read.FrontFail.{FrontFail}
-use Rattle.twe_explain.specs.Journals.{PartsDue}
+use Rattle.twe_explain.specs.Inputs.{PartsDue}
 use Rattle.twe_explain.proofs.inputs.answer_parts.Goals as goal
 
 -- the text is accepted

@@ -1,0 +1,5 @@
+pub mod Sentences
+pub mod Variables
+pub mod Declaring
+pub mod Needed
+pub mod Named

@@ -1,0 +1,2 @@
+-- The steps of a walk.
+pub mod Walks

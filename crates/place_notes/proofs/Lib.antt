@@ -1,0 +1,2 @@
+-- Texts to which two or three pieces were appended.
+pub mod Appended

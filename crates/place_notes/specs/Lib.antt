@@ -1,0 +1,4 @@
+pub mod Lines
+pub mod WordAt
+pub mod Excerpt
+pub mod Notes

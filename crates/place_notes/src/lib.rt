@@ -1,0 +1,12 @@
+//! What is said of places of a text: notes at places, the word at a place, and how the line of a place is shown to people.
+#![tactic(auto)]
+
+mod excerpt;
+mod line;
+mod note;
+mod word;
+
+pub use excerpt::{push_excerpt, push_shown};
+pub use line::{after_bytes, after_lines, first_bytes, line_at};
+pub use note::{Explanation, Note};
+pub use word::word_at;

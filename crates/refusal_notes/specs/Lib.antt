@@ -1,0 +1,9 @@
+pub mod Effects
+pub mod Ruled
+pub mod Explanation
+pub mod Tokens
+pub mod Edits
+pub mod Early
+pub mod Unclosed
+pub mod Mends
+pub mod Answers

@@ -1,0 +1,57 @@
+-- What is said of a rule on joins, spawns or deterministic tasks that fails.
+use Rattle.std.specs.Prelude.{ℕ, Bool, List, [], ◌∷◌, Option, None, Some, codes, if◌then◌else◌}
+use Rattle.twe_base.specs.declared.place.Place.{Place}
+use Rattle.twe_frontend.specs.declared.refusal.Refusal.{Refusal}
+use Rattle.place_notes.specs.declared.note.Explanation.{Explanation}
+use Rattle.place_notes.specs.declared.note.Note.{Note}
+use Rattle.place_notes.specs.Notes.{note_at}
+use Rattle.name_notes.specs.Sentences.{asked, wrong}
+
+-- the sentences of the rule, these places, and one remark more
+abbrev pub ruled_explanation : Refusal → List Note → List ℕ → Explanation
+ruled_explanation refusal notes remark = record {
+  headline = wrong refusal.rule;
+  notes = notes;
+  remarks = asked refusal.rule ∷ remark ∷ [];
+}
+
+-- the place where the task of the future is made, if it is known, and that of the join
+abbrev pub join_notes : Option Place → Place → List Note
+join_notes None place = note_at place (codes "it may be joined already") ∷ []
+join_notes (Some made) place =
+    note_at made (codes "its task is spawned here") ∷ note_at place (codes "it may be joined already") ∷ []
+
+-- the future of a join is not out on some way to it
+abbrev pub join_explanation : Refusal → Option Place → Explanation
+join_explanation refusal made =
+    ruled_explanation refusal (join_notes made refusal.place)
+    (codes "join it once for each spawn: not again after a branch, or in the next turn of a loop")
+
+-- the future of a spawn is out already on some way to it
+abbrev pub spawn_explanation : Refusal → Explanation
+spawn_explanation refusal =
+    ruled_explanation refusal (note_at refusal.place (codes "the task of an earlier turn may be out") ∷ [])
+    (codes "join it in the same turn, and the tasks run one after another; or use executeLater, and their order is open")
+
+-- a deterministic task does something at the refusal's place of which this is said
+abbrev pub strict_explanation : Refusal → Place → List ℕ → List ℕ → Explanation
+strict_explanation refusal decl_place caption remark =
+    ruled_explanation refusal
+    (note_at decl_place (codes "is declared deterministic") ∷ note_at refusal.place caption ∷ []) remark
+
+-- what is said of an `executeLater`, or of a `getValue`
+abbrev pub order_caption : Bool → List ℕ
+order_caption makes =
+    if makes then codes "makes a task whose order is open" else codes "waits for a task whose order is open"
+
+-- a deterministic task makes a task by `executeLater`, or waits by `getValue`
+abbrev pub order_explanation : Refusal → Bool → Place → Explanation
+order_explanation refusal makes decl_place =
+    strict_explanation refusal decl_place (order_caption makes)
+    (codes "spawn and join a deterministic task here, or declare this one without deterministic")
+
+-- a deterministic task spawns one that is not
+abbrev pub child_explanation : Refusal → Place → Explanation
+child_explanation refusal decl_place =
+    strict_explanation refusal decl_place (codes "this task is not")
+    (codes "declare the spawned task deterministic, or this one without deterministic")

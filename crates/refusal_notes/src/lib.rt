@@ -1,0 +1,14 @@
+//! What is said of a text: that it is accepted, or why it is refused, with edits that mend it.
+#![tactic(auto)]
+
+mod answering;
+mod early;
+mod edits;
+mod effects;
+mod explanation;
+mod mends;
+mod ruled;
+mod tokens;
+mod unclosed;
+
+pub use answering::explain_text;

@@ -1,0 +1,2 @@
+-- The moves before the first that is not legal.
+pub mod FirstIllegal

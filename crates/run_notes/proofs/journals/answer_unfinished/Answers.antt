@@ -1,0 +1,43 @@
+use Rattle.std.proofs.Common.{◌≡◌, List, sym, ap, ◌∙◌, subst}
+use Rattle.seg_journal.specs.declared.journal.Entry.{Entry}
+use Rattle.seg_journal.specs.declared.moves.Move.{Move}
+use Rattle.run_causes.specs.declared.making.Making.{Making}
+use Rattle.run_causes.specs.Makings.{makings_of}
+use Rattle.twe_machine.specs.Runs.{Legal}
+use Rattle.twe_report.specs.Texts.{unfinished_text}
+use Rattle.twe_io.specs.declared.status.Status.TheVariants.{Unfinished}
+use Rattle.twe_io.specs.Answers.{on_out}
+use Rattle.place_notes.specs.declared.note.Explanation.{Explanation}
+use Rattle.run_notes.specs.Journals.{RunTold}
+use Rattle.run_notes.specs.NextShown.{next_explanation}
+use Rattle.explain_pages.specs.RunPage.{run_text}
+use Rattle.run_notes.proofs.journals.answer_unfinished.Goals as goal
+
+-- the state was reached
+pub next_moves-requires : goal.next_moves-requires
+next_moves-requires c = (c.args.lim, record { journal = c.args.journal.now; legal = c.requires.run.legal; same = c.requires.run.same })
+
+-- the journal is legal
+pub makings_of-requires : goal.makings_of-requires
+makings_of-requires c = subst (Legal c.args.p.now c.args.lim) (sym c.as_slice.ensures) c.requires.run.legal
+
+-- the moves are those that are legal next, and they are shown
+pub returns : goal.returns
+returns c =
+    let wanted = c.args.wanted.now in
+    let text = c.args.text.now in
+    let p = c.args.p.now in
+    let lim = c.args.lim in
+    let st = c.args.st.now in
+    let moves : List Move = c.in_ok-moves.moves in
+    let made : c.as_slice-2.result.now ≡ makings_of p lim c.args.journal.now =
+    c.as_slice-2.ensures ∙ (c.in_ok-makings.ensures ∙ ap (λ (l : List Entry). makings_of p lim l) c.as_slice.ensures) in
+    let said : c.in_ok-said.said ≡ next_explanation p st (makings_of p lim c.args.journal.now) moves =
+    c.in_ok-said.ensures
+    ∙ (ap (λ (l : List Making). next_explanation p st l c.as_slice-3.result.now) made
+    ∙ ap (λ (l : List Move). next_explanation p st (makings_of p lim c.args.journal.now) l) c.as_slice-3.ensures) in
+    subst (RunTold wanted text p lim c.args.journal.now st)
+    (sym (c.on_out.ensures ∙ ap (on_out Unfinished) (c.in_ok-page.ensures
+    ∙ (ap (λ l. run_text wanted text l c.in_ok-said.said) c.in_ok-line.ensures
+    ∙ ap (λ (e : Explanation). run_text wanted text (unfinished_text st) e) said))))
+    (RunTold.unfinished moves c.requires.unfinished c.in_ok-moves.ensures)

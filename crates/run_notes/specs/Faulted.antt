@@ -1,0 +1,105 @@
+-- What is said of a fault.
+use Rattle.std.specs.Prelude.{◌++◌, ℕ, List, [], ◌∷◌, Option, None, Some, bytes_eq, codes, decimal, if◌then◌else◌}
+use Rattle.twe_base.specs.declared.fault.FaultKind.{FaultKind}
+use Rattle.twe_base.specs.declared.fault.FaultKind.TheVariants.{DivZero, Index, Fuel, Depth, TaskLimit}
+use Rattle.twe_base.specs.declared.place.Place.{Place}
+use Rattle.twe_base.specs.Limits.{Bounds}
+use Rattle.twe_program.specs.declared.program.CellDecl.{CellDecl}
+use Rattle.twe_program.specs.declared.program.Dims.{Dims}
+use Rattle.twe_program.specs.declared.program.Dims.TheVariants.{Scalar, Row, Grid}
+use Rattle.twe_program.specs.Program.{Program}
+use Rattle.twe_machine.specs.declared.state.State.{State}
+use Rattle.run_causes.specs.declared.making.Making.{Making}
+use Rattle.run_causes.specs.Makings.{making_of}
+use Rattle.place_notes.specs.declared.note.Explanation.{Explanation}
+use Rattle.place_notes.specs.declared.note.Note.{Note}
+use Rattle.place_notes.specs.WordAt.{word_at}
+use Rattle.place_notes.specs.Notes.{note_at}
+use Rattle.run_notes.specs.TaskTexts.{task_shown}
+
+-- what is wrong
+abbrev pub fault_headline : FaultKind → List ℕ
+fault_headline DivZero = codes "a number is divided by 0"
+fault_headline Index = codes "an index is outside of its array"
+fault_headline Fuel = codes "a task has no fuel left"
+fault_headline Depth = codes "too many calls are active in a task"
+fault_headline TaskLimit = codes "no more tasks may be made"
+
+-- how many elements the array of this name is declared with, if there is one
+abbrev pub dims_named : List ℕ → List CellDecl → Option Dims
+dims_named word [] = None
+dims_named word (cell ∷ cells) = if bytes_eq cell.name word then Some cell.dims else dims_named word cells
+
+-- what an index of an array of this name may be
+abbrev pub row_bound : List ℕ → ℕ → List ℕ
+row_bound name count = codes "an index of `" ++ (name ++ (codes "` is at least 0, and less than " ++ decimal count))
+
+-- what the indexes of a grid of this name may be
+abbrev pub grid_bounds : List ℕ → ℕ → ℕ → List ℕ
+grid_bounds name rows columns =
+    codes "a row of `" ++ (name ++ (codes "` is at least 0, and less than " ++ (decimal rows
+    ++ (codes "; a column is at least 0, and less than " ++ decimal columns))))
+
+-- what the indexes of any array may be
+abbrev pub any_bound : List ℕ
+any_bound = codes "an index is at least 0, and less than the bound of its array"
+
+-- what the indexes of a declaration of this name may be
+abbrev pub bounds_text : List ℕ → Dims → List ℕ
+bounds_text name Scalar = any_bound
+bounds_text name (Row count) = row_bound name count
+bounds_text name (Grid rows columns) = grid_bounds name rows columns
+
+-- the same of a declaration that was looked up
+abbrev pub bounds_found : List ℕ → Option Dims → List ℕ
+bounds_found name None = any_bound
+bounds_found name (Some dims) = bounds_text name dims
+
+-- how much fuel a task has
+abbrev pub task_fuel_text : ℕ → List ℕ
+task_fuel_text fuel =
+    codes "a task of this run has fuel " ++ (decimal fuel
+    ++ codes ": a turn of a loop, a call, a print, a make and a wait take 1 each")
+
+-- how many tasks may be made
+abbrev pub task_limit_text : ℕ → List ℕ
+task_limit_text tasks = codes "the limit on tasks is " ++ (decimal tasks ++ codes " in this run, and main is one of them")
+
+-- the bound that was met; for an index, the one of the array whose name this is
+abbrev pub fault_remark : Bounds → List CellDecl → List ℕ → FaultKind → List ℕ
+fault_remark lim cells word DivZero = codes "the right side of this / or % was 0, and no number is the result"
+fault_remark lim cells word Index = bounds_found word (dims_named word cells)
+fault_remark lim cells word Fuel = task_fuel_text lim.fuel
+fault_remark lim cells word Depth = codes "1000 calls are active here, each inside the one before, and that is the limit"
+fault_remark lim cells word TaskLimit = task_limit_text lim.tasks
+
+-- a place of which this is said, if it is known
+abbrev pub notes_if : Option Place → List ℕ → List Note
+notes_if None caption = []
+notes_if (Some place) caption = note_at place caption ∷ []
+
+-- the task of this making is made here
+abbrev pub made_caption : Program → State → Making → List ℕ
+made_caption p st making =
+    task_shown p st making.child ++ (codes " is made here by " ++ task_shown p st making.maker)
+
+-- where a task was made, and by whom
+abbrev pub made_notes : Program → State → Option Making → List Note
+made_notes p st None = []
+made_notes p st (Some making) = notes_if making.place (made_caption p st making)
+
+-- where a task met a fault
+abbrev pub fault_caption : Program → State → ℕ → List ℕ
+fault_caption p st task = task_shown p st task ++ codes " meets the fault here"
+
+-- where the fault was met, and where its task was made
+abbrev pub fault_notes : Program → State → List Making → ℕ → Place → List Note
+fault_notes p st makings task place = note_at place (fault_caption p st task) ∷ made_notes p st (making_of makings task)
+
+-- what is said of a fault that a task of this text met in a run under these limits, which has come to this state
+abbrev pub fault_explanation : List ℕ → Program → Bounds → State → List Making → ℕ → FaultKind → Place → Explanation
+fault_explanation text p lim st makings task kind place = record {
+  headline = fault_headline kind;
+  notes = fault_notes p st makings task place;
+  remarks = fault_remark lim p.cells (word_at text place) kind ∷ [];
+}

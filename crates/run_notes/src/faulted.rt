@@ -1,0 +1,239 @@
+//! What is said of a fault.
+ghost use Rattle.std.specs.Prelude.{◌≡◌, ◌∷◌, ◌++◌, [], IfOk, OnOk};
+ghost use Rattle.run_notes.specs.Faulted.{bounds_found, bounds_text, dims_named, fault_caption, fault_explanation, fault_headline, fault_notes, fault_remark, task_fuel_text, any_bound, grid_bounds, made_caption, made_notes, notes_if, row_bound, task_limit_text};
+
+use crate::task_texts::push_task;
+use itoa::Buffer;
+use place_notes::{Explanation, Note, word_at};
+use run_causes::{Making, making_of};
+use seg_journal::Limits;
+use std::alloc::Global;
+use twe_base::{Bytes, FaultKind, List, Memory, Place};
+use twe_machine::{FirstFault, State};
+use twe_program::{CellDecl, Dims, Prog};
+
+/// What is wrong.
+fn fault_headline(kind: FaultKind) -> &'static [u8]
+    ensures { result.now ≡ fault_headline kind }
+{
+    match kind {
+        FaultKind::DivZero => b"a number is divided by 0",
+        FaultKind::Index => b"an index is outside of its array",
+        FaultKind::Fuel => b"a task has no fuel left",
+        FaultKind::Depth => b"too many calls are active in a task",
+        FaultKind::TaskLimit => b"no more tasks may be made",
+    }
+}
+
+/// How many elements the array of this name is declared with, if there is one.
+fn dims_named(word: &[u8], cells: &[CellDecl]) -> Option<Dims>
+    ensures { result ≡ dims_named word.now cells.now }
+{
+    for cell in cells {
+        if cell.name.as_bytes() == word {
+            return Some(cell.dims);
+        }
+    }
+    None
+}
+
+/// What an index of an array of this name may be.
+fn row_bound(alloc: Global, name: &[u8], count: u32) -> Result<Bytes, Memory>
+    ensures { IfOk result (λ text. text ≡ row_bound name.now count) }
+{
+    let mut text = Bytes::from_slice(alloc, b"an index of `")?;
+    text.push_all(name)?;
+    text.push_all(b"` is at least 0, and less than ")?;
+    text.push_all(Buffer::new().format(count).as_bytes())?;
+    Ok(text)
+}
+
+/// What the indexes of a grid of this name may be.
+fn grid_bounds(alloc: Global, name: &[u8], rows: u32, columns: u32) -> Result<Bytes, Memory>
+    ensures { IfOk result (λ text. text ≡ grid_bounds name.now rows columns) }
+{
+    let mut text = Bytes::from_slice(alloc, b"a row of `")?;
+    text.push_all(name)?;
+    text.push_all(b"` is at least 0, and less than ")?;
+    text.push_all(Buffer::new().format(rows).as_bytes())?;
+    text.push_all(b"; a column is at least 0, and less than ")?;
+    text.push_all(Buffer::new().format(columns).as_bytes())?;
+    Ok(text)
+}
+
+/// What the indexes of any array may be.
+fn any_bound(alloc: Global) -> Result<Bytes, Memory>
+    ensures { IfOk result (λ text. text ≡ any_bound) }
+{
+    Bytes::from_slice(
+        alloc,
+        b"an index is at least 0, and less than the bound of its array",
+    )
+}
+
+/// What the indexes of a declaration of this name may be.
+fn bounds_text(alloc: Global, name: &[u8], dims: Dims) -> Result<Bytes, Memory>
+    ensures { IfOk result (λ text. text ≡ bounds_text name.now dims) }
+{
+    match dims {
+        Dims::Scalar => any_bound(alloc),
+        Dims::Row(count) => row_bound(alloc, name, count),
+        Dims::Grid { rows, cols } => grid_bounds(alloc, name, rows, cols),
+    }
+}
+
+/// The same of a declaration that was looked up.
+fn bounds_found(alloc: Global, name: &[u8], dims: Option<Dims>) -> Result<Bytes, Memory>
+    ensures { IfOk result (λ text. text ≡ bounds_found name.now dims) }
+{
+    match dims {
+        None => any_bound(alloc),
+        Some(dims) => bounds_text(alloc, name, dims),
+    }
+}
+
+/// How much fuel a task has.
+fn task_fuel_text(alloc: Global, fuel: u64) -> Result<Bytes, Memory>
+    ensures { IfOk result (λ text. text ≡ task_fuel_text fuel) }
+{
+    let mut text = Bytes::from_slice(alloc, b"a task of this run has fuel ")?;
+    text.push_all(Buffer::new().format(fuel).as_bytes())?;
+    text.push_all(b": a turn of a loop, a call, a print, a make and a wait take 1 each")?;
+    Ok(text)
+}
+
+/// How many tasks may be made.
+fn task_limit_text(alloc: Global, tasks: u32) -> Result<Bytes, Memory>
+    ensures { IfOk result (λ text. text ≡ task_limit_text tasks) }
+{
+    let mut text = Bytes::from_slice(alloc, b"the limit on tasks is ")?;
+    text.push_all(Buffer::new().format(tasks).as_bytes())?;
+    text.push_all(b" in this run, and main is one of them")?;
+    Ok(text)
+}
+
+/// The bound that was met; for an index, the one of the array whose name is the word.
+fn fault_remark(
+    alloc: Global,
+    lim: Limits,
+    cells: &[CellDecl],
+    word: &[u8],
+    kind: FaultKind,
+) -> Result<Bytes, Memory>
+    ensures { IfOk result (λ text. text ≡ fault_remark lim cells.now word.now kind) }
+{
+    match kind {
+        FaultKind::DivZero => Bytes::from_slice(
+            alloc,
+            b"the right side of this / or % was 0, and no number is the result",
+        ),
+        FaultKind::Index => bounds_found(alloc, word, dims_named(word, cells)),
+        FaultKind::Fuel => task_fuel_text(alloc, lim.fuel),
+        FaultKind::Depth => Bytes::from_slice(
+            alloc,
+            b"1000 calls are active here, each inside the one before, and that is the limit",
+        ),
+        FaultKind::TaskLimit => task_limit_text(alloc, lim.tasks),
+    }
+}
+
+/// That a task is made, and by whom.
+fn made_caption(alloc: Global, p: &Prog, st: &State, making: Making) -> Result<Bytes, Memory>
+    ensures { IfOk result (λ text. text ≡ made_caption p.now st.now making) }
+{
+    let mut text = Bytes::new(alloc);
+    push_task(&mut text, p, st, making.child)?;
+    text.push_all(b" is made here by ")?;
+    push_task(&mut text, p, st, making.maker)?;
+    Ok(text)
+}
+
+/// Appends a note at the place, if it is known.
+pub(crate) fn push_note_if(
+    notes: &mut List<Note>,
+    place: Option<Place>,
+    caption: Bytes,
+) -> Result<(), Memory>
+    ensures { OnOk result (notes.new ≡ notes.old ++ notes_if place caption) }
+{
+    match place {
+        None => Ok(()),
+        Some(place) => notes.push(Note { place, caption }),
+    }
+}
+
+/// Appends where a task was made, and by whom.
+pub(crate) fn push_made_notes(
+    notes: &mut List<Note>,
+    alloc: Global,
+    p: &Prog,
+    st: &State,
+    making: Option<Making>,
+) -> Result<(), Memory>
+    ensures { OnOk result (notes.new ≡ notes.old ++ made_notes p.now st.now making) }
+{
+    match making {
+        None => Ok(()),
+        Some(making) => { push_note_if(notes, making.place, made_caption(alloc, p, st, making)?) }
+    }
+}
+
+/// That a task meets a fault.
+fn fault_caption(alloc: Global, p: &Prog, st: &State, task: u32) -> Result<Bytes, Memory>
+    ensures { IfOk result (λ text. text ≡ fault_caption p.now st.now task) }
+{
+    let mut text = Bytes::new(alloc);
+    push_task(&mut text, p, st, task)?;
+    text.push_all(b" meets the fault here")?;
+    Ok(text)
+}
+
+/// The places of a fault: where it was met, and where its task was made.
+fn fault_notes(
+    alloc: Global,
+    p: &Prog,
+    st: &State,
+    makings: &[Making],
+    task: u32,
+    place: Place,
+) -> Result<List<Note>, Memory>
+    ensures { IfOk result (λ notes. notes ≡ fault_notes p.now st.now makings.now task place) }
+{
+    let mut notes = List::new(alloc);
+    notes.push(Note {
+        place,
+        caption: fault_caption(alloc, p, st, task)?,
+    })?;
+    push_made_notes(&mut notes, alloc, p, st, making_of(makings, task))?;
+    Ok(notes)
+}
+
+/// One remark.
+pub(crate) fn one_remark(alloc: Global, remark: Bytes) -> Result<List<Bytes>, Memory>
+    ensures { IfOk result (λ remarks. remarks ≡ remark ∷ []) }
+{
+    let mut remarks = List::new(alloc);
+    remarks.push(remark)?;
+    Ok(remarks)
+}
+
+/// What is said of a fault that a task of this text met in a run under these limits, which has come to this state.
+pub(crate) fn fault_explanation(
+    alloc: Global,
+    text: &[u8],
+    p: &Prog,
+    lim: Limits,
+    st: &State,
+    makings: &[Making],
+    fault: FirstFault,
+) -> Result<Explanation, Memory>
+    ensures { IfOk result (λ e. e ≡ fault_explanation text.now p.now lim st.now makings.now fault.task fault.kind fault.place) }
+{
+    let word = word_at(text, fault.place);
+    let remark = fault_remark(alloc, lim, p.cells.as_slice(), word, fault.kind)?;
+    Ok(Explanation {
+        headline: Bytes::from_slice(alloc, fault_headline(fault.kind))?,
+        notes: fault_notes(alloc, p, st, makings, fault.task, fault.place)?,
+        remarks: one_remark(alloc, remark)?,
+    })
+}

@@ -1,0 +1,12 @@
+//! What is said of a run: why it goes no further, or what may come next; and why a move of a journal is not legal.
+#![tactic(auto)]
+
+mod cycles;
+mod faulted;
+mod journals;
+mod next_shown;
+mod not_legal;
+mod task_texts;
+mod waits;
+
+pub use journals::{answer_journal, tell_run};

@@ -1,9 +1,0 @@
-use Rattle.std.proofs.Common.{◌≡◌, ◌++◌, drop}
-use Rattle.std.specs.List.{flat_map}
-use Rattle.twe_explain.specs.Cycles.{edge_notes}
-use Rattle.twe_explain.proofs.cycles.edges_notes.Given as goal
-
--- the notes so far, with those that are left
-abbrev pub invariant-loop-edge : goal.invariant-loop-edge
-invariant-loop-edge l =
-    l.notes ++ flat_map (edge_notes l.p l.st l.makings) (drop l.edge-index l.edges) ≡ flat_map (edge_notes l.p l.st l.makings) l.edges

@@ -1,7 +1,0 @@
-use Rattle.std.proofs.Common.{◌≡◌, drop}
-use Rattle.twe_explain.specs.Faulted.{dims_named}
-use Rattle.twe_explain.proofs.faulted.dims_named.Given as goal
-
--- what is found in all of them is found from here on
-abbrev pub invariant-loop-cell : goal.invariant-loop-cell
-invariant-loop-cell l = dims_named l.word (drop l.cell-index l.cells) ≡ dims_named l.word l.cells

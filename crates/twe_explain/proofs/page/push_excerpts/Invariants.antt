@@ -1,7 +1,0 @@
-use Rattle.std.proofs.Common.{◌≡◌, ◌++◌, drop}
-use Rattle.twe_explain.specs.Page.{excerpts}
-use Rattle.twe_explain.proofs.page.push_excerpts.Given as goal
-
--- the text so far, with what is left
-abbrev pub invariant-loop-note : goal.invariant-loop-note
-invariant-loop-note l = l.text ++ excerpts l.program (drop l.note-index l.notes) ≡ l.fn.text ++ excerpts l.program l.notes
