@@ -1,5 +1,5 @@
 -- The ground of a round may be shared by threads: its floor, its program, its shape, its mark that the round is to end and its
--- number of segments are, and so are the waiters that were found.
+-- number of tasks are, and so are the waiters that were found.
 use denote.Param.Send.{IsSync, recorded_sync, sendable, shr_sync, struct_sync, view_sync}
 use denote.Ref.{NamedLft}
 use denote.RattleType.{RattleType}

@@ -1,11 +1,12 @@
 //! Whether a floor is worth what it costs.
 //!
 //! To lay out a floor and to take the run back costs a pass over all tasks that may be made, over all nodes and over all entries,
-//! and a segment costs more on a floor than at rest. A run whose segments are short would spend its time on floors. So its work
-//! pays for them: after a floor, another one is laid out only once as much work was done as it costs. And a floor is for so many
-//! segments at first. If they were short, moves are taken at rest until a long one comes; if not, the next floor is for more of
-//! them. All that is counted here is an estimate, on which no clause rests.
+//! and a segment costs more on a floor than at rest. A run whose tasks are short would spend its time on floors. So its work pays
+//! for them: after a floor, another one is laid out only once as much work was done as it costs. And a floor is for so many tasks
+//! at first. If they were short, moves are taken at rest until a long segment comes; if not, the next floor is for more of them.
+//! All that is counted here is an estimate, on which no clause rests.
 
+use seg_journal::{End, Entry};
 use task_floor::steps::Rest;
 use twe_base::Limits;
 use twe_machine::State;
@@ -13,18 +14,14 @@ use twe_machine::State;
 /// What a move counts beside the fuel that it takes, in units of fuel.
 const PER_MOVE: u64 = 8;
 
-/// How much fuel a segment takes that is worth a worker.
+/// How much fuel a segment takes, or a task, that is worth a worker.
 const LONG: u64 = 150;
 
-/// How much fuel the moves on a floor take on average if their tasks are worth a worker. To make a task, to admit it and to run it
-/// are three moves.
-const LONG_MOVES: u64 = 50;
+/// How many tasks a worker ends on the first floor, and on one after a floor whose tasks were short.
+const FIRST_TASKS: u64 = 64;
 
-/// How many segments a worker runs on the first floor, and on one after a floor whose segments were short.
-const FIRST_SEGMENTS: u64 = 64;
-
-/// How many times as many it runs on the next floor if they were long.
-const MORE_SEGMENTS: u64 = 64;
+/// How many times as many it ends on the next floor if they were long.
+const MORE_TASKS: u64 = 64;
 
 /// The account of a run.
 #[derive(Drop)]
@@ -35,10 +32,10 @@ pub(crate) struct Account {
     due: u64,
     // How many entries there were when the last floor was laid out.
     entries: u64,
-    // Whether the segments on the last floor were short, and none was long since then.
+    // Whether the tasks on the last floor were short, and no segment was long since then.
     is_fine: bool,
-    // How many segments a worker runs on the next floor.
-    segments: u64,
+    // How many tasks a worker ends on the next floor.
+    tasks: u64,
 }
 
 impl Account {
@@ -49,18 +46,18 @@ impl Account {
             due: 0,
             entries: 0,
             is_fine: false,
-            segments: FIRST_SEGMENTS,
+            tasks: FIRST_TASKS,
         }
     }
 
-    /// Whether another floor is worth its cost: the work so far has paid for it, and it is not known that segments are short.
+    /// Whether another floor is worth its cost: the work so far has paid for it, and it is not known that tasks are short.
     pub(crate) fn is_worth_a_floor(&self) -> bool {
         !self.is_fine && self.work >= self.due
     }
 
-    /// How many segments a worker runs on the next floor.
-    pub(crate) fn segments(&self) -> u64 {
-        self.segments
+    /// How many tasks a worker ends on the next floor.
+    pub(crate) fn tasks(&self) -> u64 {
+        self.tasks
     }
 
     /// Counts a move at rest that took so much fuel.
@@ -88,15 +85,31 @@ impl Account {
             .saturating_mul(PER_MOVE)
             .saturating_add(fuel_taken(lim, &rest.state));
         let moves = entries.saturating_sub(self.entries);
-        let done = work.saturating_sub(self.work);
+        let fuel = work
+            .saturating_sub(self.work)
+            .saturating_sub(moves.saturating_mul(PER_MOVE));
+        let ended = count_ended(rest.journal.as_slice(), self.entries as usize);
         self.work = work;
-        self.is_fine = done < moves.saturating_mul(PER_MOVE + LONG_MOVES);
-        self.segments = if self.is_fine {
-            FIRST_SEGMENTS
+        self.is_fine = fuel < ended.saturating_mul(LONG);
+        self.tasks = if self.is_fine {
+            FIRST_TASKS
         } else {
-            self.segments.saturating_mul(MORE_SEGMENTS)
+            self.tasks.saturating_mul(MORE_TASKS)
         };
     }
+}
+
+/// How many tasks have ended in the entries from this one on.
+fn count_ended(journal: &[Entry], from: usize) -> u64 {
+    let mut ended = 0u64;
+    for at in from..journal.len() {
+        if let Some(entry) = journal.get(at)
+            && let End::Done { .. } = entry.end
+        {
+            ended = ended.saturating_add(1);
+        }
+    }
+    ended
 }
 
 /// The fuel that all tasks have taken.

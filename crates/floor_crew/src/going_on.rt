@@ -68,19 +68,19 @@ fn go_on_from<R: Threads + Wait + Sync, G: Gate + Sync>(
         book.account
             .lay_out(setup.lim, setup.shape.nodes(), &run.rest);
         book.begin_round()?;
-        run = side_by_side(rt, setup, workers, book.account.segments(), run, gate)?;
+        run = side_by_side(rt, setup, workers, book.account.tasks(), run, gate)?;
         book.account.recount(setup.lim, &run.rest);
         book.read(run.rest.journal.as_slice())?;
     }
     unreachable!()
 }
 
-/// The run after a round of the workers, which ends once one of them has run so many segments.
+/// The run after a round of the workers, which ends once one of them has ended so many tasks.
 fn side_by_side<R: Threads + Wait + Sync, G: Gate + Sync>(
     rt: &R,
     setup: &Setup<'_>,
     workers: u32,
-    segments: u64,
+    tasks: u64,
     run: RunAtRest,
     gate: &G,
 ) -> Result<RunAtRest, Memory>
@@ -90,6 +90,6 @@ fn side_by_side<R: Threads + Wait + Sync, G: Gate + Sync>(
     ensures { IfOk result (HasGoneOn setup.now.p.now setup.now.lim run.rest.journal) }
 {
     let RunAtRest { rest, .. } = run;
-    let rest = round::<Brand, R, G>(rt, setup, workers, segments, rest, gate)?;
+    let rest = round::<Brand, R, G>(rt, setup, workers, tasks, rest, gate)?;
     RunAtRest::of(setup.alloc, setup.p, setup.lim, rest)
 }

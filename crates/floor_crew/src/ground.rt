@@ -28,10 +28,10 @@ const MOST_TRIES: u32 = 16;
 pub(crate) struct Ground<'a, N: Named + Planted, F: Located> {
     setup: &'a Setup<'a>,
     floor: &'a Floor<N>,
-    // Whether the round is to end: some task has met a fault, or a worker has run enough segments. Then no worker begins another.
+    // Whether the round is to end: some task has met a fault, or a worker has ended enough tasks. Then no worker begins a segment.
     is_over: AtomicBool,
-    // How many segments are enough.
-    segments: u64,
+    // How many tasks of one worker are enough.
+    tasks: u64,
     // Which tasks were found to wait.
     waiters: Waiters,
     of: PhantomData<F>,
@@ -50,12 +50,12 @@ impl<'a, N: Named + Planted, F: Located> Model for Ground<'a, N, F> {
 }
 
 impl<'a, N: Named + Planted, F: Located> Ground<'a, N, F> {
-    /// The ground of a round on this floor, in which a worker runs so many segments.
+    /// The ground of a round on this floor, in which a worker ends so many tasks.
     pub(crate) fn new(
         setup: &'a Setup<'a>,
         floor: &'a Floor<N>,
         waiters: Waiters,
-        segments: u64,
+        tasks: u64,
     ) -> Self
         requires located { floor.now ≡ F.table }
         requires named { (setup.now.p.now ≡ N.prog) × (setup.now.lim ≡ N.lim) × (setup.now.shape.now ≡ N.nodes) }
@@ -64,7 +64,7 @@ impl<'a, N: Named + Planted, F: Located> Ground<'a, N, F> {
             setup,
             floor,
             is_over: AtomicBool::new(false),
-            segments,
+            tasks,
             waiters,
             of: PhantomData,
         }
@@ -261,9 +261,9 @@ impl<'a, N: Named + Planted, F: Located> Ground<'a, N, F> {
         self.waiters.of(task)
     }
 
-    /// Whether so many segments of one worker are enough for the round.
-    pub(crate) fn are_enough(&self, segments: u64) -> bool {
-        segments >= self.segments
+    /// Whether so many tasks that one worker has ended are enough for the round.
+    pub(crate) fn are_enough(&self, tasks: u64) -> bool {
+        tasks >= self.tasks
     }
 
     /// The round is to end: no worker begins another segment.

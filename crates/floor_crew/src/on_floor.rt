@@ -35,8 +35,8 @@ pub(crate) struct OnFloor<'a, R: Wait, N: Named + Planted, F: Located, G> {
     // A task whose turn another worker had. That one goes on with it.
     busy: Option<u32>,
     ended: Ended,
-    // How many segments it has run.
-    segments: u64,
+    // How many tasks it has ended.
+    tasks: u64,
 }
 
 impl<'a, R: Wait, N: Named + Planted, F: Located, G> Model for OnFloor<'a, R, N, F, G> {
@@ -68,7 +68,7 @@ impl<'a, R: Wait, N: Named + Planted, F: Located, G: Gate> OnFloor<'a, R, N, F, 
             worker,
             busy: None,
             ended: Ended::new(ground.alloc()),
-            segments: 0,
+            tasks: 0,
         }
     }
 
@@ -130,14 +130,21 @@ impl<'a, R: Wait, N: Named + Planted, F: Located, G: Gate> OnFloor<'a, R, N, F, 
         }
     }
 
-    /// Notes how a segment of a task has ended. The round is to end if that is a fault, or if this worker has run enough segments.
-    fn note(&mut self, task: u32, end: End) -> Result<(), Memory> {
-        self.segments = self.segments.saturating_add(1);
-        if self.ground.are_enough(self.segments) {
+    /// Counts a task that has ended.
+    fn count_end(&mut self) {
+        self.tasks = self.tasks.saturating_add(1);
+        if self.ground.are_enough(self.tasks) {
             self.ground.stop();
         }
+    }
+
+    /// Notes how a segment of a task has ended. The round is to end if that is a fault, or if this worker has ended enough tasks.
+    fn note(&mut self, task: u32, end: End) -> Result<(), Memory> {
         match end {
-            End::Done { .. } => self.ended.end(task, self.ground.waiter_of(task)),
+            End::Done { .. } => {
+                self.count_end();
+                self.ended.end(task, self.ground.waiter_of(task))
+            }
             End::Fault { .. } => {
                 self.ground.stop();
                 Ok(())

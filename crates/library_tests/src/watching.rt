@@ -117,7 +117,7 @@ fn three_workers_share_the_tasks_that_one_makes(rt: HostRuntime) -> Result<(), F
 
 #[test]
 fn a_second_floor_is_laid_out(rt: HostRuntime) -> Result<(), Fail> {
-    // A worker has room for 1,024 new tasks on a floor, and runs 64 segments on the first one. The last tasks run on a floor that
+    // A worker has room for 1,024 new tasks on a floor, and ends 64 tasks on the first one. The last tasks run on a floor that
     // the work before it has paid for.
     let gate = Threes::new(1298, 0);
     let ran = step_and_round(&rt, rt.alloc(), MANY, 3, &gate)?;
