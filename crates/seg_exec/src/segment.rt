@@ -14,7 +14,7 @@ use crate::children::Children;
 use crate::entry::{effects_at, entry_frame};
 use crate::frame::{Frame, Next, OpenBody};
 use crate::operation::Operation;
-use crate::steps::continuation::Suspension;
+use crate::steps::continuation::{OpenBlock, Suspension};
 use crate::steps::machine::Machine;
 use crate::steps::pushdown::Pushdown;
 use crate::steps::request::Ending;
@@ -165,6 +165,12 @@ fn machine_at<'a>(alloc: Global, p: &'a Prog, frame: &Frame) -> Result<Option<Ma
         fuel: frame.fuel,
         calls: 0,
         spare: Pushdown::new(alloc),
+        open: OpenBlock {
+            block: 0,
+            at: 0,
+            stmts: &[],
+        },
+        ending: None,
     };
     let decl = p.tasks.get(frame.decl as usize);
     machine.unfold(statements(decl), body.open_blocks.as_slice())?;

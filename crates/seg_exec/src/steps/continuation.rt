@@ -174,6 +174,17 @@ pub(crate) enum Continuation<'a> {
     Leave(Ints),
 }
 
+/// What is left of a block.
+#[derive(Clone, Copy, Debug)]
+pub(crate) struct OpenBlock<'a> {
+    /// The number of the block.
+    pub(crate) block: usize,
+    /// The index of the next statement in the block.
+    pub(crate) at: usize,
+    /// The statements of the block.
+    pub(crate) stmts: &'a [Stmt],
+}
+
 /// What unwinding recovers from a continuation frame.
 #[derive(Debug, Drop)]
 pub(crate) enum Recovered {

@@ -6,7 +6,7 @@ ghost use Rattle.seg_exec.specs.declared.steps.request.Request.TheVariants.{End}
 ghost use Rattle.seg_exec.specs.declared.steps.request.Ending.TheVariants.{Faulted};
 ghost use Rattle.seg_exec.specs.inner.steps.Views.{continuation_of, config_of, use_of};
 
-use crate::steps::continuation::{Continuation, ValueUse};
+use crate::steps::continuation::{Continuation, OpenBlock, ValueUse};
 use crate::steps::pushdown::Pushdown;
 use crate::steps::request::{Ending, Request};
 use std::alloc::Global;
@@ -35,6 +35,11 @@ pub(crate) struct Machine<'a> {
     pub(crate) calls: u32,
     /// Lists that no call uses any more. A call takes one for its variables, so that most calls take no memory.
     pub(crate) spare: Pushdown<Ints>,
+    /// What is left of a block that comes before the continuation frames, at times when such a block comes next. It stands here
+    /// so that what the steps return stays small.
+    pub(crate) open: OpenBlock<'a>,
+    /// How the run has ended, if it has.
+    pub(crate) ending: Option<Ending>,
 }
 
 impl<'a> Machine<'a> {

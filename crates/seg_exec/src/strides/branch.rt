@@ -5,14 +5,14 @@ ghost use Rattle.twe_program.specs.inner.StatementView.{arms_of};
 ghost use Rattle.seg_exec.specs.Access.{ways_of};
 ghost use Rattle.seg_exec.specs.inner.steps.Continuations.{Choose, Rest};
 ghost use Rattle.seg_exec.specs.inner.steps.Reached.{standing};
-ghost use Rattle.seg_exec.specs.inner.strides.Moving.{Moves};
+ghost use Rattle.seg_exec.specs.inner.strides.Moving.{Moves, course};
 ghost use Rattle.seg_exec.specs.inner.strides.Strides.{MayGo, doing};
 
 use crate::cells::Cells;
-use crate::steps::continuation::Continuation;
+use crate::steps::continuation::{Continuation, OpenBlock};
 use crate::steps::machine::Machine;
 use crate::strides::choose::choose;
-use crate::strides::onward::{Onward, OpenBlock, passed};
+use crate::strides::onward::Onward;
 use crate::strides::pick::{Picked, pick};
 use std::alloc::Global;
 use twe_base::{Ints, Memory};
@@ -32,37 +32,35 @@ fn branch_among<'a, C: Cells>(
     block: usize,
     at: usize,
     stmts: &'a [Stmt],
-) -> Result<Onward<'a>, Memory>
+) -> Result<Onward, Memory>
     requires { MayGo p.now (ways_of C.known C.may_read C.may_write C.rule) (doing (Choose 0 (arms_of arms.now last.now))
         (doing (Rest block at (statements_of (drop at stmts.now))) (standing machine.old cells.old prints.old))) }
     ensures { IfOk result (λ onward. Moves p.now (ways_of C.known C.may_read C.may_write C.rule)
         (doing (Choose 0 (arms_of arms.now last.now))
         (doing (Rest block at (statements_of (drop at stmts.now))) (standing machine.old cells.old prints.old)))
-        onward (standing machine.new cells.new prints.new)) }
+        (course onward machine.new) (standing machine.new cells.new prints.new)) }
 {
     match pick(arms, last, p, machine.vars.as_slice(), cells) {
-        Picked::Faulted(fault) => Ok(Onward {
-            block: None,
-            ending: Some(fault.ending()),
-        }),
-        Picked::Nothing => Ok(Onward {
-            block: Some(OpenBlock { block, at, stmts }),
-            ending: None,
-        }),
+        Picked::Faulted(fault) => {
+            machine.ending = Some(fault.ending());
+            Ok(Onward::End)
+        }
+        Picked::Nothing => {
+            machine.open = OpenBlock { block, at, stmts };
+            Ok(Onward::Enter)
+        }
         Picked::Body { number, body } => {
             machine.push(Continuation::Rest { block, at, stmts })?;
-            Ok(Onward {
-                block: Some(OpenBlock {
-                    block: number,
-                    at: 0,
-                    stmts: body.stmts.as_slice(),
-                }),
-                ending: None,
-            })
+            machine.open = OpenBlock {
+                block: number,
+                at: 0,
+                stmts: body.stmts.as_slice(),
+            };
+            Ok(Onward::Enter)
         }
         Picked::Left(next) => {
             machine.push(Continuation::Rest { block, at, stmts })?;
-            passed(choose(alloc, p, machine, cells, prints, next, arms, last))
+            choose(alloc, p, machine, cells, prints, next, arms, last)
         }
     }
 }
@@ -80,13 +78,13 @@ pub(crate) fn branch<'a, C: Cells>(
     block: usize,
     at: usize,
     stmts: &'a [Stmt],
-) -> Result<Onward<'a>, Memory>
+) -> Result<Onward, Memory>
     requires { MayGo p.now (ways_of C.known C.may_read C.may_write C.rule) (doing (Choose 0 arms.now)
         (doing (Rest block at (statements_of (drop at stmts.now))) (standing machine.old cells.old prints.old))) }
     ensures { IfOk result (λ onward. Moves p.now (ways_of C.known C.may_read C.may_write C.rule)
         (doing (Choose 0 arms.now)
         (doing (Rest block at (statements_of (drop at stmts.now))) (standing machine.old cells.old prints.old)))
-        onward (standing machine.new cells.new prints.new)) }
+        (course onward machine.new) (standing machine.new cells.new prints.new)) }
 {
     let (first, last) = (arms.arms.as_slice(), &arms.last);
     branch_among(

@@ -2,13 +2,14 @@
 ghost use Rattle.std.specs.Prelude.{IfOk, drop};
 ghost use Rattle.twe_program.specs.inner.StatementView.{arms_of};
 ghost use Rattle.seg_exec.specs.inner.steps.Continuations.{Choose};
-ghost use Rattle.seg_exec.specs.inner.strides.Strides.{MayStride, Strides};
+ghost use Rattle.seg_exec.specs.inner.strides.Moving.{MovesOn};
+ghost use Rattle.seg_exec.specs.inner.strides.Strides.{MayStride};
 
 use crate::cells::Cells;
 use crate::steps::continuation::ValueUse;
 use crate::steps::machine::Machine;
-use crate::steps::request::Ending;
 use crate::strides::evaluate::evaluate_then;
+use crate::strides::onward::Onward;
 use crate::strides::serve::serve;
 use std::alloc::Global;
 use twe_base::{Ints, Memory};
@@ -25,10 +26,10 @@ pub(crate) fn choose<'a, C: Cells>(
     block: usize,
     arms: &'a [Arm],
     last: &'a Option<Block>,
-) -> Result<Option<Ending>, Memory>
+) -> Result<Onward, Memory>
     requires { MayStride p.now C.known C.may_read C.may_write C.rule
         (Choose block (arms_of (drop block arms.now) last.now)) machine.old cells.old prints.old }
-    ensures { IfOk result (Strides p.now C.known C.may_read C.may_write C.rule
+    ensures { IfOk result (MovesOn p.now C.known C.may_read C.may_write C.rule
         (Choose block (arms_of (drop block arms.now) last.now)) machine.old cells.old prints.old
         machine.new cells.new prints.new) }
 {
@@ -56,9 +57,9 @@ pub(crate) fn choose_first<'a, C: Cells>(
     cells: &mut C,
     prints: &mut Ints,
     arms: &'a Arms,
-) -> Result<Option<Ending>, Memory>
+) -> Result<Onward, Memory>
     requires { MayStride p.now C.known C.may_read C.may_write C.rule (Choose 0 arms.now) machine.old cells.old prints.old }
-    ensures { IfOk result (Strides p.now C.known C.may_read C.may_write C.rule (Choose 0 arms.now)
+    ensures { IfOk result (MovesOn p.now C.known C.may_read C.may_write C.rule (Choose 0 arms.now)
         machine.old cells.old prints.old machine.new cells.new prints.new) }
 {
     choose(

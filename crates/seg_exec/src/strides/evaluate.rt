@@ -4,15 +4,16 @@ ghost use Rattle.seg_exec.specs.inner.steps.Continuations.{Evaluate, Right};
 ghost use Rattle.seg_exec.specs.inner.steps.Reached.{standing};
 ghost use Rattle.seg_exec.specs.inner.steps.Views.{use_of};
 ghost use Rattle.seg_exec.specs.inner.strides.Plainly.{is_plain};
-ghost use Rattle.seg_exec.specs.inner.strides.Strides.{Carries, MayGo, MayStride, Strides, doing};
+ghost use Rattle.seg_exec.specs.inner.strides.Moving.{Moves, MovesOn, course};
+ghost use Rattle.seg_exec.specs.inner.strides.Strides.{MayGo, MayStride, doing};
 ghost use Rattle.seg_exec.specs.Access.{ways_of};
 
 use crate::arithmetic::{decide, is_true};
 use crate::cells::Cells;
 use crate::steps::continuation::{Continuation, ValueUse};
 use crate::steps::machine::Machine;
-use crate::steps::request::Ending;
 use crate::strides::gather::call;
+use crate::strides::onward::Onward;
 use crate::strides::plain::is_plain;
 use crate::strides::serve::{serve, use_value};
 use crate::strides::value::value_of;
@@ -29,9 +30,9 @@ fn begin_one<'a, C: Cells>(
     cells: &mut C,
     prints: &mut Ints,
     expr: &'a Expr,
-) -> Result<Option<Ending>, Memory>
+) -> Result<Onward, Memory>
     requires { MayStride p.now C.known C.may_read C.may_write C.rule (Evaluate expr.now) machine.old cells.old prints.old }
-    ensures { IfOk result (Strides p.now C.known C.may_read C.may_write C.rule (Evaluate expr.now)
+    ensures { IfOk result (MovesOn p.now C.known C.may_read C.may_write C.rule (Evaluate expr.now)
         machine.old cells.old prints.old machine.new cells.new prints.new) }
 {
     match &expr.kind {
@@ -55,17 +56,20 @@ fn evaluate_at_once<'a, C: Cells>(
     cells: &mut C,
     prints: &mut Ints,
     expr: &'a Expr,
-) -> Result<Option<Ending>, Memory>
+) -> Result<Onward, Memory>
     requires plain { is_plain expr.now ≡ true }
     requires may { MayStride p.now C.known C.may_read C.may_write C.rule (Evaluate expr.now) machine.old cells.old prints.old }
-    ensures { IfOk result (Strides p.now C.known C.may_read C.may_write C.rule (Evaluate expr.now)
+    ensures { IfOk result (MovesOn p.now C.known C.may_read C.may_write C.rule (Evaluate expr.now)
         machine.old cells.old prints.old machine.new cells.new prints.new) }
 {
     match value_of(expr, p, machine.vars.as_slice(), cells) {
-        Err(fault) => Ok(Some(fault.ending())),
+        Err(fault) => {
+            machine.ending = Some(fault.ending());
+            Ok(Onward::End)
+        }
         Ok(value) => {
             machine.push_operand(value)?;
-            Ok(None)
+            Ok(Onward::Below)
         }
     }
 }
@@ -79,9 +83,9 @@ fn operand<'a, C: Cells>(
     cells: &mut C,
     prints: &mut Ints,
     expr: &'a Expr,
-) -> Result<Option<Ending>, Memory>
+) -> Result<Onward, Memory>
     requires { MayStride p.now C.known C.may_read C.may_write C.rule (Evaluate expr.now) machine.old cells.old prints.old }
-    ensures { IfOk result (Strides p.now C.known C.may_read C.may_write C.rule (Evaluate expr.now)
+    ensures { IfOk result (MovesOn p.now C.known C.may_read C.may_write C.rule (Evaluate expr.now)
         machine.old cells.old prints.old machine.new cells.new prints.new) }
 {
     if !is_plain(expr) {
@@ -100,9 +104,9 @@ fn begin<'a, C: Cells>(
     cells: &mut C,
     prints: &mut Ints,
     expr: &'a Expr,
-) -> Result<Option<Ending>, Memory>
+) -> Result<Onward, Memory>
     requires { MayStride p.now C.known C.may_read C.may_write C.rule (Evaluate expr.now) machine.old cells.old prints.old }
-    ensures { IfOk result (Strides p.now C.known C.may_read C.may_write C.rule (Evaluate expr.now)
+    ensures { IfOk result (MovesOn p.now C.known C.may_read C.may_write C.rule (Evaluate expr.now)
         machine.old cells.old prints.old machine.new cells.new prints.new) }
 {
     if let ExprKind::Bin {
@@ -131,9 +135,9 @@ pub(crate) fn evaluate<'a, C: Cells>(
     cells: &mut C,
     prints: &mut Ints,
     expr: &'a Expr,
-) -> Result<Option<Ending>, Memory>
+) -> Result<Onward, Memory>
     requires { MayStride p.now C.known C.may_read C.may_write C.rule (Evaluate expr.now) machine.old cells.old prints.old }
-    ensures { IfOk result (Strides p.now C.known C.may_read C.may_write C.rule (Evaluate expr.now)
+    ensures { IfOk result (MovesOn p.now C.known C.may_read C.may_write C.rule (Evaluate expr.now)
         machine.old cells.old prints.old machine.new cells.new prints.new) }
 {
     if is_plain(expr) {
@@ -152,19 +156,22 @@ pub(crate) fn evaluate_then<'a, C: Cells>(
     prints: &mut Ints,
     expr: &'a Expr,
     then: &ValueUse<'a>,
-) -> Result<Option<Ending>, Memory>
+) -> Result<Onward, Memory>
     requires { MayGo p.now (ways_of C.known C.may_read C.may_write C.rule)
         (doing (Evaluate expr.now) (doing (use_of then.now) (standing machine.old cells.old prints.old))) }
-    ensures { IfOk result (λ ending. Carries p.now (ways_of C.known C.may_read C.may_write C.rule)
+    ensures { IfOk result (λ onward. Moves p.now (ways_of C.known C.may_read C.may_write C.rule)
         (doing (Evaluate expr.now) (doing (use_of then.now) (standing machine.old cells.old prints.old)))
-        ending (standing machine.new cells.new prints.new)) }
+        (course onward machine.new) (standing machine.new cells.new prints.new)) }
 {
     if !is_plain(expr) {
         machine.push(Continuation::UseValue(*then))?;
         return begin(alloc, p, machine, cells, prints, expr);
     }
     match value_of(expr, p, machine.vars.as_slice(), cells) {
-        Err(fault) => Ok(Some(fault.ending())),
+        Err(fault) => {
+            machine.ending = Some(fault.ending());
+            Ok(Onward::End)
+        }
         Ok(value) => {
             machine.push_operand(value)?;
             use_value(p, machine, cells, prints, then)
@@ -184,17 +191,17 @@ pub(crate) fn right_of<'a, C: Cells>(
     op: BinOp,
     right: &'a Expr,
     place: Place,
-) -> Result<Option<Ending>, Memory>
+) -> Result<Onward, Memory>
     requires { MayStride p.now C.known C.may_read C.may_write C.rule (Right op right.now place)
         machine.old cells.old prints.old }
-    ensures { IfOk result (Strides p.now C.known C.may_read C.may_write C.rule (Right op right.now place)
+    ensures { IfOk result (MovesOn p.now C.known C.may_read C.may_write C.rule (Right op right.now place)
         machine.old cells.old prints.old machine.new cells.new prints.new) }
 {
     let left = machine.pop_operand();
     match decide(op, is_true(left)) {
         Some(value) => {
             machine.push_operand(value)?;
-            Ok(None)
+            Ok(Onward::Below)
         }
         None => {
             machine.push_operand(left)?;

@@ -4,13 +4,13 @@ ghost use Rattle.twe_program.specs.Statement.{statements_of};
 ghost use Rattle.seg_exec.specs.Access.{ways_of};
 ghost use Rattle.seg_exec.specs.inner.steps.Continuations.{Evaluate, Rest, Unwind};
 ghost use Rattle.seg_exec.specs.inner.steps.Reached.{standing};
-ghost use Rattle.seg_exec.specs.inner.strides.Moving.{Moves};
+ghost use Rattle.seg_exec.specs.inner.strides.Moving.{Moves, course};
 ghost use Rattle.seg_exec.specs.inner.strides.Plainly.{is_plain};
 ghost use Rattle.seg_exec.specs.inner.strides.Strides.{MayGo, doing};
 
 use crate::cells::Cells;
 use crate::steps::machine::Machine;
-use crate::strides::onward::{Onward, passed};
+use crate::strides::onward::Onward;
 use crate::strides::serve::leave;
 use crate::strides::value::value_of;
 use twe_base::{Ints, Memory};
@@ -27,26 +27,26 @@ pub(crate) fn give<'a, C: Cells>(
     block: usize,
     at: usize,
     stmts: &'a [Stmt],
-) -> Result<Onward<'a>, Memory>
+) -> Result<Onward, Memory>
     requires plain { is_plain value.now ≡ true }
     requires may { MayGo p.now (ways_of C.known C.may_read C.may_write C.rule) (doing (Evaluate value.now) (doing Unwind
         (doing (Rest block at (statements_of (drop at stmts.now))) (standing machine.old cells.old prints.old)))) }
     ensures { IfOk result (λ onward. Moves p.now (ways_of C.known C.may_read C.may_write C.rule)
         (doing (Evaluate value.now) (doing Unwind
         (doing (Rest block at (statements_of (drop at stmts.now))) (standing machine.old cells.old prints.old))))
-        onward (standing machine.new cells.new prints.new)) }
+        (course onward machine.new) (standing machine.new cells.new prints.new)) }
 {
     let _block = block;
     let _at = at;
     let _stmts = stmts;
     match value_of(value, p, machine.vars.as_slice(), cells) {
-        Err(fault) => Ok(Onward {
-            block: None,
-            ending: Some(fault.ending()),
-        }),
+        Err(fault) => {
+            machine.ending = Some(fault.ending());
+            Ok(Onward::End)
+        }
         Ok(value) => {
             machine.push_operand(value)?;
-            passed(leave(p, machine, cells, prints))
+            leave(p, machine, cells, prints)
         }
     }
 }

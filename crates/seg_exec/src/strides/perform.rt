@@ -3,20 +3,19 @@ ghost use Rattle.std.specs.Prelude.{◌<◌, IfOk, drop, length};
 ghost use Rattle.twe_program.specs.Statement.{statements_of};
 ghost use Rattle.seg_exec.specs.inner.steps.Continuations.{Execute, Rest};
 ghost use Rattle.seg_exec.specs.inner.strides.Moving.{MovesOn};
-ghost use Rattle.seg_exec.specs.inner.strides.Strides.{MayStride, Strides};
+ghost use Rattle.seg_exec.specs.inner.strides.Strides.{MayStride};
 ghost use Rattle.seg_exec.specs.inner.steps.Views.{continuation_of};
 
 use crate::cells::Cells;
 use crate::steps::continuation::{Continuation, Gathering, ValueUse};
 use crate::steps::machine::Machine;
-use crate::steps::request::Ending;
 use crate::strides::assign::{Carried, assign};
 use crate::strides::branch::branch;
 use crate::strides::choose::{choose, choose_first};
 use crate::strides::evaluate::{evaluate, evaluate_then, right_of};
 use crate::strides::gather::gather;
 use crate::strides::give::give;
-use crate::strides::onward::{Onward, passed};
+use crate::strides::onward::Onward;
 use crate::strides::plain::is_plain;
 use crate::strides::serve::{serve, step, use_value};
 use crate::strides::turn::turn;
@@ -33,9 +32,9 @@ fn execute<'a, C: Cells>(
     cells: &mut C,
     prints: &mut Ints,
     stmt: &'a Stmt,
-) -> Result<Option<Ending>, Memory>
+) -> Result<Onward, Memory>
     requires { MayStride p.now C.known C.may_read C.may_write C.rule (Execute stmt.now) machine.old cells.old prints.old }
-    ensures { IfOk result (Strides p.now C.known C.may_read C.may_write C.rule (Execute stmt.now) machine.old cells.old prints.old
+    ensures { IfOk result (MovesOn p.now C.known C.may_read C.may_write C.rule (Execute stmt.now) machine.old cells.old prints.old
         machine.new cells.new prints.new) }
 {
     match &stmt.kind {
@@ -87,7 +86,7 @@ fn begin_execution<'a, C: Cells>(
     cells: &mut C,
     prints: &mut Ints,
     stmt: &'a Stmt,
-) -> Result<Onward<'a>, Memory>
+) -> Result<Onward, Memory>
     requires { MayStride p.now C.known C.may_read C.may_write C.rule (Execute stmt.now) machine.old cells.old prints.old }
     ensures { IfOk result (MovesOn p.now C.known C.may_read C.may_write C.rule (Execute stmt.now) machine.old cells.old prints.old
         machine.new cells.new prints.new) }
@@ -100,7 +99,7 @@ fn begin_execution<'a, C: Cells>(
         } => turn(
             alloc, p, machine, cells, prints, stmt, condition, body, *place,
         ),
-        _ => passed(execute(alloc, p, machine, cells, prints, stmt)),
+        _ => execute(alloc, p, machine, cells, prints, stmt),
     }
 }
 
@@ -115,7 +114,7 @@ fn begin_statement<'a, C: Cells>(
     machine: &mut Machine<'a>,
     cells: &mut C,
     prints: &mut Ints,
-) -> Result<Onward<'a>, Memory>
+) -> Result<Onward, Memory>
     requires within { at < length stmts.now }
     requires may { MayStride p.now C.known C.may_read C.may_write C.rule (Rest block at (statements_of (drop at stmts.now)))
         machine.old cells.old prints.old }
@@ -141,7 +140,7 @@ fn enter_statement<'a, C: Cells>(
     block: usize,
     at: usize,
     stmts: &'a [Stmt],
-) -> Result<Onward<'a>, Memory>
+) -> Result<Onward, Memory>
     requires within { at < length stmts.now }
     requires may { MayStride p.now C.known C.may_read C.may_write C.rule (Rest block at (statements_of (drop at stmts.now)))
         machine.old cells.old prints.old }
@@ -175,7 +174,7 @@ pub(crate) fn go_on<'a, C: Cells>(
     block: usize,
     at: usize,
     stmts: &'a [Stmt],
-) -> Result<Onward<'a>, Memory>
+) -> Result<Onward, Memory>
     requires { MayStride p.now C.known C.may_read C.may_write C.rule (Rest block at (statements_of (drop at stmts.now)))
         machine.old cells.old prints.old }
     ensures { IfOk result (MovesOn p.now C.known C.may_read C.may_write C.rule (Rest block at (statements_of (drop at stmts.now)))
@@ -186,20 +185,15 @@ pub(crate) fn go_on<'a, C: Cells>(
         match assign(&stmts[next], p, &mut machine.vars, cells) {
             Carried::Done => next += 1,
             Carried::Faulted(fault) => {
-                return Ok(Onward {
-                    block: None,
-                    ending: Some(fault.ending()),
-                });
+                machine.ending = Some(fault.ending());
+                return Ok(Onward::End);
             }
             Carried::Left => {
                 return enter_statement(alloc, p, machine, cells, prints, block, next, stmts);
             }
         }
     }
-    Ok(Onward {
-        block: None,
-        ending: None,
-    })
+    Ok(Onward::Below)
 }
 
 /// Does what a continuation frame is for, in one step or in several. Returns what comes next.
@@ -211,28 +205,28 @@ pub(crate) fn perform<'a, C: Cells>(
     cells: &mut C,
     prints: &mut Ints,
     work: Continuation<'a>,
-) -> Result<Onward<'a>, Memory>
+) -> Result<Onward, Memory>
     requires { MayStride p.now C.known C.may_read C.may_write C.rule (continuation_of work) machine.old cells.old prints.old }
     ensures { IfOk result (MovesOn p.now C.known C.may_read C.may_write C.rule (continuation_of work.entry)
         machine.old cells.old prints.old machine.new cells.new prints.new) }
 {
     match work {
-        Continuation::Evaluate(expr) => { passed(evaluate(alloc, p, machine, cells, prints, expr)) }
+        Continuation::Evaluate(expr) => evaluate(alloc, p, machine, cells, prints, expr),
         Continuation::Execute(stmt) => begin_execution(alloc, p, machine, cells, prints, stmt),
         Continuation::Rest { block, at, stmts } => {
             go_on(alloc, p, machine, cells, prints, block, at, stmts)
         }
         Continuation::Choose { block, arms, last } => {
-            passed(choose(alloc, p, machine, cells, prints, block, arms, last))
+            choose(alloc, p, machine, cells, prints, block, arms, last)
         }
         Continuation::UseValue(ValueUse::Right { op, right, place }) => {
-            passed(right_of(alloc, p, machine, cells, prints, op, right, place))
+            right_of(alloc, p, machine, cells, prints, op, right, place)
         }
-        Continuation::UseValue(then) => passed(use_value(p, machine, cells, prints, &then)),
+        Continuation::UseValue(then) => use_value(p, machine, cells, prints, &then),
         Continuation::Gather(gathering) => {
             let Gathering { taken, args, goal } = Box::into_inner(gathering);
-            passed(gather(alloc, p, machine, cells, prints, taken, args, goal))
+            gather(alloc, p, machine, cells, prints, taken, args, goal)
         }
-        work => passed(step(alloc, p, machine, cells, prints, work)),
+        work => step(alloc, p, machine, cells, prints, work),
     }
 }

@@ -1,30 +1,32 @@
 //! What a step requests, served. One step, and the steps that use the latest value.
 ghost use Rattle.std.specs.Prelude.{IfOk};
 ghost use Rattle.seg_exec.specs.inner.steps.Continuations.{Unwind};
-ghost use Rattle.seg_exec.specs.inner.steps.Reached.{MayRequest, Served, standing};
+ghost use Rattle.seg_exec.specs.inner.steps.Reached.{MayRequest, standing};
 ghost use Rattle.seg_exec.specs.inner.steps.Views.{continuation_of, use_of};
-ghost use Rattle.seg_exec.specs.inner.strides.Strides.{MayStride, Strides};
+ghost use Rattle.seg_exec.specs.inner.strides.Moving.{MovesOn, Serves, course};
+ghost use Rattle.seg_exec.specs.inner.strides.Strides.{MayStride};
 ghost use Rattle.seg_exec.specs.Access.{ways_of};
 
 use crate::cells::Cells;
 use crate::steps::continuation::{Continuation, ValueUse};
 use crate::steps::machine::Machine;
-use crate::steps::request::{Ending, Request};
+use crate::steps::request::Request;
+use crate::strides::onward::Onward;
 use std::alloc::Global;
 use twe_base::{Ints, Memory};
 use twe_program::Prog;
 
-/// Serves what a step requests. Returns the ending if the step is the last.
+/// Serves what a step requests. The step comes to the end of the run, or the continuation frame on top comes next.
 #[inline(always)]
 pub(crate) fn serve<C: Cells>(
     machine: &mut Machine<'_>,
     cells: &mut C,
     prints: &mut Ints,
     request: Request,
-) -> Result<Option<Ending>, Memory>
+) -> Result<Onward, Memory>
     requires { MayRequest (ways_of C.known C.may_read C.may_write C.rule) cells.old request }
-    ensures { IfOk result (λ ending. Served (ways_of C.known C.may_read C.may_write C.rule)
-        request (standing machine.old cells.old prints.old) ending (standing machine.new cells.new prints.new)) }
+    ensures { IfOk result (λ onward. Serves (ways_of C.known C.may_read C.may_write C.rule)
+        request (standing machine.old cells.old prints.old) (course onward machine.new) (standing machine.new cells.new prints.new)) }
 {
     match request {
         Request::Nothing => {}
@@ -34,12 +36,15 @@ pub(crate) fn serve<C: Cells>(
         }
         Request::Write(cell, value) => cells.set(cell, value),
         Request::Print(value) => prints.push(value)?,
-        Request::End(ending) => return Ok(Some(ending)),
+        Request::End(ending) => {
+            machine.ending = Some(ending);
+            return Ok(Onward::End);
+        }
     }
-    Ok(None)
+    Ok(Onward::Below)
 }
 
-/// Makes the one step that a continuation frame is for. Returns the ending if the step is the last.
+/// Makes the one step that a continuation frame is for. The step comes to the end of the run, or the continuation frame on top comes next.
 pub(crate) fn step<'a, C: Cells>(
     alloc: Global,
     p: &'a Prog,
@@ -47,9 +52,9 @@ pub(crate) fn step<'a, C: Cells>(
     cells: &mut C,
     prints: &mut Ints,
     work: Continuation<'a>,
-) -> Result<Option<Ending>, Memory>
+) -> Result<Onward, Memory>
     requires { MayStride p.now C.known C.may_read C.may_write C.rule (continuation_of work) machine.old cells.old prints.old }
-    ensures { IfOk result (Strides p.now C.known C.may_read C.may_write C.rule (continuation_of work.entry)
+    ensures { IfOk result (MovesOn p.now C.known C.may_read C.may_write C.rule (continuation_of work.entry)
         machine.old cells.old prints.old machine.new cells.new prints.new) }
 {
     let request = machine.act(alloc, p, work)?;
@@ -63,9 +68,9 @@ pub(crate) fn leave<'a, C: Cells>(
     machine: &mut Machine<'a>,
     cells: &mut C,
     prints: &mut Ints,
-) -> Result<Option<Ending>, Memory>
+) -> Result<Onward, Memory>
     requires { MayStride p.now C.known C.may_read C.may_write C.rule Unwind machine.old cells.old prints.old }
-    ensures { IfOk result (Strides p.now C.known C.may_read C.may_write C.rule Unwind machine.old cells.old prints.old
+    ensures { IfOk result (MovesOn p.now C.known C.may_read C.may_write C.rule Unwind machine.old cells.old prints.old
         machine.new cells.new prints.new) }
 {
     let _program = p;
@@ -81,9 +86,9 @@ fn use_now<'a, C: Cells>(
     cells: &mut C,
     prints: &mut Ints,
     then: &ValueUse<'a>,
-) -> Result<Option<Ending>, Memory>
+) -> Result<Onward, Memory>
     requires { MayStride p.now C.known C.may_read C.may_write C.rule (use_of then.now) machine.old cells.old prints.old }
-    ensures { IfOk result (Strides p.now C.known C.may_read C.may_write C.rule (use_of then.now) machine.old cells.old prints.old
+    ensures { IfOk result (MovesOn p.now C.known C.may_read C.may_write C.rule (use_of then.now) machine.old cells.old prints.old
         machine.new cells.new prints.new) }
 {
     let request = machine.use_value(p, then)?;
@@ -98,9 +103,9 @@ pub(crate) fn use_value<'a, C: Cells>(
     cells: &mut C,
     prints: &mut Ints,
     then: &ValueUse<'a>,
-) -> Result<Option<Ending>, Memory>
+) -> Result<Onward, Memory>
     requires { MayStride p.now C.known C.may_read C.may_write C.rule (use_of then.now) machine.old cells.old prints.old }
-    ensures { IfOk result (Strides p.now C.known C.may_read C.may_write C.rule (use_of then.now) machine.old cells.old prints.old
+    ensures { IfOk result (MovesOn p.now C.known C.may_read C.may_write C.rule (use_of then.now) machine.old cells.old prints.old
         machine.new cells.new prints.new) }
 {
     match then {

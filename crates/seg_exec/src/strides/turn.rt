@@ -6,16 +6,16 @@ ghost use Rattle.seg_exec.specs.inner.steps.Continuations.{Evaluate, Turn};
 ghost use Rattle.seg_exec.specs.inner.steps.Reached.{standing};
 ghost use Rattle.seg_exec.specs.inner.steps.Steps.{turned_by};
 ghost use Rattle.seg_exec.specs.inner.steps.Views.{config_of};
-ghost use Rattle.seg_exec.specs.inner.strides.Moving.{Moves, step_on};
+ghost use Rattle.seg_exec.specs.inner.strides.Moving.{Moves, step_on, course};
 ghost use Rattle.seg_exec.specs.inner.strides.Strides.{MayGo, doing};
 
 use crate::arithmetic::is_true;
 use crate::cells::Cells;
-use crate::steps::continuation::{Continuation, ValueUse};
+use crate::steps::continuation::{Continuation, OpenBlock, ValueUse};
 use crate::steps::machine::Machine;
 use crate::steps::request::Ending;
 use crate::strides::evaluate::evaluate_then;
-use crate::strides::onward::{Onward, OpenBlock, passed};
+use crate::strides::onward::Onward;
 use crate::strides::plain::is_plain;
 use crate::strides::value::value_of;
 use std::alloc::Global;
@@ -30,35 +30,28 @@ fn begin_turn<'a>(
     again: &'a Stmt,
     body: &'a Block,
     place: Place,
-) -> Result<Onward<'a>, Memory>
-    ensures { IfOk result (λ onward. step_on onward (config_of machine.new)
+) -> Result<Onward, Memory>
+    ensures { IfOk result (λ onward. step_on (course onward machine.new) (config_of machine.new)
         ≡ turned_by (is_true value) again.now body.now place (config_of machine.old)) }
 {
     if !is_true(value) {
-        return Ok(Onward {
-            block: None,
-            ending: None,
-        });
+        return Ok(Onward::Below);
     }
     if machine.fuel == 0 {
-        return Ok(Onward {
-            block: None,
-            ending: Some(Ending::Faulted {
-                kind: FaultKind::Fuel,
-                place,
-            }),
+        machine.ending = Some(Ending::Faulted {
+            kind: FaultKind::Fuel,
+            place,
         });
+        return Ok(Onward::End);
     }
     machine.fuel -= 1;
     machine.push(Continuation::Execute(again))?;
-    Ok(Onward {
-        block: Some(OpenBlock {
-            block: 0,
-            at: 0,
-            stmts: body.stmts.as_slice(),
-        }),
-        ending: None,
-    })
+    machine.open = OpenBlock {
+        block: 0,
+        at: 0,
+        stmts: body.stmts.as_slice(),
+    };
+    Ok(Onward::Enter)
 }
 
 /// Evaluates the condition of a loop, and begins a turn if it is true. If the condition calls a method, it makes only the first
@@ -74,22 +67,22 @@ pub(crate) fn turn<'a, C: Cells>(
     condition: &'a Expr,
     body: &'a Block,
     place: Place,
-) -> Result<Onward<'a>, Memory>
+) -> Result<Onward, Memory>
     requires { MayGo p.now (ways_of C.known C.may_read C.may_write C.rule)
         (doing (Evaluate condition.now) (doing (Turn again.now body.now place) (standing machine.old cells.old prints.old))) }
     ensures { IfOk result (λ onward. Moves p.now (ways_of C.known C.may_read C.may_write C.rule)
         (doing (Evaluate condition.now) (doing (Turn again.now body.now place) (standing machine.old cells.old prints.old)))
-        onward (standing machine.new cells.new prints.new)) }
+        (course onward machine.new) (standing machine.new cells.new prints.new)) }
 {
     if !is_plain(condition) {
         let then = ValueUse::Turn { again, body, place };
-        return passed(evaluate_then(alloc, p, machine, cells, prints, condition, &then));
+        return evaluate_then(alloc, p, machine, cells, prints, condition, &then);
     }
     match value_of(condition, p, machine.vars.as_slice(), cells) {
-        Err(fault) => Ok(Onward {
-            block: None,
-            ending: Some(fault.ending()),
-        }),
+        Err(fault) => {
+            machine.ending = Some(fault.ending());
+            Ok(Onward::End)
+        }
         Ok(value) => begin_turn(machine, value, again, body, place),
     }
 }

@@ -1,18 +1,30 @@
 -- Several steps of the evaluator, up to where it goes on.
-use Rattle.std.specs.Prelude.{◌≡◌, ℕ, ℤ, List, drop, Option, None, Some, Result, Ok, Err}
-use Rattle.twe_base.specs.declared.memory.Memory.{Memory}
+use Rattle.std.specs.Prelude.{◌≡◌, ℕ, ℤ, List, drop, Option, None, Some}
 use Rattle.twe_program.specs.Program.{Program}
 use Rattle.twe_program.specs.Statement.{statements_of}
 use Rattle.seg_exec.specs.declared.steps.machine.Machine.{Machine}
 use Rattle.seg_exec.specs.declared.steps.request.Ending.{Ending}
+use Rattle.seg_exec.specs.declared.steps.request.Request.{Request}
 use Rattle.seg_exec.specs.declared.steps.request.Request.TheVariants as requests
-use Rattle.seg_exec.specs.declared.strides.onward.OpenBlock.{OpenBlock}
+use Rattle.seg_exec.specs.declared.steps.continuation.OpenBlock.{OpenBlock}
 use Rattle.seg_exec.specs.declared.strides.onward.Onward.{Onward}
+use Rattle.seg_exec.specs.declared.strides.onward.Onward.TheVariants.{Below, Enter, End}
 use Rattle.seg_exec.specs.Access.{Access, Ways, ways_of}
 use Rattle.seg_exec.specs.inner.steps.Continuations.{Config, Continuation, Rest, to_do}
-use Rattle.seg_exec.specs.inner.steps.Reached.{Standing, standing}
+use Rattle.seg_exec.specs.inner.steps.Reached.{Served, Standing, standing}
 use Rattle.seg_exec.specs.inner.steps.Steps.{Step, on}
 use Rattle.seg_exec.specs.inner.strides.Strides.{Ends, Goes, doing}
+
+-- how a run goes on: what is left of a block, if it comes before all continuation frames, and the ending, if it has ended
+pub record Course : Type 0 where
+  pub block : Option OpenBlock
+  pub ending : Option Ending
+
+-- how a run goes on, as what comes next and the machine say
+abbrev pub course : Onward → Machine → Course
+course Below m = record { block = None; ending = None }
+course Enter m = record { block = Some m.open; ending = None }
+course End m = record { block = None; ending = m.ending }
 
 -- what is left of a block, as a continuation frame
 abbrev pub rest_of : OpenBlock → Continuation
@@ -28,9 +40,9 @@ abbrev pub MovesTo : {C : Type 0} → Program → Ways C → Standing C → Opti
 MovesTo p ways old block None new = Goes p ways old (ahead block new)
 MovesTo p ways old block (Some ending) new = Ends p ways old ending new
 
--- the same, as what comes next says
-abbrev pub Moves : {C : Type 0} → Program → Ways C → Standing C → Onward → Standing C → Type 0
-Moves p ways old onward new = MovesTo p ways old onward.block onward.ending new
+-- the same, as the course of the run says
+abbrev pub Moves : {C : Type 0} → Program → Ways C → Standing C → Course → Standing C → Type 0
+Moves p ways old next new = MovesTo p ways old next.block next.ending new
 
 -- this is done, in some steps: up to where the evaluator goes on, or up to the end
 abbrev pub MovesOn : {C : Type 0} → Program
@@ -38,7 +50,7 @@ abbrev pub MovesOn : {C : Type 0} → Program
     → Continuation → Machine → C → List ℤ → Machine → C → List ℤ → Onward → Type 0
 MovesOn p known may_read may_write rule task machine cells prints machine' cells' prints' = λ onward.
     Moves p (ways_of known may_read may_write rule)
-    (doing task (standing machine cells prints)) onward (standing machine' cells' prints')
+    (doing task (standing machine cells prints)) (course onward machine') (standing machine' cells' prints')
 
 -- a configuration with what is left of a block to be done first, if a block comes next
 abbrev pub before_others : Option OpenBlock → Config → Config
@@ -50,15 +62,10 @@ abbrev pub step_to : Option OpenBlock → Option Ending → Config → Step
 step_to block None c = on (before_others block c)
 step_to block (Some ending) c = (requests.End ending, c)
 
--- the same, as what comes next says
-abbrev pub step_on : Onward → Config → Step
-step_on onward c = step_to onward.block onward.ending c
+-- the same, as the course of the run says
+abbrev pub step_on : Course → Config → Step
+step_on next c = step_to next.block next.ending c
 
--- what comes next where only an ending is known
-abbrev pub onward_of : Option Ending → Onward
-onward_of ending = record { block = None; ending = ending }
-
--- some steps with an ending, if they are the last, as steps with what comes next
-abbrev pub Passes : Result (Option Ending) Memory → Result Onward Memory → Type 0
-Passes (Ok ending) result = result ≡ Ok (onward_of ending)
-Passes (Err memory) result = result ≡ Err memory
+-- what a step requests is served, and the run has ended if that was the end; no block comes next
+abbrev pub Serves : {C : Type 0} → Ways C → Request → Standing C → Course → Standing C → Type 0
+Serves ways request old next new = Served ways request old next.ending new × (next.block ≡ None)

@@ -7,8 +7,9 @@ use Rattle.seg_exec.specs.inner.steps.Continuations.{Choose, Rest}
 use Rattle.seg_exec.specs.inner.steps.Reached.{standing}
 use Rattle.seg_exec.specs.inner.steps.Views.{config_of}
 use Rattle.seg_exec.specs.inner.strides.Strides.{Goes, doing}
+use Rattle.seg_exec.specs.inner.strides.Moving.{course}
 use Rattle.seg_exec.proofs.strides.Branching.{arms_left, before, body_picked, fault_picked, nothing_picked, picks_at}
-use Rattle.seg_exec.proofs.strides.Moving.{near_moves, passes}
+use Rattle.seg_exec.proofs.strides.Moving.{near_moves}
 use Rattle.seg_exec.proofs.strides.Strides.{may_near}
 use Rattle.seg_exec.proofs.Segments.{if_ok_map}
 use Rattle.seg_exec.proofs.strides.branch.branch_among.Goals as goal
@@ -58,7 +59,6 @@ returns-in_ok-push-in-Left g c =
     let from = before c.args.p.now ways c.args.arms.now c.args.last.now rest old c.args.cells.now c.args.prints.now in
     let mid = doing (Choose c.in-Left.next (arms_of (drop c.in-Left.next c.args.arms.now) c.args.last.now)) (standing c.push-in-Left.new.self c.pick.new.cells c.args.prints.now) in
     let after = standing c.choose.new.machine c.choose.new.cells c.choose.new.prints in
-    if_ok_map c.passed.result (λ onward moves. near_moves c.args.p.now (ways_of g.C.Cells.known g.C.Cells.may_read g.C.Cells.may_write g.C.Cells.rule) from mid after onward
+    if_ok_map c.choose.result (λ onward moves. near_moves c.args.p.now (ways_of g.C.Cells.known g.C.Cells.may_read g.C.Cells.may_write g.C.Cells.rule) from mid after (course onward c.choose.new.machine)
     (arms_left c.args.p.now ways c.args.arms.now c.args.last.now rest old c.args.cells.now c.pick.new.cells c.args.prints.now c.in-Left.next (config_of c.push-in-Left.new.self) c.in_ok-push-in-Left.ensures
-    (picks_at c.args.p.now ways c.args.arms.now c.args.last.now rest c.as_slice.result.now old.vars c.args.cells.now c.pick.new.cells (Left c.in-Left.next) c.as_slice.ensures c.in-Left.ensures)) moves)
-    (passes c.args.p.now ways mid after c.choose.result c.passed.result c.passed.ensures c.choose.ensures)
+    (picks_at c.args.p.now ways c.args.arms.now c.args.last.now rest c.as_slice.result.now old.vars c.args.cells.now c.pick.new.cells (Left c.in-Left.next) c.as_slice.ensures c.in-Left.ensures)) moves) c.choose.ensures

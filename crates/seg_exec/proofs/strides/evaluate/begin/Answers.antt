@@ -6,7 +6,9 @@ use Rattle.seg_exec.specs.inner.steps.Continuations.{Config, Evaluate, Right, to
 use Rattle.seg_exec.specs.inner.steps.Reached.{standing}
 use Rattle.seg_exec.specs.inner.steps.Steps.{evaluated, on}
 use Rattle.seg_exec.specs.inner.steps.Views.{config_of}
-use Rattle.seg_exec.proofs.strides.Performing.{carries_silent, may_silent}
+use Rattle.seg_exec.specs.inner.strides.Moving.{course}
+use Rattle.seg_exec.proofs.strides.Moving.{moves_silent}
+use Rattle.seg_exec.proofs.strides.Performing.{may_silent}
 use Rattle.seg_exec.proofs.Segments.{if_ok_map}
 use Rattle.seg_exec.proofs.strides.evaluate.begin.Goals as goal
 
@@ -34,5 +36,5 @@ returns-in-Bin g c =
     ∙ ap (λ (l : Expression). on (to_do (Evaluate l) (to_do (Right c.in-Bin.op c.in-Bin.right.value c.in-Bin.place) old))) (sym left)
     ∙ ap (λ (config : Config). on (to_do (Evaluate c.deref-in-Bin.result.now) config)) (sym same)
     in
-    if_ok_map c.operand.result (λ ending rest. carries_silent c.args.p.now (ways_of g.C.Cells.known g.C.Cells.may_read g.C.Cells.may_write g.C.Cells.rule) (Evaluate c.args.expr.now) old (to_do (Evaluate c.deref-in-Bin.result.now) (config_of c.push.new.self)) c.args.cells.now c.args.prints.now ending
+    if_ok_map c.operand.result (λ onward rest. moves_silent c.args.p.now (ways_of g.C.Cells.known g.C.Cells.may_read g.C.Cells.may_write g.C.Cells.rule) (Evaluate c.args.expr.now) old (to_do (Evaluate c.deref-in-Bin.result.now) (config_of c.push.new.self)) c.args.cells.now c.args.prints.now (course onward c.operand.new.machine)
     (standing c.operand.new.machine c.operand.new.cells c.operand.new.prints) is rest) c.operand.ensures

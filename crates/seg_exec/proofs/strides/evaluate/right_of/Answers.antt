@@ -5,7 +5,9 @@ use Rattle.seg_exec.specs.inner.steps.Continuations.{Apply, Evaluate, Right, to_
 use Rattle.seg_exec.specs.inner.steps.Reached.{standing}
 use Rattle.seg_exec.specs.inner.strides.Strides.{doing}
 use Rattle.seg_exec.specs.inner.steps.Views.{config_of}
-use Rattle.seg_exec.proofs.strides.Performing.{carries_silent, left_decides, may_silent, right_counts}
+use Rattle.seg_exec.specs.inner.strides.Moving.{course}
+use Rattle.seg_exec.proofs.strides.Moving.{moves_silent}
+use Rattle.seg_exec.proofs.strides.Performing.{left_decides, may_silent, right_counts}
 use Rattle.seg_exec.proofs.strides.Strides.{silent}
 use Rattle.seg_exec.proofs.Segments.{if_ok_map}
 use Rattle.seg_exec.proofs.strides.evaluate.right_of.Goals as goal
@@ -34,5 +36,5 @@ returns-in_ok-push_operand-in-None g c =
     let mid = config_of c.push_operand-in-None.new.self in
     let is : decided c.args.op (is_true (top old.operands)) ≡ None = search rules in
     let same : mid ≡ with_operand (top old.operands) (without_operand old) = search rules in
-    if_ok_map c.evaluate_then.result (λ ending rest. carries_silent c.args.p.now (ways_of g.C.Cells.known g.C.Cells.may_read g.C.Cells.may_write g.C.Cells.rule) (Right c.args.op c.args.right.now c.args.place) old (to_do (Evaluate c.args.right.now) (to_do (Apply c.args.op c.args.place) mid)) c.args.cells.now c.args.prints.now ending
+    if_ok_map c.evaluate_then.result (λ onward rest. moves_silent c.args.p.now (ways_of g.C.Cells.known g.C.Cells.may_read g.C.Cells.may_write g.C.Cells.rule) (Right c.args.op c.args.right.now c.args.place) old (to_do (Evaluate c.args.right.now) (to_do (Apply c.args.op c.args.place) mid)) c.args.cells.now c.args.prints.now (course onward c.evaluate_then.new.machine)
     (standing c.evaluate_then.new.machine c.evaluate_then.new.cells c.evaluate_then.new.prints) (right_counts c.args.p.now c.args.op c.args.right.now c.args.place old mid is same) rest) c.evaluate_then.ensures

@@ -6,8 +6,9 @@ use Rattle.seg_exec.specs.inner.steps.Continuations.{Rest, Unwind, with_operand}
 use Rattle.seg_exec.specs.inner.steps.Reached.{standing}
 use Rattle.seg_exec.specs.inner.steps.Views.{config_of}
 use Rattle.seg_exec.specs.inner.strides.Strides.{doing}
+use Rattle.seg_exec.specs.inner.strides.Moving.{course}
 use Rattle.seg_exec.proofs.strides.GivenBack.{given_past, returning_from}
-use Rattle.seg_exec.proofs.strides.Moving.{passes, then_moves}
+use Rattle.seg_exec.proofs.strides.Moving.{then_moves}
 use Rattle.seg_exec.proofs.strides.Performing.{carries_fault}
 use Rattle.seg_exec.proofs.strides.Strides.{may_then}
 use Rattle.seg_exec.proofs.Segments.{if_ok_map}
@@ -39,7 +40,6 @@ returns-in_ok-push_operand-in-Ok g c =
     let fits : SFits w32 c.in-Ok.value = search rules in
     let before = doing Unwind (standing c.push_operand.new.self c.value_of.new.cells c.args.prints.now) in
     let after = standing c.leave.new.machine c.leave.new.cells c.leave.new.prints in
-    if_ok_map c.passed.result (λ onward rest. then_moves c.args.p.now ways (returning_from c.args.p.now ways c.args.block c.args.at stmts c.args.value.now old c.args.cells.now c.args.prints.now) before after onward
+    if_ok_map c.leave.result (λ onward rest. then_moves c.args.p.now ways (returning_from c.args.p.now ways c.args.block c.args.at stmts c.args.value.now old c.args.cells.now c.args.prints.now) before after (course onward c.leave.new.machine)
     (given_past c.args.p.now ways c.args.block c.args.at stmts c.args.value.now c.as_slice.result.now old mid c.args.cells.now c.value_of.new.cells c.args.prints.now c.in-Ok.value c.as_slice.ensures c.in-Ok.ensures
-    (c.in_ok-push_operand-in-Ok.ensures ∙ ap (λ v. with_operand v old) (to_z-of_z w32 c.in-Ok.value fits))) rest)
-    (passes c.args.p.now ways before after c.leave.result c.passed.result c.passed.ensures c.leave.ensures)
+    (c.in_ok-push_operand-in-Ok.ensures ∙ ap (λ v. with_operand v old) (to_z-of_z w32 c.in-Ok.value fits))) rest) c.leave.ensures

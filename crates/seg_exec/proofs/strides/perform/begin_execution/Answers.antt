@@ -6,6 +6,7 @@ use Rattle.seg_exec.specs.inner.steps.Continuations.{Evaluate, Execute, Turn, to
 use Rattle.seg_exec.specs.inner.steps.Reached.{standing}
 use Rattle.seg_exec.specs.inner.steps.Steps.{executed, on}
 use Rattle.seg_exec.specs.inner.steps.Views.{config_of}
+use Rattle.seg_exec.specs.inner.strides.Moving.{course}
 use Rattle.seg_exec.proofs.strides.Moving.{moves_silent}
 use Rattle.seg_exec.proofs.strides.Performing.{may_silent}
 use Rattle.seg_exec.proofs.Segments.{if_ok_map}
@@ -16,5 +17,5 @@ turn-requires g c = may_silent c.args.p.now (ways_of g.C.Cells.known g.C.Cells.m
 
 pub returns-in-While : goal.returns-in-While
 returns-in-While g c =
-    if_ok_map c.turn.result (λ onward rest. moves_silent c.args.p.now (ways_of g.C.Cells.known g.C.Cells.may_read g.C.Cells.may_write g.C.Cells.rule) (Execute c.args.stmt.now) (config_of c.args.machine.now) (to_do (Evaluate c.in-While.condition) (to_do (Turn c.args.stmt.now c.in-While.body c.in-While.place) (config_of c.args.machine.now))) c.args.cells.now c.args.prints.now onward
+    if_ok_map c.turn.result (λ onward rest. moves_silent c.args.p.now (ways_of g.C.Cells.known g.C.Cells.may_read g.C.Cells.may_write g.C.Cells.rule) (Execute c.args.stmt.now) (config_of c.args.machine.now) (to_do (Evaluate c.in-While.condition) (to_do (Turn c.args.stmt.now c.in-While.body c.in-While.place) (config_of c.args.machine.now))) c.args.cells.now c.args.prints.now (course onward c.turn.new.machine)
     (standing c.turn.new.machine c.turn.new.cells c.turn.new.prints) ((ap (λ (s : Statement). executed s (config_of c.args.machine.now)) (sym c.stmt.view_is ∙ ap (λ kind. statement_of c.stmt.inside.point kind) c.in-While.is)) ∙ ap (λ (s : Statement). on (to_do (Evaluate c.in-While.condition) (to_do (Turn s c.in-While.body c.in-While.place) (config_of c.args.machine.now)))) (sym (sym c.stmt.view_is ∙ ap (λ kind. statement_of c.stmt.inside.point kind) c.in-While.is))) rest) c.turn.ensures

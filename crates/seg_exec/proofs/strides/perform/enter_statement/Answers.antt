@@ -6,6 +6,7 @@ use Rattle.seg_exec.specs.inner.steps.Continuations.{Choose, Config, Evaluate, U
 use Rattle.seg_exec.specs.inner.steps.Reached.{standing}
 use Rattle.seg_exec.specs.inner.steps.Steps.{executed}
 use Rattle.seg_exec.specs.inner.steps.Views.{config_of}
+use Rattle.seg_exec.specs.inner.strides.Moving.{course}
 use Rattle.seg_exec.proofs.strides.GoingOn.{into, next_is, rest_at}
 use Rattle.seg_exec.proofs.strides.Moving.{then_moves}
 use Rattle.seg_exec.proofs.strides.Strides.{may_then}
@@ -35,7 +36,7 @@ returns-in-If g c =
     let is = next_is c.args.stmts.now c.args.at c.index-stmts-at.result c.requires.within c.index-stmts-at.is in
     let from = rest_at c.args.block c.args.at c.args.stmts.now (standing c.args.machine.now c.args.cells.now c.args.prints.now) in
     let new = standing c.branch-alloc.new.machine c.branch-alloc.new.cells c.branch-alloc.new.prints in
-    if_ok_map c.branch-alloc.result (λ onward rest. then_moves c.args.p.now (ways_of g.C.Cells.known g.C.Cells.may_read g.C.Cells.may_write g.C.Cells.rule) from _ new onward
+    if_ok_map c.branch-alloc.result (λ onward rest. then_moves c.args.p.now (ways_of g.C.Cells.known g.C.Cells.may_read g.C.Cells.may_write g.C.Cells.rule) from _ new (course onward c.branch-alloc.new.machine)
     (into c.args.p.now ways c.args.block c.args.at c.args.stmts.now c.index-stmts-at.result is (to_do (Choose 0 c.in-If.arms))
     (λ (config : Config). ap (λ (s : Statement). executed s config) (sym c.stmt.view_is ∙ ap (λ kind. statement_of c.stmt.inside.point kind) c.in-If.is)) (config_of c.args.machine.now) c.args.cells.now c.args.prints.now) rest) c.branch-alloc.ensures
 
@@ -46,6 +47,6 @@ returns-then-is_plain g c =
     let shape : c.index-stmts-at.result ≡ Return c.stmt.inside.point (Some c.in-Return-Some.value) = search rules in
     let from = rest_at c.args.block c.args.at c.args.stmts.now (standing c.args.machine.now c.args.cells.now c.args.prints.now) in
     let new = standing c.give.new.machine c.give.new.cells c.give.new.prints in
-    if_ok_map c.give.result (λ onward rest. then_moves c.args.p.now (ways_of g.C.Cells.known g.C.Cells.may_read g.C.Cells.may_write g.C.Cells.rule) from _ new onward
+    if_ok_map c.give.result (λ onward rest. then_moves c.args.p.now (ways_of g.C.Cells.known g.C.Cells.may_read g.C.Cells.may_write g.C.Cells.rule) from _ new (course onward c.give.new.machine)
     (into c.args.p.now ways c.args.block c.args.at c.args.stmts.now c.index-stmts-at.result is (λ config. to_do (Evaluate c.in-Return-Some.value) (to_do Unwind config))
     (λ (config : Config). ap (λ (s : Statement). executed s config) shape) (config_of c.args.machine.now) c.args.cells.now c.args.prints.now) rest) c.give.ensures

@@ -6,7 +6,10 @@ use Rattle.seg_exec.specs.inner.steps.Continuations.{Choose, Evaluate, Execute, 
 use Rattle.seg_exec.specs.inner.steps.Reached.{standing}
 use Rattle.seg_exec.specs.inner.steps.Steps.{executed, on}
 use Rattle.seg_exec.specs.inner.steps.Views.{config_of}
-use Rattle.seg_exec.proofs.strides.Performing.{carries_silent, carries_step, may_silent}
+use Rattle.seg_exec.specs.inner.strides.Strides.{doing}
+use Rattle.seg_exec.specs.inner.strides.Moving.{course}
+use Rattle.seg_exec.proofs.strides.Moving.{moves_carried, moves_silent}
+use Rattle.seg_exec.proofs.strides.Performing.{carries_step, may_silent}
 use Rattle.seg_exec.proofs.Segments.{if_ok_map}
 use Rattle.seg_exec.proofs.strides.perform.execute.Goals as goal
 
@@ -15,7 +18,7 @@ evaluate_then-requires g c = may_silent c.args.p.now (ways_of g.C.Cells.known g.
 
 pub returns-in-Let : goal.returns-in-Let
 returns-in-Let g c =
-    if_ok_map c.evaluate_then.result (λ ending rest. carries_silent c.args.p.now (ways_of g.C.Cells.known g.C.Cells.may_read g.C.Cells.may_write g.C.Cells.rule) (Execute c.args.stmt.now) (config_of c.args.machine.now) (to_do (Evaluate c.in-Let.value) (to_do (GiveVar c.in-Let.var) (config_of c.args.machine.now))) c.args.cells.now c.args.prints.now ending
+    if_ok_map c.evaluate_then.result (λ onward rest. moves_silent c.args.p.now (ways_of g.C.Cells.known g.C.Cells.may_read g.C.Cells.may_write g.C.Cells.rule) (Execute c.args.stmt.now) (config_of c.args.machine.now) (to_do (Evaluate c.in-Let.value) (to_do (GiveVar c.in-Let.var) (config_of c.args.machine.now))) c.args.cells.now c.args.prints.now (course onward c.evaluate_then.new.machine)
     (standing c.evaluate_then.new.machine c.evaluate_then.new.cells c.evaluate_then.new.prints) (ap (λ (s : Statement). executed s (config_of c.args.machine.now)) (sym c.stmt.view_is ∙ ap (λ kind. statement_of c.stmt.inside.point kind) c.in-Let.is)) rest) c.evaluate_then.ensures
 
 pub evaluate_then-requires-in-Set : goal.evaluate_then-requires-in-Set
@@ -23,7 +26,7 @@ evaluate_then-requires-in-Set g c = may_silent c.args.p.now (ways_of g.C.Cells.k
 
 pub returns-in-Set : goal.returns-in-Set
 returns-in-Set g c =
-    if_ok_map c.evaluate_then-in-Set.result (λ ending rest. carries_silent c.args.p.now (ways_of g.C.Cells.known g.C.Cells.may_read g.C.Cells.may_write g.C.Cells.rule) (Execute c.args.stmt.now) (config_of c.args.machine.now) (to_do (Evaluate c.in-Set.value) (to_do (GiveVar c.in-Set.var) (config_of c.args.machine.now))) c.args.cells.now c.args.prints.now ending
+    if_ok_map c.evaluate_then-in-Set.result (λ onward rest. moves_silent c.args.p.now (ways_of g.C.Cells.known g.C.Cells.may_read g.C.Cells.may_write g.C.Cells.rule) (Execute c.args.stmt.now) (config_of c.args.machine.now) (to_do (Evaluate c.in-Set.value) (to_do (GiveVar c.in-Set.var) (config_of c.args.machine.now))) c.args.cells.now c.args.prints.now (course onward c.evaluate_then-in-Set.new.machine)
     (standing c.evaluate_then-in-Set.new.machine c.evaluate_then-in-Set.new.cells c.evaluate_then-in-Set.new.prints) (ap (λ (s : Statement). executed s (config_of c.args.machine.now)) (sym c.stmt.view_is ∙ ap (λ kind. statement_of c.stmt.inside.point kind) c.in-Set.is)) rest) c.evaluate_then-in-Set.ensures
 
 pub evaluate_then-requires-in-SetCell : goal.evaluate_then-requires-in-SetCell
@@ -31,7 +34,7 @@ evaluate_then-requires-in-SetCell g c = may_silent c.args.p.now (ways_of g.C.Cel
 
 pub returns-in-SetCell : goal.returns-in-SetCell
 returns-in-SetCell g c =
-    if_ok_map c.evaluate_then-in-SetCell.result (λ ending rest. carries_silent c.args.p.now (ways_of g.C.Cells.known g.C.Cells.may_read g.C.Cells.may_write g.C.Cells.rule) (Execute c.args.stmt.now) (config_of c.args.machine.now) (to_do (Evaluate c.in-SetCell.value) (to_do (GiveCell c.in-SetCell.cell) (config_of c.args.machine.now))) c.args.cells.now c.args.prints.now ending
+    if_ok_map c.evaluate_then-in-SetCell.result (λ onward rest. moves_silent c.args.p.now (ways_of g.C.Cells.known g.C.Cells.may_read g.C.Cells.may_write g.C.Cells.rule) (Execute c.args.stmt.now) (config_of c.args.machine.now) (to_do (Evaluate c.in-SetCell.value) (to_do (GiveCell c.in-SetCell.cell) (config_of c.args.machine.now))) c.args.cells.now c.args.prints.now (course onward c.evaluate_then-in-SetCell.new.machine)
     (standing c.evaluate_then-in-SetCell.new.machine c.evaluate_then-in-SetCell.new.cells c.evaluate_then-in-SetCell.new.prints) (ap (λ (s : Statement). executed s (config_of c.args.machine.now)) (sym c.stmt.view_is ∙ ap (λ kind. statement_of c.stmt.inside.point kind) c.in-SetCell.is)) rest) c.evaluate_then-in-SetCell.ensures
 
 pub evaluate_then-requires-in-While : goal.evaluate_then-requires-in-While
@@ -39,7 +42,7 @@ evaluate_then-requires-in-While g c = may_silent c.args.p.now (ways_of g.C.Cells
 
 pub returns-in-While : goal.returns-in-While
 returns-in-While g c =
-    if_ok_map c.evaluate_then-in-While.result (λ ending rest. carries_silent c.args.p.now (ways_of g.C.Cells.known g.C.Cells.may_read g.C.Cells.may_write g.C.Cells.rule) (Execute c.args.stmt.now) (config_of c.args.machine.now) (to_do (Evaluate c.in-While.condition) (to_do (Turn c.args.stmt.now c.in-While.body c.in-While.place) (config_of c.args.machine.now))) c.args.cells.now c.args.prints.now ending
+    if_ok_map c.evaluate_then-in-While.result (λ onward rest. moves_silent c.args.p.now (ways_of g.C.Cells.known g.C.Cells.may_read g.C.Cells.may_write g.C.Cells.rule) (Execute c.args.stmt.now) (config_of c.args.machine.now) (to_do (Evaluate c.in-While.condition) (to_do (Turn c.args.stmt.now c.in-While.body c.in-While.place) (config_of c.args.machine.now))) c.args.cells.now c.args.prints.now (course onward c.evaluate_then-in-While.new.machine)
     (standing c.evaluate_then-in-While.new.machine c.evaluate_then-in-While.new.cells c.evaluate_then-in-While.new.prints) ((ap (λ (s : Statement). executed s (config_of c.args.machine.now)) (sym c.stmt.view_is ∙ ap (λ kind. statement_of c.stmt.inside.point kind) c.in-While.is)) ∙ ap (λ (s : Statement). on (to_do (Evaluate c.in-While.condition) (to_do (Turn s c.in-While.body c.in-While.place) (config_of c.args.machine.now)))) (sym (sym c.stmt.view_is ∙ ap (λ kind. statement_of c.stmt.inside.point kind) c.in-While.is))) rest) c.evaluate_then-in-While.ensures
 
 pub evaluate_then-requires-in-Print : goal.evaluate_then-requires-in-Print
@@ -47,7 +50,7 @@ evaluate_then-requires-in-Print g c = may_silent c.args.p.now (ways_of g.C.Cells
 
 pub returns-in-Print : goal.returns-in-Print
 returns-in-Print g c =
-    if_ok_map c.evaluate_then-in-Print.result (λ ending rest. carries_silent c.args.p.now (ways_of g.C.Cells.known g.C.Cells.may_read g.C.Cells.may_write g.C.Cells.rule) (Execute c.args.stmt.now) (config_of c.args.machine.now) (to_do (Evaluate c.in-Print.value) (to_do (PrintValue c.in-Print.place) (config_of c.args.machine.now))) c.args.cells.now c.args.prints.now ending
+    if_ok_map c.evaluate_then-in-Print.result (λ onward rest. moves_silent c.args.p.now (ways_of g.C.Cells.known g.C.Cells.may_read g.C.Cells.may_write g.C.Cells.rule) (Execute c.args.stmt.now) (config_of c.args.machine.now) (to_do (Evaluate c.in-Print.value) (to_do (PrintValue c.in-Print.place) (config_of c.args.machine.now))) c.args.cells.now c.args.prints.now (course onward c.evaluate_then-in-Print.new.machine)
     (standing c.evaluate_then-in-Print.new.machine c.evaluate_then-in-Print.new.cells c.evaluate_then-in-Print.new.prints) (ap (λ (s : Statement). executed s (config_of c.args.machine.now)) (sym c.stmt.view_is ∙ ap (λ kind. statement_of c.stmt.inside.point kind) c.in-Print.is)) rest) c.evaluate_then-in-Print.ensures
 
 pub choose_first-requires : goal.choose_first-requires
@@ -57,7 +60,7 @@ choose_first-requires g c =
 
 pub returns-in-If : goal.returns-in-If
 returns-in-If g c =
-    if_ok_map c.choose_first.result (λ ending rest. carries_silent c.args.p.now (ways_of g.C.Cells.known g.C.Cells.may_read g.C.Cells.may_write g.C.Cells.rule) (Execute c.args.stmt.now) (config_of c.args.machine.now) (to_do (Choose 0 c.in-If.arms) (config_of c.args.machine.now)) c.args.cells.now c.args.prints.now ending
+    if_ok_map c.choose_first.result (λ onward rest. moves_silent c.args.p.now (ways_of g.C.Cells.known g.C.Cells.may_read g.C.Cells.may_write g.C.Cells.rule) (Execute c.args.stmt.now) (config_of c.args.machine.now) (to_do (Choose 0 c.in-If.arms) (config_of c.args.machine.now)) c.args.cells.now c.args.prints.now (course onward c.choose_first.new.machine)
     (standing c.choose_first.new.machine c.choose_first.new.cells c.choose_first.new.prints)
     (ap (λ (s : Statement). executed s (config_of c.args.machine.now)) (sym c.stmt.view_is ∙ ap (λ kind. statement_of c.stmt.inside.point kind) c.in-If.is)) rest) c.choose_first.ensures
 
@@ -68,11 +71,16 @@ evaluate_then-requires-in-Return-Some g c =
 
 pub returns-in-Return-Some : goal.returns-in-Return-Some
 returns-in-Return-Some g c =
-    if_ok_map c.evaluate_then-in-Return-Some.result (λ ending rest. carries_silent c.args.p.now (ways_of g.C.Cells.known g.C.Cells.may_read g.C.Cells.may_write g.C.Cells.rule) (Execute c.args.stmt.now) (config_of c.args.machine.now) (to_do (Evaluate c.in-Return-Some.value) (to_do Unwind (config_of c.args.machine.now))) c.args.cells.now c.args.prints.now ending
+    if_ok_map c.evaluate_then-in-Return-Some.result (λ onward rest. moves_silent c.args.p.now (ways_of g.C.Cells.known g.C.Cells.may_read g.C.Cells.may_write g.C.Cells.rule) (Execute c.args.stmt.now) (config_of c.args.machine.now) (to_do (Evaluate c.in-Return-Some.value) (to_do Unwind (config_of c.args.machine.now))) c.args.cells.now c.args.prints.now (course onward c.evaluate_then-in-Return-Some.new.machine)
     (standing c.evaluate_then-in-Return-Some.new.machine c.evaluate_then-in-Return-Some.new.cells c.evaluate_then-in-Return-Some.new.prints)
     (ap (λ (s : Statement). executed s (config_of c.args.machine.now)) (let shape : c.args.stmt.now ≡ Return c.stmt.inside.point (Some c.in-Return-Some.value) = search rules in shape)) rest) c.evaluate_then-in-Return-Some.ensures
 
 pub returns-in_ok-request-in_default : goal.returns-in_ok-request-in_default
 returns-in_ok-request-in_default g c =
-    if_ok_map c.serve.result (λ ending served. carries_step c.args.p.now (ways_of g.C.Cells.known g.C.Cells.may_read g.C.Cells.may_write g.C.Cells.rule) (Execute c.args.stmt.now) (config_of c.args.machine.now) (config_of c.execute.new.self) c.args.cells.now c.args.prints.now
-    c.in_ok-request-in_default.request ending (standing c.serve.new.machine c.serve.new.cells c.serve.new.prints) c.in_ok-request-in_default.ensures served) c.serve.ensures
+    let ways = ways_of g.C.Cells.known g.C.Cells.may_read g.C.Cells.may_write g.C.Cells.rule in
+    let old = config_of c.args.machine.now in
+    let before = doing (Execute c.args.stmt.now) (standing c.args.machine.now c.args.cells.now c.args.prints.now) in
+    let after = standing c.serve.new.machine c.serve.new.cells c.serve.new.prints in
+    if_ok_map c.serve.result (λ onward served. moves_carried c.args.p.now ways before after (course onward c.serve.new.machine) served.1
+    (carries_step c.args.p.now ways (Execute c.args.stmt.now) old (config_of c.execute.new.self) c.args.cells.now c.args.prints.now
+    c.in_ok-request-in_default.request (course onward c.serve.new.machine).ending after c.in_ok-request-in_default.ensures served.0)) c.serve.ensures

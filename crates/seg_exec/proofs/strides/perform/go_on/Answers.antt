@@ -5,6 +5,7 @@ use Rattle.seg_exec.specs.Access.{ways_of}
 use Rattle.seg_exec.specs.inner.steps.Reached.{standing}
 use Rattle.seg_exec.specs.inner.strides.Strides.{Ends}
 use Rattle.seg_exec.specs.inner.steps.Views.{config_of}
+use Rattle.seg_exec.specs.inner.strides.Moving.{course}
 use Rattle.seg_exec.proofs.strides.GoingOn.{done_first, faulted_first, left_first, may_first, next_is, none_left, rest_at, with_vars}
 use Rattle.seg_exec.proofs.strides.Moving.{near_moves}
 use Rattle.seg_exec.proofs.strides.Performing.{placed}
@@ -56,7 +57,7 @@ returns-in-Left g c =
     let from = rest_at c.args.block c.args.at c.args.stmts.now (standing c.args.machine.now c.args.cells.now c.args.prints.now) in
     let now = rest_at c.args.block c.loop-next.next c.args.stmts.now (placed (with_vars c.assign.new.vars (config_of c.loop-next.machine)) c.assign.new.cells c.loop-next.prints) in
     let came = left_first c.args.p.now ways c.args.block c.loop-next.next c.args.stmts.now from (config_of c.loop-next.machine) c.assign.new.vars c.loop-next.cells c.assign.new.cells c.loop-next.prints c.in-Left.ensures c.loop-next.invariant in
-    if_ok_map c.enter_statement.result (λ onward rest. near_moves c.args.p.now (ways_of g.C.Cells.known g.C.Cells.may_read g.C.Cells.may_write g.C.Cells.rule) from now (standing c.enter_statement.new.machine c.enter_statement.new.cells c.enter_statement.new.prints) onward came rest) c.enter_statement.ensures
+    if_ok_map c.enter_statement.result (λ onward rest. near_moves c.args.p.now (ways_of g.C.Cells.known g.C.Cells.may_read g.C.Cells.may_write g.C.Cells.rule) from now (standing c.enter_statement.new.machine c.enter_statement.new.cells c.enter_statement.new.prints) (course onward c.enter_statement.new.machine) came rest) c.enter_statement.ensures
 
 pub returns : goal.returns
 returns g c =

@@ -1,0 +1,12 @@
+use Rattle.std.proofs.Common.{ap}
+use Rattle.seg_exec.specs.Access.{ways_of}
+use Rattle.seg_exec.specs.inner.steps.Views.{config_of, continuations_of}
+use Rattle.seg_exec.proofs.strides.Performing.{returns_nothing}
+use Rattle.seg_exec.proofs.strides.run.proceed.Goals as goal
+
+pub returns-in-None : goal.returns-in-None
+returns-in-None g c =
+    let old = config_of c.args.machine.now in
+    let new = record old { work = continuations_of c.pop.new.self } in
+    returns_nothing c.args.p.now (ways_of g.C.Cells.known g.C.Cells.may_read g.C.Cells.may_write g.C.Cells.rule) old new c.args.cells.now c.args.prints.now
+    (ap continuations_of c.in-None.ensures.0) (ap (λ work. record old { work = continuations_of work }) c.in-None.ensures.1)
