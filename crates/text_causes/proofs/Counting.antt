@@ -57,11 +57,11 @@ small_after sofar kind shallow small = record {
 sofar_snoc : (tokens : List Token) (token : Token) → sofar_of (tokens ++ token ∷ []) ≡ sofar_after (sofar_of tokens) token.kind
 sofar_snoc tokens token = fold-append (λ sofar t. sofar_after sofar t.kind) limits_at_start tokens (token ∷ [])
 
-concat_snoc : (lexemes : List (List ℕ)) (bytes : List ℕ) → concat (lexemes ++ bytes ∷ []) ≡ concat lexemes ++ bytes
+pub concat_snoc : (lexemes : List (List ℕ)) (bytes : List ℕ) → concat (lexemes ++ bytes ∷ []) ≡ concat lexemes ++ bytes
 concat_snoc lexemes bytes = concat_append lexemes (bytes ∷ []) ∙ ap (λ (more : List ℕ). concat lexemes ++ more) (append-nil bytes)
 
 -- the place after one lexeme and others is a later one
-later_by : (before bytes more : List ℕ) (text rest : List ℕ) → IsFirstLexeme bytes text rest → Precedes (place_after before) (place_after (before ++ (bytes ++ more)))
+pub later_by : (before bytes more : List ℕ) (text rest : List ℕ) → IsFirstLexeme bytes text rest → Precedes (place_after before) (place_after (before ++ (bytes ++ more)))
 later_by before [] more text rest first = absurd (no_lexeme first.lexeme)
 later_by before (code ∷ bytes) more text rest first = precedes before code (bytes ++ more)
 

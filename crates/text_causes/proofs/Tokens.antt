@@ -76,7 +76,7 @@ token_behind text before token rest begins = by_last begins.lexemes begins.cut b
         }
 
 -- a byte of the first lexeme that is not allowed
-stop_fails : (text before middle : List ℕ) (n : ℕ) → text ≡ before ++ middle → StopsAt n middle → Fails text S1 (place_after (before ++ take n middle))
+pub stop_fails : (text before middle : List ℕ) (n : ℕ) → text ≡ before ++ middle → StopsAt n middle → Fails text S1 (place_after (before ++ take n middle))
 stop_fails text before middle n split stops =
     let code = get_or middle n 0 in
     let long : length middle ≡ length stops.bytes + length stops.rest = ap length stops.first.split ∙ length-append stops.bytes stops.rest in
