@@ -81,35 +81,6 @@ fn answer_refusal(
     Ok(Answer::on_out(alloc, Status::Refused, lines))
 }
 
-/// Whether the rule is the one of texts that end too early.
-fn is_of_end(rule: RuleName) -> bool
-    ensures { result ≡ is_of_end rule }
-{
-    match rule {
-        RuleName::Text(SRule::S3) => true,
-        _ => false,
-    }
-}
-
-/// The answer to a text that has this refusal, at a token in whose place these may stand.
-fn answer_token(
-    alloc: Global,
-    wanted: &Wanted,
-    text: &[u8],
-    refusal: Refusal,
-    tokens: &[NextToken],
-) -> Result<Answer, Memory>
-    requires refused { IsRefusal text.now refusal }
-    requires stray { is_of_tokens refusal.rule ≡ true }
-    requires token { is_of_end refusal.rule ≡ false }
-    requires may { AreNextAt text.now refusal.place tokens.now }
-    ensures { IfOk result (ExplainDue wanted.now text.now) }
-{
-    let explanation = stray_explanation(alloc, refusal, tokens)?;
-    let lines = refused_text(alloc, wanted, text, refusal, &explanation)?;
-    Ok(Answer::on_out(alloc, Status::Refused, lines))
-}
-
 /// The answer to a text that has this refusal, at its end, where these tokens may stand.
 fn answer_ended(
     alloc: Global,
@@ -129,6 +100,16 @@ fn answer_ended(
     Ok(Answer::on_out(alloc, Status::Refused, lines))
 }
 
+/// Whether the rule is the one of texts that end too early.
+fn is_of_end(rule: RuleName) -> bool
+    ensures { result ≡ is_of_end rule }
+{
+    match rule {
+        RuleName::Text(SRule::S3) => true,
+        _ => false,
+    }
+}
+
 /// The answer to a text that has this refusal, at a place where these tokens may stand.
 fn answer_stray(
     alloc: Global,
@@ -143,10 +124,11 @@ fn answer_stray(
     ensures { IfOk result (ExplainDue wanted.now text.now) }
 {
     if is_of_end(refusal.rule) {
-        answer_ended(alloc, wanted, text, refusal, tokens)
-    } else {
-        answer_token(alloc, wanted, text, refusal, tokens)
+        return answer_ended(alloc, wanted, text, refusal, tokens);
     }
+    let explanation = stray_explanation(alloc, refusal, tokens)?;
+    let lines = refused_text(alloc, wanted, text, refusal, &explanation)?;
+    Ok(Answer::on_out(alloc, Status::Refused, lines))
 }
 
 /// The answer to a text that has this tree, and this refusal by a rule of names with this cause.
