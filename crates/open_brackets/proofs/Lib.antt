@@ -1,2 +1,3 @@
--- The steps of a walk.
+-- The steps of a walk, and a walk to a place.
 pub mod Walks
+pub mod Ways

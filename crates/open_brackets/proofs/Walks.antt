@@ -16,28 +16,29 @@ use Rattle.twe_lexer.specs.Places.{place_after, is_gap}
 use Rattle.twe_lexer.specs.Tokens.{AreFirstLexemes, tokens_from}
 use Rattle.twe_parser.specs.inner.Reading.{concat}
 use Rattle.twe_parser.proofs.Cuts.{cut_split, cut_append, tokens_from_append}
-use Rattle.twe_parser.proofs.Located.{concat_append, token_of}
+use Rattle.twe_parser.proofs.Located.{token_of}
+use Rattle.text_causes.proofs.Counting.{concat_snoc}
 use Rattle.open_brackets.specs.Open.{AreOpenAt, open_after, open_of}
 use Rattle.open_brackets.specs.inner.Walked.{HasWalked, open_if}
 use Rattle.open_brackets.specs.declared.walk.Walk.{Walk}
 
 -- nothing is passed yet
-pub not_begun : (text : List ℕ) (walk : Walk) → walk.place ≡ place_after [] → walk.places ≡ [] → HasWalked text text walk
-not_begun text walk place places = record { lexemes = []; cut = refl; place_is = place; open_is = places }
+pub not_begun : (text : List ℕ) (walk : Walk) → walk.place ≡ place_after [] → walk.places ≡ [] → HasWalked text text [] walk
+not_begun text walk place places = record { cut = refl; place_is = place; open_is = places }
 
 -- lines and columns can be counted
-pub lines_fit : (text rest : List ℕ) (walk : Walk) → HasWalked text rest walk → walk.place.line + length rest ≤ length text + 1
-lines_fit text rest walk walked =
-    let line_is : walk.place.line ≡ 1 + count_by is_line_end (concat walked.lexemes) = ap (λ (at : Place). at.line) walked.place_is in
-    let counted : length text ≡ length (concat walked.lexemes) + length rest = ap length (cut_split walked.lexemes text rest walked.cut) ∙ length-append (concat walked.lexemes) rest in
-    let bounded = count_by-le-length is_line_end (concat walked.lexemes) in
+pub lines_fit : (text rest : List ℕ) (lexemes : List (List ℕ)) (walk : Walk) → HasWalked text rest lexemes walk → walk.place.line + length rest ≤ length text + 1
+lines_fit text rest lexemes walk walked =
+    let line_is : walk.place.line ≡ 1 + count_by is_line_end (concat lexemes) = ap (λ (at : Place). at.line) walked.place_is in
+    let counted : length text ≡ length (concat lexemes) + length rest = ap length (cut_split lexemes text rest walked.cut) ∙ length-append (concat lexemes) rest in
+    let bounded = count_by-le-length is_line_end (concat lexemes) in
     omega arith
 
-pub columns_fit : (text rest : List ℕ) (walk : Walk) → HasWalked text rest walk → walk.place.col + length rest ≤ length text + 1
-columns_fit text rest walk walked =
-    let col_is : walk.place.col ≡ 1 + suffix_len (λ code. not (is_line_end code)) (concat walked.lexemes) = ap (λ (at : Place). at.col) walked.place_is in
-    let counted : length text ≡ length (concat walked.lexemes) + length rest = ap length (cut_split walked.lexemes text rest walked.cut) ∙ length-append (concat walked.lexemes) rest in
-    let bounded = suffix_len-le-length (λ code. not (is_line_end code)) (concat walked.lexemes) in
+pub columns_fit : (text rest : List ℕ) (lexemes : List (List ℕ)) (walk : Walk) → HasWalked text rest lexemes walk → walk.place.col + length rest ≤ length text + 1
+columns_fit text rest lexemes walk walked =
+    let col_is : walk.place.col ≡ 1 + suffix_len (λ code. not (is_line_end code)) (concat lexemes) = ap (λ (at : Place). at.col) walked.place_is in
+    let counted : length text ≡ length (concat lexemes) + length rest = ap length (cut_split lexemes text rest walked.cut) ∙ length-append (concat lexemes) rest in
+    let bounded = suffix_len-le-length (λ code. not (is_line_end code)) (concat lexemes) in
     omega arith
 
 -- a lexeme is a token of this kind, or none
@@ -49,32 +50,28 @@ no_kind : (bytes : List ℕ) (gap : Bool) → is_gap bytes ≡ gap → None ≡ 
 no_kind bytes true is found = is
 no_kind bytes false is found = let some : ◌≡◌ {A = Option TokenKind} None (Some (kind_of bytes)) = found ∙ cond-false (is_gap bytes) None (Some (kind_of bytes)) is in cc
 
-concat_snoc : (lexemes : List (List ℕ)) (bytes : List ℕ) → concat (lexemes ++ bytes ∷ []) ≡ concat lexemes ++ bytes
-concat_snoc lexemes bytes = concat_append lexemes (bytes ∷ []) ∙ ap (λ (more : List ℕ). concat lexemes ++ more) (append-nil bytes)
-
-module _ (text rest : List ℕ) (walk : Walk) (walked : HasWalked text rest walk) (lexeme : Lexeme) (front : Opens lexeme rest) where
+module _ (text rest : List ℕ) (lexemes : List (List ℕ)) (walk : Walk) (walked : HasWalked text rest lexemes walk) (lexeme : Lexeme) (front : Opens lexeme rest) where
   abbrev pub bytes : List ℕ
   bytes = take lexeme.len rest
 
-  cut_more : AreFirstLexemes (walked.lexemes ++ bytes ∷ []) text (drop lexeme.len rest)
-  cut_more = cut_append walked.lexemes (bytes ∷ []) text rest (drop lexeme.len rest) walked.cut (drop lexeme.len rest, front.first, refl)
+  cut_more : AreFirstLexemes (lexemes ++ bytes ∷ []) text (drop lexeme.len rest)
+  cut_more = cut_append lexemes (bytes ∷ []) text rest (drop lexeme.len rest) walked.cut (drop lexeme.len rest, front.first, refl)
 
   -- the place after the lexeme
   abbrev pub Moves : Place → Type 0
   Moves next = (before : List ℕ) → walk.place ≡ place_after before → next ≡ place_after (before ++ bytes)
 
-  next_is : (next : Place) → Moves next → next ≡ place_after (concat (walked.lexemes ++ bytes ∷ []))
-  next_is next moves = moves (concat walked.lexemes) walked.place_is ∙ ap place_after (sym (concat_snoc walked.lexemes bytes))
+  next_is : (next : Place) → Moves next → next ≡ place_after (concat (lexemes ++ bytes ∷ []))
+  next_is next moves = moves (concat lexemes) walked.place_is ∙ ap place_after (sym (concat_snoc lexemes bytes))
 
   -- one more blank or comment
-  pub gap_passed : (after : Walk) → Moves after.place → lexeme.token ≡ None → after.places ≡ walk.places → HasWalked text (drop lexeme.len rest) after
+  pub gap_passed : (after : Walk) → Moves after.place → lexeme.token ≡ None → after.places ≡ walk.places → HasWalked text (drop lexeme.len rest) (lexemes ++ bytes ∷ []) after
   gap_passed after moves none places =
       let gap = no_kind bytes (is_gap bytes) refl (sym none ∙ front.token) in
-      let same : tokens_from [] (walked.lexemes ++ bytes ∷ []) ≡ tokens_from [] walked.lexemes =
-      tokens_from_append [] walked.lexemes (bytes ∷ [])
-      ∙ ap (λ (more : List Token). tokens_from [] walked.lexemes ++ more) (cond-true (is_gap bytes) _ _ gap) ∙ append-nil (tokens_from [] walked.lexemes) in
+      let same : tokens_from [] (lexemes ++ bytes ∷ []) ≡ tokens_from [] lexemes =
+      tokens_from_append [] lexemes (bytes ∷ [])
+      ∙ ap (λ (more : List Token). tokens_from [] lexemes ++ more) (cond-true (is_gap bytes) _ _ gap) ∙ append-nil (tokens_from [] lexemes) in
       record {
-        lexemes = walked.lexemes ++ bytes ∷ [];
         cut = cut_more;
         place_is = next_is after.place moves;
         open_is = places ∙ walked.open_is ∙ ap open_of (sym same);
@@ -82,17 +79,16 @@ module _ (text rest : List ℕ) (walk : Walk) (walked : HasWalked text rest walk
 
   -- one more token
   pub token_passed : (after : Walk) → Moves after.place → (kind : TokenKind) → lexeme.token ≡ Some kind
-      → after.places ≡ open_after walk.places (record { kind = kind; place = walk.place }) → HasWalked text (drop lexeme.len rest) after
+      → after.places ≡ open_after walk.places (record { kind = kind; place = walk.place }) → HasWalked text (drop lexeme.len rest) (lexemes ++ bytes ∷ []) after
   token_passed after moves kind is places =
       let the = some_kind bytes (is_gap bytes) kind refl (sym is ∙ front.token) in
-      let here : Token = token_of (concat walked.lexemes) bytes in
+      let here : Token = token_of (concat lexemes) bytes in
       let token : ◌≡◌ {A = Token} (record { kind = kind; place = walk.place }) here = λ i. record { kind = the.1 i; place = walked.place_is i } in
-      let before : List Token = tokens_from [] walked.lexemes in
-      let same : tokens_from [] (walked.lexemes ++ bytes ∷ []) ≡ before ++ here ∷ [] =
-      tokens_from_append [] walked.lexemes (bytes ∷ []) ∙ ap (λ (more : List Token). before ++ more) (cond-false (is_gap bytes) _ _ the.0) in
+      let before : List Token = tokens_from [] lexemes in
+      let same : tokens_from [] (lexemes ++ bytes ∷ []) ≡ before ++ here ∷ [] =
+      tokens_from_append [] lexemes (bytes ∷ []) ∙ ap (λ (more : List Token). before ++ more) (cond-false (is_gap bytes) _ _ the.0) in
       let folded : open_of (before ++ here ∷ []) ≡ open_after (open_of before) here = fold-append open_after [] before (here ∷ []) in
       record {
-        lexemes = walked.lexemes ++ bytes ∷ [];
         cut = cut_more;
         place_is = next_is after.place moves;
         open_is = places ∙ ap (λ (t : Token). open_after walk.places t) token ∙ ap (λ (o : List Place). open_after o here) walked.open_is
@@ -101,18 +97,18 @@ module _ (text rest : List ℕ) (walk : Walk) (walked : HasWalked text rest walk
 
   -- one more lexeme
   pub passed : (after : Walk) → Moves after.place → (token : Option TokenKind) → lexeme.token ≡ token
-      → after.places ≡ open_if walk.places token walk.place → HasWalked text (drop lexeme.len rest) after
+      → after.places ≡ open_if walk.places token walk.place → HasWalked text (drop lexeme.len rest) (lexemes ++ bytes ∷ []) after
   passed after moves None is places = gap_passed after moves is places
   passed after moves (Some kind) is places = token_passed after moves kind is places
 
 -- what is open where the walk stands
-pub stands : (text rest : List ℕ) (walk : Walk) (place : Place) → HasWalked text rest walk → walk.place ≡ place → AreOpenAt text place walk.places
-stands text rest walk place walked is = record {
-  before = concat walked.lexemes;
+pub stands : (text rest : List ℕ) (lexemes : List (List ℕ)) (walk : Walk) (place : Place) → HasWalked text rest lexemes walk → walk.place ≡ place → AreOpenAt text place walk.places
+stands text rest lexemes walk place walked is = record {
+  before = concat lexemes;
   rest = rest;
-  tokens = tokens_from [] walked.lexemes;
-  split = cut_split walked.lexemes text rest walked.cut;
+  tokens = tokens_from [] lexemes;
+  split = cut_split lexemes text rest walked.cut;
   at = sym walked.place_is ∙ is;
-  cut = record { lexemes = walked.lexemes; cut = walked.cut; same = refl };
+  cut = record { lexemes = lexemes; cut = walked.cut; same = refl };
   same = walked.open_is;
 }

@@ -1,8 +1,8 @@
 //! The walk through a text up to a place.
-ghost use Rattle.std.specs.Prelude.{◌≡◌, ◌+◌, ◌<◌, ◌^◌, ℕ, List as Codes, drop, length, true, IfOk, IfSome, OnOk};
+ghost use Rattle.std.specs.Prelude.{◌≡◌, ◌∷◌, ◌++◌, ◌+◌, ◌<◌, ◌^◌, [], ℕ, List as Codes, drop, length, take, true, IfOk, OnOk};
 ghost use Rattle.twe_lexer.specs.Front.{Opens};
-ghost use Rattle.open_brackets.specs.Open.{AreOpenAt};
-ghost use Rattle.open_brackets.specs.inner.Walked.{HasWalked};
+ghost use Rattle.open_brackets.specs.Open.{AreFoundAt};
+ghost use Rattle.open_brackets.specs.inner.Walked.{HasWalked, IsFrontOf, IsOnItsWay};
 
 use crate::open::{OpenPlaces, take_if};
 use std::alloc::Global;
@@ -21,7 +21,7 @@ pub(crate) struct Walk {
 /// The first lexeme of a text, if it has one that may stand in a program.
 fn front_of(alloc: Global, rest: &[u8]) -> Result<Option<Lexeme>, Memory>
     requires { 0 < length rest.now }
-    ensures { IfOk result (λ front. IfSome front (λ lexeme. Opens lexeme rest.now)) }
+    ensures { IfOk result (IsFrontOf rest.now) }
 {
     match first_lexeme(alloc, rest) {
         Ok(lexeme) => Ok(Some(lexeme)),
@@ -36,8 +36,8 @@ fn pass_lexeme(walk: &mut Walk, rest: &[u8], lexeme: &Lexeme) -> Result<(), Memo
     requires front { Opens lexeme.now rest.now }
     requires lines { walk.old.place.line + length rest.now < 2 ^ 32 }
     requires columns { walk.old.place.col + length rest.now < 2 ^ 32 }
-    ensures { OnOk result ((text : Codes ℕ) → HasWalked text rest.now walk.old
-        → HasWalked text (drop lexeme.now.len rest.now) walk.new) }
+    ensures { OnOk result ((text : Codes ℕ) (lexemes : Codes (Codes ℕ)) → HasWalked text rest.now lexemes walk.old
+        → HasWalked text (drop lexeme.now.len rest.now) (lexemes ++ take lexeme.now.len rest.now ∷ []) walk.new) }
 {
     let (bytes, _) = rest.split_at(lexeme.len);
     take_if(&mut walk.places, &lexeme.token, walk.place)?;
@@ -47,14 +47,15 @@ fn pass_lexeme(walk: &mut Walk, rest: &[u8], lexeme: &Lexeme) -> Result<(), Memo
 
 /// Whether the walk has come to the place.
 fn is_at(walk: &Walk, place: Place) -> bool
-    ensures { result ≡ true → walk.now.place ≡ place }
+    ensures here { result ≡ true → walk.now.place ≡ place }
+    ensures elsewhere { walk.now.place ≡ place → result ≡ true }
 {
     walk.place == place
 }
 
 /// A walk that has not begun.
 fn first_walk(alloc: Global, text: &[u8]) -> Walk
-    ensures { HasWalked text.now text.now result }
+    ensures { HasWalked text.now text.now [] result }
 {
     let _ = text;
     Walk {
@@ -63,11 +64,11 @@ fn first_walk(alloc: Global, text: &[u8]) -> Walk
     }
 }
 
-/// The places of the brackets that are open at a place of a text, the outermost first; nothing if no lexeme ends there, or
-/// something before it may not stand in a program.
+/// The places of the brackets that are open at a place of a text, the outermost first. Nothing is returned only if no lexeme ends
+/// there, or a byte before it is not allowed, or a comment before it has no end.
 pub fn open_at(alloc: Global, text: &[u8], place: Place) -> Result<Option<OpenPlaces>, Memory>
     requires { length text.now + 1 < 2 ^ 32 }
-    ensures { IfOk result (λ found. IfSome found (AreOpenAt text.now place)) }
+    ensures { IfOk result (AreFoundAt text.now place) }
 {
     let mut walk = first_walk(alloc, text);
     let mut rest = text;

@@ -11,6 +11,8 @@ use Rattle.twe_frontend.specs.declared.refusal.Refusal.{Refusal}
 use Rattle.twe_frontend.specs.declared.refusal.RuleName.{RuleName}
 use Rattle.twe_frontend.specs.declared.refusal.RuleName.TheVariants.{Text, Name, Effect}
 use Rattle.twe_frontend.specs.Accepted.{Accepted, IsMeaningOf, IsRefusal, IsTreeOf}
+use Rattle.text_causes.specs.declared.cause.TextCause.{TextCause}
+use Rattle.text_causes.specs.Causes.{IsTextCause}
 use Rattle.refusal_causes.specs.declared.cause.RuleCause.{RuleCause}
 use Rattle.refusal_causes.specs.declared.explained.Explained.{Explained}
 use Rattle.refusal_causes.specs.declared.explained.Explained.TheVariants.{Kept, Early, Stray, Named, Late}
@@ -48,11 +50,16 @@ IsNameCauseOf tree (Text rule) place cause = ⊥
 IsNameCauseOf tree (Name rule) place cause = IsNameCause tree rule place cause
 IsNameCauseOf tree (Effect rule) place cause = ⊥
 
+-- this is why the rule of the text fails at the place
+abbrev pub IsTextCauseOf : List ℕ → RuleName → Place → TextCause → Type 0
+IsTextCauseOf text (Text rule) place cause = IsTextCause text rule place cause
+IsTextCauseOf text (Name rule) place cause = ⊥
+IsTextCauseOf text (Effect rule) place cause = ⊥
+
 -- the text is accepted, or this is its refusal
 abbrev pub IsExplained : List ℕ → Explained → Type 0
 IsExplained text Kept = (p : Program) × Accepted text p
-IsExplained text (Early refusal) =
-    IsRefusal text refusal × (is_of_tokens refusal.rule ≡ false) × (is_of_names refusal.rule ≡ false)
+IsExplained text (Early refusal cause) = IsRefusal text refusal × IsTextCauseOf text refusal.rule refusal.place cause
 IsExplained text (Stray refusal tokens) =
     IsRefusal text refusal × (is_of_tokens refusal.rule ≡ true) × AreNextAt text refusal.place tokens
 IsExplained text (Named refusal cause tree) =

@@ -1,5 +1,5 @@
 //! From a text to its acceptance, or to its refusal with the cause.
-ghost use Rattle.std.specs.Prelude.{◌≡◌, ◌+◌, ◌<◌, ◌^◌, length, IfOk};
+ghost use Rattle.std.specs.Prelude.{◌≡◌, ◌+◌, ◌<◌, ◌^◌, false, length, IfOk};
 ghost use Rattle.refusal_causes.specs.Explained.{IsExplained, is_of_tokens};
 ghost use Rattle.name_check.specs.FailsName.{IsFirstNameFailure};
 ghost use Rattle.twe_names.specs.FromText.{IsFromText};
@@ -15,6 +15,7 @@ use effect_check::{CheckFail, check};
 use name_check::NRule;
 use name_needs::{NameNeed, name_cause};
 use std::alloc::Global;
+use text_causes::{TextCause, text_cause};
 use twe_ast::Ast;
 use twe_base::{Memory, Place};
 use twe_frontend::{FrontFail, Refusal, RuleName, parsed_trees_are_from_texts, read_tree};
@@ -28,7 +29,12 @@ pub enum Explained {
     /// It is accepted.
     Kept,
     /// It is refused by a rule of the text that is none of tokens.
-    Early(Refusal),
+    Early {
+        /// The refusal.
+        refusal: Refusal,
+        /// Why the rule fails.
+        cause: TextCause,
+    },
     /// It is refused at a token that may not stand at its place, or at its end, which comes too early.
     Stray {
         /// The refusal.
@@ -151,6 +157,21 @@ fn is_of_tokens(rule: RuleName) -> bool
     }
 }
 
+/// What is known of a text of which this rule, which is none of tokens, fails first.
+fn unread_early(alloc: Global, text: &[u8], refusal: Refusal) -> Result<Explained, Memory>
+    requires fails { IsTextFailure text.now refusal.rule refusal.place }
+    requires early { is_of_tokens refusal.rule ≡ false }
+    ensures { IfOk result (IsExplained text.now) }
+{
+    match refusal.rule {
+        RuleName::Text(rule) => {
+            let cause = text_cause(alloc, text, rule, refusal.place)?;
+            Ok(Explained::Early { refusal, cause })
+        }
+        RuleName::Name(_) | RuleName::Effect(_) => unreachable!(),
+    }
+}
+
 /// What is known of a text of which this rule of the text fails first.
 fn unread_at(alloc: Global, text: &[u8], refusal: Refusal) -> Result<Explained, Memory>
     requires { IsTextFailure text.now refusal.rule refusal.place }
@@ -160,7 +181,7 @@ fn unread_at(alloc: Global, text: &[u8], refusal: Refusal) -> Result<Explained, 
         let tokens = next_tokens(alloc, text, refusal.place)?;
         Ok(Explained::Stray { refusal, tokens })
     } else {
-        Ok(Explained::Early(refusal))
+        unread_early(alloc, text, refusal)
     }
 }
 

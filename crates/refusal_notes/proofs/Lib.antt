@@ -2,3 +2,5 @@
 pub mod Trying
 -- Words that are looked for in bytes.
 pub mod Finding
+-- A text that ends too early.
+pub mod Ending

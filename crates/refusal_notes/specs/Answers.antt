@@ -1,5 +1,5 @@
 -- What the program answers to a text.
-use Rattle.std.specs.Prelude.{◌≡◌, ℕ, true, false, List, Option, IfSome}
+use Rattle.std.specs.Prelude.{◌≡◌, ℕ, true, false, List}
 use Rattle.twe_base.specs.declared.place.Place.{Place}
 use Rattle.open_brackets.specs.Open.{AreOpenAt}
 use Rattle.twe_ast.specs.declared.item.Ast.{Ast}
@@ -9,8 +9,9 @@ use Rattle.twe_frontend.specs.Accepted.{Accepted, IsRefusal, IsTreeOf}
 use Rattle.refusal_causes.specs.declared.cause.RuleCause.{RuleCause}
 use Rattle.refusal_causes.specs.declared.next_tokens.NextToken.{NextToken}
 use Rattle.name_needs.specs.declared.need.NameNeed.{NameNeed}
-use Rattle.refusal_causes.specs.Explained.{IsCausedBy, IsNameCauseOf, is_of_names, is_of_tokens}
-use Rattle.refusal_causes.specs.NextTokens.{AreNextAt}
+use Rattle.text_causes.specs.declared.cause.TextCause.{TextCause}
+use Rattle.refusal_causes.specs.Explained.{IsCausedBy, IsNameCauseOf, IsTextCauseOf, is_of_names, is_of_tokens}
+use Rattle.refusal_causes.specs.NextTokens.{AreNextAt, is_of_end}
 use Rattle.twe_report.specs.Texts.{accepted_text}
 use Rattle.twe_io.specs.declared.answer.Answer.{Answer}
 use Rattle.twe_io.specs.declared.status.Status.TheVariants.{Done, Refused}
@@ -21,6 +22,7 @@ use Rattle.place_notes.specs.declared.note.Explanation.{Explanation}
 use Rattle.refusal_notes.specs.declared.mends.Mend.{Mend}
 use Rattle.refusal_notes.specs.Mends.{AreTried, mends_for}
 use Rattle.name_notes.specs.Named.{named_explanation}
+use Rattle.refusal_notes.specs.Tokens.{stray_explanation}
 use Rattle.refusal_notes.specs.Unclosed.{unclosed_explanation}
 use Rattle.name_notes.specs.Variables.{variables_at}
 use Rattle.explain_pages.specs.Page.{refused_text}
@@ -38,13 +40,17 @@ mends_of text refusal cause tree p = mends_for text refusal.place cause p.region
 pub data ExplainDue (wanted : Wanted) (text : List ℕ) : Answer → Type 0 where
   -- the text is accepted, as `twe check` says
   accepted : (p : Program) → Accepted text p → ExplainDue wanted text (on_out Done accepted_text)
-  -- the text is refused at a byte, a number, a bracket, an operator or a comment, of which it is said what fails
-  refused : (refusal : Refusal) → IsRefusal text refusal → is_of_tokens refusal.rule ≡ false → is_of_names refusal.rule ≡ false
-      → ExplainDue wanted text (on_out Refused (refused_text wanted text refusal (early_explanation text refusal)))
-  -- the text is refused at a token that may not stand at its place, or at its end, with the brackets that are open there if they
-  -- are looked for; what may stand there comes last
-  stray : (refusal : Refusal) (tokens : List NextToken) (places : Option (List Place)) → IsRefusal text refusal
-      → is_of_tokens refusal.rule ≡ true → AreNextAt text refusal.place tokens → IfSome places (AreOpenAt text refusal.place)
+  -- the text is refused at a byte, a number, a bracket, an operator or a comment, and what is said of it is true of the text
+  refused : (refusal : Refusal) (cause : TextCause) → IsRefusal text refusal → IsTextCauseOf text refusal.rule refusal.place cause
+      → ExplainDue wanted text (on_out Refused (refused_text wanted text refusal (early_explanation refusal cause)))
+  -- the text is refused at a token that may not stand at its place; what may stand there comes last
+  stray : (refusal : Refusal) (tokens : List NextToken) → IsRefusal text refusal → is_of_tokens refusal.rule ≡ true
+      → is_of_end refusal.rule ≡ false → AreNextAt text refusal.place tokens
+      → ExplainDue wanted text (on_out Refused (refused_text wanted text refusal (stray_explanation refusal tokens)))
+  -- the text is refused at its end, which comes too early, with the brackets that are open there: of all of them the innermost
+  -- ones; what may stand there comes last
+  ended : (refusal : Refusal) (tokens : List NextToken) (places : List Place) → IsRefusal text refusal
+      → is_of_end refusal.rule ≡ true → AreNextAt text refusal.place tokens → AreOpenAt text refusal.place places
       → ExplainDue wanted text (on_out Refused (refused_text wanted text refusal (unclosed_explanation refusal tokens places)))
   -- The text is refused by a rule of names, and the cause is true of its tree: what is needed at the place, and what is there.
   -- The declaration of the name that stands there is shown, too, if it has one.

@@ -1,7 +1,6 @@
 -- Edits of a text: where they begin, and what the text is afterwards.
 use Rattle.std.specs.Prelude.{ℕ, zero, suc, ◌-◌, Bool, ◌||◌, ◌==◌, List, [], ◌∷◌, ◌++◌, length, take, drop, bytes_eq, if◌then◌else◌}
 use Rattle.std.specs.List.{prefix_len}
-use Rattle.twe_base.specs.declared.place.Place.{Place}
 use Rattle.place_notes.specs.Lines.{after_lines, line_at}
 
 -- a space or a tab
@@ -15,10 +14,6 @@ indent_at text number = prefix_len is_indent (line_at number text)
 -- the text from the first byte of the line of this number on that is no space or tab
 abbrev pub from_statement : List ℕ → ℕ → List ℕ
 from_statement text number = drop (indent_at text number) (after_lines (number - 1) text)
-
--- the text from the place on
-abbrev pub from_place : List ℕ → Place → List ℕ
-from_place text place = drop (place.col - 1) (after_lines (place.line - 1) text)
 
 -- the bytes begin with these words
 abbrev pub begins_with : List ℕ → List ℕ → Bool

@@ -12,7 +12,8 @@ use Rattle.refusal_causes.specs.declared.cause.RuleCause.{RuleCause}
 use Rattle.refusal_causes.specs.declared.cause.RuleCause.TheVariants.{Undeclared, Out, NotOut, OutAgain, OrderOpen, NotDeterministic}
 use Rattle.refusal_notes.specs.declared.mends.Mend.{Mend}
 use Rattle.place_notes.specs.WordAt.{word_at}
-use Rattle.refusal_notes.specs.Edits.{from_first, from_place, from_statement, with_end, without_first}
+use Rattle.text_causes.specs.Behind.{from_place}
+use Rattle.refusal_notes.specs.Edits.{from_first, from_statement, with_end, without_first}
 
 -- an edit, with what is said of it and the text after it
 abbrev pub mend_by : List ℕ → List ℕ → Mend

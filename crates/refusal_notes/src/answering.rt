@@ -2,23 +2,27 @@
 ghost use Rattle.std.specs.Prelude.{◌≡◌, true, false, IfOk};
 ghost use Rattle.refusal_notes.specs.Answers.{ExplainDue};
 ghost use Rattle.refusal_causes.specs.declared.explained.Explained.TheVariants.{Kept};
-ghost use Rattle.refusal_causes.specs.Explained.{IsCausedBy, IsExplained, IsNameCauseOf, is_of_names, is_of_tokens};
-ghost use Rattle.refusal_causes.specs.NextTokens.{AreNextAt};
+ghost use Rattle.refusal_causes.specs.Explained.{IsCausedBy, IsExplained, IsNameCauseOf, IsTextCauseOf, is_of_names, is_of_tokens};
+ghost use Rattle.refusal_causes.specs.NextTokens.{AreNextAt, is_of_end};
 ghost use Rattle.twe_frontend.specs.Accepted.{IsRefusal, IsTreeOf};
 
 use crate::early::early_explanation;
 use crate::explanation::{explanation_by, place_of_cause};
 use crate::mends::{mends_for, try_mends};
-use crate::unclosed::{unclosed_at, unclosed_explanation};
+use crate::tokens::stray_explanation;
+use crate::unclosed::unclosed_explanation;
 use explain_pages::{Wanted, refused_text};
 use name_needs::NameNeed;
 use name_notes::{named_explanation, variables_at};
+use open_brackets::open_at_end;
 use refusal_causes::{Explained, NextToken, RuleCause, explain};
 use std::alloc::Global;
+use text_causes::TextCause;
 use twe_ast::Ast;
 use twe_base::Memory;
-use twe_frontend::Refusal;
+use twe_frontend::{Refusal, RuleName};
 use twe_io::{Answer, Status};
+use twe_parser::SRule;
 use twe_program::Prog;
 use twe_report::accepted_text;
 
@@ -29,7 +33,9 @@ pub fn explain_text(alloc: Global, wanted: &Wanted, text: &[u8]) -> Result<Answe
     let explained = explain(alloc, text)?;
     match &explained {
         Explained::Kept => answer_accepted(alloc, wanted, text),
-        Explained::Early(refusal) => answer_refusal(alloc, wanted, text, *refusal),
+        Explained::Early { refusal, cause } => {
+            answer_refusal(alloc, wanted, text, *refusal, *cause)
+        }
         Explained::Stray { refusal, tokens } => {
             answer_stray(alloc, wanted, text, *refusal, tokens.as_slice())
         }
@@ -58,21 +64,50 @@ fn answer_accepted(alloc: Global, wanted: &Wanted, text: &[u8]) -> Result<Answer
     Ok(Answer::on_out(alloc, Status::Done, line))
 }
 
-/// The answer to a text that has this refusal.
+/// The answer to a text that has this refusal with this cause.
 fn answer_refusal(
     alloc: Global,
     wanted: &Wanted,
     text: &[u8],
     refusal: Refusal,
+    cause: TextCause,
 ) -> Result<Answer, Memory>
     requires refused { IsRefusal text.now refusal }
-    requires tokens { is_of_tokens refusal.rule ≡ false }
-    requires names { is_of_names refusal.rule ≡ false }
+    requires caused { IsTextCauseOf text.now refusal.rule refusal.place cause }
     ensures { IfOk result (ExplainDue wanted.now text.now) }
 {
-    let explanation = early_explanation(alloc, text, refusal)?;
+    let explanation = early_explanation(alloc, refusal, cause)?;
     let lines = refused_text(alloc, wanted, text, refusal, &explanation)?;
     Ok(Answer::on_out(alloc, Status::Refused, lines))
+}
+
+/// The answer to a text that has this refusal, at its end, where these tokens may stand.
+fn answer_ended(
+    alloc: Global,
+    wanted: &Wanted,
+    text: &[u8],
+    refusal: Refusal,
+    tokens: &[NextToken],
+) -> Result<Answer, Memory>
+    requires refused { IsRefusal text.now refusal }
+    requires ended { is_of_end refusal.rule ≡ true }
+    requires may { AreNextAt text.now refusal.place tokens.now }
+    ensures { IfOk result (ExplainDue wanted.now text.now) }
+{
+    let places = open_at_end(alloc, text, refusal.place)?;
+    let explanation = unclosed_explanation(alloc, refusal, tokens, places.as_slice())?;
+    let lines = refused_text(alloc, wanted, text, refusal, &explanation)?;
+    Ok(Answer::on_out(alloc, Status::Refused, lines))
+}
+
+/// Whether the rule is the one of texts that end too early.
+fn is_of_end(rule: RuleName) -> bool
+    ensures { result ≡ is_of_end rule }
+{
+    match rule {
+        RuleName::Text(SRule::S3) => true,
+        _ => false,
+    }
 }
 
 /// The answer to a text that has this refusal, at a place where these tokens may stand.
@@ -88,8 +123,10 @@ fn answer_stray(
     requires may { AreNextAt text.now refusal.place tokens.now }
     ensures { IfOk result (ExplainDue wanted.now text.now) }
 {
-    let places = unclosed_at(alloc, text, refusal)?;
-    let explanation = unclosed_explanation(alloc, refusal, tokens, &places)?;
+    if is_of_end(refusal.rule) {
+        return answer_ended(alloc, wanted, text, refusal, tokens);
+    }
+    let explanation = stray_explanation(alloc, refusal, tokens)?;
     let lines = refused_text(alloc, wanted, text, refusal, &explanation)?;
     Ok(Answer::on_out(alloc, Status::Refused, lines))
 }

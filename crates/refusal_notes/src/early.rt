@@ -1,95 +1,93 @@
 //! What is said where a rule of the text fails at a byte, a number, a bracket, an operator or a comment.
-ghost use Rattle.std.specs.Prelude.{◌≡◌, ◌++◌, IfOk, OnOk};
-ghost use Rattle.refusal_notes.specs.Early.{byte_caption, depth_caption, early_caption, early_explanation, first_shown, is_bracket, number_caption, text_caption};
+ghost use Rattle.std.specs.Prelude.{◌≡◌, ◌++◌, IfOk, OnOk, codes};
+ghost use Rattle.std.specs.Fmt.{decimal};
+ghost use Rattle.place_notes.specs.Excerpt.{shown_byte};
+ghost use Rattle.refusal_notes.specs.Early.{count_words, early_explanation, text_caption};
 
-use crate::edits::{begins_with, from_place};
+use itoa::Buffer;
 use name_notes::{asked, wrong};
-use place_notes::{Explanation, Note, first_bytes, push_shown, word_at};
+use place_notes::{Explanation, Note, push_shown};
 use std::alloc::Global;
-use twe_base::{Bytes, List, Memory, Place};
-use twe_frontend::{Refusal, RuleName};
-use twe_parser::SRule;
+use text_causes::TextCause;
+use twe_base::{Bytes, List, MAX_LITERAL, MAX_OPEN_BRACKETS, MAX_OPERATORS, Memory};
+use twe_frontend::Refusal;
 
-/// Appends the first byte of what stands at the place, as it is shown.
-fn push_first(text: &mut Bytes, rest: &[u8]) -> Result<(), Memory>
-    ensures { OnOk result (text.new ≡ text.old ++ first_shown rest.now) }
+/// Appends which byte it is.
+fn push_byte_is(text: &mut Bytes, byte: u8) -> Result<(), Memory>
+    ensures { OnOk result (text.new ≡ text.old ++ (codes "is the byte " ++ shown_byte byte)) }
 {
-    push_shown(text, first_bytes(rest, 1))
+    text.push_all(b"is the byte ")?;
+    push_shown(text, &[byte])
 }
 
-/// Which byte it is.
-fn byte_caption(alloc: Global, rest: &[u8]) -> Result<Bytes, Memory>
-    ensures { IfOk result (λ caption. caption ≡ byte_caption rest.now) }
+/// Appends that the number is larger than this one.
+fn push_more_than(text: &mut Bytes, most: u32) -> Result<(), Memory>
+    ensures { OnOk result (text.new ≡ text.old ++ (codes "is more than " ++ decimal most)) }
 {
-    let mut caption = Bytes::from_slice(alloc, b"is the byte ")?;
-    push_first(&mut caption, rest)?;
+    text.push_all(b"is more than ")?;
+    text.push_all(Buffer::new().format(most).as_bytes())
+}
+
+/// Appends how many there may be.
+fn push_limit(text: &mut Bytes, most: u64) -> Result<(), Memory>
+    ensures { OnOk result (text.new ≡ text.old ++ (codes ", and at most " ++ decimal most)) }
+{
+    text.push_all(b", and at most ")?;
+    text.push_all(Buffer::new().format(most).as_bytes())
+}
+
+/// Appends how many there are, and how many there may be.
+fn push_count(text: &mut Bytes, words: &[u8], count: u64, most: u64) -> Result<(), Memory>
+    ensures { OnOk result (text.new ≡ text.old ++ count_words words.now count most) }
+{
+    text.push_all(words)?;
+    text.push_all(Buffer::new().format(count).as_bytes())?;
+    push_limit(text, most)
+}
+
+/// Appends what is said of the place.
+fn push_text_caption(text: &mut Bytes, cause: TextCause) -> Result<(), Memory>
+    ensures { OnOk result (text.new ≡ text.old ++ text_caption cause) }
+{
+    match cause {
+        TextCause::Byte(byte) => push_byte_is(text, byte),
+        TextCause::NumberTooLarge => push_more_than(text, MAX_LITERAL),
+        TextCause::NumberNotNegative => {
+            text.push_all(b"stands only directly after a minus sign of its own")
+        }
+        TextCause::BracketTooMany => {
+            let most = MAX_OPEN_BRACKETS as u64;
+            push_count(text, b"open brackets: ", most + 1, most)
+        }
+        TextCause::OperatorTooMany => {
+            let most = MAX_OPERATORS as u64;
+            push_count(text, b"operators of this statement: ", most + 1, most)
+        }
+        TextCause::CommentUnclosed => text.push_all(b"no */ comes after this"),
+    }
+}
+
+/// What is said of the place.
+fn text_caption(alloc: Global, cause: TextCause) -> Result<Bytes, Memory>
+    ensures { IfOk result (λ caption. caption ≡ text_caption cause) }
+{
+    let mut caption = Bytes::new(alloc);
+    push_text_caption(&mut caption, cause)?;
     Ok(caption)
-}
-
-/// The limit on numbers; the one above it is allowed in one position.
-fn number_caption(word: &[u8]) -> &'static [u8]
-    ensures { result.now ≡ number_caption word.now }
-{
-    if word == b"2147483648".as_slice() {
-        b"stands only directly after a minus sign of its own"
-    } else {
-        b"is more than 2147483647"
-    }
-}
-
-/// Whether an opening bracket stands there.
-fn is_bracket(rest: &[u8]) -> bool
-    ensures { result ≡ is_bracket rest.now }
-{
-    begins_with(b"{", rest) || (begins_with(b"(", rest) || begins_with(b"[", rest))
-}
-
-/// The count and the limit of what opens or stands there.
-fn depth_caption(rest: &[u8]) -> &'static [u8]
-    ensures { result.now ≡ depth_caption rest.now }
-{
-    if is_bracket(rest) {
-        b"open brackets: 201, and at most 200"
-    } else {
-        b"operators of this statement: 201, and at most 200"
-    }
-}
-
-/// What is said of the place where a rule of the text fails.
-fn text_caption(alloc: Global, rule: SRule, text: &[u8], place: Place) -> Result<Bytes, Memory>
-    ensures { IfOk result (λ caption. caption ≡ text_caption rule text.now place) }
-{
-    match rule {
-        SRule::S1 => byte_caption(alloc, from_place(text, place)),
-        SRule::S2 | SRule::S3 => Ok(Bytes::new(alloc)),
-        SRule::S4 => Bytes::from_slice(alloc, number_caption(word_at(text, place))),
-        SRule::S5 => Bytes::from_slice(alloc, depth_caption(from_place(text, place))),
-        SRule::S6 => Bytes::from_slice(alloc, b"no */ comes after this"),
-    }
-}
-
-/// The same of any rule.
-fn early_caption(alloc: Global, rule: RuleName, text: &[u8], place: Place) -> Result<Bytes, Memory>
-    ensures { IfOk result (λ caption. caption ≡ early_caption rule text.now place) }
-{
-    match rule {
-        RuleName::Text(rule) => text_caption(alloc, rule, text, place),
-        RuleName::Name(_) | RuleName::Effect(_) => Ok(Bytes::new(alloc)),
-    }
 }
 
 /// The sentences of the rule, and what is said of the place.
 pub(crate) fn early_explanation(
     alloc: Global,
-    text: &[u8],
     refusal: Refusal,
+    cause: TextCause,
 ) -> Result<Explanation, Memory>
-    ensures { IfOk result (λ explanation. explanation ≡ early_explanation text.now refusal) }
+    ensures { IfOk result (λ explanation. explanation ≡ early_explanation refusal cause) }
 {
     let mut notes = List::new(alloc);
     notes.push(Note {
         place: refusal.place,
-        caption: early_caption(alloc, refusal.rule, text, refusal.place)?,
+        caption: text_caption(alloc, cause)?,
     })?;
     let mut remarks = List::new(alloc);
     remarks.push(Bytes::from_slice(alloc, asked(refusal.rule))?)?;

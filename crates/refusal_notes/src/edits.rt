@@ -1,11 +1,11 @@
 //! Edits of a text: where they begin, and what the text is afterwards.
 ghost use Rattle.std.specs.Prelude.{◌≡◌, ◌++◌, IfOk};
 ghost use Rattle.std.specs.List.{prefix_len};
-ghost use Rattle.refusal_notes.specs.Edits.{begins_with, first_at, from_first, from_place, from_statement, indent_at, is_indent, with_end, without_first};
+ghost use Rattle.refusal_notes.specs.Edits.{begins_with, first_at, from_first, from_statement, indent_at, is_indent, with_end, without_first};
 
 use place_notes::{after_bytes, after_lines, first_bytes, line_at};
 use std::alloc::Global;
-use twe_base::{Bytes, Memory, Place};
+use twe_base::{Bytes, Memory};
 
 /// Whether a byte is a space or a tab.
 fn is_indent(byte: u8) -> bool
@@ -36,16 +36,8 @@ pub(crate) fn from_statement(text: &[u8], number: u32) -> &[u8]
     after_bytes(line, indent_at(text, number))
 }
 
-/// The text from the place on.
-pub(crate) fn from_place(text: &[u8], place: Place) -> &[u8]
-    ensures { result.now ≡ from_place text.now place }
-{
-    let line = after_lines(text, place.line.saturating_sub(1));
-    after_bytes(line, place.col.saturating_sub(1) as usize)
-}
-
 /// Whether the bytes begin with these words.
-pub(crate) fn begins_with(words: &[u8], bytes: &[u8]) -> bool
+fn begins_with(words: &[u8], bytes: &[u8]) -> bool
     ensures { result ≡ begins_with words.now bytes.now }
 {
     words == first_bytes(bytes, words.len())

@@ -14,4 +14,4 @@ returns c =
     subst (ExplainDue wanted text)
     (sym (c.on_out.ensures ∙ ap (on_out Refused) (c.in_ok-lines.ensures
     ∙ ap (λ (explanation : Explanation). refused_text wanted text c.args.refusal explanation) c.in_ok-explanation.ensures)))
-    (ExplainDue.refused c.args.refusal c.requires.refused c.requires.tokens c.requires.names)
+    (ExplainDue.refused c.args.refusal c.args.cause c.requires.refused c.requires.caused)

@@ -1,4 +1,4 @@
-use Rattle.std.proofs.Common.{ap, sym, subst, ◌∙◌}
+use Rattle.std.proofs.Common.{◌∙◌, sym, ap, subst}
 use Rattle.twe_io.specs.declared.status.Status.TheVariants.{Refused}
 use Rattle.twe_io.specs.Answers.{on_out}
 use Rattle.refusal_notes.specs.Answers.{ExplainDue}
@@ -14,4 +14,4 @@ returns c =
     subst (ExplainDue wanted text)
     (sym (c.on_out.ensures ∙ ap (on_out Refused) (c.in_ok-lines.ensures
     ∙ ap (λ (explanation : Explanation). refused_text wanted text c.args.refusal explanation) c.in_ok-explanation.ensures)))
-    (ExplainDue.stray c.args.refusal c.args.tokens.now c.in_ok-places.places c.requires.refused c.requires.stray c.requires.may c.in_ok-places.ensures)
+    (ExplainDue.stray c.args.refusal c.args.tokens.now c.requires.refused c.requires.stray (sym c.is_of_end.ensures ∙ c.if-is_of_end.false) c.requires.may)

@@ -12,13 +12,9 @@ pub answer_refusal-requires-clause-refused : goal.answer_refusal-requires-clause
 answer_refusal-requires-clause-refused c =
     (subst (λ (e : Explained). IsExplained c.args.text.now e) c.in-Early.is c.in_ok-explained.ensures).0
 
-pub answer_refusal-requires-clause-tokens : goal.answer_refusal-requires-clause-tokens
-answer_refusal-requires-clause-tokens c =
+pub answer_refusal-requires-clause-caused : goal.answer_refusal-requires-clause-caused
+answer_refusal-requires-clause-caused c =
     (subst (λ (e : Explained). IsExplained c.args.text.now e) c.in-Early.is c.in_ok-explained.ensures).1
-
-pub answer_refusal-requires-clause-names : goal.answer_refusal-requires-clause-names
-answer_refusal-requires-clause-names c =
-    (subst (λ (e : Explained). IsExplained c.args.text.now e) c.in-Early.is c.in_ok-explained.ensures).2
 
 -- the text is refused at a stray token, or at its end
 pub answer_stray-requires-clause-refused : goal.answer_stray-requires-clause-refused

@@ -1,0 +1,4 @@
+pub mod Lines
+pub mod Tokens
+pub mod Counting
+pub mod Causing
