@@ -27,7 +27,7 @@ named : (v w : Valuation) (b : Bool) → equality_holds v w (if b then always el
 named v w true = refl
 named v w false = refl
 
-elem-exact : (v w : Valuation) (x y : Elem) → equality_holds v w (elem_equality x y) ≡ not (clash (elem_under v x) (elem_under w y))
+pub elem-exact : (v w : Valuation) (x y : Elem) → equality_holds v w (elem_equality x y) ≡ not (clash (elem_under v x) (elem_under w y))
 elem-exact v w (Name n) (Name m) = named v w (n == m)
 elem-exact v w (Name n) (Index j) = refl
 elem-exact v w (Name n) (Var l) = refl
