@@ -110,7 +110,7 @@ int-swap a b =
 nat-swap : (n m : ℕ) → (n == m) ≡ (m == n)
 nat-swap n m = same-tests (n == m) (m == n) (λ h. eq-eqb m n (sym (eqb-true n m h))) (λ h. eq-eqb n m (sym (eqb-true m n h)))
 
-clash-swap : (x y : Elem) → clash x y ≡ clash y x
+pub clash-swap : (x y : Elem) → clash x y ≡ clash y x
 clash-swap (Name n) (Name m) = ap not (nat-swap n m)
 clash-swap (Name n) (Index j) = refl
 clash-swap (Name n) (Var l) = refl

@@ -1,0 +1,3 @@
+pub mod Aligning
+pub mod Solving
+pub mod Along

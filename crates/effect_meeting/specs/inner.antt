@@ -1,0 +1,3 @@
+-- The elements of several paths, side by side.
+pub mod Aligned
+pub mod Columns
