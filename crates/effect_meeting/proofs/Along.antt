@@ -14,8 +14,9 @@ use Rattle.task_matrix.specs.Solutions.{AreSolvedBy, NeverHold, first_by, second
 use Rattle.effect_meeting.specs.declared.column.Column.{Column}
 use Rattle.effect_meeting.specs.Meeting.{AgreeBelow, MeetAt, NeverMeet, as_written}
 use Rattle.effect_meeting.specs.inner.Aligned.{all_stand, at_ends, at_length, common_length, has_length, one_under}
-use Rattle.effect_meeting.specs.inner.Columns.{AreMetAlong, NeverMeetAlong, all_plain, column_equalities, columns, solved_by}
+use Rattle.effect_meeting.specs.inner.Columns.{AreForcedAlong, AreMetAlong, NeverMeetAlong, all_plain, column_equalities, columns, solved_by}
 use Rattle.effect_meeting.proofs.Aligning.{aligned-stands, all_stand-length, common-tried, none-stands, stands-length}
+use Rattle.effect_meeting.proofs.Forcing.{columns-near}
 use Rattle.effect_meeting.proofs.Solving.{columns-hold, columns-stand, solid_path, written-path}
 
 long-parts : (es : List Elem) (star : Bool) (ts : List Elem) (n : ℕ) → PathIsWellFormed (record { elems = es; star = star; tail = ts })
@@ -90,6 +91,19 @@ module _ (shared : ℕ) (p q : WrittenPath) (zs : List (Option Elem)) where
         },
         lines.third,
       )
+
+  pub forced-along : (es steps : List Equality) → PathIsWellFormed p → PathIsWellFormed q → all_plain zs ≡ true → AreNeeded es → AreSolvedBy es steps
+      → AreForcedAlong shared p q zs (map (solved_by steps) cols)
+  forced-along es steps p_formed q_formed plain needed solved c met third =
+      let v = met.first in
+      let w = met.second in
+      let firsts = stand-in v p c p_formed third met.in_first in
+      let seconds = stand-in w q c q_formed third met.in_second in
+      let holds = (needed v w).1 (
+        met.agree,
+        columns-hold v w (at_length (length zs) p) (at_length (length zs) q) zs c plain firsts seconds third,
+      ) in
+      columns-near v w steps (solved.forced v w holds) (at_length (length zs) p) (at_length (length zs) q) zs c firsts seconds third
 
 -- nothing is a variable where nothing is known
 pub none-plain : (n : ℕ) → all_plain (replicate n None) ≡ true

@@ -1,3 +1,4 @@
 pub mod Aligning
 pub mod Solving
+pub mod Forcing
 pub mod Along

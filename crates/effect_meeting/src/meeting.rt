@@ -6,7 +6,7 @@ ghost use Rattle.region_paths.specs.Filled.{Valuation};
 ghost use Rattle.task_matrix.specs.Equalities.{equalities_hold};
 ghost use Rattle.effect_meeting.specs.Meeting.{AgreeBelow, AreWhereMet, NeverMeet};
 ghost use Rattle.effect_meeting.specs.inner.Aligned.{has_length};
-ghost use Rattle.effect_meeting.specs.inner.Columns.{AreMetAlong, NeverMeetAlong, all_plain, column_equalities};
+ghost use Rattle.effect_meeting.specs.inner.Columns.{AreForcedAlong, AreMetAlong, NeverMeetAlong, all_plain, column_equalities};
 
 use crate::aligned::{anything, at_length, common_length, has_length};
 use crate::column::{Column, all_solved_by, columns, push_column};
@@ -60,6 +60,7 @@ fn meeting_in_columns(
     requires first_formed { PathIsWellFormed first.now }
     requires second_formed { PathIsWellFormed second.now }
     ensures found { IfOk result (λ found. IfSome found (AreMetAlong shared first.now second.now third.now)) }
+    ensures forced { IfOk result (λ found. IfSome found (AreForcedAlong shared first.now second.now third.now)) }
     ensures none { IfOk result (λ found. IfNone found (NeverMeetAlong shared first.now second.now third.now)) }
 {
     let long = third.len();
@@ -86,6 +87,7 @@ pub(crate) fn meeting_along(
 ) -> Result<Option<Elems>, Memory>
     requires { IsTrue (all_plain third.now) }
     ensures found { IfOk result (λ found. IfSome found (AreMetAlong shared first.now second.now third.now)) }
+    ensures forced { IfOk result (λ found. IfSome found (AreForcedAlong shared first.now second.now third.now)) }
     ensures none { IfOk result (λ found. IfNone found (NeverMeetAlong shared first.now second.now third.now)) }
 {
     if !has_length(first, third.len()) {

@@ -1,10 +1,11 @@
 -- The elements of three paths at one position.
-use Rattle.std.specs.Prelude.{◌≡◌, ℕ, pos, Bool, true, false, not, ◌&&◌, List, [], ◌∷◌, ◌++◌, Option, None, Some, IsTrue, map, zip}
+use Rattle.std.specs.Prelude.{◌≡◌, ℕ, pos, Bool, true, false, ◌&&◌, ◌||◌, List, [], ◌∷◌, ◌++◌, Option, None, Some, IsTrue, map, zip}
+use Rattle.std.specs.Ordering.{int_eq}
 use Rattle.std.specs.List.{flat_map, list_all}
 use Rattle.region_paths.specs.declared.elements.Elem.{Elem}
 use Rattle.region_paths.specs.declared.elements.Elem.TheVariants.{Name, Index, Var, AnyIndex}
 use Rattle.region_paths.specs.Written.{WrittenPath}
-use Rattle.region_paths.specs.Concrete.{ConcretePath}
+use Rattle.region_paths.specs.Concrete.{ConcreteElem, ConcretePath, elem_stands}
 use Rattle.region_paths.specs.Filled.{elem_under}
 use Rattle.task_matrix.specs.declared.equality.Equality.{Equality}
 use Rattle.task_matrix.specs.PathEqualities.{elem_equality}
@@ -62,3 +63,22 @@ AreMetAlong shared p q third elems =
 -- the third list stands for no concrete path at which the paths meet
 abbrev pub NeverMeetAlong : ℕ → WrittenPath → WrittenPath → List (Option Elem) → Type 0
 NeverMeetAlong shared p q third = (c : ConcretePath) → MeetAt shared p q c → ¬ IsTrue (all_stand third c)
+
+-- the element is written for this, or it is index 0
+abbrev pub is_near : Elem → ConcreteElem → Bool
+is_near (Name n) c = elem_stands (Name n) c
+is_near (Index i) c = int_eq i (pos 0) || elem_stands (Index i) c
+is_near (Var k) c = false
+is_near AnyIndex c = false
+
+-- the same of each element and what is at its position
+abbrev pub all_near : List Elem → ConcretePath → Bool
+all_near [] [] = true
+all_near [] (c ∷ cs) = false
+all_near (e ∷ es) [] = false
+all_near (e ∷ es) (c ∷ cs) = is_near e c && all_near es cs
+
+-- wherever the paths meet and the third list stands, there are these elements, but for those that are index 0
+abbrev pub AreForcedAlong : ℕ → WrittenPath → WrittenPath → List (Option Elem) → List Elem → Type 0
+AreForcedAlong shared p q third elems =
+    (c : ConcretePath) → MeetAt shared p q c → IsTrue (all_stand third c) → IsTrue (all_near elems c)
