@@ -22,7 +22,7 @@ same-tests false true to from = from refl
 same-tests false false to from = refl
 
 -- a list in two parts stands for a path in two parts
-all_stand-append : (xs ys : List (Option Elem)) (c : ConcretePath)
+pub all_stand-append : (xs ys : List (Option Elem)) (c : ConcretePath)
     → all_stand (xs ++ ys) c ≡ (all_stand xs (take (length xs) c) && all_stand ys (drop (length xs) c))
 all_stand-append [] ys c = refl
 all_stand-append (x ∷ xs) ys [] = refl
@@ -44,7 +44,7 @@ all_stand-length [] (d ∷ c) h = absurd (false≢true h)
 all_stand-length (x ∷ xs) [] h = absurd (false≢true h)
 all_stand-length (x ∷ xs) (d ∷ c) h = ap suc (all_stand-length xs c (and_parts _ _ h).1)
 
-some-stand : (es : List Elem) (c : ConcretePath) → all_stand (map Some es) c ≡ each_stands es c
+pub some-stand : (es : List Elem) (c : ConcretePath) → all_stand (map Some es) c ≡ each_stands es c
 some-stand [] [] = refl
 some-stand [] (d ∷ c) = refl
 some-stand (e ∷ es) [] = refl

@@ -2,3 +2,4 @@ pub mod Aligning
 pub mod Solving
 pub mod Forcing
 pub mod Along
+pub mod CellLaws

@@ -36,7 +36,7 @@ pub(crate) fn common_length(first: &Path, second: &Path) -> usize
 }
 
 /// These elements.
-fn known(alloc: Global, elems: &[Elem]) -> Result<Vec<Option<Elem>>, AllocError>
+pub(crate) fn known(alloc: Global, elems: &[Elem]) -> Result<Vec<Option<Elem>>, AllocError>
     ensures { IfOk result (λ list. list.items ≡ map Some elems.now) }
 {
     elems.iter().map(|elem| Some(*elem)).collect(alloc)

@@ -5,7 +5,9 @@
 #![tactic(auto)]
 
 mod aligned;
+mod cells;
 mod column;
 mod meeting;
 
+pub use cells::{CellMet, first_cell};
 pub use meeting::meeting_path;
