@@ -1,6 +1,6 @@
 -- What is found of columns says where the paths meet.
 use Rattle.std.proofs.Common.{◌≡◌, ◌↔◌, ◌⊎◌, ℕ, zero, suc, ◌+◌, ◌-◌, Bool, true, false, IsTrue, List, [], ◌∷◌, ◌++◌, length, map, replicate, inl, inr, refl, sym, ap, ◌∙◌, subst, arith, eqb-true, length-append}
-use Rattle.std.specs.Prelude.{Option, None, Some}
+use Rattle.std.specs.Prelude.{Option, None, Some, IfNone}
 use Rattle.std.specs.List.{flat_map}
 use Rattle.std.proofs.lemmas.Bool.{false≢true, leb-true}
 use Rattle.std.proofs.lemmas.List.{length-map, length-replicate}
@@ -117,3 +117,8 @@ never-tried shared p q never c met =
     never tried.0
     (record { first = met.first; second = met.second; agree = met.agree; in_first = tried.1.in_first; in_second = tried.1.in_second })
     (none-stands (common_length p q) tried.0 tried.1.long)
+
+-- where nothing is found, what follows from that
+pub if-none : {A : Type 0} (o : Option A) (P Q : Type 0) → (P → Q) → IfNone o P → IfNone o Q
+if-none None P Q f h = f h
+if-none (Some x) P Q f h = tt

@@ -1,10 +1,8 @@
-use Rattle.std.proofs.Common.{◌≡◌, IfNone, IfOk, IfSome, Some, drop, map, zip, ℕ, ◌+◌, ◌-◌, ◌*◌, ◌<◌, ◌≤◌, length}
-use Rattle.std.specs.List.{All, list_all}
-use Rattle.region_paths.specs.declared.elements.Elem.TheVariants.{AnyIndex}
-use Rattle.effect_meeting.specs.Cells.{IsFirstMet, IsMetAt, IsMetWithin, IsNeverMet, index_bounds, is_index_below}
-use Rattle.effect_meeting.specs.inner.CellLines.{IsNeverMetWithin, cell_line, is_written_below}
-use Rattle.effect_meeting.specs.inner.Columns.{all_plain, is_plain}
+use Rattle.std.proofs.Common.{take}
+use Rattle.std.specs.List.{All}
+use Rattle.effect_meeting.specs.Cells.{IsNeverMet}
 use Rattle.effect_meeting.proofs.cells.first_cell.Given as goal
 
+-- the paths meet at no cell of the declarations so far
 abbrev pub invariant-loop-number : goal.invariant-loop-number
-invariant-loop-number l = ?
+invariant-loop-number l = All (IsNeverMet l.shared l.first l.second) (take l.number l.cells)

@@ -1,11 +1,23 @@
-use Rattle.std.proofs.Common.{rules, ◌≡◌, IfNone, IfOk, IfSome, Some, drop, map, zip, ℕ, ◌+◌, ◌-◌, ◌*◌, ◌<◌, ◌≤◌, length, ◌/◌, ◌%◌, Bool, true, false, nat_eq, nat_lt, List, [], ◌∷◌, ◌++◌, slice_index_or, slice_set, bit_and, bit_or, Fits, w8, w32, w64, Bor, MutBor}
-use Rattle.std.specs.List.{All, list_all}
-use Rattle.region_paths.specs.declared.elements.Elem.TheVariants.{AnyIndex}
-use Rattle.effect_meeting.specs.Cells.{IsFirstMet, IsMetAt, IsMetWithin, IsNeverMet, index_bounds, is_index_below}
-use Rattle.effect_meeting.specs.inner.CellLines.{IsNeverMetWithin, cell_line, is_written_below}
-use Rattle.effect_meeting.specs.inner.Columns.{all_plain, is_plain}
+use Rattle.std.proofs.Common.{◌≡◌, ℕ, Option, List, IfNone, None, Some, sym, ap, ◌∙◌, subst, rules}
+use Rattle.std.proofs.lemmas.Result.{IfOk-weaker}
+use Rattle.region_paths.specs.declared.elements.Elem.{Elem}
+use Rattle.effect_meeting.specs.Cells.{IsNeverMet, index_bounds}
+use Rattle.effect_meeting.specs.inner.CellLines.{IsNeverMetWithin}
+use Rattle.effect_meeting.proofs.Along.{if-none}
 use Rattle.effect_meeting.proofs.cells.meeting_cell.Goals as goal
 
--- src/cells.rt:149:1
+-- they meet at no cell of the declaration where they meet at none in its path with indexes below its bounds
 pub returns-clause-none : goal.returns-clause-none
-returns-clause-none c = ?
+returns-clause-none c =
+    let p = c.args.first.now in
+    let q = c.args.second.now in
+    let decl = c.args.decl.now in
+    let elems : c.as_slice-declared.result.now ≡ decl.path.elems = search rules in
+    let bounds : c.as_slice.result.now ≡ index_bounds decl.dims = search rules in
+    let within = IsNeverMetWithin c.args.shared p q in
+    IfOk-weaker c.meeting_within.result (λ found. IfNone found (within c.as_slice-declared.result.now c.as_slice.result.now))
+    (λ found. IfNone found (IsNeverMet c.args.shared p q decl))
+    (λ found none. if-none found _ _ (λ never.
+        let at_elems : within decl.path.elems c.as_slice.result.now = subst (λ (es : List Elem). within es c.as_slice.result.now) elems never in
+        subst (λ (ns : List ℕ). within decl.path.elems ns) bounds at_elems) none)
+    c.meeting_within.ensures.none

@@ -1,10 +1,10 @@
-use Rattle.std.proofs.Common.{◌≡◌, Option, List, IfNone, None, Some, replicate, sym, ap, ◌∙◌, subst, rules}
+use Rattle.std.proofs.Common.{◌≡◌, Option, List, IfNone, None, replicate, sym, ap, ◌∙◌, subst, rules}
 use Rattle.std.proofs.lemmas.Result.{IfOk-weaker}
 use Rattle.region_paths.specs.declared.elements.Elem.{Elem}
 use Rattle.effect_meeting.specs.Meeting.{NeverMeet}
 use Rattle.effect_meeting.specs.inner.Aligned.{common_length}
 use Rattle.effect_meeting.specs.inner.Columns.{NeverMeetAlong, all_plain}
-use Rattle.effect_meeting.proofs.Along.{none-plain, never-tried}
+use Rattle.effect_meeting.proofs.Along.{if-none, none-plain, never-tried}
 use Rattle.effect_meeting.proofs.meeting.meeting_path.Goals as goal
 
 -- nothing has variables
@@ -12,10 +12,6 @@ pub meeting_along-requires : goal.meeting_along-requires
 meeting_along-requires c =
     let is : c.as_slice.result.now ≡ replicate c.common_length.result None = search rules in
     ap all_plain is ∙ none-plain c.common_length.result
-
-if-none : {A : Type 0} (o : Option A) (P Q : Type 0) → (P → Q) → IfNone o P → IfNone o Q
-if-none None P Q f h = f h
-if-none (Some x) P Q f h = tt
 
 -- paths that do not meet along anything of the length that is tried do not meet
 pub returns-clause-none : goal.returns-clause-none
