@@ -79,7 +79,7 @@ module _ (shared : ℕ) (p q : WrittenPath) (zs : List (Option Elem)) where
       let both = (needed v w).0 solved.hold in
       let c = solid_path v w cols in
       let lines = columns-stand v w (at_length (length zs) p) (at_length (length zs) q) zs plain (at_length-long (length zs) p p_formed p_fits)
-          (at_length-long (length zs) q q_formed q_fits) both.1 in (
+      (at_length-long (length zs) q q_formed q_fits) both.1 in (
         c,
         sym (written-path v w cols),
         record {

@@ -103,11 +103,11 @@ stands-plain (e ∷ es) [] h = absurd (false≢true h)
 stands-plain (e ∷ es) (d ∷ c) h =
     let parts = and_parts _ _ h in
     and_from _ _ (plain e d parts.0) (stands-plain es c parts.1) where
-  plain : (f : Elem) (g : ConcreteElem) → elem_stands f g ≡ true → is_plain (Some f) ≡ true
-  plain (Name n) g k = refl
-  plain (Index i) g k = refl
-  plain (Var n) g k = absurd (false≢true k)
-  plain AnyIndex g k = refl
+      plain : (f : Elem) (g : ConcreteElem) → elem_stands f g ≡ true → is_plain (Some f) ≡ true
+      plain (Name n) g k = refl
+      plain (Index i) g k = refl
+      plain (Var n) g k = absurd (false≢true k)
+      plain AnyIndex g k = refl
 
 any-plain : (bounds : List ℕ) → all_plain (any_for bounds) ≡ true
 any-plain [] = refl

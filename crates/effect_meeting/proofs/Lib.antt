@@ -3,3 +3,4 @@ pub mod Solving
 pub mod Forcing
 pub mod Along
 pub mod CellLaws
+pub mod Apartness

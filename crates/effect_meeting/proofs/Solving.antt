@@ -166,12 +166,12 @@ all-stand x y z x_plain y_plain z_plain xy xz zy =
     let yz = both_clash-swap y z ∙ zy in
     let any : (u : Option Elem) → both_clash z u ≡ false → u ≡ Some AnyIndex → elem_stands AnyIndex (example last) ≡ true =
     λ u apart is.
-        let apart_any : both_clash z (Some AnyIndex) ≡ false = ap (both_clash z) (sym is) ∙ apart in
-        solid-stands z (Some AnyIndex) zero_index refl apart_any refl in
+    let apart_any : both_clash z (Some AnyIndex) ≡ false = ap (both_clash z) (sym is) ∙ apart in
+    solid-stands z (Some AnyIndex) zero_index refl apart_any refl in
     let any_first : x ≡ Some AnyIndex → elem_stands AnyIndex (example rest) ≡ true =
     λ is.
-        let apart_any : both_clash y (Some AnyIndex) ≡ false = ap (both_clash y) (sym is) ∙ both_clash-swap y x ∙ xy in
-        solid-stands y (Some AnyIndex) last refl apart_any (any x (both_clash-swap z x ∙ xz) is) in
+    let apart_any : both_clash y (Some AnyIndex) ≡ false = ap (both_clash y) (sym is) ∙ both_clash-swap y x ∙ xy in
+    solid-stands y (Some AnyIndex) last refl apart_any (any x (both_clash-swap z x ∙ xz) is) in
     let second : one_stands y (example rest) ≡ true = own-stands y last y_plain (any y zy) in
     let third : one_stands z (example last) ≡ true = own-stands z zero_index z_plain (λ is. refl) in
     record {

@@ -37,18 +37,11 @@ fn index_bounds(alloc: Global, dims: Dims) -> Result<List<u32>, Memory>
 fn any_indexes(alloc: Global, bounds: &[u32]) -> Result<Vec<Option<Elem>>, AllocError>
     ensures { IfOk result (λ list. list.items ≡ map (λ bound. Some AnyIndex) bounds.now) }
 {
-    bounds
-        .iter()
-        .map(|_| Some(Elem::AnyIndex))
-        .collect(alloc)
+    bounds.iter().map(|_| Some(Elem::AnyIndex)).collect(alloc)
 }
 
 /// The elements of the path of a declaration, and any index after them for each bound.
-fn cell_line(
-    alloc: Global,
-    elems: &[Elem],
-    bounds: &[u32],
-) -> Result<Vec<Option<Elem>>, AllocError>
+fn cell_line(alloc: Global, elems: &[Elem], bounds: &[u32]) -> Result<Vec<Option<Elem>>, AllocError>
     ensures { IfOk result (λ list. list.items ≡ cell_line elems.now bounds.now) }
 {
     let mut line = known(alloc, elems)?;

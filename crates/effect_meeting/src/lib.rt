@@ -7,7 +7,9 @@
 mod aligned;
 mod cells;
 mod column;
+mod laws;
 mod meeting;
 
 pub use cells::{CellMet, first_cell};
+pub use laws::apart_paths_never_meet;
 pub use meeting::meeting_path;

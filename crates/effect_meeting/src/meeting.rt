@@ -30,11 +30,7 @@ fn agreeing(alloc: Global, shared: u32) -> Result<Equalities, Memory>
 }
 
 /// When the elements of each column stand for a common one, and the shared variables have the same values.
-fn column_equalities(
-    alloc: Global,
-    shared: u32,
-    columns: &[Column],
-) -> Result<Equalities, Memory>
+fn column_equalities(alloc: Global, shared: u32, columns: &[Column]) -> Result<Equalities, Memory>
     ensures { IfOk result (λ list. (v w : Valuation) → IsTrue (equalities_hold v w list)
         ↔ (AgreeBelow shared v w × IsTrue (equalities_hold v w (flat_map column_equalities columns.now)))) }
 {

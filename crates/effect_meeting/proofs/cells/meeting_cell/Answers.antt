@@ -18,6 +18,6 @@ returns-clause-none c =
     IfOk-weaker c.meeting_within.result (λ found. IfNone found (within c.as_slice-declared.result.now c.as_slice.result.now))
     (λ found. IfNone found (IsNeverMet c.args.shared p q decl))
     (λ found none. if-none found _ _ (λ never.
-        let at_elems : within decl.path.elems c.as_slice.result.now = subst (λ (es : List Elem). within es c.as_slice.result.now) elems never in
-        subst (λ (ns : List ℕ). within decl.path.elems ns) bounds at_elems) none)
+    let at_elems : within decl.path.elems c.as_slice.result.now = subst (λ (es : List Elem). within es c.as_slice.result.now) elems never in
+    subst (λ (ns : List ℕ). within decl.path.elems ns) bounds at_elems) none)
     c.meeting_within.ensures.none
