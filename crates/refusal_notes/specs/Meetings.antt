@@ -48,6 +48,14 @@ cell_met_text cells met = declared_name (slice_get cells met.decl) ++ flat_map c
 abbrev pub touch_text : List ℕ → Effect → Effect → List ℕ
 touch_text what need other = codes "both may touch " ++ (what ++ writers_text need.write other.write)
 
+-- a path between accents
+abbrev pub quoted_path : List (List ℕ) → List Elem → List ℕ
+quoted_path regions elems = codes "`" ++ (path_text regions [] elems ++ codes "`")
+
+-- the effects meet nowhere
+abbrev pub nowhere_text : List ℕ
+nowhere_text = codes "no place is in both: the rule compares paths index by index"
+
 -- What is said of where two effects meet, whose first variables, as many as are shared, are the parameters of the task.
 pub data MeetingDue (regions : List (List ℕ)) (cells : List CellDecl) (shared : ℕ) (need other : Effect) : List ℕ → Type 0 where
   -- they meet at a cell, and it is of the first declaration that has such a cell
@@ -56,10 +64,10 @@ pub data MeetingDue (regions : List (List ℕ)) (cells : List CellDecl) (shared 
   -- they meet at a path, and at no cell
   at_path : (elems : List Elem) → AreWhereMet shared need.path other.path elems
       → All (IsNeverMet shared need.path other.path) cells
-      → MeetingDue regions cells shared need other (touch_text (codes "`" ++ (path_text regions [] elems ++ codes "`")) need other)
+      → MeetingDue regions cells shared need other (touch_text (quoted_path regions elems) need other)
   -- they meet nowhere
   nowhere : NeverMeet shared need.path other.path
-      → MeetingDue regions cells shared need other (codes "no place is in both: the rule compares paths index by index")
+      → MeetingDue regions cells shared need other nowhere_text
 
 -- after these remarks comes what is said of where the effects of a cause meet, if it has two
 abbrev pub IsMeetingTold : Program → RuleCause → List (List ℕ) → List (List ℕ) → Type 0

@@ -2,8 +2,8 @@
 ghost use Rattle.std.specs.Prelude.{◌≡◌, ◌∷◌, ◌++◌, [], IfOk, OnOk};
 ghost use Rattle.std.specs.List.{All, flat_map};
 ghost use Rattle.effect_meeting.specs.Cells.{IsNeverMet};
-ghost use Rattle.text_meaning.specs.PathTexts.{path_text};
-ghost use Rattle.refusal_notes.specs.Meetings.{IsMeetingTold, MeetingDue, cell_index_text, cell_met_text, params_at, touch_text, writers_text};
+ghost use Rattle.name_notes.specs.Variables.{is_same_place};
+ghost use Rattle.refusal_notes.specs.Meetings.{IsMeetingTold, MeetingDue, cell_index_text, cell_met_text, nowhere_text, params_at, quoted_path, touch_text, writers_text};
 
 use effect_meeting::{CellMet, first_cell, meeting_path};
 use effect_sets::Effect;
@@ -15,12 +15,19 @@ use text_meaning::push_path;
 use twe_base::{Bytes, List, Memory, Place, Word};
 use twe_program::{CellDecl, Decl, Prog};
 
+/// Whether the places are the same.
+fn is_same_place(place: Place, other: Place) -> bool
+    ensures { result ≡ is_same_place place other }
+{
+    place.line == other.line && place.col == other.col
+}
+
 /// How many parameters the first of the declarations has whose name is at the place.
 fn params_at(decls: &[Decl], place: Place) -> u32
     ensures { result ≡ params_at decls.now place }
 {
     for decl in decls {
-        if decl.place == place {
+        if is_same_place(decl.place, place) {
             return decl.params;
         }
     }
@@ -72,7 +79,7 @@ fn cell_met_text(alloc: Global, cells: &[CellDecl], met: &CellMet) -> Result<Byt
 {
     let mut text = Bytes::new(alloc);
     if let Some(decl) = cells.get(met.decl) {
-        text.push_all(decl.name.as_slice())?;
+        text.push_all(decl.name.as_bytes())?;
     }
     push_indexes(&mut text, met.indexes.as_slice())?;
     Ok(text)
@@ -90,12 +97,48 @@ fn touch_text(alloc: Global, what: &[u8], need: &Effect, other: &Effect) -> Resu
 
 /// A path between accents.
 fn quoted_path(alloc: Global, regions: &[Word], elems: &[Elem]) -> Result<Bytes, Memory>
-    ensures { IfOk result (λ text. text ≡ 96 ∷ (path_text regions.now [] elems.now ++ 96 ∷ [])) }
+    ensures { IfOk result (λ text. text ≡ quoted_path regions.now elems.now) }
 {
     let mut text = Bytes::from_slice(alloc, b"`")?;
     push_path(&mut text, regions, &[], elems)?;
     text.push(b'`')?;
     Ok(text)
+}
+
+/// That both effects may touch a path, and who writes it.
+fn path_touched(
+    alloc: Global,
+    regions: &[Word],
+    elems: &[Elem],
+    need: &Effect,
+    other: &Effect,
+) -> Result<Bytes, Memory>
+    ensures { IfOk result (λ text. text ≡ touch_text (quoted_path regions.now elems.now) need.now other.now) }
+{
+    let path = quoted_path(alloc, regions, elems)?;
+    touch_text(alloc, path.as_slice(), need, other)
+}
+
+/// That both effects may touch a cell, and who writes it.
+fn cell_touched(
+    alloc: Global,
+    cells: &[CellDecl],
+    met: &CellMet,
+    need: &Effect,
+    other: &Effect,
+) -> Result<Bytes, Memory>
+    ensures { IfOk result (λ text. text ≡ touch_text (cell_met_text cells.now met.now) need.now other.now) }
+{
+    let cell = cell_met_text(alloc, cells, met)?;
+    touch_text(alloc, cell.as_slice(), need, other)
+}
+
+/// That the effects meet nowhere.
+fn nowhere_text(alloc: Global) -> Result<Bytes, Memory>
+    ensures { IfOk result (λ text. text ≡ nowhere_text) }
+{
+    let text = b"no place is in both: the rule compares paths index by index";
+    Bytes::from_slice(alloc, text)
 }
 
 /// What is said of a path at which the effects meet, or that there is none, if they meet at no cell.
@@ -112,13 +155,13 @@ fn path_remark(
 {
     let _ = cells;
     match meeting_path(alloc, shared, &need.path, &other.path)? {
-        None => Bytes::from_slice(
-            alloc,
-            b"no place is in both: the rule compares paths index by index",
-        ),
+        None => {
+            let text = nowhere_text(alloc)?;
+            Ok(text)
+        }
         Some(elems) => {
-            let path = quoted_path(alloc, regions, elems.as_slice())?;
-            touch_text(alloc, path.as_slice(), need, other)
+            let text = path_touched(alloc, regions, elems.as_slice(), need, other)?;
+            Ok(text)
         }
     }
 }
@@ -137,8 +180,8 @@ fn meeting_remark(
     match first_cell(alloc, shared, &need.path, &other.path, cells)? {
         None => path_remark(alloc, regions, cells, shared, need, other),
         Some(met) => {
-            let cell = cell_met_text(alloc, cells, &met)?;
-            touch_text(alloc, cell.as_slice(), need, other)
+            let text = cell_touched(alloc, cells, &met, need, other)?;
+            Ok(text)
         }
     }
 }
