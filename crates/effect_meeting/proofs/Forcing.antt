@@ -13,7 +13,7 @@ use Rattle.task_matrix.specs.declared.equality.Term.{Term}
 use Rattle.task_matrix.specs.declared.equality.Term.TheVariants.{Literal, First, Second}
 use Rattle.task_matrix.specs.Equalities.{term_value}
 use Rattle.task_matrix.specs.Solving.{after_steps, is_literal}
-use Rattle.task_matrix.specs.Solutions.{first_by, plain_value, second_by, value_by}
+use Rattle.task_matrix.specs.Solutions.{first_by, plain_value, second_by, solved_value}
 use Rattle.effect_meeting.specs.declared.column.Column.{Column}
 use Rattle.effect_meeting.specs.inner.Aligned.{all_stand, one_stands, one_under}
 use Rattle.effect_meeting.specs.inner.Columns.{all_near, all_plain, columns, is_near, is_plain, solid_or, solved_by}
@@ -36,13 +36,13 @@ open-zero (Second k) h = refl
 
 -- the values are those that the steps force
 abbrev pub IsForced : Valuation → Valuation → List Equality → Type 0
-IsForced v w steps = (t : Term) → is_literal (after_steps steps t) ≡ true → term_value v w t ≡ value_by steps t
+IsForced v w steps = (t : Term) → is_literal (after_steps steps t) ≡ true → term_value v w t ≡ solved_value steps t
 
 value-near : (v w : Valuation) (steps : List Equality) → IsForced v w steps → (t : Term) (c : ConcreteElem)
-    → elem_stands (Index (term_value v w t)) c ≡ true → is_near (Index (value_by steps t)) c ≡ true
+    → elem_stands (Index (term_value v w t)) c ≡ true → is_near (Index (solved_value steps t)) c ≡ true
 value-near v w steps forced t c h = elim (cases_Bool (is_literal (after_steps steps t))) [
   | inl literal ↦ or-right _ _ (ap (λ (i : ℤ). elem_stands (Index i) c) (sym (forced t literal)) ∙ h)
-  | inr unknown ↦ zero-near c (value_by steps t) (open-zero (after_steps steps t) unknown)
+  | inr unknown ↦ zero-near c (solved_value steps t) (open-zero (after_steps steps t) unknown)
 ]
 
 first-near : (v w : Valuation) (steps : List Equality) → IsForced v w steps → (x : Option Elem) (r : Elem) (c : ConcreteElem)

@@ -7,7 +7,7 @@ ghost use Rattle.effect_meeting.specs.inner.Columns.{column_equalities, columns,
 
 use region_paths::Elem;
 use std::alloc::{AllocError, Global};
-use task_matrix::{Equalities, Equality, Term, elem_equality, value_by};
+use task_matrix::{Equalities, Equality, Term, elem_equality, solved_value};
 use twe_base::Memory;
 
 /// The elements of three paths at one position. `None` stands for anything.
@@ -69,7 +69,7 @@ fn first_under(steps: &[Equality], elem: Option<Elem>) -> Option<Elem>
         None => None,
         Some(Elem::Name(n)) => Some(Elem::Name(n)),
         Some(Elem::Index(i)) => Some(Elem::Index(i)),
-        Some(Elem::Var(k)) => Some(Elem::Index(value_by(steps, Term::First(k)))),
+        Some(Elem::Var(k)) => Some(Elem::Index(solved_value(steps, Term::First(k)))),
         Some(Elem::AnyIndex) => Some(Elem::AnyIndex),
     }
 }
@@ -82,7 +82,7 @@ fn second_under(steps: &[Equality], elem: Option<Elem>) -> Option<Elem>
         None => None,
         Some(Elem::Name(n)) => Some(Elem::Name(n)),
         Some(Elem::Index(i)) => Some(Elem::Index(i)),
-        Some(Elem::Var(k)) => Some(Elem::Index(value_by(steps, Term::Second(k)))),
+        Some(Elem::Var(k)) => Some(Elem::Index(solved_value(steps, Term::Second(k)))),
         Some(Elem::AnyIndex) => Some(Elem::AnyIndex),
     }
 }

@@ -12,7 +12,7 @@ use Rattle.task_matrix.specs.declared.equality.Equality.{Equality}
 use Rattle.task_matrix.specs.Equalities.{term_value, equality_holds, equalities_hold, same_term}
 use Rattle.task_matrix.specs.PathEqualities.{equal_terms}
 use Rattle.task_matrix.specs.Solving.{replaced, after_steps, is_literal, steps_after, can_hold, same_equality, says_nothing_new, telling_after, telling}
-use Rattle.task_matrix.specs.Solutions.{AreSolvedBy, NeverHold, first_by, plain_value, second_by, value_by}
+use Rattle.task_matrix.specs.Solutions.{AreSolvedBy, NeverHold, first_by, plain_value, second_by, solved_value}
 use Rattle.task_matrix.proofs.Exactness.{all-two}
 
 same-true : (a b : Term) → same_term a b ≡ true → a ≡ b
@@ -197,7 +197,7 @@ solved steps (e ∷ es) all free_left h =
     ]
 
 value-after : (steps : List Equality) → list_all replaces_none steps ≡ true → (t : Term)
-    → term_value (first_by steps) (second_by steps) t ≡ value_by steps t
+    → term_value (first_by steps) (second_by steps) t ≡ solved_value steps t
 value-after steps free_left (Literal i) = ap plain_value (sym (literal-stays steps i free_left))
 value-after steps free_left (First k) = refl
 value-after steps free_left (Second k) = refl

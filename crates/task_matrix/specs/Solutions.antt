@@ -14,22 +14,22 @@ plain_value (First k) = pos 0
 plain_value (Second k) = pos 0
 
 -- the value that the steps give a term
-abbrev pub value_by : List Equality → Term → ℤ
-value_by steps term = plain_value (after_steps steps term)
+abbrev pub solved_value : List Equality → Term → ℤ
+solved_value steps term = plain_value (after_steps steps term)
 
 -- the values that they give the parameters of the first declaration, and those of the second
 abbrev pub first_by : List Equality → Valuation
-first_by steps k = value_by steps (First k)
+first_by steps k = solved_value steps (First k)
 
 abbrev pub second_by : List Equality → Valuation
-second_by steps k = value_by steps (Second k)
+second_by steps k = solved_value steps (Second k)
 
 -- The steps solve the equalities: these hold for the values that the steps give. Where the steps make a literal of a term, the
 -- term has this value wherever the equalities hold.
 pub record AreSolvedBy (equalities steps : List Equality) : Type 0 where
   pub hold : IsTrue (equalities_hold (first_by steps) (second_by steps) equalities)
   pub forced : (v w : Valuation) → IsTrue (equalities_hold v w equalities) → (term : Term)
-      → IsTrue (is_literal (after_steps steps term)) → term_value v w term ≡ value_by steps term
+      → IsTrue (is_literal (after_steps steps term)) → term_value v w term ≡ solved_value steps term
 
 -- the equalities hold for no values
 abbrev pub NeverHold : List Equality → Type 0

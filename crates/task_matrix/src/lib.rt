@@ -12,4 +12,4 @@ mod solve;
 pub use equality::{Equalities, Equality, Term};
 pub use meeting::{Meeting, Meetings, meetings_between};
 pub use path_meeting::elem_equality;
-pub use solve::{solution, value_by};
+pub use solve::{solution, solved_value};

@@ -2,7 +2,7 @@
 ghost use Rattle.std.specs.Prelude.{◌≡◌, [], IfNone, IfOk, IfSome};
 ghost use Rattle.std.specs.List.{list_any};
 ghost use Rattle.task_matrix.specs.Solving.{after_steps, can_hold, is_literal, replaced, same_equality, says_nothing_new, steps_after, telling};
-ghost use Rattle.task_matrix.specs.Solutions.{AreSolvedBy, NeverHold, value_by};
+ghost use Rattle.task_matrix.specs.Solutions.{AreSolvedBy, NeverHold, solved_value};
 
 use crate::equality::{Equalities, Equality, Term, is_same_term};
 use std::alloc::Global;
@@ -84,8 +84,8 @@ pub fn solution(alloc: Global, equalities: &[Equality]) -> Result<Option<Equalit
 }
 
 /// The value that the steps give a term: a parameter that they leave open is 0.
-pub fn value_by(steps: &[Equality], term: Term) -> i32
-    ensures { result ≡ value_by steps.now term }
+pub fn solved_value(steps: &[Equality], term: Term) -> i32
+    ensures { result ≡ solved_value steps.now term }
 {
     match after_steps(steps, term) {
         Term::Literal(value) => value,
