@@ -20,6 +20,7 @@ use Rattle.refusal_notes.specs.Early.{early_explanation}
 use Rattle.refusal_notes.specs.Explanation.{explanation_by, place_of_cause}
 use Rattle.place_notes.specs.declared.note.Explanation.{Explanation}
 use Rattle.refusal_notes.specs.declared.mends.Mend.{Mend}
+use Rattle.refusal_notes.specs.Meetings.{IsMeetingTold}
 use Rattle.refusal_notes.specs.Mends.{AreTried, mends_for}
 use Rattle.name_notes.specs.Named.{named_explanation}
 use Rattle.refusal_notes.specs.Tokens.{stray_explanation}
@@ -58,10 +59,11 @@ pub data ExplainDue (wanted : Wanted) (text : List ℕ) : Answer → Type 0 wher
       → IsTreeOf text tree → IsNameCauseOf tree refusal.rule refusal.place cause
       → ExplainDue wanted text
       (on_out Refused (refused_text wanted text refusal (named_explanation text refusal cause tree.items)))
-  -- The text is refused, and the cause is true of the program that it means; after the answer of `twe check` comes the cause.
-  -- Edits that may mend it are tried, and what is said of those after which it is accepted comes last.
-  caused : (refusal : Refusal) (cause : RuleCause) (tree : Ast) (p : Program) (remarks : List (List ℕ))
-      → IsCausedBy text refusal cause tree p
-      → AreTried (mends_of text refusal cause tree p) (caused_explanation refusal cause tree p).remarks remarks
+  -- The text is refused, and the cause is true of the program that it means; after the answer of `twe check` comes the cause, and
+  -- then where its two effects meet, if it has two. Edits that may mend it are tried, and what is said of those after which it is
+  -- accepted comes last.
+  caused : (refusal : Refusal) (cause : RuleCause) (tree : Ast) (p : Program) (told remarks : List (List ℕ))
+      → IsCausedBy text refusal cause tree p → IsMeetingTold p cause (caused_explanation refusal cause tree p).remarks told
+      → AreTried (mends_of text refusal cause tree p) told remarks
       → ExplainDue wanted text (on_out Refused (refused_text wanted text refusal
       (record (caused_explanation refusal cause tree p) { remarks = remarks })))

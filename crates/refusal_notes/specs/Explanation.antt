@@ -49,7 +49,7 @@ abbrev pub out_explanation : Refusal → Place → List ℕ → List ℕ → Boo
 out_explanation refusal future_place has needs any_index = record {
   headline = codes "an effect is needed here that may still be out with a spawned task";
   notes = note_at future_place has ∷ note_at refusal.place needs ∷ [];
-  remarks = codes "on some way to here that task is spawned and not joined; one of both effects writes, and they may meet"
+  remarks = codes "on some way to here that task is spawned and not joined, and one of both effects writes"
       ∷ index_remarks any_index;
 }
 

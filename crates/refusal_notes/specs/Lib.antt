@@ -7,3 +7,4 @@ pub mod Early
 pub mod Unclosed
 pub mod Mends
 pub mod Answers
+pub mod Meetings

@@ -8,6 +8,7 @@ ghost use Rattle.twe_frontend.specs.Accepted.{IsRefusal, IsTreeOf};
 
 use crate::early::early_explanation;
 use crate::explanation::{explanation_by, place_of_cause};
+use crate::meetings::tell_meeting;
 use crate::mends::{mends_for, try_mends};
 use crate::tokens::stray_explanation;
 use crate::unclosed::unclosed_explanation;
@@ -168,6 +169,7 @@ fn answer_caused(
     let regions = p.regions.as_slice();
     let mends = mends_for(alloc, text, refusal.place, cause, regions, names.as_slice())?;
     let mut explanation = explanation_by(alloc, refusal, cause, regions, names.as_slice())?;
+    tell_meeting(&mut explanation.remarks, alloc, p, cause)?;
     try_mends(&mut explanation.remarks, alloc, mends.as_slice())?;
     let lines = refused_text(alloc, wanted, text, refusal, &explanation)?;
     Ok(Answer::on_out(alloc, Status::Refused, lines))

@@ -132,7 +132,7 @@ fn out_explanation(
 {
     let headline = b"an effect is needed here that may still be out with a spawned task";
     let remark =
-        b"on some way to here that task is spawned and not joined; one of both effects writes, and they may meet";
+        b"on some way to here that task is spawned and not joined, and one of both effects writes";
     Ok(Explanation {
         headline: Bytes::from_slice(alloc, headline)?,
         notes: two_notes(alloc, future_place, has, refusal.place, needs)?,

@@ -6,6 +6,7 @@ mod early;
 mod edits;
 mod effects;
 mod explanation;
+mod meetings;
 mod mends;
 mod ruled;
 mod tokens;

@@ -27,7 +27,7 @@ named : (v w : Valuation) (b : Bool) → equality_holds v w (if b then always el
 named v w true = refl
 named v w false = refl
 
-elem-exact : (v w : Valuation) (x y : Elem) → equality_holds v w (elem_equality x y) ≡ not (clash (elem_under v x) (elem_under w y))
+pub elem-exact : (v w : Valuation) (x y : Elem) → equality_holds v w (elem_equality x y) ≡ not (clash (elem_under v x) (elem_under w y))
 elem-exact v w (Name n) (Name m) = named v w (n == m)
 elem-exact v w (Name n) (Index j) = refl
 elem-exact v w (Name n) (Var l) = refl
@@ -110,7 +110,7 @@ int-swap a b =
 nat-swap : (n m : ℕ) → (n == m) ≡ (m == n)
 nat-swap n m = same-tests (n == m) (m == n) (λ h. eq-eqb m n (sym (eqb-true n m h))) (λ h. eq-eqb n m (sym (eqb-true m n h)))
 
-clash-swap : (x y : Elem) → clash x y ≡ clash y x
+pub clash-swap : (x y : Elem) → clash x y ≡ clash y x
 clash-swap (Name n) (Name m) = ap not (nat-swap n m)
 clash-swap (Name n) (Index j) = refl
 clash-swap (Name n) (Var l) = refl

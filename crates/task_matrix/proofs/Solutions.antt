@@ -1,6 +1,6 @@
 -- Equalities that are solved can hold together, and those that are not cannot.
-use Rattle.std.proofs.Common.{◌≡◌, ◌⊎◌, ℤ, pos, Bool, true, false, not, List, [], ◌∷◌, ◌++◌, if◌then◌else◌, inl, inr, refl, sym, ap, ◌∙◌, subst, int_eq, eqb-true, eq-eqb, append_assoc, append-nil}
-use Rattle.std.specs.Prelude.{◌&&◌, ◌||◌}
+use Rattle.std.proofs.Common.{◌≡◌, ◌⊎◌, ℤ, pos, Bool, true, false, not, List, [], ◌∷◌, ◌++◌, Option, None, Some, is_some, if◌then◌else◌, inl, inr, refl, sym, ap, ◌∙◌, subst, int_eq, eqb-true, eq-eqb, append_assoc, append-nil}
+use Rattle.std.specs.Prelude.{◌&&◌, ◌||◌, IfNone, IfSome}
 use Rattle.std.specs.List.{list_all, list_any}
 use Rattle.std.proofs.lemmas.Bool.{false≢true, and_parts, and_from, and_cases, or_cases}
 use Rattle.std.proofs.lemmas.Bool.Decides.{Decides-int_eq}
@@ -11,7 +11,8 @@ use Rattle.task_matrix.specs.declared.equality.Term.TheVariants.{Literal, First,
 use Rattle.task_matrix.specs.declared.equality.Equality.{Equality}
 use Rattle.task_matrix.specs.Equalities.{term_value, equality_holds, equalities_hold, same_term}
 use Rattle.task_matrix.specs.PathEqualities.{equal_terms}
-use Rattle.task_matrix.specs.Solving.{replaced, after_steps, is_literal, can_hold_after, can_hold, same_equality, says_nothing_new, telling_after, telling}
+use Rattle.task_matrix.specs.Solving.{replaced, after_steps, is_literal, steps_after, can_hold, same_equality, says_nothing_new, telling_after, telling}
+use Rattle.task_matrix.specs.Solutions.{AreSolvedBy, NeverHold, first_by, plain_value, second_by, solved_value}
 use Rattle.task_matrix.proofs.Exactness.{all-two}
 
 same-true : (a b : Term) → same_term a b ≡ true → a ≡ b
@@ -45,12 +46,10 @@ after-append : (steps more : List Equality) (t : Term) → after_steps (steps ++
 after-append [] more t = refl
 after-append (step ∷ steps) more t = after-append steps more (replaced step t)
 
--- the three ways of a step
-if-ways : (b c : Bool) (x y z r : Bool) → (if b then x else if c then y else z) ≡ r
-    → ((b ≡ true) × (x ≡ r)) ⊎ (((b ≡ false) × (c ≡ true) × (y ≡ r)) ⊎ ((b ≡ false) × (c ≡ false) × (z ≡ r)))
-if-ways true c x y z r h = inl (refl, h)
-if-ways false true x y z r h = inr (inl (refl, refl, h))
-if-ways false false x y z r h = inr (inr (refl, refl, h))
+-- the two ways of a choice
+two-ways : {A : Type 0} (b : Bool) (x y r : A) → (if b then x else y) ≡ r → ((b ≡ true) × (x ≡ r)) ⊎ ((b ≡ false) × (y ≡ r))
+two-ways true x y r h = inl (refl, h)
+two-ways false x y r h = inr (refl, h)
 
 -- a valuation that the steps keep
 abbrev IsKept : Valuation → Valuation → List Equality → Type 0
@@ -73,29 +72,44 @@ literal-values v w (Literal i) (Second l) h k e = absurd (false≢true k)
 literal-values v w (First l) b h k e = absurd (false≢true h)
 literal-values v w (Second l) b h k e = absurd (false≢true h)
 
-never-hold : (v w : Valuation) (steps es : List Equality) → can_hold_after steps es ≡ false → IsKept v w steps → equalities_hold v w es ≡ true → ⊥
-never-hold v w steps [] h kept holds = false≢true (sym h)
+never-hold : (v w : Valuation) (steps es : List Equality) → steps_after steps es ≡ None → IsKept v w steps → equalities_hold v w es ≡ true → ⊥
+never-hold v w steps [] h kept holds = cc
 never-hold v w steps (e ∷ es) h kept holds =
     let left = after_steps steps e.left in
     let right = after_steps steps e.right in
     let parts = and_parts (equality_holds v w e) (equalities_hold v w es) holds in
     let alike : term_value v w left ≡ term_value v w right = kept e.left ∙ (Decides-int_eq _ _).0 parts.0 ∙ sym (kept e.right) in
-    elim (if-ways (same_term left right) (is_literal left) (can_hold_after steps es)
-    (not (is_literal right) && can_hold_after (steps ++ equal_terms right left ∷ []) es) (can_hold_after (steps ++ equal_terms left right ∷ []) es) false h) [
+    elim (two-ways (same_term left right) (steps_after steps es) _ None h) [
       | inl same ↦ never-hold v w steps es same.1 kept parts.1
-      | inr other ↦ elim other [
-        | inl literal ↦ elim (and_cases (not (is_literal right)) (can_hold_after (steps ++ equal_terms right left ∷ []) es) literal.2) [
+      | inr other ↦ elim (two-ways (is_literal left) _ (steps_after (steps ++ equal_terms left right ∷ []) es) None other.1) [
+        | inl literal ↦ elim (two-ways (is_literal right) None (steps_after (steps ++ equal_terms right left ∷ []) es) None literal.1) [
           | inl both ↦
-              let two = literal-values v w left right literal.1 (opposite (is_literal right) both) alike in
-              false≢true (sym literal.0 ∙ ap (λ t. same_term left t) (sym two) ∙ same-refl left)
-          | inr later ↦ never-hold v w (steps ++ equal_terms right left ∷ []) es later (kept-push v w steps (equal_terms right left) kept (sym alike)) parts.1
+              let two = literal-values v w left right literal.0 both.0 alike in
+              false≢true (sym other.0 ∙ ap (λ t. same_term left t) (sym two) ∙ same-refl left)
+          | inr later ↦ never-hold v w (steps ++ equal_terms right left ∷ []) es later.1 (kept-push v w steps (equal_terms right left) kept (sym alike)) parts.1
         ]
-        | inr free_left ↦ never-hold v w (steps ++ equal_terms left right ∷ []) es free_left.2 (kept-push v w steps (equal_terms left right) kept alike) parts.1
+        | inr free_left ↦ never-hold v w (steps ++ equal_terms left right ∷ []) es free_left.1 (kept-push v w steps (equal_terms left right) kept alike) parts.1
       ]
-    ] where
-      opposite : (b : Bool) → not b ≡ false → b ≡ true
-      opposite true g = refl
-      opposite false g = absurd (false≢true (sym g))
+    ]
+
+-- wherever the equalities hold, their steps keep the values
+all-kept : (v w : Valuation) (steps es all : List Equality) → steps_after steps es ≡ Some all → IsKept v w steps → equalities_hold v w es ≡ true → IsKept v w all
+all-kept v w steps [] all h kept holds = let same : steps ≡ all = cc in subst (IsKept v w) same kept
+all-kept v w steps (e ∷ es) all h kept holds =
+    let left = after_steps steps e.left in
+    let right = after_steps steps e.right in
+    let parts = and_parts (equality_holds v w e) (equalities_hold v w es) holds in
+    let alike : term_value v w left ≡ term_value v w right = kept e.left ∙ (Decides-int_eq _ _).0 parts.0 ∙ sym (kept e.right) in
+    elim (two-ways (same_term left right) (steps_after steps es) _ (Some all) h) [
+      | inl same ↦ all-kept v w steps es all same.1 kept parts.1
+      | inr other ↦ elim (two-ways (is_literal left) _ (steps_after (steps ++ equal_terms left right ∷ []) es) (Some all) other.1) [
+        | inl literal ↦ elim (two-ways (is_literal right) None (steps_after (steps ++ equal_terms right left ∷ []) es) (Some all) literal.1) [
+          | inl both ↦ let none : None ≡ Some all = both.1 in cc
+          | inr later ↦ all-kept v w (steps ++ equal_terms right left ∷ []) es all later.1 (kept-push v w steps (equal_terms right left) kept (sym alike)) parts.1
+        ]
+        | inr free_left ↦ all-kept v w (steps ++ equal_terms left right ∷ []) es all free_left.1 (kept-push v w steps (equal_terms left right) kept alike) parts.1
+      ]
+    ]
 
 -- a step replaces no literal
 abbrev replaces_none : Equality → Bool
@@ -158,54 +172,79 @@ solves-same steps e es all s h = record {
   through : (t : Term) → after_steps all t ≡ after_steps s.more (after_steps steps t)
   through t = ap (λ (xs : List Equality). after_steps xs t) s.longer ∙ after-append steps s.more t
 
-solved : (steps es : List Equality) → list_all replaces_none steps ≡ true → can_hold_after steps es ≡ true → (all : List Equality) × Solves steps es all
-solved steps [] free_left h = (steps, record { free_left = free_left; more = []; longer = sym (append-nil steps); alike = λ e there. absurd there })
-solved steps (e ∷ es) free_left h =
+solved : (steps es all : List Equality) → list_all replaces_none steps ≡ true → steps_after steps es ≡ Some all → Solves steps es all
+solved steps [] all free_left h =
+    let same : steps ≡ all = cc in
+    subst (Solves steps []) same (record { free_left = free_left; more = []; longer = sym (append-nil steps); alike = λ e there. absurd there })
+solved steps (e ∷ es) all free_left h =
     let left = after_steps steps e.left in
     let right = after_steps steps e.right in
-    elim (if-ways (same_term left right) (is_literal left) (can_hold_after steps es)
-    (not (is_literal right) && can_hold_after (steps ++ equal_terms right left ∷ []) es) (can_hold_after (steps ++ equal_terms left right ∷ []) es) true h) [
-      | inl same ↦ let later = solved steps es free_left same.1 in (later.0, solves-same steps e es later.0 later.1 (same-true left right same.0))
-      | inr other ↦ elim other [
-        | inl literal ↦
-            let parts = and_parts (not (is_literal right)) (can_hold_after (steps ++ equal_terms right left ∷ []) es) literal.2 in
-            let later = solved (steps ++ equal_terms right left ∷ []) es (all-push steps (equal_terms right left) free_left parts.0) parts.1 in
-            (later.0, solves-more steps (equal_terms right left) e es later.0 later.1 (right-replaced (equal_terms right left) ∙ sym (left-replaced (equal_terms right left))))
-        | inr unbound ↦
-            let later = solved (steps ++ equal_terms left right ∷ []) es (all-push steps (equal_terms left right) free_left (false-not (is_literal left) unbound.1)) unbound.2 in
-            (later.0, solves-more steps (equal_terms left right) e es later.0 later.1 (left-replaced (equal_terms left right) ∙ sym (right-replaced (equal_terms left right))))
+    elim (two-ways (same_term left right) (steps_after steps es) _ (Some all) h) [
+      | inl same ↦ solves-same steps e es all (solved steps es all free_left same.1) (same-true left right same.0)
+      | inr other ↦ elim (two-ways (is_literal left) _ (steps_after (steps ++ equal_terms left right ∷ []) es) (Some all) other.1) [
+        | inl literal ↦ elim (two-ways (is_literal right) None (steps_after (steps ++ equal_terms right left ∷ []) es) (Some all) literal.1) [
+          | inl both ↦ let none : None ≡ Some all = both.1 in cc
+          | inr open_right ↦
+              let step = equal_terms right left in
+              let later = solved (steps ++ step ∷ []) es all (all-push steps step free_left (false-not (is_literal right) open_right.0)) open_right.1 in
+              solves-more steps step e es all later (right-replaced step ∙ sym (left-replaced step))
+        ]
+        | inr open_left ↦
+            let step = equal_terms left right in
+            let later = solved (steps ++ step ∷ []) es all (all-push steps step free_left (false-not (is_literal left) open_left.0)) open_left.1 in
+            solves-more steps step e es all later (left-replaced step ∙ sym (right-replaced step))
       ]
     ]
 
--- the values of what the steps make of each parameter, where all that is left is 0
-abbrev zeros : Valuation
-zeros k = pos 0
-
-abbrev first_after : List Equality → Valuation
-first_after steps k = term_value zeros zeros (after_steps steps (First k))
-
-abbrev second_after : List Equality → Valuation
-second_after steps k = term_value zeros zeros (after_steps steps (Second k))
-
 value-after : (steps : List Equality) → list_all replaces_none steps ≡ true → (t : Term)
-    → term_value (first_after steps) (second_after steps) t ≡ term_value zeros zeros (after_steps steps t)
-value-after steps free_left (Literal i) = ap (term_value zeros zeros) (sym (literal-stays steps i free_left))
+    → term_value (first_by steps) (second_by steps) t ≡ solved_value steps t
+value-after steps free_left (Literal i) = ap plain_value (sym (literal-stays steps i free_left))
 value-after steps free_left (First k) = refl
 value-after steps free_left (Second k) = refl
 
+-- a literal has its value under all valuations
+literal-value : (v w : Valuation) (t : Term) → is_literal t ≡ true → term_value v w t ≡ plain_value t
+literal-value v w (Literal i) h = refl
+literal-value v w (First k) h = absurd (false≢true h)
+literal-value v w (Second k) h = absurd (false≢true h)
+
+pub solved-by : (es steps : List Equality) → steps_after [] es ≡ Some steps → AreSolvedBy es steps
+solved-by es steps h =
+    let s = solved [] es steps refl h in record {
+      hold = in-list_all (equality_holds (first_by steps) (second_by steps)) es (λ e there. (Decides-int_eq _ _).1
+          (value-after steps s.free_left e.left ∙ ap plain_value (s.alike e there) ∙ sym (value-after steps s.free_left e.right)));
+      forced = λ v w holds t literal.
+          sym (all-kept v w [] es steps h (λ t. refl) holds t) ∙ literal-value v w (after_steps steps t) literal;
+    }
+
+pub none-never : (es : List Equality) → steps_after [] es ≡ None → NeverHold es
+none-never es h v w holds = never-hold v w [] es h (λ t. refl) holds
+
+-- the same of an answer
+pub solved-if : (es : List Equality) (found : Option (List Equality)) → found ≡ steps_after [] es → IfSome found (AreSolvedBy es)
+solved-if es None is = tt
+solved-if es (Some steps) is = solved-by es steps (sym is)
+
+pub never-if : (es : List Equality) (found : Option (List Equality)) → found ≡ steps_after [] es → IfNone found (NeverHold es)
+never-if es None is = none-never es (sym is)
+never-if es (Some steps) is = tt
+
+-- an answer that is there, and one that is not
+some-there : {A : Type 0} (o : Option A) → is_some o ≡ true → (x : A) × (o ≡ Some x)
+some-there None h = absurd (false≢true h)
+some-there (Some x) h = (x, refl)
+
+none-there : {A : Type 0} (o : Option A) → is_some o ≡ false → o ≡ None
+none-there None h = refl
+none-there (Some x) h = absurd (false≢true (sym h))
+
 pub can-hold : (es : List Equality) → can_hold es ≡ true → (v : Valuation) × (w : Valuation) × (equalities_hold v w es ≡ true)
 can-hold es h =
-    let s = solved [] es refl h in
-    let v = first_after s.0 in
-    let w = second_after s.0 in (
-      v,
-      w,
-      in-list_all (equality_holds v w) es (λ e there. (Decides-int_eq _ _).1
-          (value-after s.0 s.1.free_left e.left ∙ ap (term_value zeros zeros) (s.1.alike e there) ∙ sym (value-after s.0 s.1.free_left e.right))),
-    )
+    let found = some-there (steps_after [] es) h in
+    (first_by found.0, second_by found.0, (solved-by es found.0 found.1).hold)
 
 pub cannot-hold : (es : List Equality) → can_hold es ≡ false → (v w : Valuation) → equalities_hold v w es ≡ true → ⊥
-cannot-hold es h v w holds = never-hold v w [] es h (λ t. refl) holds
+cannot-hold es h = none-never es (none-there (steps_after [] es) h)
 
 -- an equality with the same terms holds for the same values
 same-holds : (v w : Valuation) (e f : Equality) → same_equality e f ≡ true → equality_holds v w e ≡ equality_holds v w f

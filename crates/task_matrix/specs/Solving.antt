@@ -1,5 +1,5 @@
 -- Whether equalities can hold together, by one term in the place of another.
-use Rattle.std.specs.Prelude.{Bool, true, false, not, ◌&&◌, ◌||◌, List, [], ◌∷◌, ◌++◌, if◌then◌else◌}
+use Rattle.std.specs.Prelude.{Bool, true, false, ◌&&◌, ◌||◌, List, [], ◌∷◌, ◌++◌, Option, None, Some, is_some, if◌then◌else◌}
 use Rattle.std.specs.List.{list_any}
 use Rattle.task_matrix.specs.declared.equality.Term.{Term}
 use Rattle.task_matrix.specs.declared.equality.Term.TheVariants.{Literal, First, Second}
@@ -22,21 +22,21 @@ is_literal (Literal i) = true
 is_literal (First k) = false
 is_literal (Second k) = false
 
--- with what the steps made of the terms, all of the equalities can hold together
-abbrev pub can_hold_after : List Equality → List Equality → Bool
-can_hold_after steps [] = true
-can_hold_after steps (e ∷ es) =
+-- the steps, and those after them that solve the equalities, if these can hold together
+abbrev pub steps_after : List Equality → List Equality → Option (List Equality)
+steps_after steps [] = Some steps
+steps_after steps (e ∷ es) =
     let left = after_steps steps e.left in
     let right = after_steps steps e.right in
     if same_term left right
-    then can_hold_after steps es
+    then steps_after steps es
     else if is_literal left
-    then not (is_literal right) && can_hold_after (steps ++ equal_terms right left ∷ []) es
-    else can_hold_after (steps ++ equal_terms left right ∷ []) es
+    then (if is_literal right then None else steps_after (steps ++ equal_terms right left ∷ []) es)
+    else steps_after (steps ++ equal_terms left right ∷ []) es
 
 -- all of the equalities can hold together
 abbrev pub can_hold : List Equality → Bool
-can_hold es = can_hold_after [] es
+can_hold es = is_some (steps_after [] es)
 
 -- the equalities have the same terms, in one order
 abbrev pub same_equality : Equality → Equality → Bool

@@ -11,3 +11,5 @@ mod solve;
 
 pub use equality::{Equalities, Equality, Term};
 pub use meeting::{Meeting, Meetings, meetings_between};
+pub use path_meeting::elem_equality;
+pub use solve::{solution, solved_value};

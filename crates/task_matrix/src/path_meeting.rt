@@ -28,8 +28,8 @@ fn never() -> Equality
     }
 }
 
-/// When the elements stand for a common one.
-fn elem_equality(first: Elem, second: Elem) -> Equality
+/// When the elements stand for a common one. The second declaration has the variables of the second element.
+pub fn elem_equality(first: Elem, second: Elem) -> Equality
     ensures { result ≡ elem_equality first second }
 {
     match (first, second) {

@@ -1,7 +1,8 @@
 //! Whether equalities can hold together, by one term in the place of another.
-ghost use Rattle.std.specs.Prelude.{◌≡◌, IfOk};
+ghost use Rattle.std.specs.Prelude.{◌≡◌, [], IfNone, IfOk, IfSome};
 ghost use Rattle.std.specs.List.{list_any};
-ghost use Rattle.task_matrix.specs.Solving.{after_steps, can_hold, is_literal, replaced, same_equality, says_nothing_new, telling};
+ghost use Rattle.task_matrix.specs.Solving.{after_steps, can_hold, is_literal, replaced, same_equality, says_nothing_new, steps_after, telling};
+ghost use Rattle.task_matrix.specs.Solutions.{AreSolvedBy, NeverHold, solved_value};
 
 use crate::equality::{Equalities, Equality, Term, is_same_term};
 use std::alloc::Global;
@@ -40,9 +41,9 @@ fn is_literal(term: Term) -> bool
     }
 }
 
-/// Whether all of the equalities can hold together.
-pub(crate) fn can_hold(alloc: Global, equalities: &[Equality]) -> Result<bool, Memory>
-    ensures { IfOk result (λ answer. answer ≡ can_hold equalities.now) }
+/// The steps that solve the equalities, if these can hold together. There are at most as many as there are equalities.
+fn steps_for(alloc: Global, equalities: &[Equality]) -> Result<Option<Equalities>, Memory>
+    ensures { IfOk result (λ found. found ≡ steps_after [] equalities.now) }
 {
     let mut steps = Equalities::new(alloc);
     for equality in equalities {
@@ -54,7 +55,7 @@ pub(crate) fn can_hold(alloc: Global, equalities: &[Equality]) -> Result<bool, M
         if !is_literal(left) {
             steps.push(Equality { left, right })?;
         } else if is_literal(right) {
-            return Ok(false);
+            return Ok(None);
         } else {
             steps.push(Equality {
                 left: right,
@@ -62,7 +63,35 @@ pub(crate) fn can_hold(alloc: Global, equalities: &[Equality]) -> Result<bool, M
             })?;
         }
     }
-    Ok(true)
+    Ok(Some(steps))
+}
+
+/// Whether all of the equalities can hold together.
+pub(crate) fn can_hold(alloc: Global, equalities: &[Equality]) -> Result<bool, Memory>
+    ensures { IfOk result (λ answer. answer ≡ can_hold equalities.now) }
+{
+    let steps = steps_for(alloc, equalities)?;
+    Ok(steps.is_some())
+}
+
+/// Steps that solve the equalities: for the values that they give all of these hold. If the equalities hold for no values,
+/// there are none.
+pub fn solution(alloc: Global, equalities: &[Equality]) -> Result<Option<Equalities>, Memory>
+    ensures found { IfOk result (λ found. IfSome found (AreSolvedBy equalities.now)) }
+    ensures none { IfOk result (λ found. IfNone found (NeverHold equalities.now)) }
+{
+    steps_for(alloc, equalities)
+}
+
+/// The value that the steps give a term: a parameter that they leave open is 0.
+pub fn solved_value(steps: &[Equality], term: Term) -> i32
+    ensures { result ≡ solved_value steps.now term }
+{
+    match after_steps(steps, term) {
+        Term::Literal(value) => value,
+        Term::First(_) => 0,
+        Term::Second(_) => 0,
+    }
 }
 
 /// Whether the equalities have the same terms, in one order.

@@ -8,6 +8,7 @@ use Rattle.twe_io.specs.Answers.{on_out}
 use Rattle.place_notes.specs.declared.note.Explanation.{Explanation}
 use Rattle.refusal_notes.specs.declared.mends.Mend.{Mend}
 use Rattle.refusal_notes.specs.Answers.{ExplainDue, caused_explanation, mends_of}
+use Rattle.refusal_notes.specs.Meetings.{IsMeetingTold}
 use Rattle.refusal_notes.specs.Mends.{AreTried, mends_for}
 use Rattle.refusal_notes.specs.Explanation.{explanation_by}
 use Rattle.explain_pages.specs.Page.{refused_text}
@@ -15,7 +16,7 @@ use Rattle.name_notes.specs.Variables.{variables_at}
 use Rattle.refusal_notes.specs.Explanation.{place_of_cause}
 use Rattle.refusal_notes.proofs.answering.answer_caused.Goals as goal
 
--- what is said of the refusal and its cause, and of the edits that mend it
+-- what is said of the refusal and its cause, of where its effects meet, and of the edits that mend it
 pub returns : goal.returns
 returns c =
     let wanted = c.args.wanted.now in
@@ -24,6 +25,7 @@ returns c =
     let cause = c.args.cause.now in
     let tree = c.args.tree.now in
     let p = c.args.p.now in
+    let told = c.tell_meeting.new.remarks in
     let remarks = c.try_mends.new.remarks in
     let variables = variables_at tree.items (place_of_cause cause) in
     let items : c.as_slice.result.now ≡ tree.items = c.as_slice.ensures in
@@ -40,10 +42,11 @@ returns c =
     c.as_slice-4.ensures ∙ c.in_ok-mends.ensures
     ∙ ap (λ (xs : List (List ℕ)). mends_for text refusal.place cause xs c.as_slice-2.result.now) regions
     ∙ ap (λ (xs : List written.Name). mends_for text refusal.place cause p.regions xs) (c.as_slice-2.ensures ∙ names) in
-    let tried : AreTried (mends_of text refusal cause tree p) (caused_explanation refusal cause tree p).remarks remarks =
-    subst (λ (e : Explanation). AreTried (mends_of text refusal cause tree p) e.remarks remarks) is
-    (subst (λ (ms : List Mend). AreTried ms c.in_ok-explanation.explanation.remarks remarks) mends c.in_ok-try_mends.ensures) in
+    let before : IsMeetingTold p cause (caused_explanation refusal cause tree p).remarks told =
+    subst (λ (e : Explanation). IsMeetingTold p cause e.remarks told) is c.in_ok-tell_meeting.ensures in
+    let tried : AreTried (mends_of text refusal cause tree p) told remarks =
+    subst (λ (ms : List Mend). AreTried ms told remarks) mends c.in_ok-try_mends.ensures in
     subst (ExplainDue wanted text)
     (sym (c.on_out.ensures ∙ ap (on_out Refused) (c.in_ok-lines.ensures
     ∙ ap (λ (e : Explanation). refused_text wanted text refusal (record e { remarks = remarks })) is)))
-    (ExplainDue.caused refusal cause tree p remarks c.requires tried)
+    (ExplainDue.caused refusal cause tree p told remarks c.requires before tried)

@@ -1,0 +1,81 @@
+-- What is said of where two effects meet.
+use Rattle.std.specs.Prelude.{◌≡◌, ℕ, Bool, List, [], ◌∷◌, ◌++◌, Option, None, Some, codes, slice_get, if◌then◌else◌}
+use Rattle.std.specs.Fmt.{signed_decimal}
+use Rattle.std.specs.List.{All, flat_map}
+use Rattle.twe_base.specs.declared.place.Place.{Place}
+use Rattle.region_paths.specs.declared.elements.Elem.{Elem}
+use Rattle.region_paths.specs.declared.elements.Elem.TheVariants.{Name, Index, Var, AnyIndex}
+use Rattle.effect_sets.specs.declared.effects.Effect.{Effect}
+use Rattle.twe_program.specs.declared.program.CellDecl.{CellDecl}
+use Rattle.twe_program.specs.declared.program.Decl.{Decl}
+use Rattle.twe_program.specs.Program.{Program}
+use Rattle.effect_meeting.specs.declared.cells.CellMet.{CellMet}
+use Rattle.effect_meeting.specs.Meeting.{AreWhereMet, NeverMeet}
+use Rattle.effect_meeting.specs.Cells.{IsFirstMet, IsNeverMet}
+use Rattle.text_meaning.specs.PathTexts.{in_brackets, path_text}
+use Rattle.name_notes.specs.Variables.{is_same_place}
+use Rattle.refusal_causes.specs.declared.cause.RuleCause.{RuleCause}
+use Rattle.refusal_causes.specs.declared.cause.RuleCause.TheVariants.{Undeclared, Out, NotOut, OutAgain, OrderOpen, NotDeterministic}
+
+-- how many parameters the first of the declarations has whose name is at the place
+abbrev pub params_at : List Decl → Place → ℕ
+params_at [] place = 0
+params_at (decl ∷ decls) place = if is_same_place decl.place place then decl.params else params_at decls place
+
+-- which of both effects writes: the one that is needed, that of the spawned task, or both
+abbrev pub writers_text : Bool → Bool → List ℕ
+writers_text need other =
+    if need then (if other then codes ", and both write it" else codes ", and what is needed here writes it")
+    else codes ", and the spawned task writes it"
+
+-- an index of a cell in brackets
+abbrev pub cell_index_text : Elem → List ℕ
+cell_index_text (Name n) = []
+cell_index_text (Index i) = in_brackets (signed_decimal i)
+cell_index_text (Var k) = []
+cell_index_text AnyIndex = []
+
+-- the name of a declaration of cells, if there is one
+abbrev pub declared_name : Option CellDecl → List ℕ
+declared_name None = []
+declared_name (Some decl) = decl.name
+
+-- `x`, `d[3]` or `g[1][2]`
+abbrev pub cell_met_text : List CellDecl → CellMet → List ℕ
+cell_met_text cells met = declared_name (slice_get cells met.decl) ++ flat_map cell_index_text met.indexes
+
+-- both may touch this, and who writes it
+abbrev pub touch_text : List ℕ → Effect → Effect → List ℕ
+touch_text what need other = codes "both may touch " ++ (what ++ writers_text need.write other.write)
+
+-- a path between accents
+abbrev pub quoted_path : List (List ℕ) → List Elem → List ℕ
+quoted_path regions elems = codes "`" ++ (path_text regions [] elems ++ codes "`")
+
+-- the effects meet nowhere
+abbrev pub nowhere_text : List ℕ
+nowhere_text = codes "no place is in both: the rule compares paths index by index"
+
+-- What is said of where two effects meet, whose first variables, as many as are shared, are the parameters of the task.
+pub data MeetingDue (regions : List (List ℕ)) (cells : List CellDecl) (shared : ℕ) (need other : Effect) : List ℕ → Type 0 where
+  -- they meet at a cell, and it is of the first declaration that has such a cell
+  at_cell : (met : CellMet) → IsFirstMet shared need.path other.path cells met
+      → MeetingDue regions cells shared need other (touch_text (cell_met_text cells met) need other)
+  -- they meet at a path, and at no cell
+  at_path : (elems : List Elem) → AreWhereMet shared need.path other.path elems
+      → All (IsNeverMet shared need.path other.path) cells
+      → MeetingDue regions cells shared need other (touch_text (quoted_path regions elems) need other)
+  -- they meet nowhere
+  nowhere : NeverMeet shared need.path other.path
+      → MeetingDue regions cells shared need other nowhere_text
+
+-- after these remarks comes what is said of where the effects of a cause meet, if it has two
+abbrev pub IsMeetingTold : Program → RuleCause → List (List ℕ) → List (List ℕ) → Type 0
+IsMeetingTold p (Undeclared need declared decl_place) old new = new ≡ old
+IsMeetingTold p (Out need other future_place decl_place) old new =
+    (remark : List ℕ) × (new ≡ old ++ remark ∷ [])
+    × MeetingDue p.regions p.cells (params_at p.tasks decl_place) need other remark
+IsMeetingTold p (NotOut future_place) old new = new ≡ old
+IsMeetingTold p OutAgain old new = new ≡ old
+IsMeetingTold p (OrderOpen makes decl_place) old new = new ≡ old
+IsMeetingTold p (NotDeterministic decl_place) old new = new ≡ old
