@@ -7,7 +7,7 @@ use twe_base::Ints;
 
 /// The values of the cells, with the cells that were read and those that were written.
 #[derive(Debug, Drop)]
-pub(crate) struct Watched {
+pub struct Watched {
     /// The values.
     pub values: Ints,
     /// The cells that were read.
