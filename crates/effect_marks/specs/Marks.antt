@@ -1,5 +1,5 @@
 -- Which marks a list of effects leaves, and which it sees.
-use Rattle.std.specs.Prelude.{ℕ, List, ◌∷◌, ◌⊎◌, map}
+use Rattle.std.specs.Prelude.{◌≡◌, ℕ, List, ◌∷◌, ◌⊎◌, length, map}
 use Rattle.std.specs.List.{AllZip, Contains, flat_map}
 use Rattle.effect_marks.specs.Rivals.{AreFilled, AreNumbersOf, AreRivals, EffectList}
 use Rattle.effect_marks.specs.Tables.{IsListed, numbers_in}
@@ -27,10 +27,12 @@ seen_by marks list = flat_map (seen_marks marks) (numbers_in marks.lists list)
 abbrev pub SharesMark : EffectMarks → ℕ → ℕ → Type 0
 SharesMark marks a b = (mark : EffectMark) × Contains (left_by marks a) mark × Contains (seen_by marks b) mark
 
--- The marks are for these lists of effects. Distinct effects are numbered, and of two that interfere one is a rival of the other.
+-- The marks are for these lists of effects. Distinct effects are numbered, each has its rivals, and of two that interfere one is a
+-- rival of the other.
 pub record AreMarksOf (lists : List EffectList) (marks : EffectMarks) : Type 0 where
   pub effects : EffectList
   pub filled : AreFilled effects
   pub lists_are : AllZip (AreNumbersOf effects) marks.lists lists
+  pub as_many : length marks.rivals ≡ length effects
   pub sound : (a b : ℕ) → IsListed marks.rivals a b → AreRivals effects a b
   pub complete : (a b : ℕ) → AreRivals effects a b → IsListed marks.rivals a b ⊎ IsListed marks.rivals b a

@@ -163,6 +163,7 @@ impl Placed {
     /// For each effect those that interfere with it, among the ones that are placed where it is or above.
     pub(crate) fn all_rivals(&self, alloc: Global) -> Result<List<List<u32>>, Memory>
         requires { ArePlaced self.now }
+        ensures as_many { IfOk result (λ rivals. length rivals ≡ length self.now.effects) }
         ensures sound { IfOk result (λ rivals. (a b : ℕ) → IsListed rivals a b → AreRivals self.now.effects a b) }
         ensures complete { IfOk result (λ rivals. (a b : ℕ) → AreRivals self.now.effects a b
             → IsListed rivals a b ⊎ IsListed rivals b a) }

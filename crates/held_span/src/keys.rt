@@ -1,4 +1,3 @@
-// Missing: a check of these contracts and of `proofs/keys`; nothing else is to be written.
 //! The keys of marks. Tasks and effects are numbered together, the effects after the tasks.
 ghost use Rattle.std.specs.Prelude.{◌≡◌, ◌<◌, ◌+◌, ◌^◌, ◌++◌, length, map, All, OnOk};
 ghost use Rattle.held_span.specs.inner.Keys.{effect_of, mark_key};

@@ -11,6 +11,7 @@ pub mod Numbers
 pub mod OneProfile
 pub mod PathReasons
 pub mod Ran
+pub mod Recording
 pub mod Tracking
 pub mod TrailSteps
 pub mod Watching

@@ -8,6 +8,7 @@ returns c = λ lists h. record {
   effects = c.args.self.placed.effects;
   filled = h.placed.filled;
   lists_are = h.lists_are;
+  as_many = c.in_ok-rivals.ensures.as_many;
   sound = c.in_ok-rivals.ensures.sound;
   complete = c.in_ok-rivals.ensures.complete;
 }

@@ -24,6 +24,9 @@ loop-effect-preserved c =
     (at-index placed c.requires effects c.as_slice-effect-items.ensures c.as_slice.result.now c.as_slice.ensures index c.len.result c.loop-effect-test.true
     (c.len.ensures ∙ c.loop-effect.invariant.many)) c.in_ok-rivals_from.ensures
 
+pub returns-clause-as_many : goal.returns-clause-as_many
+returns-clause-as_many c = let all = ap length c.as_slice-effect-items.ensures in omega (arith, all, c.loop-effect.invariant.many)
+
 pub returns-clause-sound : goal.returns-clause-sound
 returns-clause-sound c =
     let placed = c.args.self.now in
