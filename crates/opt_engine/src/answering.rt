@@ -32,10 +32,10 @@ pub(crate) fn answer(
     requires run { IsRun p.now lim run.journal run.state }
     requires listing { IsListing run.state enabled.old }
     requires drafted { IsDraftedOf p.now d }
-    ensures run { IfOk result (λ told. IsRun p.now lim told.0.journal told.0.state) }
-    ensures listing { IfOk result (λ told. IsListing told.0.state enabled.new) }
-    ensures judges { IfOk result (λ told. Judges p.now lim run d told.1 (Some told.0)) }
-    ensures begins { IfOk result (λ told. IsPrefix run.journal told.0.journal) }
+    ensures run { IfOk result (λ answer. IsRun p.now lim answer.0.journal answer.0.state) }
+    ensures listing { IfOk result (λ answer. IsListing answer.0.state enabled.new) }
+    ensures judges { IfOk result (λ answer. Judges p.now lim run d answer.1 (Some answer.0)) }
+    ensures begins { IfOk result (λ answer. IsPrefix run.journal answer.0.journal) }
 {
     match judge(alloc, p, &run.state, enabled, &d)? {
         Finding::Fits => {

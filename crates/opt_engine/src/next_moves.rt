@@ -31,10 +31,10 @@ pub(crate) fn go_next(
 ) -> Result<(CoreRun, Option<u64>), Memory>
     requires run { IsRun p.now lim run.journal run.state }
     requires listing { IsListing run.state enabled.old }
-    ensures run { IfOk result (λ told. IsRun p.now lim told.0.journal told.0.state) }
-    ensures listing { IfOk result (λ told. IsListing told.0.state enabled.new) }
-    ensures goes { IfOk result (λ told. GoesNext p.now lim run t told.1 (Some told.0)) }
-    ensures begins { IfOk result (λ told. IsPrefix run.journal told.0.journal) }
+    ensures run { IfOk result (λ answer. IsRun p.now lim answer.0.journal answer.0.state) }
+    ensures listing { IfOk result (λ answer. IsListing answer.0.state enabled.new) }
+    ensures goes { IfOk result (λ answer. GoesNext p.now lim run t answer.1 (Some answer.0)) }
+    ensures begins { IfOk result (λ answer. IsPrefix run.journal answer.0.journal) }
 {
     if !may_take_next(p, &run.state, enabled, t) {
         return Ok((run, None));

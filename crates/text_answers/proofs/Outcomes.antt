@@ -16,12 +16,12 @@ use Rattle.twe_report.specs.Texts.{stuck_text}
 use Rattle.twe_io.specs.declared.answer.Answer.{Answer}
 use Rattle.twe_io.specs.declared.status.Status.TheVariants as statuses
 use Rattle.text_answers.specs.Answers.{AnswersRun, after_prints}
-use Rattle.text_answers.specs.Theorem.{EachAsOften, HasJournal}
+use Rattle.text_answers.specs.Theorem.{EachOnceIfDone, HasJournal}
 use Rattle.text_answers.specs.declared.book.Book.{Book}
 use Rattle.twe_base.specs.Limits.{Bounds}
 
 -- everything happened as often as it should
-pub often : (st : State) (journal : List Entry) (outcome : Outcome) → IsOutcome st outcome → (IsOutcome st AllDone → EachOnce journal st) → EachAtMostOnce journal → EachAsOften outcome journal st
+pub often : (st : State) (journal : List Entry) (outcome : Outcome) → IsOutcome st outcome → (IsOutcome st AllDone → EachOnce journal st) → EachAtMostOnce journal → EachOnceIfDone outcome journal st
 often st journal AllDone is once most = once is
 often st journal (Fault task kind place) is once most = most
 often st journal Stuck is once most = most
@@ -43,8 +43,8 @@ has_journal p lim journal st outcome run is once most isolated covered results o
   legal = subst (Legal p lim) (sym entries) run.legal;
   told = told;
   ended = subst (λ (es : List Entry). IsOutcome (state_after p lim es) outcome) (sym entries) (subst (λ (s : State). IsOutcome s outcome) run.same is);
-  often = subst (λ (es : List Entry). EachAsOften outcome es (state_after p lim es)) (sym entries)
-      (subst (λ (s : State). EachAsOften outcome journal s) run.same (often st journal outcome is once most));
+  often = subst (λ (es : List Entry). EachOnceIfDone outcome es (state_after p lim es)) (sym entries)
+      (subst (λ (s : State). EachOnceIfDone outcome journal s) run.same (often st journal outcome is once most));
   isolated = subst (AlwaysIsolated p lim) (sym entries) isolated;
   covered = subst (AlwaysCovered p lim) (sym entries) covered;
   deterministic = subst (DeterministicTasksHaveResults p lim) (sym entries) results;

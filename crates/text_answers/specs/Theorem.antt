@@ -17,9 +17,9 @@ use Rattle.determinism_laws.specs.results.Results.{DeterministicTasksHaveResults
 use Rattle.text_answers.specs.declared.book.Book.{Book}
 
 -- each task was made, enabled and ended exactly once if all tasks are done, and else at most once
-abbrev pub EachAsOften : Outcome → List Entry → State → Type 0
-EachAsOften AllDone journal st = EachOnce journal st
-EachAsOften _ journal st = EachAtMostOnce journal
+abbrev pub EachOnceIfDone : Outcome → List Entry → State → Type 0
+EachOnceIfDone AllDone journal st = EachOnce journal st
+EachOnceIfDone _ journal st = EachAtMostOnce journal
 
 -- The book has the program, a legal journal and its outcome: the sequential machine allows each entry of the journal after
 -- those before it. If all tasks are done, each was made, enabled and ended exactly once, and else at most once. At every
@@ -34,7 +34,7 @@ pub record HasJournal (p : Program) (lim : Bounds) (outcome : Outcome) (book : B
   pub legal : Legal p lim book.journal
   pub told : book.outcome ≡ Some outcome
   pub ended : IsOutcome (state_after p lim book.journal) outcome
-  pub often : EachAsOften outcome book.journal (state_after p lim book.journal)
+  pub often : EachOnceIfDone outcome book.journal (state_after p lim book.journal)
   pub isolated : AlwaysIsolated p lim book.journal
   pub covered : AlwaysCovered p lim book.journal
   pub deterministic : DeterministicTasksHaveResults p lim book.journal

@@ -20,7 +20,8 @@ use Rattle.floor_table.specs.declared.nodes.slot.TreeSlot.TheVariants as kinds
 use Rattle.floor_table.specs.declared.nodes.view.TreeView.{TreeView}
 use Rattle.floor_table.specs.nodes.Seats.{MayLock, activity_for, effect_known, enters, errand_of, purpose_for, turns_seen}
 use Rattle.tree_admit.specs.Going.{IsOutside}
-use Rattle.tree_admit.specs.Errands.{KnowsErrand, MaySetOutFor, come_to, errand_at}
+use Rattle.floor_table.specs.nodes.Seats.{stage_at}
+use Rattle.tree_admit.specs.Errands.{KnowsErrand, MaySetOutFor, errand_at}
 
 -- Coming to a node.
 
@@ -32,13 +33,13 @@ choose_false : (b : Bool) (x y : Stage) → b ≢ true → (if b then x else y) 
 choose_false true x y h = absurd (h refl)
 choose_false false x y h = refl
 
-pub come_there : (place n : ℕ) → n ≡ place → come_to place n ≡ Walks (n ∷ []) []
+pub come_there : (place n : ℕ) → n ≡ place → stage_at place n ≡ Walks (n ∷ []) []
 come_there place n same = choose_true (place == n) (Walks (n ∷ []) []) (Descends n) ((Decides-eqb place n).1 (sym same))
 
-pub come_above : (place n : ℕ) → n ≢ place → come_to place n ≡ Descends n
+pub come_above : (place n : ℕ) → n ≢ place → stage_at place n ≡ Descends n
 come_above place n other = choose_false (place == n) (Walks (n ∷ []) []) (Descends n) (λ same. other (sym ((Decides-eqb place n).0 same)))
 
-pub has_come : (place n : ℕ) → HasCome place n (come_to place n)
+pub has_come : (place n : ℕ) → HasCome place n (stage_at place n)
 has_come place n = ⊎_elim (λ (at : n ≡ place). inr (at, come_there place n at)) (λ (above : n ≢ place). inl (above, come_above place n above)) (cases_eq n place)
 
 -- Errands.

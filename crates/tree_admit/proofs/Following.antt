@@ -14,7 +14,7 @@ use Rattle.floor_table.specs.declared.nodes.view.Look.TheVariants.{AtPhase}
 use Rattle.floor_table.specs.nodes.Looks.{looked_seat}
 use Rattle.floor_table.specs.nodes.Follows.{FollowedPhase, Learns, done_view, led_on, waits_view}
 use Rattle.floor_table.specs.nodes.Seats.{TreeSeat}
-use Rattle.tree_admit.specs.Bars.{IsLedTo}
+use Rattle.floor_rule.specs.nodes.FactSteps.{IsKnownToWait}
 use Rattle.tree_admit.specs.Going.{HasOnlyFollowed}
 use Rattle.tree_admit.proofs.Learning.{learned_refl, learned_trans}
 
@@ -113,7 +113,7 @@ follows_only lim before u phase after found =
     followed_trans before (looked_seat before look) after (look_followed before look) (learns_only (phase_of_word (word_of_phase phase)) (looked_seat before look) u after found.3)
 
 -- whoever was led to u is led on to the task for which u waits
-pub led_further : (lim : Bounds) (before : TreeSeat) (s u t : ℕ) (after : TreeSeat) → IsLedTo before.0 s u → FollowedPhase lim before u (word_of_phase (Waits t)) after
+pub led_further : (lim : Bounds) (before : TreeSeat) (s u t : ℕ) (after : TreeSeat) → IsKnownToWait before.0.waits s u → FollowedPhase lim before u (word_of_phase (Waits t)) after
     → IsAmong (record { waiter = s; awaited = t }) after.0.waits
 led_further lim before s u t after led found =
     subst (λ (me : TreeSeat). IsAmong (record { waiter = s; awaited = t }) me.0.waits) (sym found.3)

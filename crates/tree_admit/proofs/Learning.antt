@@ -15,7 +15,8 @@ use Rattle.floor_table.specs.declared.view.SeatKind.TheVariants.{Spent}
 use Rattle.effect_sets.specs.declared.effects.Effect.{Effect}
 use Rattle.floor_rule.specs.nodes.LockSteps.{IsKnownToPass, apart, own, waiting}
 use Rattle.tree_admit.specs.declared.bars.Bar.{Bar}
-use Rattle.tree_admit.specs.Bars.{IsBarIn, IsBarOf, IsLedTo, WasBarred}
+use Rattle.floor_rule.specs.nodes.FactSteps.{IsKnownToWait}
+use Rattle.tree_admit.specs.Bars.{IsBarIn, IsBarOf, WasBarred}
 use Rattle.tree_admit.specs.Going.{HasOnlyLearned}
 use Rattle.tree_admit.specs.inner.Served.{HasOnlyServed}
 use Rattle.tree_admit.proofs.Alone.{in_the_way_since}
@@ -43,7 +44,7 @@ live_kept v w h live = subst (λ (k : SeatKind). k ≢ Spent) (sym (ap (λ (f : 
 pub worker_kept : (v w : TreeView) → HasOnlyLearned v w → w.floor.worker ≡ v.floor.worker
 worker_kept v w h = ap (λ (f : View). f.worker) h.floor
 
-pub led_kept : (v w : TreeView) (s u : ℕ) → HasOnlyLearned v w → IsLedTo v s u → IsLedTo w s u
+pub led_kept : (v w : TreeView) (s u : ℕ) → HasOnlyLearned v w → IsKnownToWait v.waits s u → IsKnownToWait w.waits s u
 led_kept v w s u h led = ⊎_elim (λ same. inl same) (λ known. inr (h.waits (record { waiter = s; awaited = u }) known)) led
 
 pub pass_kept : (v w : TreeView) (t : ℕ) (e : Effect) (r : Record) → HasOnlyLearned v w → IsKnownToPass v.waits t e r → IsKnownToPass w.waits t e r

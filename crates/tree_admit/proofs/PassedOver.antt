@@ -14,7 +14,7 @@ use Rattle.floor_table.specs.declared.nodes.view.TreeView.{TreeView}
 use Rattle.floor_table.specs.nodes.Follows.{FollowedPhase}
 use Rattle.floor_table.specs.nodes.Seats.{TreeSeat}
 use Rattle.tree_admit.proofs.ways.ApartLemmas.{apart_effects}
-use Rattle.tree_admit.specs.Bars.{IsLedTo}
+use Rattle.floor_rule.specs.nodes.FactSteps.{IsKnownToWait}
 use Rattle.tree_admit.specs.Going.{HasOnlyLearned}
 use Rattle.tree_admit.specs.Passing.{EachBetween, EaseOrWaits, OwnOrWaits, is_at_ease, is_own_or_meets, is_passed_over}
 use Rattle.tree_admit.proofs.Between.{both_between}
@@ -65,7 +65,7 @@ meets_waits waits t e r meets (inl ease) = inl (eqb-true r.task t (both (r.task 
 
 -- The record is at ease for effect e of task t, or its task leads to task u.
 abbrev pub PassesOrLeads : TreeView → ℕ → Effect → ℕ → Record → Type 0
-PassesOrLeads v t e u r = EaseOrWaits v.waits t e r ⊎ IsLedTo v r.task u
+PassesOrLeads v t e u r = EaseOrWaits v.waits t e r ⊎ IsKnownToWait v.waits r.task u
 
 over_leads : (v : TreeView) (t : ℕ) (e : Effect) (u : ℕ) (r : Record) → is_passed_over t e u r ≡ true → PassesOrLeads v t e u r
 over_leads v t e u r is =
@@ -80,7 +80,7 @@ leads_on lim before u w after t e r found passed =
     (λ (seen : EaseOrWaits before.0.waits t e r).
     let only = follows_only lim before u (Waits w) after found in
     inl (seen_kept before.0 after.0 t e r only.learned seen))
-    (λ (led : IsLedTo before.0 r.task u). inr (inr (led_further lim before r.task u w after led found))) passed
+    (λ (led : IsKnownToWait before.0.waits r.task u). inr (inr (led_further lim before r.task u w after led found))) passed
 
 -- One step of the walk, from task u to task w: more records are passed over, and all tasks that led to u lead on to w.
 pub walked_on : (lim : Bounds) (before : TreeSeat) (u w : ℕ) (after : TreeSeat) (t : ℕ) (e : Effect) (content : List Record) (k m n : ℕ)

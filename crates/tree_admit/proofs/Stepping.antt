@@ -18,7 +18,7 @@ use Rattle.task_floor.specs.Contents.{HasBehind, HasInHand}
 use Rattle.tree_admit.specs.declared.bars.Bar.{Bar}
 use Rattle.tree_admit.specs.Bars.{IsBarIn, WasBarred}
 use Rattle.tree_admit.specs.Going.{HasLocked, HasNode, HasOnlyLearned}
-use Rattle.tree_admit.specs.Errands.{come_to}
+use Rattle.floor_table.specs.nodes.Seats.{stage_at}
 use Rattle.tree_admit.specs.Descents.{MayStepDown}
 use Rattle.tree_admit.proofs.Alone.{learned_served}
 use Rattle.tree_admit.proofs.Contents.{content_added}
@@ -32,14 +32,14 @@ module _ (nodes : List (List Elem)) (lim : Bounds) (earlier : TreeView) (rest : 
   first = record a { stage = Steps n c }
 
   abbrev pub next : Activity
-  next = record a { stage = come_to a.place c }
+  next = record a { stage = stage_at a.place c }
 
   pub step_may : MayLock nodes me.0 core.none c first
   step_may = may_go_down lim earlier rest a n content me step.has nodes c step.stage step.child step.way step.pass
 
   module _ (below : List Record) (after : TreeSeat) (locked : HasLocked lim me c first below after) where
     pub step_leaves : MayGoOn nodes after.0 n next
-    step_leaves = may_leave_parent lim earlier rest a n content me step.has nodes c (come_to a.place c) below after locked (has_come a.place c)
+    step_leaves = may_leave_parent lim earlier rest a n content me step.has nodes c (stage_at a.place c) below after locked (has_come a.place c)
 
     pub step_behind : HasBehind lim after n content (content_place lim c, kinds.Task None) rest
     step_behind = record {

@@ -1,19 +1,16 @@
 -- What is in the way of an admission.
-use Rattle.std.specs.Prelude.{◌≡◌, ◌≢◌, ◌⊎◌, ◌<◌, ℕ, IsTrue, List, Some}
+use Rattle.std.specs.Prelude.{◌≡◌, ◌≢◌, ◌<◌, ℕ, IsTrue, List, Some}
 use Rattle.effect_sets.specs.declared.effects.Effect.{Effect}
 use Rattle.effect_sets.specs.Interference.{statically_interferes}
 use Rattle.twe_base.specs.Limits.{Bounds}
 use Rattle.twe_program.specs.Program.{Program}
 use Rattle.admission_laws.specs.admission_core.States.{IsAmong, Record}
+use Rattle.floor_rule.specs.nodes.FactSteps.{IsKnownToWait}
 use Rattle.floor_table.specs.Added.{IsAdded}
 use Rattle.floor_table.specs.declared.nodes.view.TreeView.{TreeView}
 use Rattle.floor_table.specs.nodes.Chains.{HasFollowedTo}
 use Rattle.tree_admit.specs.declared.bars.Bar.{Bar}
 use Rattle.tree_admit.specs.Alone.{IsInTheWayIfAlone}
-
--- task s is u, or is known to wait for it
-abbrev pub IsLedTo : TreeView → ℕ → ℕ → Type 0
-IsLedTo v s u = (s ≡ u) ⊎ IsAmong (record { waiter = s; awaited = u }) v.waits
 
 -- The record is of another task than t and may interfere with effect e. Its task is the one that the bar names, and is known to
 -- wait for the one at which the bar ends, if that is another. That one is not t: since the seat had the first view, it has looked
@@ -24,7 +21,7 @@ pub record IsBarOf (p : Program) (lim : Bounds) (since v : TreeView) (t : ℕ) (
   pub other : r.task ≢ t
   pub meets : IsTrue (statically_interferes r.effect e)
   pub task : bar.by ≡ r.task
-  pub leads : IsLedTo v bar.by bar.end
+  pub leads : IsKnownToWait v.waits bar.by bar.end
   pub elsewhere : bar.end ≢ t
   pub followed : bar.by < lim.tasks → HasFollowedTo since.looks v.looks bar.by bar.end
   pub alone : bar.by < lim.tasks → IsInTheWayIfAlone p lim since.floor t r

@@ -1,11 +1,11 @@
 -- What a worker goes down the tree for, and what it has to know.
-use Rattle.std.specs.Prelude.{◌≡◌, ◌==◌, ℕ, false, List, [], ◌∷◌, Some, if◌then◌else◌, slice_get}
+use Rattle.std.specs.Prelude.{◌≡◌, ℕ, false, List, ◌∷◌, Some, slice_get}
 use Rattle.region_paths.specs.declared.elements.Elem.{Elem}
 use Rattle.effect_sets.specs.declared.effects.Effect.{Effect}
 use Rattle.twe_machine.specs.declared.state.TaskStatus.TheVariants as status
 use Rattle.floor_rule.specs.declared.view.HeldTurn.{HeldTurn}
 use Rattle.floor_table.specs.FloorOf.{turn_in}
-use Rattle.admission_laws.specs.admission_core.States.{Activity, Descends, IsAmong, IsPlaceOf, Purpose, Record, Stage, Walks}
+use Rattle.admission_laws.specs.admission_core.States.{Activity, IsAmong, IsPlaceOf, Purpose, Record}
 use Rattle.floor_rule.specs.nodes.LockSteps.{PassesHere}
 use Rattle.floor_rule.specs.nodes.RecordSteps.{not_clear}
 use Rattle.floor_rule.specs.nodes.Trees.{WaitFact}
@@ -13,19 +13,15 @@ use Rattle.floor_table.specs.declared.nodes.slot.Errand.{Errand}
 use Rattle.floor_table.specs.declared.nodes.slot.ErrandKind.{ErrandKind}
 use Rattle.floor_table.specs.declared.nodes.slot.ErrandKind.TheVariants.{Admission, Placing, Removal}
 use Rattle.floor_table.specs.declared.nodes.view.TreeView.{TreeView}
-use Rattle.floor_table.specs.nodes.Seats.{purpose_for}
+use Rattle.floor_table.specs.nodes.Seats.{purpose_for, stage_at}
 use Rattle.floor_table.specs.nodes.Without.{without_record}
-
--- the stage of who holds node n alone on the way to a place, or at it
-abbrev pub come_to : ℕ → ℕ → Stage
-come_to place n = if place == n then Walks (n ∷ []) [] else Descends n
 
 -- what a worker does on this errand for this effect that has come to node n
 abbrev pub errand_at : Errand → Effect → ℕ → Activity
 errand_at errand e n = record {
   purpose = purpose_for errand.kind errand.task e;
   place = errand.place;
-  stage = come_to errand.place n;
+  stage = stage_at errand.place n;
 }
 
 -- the task of an errand is still to be admitted, if the errand is for that

@@ -4,7 +4,7 @@ ghost use Rattle.floor_table.specs.declared.view.SeatKind.TheVariants.{Spent};
 ghost use Rattle.admission_laws.specs.admission_core.States.{IsAmong};
 ghost use Rattle.floor_table.specs.nodes.Chains.{HasFollowedTo};
 ghost use Rattle.tree_admit.specs.Alone.{FollowedAlone};
-ghost use Rattle.tree_admit.specs.Bars.{IsLedTo};
+ghost use Rattle.floor_rule.specs.nodes.FactSteps.{IsKnownToWait};
 ghost use Rattle.tree_admit.specs.Going.{HasOnlyFollowed};
 ghost use Rattle.tree_admit.specs.Passing.{EachBetween, EaseOrWaits};
 
@@ -40,7 +40,7 @@ pub(crate) fn follow_past<N: Named + Planted>(
         × EachBetween (EaseOrWaits stand.new.me.0.waits to effect.now) content.now rest left) }
     ensures led { OnOk result ((s : ℕ) → IsAmong (record { waiter = s; awaited = from }) stand.old.me.0.waits
         → IsAmong (record { waiter = s; awaited = to }) stand.new.me.0.waits) }
-    ensures end { IfErr result (λ end. IsLedTo stand.new.me.0 from end × (end ≢ to)) }
+    ensures end { IfErr result (λ end. IsKnownToWait stand.new.me.0.waits from end × (end ≢ to)) }
     ensures followed { IfErr result (λ end. from < N.lim.tasks
         → HasFollowedTo stand.old.me.0.looks stand.new.me.0.looks from end) }
     ensures alone { IfErr result (λ _. from < N.lim.tasks → FollowedAlone N.prog N.lim stand.old.me.0 from to) }

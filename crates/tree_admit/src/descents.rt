@@ -8,7 +8,8 @@ ghost use Rattle.floor_table.specs.declared.nodes.view.TreeView.{TreeView};
 ghost use Rattle.floor_table.specs.nodes.Seats.{HasOwn};
 ghost use Rattle.tree_admit.specs.Bars.{WasBarred};
 ghost use Rattle.tree_admit.specs.Descents.{MayStepDown};
-ghost use Rattle.tree_admit.specs.Errands.{KnowsErrand, come_to, errand_at};
+ghost use Rattle.tree_admit.specs.Errands.{KnowsErrand, errand_at};
+ghost use Rattle.floor_table.specs.nodes.Seats.{stage_at};
 ghost use Rattle.tree_admit.specs.Going.{HasLeft, HasNode, IsOutside};
 
 use crate::bars::Bar;
@@ -41,7 +42,7 @@ pub(crate) fn step_down<N: Named + Planted, R: Wait>(
         × MayStepDown N.nodes N.lim earlier rest a node content child stand.old.me }
     ensures came { (earlier : TreeView) (rest : List (ℕ × slots.TreeSlot)) (a : Activity) → footing.slots ≡ length rest
         → MayStepDown N.nodes N.lim earlier rest a node content child stand.old.me
-        → HasNode N.lim earlier rest (record a { stage = come_to a.place child }) child result stand.new.me }
+        → HasNode N.lim earlier rest (record a { stage = stage_at a.place child }) child result stand.new.me }
     ensures own { HasOwn stand.old.me.0 child result }
     ensures same { (stand.new.table_id ≡ stand.old.table_id) × (stand.new.id ≡ stand.old.id) }
 {

@@ -4,7 +4,6 @@
 
 mod bars;
 mod book;
-mod coming_home;
 mod enabled_tasks;
 mod ending;
 mod first_state;
@@ -24,12 +23,12 @@ mod running;
 pub mod segment_laws;
 mod settling;
 mod state;
+mod storing;
 mod taken_joins;
 mod task_end;
 
 pub use bars::{bar, is_enabled};
 pub use book::{NodeTasks, TaskBook};
-pub use coming_home::awaited;
 pub use enabled_tasks::EnabledTasks;
 pub use ending::Outcome;
 pub use first_state::start;
@@ -52,3 +51,4 @@ pub use running::{awaited_value, take_ready};
 pub use seg_exec::{Frame, Next, OpenBody, Position, Stop};
 pub use settling::settle;
 pub use state::{FirstFault, State, TaskRow, TaskStatus};
+pub use storing::awaited;

@@ -6,9 +6,9 @@ ghost use Rattle.twe_machine.specs.declared.state.TaskRow.{TaskRow};
 ghost use Rattle.twe_machine.specs.Moves.{MaySettle, children_with, making_frame, new_row, state_after_make, stop_result};
 ghost use Rattle.twe_machine.specs.Rows.{IsRow, row_awaited};
 
-use crate::coming_home::come_home;
 use crate::new_task::{NewTask, new_row, parent_of};
 use crate::state::State;
+use crate::storing::store_frame;
 use crate::task_end::{fail, without_rest};
 use seg_exec::{Children, Frame, Stop};
 use seg_journal::{End, FaultKind, Limits};
@@ -99,7 +99,7 @@ fn make(
     st.asked += 1;
     let child = st.asked;
     note_child(&mut frame, child, how.future, how.spawned);
-    come_home(alloc, st, t, frame)?;
+    store_frame(alloc, st, t, frame)?;
     add_task(alloc, lim, st, parent_of(t, how.spawned), task)?;
     Ok(child)
 }

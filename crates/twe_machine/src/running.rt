@@ -7,9 +7,9 @@ ghost use Rattle.twe_machine.specs.Moves.{awaited_value, ran, ready_frame, value
 ghost use Rattle.twe_machine.specs.Rows.{row_awaited};
 ghost use Rattle.twe_machine.specs.inner.Settling.{SettlesAfter};
 
-use crate::coming_home::awaited;
 use crate::settling::settle;
 use crate::state::{State, TaskRow};
+use crate::storing::awaited;
 use seg_exec::{Children, Frame, Next, run_segment_over_list};
 use seg_journal::{End, Limits};
 use std::alloc::Global;

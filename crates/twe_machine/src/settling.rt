@@ -5,10 +5,10 @@ ghost use Rattle.twe_machine.specs.declared.state.TaskRow.{TaskRow};
 ghost use Rattle.twe_machine.specs.Moves.{MaySettle, going_row, state_after_storing, settling_result, stop_result};
 ghost use Rattle.twe_machine.specs.Rows.{IsRow, row_awaited};
 
-use crate::coming_home::come_home;
 use crate::making::{Asking, ask};
 use crate::new_task::NewTask;
 use crate::state::State;
+use crate::storing::store_frame;
 use crate::taken_joins::take_join;
 use crate::task_end::{fail, finish};
 use seg_exec::{Frame, Stop};
@@ -83,8 +83,8 @@ fn go_on(alloc: Global, st: &mut State, t: u32, frame: Frame, end: End) -> Resul
     requires above { ForSome (row_awaited frame.next) (λ on. (t < on) × (on < length st.old.tasks)) }
     ensures state { OnOk result ((row : TaskRow)
         → IsRow st.old t row → st.new ≡ state_after_storing st.old t frame (going_row row frame)) }
-    ensures end { IfOk result (λ told. told ≡ end) }
+    ensures end { IfOk result (λ answer. answer ≡ end) }
 {
-    come_home(alloc, st, t, frame)?;
+    store_frame(alloc, st, t, frame)?;
     Ok(end)
 }

@@ -7,8 +7,8 @@ ghost use Rattle.twe_machine.specs.declared.state.TaskStatus.TheVariants.{Done};
 ghost use Rattle.twe_machine.specs.Moves.{state_after_fault, state_after_finish, first_fault_of, stopped_frame};
 ghost use Rattle.twe_machine.specs.Rows.{IsRow, row_awaited};
 
-use crate::coming_home::come_home;
 use crate::state::{FirstFault, State, TaskRow, TaskStatus};
+use crate::storing::store_frame;
 use seg_exec::{Frame, Next};
 use seg_journal::{End, FaultKind};
 use std::alloc::Global;
@@ -28,7 +28,7 @@ pub(crate) fn finish(
     ensures state { OnOk result ((row : TaskRow) → IsRow st.old t row → st.new ≡ state_after_finish st.old t row frame value) }
     ensures end { IfOk result (λ end. end ≡ ends.Done value) }
 {
-    come_home(alloc, st, t, frame)?;
+    store_frame(alloc, st, t, frame)?;
     end_row(st.tasks.item_mut(t as usize), value);
     st.links.set_done(t);
     Ok(End::Done { value })
@@ -58,7 +58,7 @@ pub(crate) fn fail(
         → IsRow st.old t row → st.new ≡ state_after_fault st.old t row frame kind place) }
     ensures end { IfOk result (λ end. end ≡ ends.Fault kind place) }
 {
-    come_home(alloc, st, t, frame)?;
+    store_frame(alloc, st, t, frame)?;
     st.tasks.item_mut(t as usize).status = TaskStatus::Faulted;
     note_fault(&mut st.first_fault, t, kind, place);
     Ok(End::Fault { kind, place })

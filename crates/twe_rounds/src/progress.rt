@@ -75,7 +75,7 @@ impl RoundProgress {
     }
 
     /// A worker comes to a stage.
-    pub(crate) fn come_to(&self, stage: u64) {
+    pub(crate) fn reach(&self, stage: u64) {
         let first = stage << COUNT_BITS;
         let mut seen = self.stage.load(Ordering::SeqCst);
         'exchanging: for _ in 0..u64::MAX {

@@ -130,7 +130,7 @@ impl Worker {
             Some(own) if own == after(stage) && progress.all_came_to(own) => Idle::Leaves,
             Some(own) if own == stage || own == after(stage) => Idle::Waits,
             _ => {
-                self.come_to(progress, stage);
+                self.reach(progress, stage);
                 Idle::Waits
             }
         }
@@ -148,13 +148,13 @@ impl Worker {
         site.progress.add();
         self.serve(rt, access, site, None);
         if !self.moved {
-            self.come_to(site.progress, stage);
+            self.reach(site.progress, stage);
         }
     }
 
     /// Comes to a stage of the round.
-    fn come_to(&mut self, progress: &RoundProgress, stage: u64) {
-        progress.come_to(stage);
+    fn reach(&mut self, progress: &RoundProgress, stage: u64) {
+        progress.reach(stage);
         self.stage = Some(stage);
     }
 

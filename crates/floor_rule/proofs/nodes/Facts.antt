@@ -111,11 +111,11 @@ module _ (nodes : List (List Elem)) (p : Program) (lim : Bounds) (log : List Num
   abbrev Holds : WaitFact → Type 0
   Holds fact = WaitsOnUnlessDone (state_after p lim (journal_of log)).links fact.waiter fact.awaited
 
-  known_wait : (i s u : ℕ) → IsKnownToWait tree i s u → WaitsOnUnlessDone (state_after p lim (journal_of log)).links s u
+  known_wait : (i s u : ℕ) → IsKnownToWait (tree.waits i) s u → WaitsOnUnlessDone (state_after p lim (journal_of log)).links s u
   known_wait i s u (inl same) = inl (subst (λ (x : ℕ). WaitsOn st.links s x) same none)
   known_wait i s u (inr among) = keep.known.waits_hold i (record { waiter = s; awaited = u }) among
 
-  pub following : (i s u v : ℕ) → IsKnownToWait tree i s u → f.phases u ≡ Waits v → KeepsNodes nodes p lim log f (after_following tree i s v) core
+  pub following : (i s u v : ℕ) → IsKnownToWait (tree.waits i) s u → f.phases u ≡ Waits v → KeepsNodes nodes p lim log f (after_following tree i s v) core
   following i s u v known phase =
       let at : PhaseWaitsAt st u v = subst (PhaseFits st u) phase (both.floor.fits.phases u) in
       let agree = links_agree nodes p lim log f tree core both in

@@ -11,7 +11,7 @@ use Rattle.floor_rule.specs.Floors.{put}
 use Rattle.floor_rule.specs.Fitting.{Turns}
 use Rattle.admission_laws.specs.admission_core.States.{Record, IsAmong, IsPlaceOf}
 use Rattle.floor_rule.specs.nodes.Fitting.{HasTurn}
-use Rattle.floor_rule.specs.nodes.Trees.{Tree}
+use Rattle.floor_rule.specs.nodes.Trees.{Tree, WaitFact}
 
 -- Records that do not stand.
 
@@ -32,9 +32,9 @@ IsToPlace turn = (turn.first ≡ true) ⊎ (turn.row.status ≡ status.Made)
 
 -- Waits.
 
--- seat i knows that s waits for u, directly or through others, unless u is done; or the two are one
-abbrev pub IsKnownToWait : Tree → ℕ → ℕ → ℕ → Type 0
-IsKnownToWait tree i s u = (s ≡ u) ⊎ IsAmong (record { waiter = s; awaited = u }) (tree.waits i)
+-- by these waits s waits for u, directly or through others, unless u is done; or the two are one
+abbrev pub IsKnownToWait : List WaitFact → ℕ → ℕ → Type 0
+IsKnownToWait waits s u = (s ≡ u) ⊎ IsAmong (record { waiter = s; awaited = u }) waits
 
 -- seat i knows that s waits for v
 abbrev pub after_following : Tree → ℕ → ℕ → ℕ → Tree

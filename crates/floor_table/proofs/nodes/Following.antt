@@ -131,7 +131,7 @@ module _ (nodes : List (List Elem)) (p : Program) (lim : Bounds) (s : TreeTable)
     abbrev IsTrueWait : WaitFact → Type 0
     IsTrueWait fact = WaitsOnUnlessDone (state_after p lim (journal_of log)).links fact.waiter fact.awaited
 
-    true_of : (w : ℕ) → IsKnownToWait tree id w u → IsTrueWait (record { waiter = w; awaited = t })
+    true_of : (w : ℕ) → IsKnownToWait (tree.waits id) w u → IsTrueWait (record { waiter = w; awaited = t })
     true_of w known =
         let fact : WaitFact = record { waiter = w; awaited = t } in
         let keep = following nodes p lim log f tree kept.core kept.both id w u t known (phase_shown ∙ is) in

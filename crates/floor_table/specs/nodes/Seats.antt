@@ -52,15 +52,15 @@ purpose_for Admission t e = Admit t e
 purpose_for Placing t e = Child t e
 purpose_for Removal t e = Remove t e
 
--- the stage of who has locked the root alone
-abbrev pub stage_at_root : ℕ → Stage
-stage_at_root place = if place == 0 then Walks (0 ∷ []) [] else Descends 0
+-- the stage of who holds node n alone, on the way to a place or at it
+abbrev pub stage_at : ℕ → ℕ → Stage
+stage_at place n = if place == n then Walks (n ∷ []) [] else Descends n
 
 -- what a seat that has locked the root does, if it goes on this errand and knows its effect
 abbrev pub activity_for : Errand → Option Effect → Option Activity
 activity_for errand None = None
 activity_for errand (Some e) =
-    Some (record { purpose = purpose_for errand.kind errand.task e; place = errand.place; stage = stage_at_root errand.place })
+    Some (record { purpose = purpose_for errand.kind errand.task e; place = errand.place; stage = stage_at errand.place 0 })
 
 -- an effect of a task whose turn is known
 abbrev pub effect_known : Option HeldTurn → ℕ → Option Effect

@@ -1,5 +1,5 @@
 -- The branch of an `if`, before what follows in the block around it.
-use Rattle.std.proofs.Common.{◌≡◌, ℕ, List, [], ◌∷◌, drop, Option, sym, subst}
+use Rattle.std.proofs.Common.{◌≡◌, ℕ, List, ◌∷◌, drop, Option, sym, subst}
 use Rattle.std.specs.Prelude.{ℤ}
 use Rattle.twe_program.specs.declared.stmt.Arm.{Arm}
 use Rattle.twe_program.specs.Program.{Program}
@@ -15,7 +15,7 @@ use Rattle.seg_exec.specs.inner.strides.Assignments.{MayDo}
 use Rattle.seg_exec.specs.inner.strides.Picking.{ComesTo, Picks, choosing_first}
 use Rattle.seg_exec.specs.inner.strides.Strides.{Ends, Goes, MayGo, Nears, doing, fault_ending, stand}
 use Rattle.seg_exec.proofs.strides.Performing.{placed}
-use Rattle.seg_exec.proofs.strides.Strides.{ends_alike, may_near}
+use Rattle.seg_exec.proofs.strides.Strides.{ends_alike}
 
 module _ {C : Type 0} (p : Program) (ways : Ways C) (arms : List Arm) (last : Option Statements) (rest : Continuation) where
   -- before the arms, with the rest of the block below them

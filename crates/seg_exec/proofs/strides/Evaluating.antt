@@ -11,7 +11,7 @@ use Rattle.seg_exec.specs.Access.{HasRead, Ways, value_in}
 use Rattle.seg_exec.specs.Arithmetic.{decided, is_true, negation, negative, number_of, operated}
 use Rattle.seg_exec.specs.Cells.{cell_number, element_number, grid_element_number}
 use Rattle.seg_exec.specs.inner.steps.Continuations.{Continuation, Config, Apply, Evaluate, Invert, Negate, ReadElement, ReadGridElement, Right}
-use Rattle.seg_exec.specs.inner.strides.Leaves.{leaf_value}
+use Rattle.seg_exec.specs.inner.strides.Leaves.{decided_or, leaf_value, pair_value, value_on}
 use Rattle.seg_exec.specs.inner.strides.Plainly.{is_plain}
 use Rattle.seg_exec.specs.inner.steps.Reached.{MayRequest, Served, Standing}
 use Rattle.seg_exec.specs.inner.steps.Steps.{Step, applied, read_at, right_by, step_of}
@@ -286,6 +286,30 @@ module _ {C : Type 0} (p : Program) (ways : Ways C) (vars : List ℤ) where
         (gives_after _ _ work operands fuel calls prints (quotient_or (operated op x y) place) new
         (then_goes p ways _ _ _ (to_right old mid x work operands fuel calls prints h is) (g (Apply op place ∷ work) (x ∷ operands) fuel calls prints))
         (gives_applied (operated op x y) _ work operands fuel calls prints new refl))
+
+    -- both operands are literals or variables
+    pair_by : (cells : C) (x y value : ℤ) (d : Option ℤ) → EvaluatesTo p ways left vars cells (Ok x) cells → EvaluatesTo p ways right vars cells (Ok y) cells
+        → decided op (is_true x) ≡ d → decided_or d (operated op x y) ≡ Some value → EvaluatesTo p ways (Binary op left right place) vars cells (Ok value) cells
+    pair_by cells x y value (Some v) h g is e = left_decides cells cells x value h (is ∙ e)
+    pair_by cells x y value None h g is e = operator_value cells cells cells x y (Ok value) h is g (sym (ap (λ (o : Option ℤ). quotient_or o place) e))
+
+    pair_on : (cells : C) (value : ℤ) (x y : Option ℤ) → leaf_value left vars ≡ x → leaf_value right vars ≡ y → value_on op x y ≡ Some value → EvaluatesTo p ways (Binary op left right place) vars cells (Ok value) cells
+    pair_on cells value (Some x) (Some y) is-x is-y e = pair_by cells x y value (decided op (is_true x)) (leaf left x cells is-x) (leaf right y cells is-y) refl e
+    pair_on cells value (Some x) None is-x is-y e = absurd (cc)
+    pair_on cells value None y is-x is-y e = absurd (cc)
+
+  -- an operator on literals and variables
+  pub pair : (e : Expression) (value : ℤ) (cells : C) → pair_value e vars ≡ Some value → EvaluatesTo p ways e vars cells (Ok value) cells
+  pair (Binary op left right place) value cells is = pair_on op left right place cells value (leaf_value left vars) (leaf_value right vars) refl refl is
+  pair (Literal found) value cells is = absurd (cc)
+  pair (Variable var fixed) value cells is = absurd (cc)
+  pair (Truth found) value cells is = absurd (cc)
+  pair (CellValue cell place) value cells is = absurd (cc)
+  pair (ArrayElement array index place) value cells is = absurd (cc)
+  pair (GridElement array row column place) value cells is = absurd (cc)
+  pair (CallValue method args place) value cells is = absurd (cc)
+  pair (Negative operand) value cells is = absurd (cc)
+  pair (Negation operand) value cells is = absurd (cc)
 
   -- the same under other names
   pub evaluates_as : (e e' : Expression) (old new : C) (r r' : Result ℤ Fault) → e ≡ e' → r ≡ r' → EvaluatesTo p ways e' vars old r' new → EvaluatesTo p ways e vars old r new

@@ -5,34 +5,42 @@ use Rattle.twe_base.specs.declared.memory.Memory.{Memory}
 use Rattle.twe_program.specs.Program.{Program}
 use Rattle.seg_exec.specs.declared.steps.request.Ending.{Ending}
 use Rattle.seg_exec.specs.declared.strides.onward.Onward.{Onward}
-use Rattle.seg_exec.specs.declared.strides.onward.Onward.TheVariants.{Work, Block, End}
+use Rattle.seg_exec.specs.declared.strides.onward.OpenBlock.{OpenBlock}
 use Rattle.seg_exec.specs.Access.{Ways}
 use Rattle.seg_exec.specs.inner.steps.Continuations.{Config, Continuation, to_do}
 use Rattle.seg_exec.specs.inner.steps.Reached.{Finishes, Reaches, Standing}
 use Rattle.seg_exec.specs.inner.steps.Steps.{on, step_of, worked}
-use Rattle.seg_exec.specs.inner.strides.Moving.{Moves, Passes, rest_of, onward_of, step_on}
+use Rattle.seg_exec.specs.inner.strides.Moving.{Moves, MovesTo, Passes, ahead, rest_of, onward_of, step_on, step_to}
 use Rattle.seg_exec.specs.inner.strides.Strides.{Carries, Ends, Goes, Nears, doing}
 use Rattle.seg_exec.proofs.strides.Performing.{placed}
 use Rattle.seg_exec.proofs.strides.Strides.{ended, near_goes, silent, then_goes}
 
 module _ {C : Type 0} (p : Program) (ways : Ways C) where
   -- one step that asks for nothing, or is the end
+  moves_step_to : (from : Standing C) (block : Option OpenBlock) (ending : Option Ending) (config : Config) → step_of p from.config ≡ step_to block ending config
+      → MovesTo p ways from block ending (record from { config = config })
+  moves_step_to from None None config is = silent p ways from config is
+  moves_step_to from (Some open_block) None config is = silent p ways from (to_do (rest_of open_block) config) is
+  moves_step_to from block (Some ending) config is = ended p ways from ending config is
+
   pub moves_step : (from : Standing C) (onward : Onward) (config : Config) → step_of p from.config ≡ step_on onward config → Moves p ways from onward (record from { config = config })
-  moves_step from Work config is = silent p ways from config is
-  moves_step from (Block open_block) config is = silent p ways from (to_do (rest_of open_block) config) is
-  moves_step from (End ending) config is = ended p ways from ending config is
+  moves_step from onward config is = moves_step_to from onward.block onward.ending config is
 
   -- what comes after some steps
+  then_moves_to : (a b c : Standing C) (block : Option OpenBlock) (ending : Option Ending) → Goes p ways a b → MovesTo p ways b block ending c → MovesTo p ways a block ending c
+  then_moves_to a b c block None first second = then_goes p ways a b (ahead block c) first second
+  then_moves_to a b c block (Some ending) first second = λ start r. second start (first.on start r)
+
   pub then_moves : (a b c : Standing C) (onward : Onward) → Goes p ways a b → Moves p ways b onward c → Moves p ways a onward c
-  then_moves a b c Work first second = then_goes p ways a b c first second
-  then_moves a b c (Block open_block) first second = then_goes p ways a b (doing (rest_of open_block) c) first second
-  then_moves a b c (End ending) first second = λ start r. second start (first.on start r)
+  then_moves a b c onward first second = then_moves_to a b c onward.block onward.ending first second
 
   -- the same after some steps or none
+  near_moves_to : (a b c : Standing C) (block : Option OpenBlock) (ending : Option Ending) → Nears p ways a b → MovesTo p ways b block ending c → MovesTo p ways a block ending c
+  near_moves_to a b c block None first second = near_goes p ways a b (ahead block c) first second
+  near_moves_to a b c block (Some ending) first second = λ start r. second start (first.on start r)
+
   pub near_moves : (a b c : Standing C) (onward : Onward) → Nears p ways a b → Moves p ways b onward c → Moves p ways a onward c
-  near_moves a b c Work first second = near_goes p ways a b c first second
-  near_moves a b c (Block open_block) first second = near_goes p ways a b (doing (rest_of open_block) c) first second
-  near_moves a b c (End ending) first second = λ start r. second start (first.on start r)
+  near_moves a b c onward first second = near_moves_to a b c onward.block onward.ending first second
 
   -- the same after one step that asks for nothing
   pub moves_silent : (task : Continuation) (old mid : Config) (cells : C) (prints : List ℤ) (onward : Onward) (new : Standing C) → worked p task old ≡ on mid
@@ -51,5 +59,5 @@ module _ {C : Type 0} (p : Program) (ways : Ways C) where
   passes old new (Err memory) result is h = subst (λ (r : Result Onward Memory). IfOk r (λ onward. Moves p ways old onward new)) (sym is) tt
 
   -- a run that comes to the end by such a stretch
-  pub moves_end : (start old new : Standing C) (ending : Ending) → Reaches p ways start old → Moves p ways old (End ending) new → Finishes p ways start ending new
+  pub moves_end : (start old new : Standing C) (ending : Ending) → Reaches p ways start old → Ends p ways old ending new → Finishes p ways start ending new
   moves_end start old new ending came h = h start came

@@ -1,15 +1,14 @@
 -- The arms of an `if` one after another.
-use Rattle.std.proofs.Common.{◌≡◌, ℕ, ℤ, ◌+◌, Bool, true, false, Ok, Err, List, [], ◌∷◌, drop, Option, None, Some, refl, ap, ◌∙◌}
+use Rattle.std.proofs.Common.{◌≡◌, ℕ, ℤ, ◌+◌, Bool, true, false, Ok, Err, List, [], ◌∷◌, drop, Option, None, Some, ap, ◌∙◌}
 use Rattle.twe_program.specs.declared.stmt.Arm.{Arm}
 use Rattle.twe_program.specs.Program.{Program}
-use Rattle.twe_program.specs.Statement.{Arms, Statements}
+use Rattle.twe_program.specs.Statement.{Statements}
 use Rattle.twe_program.specs.inner.StatementView.{arms_of}
 use Rattle.seg_exec.specs.declared.strides.value.Fault.{Fault}
 use Rattle.seg_exec.specs.Access.{Ways}
 use Rattle.seg_exec.specs.Arithmetic.{is_true}
-use Rattle.seg_exec.specs.inner.steps.Continuations.{Config, Continuation, Choose, Chosen, Evaluate, Rest}
-use Rattle.seg_exec.specs.inner.steps.Reached.{Standing}
-use Rattle.seg_exec.specs.inner.steps.Steps.{choosing, chosen_by, on}
+use Rattle.seg_exec.specs.inner.steps.Continuations.{Config, Continuation, Chosen, Evaluate, Rest}
+use Rattle.seg_exec.specs.inner.steps.Steps.{choosing, chosen_by}
 use Rattle.seg_exec.specs.inner.strides.Assignments.{MayDo}
 use Rattle.seg_exec.specs.inner.strides.Picking.{ComesTo, Picks, choosing_at, choosing_first}
 use Rattle.seg_exec.specs.declared.strides.pick.Picked.TheVariants.{Nothing}

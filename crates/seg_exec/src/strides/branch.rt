@@ -41,15 +41,24 @@ fn branch_among<'a, C: Cells>(
         onward (standing machine.new cells.new prints.new)) }
 {
     match pick(arms, last, p, machine.vars.as_slice(), cells) {
-        Picked::Faulted(fault) => Ok(Onward::End(fault.ending())),
-        Picked::Nothing => Ok(Onward::Block(OpenBlock { block, at, stmts })),
+        Picked::Faulted(fault) => Ok(Onward {
+            block: None,
+            ending: Some(fault.ending()),
+        }),
+        Picked::Nothing => Ok(Onward {
+            block: Some(OpenBlock { block, at, stmts }),
+            ending: None,
+        }),
         Picked::Body { number, body } => {
             machine.push(Continuation::Rest { block, at, stmts })?;
-            Ok(Onward::Block(OpenBlock {
-                block: number,
-                at: 0,
-                stmts: body.stmts.as_slice(),
-            }))
+            Ok(Onward {
+                block: Some(OpenBlock {
+                    block: number,
+                    at: 0,
+                    stmts: body.stmts.as_slice(),
+                }),
+                ending: None,
+            })
         }
         Picked::Left(next) => {
             machine.push(Continuation::Rest { block, at, stmts })?;

@@ -40,7 +40,10 @@ pub(crate) fn give<'a, C: Cells>(
     let _at = at;
     let _stmts = stmts;
     match value_of(value, p, machine.vars.as_slice(), cells) {
-        Err(fault) => Ok(Onward::End(fault.ending())),
+        Err(fault) => Ok(Onward {
+            block: None,
+            ending: Some(fault.ending()),
+        }),
         Ok(value) => {
             machine.push_operand(value)?;
             passed(leave(p, machine, cells, prints))

@@ -16,15 +16,14 @@ pub(crate) struct OpenBlock<'a> {
     pub(crate) stmts: &'a [Stmt],
 }
 
-/// What comes next after some steps.
+/// What comes next after some steps: what is left of a block, or else the continuation frame on top. If the run has ended,
+/// nothing does. The two parts are no variants of an enum, so that a block never lies in the bytes of an ending.
 #[derive(Debug, Drop)]
-pub(crate) enum Onward<'a> {
-    /// The continuation frame on top.
-    Work,
-    /// What is left of a block, before all continuation frames.
-    Block(OpenBlock<'a>),
-    /// Nothing: the run has ended.
-    End(Ending),
+pub(crate) struct Onward<'a> {
+    /// What is left of a block, if it comes before all continuation frames.
+    pub(crate) block: Option<OpenBlock<'a>>,
+    /// How the run has ended, if it has.
+    pub(crate) ending: Option<Ending>,
 }
 
 /// What comes next after some steps of which an ending is known if they are the last.
@@ -34,7 +33,9 @@ pub(crate) fn passed<'a>(steps: Result<Option<Ending>, Memory>) -> Result<Onward
 {
     match steps {
         Err(memory) => Err(memory),
-        Ok(None) => Ok(Onward::Work),
-        Ok(Some(ending)) => Ok(Onward::End(ending)),
+        Ok(ending) => Ok(Onward {
+            block: None,
+            ending,
+        }),
     }
 }

@@ -185,13 +185,21 @@ pub(crate) fn go_on<'a, C: Cells>(
     while next < stmts.len() {
         match assign(&stmts[next], p, &mut machine.vars, cells) {
             Carried::Done => next += 1,
-            Carried::Faulted(fault) => return Ok(Onward::End(fault.ending())),
+            Carried::Faulted(fault) => {
+                return Ok(Onward {
+                    block: None,
+                    ending: Some(fault.ending()),
+                });
+            }
             Carried::Left => {
                 return enter_statement(alloc, p, machine, cells, prints, block, next, stmts);
             }
         }
     }
-    Ok(Onward::Work)
+    Ok(Onward {
+        block: None,
+        ending: None,
+    })
 }
 
 /// Does what a continuation frame is for, in one step or in several. Returns what comes next.

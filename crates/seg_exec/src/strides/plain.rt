@@ -19,7 +19,22 @@ fn is_plain_by_kind(expr: &Expr) -> Option<bool>
     }
 }
 
-/// Whether an expression calls no method. It is inlined, so that leaves cost no call.
+/// Whether an operator calls no method, if the kinds of its operands alone say so.
+#[inline(always)]
+fn is_plain_by_operands(expr: &Expr) -> Option<bool>
+    ensures { IfSome result (λ plain. plain ≡ is_plain expr.now) }
+{
+    match &expr.kind {
+        ExprKind::Bin { left, right, .. } => match is_plain_by_kind(left) {
+            None => None,
+            Some(false) => Some(false),
+            Some(true) => is_plain_by_kind(right),
+        },
+        _ => None,
+    }
+}
+
+/// Whether an expression calls no method. It is inlined, so that leaves, and operators on leaves, cost no call.
 #[cycle(plain)]
 #[inline(always)]
 pub(crate) fn is_plain(expr: &Expr) -> bool
@@ -27,7 +42,10 @@ pub(crate) fn is_plain(expr: &Expr) -> bool
 {
     match is_plain_by_kind(expr) {
         Some(plain) => plain,
-        None => is_plain_inside(expr),
+        None => match is_plain_by_operands(expr) {
+            Some(plain) => plain,
+            None => is_plain_inside(expr),
+        },
     }
 }
 

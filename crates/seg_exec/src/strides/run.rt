@@ -34,7 +34,10 @@ fn advance<'a, C: Cells>(
             go_on(alloc, p, machine, cells, prints, block, at, stmts)
         }
         None => match machine.work.pop() {
-            None => Ok(Onward::End(Ending::Returned(0))),
+            None => Ok(Onward {
+                block: None,
+                ending: Some(Ending::Returned(0)),
+            }),
             Some(work) => perform(alloc, p, machine, cells, prints, work),
         },
     }
@@ -58,9 +61,18 @@ pub(crate) fn run<'a, C: Cells>(
         while machine.fuel == fuel {
             match advance(alloc, p, machine, cells, prints, next) {
                 Err(memory) => return Err(memory),
-                Ok(Onward::Work) => next = None,
-                Ok(Onward::Block(open_block)) => next = Some(open_block),
-                Ok(Onward::End(ending)) => return Ok(ending),
+                Ok(
+                    Onward {
+                        ending: Some(ending),
+                        ..
+                    },
+                ) => return Ok(ending),
+                Ok(
+                    Onward {
+                        block,
+                        ending: None,
+                    },
+                ) => next = block,
             }
         }
     }

@@ -35,21 +35,30 @@ fn begin_turn<'a>(
         ≡ turned_by (is_true value) again.now body.now place (config_of machine.old)) }
 {
     if !is_true(value) {
-        return Ok(Onward::Work);
+        return Ok(Onward {
+            block: None,
+            ending: None,
+        });
     }
     if machine.fuel == 0 {
-        return Ok(Onward::End(Ending::Faulted {
-            kind: FaultKind::Fuel,
-            place,
-        }));
+        return Ok(Onward {
+            block: None,
+            ending: Some(Ending::Faulted {
+                kind: FaultKind::Fuel,
+                place,
+            }),
+        });
     }
     machine.fuel -= 1;
     machine.push(Continuation::Execute(again))?;
-    Ok(Onward::Block(OpenBlock {
-        block: 0,
-        at: 0,
-        stmts: body.stmts.as_slice(),
-    }))
+    Ok(Onward {
+        block: Some(OpenBlock {
+            block: 0,
+            at: 0,
+            stmts: body.stmts.as_slice(),
+        }),
+        ending: None,
+    })
 }
 
 /// Evaluates the condition of a loop, and begins a turn if it is true. If the condition calls a method, it makes only the first
@@ -77,7 +86,10 @@ pub(crate) fn turn<'a, C: Cells>(
         return passed(evaluate_then(alloc, p, machine, cells, prints, condition, &then));
     }
     match value_of(condition, p, machine.vars.as_slice(), cells) {
-        Err(fault) => Ok(Onward::End(fault.ending())),
+        Err(fault) => Ok(Onward {
+            block: None,
+            ending: Some(fault.ending()),
+        }),
         Ok(value) => begin_turn(machine, value, again, body, place),
     }
 }

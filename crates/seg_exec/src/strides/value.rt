@@ -2,7 +2,7 @@
 ghost use Rattle.std.specs.Prelude.{◌≡◌, true, slice_get};
 ghost use Rattle.seg_exec.specs.Access.{value_in, ways_of};
 ghost use Rattle.seg_exec.specs.Arithmetic.{operated};
-ghost use Rattle.seg_exec.specs.inner.strides.Leaves.{leaf_value};
+ghost use Rattle.seg_exec.specs.inner.strides.Leaves.{leaf_value, pair_value};
 ghost use Rattle.seg_exec.specs.inner.strides.Plainly.{is_plain};
 ghost use Rattle.seg_exec.specs.inner.strides.Strides.{EvaluatesTo, MayEvaluate, MayReadAt, ReadsAt, fault_ending, quotient_or};
 
@@ -86,7 +86,29 @@ fn apply(op: BinOp, left: i32, right: i32, place: Place) -> Result<i32, Fault>
     }
 }
 
-/// Evaluates an expression that calls no method. It is inlined, so that literals and variables cost no call.
+/// The value of an operator on integer literals and variables; none of another expression, or if it divides by zero.
+fn pair_value(expr: &Expr, vars: &[i32]) -> Option<i32>
+    ensures { result ≡ pair_value expr.now vars.now }
+{
+    match &expr.kind {
+        ExprKind::Bin {
+            op,
+            left,
+            right,
+            ..
+        } => match (leaf_value(left, vars), leaf_value(right, vars)) {
+            (Some(left), Some(right)) => match decide(*op, is_true(left)) {
+                Some(value) => Some(value),
+                None => operate(*op, left, right),
+            },
+            _ => None,
+        },
+        _ => None,
+    }
+}
+
+/// Evaluates an expression that calls no method. It is inlined, so that literals and variables cost no call, and an operator on
+/// them costs one.
 #[cycle(value)]
 #[inline(always)]
 pub(crate) fn value_of<C: Cells>(
@@ -101,7 +123,10 @@ pub(crate) fn value_of<C: Cells>(
 {
     match leaf_value(expr, vars) {
         Some(value) => Ok(value),
-        None => value_by_parts(expr, p, vars, cells),
+        None => match pair_value(expr, vars) {
+            Some(value) => Ok(value),
+            None => value_by_parts(expr, p, vars, cells),
+        },
     }
 }
 

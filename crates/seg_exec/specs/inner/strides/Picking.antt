@@ -8,7 +8,6 @@ use Rattle.seg_exec.specs.declared.strides.pick.Picked.{Picked}
 use Rattle.seg_exec.specs.declared.strides.pick.Picked.TheVariants.{Faulted, Nothing, Body, Left}
 use Rattle.seg_exec.specs.Access.{Ways}
 use Rattle.seg_exec.specs.inner.steps.Continuations.{Continuation, Choose, Rest}
-use Rattle.seg_exec.specs.inner.steps.Reached.{Standing}
 use Rattle.seg_exec.specs.inner.strides.Strides.{Ends, Goes, Nears, fault_ending, stand}
 
 -- on top of the other frames: the arms of an `if` are to be tried from the one of this number on

@@ -8,7 +8,7 @@ use Rattle.admission_laws.specs.admission_core.States.{IsAmong}
 use Rattle.floor_table.specs.declared.nodes.view.Look.{Look}
 use Rattle.floor_table.specs.nodes.Chains.{CameTo}
 use Rattle.tree_admit.specs.Alone.{HasOnlyTurnOf, LeadsElsewhere}
-use Rattle.tree_admit.specs.Bars.{IsLedTo}
+use Rattle.floor_rule.specs.nodes.FactSteps.{IsKnownToWait}
 use Rattle.tree_admit.specs.Going.{HasOnlyFollowed}
 use Rattle.tree_admit.specs.Passing.{EachBetween}
 use Rattle.tree_admit.proofs.PassedOver.{PassesOrLeads}
@@ -21,8 +21,8 @@ invariant-loop-at g l = record {
   other : l.at ≢ l.to;
   alone : (st : State) → IsAloneAt g.N.Named.prog g.N.Named.lim l.fn.stand.me.0.floor st → HasOnlyTurnOf l.fn.stand.me.0.floor l.to
       → WaitsOn st.links l.from l.at ⊎ LeadsElsewhere st.links l.from l.to;
-  led : IsLedTo l.stand.me.0 l.from l.at;
-  further : (s : ℕ) → IsAmong (record { waiter = s; awaited = l.from }) l.fn.stand.me.0.waits → IsLedTo l.stand.me.0 s l.at;
+  led : IsKnownToWait l.stand.me.0.waits l.from l.at;
+  further : (s : ℕ) → IsAmong (record { waiter = s; awaited = l.from }) l.fn.stand.me.0.waits → IsKnownToWait l.stand.me.0.waits s l.at;
   fewer : l.rest ≤ l.left;
   passed : EachBetween (PassesOrLeads l.stand.me.0 l.to l.effect l.at) l.content l.rest l.left;
   only : HasOnlyFollowed l.fn.stand.me l.stand.me;

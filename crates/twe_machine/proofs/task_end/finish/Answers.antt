@@ -8,5 +8,5 @@ pub returns-clause-state : goal.returns-clause-state
 returns-clause-state c =
     λ row here.
     let row_ends : c.end_row.new.row ≡ record c.item_mut.result.now { status = Done; value = c.args.value } = simp (to_z-of_z, c.ranges.value) at c.end_row.ensures in
-    finished_is c.args.st.now c.come_home.new.st c.args.t row c.item_mut.result.now c.end_row.new.row c.args.frame c.args.value c.set_done.new.self
-    here (c.in_ok-come_home.ensures.state row here) c.item_mut.ensures.value row_ends c.set_done.ensures
+    finished_is c.args.st.now c.store_frame.new.st c.args.t row c.item_mut.result.now c.end_row.new.row c.args.frame c.args.value c.set_done.new.self
+    here (c.in_ok-store_frame.ensures.state row here) c.item_mut.ensures.value row_ends c.set_done.ensures

@@ -6,10 +6,10 @@ use Rattle.twe_program.specs.inner.ExpressionView.{expression_of}
 use Rattle.seg_exec.specs.Access.{HasRead, value_in, ways_of}
 use Rattle.seg_exec.specs.Arithmetic.{decided, is_true, negation, negative, number_of, operated}
 use Rattle.seg_exec.specs.Cells.{element_number, grid_element_number}
-use Rattle.seg_exec.specs.inner.strides.Leaves.{leaf_value}
+use Rattle.seg_exec.specs.inner.strides.Leaves.{leaf_value, pair_value}
 use Rattle.seg_exec.specs.inner.strides.Plainly.{is_plain}
 use Rattle.seg_exec.specs.inner.strides.Strides.{MayReadAt, ReadsAt, quotient_or}
-use Rattle.seg_exec.proofs.strides.Evaluating.{both_first, both_second, cell_may, cell_read, column_fault, column_may, element_fault, element_may, element_may_read, element_read, evaluates_as, grid_may_read, grid_read, leaf, left_decides, left_fault, left_may, literal, may_as, negation_fault, negation_may, negation_value, negative_fault, negative_may, negative_value, operator_value, passed_on, plain_as, right_fault, right_may, row_fault, row_may, truth, variable}
+use Rattle.seg_exec.proofs.strides.Evaluating.{both_first, both_second, cell_may, cell_read, column_fault, column_may, element_fault, element_may, element_may_read, element_read, evaluates_as, grid_may_read, grid_read, leaf, left_decides, left_fault, left_may, literal, may_as, negation_fault, negation_may, negation_value, negative_fault, negative_may, negative_value, operator_value, pair, passed_on, plain_as, right_fault, right_may, row_fault, row_may, truth, variable}
 use Rattle.seg_exec.proofs.strides.value.+value.Goals as goal
 
 pub value_of-returns-in-Some : goal.value_of-returns-in-Some
@@ -18,6 +18,13 @@ value_of-returns-in-Some g t c =
     let fits : SFits w32 c.in-Some.value = search rules in
     evaluates_as c.args.p.now (ways_of g.C.Cells.known g.C.Cells.may_read g.C.Cells.may_write g.C.Cells.rule) c.args.vars.now c.args.expr.now c.args.expr.now c.args.cells.now c.args.cells.now (Ok (to_z w32 (of_z w32 c.in-Some.value))) (Ok c.in-Some.value) refl (ap Ok (to_z-of_z w32 c.in-Some.value fits))
     (leaf c.args.p.now (ways_of g.C.Cells.known g.C.Cells.may_read g.C.Cells.may_write g.C.Cells.rule) c.args.vars.now c.args.expr.now c.in-Some.value c.args.cells.now is)
+
+pub value_of-returns-in-Some-pair_value : goal.value_of-returns-in-Some-pair_value
+value_of-returns-in-Some-pair_value g t c =
+    let is : pair_value c.args.expr.now c.args.vars.now ≡ Some c.in-Some-pair_value.value = search rules in
+    let fits : SFits w32 c.in-Some-pair_value.value = search rules in
+    evaluates_as c.args.p.now (ways_of g.C.Cells.known g.C.Cells.may_read g.C.Cells.may_write g.C.Cells.rule) c.args.vars.now c.args.expr.now c.args.expr.now c.args.cells.now c.args.cells.now (Ok (to_z w32 (of_z w32 c.in-Some-pair_value.value))) (Ok c.in-Some-pair_value.value) refl (ap Ok (to_z-of_z w32 c.in-Some-pair_value.value fits))
+    (pair c.args.p.now (ways_of g.C.Cells.known g.C.Cells.may_read g.C.Cells.may_write g.C.Cells.rule) c.args.vars.now c.args.expr.now c.in-Some-pair_value.value c.args.cells.now is)
 
 pub value_by_parts-returns-in-Lit : goal.value_by_parts-returns-in-Lit
 value_by_parts-returns-in-Lit g t c =

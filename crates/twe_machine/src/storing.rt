@@ -35,7 +35,7 @@ fn take_prints(alloc: Global, prints: &mut Ints, frame: &mut Frame) -> Result<()
 
 /// Stores the frame of an unfinished task in its row. The numbers that the segment printed join those of the run, and
 /// the links say what the task waits for.
-pub(crate) fn come_home(alloc: Global, st: &mut State, t: u32, frame: Frame) -> Result<(), Memory>
+pub(crate) fn store_frame(alloc: Global, st: &mut State, t: u32, frame: Frame) -> Result<(), Memory>
     requires there { t < length st.old.tasks }
     requires linked { length st.old.links ≡ length st.old.tasks }
     requires above { ForSome (row_awaited frame.next) (λ on. (t < on) × (on < length st.old.tasks)) }
