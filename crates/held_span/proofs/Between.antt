@@ -99,7 +99,7 @@ module _ (p : Program) (lim : Bounds) (rows : List TaskRow) (journal : List Entr
       omega (arith, first, rest, one, other)
 
 -- the work of the entries is the same
-weights_from : (p : Program) (lim : Bounds) (st : State) (entries : List Entry) → sum_by weight_of (strands_from p lim st entries) ≡ sum_by stage_weight (stages_from p lim st entries)
+pub weights_from : (p : Program) (lim : Bounds) (st : State) (entries : List Entry) → sum_by weight_of (strands_from p lim st entries) ≡ sum_by stage_weight (stages_from p lim st entries)
 weights_from p lim st [] = refl
 weights_from p lim st (entry ∷ entries) =
     let next = (move_result p lim st entry.mv).0 in

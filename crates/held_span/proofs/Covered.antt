@@ -4,11 +4,7 @@ use Rattle.std.proofs.Common.{◌≤◌, ◌+◌, ℕ, List, [], ◌∷◌, ◌+
 use Rattle.std.specs.Prelude.{sum_by}
 use Rattle.std.proofs.lemmas.List.Sums.{sum_by-append, sum_by-cons}
 use Rattle.span_profile.specs.heaviest_chain.Chains.{IsChain}
-
--- edges of these lead from i to j, through the numbers between
-abbrev pub IsPath : (ℕ → ℕ → Type 0) → ℕ → List ℕ → ℕ → Type 0
-IsPath Kept i [] j = Kept i j
-IsPath Kept i (k ∷ between) j = Kept i k × IsPath Kept k between j
+use Rattle.held_span.specs.inner.Paths.{IsPath}
 
 -- each edge is covered by a path of kept ones
 abbrev pub Covers : (ℕ → ℕ → Type 0) → (ℕ → ℕ → Type 0) → Type 0

@@ -5,6 +5,7 @@
 //! declared effects cost beyond what the tasks did.
 #![tactic(auto)]
 
+mod freeing;
 mod holders;
 mod keys;
 mod laws;

@@ -1,5 +1,3 @@
-// Missing, though the file is proved: that what `IsWalk` leaves out is covered. A task that it leaves out has waited since a
-// later one on the way was admitted, and that admission followed its entries.
 //! The tasks through which others wait for a task. A task waits only for tasks that it has made, so the way from it leads down
 //! along those that made one another.
 ghost use Rattle.std.specs.Prelude.{◌≡◌, ◌<◌, ◌^◌, [], ◌∷◌, ◌++◌, ℕ, List as AnyList, Some, length, map, slice_get, slice_set, IfOk, OnOk};

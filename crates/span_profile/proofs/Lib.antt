@@ -1,5 +1,6 @@
 pub mod Agreeing
 pub mod Counted
+pub mod EntryRecords
 pub mod Explained
 pub mod FuelTaken
 pub mod Keyed
@@ -11,7 +12,6 @@ pub mod Numbers
 pub mod OneProfile
 pub mod PathReasons
 pub mod Ran
-pub mod Recording
 pub mod Tracking
 pub mod TrailSteps
 pub mod Watching

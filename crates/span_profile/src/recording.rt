@@ -1,4 +1,3 @@
-// Missing: the proofs of `Recorder::new` and `Recorder::take`, from those of `profiling` with the fronts left out.
 //! What the entries of a run ask for and give, one after another.
 ghost use Rattle.std.specs.Prelude.{◌≡◌, ◌<◌, List, IfOk, OnOk};
 ghost use Rattle.prefix_tree.specs.declared.part.Part.{Part};

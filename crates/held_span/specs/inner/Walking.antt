@@ -18,3 +18,8 @@ IsWalk ways s at (maker ∷ others) =
 -- the next task, which this one has made
 abbrev pub entered : Ways → ℕ → Ways
 entered ways maker = record { makers = ways.makers ++ maker ∷ []; firsts = ways.firsts ++ length ways.firsts ∷ [] }
+
+-- the first task has made the second
+pub record IsMakerOf (makers : List ℕ) (a b : ℕ) : Type 0 where
+  pub there : slice_get makers b ≡ Some a
+  pub some : 0 < b

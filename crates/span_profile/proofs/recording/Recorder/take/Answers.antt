@@ -2,7 +2,7 @@ use Rattle.std.proofs.Common.{ap, ◌∙◌, refl, subst}
 use Rattle.twe_program.specs.WellFormed.{IsWellFormed}
 use Rattle.span_profile.specs.inner.Sets.{no_cells}
 use Rattle.span_profile.specs.inner.Deeds.{asked, given}
-use Rattle.span_profile.proofs.Recording.{keys_shown, recorded}
+use Rattle.span_profile.proofs.EntryRecords.{keys_shown, recorded}
 use Rattle.span_profile.proofs.recording.Recorder.take.Goals as goal
 
 pub advance-requires-clause-reads : goal.advance-requires-clause-reads
