@@ -44,7 +44,7 @@ use Rattle.held_span.proofs.Ancestors.{Descends, descends_up, first_step, waits_
 use Rattle.held_span.proofs.HeldStates.{HoldEnabled}
 use Rattle.held_span.proofs.SharedKeys.{interfere_shared, shared_interfere}
 use Rattle.held_span.proofs.Statuses.{one_status}
-use Rattle.held_span.proofs.TmpWaitPaths.{waited_for_by_maker}
+use Rattle.run_laws.proofs.orders.WaitPaths.{waited_for_by_maker}
 use Rattle.held_span.proofs.WalkedWays.{walk_covers, walk_on_way}
 use Rattle.span_profile.proofs.Lists.{contains_none}
 

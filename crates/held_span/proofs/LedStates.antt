@@ -22,7 +22,7 @@ use Rattle.effect_marks.proofs.Longer.{get-cases, get-kept, get-last}
 use Rattle.effect_marks.specs.declared.marks.EffectMarks.{EffectMarks}
 use Rattle.held_span.specs.declared.ways.Ways.{Ways}
 use Rattle.held_span.specs.inner.Freeing.{Walks}
-use Rattle.held_span.specs.inner.Makers.{HasMade}
+use Rattle.run_laws.specs.Orders.{HasMade}
 use Rattle.held_span.specs.inner.Spanning.{AreLed}
 use Rattle.held_span.specs.inner.Walking.{AreWays, IsMakerOf, entered}
 

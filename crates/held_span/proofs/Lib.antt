@@ -19,7 +19,5 @@ pub mod Spans
 pub mod Starts
 pub mod Statuses
 pub mod Steps
-pub mod TmpMakers
-pub mod TmpWaitPaths
 pub mod Walked
 pub mod WalkedWays

@@ -31,40 +31,47 @@ use Rattle.held_span.proofs.SharedKeys.{AsksMark, AsksWay}
 
 module _ (tree : List (List Part)) (marks : EffectMarks) (stage : RunEntry) (before after : EntryKeys) (shown : Shows tree (node_with before) stage.strand)
     (below : IsBelow (length marks.lists) stage.strand) (weight : after.weight ≡ before.weight) where
-  shows_by : ((key : Key) → Contains after.gives key ↔ (Contains before.gives key ⊎ GivesMark marks stage key)) → ShowsStage tree marks (node_with after) stage
+  abbrev shows_by : ((key : Key) → Contains after.gives key ↔ (Contains before.gives key ⊎ GivesMark marks stage key)) → ShowsStage tree marks (node_with after) stage
   shows_by gives = record { base = node_with before; shown = shown; weight = weight ∙ shown.weight; below = below; gives = gives }
 
+  -- the node shows the stage, over what the entry did
+  abbrev pub IsShown : Type 0
+  IsShown = (s : ShowsStage tree marks (node_with after) stage) × (s.base ≡ node_with before)
+
   -- nothing is given beyond what it did
-  pub shows_same : after.gives ≡ before.gives → stage.strand.done ≡ false → ShowsStage tree marks (node_with after) stage
-  shows_same same undone =
-      shows_by (λ key. (
-        λ has. inl (subst (λ (l : List Key). Contains l key) same has),
-        λ has. elim has [
-          | inl old ↦ subst (λ (l : List Key). Contains l key) (sym same) old
-          | inr mark ↦ absurd (false≢true (sym undone ∙ mark.0))
-        ],
-      ))
+  shows_same : after.gives ≡ before.gives → stage.strand.done ≡ false → IsShown
+  shows_same same undone = (
+    shows_by (λ key. (
+      λ has. inl (subst (λ (l : List Key). Contains l key) same has),
+      λ has. elim has [
+        | inl old ↦ subst (λ (l : List Key). Contains l key) (sym same) old
+        | inr mark ↦ absurd (false≢true (sym undone ∙ mark.0))
+      ],
+    )),
+    refl,
+  )
 
   -- the marks of the task that is done are given, too
-  pub shows_done : after.gives ≡ before.gives ++ mark_keys marks (left_by marks stage.strand.task) → stage.strand.done ≡ true → ShowsStage tree marks (node_with after) stage
+  shows_done : after.gives ≡ before.gives ++ mark_keys marks (left_by marks stage.strand.task) → stage.strand.done ≡ true → IsShown
   shows_done more done =
-      let left = left_by marks stage.strand.task in
-      shows_by (λ key. (
-        λ has. elim (Contains-append_cases before.gives (mark_keys marks left) key (subst (λ (l : List Key). Contains l key) more has)) [
-          | inl old ↦ inl old
-          | inr new ↦ (let mark = map_contains (mark_key (length marks.lists)) left key new in inr (done, (mark.0, mark.1, sym mark.2)))
-        ],
-        λ has. subst (λ (l : List Key). Contains l key) (sym more)
-        (elim has [
-          | inl old ↦ Contains-append_left before.gives (mark_keys marks left) key old
-          | inr mark ↦
-              Contains-append_right before.gives (mark_keys marks left) key
-              (subst (λ (k : Key). Contains (mark_keys marks left) k) (sym mark.1.2) (contains_map (mark_key (length marks.lists)) left mark.1.0 mark.1.1))
-        ]),
-      ))
+      let left = left_by marks stage.strand.task in (
+        shows_by (λ key. (
+          λ has. elim (Contains-append_cases before.gives (mark_keys marks left) key (subst (λ (l : List Key). Contains l key) more has)) [
+            | inl old ↦ inl old
+            | inr new ↦ (let mark = map_contains (mark_key (length marks.lists)) left key new in inr (done, (mark.0, mark.1, sym mark.2)))
+          ],
+          λ has. subst (λ (l : List Key). Contains l key) (sym more)
+          (elim has [
+            | inl old ↦ Contains-append_left before.gives (mark_keys marks left) key old
+            | inr mark ↦
+                Contains-append_right before.gives (mark_keys marks left) key
+                (subst (λ (k : Key). Contains (mark_keys marks left) k) (sym mark.1.2) (contains_map (mark_key (length marks.lists)) left mark.1.0 mark.1.1))
+          ]),
+        )),
+        refl,
+      )
 
-  pub shows_noted : (st : State) (t : ℕ) (old new : Freeing) (end : End) → stage.strand.task ≡ t → stage.strand.done ≡ is_done end → IsNotedBy marks st t old new before after end
-      → ShowsStage tree marks (node_with after) stage
+  pub shows_noted : (st : State) (t : ℕ) (old new : Freeing) (end : End) → stage.strand.task ≡ t → stage.strand.done ≡ is_done end → IsNotedBy marks st t old new before after end → IsShown
   shows_noted st t old new ends.Admitted task done noted = shows_same noted.1 done
   shows_noted st t old new (ends.Made child) task done noted = shows_same noted.1 done
   shows_noted st t old new (ends.Waits on) task done noted = shows_same noted.1 done

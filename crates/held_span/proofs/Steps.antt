@@ -153,11 +153,14 @@ module _ (p : Program) (lim : Bounds) (well : IsWellFormed p) (marks : EffectMar
     abbrev y : Node
     y = node_with last
 
-    shows : ShowsStage s.tree marks y stage
-    shows =
+    shown : (z : ShowsStage s.tree marks y stage) × (z.base ≡ node_with first)
+    shown =
         shows_noted s.tree marks stage first last (subst (λ (e : End). Shows s.tree (node_with first) (entry_strands.strand_of p st (record { mv = mv; end = e }))) first_end keys)
         (plans.stage_below p lim well marks rows before mv end rest s.plan st s.same) weight after mv.task run.freeing freeing end task
         (plans.stage_done p lim well marks rows before mv end rest s.plan st s.same) noted_here
+
+    abbrev shows : ShowsStage s.tree marks y stage
+    shows = shown.0
 
     held_now : AreHeld marks now freeing.holders
     held_now = record {
@@ -322,7 +325,9 @@ module _ (p : Program) (lim : Bounds) (well : IsWellFormed p) (marks : EffectMar
           nodes = s.nodes ++ y ∷ [];
           front = front;
           spanned = subst (AreSpanned rows s.tree marks (s.nodes ++ y ∷ [])) (sym stages_are)
-              (spanned_more rows marks s.plan.marks_are many s.tree s.nodes (stages p lim before) s.spanned y stage shows taken.asked taken.asks_first taken.asks_seen taken.ways);
+              (spanned_more rows marks s.plan.marks_are many s.tree s.nodes (stages p lim before) s.spanned y stage shows
+              (λ key has. subst (λ (n : Node). Contains n.asks key ⊎ (AsksMark marks stage key ⊎ AsksWay rows (length marks.lists) stage key)) (sym shown.1) (taken.asked key has))
+              (λ key has. taken.asks_first key (subst (λ (n : Node). Contains n.asks key) shown.1 has)) taken.asks_seen taken.ways);
           followed = subst (λ (l : List RunEntry). AreFollowed next.freeing.ways next.st.links (s.nodes ++ y ∷ []) l) (sym stages_are)
               (subst (λ (x : State). AreFollowed next.freeing.ways x.links (s.nodes ++ y ∷ []) (stages p lim before ++ stage ∷ [])) (sym here)
               (subst (λ (f : Freeing). AreFollowed f.ways after.links (s.nodes ++ y ∷ []) (stages p lim before ++ stage ∷ [])) (sym freeing_is) taken.followed));

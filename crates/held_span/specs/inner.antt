@@ -2,7 +2,6 @@
 pub mod Freeing
 pub mod Holding
 pub mod Keys
-pub mod Makers
 pub mod Paths
 pub mod Spanning
 pub mod Walking

@@ -13,7 +13,7 @@ use Rattle.twe_machine.specs.declared.state.TaskRow.{TaskRow}
 use Rattle.twe_machine.specs.declared.state.TaskStatus.TheVariants.{Enabled}
 use Rattle.twe_machine.specs.Rows.{HasStatus}
 use Rattle.twe_machine.specs.Runs.{Legal, state_after}
-use Rattle.held_span.specs.inner.Makers.{HasMade}
+use Rattle.run_laws.specs.Orders.{HasMade}
 use Rattle.effect_marks.specs.Marks.{AreMarksOf, left_by}
 use Rattle.effect_marks.specs.Rivals.{EffectList}
 use Rattle.effect_marks.specs.declared.marks.EffectMark.{EffectMark}
