@@ -114,11 +114,11 @@ module _ (p : Program) (lim : Bounds) (well : IsWellFormed p) (before : List Ent
         (record {
           are = ways_entered ways mv.task led.are mover_below;
           many = length-append ways.makers (mv.task ∷ []) ∙ (
-            let tasks = alone.tasks in
-            let one = ap made_by end_is in
-            let old = led.many in
-            omega (arith, tasks, one, old)
-          );
+              let tasks = alone.tasks in
+              let one = ap made_by end_is in
+              let old = led.many in
+              omega (arith, tasks, one, old)
+              );
           makers = λ s u made. elim (made_cases before entry s u made) [
             | inl old ↦ get-kept ways.makers mv.task u s (led.makers s u old)
             | inr new ↦

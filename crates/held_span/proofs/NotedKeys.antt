@@ -61,12 +61,12 @@ module _ (tree : List (List Part)) (marks : EffectMarks) (stage : RunEntry) (bef
             | inr new ↦ (let mark = map_contains (mark_key (length marks.lists)) left key new in inr (done, (mark.0, mark.1, sym mark.2)))
           ],
           λ has. subst (λ (l : List Key). Contains l key) (sym more)
-          (elim has [
-            | inl old ↦ Contains-append_left before.gives (mark_keys marks left) key old
-            | inr mark ↦
-                Contains-append_right before.gives (mark_keys marks left) key
-                (subst (λ (k : Key). Contains (mark_keys marks left) k) (sym mark.1.2) (contains_map (mark_key (length marks.lists)) left mark.1.0 mark.1.1))
-          ]),
+              (elim has [
+                | inl old ↦ Contains-append_left before.gives (mark_keys marks left) key old
+                | inr mark ↦
+                    Contains-append_right before.gives (mark_keys marks left) key
+                    (subst (λ (k : Key). Contains (mark_keys marks left) k) (sym mark.1.2) (contains_map (mark_key (length marks.lists)) left mark.1.0 mark.1.1))
+              ]),
         )),
         refl,
       )

@@ -93,8 +93,10 @@ impl Spanning {
         let _main = p.main;
         let _tasks = lim.tasks;
         let mut keys = self.recorder.take(alloc, p, lim, &mut self.st, mv)?;
-        self.freeing.note(alloc, marks, &self.st, mv.task, &mut keys)?;
-        self.chains.add(keys.weight, keys.asks.as_slice(), keys.gives.as_slice())
+        self.freeing
+            .note(alloc, marks, &self.st, mv.task, &mut keys)?;
+        self.chains
+            .add(keys.weight, keys.asks.as_slice(), keys.gives.as_slice())
     }
 }
 

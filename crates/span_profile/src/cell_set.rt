@@ -8,7 +8,7 @@ use twe_base::{List, Memory};
 
 /// Cells below a number, each at most once, in the order in which they were added.
 #[derive(Debug, Drop)]
-pub struct CellSet {
+pub(crate) struct CellSet {
     /// For each cell whether it is in the set.
     has: List<bool>,
     /// The cells of the set. There is memory for all of them.

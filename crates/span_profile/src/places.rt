@@ -13,7 +13,7 @@ use twe_program::{CellDecl, Dims, Prog};
 
 /// For each cell the number of its concrete path, and the number of the path of `Console`.
 #[derive(Debug, Drop)]
-pub struct Places {
+pub(crate) struct Places {
     /// The numbers of the cells.
     pub cells: List<u32>,
     /// The number of `Console`.

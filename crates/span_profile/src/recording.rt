@@ -36,9 +36,9 @@ pub struct EntryKeys {
 #[derive(Debug, Drop)]
 pub struct Recorder {
     /// The numbers of the paths of cells.
-    pub places: Places,
+    places: Places,
     /// The cells that an entry under way has read and written.
-    pub watched: Watched,
+    watched: Watched,
 }
 
 impl Recorder {

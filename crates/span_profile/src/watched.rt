@@ -7,7 +7,7 @@ use twe_base::Ints;
 
 /// The values of the cells, with the cells that were read and those that were written.
 #[derive(Debug, Drop)]
-pub struct Watched {
+pub(crate) struct Watched {
     /// The values.
     pub values: Ints,
     /// The cells that were read.
